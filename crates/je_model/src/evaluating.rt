@@ -1,0 +1,1 @@
+// Evaluation as a plain program.

@@ -1,0 +1,54 @@
+// A store.
+use je_order::{Exact, List, Octets, Word};
+use std::alloc::Global;
+
+/// How a database keeps its records.
+#[derive(Clone, Debug, Drop, PartialEq, Eq)]
+pub enum Kind {
+    /// One record for each key.
+    Plain,
+}
+
+impl Exact for Kind {
+    ghost use Rattle.std.proofs.Common.{rules};
+
+    ghost exact = { Prim.search rules };
+}
+
+/// A database: its name, its kind, and its records as pairs of key and data, in byte order of the keys.
+#[derive(Debug, Drop, PartialEq, Eq)]
+pub struct Database {
+    pub name: Word,
+    pub kind: Kind,
+    pub pairs: List<(Octets, Octets)>,
+}
+
+/// What an environment holds at one moment, without numbers, log or locks: its databases, in byte
+/// order of their names.
+#[derive(Debug, Drop, PartialEq, Eq)]
+pub struct Store {
+    pub databases: List<Database>,
+}
+
+impl Store {
+    ghost use Rattle.std.specs.Prelude.{◌≡◌};
+    ghost use Rattle.je_model.specs.Store.{no_databases};
+
+    /// The store of a new environment. It takes no memory.
+    pub fn new(alloc: Global) -> Store
+        ensures { result ≡ no_databases }
+    {
+        Store {
+            databases: List::new(alloc),
+        }
+    }
+}
+
+/// The most databases that a store may have.
+pub const MOST_DATABASES: u32 = 1;
+
+/// The last number that a database may have.
+pub const LAST_DATABASE: u32 = 0xffff_ffff;
+
+/// The last number that a transaction may have: 2^63 - 1.
+pub const LAST_TXN: u64 = 0x7fff_ffff_ffff_ffff;
