@@ -1,7 +1,7 @@
 -- What the lines of a script give, one line after another.
-use Rattle.std.proofs.Common.{◌≡◌, ◌+◌, ℕ, List, [], ◌∷◌, ◌++◌, Option, Some, None, Result, Ok, Err, option_to_list, refl, sym, ap, ◌∙◌, append_assoc}
+use Rattle.std.proofs.Common.{◌≡◌, ◌+◌, ℕ, List, ◌∷◌, ◌++◌, Option, Result, Ok, Err, option_to_list, refl, sym, ap, ◌∙◌, append_assoc}
 use Rattle.je_model.specs.declared.plan.Given.{Given}
-use Rattle.script_text.specs.Grammar.{lines_of, lines_give, line_gives, and_then, before_others}
+use Rattle.script_text.specs.Grammar.{lines_of, lines_give, line_gives, and_then}
 
 -- what was given before, and then what others give
 abbrev pub with_front : List Given → Result (List Given) ℕ → Result (List Given) ℕ

@@ -1,8 +1,7 @@
 -- Texts sent through a page.
-use Rattle.std.proofs.Common.{◌≡◌, ◌<◌, ◌≤◌, ◌+◌, ℕ, List, [], ◌∷◌, ◌++◌, length, take, drop, min, Bool, true, false, Option, Some, None, is_some, unwrap_or, codes, decimal, refl, sym, ap, ◌∙◌, subst, inl, inr, append_assoc, length-append, length-drop, arith}
+use Rattle.std.proofs.Common.{◌≡◌, ◌≤◌, ◌+◌, ℕ, List, [], ◌++◌, length, take, drop, min, Bool, true, false, Option, Some, None, is_some, unwrap_or, codes, decimal, refl, sym, ap, ◌∙◌, subst, inl, inr, append_assoc, length-append, length-drop, arith}
 use Rattle.std.proofs.Math.Nat.{eq-or-lt_of_le}
 use Rattle.std.proofs.lemmas.List.{append-nil, take-append-drop, take-append-le, drop-append-le, take_all, drop_all, take_min}
-use Rattle.std.proofs.lemmas.Grind.{common_steps}
 use Rattle.je_io.specs.Faults.{Rose}
 use Rattle.je_io.specs.Sink.{Gains, GainsPart}
 use Rattle.je_io.proofs.Flow.{gains_then, gains_further, gains_none}

@@ -1,5 +1,5 @@
 -- The text of a report (this project's own).
-use Rattle.std.specs.Prelude.{ℕ, ◌≡◌, ◌++◌, ◌∷◌, [], List, Bool, true, false, Option, Some, None, codes, decimal, count_by, if◌then◌else◌}
+use Rattle.std.specs.Prelude.{ℕ, ◌≡◌, ◌++◌, ◌∷◌, [], List, Bool, false, Option, Some, None, codes, decimal, count_by, if◌then◌else◌}
 use Rattle.std.specs.List.{list_any, flat_map}
 use Rattle.hex.specs.Hex.{encode_lower}
 use Rattle.je_model.specs.declared.answer.Answer.{Answer}

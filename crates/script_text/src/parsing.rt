@@ -133,6 +133,40 @@ mod tests {
     use je_order::{Octets, Word};
     use std::test::Fail;
 
+    fn octets(alloc: Global, bytes: &[u8]) -> Result<Octets, AllocError> {
+        Octets::from_slice(alloc, bytes)
+    }
+
+    // The calls of the script below.
+    fn call_at(alloc: Global, line: u32) -> Result<Call, AllocError> {
+        let db = Word::from_slice(alloc, b"t")?;
+        Ok(match line {
+            3 => Call::Create {
+                db,
+                kind: Kind::Plain,
+            },
+            4 => Call::Put {
+                db,
+                key: octets(alloc, b"\x00\xff")?,
+                value: octets(alloc, b"")?,
+            },
+            5 => Call::Get {
+                db,
+                key: octets(alloc, b"\x0a")?,
+                rmw: false,
+            },
+            6 => Call::Get {
+                db,
+                key: octets(alloc, b"")?,
+                rmw: true,
+            },
+            _ => Call::Delete {
+                db,
+                key: octets(alloc, b"\xab")?,
+            },
+        })
+    }
+
     // Each form, in a script with a comment, an empty line and no feed at its end.
     #[test]
     fn reads_each_form(rt: HostRuntime) -> Result<(), Fail> {
@@ -140,66 +174,18 @@ mod tests {
         let text =
             b"# a test\n\ns1 create t plain\ns64 put t 00fF -\ns9 get t 0a\ns10 get t - rmw\ns2 delete t aB";
         let plan = parse(alloc, text)?;
-        let given = plan.lines.as_slice();
-        assert_eq!(rt; given.len(), 5);
-        let db = Word::from_slice(alloc, b"t")?;
-        let want = [
-            (
-                1,
-                3,
-                Call::Create {
-                    db: db.clone()?,
-                    kind: Kind::Plain,
-                },
-            ),
-            (
-                64,
-                4,
-                Call::Put {
-                    db: db.clone()?,
-                    key: Octets::from_slice(alloc, b"\x00\xff")?,
-                    value: Octets::new(alloc),
-                },
-            ),
-            (
-                9,
-                5,
-                Call::Get {
-                    db: db.clone()?,
-                    key: Octets::from_slice(alloc, b"\x0a")?,
-                    rmw: false,
-                },
-            ),
-            (
-                10,
-                6,
-                Call::Get {
-                    db: db.clone()?,
-                    key: Octets::new(alloc),
-                    rmw: true,
-                },
-            ),
-            (
-                2,
-                7,
-                Call::Delete {
-                    db,
-                    key: Octets::from_slice(alloc, b"\xab")?,
-                },
-            ),
-        ];
-        let mut at = 0;
-        for (session, line, call) in want {
-            assert!(rt; at < given.len());
-            assert!(rt;
-                given[at]
-                    == Given::Session {
-                        session,
-                        line,
-                        call
-                    }
-            );
-            at += 1;
+        let sessions = [1u8, 64, 9, 10, 2];
+        assert_eq!(rt; plan.lines.len(), sessions.len());
+        let mut line = 3;
+        for (given, session) in plan.lines.as_slice().iter().zip(sessions) {
+            assert!(rt; line < 8);
+            let want = Given::Session {
+                session,
+                line,
+                call: call_at(alloc, line)?,
+            };
+            assert!(rt; *given == want);
+            line += 1;
         }
         Ok(())
     }

@@ -158,49 +158,73 @@ mod tests {
     use std::alloc::{AllocError, Global};
     use std::test::Fail;
 
-    fn called(alloc: Global, session: u8, line: u32, answer: Answer) -> Result<Event, AllocError> {
-        let db = Word::from_slice(alloc, b"t")?;
-        Ok(Event::Call {
-            session,
-            line,
-            call: Call::Create {
-                db,
-                kind: Kind::Plain,
+    // What an event of the journal below answers.
+    #[derive(Clone, Copy)]
+    enum Said {
+        Logged(u64),
+        Begun,
+        Durable(u64),
+        Found,
+        NotFound,
+        TooMany,
+        DiskFault,
+        Invalid,
+    }
+
+    fn answer_of(alloc: Global, said: Said) -> Result<Answer, AllocError> {
+        Ok(match said {
+            Said::Logged(commit) => Answer::Logged { commit },
+            Said::Begun => Answer::Done,
+            Said::Durable(commit) => Answer::Durable { commit },
+            Said::Found => Answer::Rec {
+                key: Octets::from_slice(alloc, b"\x00\xff")?,
+                value: Octets::new(alloc),
             },
-            answer,
+            Said::NotFound => Answer::NotFound,
+            Said::TooMany => Answer::TooMany { count: 1 },
+            Said::DiskFault => Answer::DiskFault,
+            Said::Invalid => Answer::Invalid { first: Fault::Disk },
         })
     }
 
-    fn found(alloc: Global) -> Result<Answer, AllocError> {
-        Ok(Answer::Rec {
-            key: Octets::from_slice(alloc, b"\x00\xff")?,
-            value: Octets::new(alloc),
-        })
+    fn event_of(alloc: Global, session: u8, line: u32, said: Said) -> Result<Event, AllocError> {
+        let answer = answer_of(alloc, said)?;
+        match said {
+            Said::Begun => Ok(Event::SyncBegin { answer }),
+            Said::Durable(_) => Ok(Event::SyncEnd { answer }),
+            _ => Ok(Event::Call {
+                session,
+                line,
+                call: Call::Create {
+                    db: Word::from_slice(alloc, b"t")?,
+                    kind: Kind::Plain,
+                },
+                answer,
+            }),
+        }
     }
 
-    fn journal(alloc: Global) -> Result<[Event; 12], AllocError> {
-        Ok([
-            called(alloc, 1, 1, Answer::Logged { commit: 1 })?,
-            Event::SyncBegin {
-                answer: Answer::Done,
-            },
-            Event::SyncEnd {
-                answer: Answer::Durable { commit: 1 },
-            },
-            called(alloc, 2, 3, found(alloc)?)?,
-            called(alloc, 2, 4, Answer::Logged { commit: 2 })?,
-            called(alloc, 3, 5, Answer::Logged { commit: 3 })?,
-            called(alloc, 1, 6, Answer::NotFound)?,
-            Event::SyncBegin {
-                answer: Answer::Done,
-            },
-            Event::SyncEnd {
-                answer: Answer::Durable { commit: 2 },
-            },
-            called(alloc, 1, 7, Answer::TooMany { count: 1 })?,
-            called(alloc, 1, 8, Answer::DiskFault)?,
-            called(alloc, 64, 1_000_000, Answer::Invalid { first: Fault::Disk })?,
-        ])
+    const JOURNAL: [(u8, u32, Said); 12] = [
+        (1, 1, Said::Logged(1)),
+        (0, 0, Said::Begun),
+        (0, 0, Said::Durable(1)),
+        (2, 3, Said::Found),
+        (2, 4, Said::Logged(2)),
+        (3, 5, Said::Logged(3)),
+        (1, 6, Said::NotFound),
+        (0, 0, Said::Begun),
+        (0, 0, Said::Durable(2)),
+        (1, 7, Said::TooMany),
+        (1, 8, Said::DiskFault),
+        (64, 1_000_000, Said::Invalid),
+    ];
+
+    fn journal(alloc: Global) -> Result<Vec<Event>, AllocError> {
+        let mut events = Vec::new(alloc);
+        for (session, line, said) in JOURNAL {
+            events.push(event_of(alloc, session, line, said)?)?;
+        }
+        Ok(events)
     }
 
     const TEXT: &[u8] =

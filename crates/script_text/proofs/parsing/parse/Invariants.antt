@@ -1,4 +1,4 @@
-use Rattle.std.proofs.Common.{length, ◌≡◌, ◌≤◌, ◌+◌}
+use Rattle.std.proofs.Common.{length, ◌≡◌, ◌≤◌}
 use Rattle.script_text.specs.Grammar.{lines_of, lines_give}
 use Rattle.script_text.proofs.Reading.{with_front}
 use Rattle.script_text.proofs.parsing.parse.Given as goal

@@ -1,4 +1,4 @@
-use Rattle.std.proofs.Common.{◌+◌, ◌≡◌, List, take, drop, sym, subst, arith}
+use Rattle.std.proofs.Common.{◌+◌, List, take, drop, sym, subst, arith}
 use Rattle.std.proofs.lemmas.List.{take-take}
 use Rattle.je_model.specs.declared.event.Event.{Event}
 use Rattle.script_text.specs.Report.{NoneWaits}
