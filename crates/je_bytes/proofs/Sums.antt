@@ -1,7 +1,7 @@
 -- The two sums of Adler-32, a byte or a block at a time.
-use Rattle.std.proofs.Common.{◌≡◌, ℕ, ◌+◌, ◌%◌, ◌<◌, List, [], ◌∷◌, ◌++◌, length, get_or, take, drop, refl, sym, ap, ◌∙◌, add-zero, zero-add, add-one, arith, drop-cons}
+use Rattle.std.proofs.Common.{◌≡◌, ℕ, ◌+◌, ◌%◌, ◌^◌, ◌<◌, List, [], ◌∷◌, ◌++◌, length, get_or, take, drop, refl, sym, ap, ◌∙◌, add-zero, zero-add, add-one, arith, drop-cons}
 use Rattle.std.proofs.lemmas.List.{take-append-drop}
-use Rattle.je_bytes.specs.Adler.{sum_of, running_sum_of}
+use Rattle.je_bytes.specs.Adler.{adler32_of, sum_of, running_sum_of}
 
 pub sum_of-drop : (i : ℕ) (bytes : List ℕ) → i < length bytes → sum_of (drop i bytes) ≡ get_or bytes i 0 + sum_of (drop (i + 1) bytes)
 sum_of-drop i bytes h = rw (add-one, drop-cons bytes i 0) refl
@@ -39,3 +39,8 @@ running_sum_of-block a b c d n rest c-is d-is =
     sym (running_sum_of-append a (take n rest) (drop n rest)) ∙ ap (running_sum_of a) (take-append-drop n rest) in
     let f = running_sum_of-mod c (a + sum_of (take n rest)) d (b + running_sum_of a (take n rest)) (drop n rest) (omega arith) (omega arith) in
     f ∙ omega arith
+
+-- a checksum fits its field
+pub adler32_of-lt : (bytes : List ℕ) → adler32_of bytes < 2 ^ 32
+unfolding adler32_of
+adler32_of-lt bytes = omega arith
