@@ -1,8 +1,11 @@
 -- A file's run: the entries from its beginning, each with the offset of the one before it as its prev field.
-use Rattle.std.specs.Prelude.{ℕ, zero, suc, ◌+◌, ◌==◌, if◌then◌else◌, List, [], ◌∷◌, ◌++◌, length, drop}
+use Rattle.std.specs.Prelude.{◌≡◌, ◌≢◌, ℕ, zero, suc, ◌+◌, ◌<◌, ◌≤◌, ◌^◌, ◌==◌, if◌then◌else◌, List, [], ◌∷◌, ◌++◌, length, drop}
+use Rattle.std.specs.List.{AllByRecursion}
+use Rattle.je_bytes.specs.Reading.{AreBytes}
 use Rattle.log_entry.specs.declared.entry.Entry.{Entry}
 use Rattle.log_entry.specs.declared.decoder.Decoded.{Decoded}
 use Rattle.log_entry.specs.declared.decoder.Decoded.TheVariants.{Whole, Torn as NotWhole}
+use Rattle.log_entry.specs.Body.{IsEntry}
 use Rattle.log_entry.specs.Spelling.{spelling, size_of}
 use Rattle.log_entry.specs.Reading.{decoded}
 
@@ -35,18 +38,47 @@ unfoldable pub run_from : ℕ → ℕ → ℕ → List ℕ → Run
 run_from zero prev at bytes = run_end prev bytes
 run_from (suc most) prev at bytes = run_by prev bytes (decoded bytes) (λ len. run_from most at (at + len) (drop len bytes))
 
--- a file's run. An entry has bytes, so there are no more entries than bytes
-unfoldable pub run_in : List ℕ → Run
-run_in bytes = run_from (length bytes) 0 0 bytes
+-- the longest run from an offset, the first entry with this prev field. An entry has bytes, so there are no more entries than bytes
+unfoldable pub run_on : ℕ → ℕ → List ℕ → Run
+run_on prev at bytes = run_from (length bytes) prev at bytes
 
 -- the entries of a file's run
 abbrev pub run_of : List ℕ → List Entry
-run_of bytes = (run_in bytes).entries
+run_of bytes = (run_on 0 0 bytes).entries
 
 -- the bytes that follow a file's run
 abbrev pub rest_of : List ℕ → List ℕ
-rest_of bytes = (run_in bytes).rest
+rest_of bytes = (run_on 0 0 bytes).rest
 
 -- the offset of the last entry of a file's run, 0 where there is none: the prev field of the next one
 abbrev pub last_offset_of : List ℕ → ℕ
-last_offset_of bytes = (run_in bytes).last
+last_offset_of bytes = (run_on 0 0 bytes).last
+
+-- the offset of the last of these entries, spelled from an offset on; without one, the prev field that it began with
+abbrev pub last_from : ℕ → ℕ → List Entry → ℕ
+last_from prev at [] = prev
+last_from prev at (entry ∷ entries) = last_from at (at + size_of entry) entries
+
+-- a run with these entries before it
+abbrev pub run_before : List Entry → Run → Run
+run_before entries run = record { entries = entries ++ run.entries; last = run.last; rest = run.rest }
+
+-- ---- what holds of every file
+
+-- its bytes are its run's spellings and the rest, and the run's entries are entries
+abbrev pub AreSpelled : Type 0
+AreSpelled = (bytes : List ℕ) → AreBytes bytes → (bytes ≡ spelled 0 0 (run_of bytes) ++ rest_of bytes) × AllByRecursion IsEntry (run_of bytes)
+
+-- entries that are spelled in at most 2^32 bytes are its run, with nothing behind them
+abbrev pub AreFound : Type 0
+AreFound = (entries : List Entry) → AllByRecursion IsEntry entries → length (spelled 0 0 entries) ≤ 2 ^ 32
+    → run_on 0 0 (spelled 0 0 entries) ≡ record { entries = entries; last = last_from 0 0 entries; rest = [] }
+
+-- a file of less than 2^32 bytes with nothing behind its run has one entry more after an append with the last entry's offset as prev field; that entry's offset is the length that the file had
+abbrev pub GrowsByAppend : Type 0
+GrowsByAppend = (bytes : List ℕ) (entry : Entry) → rest_of bytes ≡ [] → length bytes < 2 ^ 32 → IsEntry entry
+    → run_on 0 0 (bytes ++ spelling entry (last_offset_of bytes)) ≡ record { entries = run_of bytes ++ entry ∷ []; last = length bytes; rest = [] }
+
+-- no run is longer: no whole entry with the last entry's offset as prev field follows it
+abbrev pub IsLongest : Type 0
+IsLongest = (bytes : List ℕ) (entry : Entry) (len : ℕ) → decoded (rest_of bytes) ≢ Whole entry (last_offset_of bytes) len

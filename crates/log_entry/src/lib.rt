@@ -14,4 +14,7 @@ pub mod laws;
 pub use decoder::{Decoded, Torn, decode, decode_at};
 pub use encoder::{encode, encode_onto, size};
 pub use entry::Entry;
-pub use laws::one_spelling;
+pub use laws::{one_spelling, runs_are_spellings};
+
+#[cfg(test)]
+mod tests;
