@@ -1,0 +1,5 @@
+pub mod Rows
+pub mod Replay
+pub mod Meaning
+pub mod Logging
+pub mod Kept

@@ -1,0 +1,5 @@
+//! What a log without checkpoints means: the store that replaying its entries leaves, with the numbers
+//! that were drawn last. It stands on the log's entries, the catalog and the model; the program opens
+//! its files with it, and keeps the records that a replay left in memory.
+#![tactic(auto)]
+
