@@ -1,8 +1,8 @@
 -- What an environment keeps of its log while it runs: the records in memory, and the numbers drawn last.
-use Rattle.std.specs.Prelude.{ℕ, ◌≡◌, ◌≤◌, ◌<◌, ◌^◌, ◌+◌, ◌++◌, ◌∷◌, [], ◌==◌, List, Option, None, Some, true, is_none, is_some, IsTrue, length}
+use Rattle.std.specs.Prelude.{ℕ, ◌≡◌, ◌≤◌, ◌<◌, ◌^◌, ◌+◌, ◌++◌, [], List, None, Some, true, IsTrue, length}
 use Rattle.std.specs.List.{AllByRecursion}
 use Rattle.log_entry.specs.declared.entry.Entry.TheVariants.{FileHeader, Commit}
-use Rattle.log_entry.specs.Spelling.{spelling, size_of}
+use Rattle.log_entry.specs.Spelling.{spelling}
 use Rattle.log_entry.specs.Run.{run_of, last_offset_of}
 use Rattle.je_order.specs.Words.{is_word}
 use Rattle.je_model.specs.declared.change.Change.{Change}
@@ -10,7 +10,7 @@ use Rattle.je_model.specs.declared.change.Change.TheVariants.{Set, Unset, Make}
 use Rattle.je_model.specs.declared.store.TheConstants.{MOST_DATABASES}
 use Rattle.je_model.specs.Evaluation.{plain_name}
 use Rattle.db_catalog.specs.Catalog.{record_bytes}
-use Rattle.log_replay.specs.Rows.{Rows, RowChange, row_changed, row_at, data_at, number_in, is_environment, IsRising}
+use Rattle.log_replay.specs.Rows.{Rows, RowChange, data_at, number_in, is_environment, IsRising}
 use Rattle.log_replay.specs.Replay.{replayed, nothing_replayed}
 use Rattle.log_replay.specs.Meaning.{is_whole, is_log}
 use Rattle.log_replay.specs.Logging.{entry_of, kind_in_catalog}

@@ -1,7 +1,7 @@
 -- The entries that a transaction's changes are logged as.
-use Rattle.std.specs.Prelude.{ℕ, ◌+◌, ◌∷◌, [], List, Option, Some, None, length}
+use Rattle.std.specs.Prelude.{ℕ, ◌+◌, ◌∷◌, [], List}
 use Rattle.log_entry.specs.declared.entry.Entry.{Entry}
-use Rattle.log_entry.specs.declared.entry.Entry.TheVariants.{FileHeader, Put, Delete, Commit}
+use Rattle.log_entry.specs.declared.entry.Entry.TheVariants.{Put, Delete, Commit}
 use Rattle.log_entry.specs.Spelling.{size_of}
 use Rattle.db_catalog.specs.declared.db_record.DbKind.{DbKind}
 use Rattle.db_catalog.specs.declared.db_record.DbKind.TheVariants.{Plain as PlainRecord}

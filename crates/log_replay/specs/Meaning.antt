@@ -2,12 +2,12 @@
 use Rattle.std.specs.Prelude.{ℕ, ◌^◌, ◌==◌, ◌&&◌, nat_lt, ◌∷◌, [], List, Option, None, Some, Bool, true, false, not, length, if◌then◌else◌}
 use Rattle.std.specs.List.{list_any}
 use Rattle.log_entry.specs.declared.entry.Entry.{Entry}
-use Rattle.log_entry.specs.declared.entry.Entry.TheVariants.{FileHeader, Put, Delete, Commit}
+use Rattle.log_entry.specs.declared.entry.Entry.TheVariants.{FileHeader}
 use Rattle.log_entry.specs.Run.{run_of, rest_of}
 use Rattle.je_model.specs.declared.store.Store.{Store}
 use Rattle.je_model.specs.Store.{no_databases}
 use Rattle.log_replay.specs.Rows.{Rows, is_environment, store_of}
-use Rattle.log_replay.specs.Replay.{Replay, replayed, nothing_replayed, txn_in, db_in, greatest}
+use Rattle.log_replay.specs.Replay.{replayed, nothing_replayed, txn_in, db_in, greatest}
 
 -- the store, and the transaction and database numbers that were drawn last
 pub record Meaning : Type 0 where

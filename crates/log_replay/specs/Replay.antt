@@ -1,5 +1,5 @@
 -- Replaying a log: a transaction's changes count from its commit on.
-use Rattle.std.specs.Prelude.{ℕ, ◌++◌, ◌∷◌, [], ◌==◌, List, Option, None, Some, not, filter, max, if◌then◌else◌}
+use Rattle.std.specs.Prelude.{ℕ, ◌++◌, ◌∷◌, [], ◌==◌, List, None, Some, not, filter, max, if◌then◌else◌}
 use Rattle.log_entry.specs.declared.entry.Entry.{Entry}
 use Rattle.log_entry.specs.declared.entry.Entry.TheVariants.{FileHeader, Put, Delete, Commit}
 use Rattle.log_replay.specs.Rows.{Rows, no_rows, RowChange, rows_changed, number_in}
