@@ -3,3 +3,7 @@
 //! its files with it, and keeps the records that a replay left in memory.
 #![tactic(auto)]
 
+pub mod rows;
+mod table;
+
+pub use rows::Rows;
