@@ -155,37 +155,53 @@ lookup_is_data name (r ∷ rows) =
     by_case true step = refl
     by_case false step = step
 
--- ---- the collection of databases
+-- ---- lists by numbers, as a map keeps them
 
--- a look-up of a number finds what stands under it
-number_test : (db n : ℕ) → is_eq (nat_cmp db n) ≡ (n == db)
-number_test db n = grind (arith, nat_tests)
+-- the list under a number; nothing where there is none
+abbrev pub list_in : {X : Type 0} → List (ℕ × List X) → ℕ → List X
+list_in kept n = unwrap_or (lookup (λ m. m == n) kept) []
 
-pub lookup_number : (db : ℕ) (kept : List (ℕ × List Row)) → lookup (is_at (nat_cmp db)) kept ≡ lookup (λ n. n == db) kept
-lookup_number db [] = refl
-lookup_number db (e ∷ kept) = rw (number_test db e.0) (ap (λ (o : Option (List Row)). cond (e.0 == db) (Some e.1) o) (lookup_number db kept))
+number_test : (n m : ℕ) → is_eq (nat_cmp n m) ≡ (m == n)
+number_test n m = grind (arith, nat_tests)
 
-pub rows_found : (db : ℕ) (kept : List (ℕ × List Row)) → unwrap_or (lookup (is_at (nat_cmp db)) kept) [] ≡ rows_in kept db
-rows_found db kept = rw (lookup_number db kept) refl
+lookup_number : {X : Type 0} (n : ℕ) (kept : List (ℕ × List X)) → lookup (is_at (nat_cmp n)) kept ≡ lookup (λ m. m == n) kept
+lookup_number n [] = refl
+lookup_number {X} n (e ∷ kept) = rw (number_test n e.0) (ap (λ (o : Option (List X)). cond (e.0 == n) (Some e.1) o) (lookup_number n kept))
 
--- the records with one database's replaced
-pub rows_replaced : (db : ℕ) (rows : List Row) (old new : List (ℕ × List Row)) →
-    ((q : ℕ) → lookup (is_at (nat_cmp q)) new ≡ cond (is_at (nat_cmp db) q) (Some rows) (lookup (is_at (nat_cmp q)) old)) →
-    (d : ℕ) → rows_in new d ≡ cond (d == db) rows (rows_in old d)
-rows_replaced db rows old new updates d =
-    rw (← rows_found d new, updates d, number_test db d, ← rows_found d old) (by_case (d == db))
+list_found : {X : Type 0} (n : ℕ) (kept : List (ℕ × List X)) → unwrap_or (lookup (is_at (nat_cmp n)) kept) [] ≡ list_in kept n
+list_found n kept = rw (lookup_number n kept) refl
+
+-- `new` has what `old` has, and under one number another list or none
+abbrev pub IsUpdated : {X : Type 0} → ℕ → Option (List X) → List (ℕ × List X) → List (ℕ × List X) → Type 0
+IsUpdated n list old new = (q : ℕ) → lookup (is_at (nat_cmp q)) new ≡ cond (is_at (nat_cmp n) q) list (lookup (is_at (nat_cmp q)) old)
+
+pub list_updated : {X : Type 0} (n : ℕ) (list : Option (List X)) (old new : List (ℕ × List X)) → IsUpdated n list old new →
+    (m : ℕ) → list_in new m ≡ cond (m == n) (unwrap_or list []) (list_in old m)
+list_updated {X} n list old new updates m =
+    rw (← list_found m new, updates m, number_test n m, ← list_found m old) (by_case (m == n))
   where
-    by_case : (b : Bool) → unwrap_or (cond b (Some rows) (lookup (is_at (nat_cmp d)) old)) [] ≡ cond b rows (unwrap_or (lookup (is_at (nat_cmp d)) old) [])
+    by_case : (b : Bool) → unwrap_or (cond b list (lookup (is_at (nat_cmp m)) old)) [] ≡ cond b (unwrap_or list []) (unwrap_or (lookup (is_at (nat_cmp m)) old) [])
     by_case true = refl
     by_case false = refl
 
+-- what a look-up found stands under the number
+pub list_is_found : {X : Type 0} (n : ℕ) (found : List X) (kept : List (ℕ × List X)) → Some found ≡ lookup (is_at (nat_cmp n)) kept → list_in kept n ≡ found
+list_is_found {X} n found kept is = sym (list_found n kept) ∙ ap (λ (o : Option (List X)). unwrap_or o []) (sym is)
+
+pub list_is_absent : {X : Type 0} (n : ℕ) (kept : List (ℕ × List X)) → None ≡ lookup (is_at (nat_cmp n)) kept → list_in kept n ≡ []
+list_is_absent {X} n kept is = sym (list_found n kept) ∙ ap (λ (o : Option (List X)). unwrap_or o []) (sym is)
+
+pub is_there : {X : Type 0} (n : ℕ) (found : List X) (kept : List (ℕ × List X)) → Some found ≡ lookup (is_at (nat_cmp n)) kept → IsSome (lookup (is_at (nat_cmp n)) kept)
+is_there {X} n found kept is = let P : Option (List X) → Type 0 = λ o. IsSome o in subst P is refl
+
+-- ---- the records by databases
+
 -- the records after a change of one database's
-pub rows_set : (change : RowChange) (rows : List Row) (old new : List (ℕ × List Row)) →
-    ((q : ℕ) → lookup (is_at (nat_cmp q)) new ≡ cond (is_at (nat_cmp change.db) q) (Some rows) (lookup (is_at (nat_cmp q)) old)) →
+pub rows_set : (change : RowChange) (rows : List Row) (old new : List (ℕ × List Row)) → IsUpdated change.db (Some rows) old new →
     rows ≡ rows_with change.name change.value (rows_in old change.db) →
     (d : ℕ) → rows_in new d ≡ row_changed change (rows_in old) d
 rows_set change rows old new updates is d =
-    rows_replaced change.db rows old new updates d ∙ by_case (d == change.db) refl
+    list_updated change.db (Some rows) old new updates d ∙ by_case (d == change.db) refl
   where
     by_case : (b : Bool) → (d == change.db) ≡ b → cond b rows (rows_in old d) ≡ cond b (rows_with change.name change.value (rows_in old d)) (rows_in old d)
     by_case true h =
@@ -193,10 +209,9 @@ rows_set change rows old new updates is d =
         is ∙ ap (λ (n : ℕ). rows_with change.name change.value (rows_in old n)) (sym same)
     by_case false h = refl
 
-pub rising_replaced : (db : ℕ) (rows : List Row) (old new : List (ℕ × List Row)) →
-    ((q : ℕ) → lookup (is_at (nat_cmp q)) new ≡ cond (is_at (nat_cmp db) q) (Some rows) (lookup (is_at (nat_cmp q)) old)) →
+pub rising_updated : (db : ℕ) (rows : List Row) (old new : List (ℕ × List Row)) → IsUpdated db (Some rows) old new →
     IsRising rows → ((d : ℕ) → IsRising (rows_in old d)) → (d : ℕ) → IsRising (rows_in new d)
-rising_replaced db rows old new updates rising all d = rw (rows_replaced db rows old new updates d) (by_case (d == db))
+rising_updated db rows old new updates rising all d = rw (list_updated db (Some rows) old new updates d) (by_case (d == db))
   where
     by_case : (b : Bool) → IsRising (cond b rows (rows_in old d))
     by_case true = rising
@@ -206,26 +221,15 @@ pub no_rows_rise : (kept : List (ℕ × List Row)) → kept ≡ [] → (d : ℕ)
 unfolding IsStrictlySortedBy
 no_rows_rise kept none d = rw none tt
 
--- what a look-up found stands under the number
-pub rows_are_found : (db : ℕ) (found : List Row) (kept : List (ℕ × List Row)) → Some found ≡ lookup (is_at (nat_cmp db)) kept → rows_in kept db ≡ found
-rows_are_found db found kept is = sym (rows_found db kept) ∙ ap (λ (o : Option (List Row)). unwrap_or o []) (sym is)
-
-pub rows_are_none : (db : ℕ) (kept : List (ℕ × List Row)) → None ≡ lookup (is_at (nat_cmp db)) kept → rows_in kept db ≡ []
-rows_are_none db kept is = sym (rows_found db kept) ∙ ap (λ (o : Option (List Row)). unwrap_or o []) (sym is)
-
-pub is_there : (db : ℕ) (found : List Row) (kept : List (ℕ × List Row)) → Some found ≡ lookup (is_at (nat_cmp db)) kept → IsSome (lookup (is_at (nat_cmp db)) kept)
-is_there db found kept is = let P : Option (List Row) → Type 0 = λ o. IsSome o in subst P is refl
-
 -- the records with one database's replaced by what it has
 pub rows_same : (db : ℕ) (found rows : List Row) (old new : List (ℕ × List Row)) → Some found ≡ lookup (is_at (nat_cmp db)) old →
-    ((q : ℕ) → lookup (is_at (nat_cmp q)) new ≡ cond (is_at (nat_cmp db) q) (Some rows) (lookup (is_at (nat_cmp q)) old)) →
-    rows ≡ found → (d : ℕ) → rows_in new d ≡ rows_in old d
-rows_same db found rows old new is updates same d = rows_replaced db rows old new updates d ∙ by_case (d == db) refl
+    IsUpdated db (Some rows) old new → rows ≡ found → (d : ℕ) → rows_in new d ≡ rows_in old d
+rows_same db found rows old new is updates same d = list_updated db (Some rows) old new updates d ∙ by_case (d == db) refl
   where
     by_case : (b : Bool) → (d == db) ≡ b → cond b rows (rows_in old d) ≡ rows_in old d
     by_case true h =
         let at : d ≡ db = grind (arith, nat_tests) in
-        same ∙ sym (rows_are_found db found old is) ∙ ap (λ (n : ℕ). rows_in old n) (sym at)
+        same ∙ sym (list_is_found db found old is) ∙ ap (λ (n : ℕ). rows_in old n) (sym at)
     by_case false h = refl
 
 -- what follows from what an Err says

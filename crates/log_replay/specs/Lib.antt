@@ -3,3 +3,4 @@ pub mod Replay
 pub mod Meaning
 pub mod Logging
 pub mod Kept
+pub mod Pending
