@@ -1,0 +1,6 @@
+pub mod Rows
+pub mod Replay
+pub mod Meaning
+pub mod Logging
+pub mod Kept
+pub mod Pending
