@@ -5,6 +5,7 @@ use mathlib.Core.Path.{fun_ext}
 use Rattle.std.proofs.lemmas.Bool.{and_parts, and_from, cases_Bool, cond_both, cond-true, cond-false, true≢false, eqb-true, eqb-false, eq-eqb, ne_eqb, not-true, not_from_false, le-leb, leb-true}
 use Rattle.std.proofs.lemmas.Option.{none-some, same_Some}
 use Rattle.std.proofs.lemmas.List.{map-append, length-map, nil_from_length}
+use Rattle.std.proofs.lemmas.Nat.{from_be_bytes-to_be_bytes_4}
 use Rattle.std.proofs.lemmas.List.Sums.{sum_by-cons}
 use Rattle.std.proofs.lemmas.List.Folds.{list_all-map}
 use Rattle.je_order.specs.Order.{bytes_cmp, name_cmp}
@@ -26,8 +27,8 @@ use Rattle.db_catalog.specs.Catalog.{record_bytes, record_in}
 use Rattle.log_replay.specs.Rows.{Row, Rows, RowChange, row_changed, rows_with, row_at, data_at, number_in, is_catalog_row, are_distinct, are_plain, numbers_of, is_environment, IsRising, pair_of, database_in, store_of}
 use Rattle.log_replay.specs.Logging.{kind_in_catalog}
 use Rattle.log_replay.specs.Kept.{row_change_of, HasNumber, MayBeLogged}
-use Rattle.log_replay.proofs.ListLaws.{all_true, all_from_true, none_true, none_from_false, all_weaker, all_both, all_append, all_filter, all_of_map, all_to_map, map_same, find-map, filter-map, found, none_found, any_found, list_any-map}
-use Rattle.log_replay.proofs.RowLaws.{name_cmp-plain, name_exact, plain_name-key, pairs_with-rows, pairs_without-rows, plain-changed, rising_tail, split_where_none, others_after, length-set_new, length-set_again, length-unset, row_of_data, no_row_of_data, equal_from_test}
+use Rattle.log_replay.proofs.ListLaws.{all_true, all_from_true, none_true, none_from_false, all_weaker, all_both, all_append, all_parts, all_filter, all_of_map, all_to_map, map_same, find-map, filter-map, found, none_found, any_found, list_any-map}
+use Rattle.log_replay.proofs.RowLaws.{name_cmp-plain, name_exact, plain_name-key, pairs_with-rows, pairs_without-rows, plain-changed, rising-changed, rising_tail, split_where_none, others_after, length-set_new, length-set_again, length-unset, row_of_data, no_row_of_data, equal_from_test}
 
 no_dup : (dup : List ℕ) → (length dup == 0) ≡ true → dup ≡ []
 no_dup dup h = nil_from_length dup (eqb-true (length dup) 0 h)
@@ -160,3 +161,200 @@ numbered_as_named name row (r ∷ rows) right apart up h =
         (ne_eqb (number_in r.1) (number_in row.1) (λ eq. eqb-false (number_in row.1) (number_in r.1) differ (sym eq)) ∙ sym e ∙ sym (by_key r right.0),
          numbered_as_named name row rows right.1 parts.1 (rising_tail r rows up) later))
       (cases_Bool (p r))
+
+-- ---- a change of one database's records
+
+-- a change leaves the records of the other databases
+pub row_changed-there : (c : RowChange) (rows : Rows) (db : ℕ) → db ≢ c.db → row_changed c rows db ≡ rows db
+row_changed-there c rows db h = cond-false (db == c.db) (rows_with c.name c.value (rows db)) (rows db) (ne_eqb db c.db h)
+
+pub row_changed-here : (c : RowChange) (rows : Rows) → row_changed c rows c.db ≡ rows_with c.name c.value (rows c.db)
+row_changed-here c rows = cond-true (c.db == c.db) (rows_with c.name c.value (rows c.db)) (rows c.db) (eq-eqb c.db c.db refl)
+
+-- a change leaves each database's names rising
+pub rising-row_changed : (c : RowChange) (rows : Rows) (db : ℕ) → IsRising (rows db) → IsRising (row_changed c rows db)
+rising-row_changed c rows db up =
+    cond_both (db == c.db) (rows_with c.name c.value (rows db)) (rows db) (λ l. IsRising l) (λ e. rising-changed (rows db) c.name c.value up) (λ e. up)
+
+-- and plain records plain, where its dup is empty
+plain-row_changed : (c : RowChange) (rows : Rows) (db : ℕ) → c.name.dup ≡ [] → are_plain (rows db) ≡ true → are_plain (row_changed c rows db) ≡ true
+plain-row_changed c rows db dup plain =
+    cond_both (db == c.db) (rows_with c.name c.value (rows db)) (rows db) (λ l. are_plain l ≡ true) (λ e. plain-changed (rows db) c.name c.value plain dup) (λ e. plain)
+
+-- one database of a list changes
+in_place : (a b : Rows) (name : List ℕ) (number : ℕ) (change : Database → Database) (rows : List Row) →
+    AllByRecursion (λ r. (number_in r.1 == number) ≡ is_same r.0.key name) rows →
+    ((r : Row) → number_in r.1 ≡ number → database_in b r ≡ change (database_in a r)) →
+    ((db : ℕ) → db ≢ number → b db ≡ a db) →
+    map (database_in b) rows ≡ in_database name change (map (database_in a) rows)
+in_place a b name number change [] each here there = refl
+in_place a b name number change (r ∷ rows) each here there =
+    let as_before : Database = database_in a r in
+    let with_records : List Row → Database = λ l. record { name = r.0.key; kind = Plain; pairs = map pair_of l } in
+    let first : database_in b r ≡ cond (is_same r.0.key name) (change as_before) as_before =
+      ⊎_elim
+        (λ (e : (number_in r.1 == number) ≡ true).
+          here r (eqb-true (number_in r.1) number e) ∙ sym (cond-true (is_same r.0.key name) (change as_before) as_before (sym each.0 ∙ e)))
+        (λ (e : (number_in r.1 == number) ≡ false).
+          ap with_records (there (number_in r.1) (eqb-false (number_in r.1) number e))
+          ∙ sym (cond-false (is_same r.0.key name) (change as_before) as_before (sym each.0 ∙ e)))
+        (cases_Bool (number_in r.1 == number)) in
+    ap₂ (λ (d : Database) (l : List Database). d ∷ l) first (in_place a b name number change rows each.1 here there)
+
+-- a change of the records of a database that the catalog has
+record_changed : (rows : Rows) (name : List ℕ) (c : RowChange) (change : Database → Database) →
+    is_environment rows ≡ true → IsRising (rows 0) → HasNumber rows name c.db → c.name.dup ≡ [] →
+    ((r : Row) → number_in r.1 ≡ c.db → database_in (row_changed c rows) r ≡ change (database_in rows r)) →
+    (is_environment (row_changed c rows) ≡ true) × (store_of (row_changed c rows) ≡ record { databases = in_database name change (store_of rows).databases })
+record_changed rows name c change env up has dup here =
+    let parts = environment_parts rows env in
+    let above = has_number-above rows name c.db env has in
+    let same : rows 0 ≡ row_changed c rows 0 = sym (row_changed-there c rows 0 (λ e. above (sym e))) in
+    let row = row_of_data (plain_name name) (rows 0) has.0 has.1 in
+    let number : number_in row.0.1 ≡ c.db = ap number_in row.2 ∙ has.2 in
+    let each : AllByRecursion (λ (r : Row). (number_in r.1 == c.db) ≡ is_same r.0.key name) (rows 0) =
+      subst (λ n. AllByRecursion (λ (r : Row). (number_in r.1 == n) ≡ is_same r.0.key name) (rows 0)) number
+        (numbered_as_named name row.0 (rows 0) parts.catalog parts.distinct up row.1) in
+    let make : List Database → Store = λ l. record { databases = l } in
+    (environment_from (row_changed c rows) (record {
+      catalog = subst (λ l. AllByRecursion (λ (r : Row). is_catalog_row r ≡ true) l) same parts.catalog;
+      distinct = subst (λ (l : List Row). are_distinct (map number_of_row l) ≡ true) same parts.distinct;
+      plain = subst (λ l. AllByRecursion (λ (r : Row). are_plain (row_changed c rows (number_in r.1)) ≡ true) l) same
+        (all_weaker (λ (r : Row). are_plain (rows (number_in r.1)) ≡ true) (λ r. are_plain (row_changed c rows (number_in r.1)) ≡ true)
+          (λ r plain. plain-row_changed c rows (number_in r.1) dup plain) (rows 0) parts.plain);
+      few = subst (λ (l : List Row). length l ≤ MOST_DATABASES) same parts.few;
+    }),
+    ap make (ap (λ l. map (database_in (row_changed c rows)) l) (sym same)
+      ∙ in_place rows (row_changed c rows) name c.db change (rows 0) each here (λ db h. row_changed-there c rows db h)))
+
+-- the pairs of a database whose records change
+pairs-changed : (rows : Rows) (c : RowChange) (r : Row) (pairs : List (List ℕ × List ℕ) → List (List ℕ × List ℕ)) → number_in r.1 ≡ c.db →
+    map pair_of (rows_with c.name c.value (rows c.db)) ≡ pairs (map pair_of (rows c.db)) →
+    database_in (row_changed c rows) r ≡ with_pairs (database_in rows r) (pairs (database_in rows r).pairs)
+pairs-changed rows c r pairs e h =
+    let make : List (List ℕ × List ℕ) → Database = λ l. record { name = r.0.key; kind = Plain; pairs = l } in
+    ap make
+      (ap (λ n. map pair_of (row_changed c rows n)) e ∙ ap (λ l. map pair_of l) (row_changed-here c rows) ∙ h ∙ ap (λ n. pairs (map pair_of (rows n))) (sym e))
+
+store_of-set : (rows : Rows) (last_db number txn : ℕ) (name : List ℕ) (at : Name) (value : List ℕ) →
+    is_environment rows ≡ true → IsRising (rows 0) → MayBeLogged rows last_db number (Set name at value) →
+    (is_environment (row_changed (row_change_of txn number (Set name at value)) rows) ≡ true)
+    × (store_of (row_changed (row_change_of txn number (Set name at value)) rows) ≡ changed (Set name at value) (store_of rows))
+store_of-set rows last_db number txn name at value env up may =
+    let c = row_change_of txn number (Set name at value) in
+    record_changed rows name c (λ d. with_pairs d (pairs_with d.kind at value d.pairs)) env up may.0 may.1
+      (λ r e. pairs-changed rows c r (pairs_with Plain at value) e
+        (pairs_with-rows (rows number) at value (has_number-plain rows name number env may.0) may.1))
+
+store_of-unset : (rows : Rows) (last_db number txn : ℕ) (name : List ℕ) (at : Name) →
+    is_environment rows ≡ true → IsRising (rows 0) → MayBeLogged rows last_db number (Unset name at) →
+    (is_environment (row_changed (row_change_of txn number (Unset name at)) rows) ≡ true)
+    × (store_of (row_changed (row_change_of txn number (Unset name at)) rows) ≡ changed (Unset name at) (store_of rows))
+store_of-unset rows last_db number txn name at env up may =
+    let c = row_change_of txn number (Unset name at) in
+    record_changed rows name c (λ d. with_pairs d (pairs_without d.kind at d.pairs)) env up may.0 may.1
+      (λ r e. pairs-changed rows c r (pairs_without Plain at) e
+        (pairs_without-rows (rows number) at (has_number-plain rows name number env may.0) may.1))
+
+-- ---- a new database
+
+-- the number that a catalog record's bytes have
+pub number_in-record : (number : ℕ) (kind : DbKind) → number < 2 ^ 32 → number_in (record_bytes (record { number = number; kind = kind })) ≡ number
+number_in-record number PlainRecord fits = from_be_bytes-to_be_bytes_4 number fits
+
+-- one number more, in the middle
+distinct_with : (lower higher : List Row) (row : Row) → are_distinct (map number_of_row (lower ++ higher)) ≡ true →
+    AllByRecursion (λ r. number_in r.1 ≢ number_in row.1) (lower ++ higher) → are_distinct (map number_of_row (lower ++ row ∷ higher)) ≡ true
+distinct_with [] higher row apart differ =
+    and_from (not (list_any (λ m. m == number_in row.1) (map number_of_row higher))) (are_distinct (map number_of_row higher))
+      (not_from_false (list_any (λ m. m == number_in row.1) (map number_of_row higher))
+        (none_from_false (λ m. m == number_in row.1) (map number_of_row higher)
+          (all_to_map number_of_row (λ m. (m == number_in row.1) ≡ false) higher
+            (all_weaker (λ (r : Row). number_in r.1 ≢ number_in row.1) (λ r. (number_in r.1 == number_in row.1) ≡ false) (λ r h. ne_eqb (number_in r.1) (number_in row.1) h) higher differ))))
+      apart
+distinct_with (r ∷ lower) higher row apart differ =
+    let test : ℕ → Bool = λ m. m == number_in r.1 in
+    let parts = and_parts (not (list_any test (map number_of_row (lower ++ higher)))) (are_distinct (map number_of_row (lower ++ higher))) apart in
+    let others : AllByRecursion (λ (y : Row). test (number_in y.1) ≡ false) (lower ++ higher) =
+      all_of_map number_of_row (λ m. test m ≡ false) (lower ++ higher)
+        (none_true test (map number_of_row (lower ++ higher)) (not-true (list_any test (map number_of_row (lower ++ higher))) parts.0)) in
+    let P : Row → Type 0 = λ y. test (number_in y.1) ≡ false in
+    let halves = all_parts P lower higher others in
+    and_from (not (list_any test (map number_of_row (lower ++ row ∷ higher)))) (are_distinct (map number_of_row (lower ++ row ∷ higher)))
+      (not_from_false (list_any test (map number_of_row (lower ++ row ∷ higher)))
+        (none_from_false test (map number_of_row (lower ++ row ∷ higher))
+          (all_to_map number_of_row (λ m. test m ≡ false) (lower ++ row ∷ higher)
+            (all_append P lower (row ∷ higher) halves.0 (ne_eqb (number_in row.1) (number_in r.1) (λ e. differ.0 (sym e)), halves.1)))))
+      (distinct_with lower higher row parts.1 differ.1)
+
+-- a catalog record with a new name and a new number makes an empty database
+made : (rows : Rows) (last_db number txn : ℕ) (name bytes : List ℕ) →
+    is_environment rows ≡ true → IsRising (rows 0) → ((db : ℕ) → last_db < db → rows db ≡ []) → AllByRecursion (λ n. n ≤ last_db) (numbers_of rows) →
+    IsTrue (is_word name) → data_at (plain_name name) (rows 0) ≡ None → length (rows 0) < MOST_DATABASES → number ≡ last_db + 1 → number_in bytes ≡ number →
+    (is_environment (row_changed (record { txn = txn; db = 0; name = plain_name name; value = Some bytes }) rows) ≡ true)
+    × (store_of (row_changed (record { txn = txn; db = 0; name = plain_name name; value = Some bytes }) rows)
+       ≡ record { databases = databases_with (record { name = name; kind = Plain; pairs = [] }) (store_of rows).databases })
+made rows last_db number txn name bytes env up unused known word absent room number_is number_new =
+    let parts = environment_parts rows env in
+    let at : Name = plain_name name in
+    let c : RowChange = record { txn = txn; db = 0; name = at; value = Some bytes } in
+    let after : Rows = row_changed c rows in
+    let new : Row = (at, bytes) in
+    let low : Row → Bool = λ r. is_lt (name_cmp r.0 at) in
+    let high : Row → Bool = λ r. is_gt (name_cmp r.0 at) in
+    let lower : List Row = filter low (rows 0) in
+    let higher : List Row = filter high (rows 0) in
+    let split : lower ++ higher ≡ rows 0 = split_where_none (rows 0) at up (no_row_of_data at (rows 0) absent) in
+    let above_last : last_db < number = omega arith in
+    let not_catalog : number ≢ 0 = λ e. absurd (omega arith) in
+    let empty : after (number_in bytes) ≡ [] = ap after number_new ∙ row_changed-there c rows number not_catalog ∙ unused number above_last in
+    let at_most : AllByRecursion (λ (r : Row). number_in r.1 ≤ last_db) (rows 0) = all_of_map number_of_row (λ n. n ≤ last_db) (rows 0) known in
+    let differ : AllByRecursion (λ (r : Row). number_in r.1 ≢ number_in bytes) (rows 0) =
+      all_weaker (λ (r : Row). number_in r.1 ≤ last_db) (λ r. number_in r.1 ≢ number_in bytes) (λ r h e. absurd (omega arith)) (rows 0) at_most in
+    let Right : Row → Type 0 = λ r. is_catalog_row r ≡ true in
+    let new_right : Right new =
+      and_from (is_word name && true) (not (number_in bytes == 0)) (and_from (is_word name) true word refl)
+        (not_from_false (number_in bytes == 0) (ne_eqb (number_in bytes) 0 (λ e. absurd (omega arith)))) in
+    let Kept : Row → Type 0 = λ r. after (number_in r.1) ≡ rows (number_in r.1) in
+    let kept : AllByRecursion Kept (rows 0) =
+      all_weaker (λ (r : Row). number_in r.1 ≢ 0) Kept (λ r h. row_changed-there c rows (number_in r.1) h) (rows 0) (catalog_numbers (rows 0) parts.catalog) in
+    let Plainly : Row → Type 0 = λ r. are_plain (after (number_in r.1)) ≡ true in
+    let plainly : AllByRecursion Plainly (rows 0) =
+      all_both Kept (λ (r : Row). are_plain (rows (number_in r.1)) ≡ true) Plainly (λ r k h. ap are_plain k ∙ h) (rows 0) kept parts.plain in
+    let Same : Row → Type 0 = λ r. database_in after r ≡ database_in rows r in
+    let same : AllByRecursion Same (rows 0) =
+      all_weaker Kept Same
+        (λ r k. let with_records : List Row → Database = λ l. record { name = r.0.key; kind = Plain; pairs = map pair_of l } in ap with_records k) (rows 0) kept in
+    let empty_dups = catalog_plain (rows 0) parts.catalog in
+    let as_databases : (test : Ordering → Bool) →
+        filter (λ (d : Database). test (bytes_cmp d.name name)) (map (database_in rows) (rows 0)) ≡ map (database_in rows) (filter (λ (r : Row). test (name_cmp r.0 at)) (rows 0)) =
+      λ test. filter-map (database_in rows) (λ d. test (bytes_cmp d.name name)) (λ r. test (name_cmp r.0 at)) (rows 0)
+        (all_weaker (λ (r : Row). r.0.dup ≡ []) (λ r. test (bytes_cmp r.0.key name) ≡ test (name_cmp r.0 at))
+          (λ r e. ap test (sym (name_cmp-plain r.0 name e))) (rows 0) empty_dups) in
+    let with_pairs_of : List (List ℕ × List ℕ) → Database = λ l. record { name = name; kind = Plain; pairs = l } in
+    let make : List Database → Store = λ l. record { databases = l } in
+    (environment_from after (record {
+      catalog = all_append Right lower (new ∷ higher) (all_filter Right low (rows 0) parts.catalog) (new_right, all_filter Right high (rows 0) parts.catalog);
+      distinct = distinct_with lower higher new (subst (λ (l : List Row). are_distinct (map number_of_row l) ≡ true) (sym split) parts.distinct)
+        (subst (λ l. AllByRecursion (λ (r : Row). number_in r.1 ≢ number_in bytes) l) (sym split) differ);
+      plain = all_append Plainly lower (new ∷ higher) (all_filter Plainly low (rows 0) plainly) (ap are_plain empty, all_filter Plainly high (rows 0) plainly);
+      few = omega (arith, length-append lower (new ∷ higher), length-append lower higher, ap length split);
+    }),
+    ap make
+      (map-append (database_in after) lower (new ∷ higher)
+      ∙ ap₂ (λ (a b : List Database). a ++ database_in after new ∷ b)
+          (map_same (database_in after) (database_in rows) lower (all_filter Same low (rows 0) same) ∙ sym (as_databases is_lt))
+          (map_same (database_in after) (database_in rows) higher (all_filter Same high (rows 0) same) ∙ sym (as_databases is_gt))
+      ∙ ap (λ (d : Database). filter (λ (x : Database). is_lt (bytes_cmp x.name name)) (map (database_in rows) (rows 0)) ++ d ∷ filter (λ (x : Database). is_gt (bytes_cmp x.name name)) (map (database_in rows) (rows 0)))
+          (ap with_pairs_of (ap (λ (l : List Row). map pair_of l) empty))))
+
+-- what a logged change leaves is an environment, and its store is the changed one
+pub store_of-changed : (rows : Rows) (last_db number txn : ℕ) (change : Change) →
+    is_environment rows ≡ true → ((db : ℕ) → IsRising (rows db)) → ((db : ℕ) → last_db < db → rows db ≡ []) → AllByRecursion (λ n. n ≤ last_db) (numbers_of rows) →
+    MayBeLogged rows last_db number change →
+    (is_environment (row_changed (row_change_of txn number change) rows) ≡ true) × (store_of (row_changed (row_change_of txn number change) rows) ≡ changed change (store_of rows))
+store_of-changed rows last_db number txn (Set name at value) env up unused known may = store_of-set rows last_db number txn name at value env (up 0) may
+store_of-changed rows last_db number txn (Unset name at) env up unused known may = store_of-unset rows last_db number txn name at env (up 0) may
+store_of-changed rows last_db number txn (Make name Plain) env up unused known may =
+    made rows last_db number txn name (record_bytes (record { number = number; kind = kind_in_catalog Plain })) env (up 0) unused known may.0 may.1 may.2 may.3
+      (number_in-record number PlainRecord may.4)
