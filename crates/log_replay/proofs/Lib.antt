@@ -1,3 +1,4 @@
 pub mod ListLaws
 pub mod RowLaws
 pub mod StoreLaws
+pub mod TotalLaws

@@ -124,7 +124,7 @@ has_number-above rows name number h has e =
       (catalog_numbers (rows 0) (environment_parts rows h).catalog)).0 (ap number_in row.2 ∙ has.2 ∙ e)
 
 -- the number is among the catalog's
-has_number-among : (rows : Rows) (name : List ℕ) (number : ℕ) → HasNumber rows name number → list_any (λ m. m == number) (numbers_of rows) ≡ true
+pub has_number-among : (rows : Rows) (name : List ℕ) (number : ℕ) → HasNumber rows name number → list_any (λ m. m == number) (numbers_of rows) ≡ true
 has_number-among rows name number has =
     let row = row_of_data (plain_name name) (rows 0) has.0 has.1 in
     list_any-map number_of_row (λ m. m == number) (rows 0)
