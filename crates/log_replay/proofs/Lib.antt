@@ -2,3 +2,4 @@ pub mod ListLaws
 pub mod RowLaws
 pub mod StoreLaws
 pub mod TotalLaws
+pub mod LogLaws
