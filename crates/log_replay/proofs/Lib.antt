@@ -3,3 +3,4 @@ pub mod RowLaws
 pub mod StoreLaws
 pub mod TotalLaws
 pub mod LogLaws
+pub mod LoggedLaws
