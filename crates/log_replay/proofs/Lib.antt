@@ -5,3 +5,4 @@ pub mod RowLaws
 pub mod StoreLaws
 pub mod TotalLaws
 pub mod LogLaws
+pub mod LoggedLaws

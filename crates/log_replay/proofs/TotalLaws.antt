@@ -1,5 +1,5 @@
 -- How many records and databases a logged change leaves.
-use Rattle.std.proofs.Common.{◌≡◌, ◌≢◌, ℕ, ◌+◌, ◌<◌, ◌≤◌, ◌^◌, List, [], ◌∷◌, ◌++◌, Bool, true, false, cond, not, ◌&&◌, ◌||◌, ◌==◌, Option, None, Some, map, filter, length, sum_by, refl, ap, ap₂, sym, ◌∙◌, subst, ⊎_elim, arith, length-append, is_lt, is_gt}
+use Rattle.std.proofs.Common.{◌≡◌, ◌≢◌, ℕ, ◌+◌, ◌<◌, List, [], ◌∷◌, ◌++◌, true, false, not, ◌||◌, ◌==◌, None, Some, map, filter, length, sum_by, refl, ap, ap₂, sym, ◌∙◌, ⊎_elim, arith, length-append, is_lt, is_gt}
 use Rattle.std.specs.List.{AllByRecursion, list_any}
 use Rattle.std.proofs.lemmas.Bool.{and_parts, cases_Bool, false≢true, eqb-true, eqb-false, not-true}
 use Rattle.std.proofs.lemmas.List.{length-map}
@@ -14,7 +14,7 @@ use Rattle.je_model.specs.Store.{record_count}
 use Rattle.je_model.specs.Evaluation.{plain_name}
 use Rattle.db_catalog.specs.declared.db_record.DbKind.TheVariants.{Plain as PlainRecord}
 use Rattle.db_catalog.specs.Catalog.{record_bytes}
-use Rattle.log_replay.specs.Rows.{Row, Rows, RowChange, row_changed, rows_with, row_at, data_at, number_in, is_catalog_row, are_distinct, numbers_of, is_environment, IsRising, database_in, store_of, pair_of}
+use Rattle.log_replay.specs.Rows.{Row, Rows, RowChange, row_changed, rows_with, data_at, number_in, are_distinct, is_environment, IsRising, database_in, store_of, pair_of}
 use Rattle.log_replay.specs.Logging.{kind_in_catalog}
 use Rattle.log_replay.specs.Kept.{row_change_of, HasNumber, MayBeLogged}
 use Rattle.log_replay.proofs.ListLaws.{none_true, all_weaker, all_of_map}
@@ -33,6 +33,7 @@ counted rows (r ∷ catalog) =
     ∙ ap₂ (λ a b. a + b) (length-map (rows (number_in r.1)) pair_of) (counted rows catalog)
     ∙ sym (sum_by-cons (records_under rows) r catalog)
 
+-- where no record changes, the sums are the same
 sums_same : (a b : Rows) (catalog : List Row) → AllByRecursion (λ r. b (number_in r.1) ≡ a (number_in r.1)) catalog →
     sum_by (records_under b) catalog ≡ sum_by (records_under a) catalog
 sums_same a b [] h = refl
@@ -51,21 +52,21 @@ sums_differ a b number (r ∷ catalog) apart there same =
     let one = sum_by-cons (records_under a) r catalog in
     let two = sum_by-cons (records_under b) r catalog in
     ⊎_elim
-      (λ (e : (here == number) ≡ true).
-        let at : here ≡ number = eqb-true here number e in
-        let others : AllByRecursion (λ (y : Row). (number_in y.1 == here) ≡ false) catalog =
-          all_of_map number_of_row (λ m. (m == here) ≡ false) catalog
-            (none_true (λ m. m == here) (map number_of_row catalog) (not-true (list_any (λ m. m == here) (map number_of_row catalog)) parts.0)) in
-        let rest : sum_by (records_under b) catalog ≡ sum_by (records_under a) catalog =
-          sums_same a b catalog
-            (all_weaker (λ (y : Row). (number_in y.1 == here) ≡ false) (λ y. b (number_in y.1) ≡ a (number_in y.1))
-              (λ y h. same (number_in y.1) (λ f. eqb-false (number_in y.1) here h (f ∙ sym at))) catalog others) in
-        omega (arith, one, two, rest, ap (λ n. length (a n)) at, ap (λ n. length (b n)) at))
-      (λ (e : (here == number) ≡ false).
-        let before : length (b here) ≡ length (a here) = ap length (same here (eqb-false here number e)) in
-        let rest = sums_differ a b number catalog parts.1 (sym (ap (λ x. x || later) e) ∙ there) same in
-        omega (arith, one, two, rest, before))
-      (cases_Bool (here == number))
+    (λ (e : (here == number) ≡ true).
+    let at : here ≡ number = eqb-true here number e in
+    let others : AllByRecursion (λ (y : Row). (number_in y.1 == here) ≡ false) catalog =
+    all_of_map number_of_row (λ m. (m == here) ≡ false) catalog
+    (none_true (λ m. m == here) (map number_of_row catalog) (not-true (list_any (λ m. m == here) (map number_of_row catalog)) parts.0)) in
+    let rest : sum_by (records_under b) catalog ≡ sum_by (records_under a) catalog =
+    sums_same a b catalog
+    (all_weaker (λ (y : Row). (number_in y.1 == here) ≡ false) (λ y. b (number_in y.1) ≡ a (number_in y.1))
+    (λ y h. same (number_in y.1) (λ f. eqb-false (number_in y.1) here h (f ∙ sym at))) catalog others) in
+    omega (arith, one, two, rest, ap (λ n. length (a n)) at, ap (λ n. length (b n)) at))
+    (λ (e : (here == number) ≡ false).
+    let before : length (b here) ≡ length (a here) = ap length (same here (eqb-false here number e)) in
+    let rest = sums_differ a b number catalog parts.1 (sym (ap (λ x. x || later) e) ∙ there) same in
+    omega (arith, one, two, rest, before))
+    (cases_Bool (here == number))
 
 -- a change of a database's records changes the number of all records as it changes that of the database's
 record_count-change : (rows : Rows) (name : List ℕ) (c : RowChange) → is_environment rows ≡ true → HasNumber rows name c.db →
@@ -75,9 +76,9 @@ record_count-change rows name c env has =
     let catalog : after 0 ≡ rows 0 = row_changed-there c rows 0 (λ e. has_number-above rows name c.db env has (sym e)) in
     let before_is : record_count (store_of rows) ≡ sum_by (records_under rows) (rows 0) = counted rows (rows 0) in
     let after_is : record_count (store_of after) ≡ sum_by (records_under after) (rows 0) =
-      counted after (after 0) ∙ ap (λ l. sum_by (records_under after) l) catalog in
+    counted after (after 0) ∙ ap (λ l. sum_by (records_under after) l) catalog in
     let differ : sum_by (records_under after) (rows 0) + length (rows c.db) ≡ sum_by (records_under rows) (rows 0) + length (after c.db) =
-      sums_differ rows after c.db (rows 0) (environment_parts rows env).distinct (has_number-among rows name c.db has) (λ db h. row_changed-there c rows db h) in
+    sums_differ rows after c.db (rows 0) (environment_parts rows env).distinct (has_number-among rows name c.db has) (λ db h. row_changed-there c rows db h) in
     omega (arith, before_is, after_is, differ, ap length (row_changed-here c rows))
 
 -- a key that had no record has one more
@@ -111,10 +112,12 @@ databases-change rows name c env has =
     let catalog : after 0 ≡ rows 0 = row_changed-there c rows 0 (λ e. has_number-above rows name c.db env has (sym e)) in
     length-map (after 0) (database_in after) ∙ ap length catalog ∙ sym (length-map (rows 0) (database_in rows))
 
+-- data that is set leaves as many databases
 pub databases-set : (rows : Rows) (number txn : ℕ) (name : List ℕ) (at : Name) (value : List ℕ) → is_environment rows ≡ true → HasNumber rows name number →
     length (store_of (row_changed (row_change_of txn number (Set name at value)) rows)).databases ≡ length (store_of rows).databases
 databases-set rows number txn name at value env has = databases-change rows name (row_change_of txn number (Set name at value)) env has
 
+-- a record that is taken out leaves as many
 pub databases-unset : (rows : Rows) (number txn : ℕ) (name : List ℕ) (at : Name) → is_environment rows ≡ true → HasNumber rows name number →
     length (store_of (row_changed (row_change_of txn number (Unset name at)) rows)).databases ≡ length (store_of rows).databases
 databases-unset rows number txn name at env has = databases-change rows name (row_change_of txn number (Unset name at)) env has
@@ -137,33 +140,36 @@ made_totals rows last_db number txn name bytes env up unused absent number_is nu
     let above_last : last_db < number = omega arith in
     let empty : after (number_in bytes) ≡ [] = ap after number_new ∙ row_changed-there c rows number not_catalog ∙ unused number above_last in
     let kept : sum_by (records_under after) (rows 0) ≡ sum_by (records_under rows) (rows 0) =
-      sums_same rows after (rows 0)
-        (all_weaker (λ (r : Row). number_in r.1 ≢ 0) (λ r. after (number_in r.1) ≡ rows (number_in r.1)) (λ r h. row_changed-there c rows (number_in r.1) h) (rows 0)
-          (catalog_numbers (rows 0) (environment_parts rows env).catalog)) in
+    sums_same rows after (rows 0)
+    (all_weaker (λ (r : Row). number_in r.1 ≢ 0) (λ r. after (number_in r.1) ≡ rows (number_in r.1)) (λ r h. row_changed-there c rows (number_in r.1) h) (rows 0)
+    (catalog_numbers (rows 0) (environment_parts rows env).catalog)) in
     let before_is : record_count (store_of rows) ≡ sum_by (records_under rows) (rows 0) = counted rows (rows 0) in
     let after_is : record_count (store_of after) ≡ sum_by (records_under after) (lower ++ new ∷ higher) = counted after (after 0) in
     let with_new : sum_by (records_under after) (lower ++ new ∷ higher) ≡ sum_by (records_under after) lower + sum_by (records_under after) (new ∷ higher) =
-      sum_by-append (records_under after) lower (new ∷ higher) in
+    sum_by-append (records_under after) lower (new ∷ higher) in
     let of_new : sum_by (records_under after) (new ∷ higher) ≡ length (after (number_in bytes)) + sum_by (records_under after) higher =
-      sum_by-cons (records_under after) new higher in
+    sum_by-cons (records_under after) new higher in
     let without : sum_by (records_under after) (rows 0) ≡ sum_by (records_under after) lower + sum_by (records_under after) higher =
-      ap (λ l. sum_by (records_under after) l) (sym split) ∙ sum_by-append (records_under after) lower higher in
+    ap (λ l. sum_by (records_under after) l) (sym split) ∙ sum_by-append (records_under after) lower higher in
     let none : length (after (number_in bytes)) ≡ 0 = ap length empty in
     let databases_before : length (store_of rows).databases ≡ length (rows 0) = length-map (rows 0) (database_in rows) in
-    let databases_after : length (store_of after).databases ≡ length (lower ++ new ∷ higher) = length-map (after 0) (database_in after) in
-    (omega arith,
-     omega (arith, databases_before, databases_after, length-append lower (new ∷ higher), length-append lower higher, ap length split))
+    let databases_after : length (store_of after).databases ≡ length (lower ++ new ∷ higher) = length-map (after 0) (database_in after) in (
+      omega arith,
+      omega (arith, databases_before, databases_after, length-append lower (new ∷ higher), length-append lower higher, ap length split),
+    )
 
+-- a new database has no record
 pub record_count-make : (rows : Rows) (last_db number txn : ℕ) (name : List ℕ) (kind : Kind) →
     is_environment rows ≡ true → ((db : ℕ) → IsRising (rows db)) → ((db : ℕ) → last_db < db → rows db ≡ []) → MayBeLogged rows last_db number (Make name kind) →
     record_count (store_of (row_changed (row_change_of txn number (Make name kind)) rows)) ≡ record_count (store_of rows)
 record_count-make rows last_db number txn name Plain env up unused may =
     (made_totals rows last_db number txn name (record_bytes (record { number = number; kind = kind_in_catalog Plain })) env (up 0) unused may.1 may.3
-      (number_in-record number PlainRecord may.4)).0
+    (number_in-record number PlainRecord may.4)).0
 
+-- and is one more
 pub databases-make : (rows : Rows) (last_db number txn : ℕ) (name : List ℕ) (kind : Kind) →
     is_environment rows ≡ true → ((db : ℕ) → IsRising (rows db)) → ((db : ℕ) → last_db < db → rows db ≡ []) → MayBeLogged rows last_db number (Make name kind) →
     length (store_of (row_changed (row_change_of txn number (Make name kind)) rows)).databases ≡ length (store_of rows).databases + 1
 databases-make rows last_db number txn name Plain env up unused may =
     (made_totals rows last_db number txn name (record_bytes (record { number = number; kind = kind_in_catalog Plain })) env (up 0) unused may.1 may.3
-      (number_in-record number PlainRecord may.4)).1
+    (number_in-record number PlainRecord may.4)).1
