@@ -1,2 +1,3 @@
 pub mod Entries
 pub mod Waiting
+pub mod Distinct
