@@ -1,3 +1,4 @@
 pub mod Entries
 pub mod Waiting
 pub mod Distinct
+pub mod Opening
