@@ -6,3 +6,5 @@ pub mod StoreLaws
 pub mod TotalLaws
 pub mod LogLaws
 pub mod LoggedLaws
+pub mod Distinct
+pub mod Opening

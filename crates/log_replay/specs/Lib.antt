@@ -4,3 +4,4 @@ pub mod Meaning
 pub mod Logging
 pub mod Kept
 pub mod Pending
+pub mod Opening

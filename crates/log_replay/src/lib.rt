@@ -3,6 +3,8 @@
 //! its files with it, and keeps the records that a replay left in memory.
 #![tactic(auto)]
 
+mod named;
+mod numbers;
 mod pending;
 mod pending_change;
 pub mod rows;

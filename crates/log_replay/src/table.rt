@@ -1,8 +1,11 @@
 // The records of one database.
-ghost use Rattle.std.specs.Prelude.{◌≡◌, [], length, Option, None, Some, OnOk, OnErr, option_copied};
-ghost use Rattle.log_replay.specs.Rows.{IsRising, rows_with, data_at};
+ghost use Rattle.std.specs.Prelude.{◌≡◌, [], length, Option, None, Some, IfOk, OnOk, OnErr, option_copied, map};
+ghost use Rattle.log_replay.specs.Rows.{IsRising, rows_with, data_at, are_plain, pair_of};
+ghost use Rattle.log_replay.specs.Opening.{catalog_of};
 
-use je_order::{Name, Octets};
+use crate::named::Named;
+use crate::numbers::number_of;
+use je_order::{List, Name, Octets, Word};
 use std::alloc::{AllocError, Global};
 use std::collections::BTreeMap;
 use std::marker::Model;
@@ -64,5 +67,48 @@ impl Table {
         ensures rising { IsRising self.new }
     {
         self.records.remove(name);
+    }
+
+    /// Whether the records are right in a plain database: each dup is empty.
+    pub(crate) fn is_plain(&self) -> bool
+        ensures { result ≡ are_plain self.now }
+    {
+        for (name, _data) in &self.records {
+            if !name.dup.is_empty() {
+                return false;
+            }
+        }
+        true
+    }
+
+    /// Copies of the keys and data, in order.
+    pub(crate) fn pairs(&self, alloc: Global) -> Result<List<(Octets, Octets)>, AllocError>
+        ensures { IfOk result (λ pairs. pairs ≡ map pair_of self.now) }
+    {
+        let mut pairs = Vec::new(alloc);
+        for (name, data) in &self.records {
+            pairs.push((name.key.clone()?, data.clone()?))?;
+        }
+        Ok(List::from_vec(pairs))
+    }
+
+    /// The databases that the records name as those of a catalog, in order, and None where one of the
+    /// records is not right.
+    pub(crate) fn catalog(&self, alloc: Global) -> Result<Option<List<Named>>, AllocError>
+        ensures { IfOk result (λ catalog. catalog ≡ catalog_of self.now) }
+    {
+        let mut catalog = Vec::new(alloc);
+        for (name, data) in &self.records {
+            let key = name.key.as_slice();
+            let number = number_of(data.as_slice());
+            if !Word::is_word(key) || !name.dup.is_empty() || number == 0 {
+                return Ok(None);
+            }
+            catalog.push(Named {
+                name: Word::from_slice(alloc, key)?,
+                number,
+            })?;
+        }
+        Ok(Some(List::from_vec(catalog)))
     }
 }
