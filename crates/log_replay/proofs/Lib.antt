@@ -2,3 +2,4 @@ pub mod Entries
 pub mod Waiting
 pub mod Distinct
 pub mod Opening
+pub mod Changes

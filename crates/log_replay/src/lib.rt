@@ -7,6 +7,7 @@ mod named;
 mod numbers;
 mod pending;
 mod pending_change;
+mod replaying;
 pub mod rows;
 mod table;
 
