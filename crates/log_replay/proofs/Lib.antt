@@ -3,3 +3,4 @@ pub mod Waiting
 pub mod Distinct
 pub mod Opening
 pub mod Changes
+pub mod UnderWay

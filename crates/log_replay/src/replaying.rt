@@ -1,17 +1,17 @@
 // A replay under way.
-ghost use Rattle.std.specs.Prelude.{◌≡◌, ℕ, ◌^◌, ◌<◌, ◌∷◌, map, max, length, IfOk, OnOk, IsTrue};
+ghost use Rattle.std.specs.Prelude.{◌≡◌, ℕ, ◌^◌, ◌<◌, List as Items, false, map, max, length, IfOk, OnOk, MatchOption};
 ghost use Rattle.std.specs.Bool.{MatchBool};
 ghost use Rattle.log_replay.specs.Rows.{rows_in, row_changed, rows_changed};
 ghost use Rattle.log_replay.specs.Replay.{Replay, replayed_entry, txn_in, db_in};
-ghost use Rattle.log_replay.specs.Meaning.{is_header, is_first_header, is_whole, is_log};
 ghost use Rattle.log_replay.specs.Pending.{as_change, StandsFor};
+ghost use Rattle.log_replay.specs.UnderWay.{is_in_place, is_whole_log, IsUnderWay, IsOver};
 
 use crate::numbers::number_of;
 use crate::pending::Pending;
 use crate::pending_change::PendingChange;
 use crate::rows::Rows;
 use je_order::List;
-use log_entry::Entry;
+use log_entry::{Decoded, Entry, decode_at};
 use std::alloc::{AllocError, Global};
 
 /// What a replay of a file has when some of its entries are read.
@@ -86,9 +86,52 @@ fn db_number(entry: &Entry) -> u32
     }
 }
 
+// Takes what an entry says: a change waits, and a commit makes the changes that waited for it.
+fn take_entry(
+    rows: &mut Rows,
+    pending: &mut Pending,
+    alloc: Global,
+    entry: Entry,
+) -> Result<(), AllocError>
+    ensures { (replay : Replay) → StandsFor rows.old pending.old replay → OnOk result (StandsFor rows.new pending.new (replayed_entry entry replay)) }
+{
+    match entry {
+        Entry::FileHeader { .. } => Ok(()),
+        Entry::Put {
+            txn,
+            db,
+            name,
+            value,
+        } => {
+            let value = Some(value);
+            pending.push(alloc, txn.0, PendingChange { db, name, value })
+        }
+        Entry::Delete { txn, db, name } => {
+            let value = None;
+            pending.push(alloc, txn.0, PendingChange { db, name, value })
+        }
+        Entry::Commit { txn } => {
+            let changes = pending.take(alloc, txn.0);
+            change_rows(rows, alloc, changes)
+        }
+    }
+}
+
+// Whether an entry may stand where it does: first the file's header, and behind it no other header.
+fn may_stand(entry: &Entry, first: bool) -> bool
+    ensures { result ≡ is_in_place first entry.now }
+{
+    match entry {
+        Entry::FileHeader { version, file } => first && *version == 1 && *file == 0,
+        _ => !first,
+    }
+}
+
 impl Replaying {
     /// A replay that begins. It takes no memory.
-    pub(crate) fn new(alloc: Global) -> Replaying {
+    pub(crate) fn new(alloc: Global) -> Replaying
+        ensures { (bytes : Items ℕ) → IsUnderWay bytes result }
+    {
         Replaying {
             rows: Rows::new(alloc),
             pending: Pending::new(alloc),
@@ -99,39 +142,48 @@ impl Replaying {
         }
     }
 
-    // Takes what an entry says: a change waits, and a commit makes the changes that waited for it.
-    fn apply(&mut self, alloc: Global, entry: Entry) -> Result<(), AllocError>
-        ensures { (replay : Replay) → StandsFor self.old.rows self.old.pending replay → OnOk result (StandsFor self.new.rows self.new.pending (replayed_entry entry replay)) }
+    /// Reads the next entry of the file's bytes, in the time of this entry alone: false where there
+    /// is none that a log may have there.
+    pub(crate) fn step(&mut self, alloc: Global, bytes: &[u8]) -> Result<bool, AllocError>
+        requires more { self.old.at < length bytes.now }
+        requires small { length bytes.now < 2 ^ 32 }
+        ensures { IsUnderWay bytes.now self.old → IfOk result (λ more. MatchBool more (IsUnderWay bytes.now self.new × (self.old.at < self.new.at)) (is_whole_log bytes.now ≡ false)) }
     {
-        match entry {
-            Entry::FileHeader { .. } => Ok(()),
-            Entry::Put {
-                txn,
-                db,
-                name,
-                value,
-            } => self.pending.push(
-                alloc,
-                txn.0,
-                PendingChange {
-                    db,
-                    name,
-                    value: Some(value),
-                },
-            ),
-            Entry::Delete { txn, db, name } => self.pending.push(
-                alloc,
-                txn.0,
-                PendingChange {
-                    db,
-                    name,
-                    value: None,
-                },
-            ),
-            Entry::Commit { txn } => {
-                let changes = self.pending.take(alloc, txn.0);
-                change_rows(&mut self.rows, alloc, changes)
-            }
+        let Decoded::Whole { entry, prev, len } = decode_at(alloc, bytes, self.at)? else {
+            return Ok(false);
+        };
+        if prev != self.last_offset {
+            return Ok(false);
+        }
+        if !may_stand(&entry, self.at == 0) {
+            return Ok(false);
+        }
+        self.last_txn = self.last_txn.max(txn_number(&entry));
+        self.last_db = self.last_db.max(db_number(&entry));
+        self.last_offset = self.at as u32;
+        self.at += len;
+        take_entry(&mut self.rows, &mut self.pending, alloc, entry)?;
+        Ok(true)
+    }
+}
+
+/// The replay of all entries of a file, and None where its bytes are not whole entries to their end or
+/// are not those of a log.
+pub(crate) fn replay_entries(
+    alloc: Global,
+    bytes: &[u8],
+) -> Result<Option<Replaying>, AllocError>
+    requires { length bytes.now < 2 ^ 32 }
+    ensures { IfOk result (λ found. MatchOption found (is_whole_log bytes.now ≡ false) (IsOver bytes.now)) }
+{
+    let mut replaying = Replaying::new(alloc);
+    while replaying.at < bytes.len() {
+        if !replaying.step(alloc, bytes)? {
+            return Ok(None);
         }
     }
+    if bytes.is_empty() {
+        return Ok(None);
+    }
+    Ok(Some(replaying))
 }
