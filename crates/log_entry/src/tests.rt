@@ -13,15 +13,12 @@ use std::test::Fail;
 
 // The first file after database `t` is made by transaction 1 and the pair of `a` and `1` is put into it
 // by transaction 2, as the format's description spells it.
-fn file() -> [u8; 138] {
-    [
-        0x0c, 0xb3, 0x01, 0x31, 1, 0, 0, 0, 0, 0, 0, 0, 0, 12, b'J', b'E', b'L', b'G', 0, 0, 0, 1,
-        0, 0, 0, 0, 0x06, 0x14, 0x00, 0x90, 2, 0, 0, 0, 0, 0, 0, 0, 0, 22, 0, 0, 0, 0, 0, 0, 0, 1,
-        0, 0, 0, 0, 0, 1, b't', 0, 0, 0, 0, 0, 1, 0, 0x02, 0x07, 0x00, 0x29, 5, 0, 0, 0, 0, 26, 0,
-        0, 0, 8, 0, 0, 0, 0, 0, 0, 0, 1, 0x09, 0x13, 0x00, 0xe9, 2, 0, 0, 0, 0, 62, 0, 0, 0, 18, 0,
-        0, 0, 0, 0, 0, 0, 2, 0, 0, 0, 1, 0, 1, b'a', 0, 0, b'1', 0x04, 0xfa, 0x00, 0x64, 5, 0, 0,
-        0, 0, 84, 0, 0, 0, 8, 0, 0, 0, 0, 0, 0, 0, 2,
-    ]
+fn file() -> &'static [u8; 138] {
+    b"\x0c\xb3\x01\x31\x01\x00\x00\x00\x00\x00\x00\x00\x00\x0c\x4a\x45\x4c\x47\x00\x00\x00\x01\x00\x00\x00\x00\
+\x06\x14\x00\x90\x02\x00\x00\x00\x00\x00\x00\x00\x00\x16\x00\x00\x00\x00\x00\x00\x00\x01\x00\x00\x00\x00\x00\x01\x74\x00\x00\x00\x00\x00\x01\x00\
+\x02\x07\x00\x29\x05\x00\x00\x00\x00\x1a\x00\x00\x00\x08\x00\x00\x00\x00\x00\x00\x00\x01\
+\x09\x13\x00\xe9\x02\x00\x00\x00\x00\x3e\x00\x00\x00\x12\x00\x00\x00\x00\x00\x00\x00\x02\x00\x00\x00\x01\x00\x01\x61\x00\x00\x31\
+\x04\xfa\x00\x64\x05\x00\x00\x00\x00\x54\x00\x00\x00\x08\x00\x00\x00\x00\x00\x00\x00\x02"
 }
 
 fn put(alloc: Global, txn: u64, db: u32, key: &[u8], value: &[u8]) -> Result<Entry, AllocError>
@@ -62,7 +59,7 @@ fn decodes_a_file(rt: HostRuntime) -> Result<(), Fail> {
     for (at, entry, prev, len) in rows {
         assert!(rt; at <= 138);
         assert_eq!(rt;
-            decode_at(alloc, &bytes, at)?,
+            decode_at(alloc, bytes, at)?,
             Decoded::Whole { entry, prev, len }
         );
     }
