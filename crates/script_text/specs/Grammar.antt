@@ -6,6 +6,7 @@ use Rattle.hex.specs.Hex.{decode_of}
 use Rattle.hex.specs.declared.error.FromHexError.{FromHexError}
 use Rattle.je_order.specs.Words.{is_word}
 use Rattle.je_model.specs.declared.store.Kind.TheVariants.{Plain}
+use Rattle.je_model.specs.declared.store.TheConstants.{KEY_LIMIT, VALUE_LIMIT}
 use Rattle.je_model.specs.declared.call.Call.{Call}
 use Rattle.je_model.specs.declared.call.Call.TheVariants.{Create, Put, Get, Delete}
 use Rattle.je_model.specs.declared.plan.Given.{Given}
@@ -13,7 +14,6 @@ use Rattle.je_model.specs.declared.plan.Given.TheVariants.{Session}
 use Rattle.je_model.specs.declared.plan.RunPlan.{RunPlan}
 use Rattle.script_text.specs.Words.{words_of}
 use Rattle.script_text.specs.declared.parsing.TheConstants.{MOST_LINES}
-use Rattle.script_text.specs.declared.bytes.TheConstants.{MOST_KEY, MOST_DATA}
 use Rattle.script_text.specs.declared.parsing.ParseErr.{ParseErr}
 use Rattle.script_text.specs.declared.parsing.ParseErr.TheVariants.{BadScript, Memory}
 
@@ -51,10 +51,10 @@ bytes_of most word =
     else at_most most (decode_of word)
 
 abbrev pub key_of : List ℕ → Option (List ℕ)
-key_of word = bytes_of MOST_KEY word
+key_of word = bytes_of KEY_LIMIT word
 
 abbrev pub data_of : List ℕ → Option (List ℕ)
-data_of word = bytes_of MOST_DATA word
+data_of word = bytes_of VALUE_LIMIT word
 
 -- `create DB plain`
 abbrev pub create_of : List (List ℕ) → Option Call

@@ -3,7 +3,7 @@ use Rattle.std.specs.Prelude.{ℕ, ◌≡◌, ◌++◌, ◌∷◌, [], List, Boo
 use Rattle.std.specs.List.{list_any, flat_map}
 use Rattle.hex.specs.Hex.{encode_lower}
 use Rattle.je_model.specs.declared.answer.Answer.{Answer}
-use Rattle.je_model.specs.declared.answer.Answer.TheVariants.{Done, Logged, Durable, Rec, NotFound, NoDatabase, NameTaken, TooMany, LogFull, IdsEnded, DiskFault, Invalid}
+use Rattle.je_model.specs.declared.answer.Answer.TheVariants.{Done, Logged, Durable, Rec, NotFound, NoDatabase, NameTaken, TooMany, TooLong, LogFull, IdsEnded, DiskFault, Invalid}
 use Rattle.je_model.specs.declared.event.Event.{Event}
 use Rattle.je_model.specs.declared.event.Event.TheVariants.{Call as Called, SyncBegin, SyncEnd}
 use Rattle.je_model.specs.declared.totals.Totals.{Totals}
@@ -24,6 +24,7 @@ answer_text NotFound = Some (codes "notfound")
 answer_text NoDatabase = Some (codes "nodatabase")
 answer_text NameTaken = Some (codes "nametaken")
 answer_text (TooMany count) = Some (codes "toomany " ++ decimal count)
+answer_text (TooLong bytes) = Some (codes "toolong " ++ decimal bytes)
 answer_text LogFull = Some (codes "logfull")
 answer_text IdsEnded = Some (codes "idsended")
 answer_text DiskFault = Some (codes "diskfault")

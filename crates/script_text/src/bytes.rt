@@ -3,27 +3,22 @@ ghost use Rattle.std.specs.Prelude.{◌≡◌, IfOk};
 ghost use Rattle.script_text.specs.Grammar.{bytes_of, key_of, data_of};
 
 use hex::FromHexError;
+use je_model::{KEY_LIMIT, VALUE_LIMIT};
 use je_order::Octets;
 use std::alloc::{AllocError, Global};
-
-/// The most bytes that a key may have.
-pub const MOST_KEY: usize = 4_096;
-
-/// The most bytes that a record's data may have.
-pub const MOST_DATA: usize = 65_536;
 
 // The key that a word spells, if it spells one.
 pub fn key_of(alloc: Global, word: &[u8]) -> Result<Option<Octets>, AllocError>
     ensures { IfOk result (λ key. key ≡ key_of word.now) }
 {
-    bytes_of(alloc, word, MOST_KEY)
+    bytes_of(alloc, word, KEY_LIMIT)
 }
 
 // The data that a word spells, if it spells any.
 pub fn data_of(alloc: Global, word: &[u8]) -> Result<Option<Octets>, AllocError>
     ensures { IfOk result (λ bytes. bytes ≡ data_of word.now) }
 {
-    bytes_of(alloc, word, MOST_DATA)
+    bytes_of(alloc, word, VALUE_LIMIT)
 }
 
 fn bytes_of(alloc: Global, word: &[u8], most: usize) -> Result<Option<Octets>, AllocError>

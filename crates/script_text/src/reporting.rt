@@ -167,6 +167,7 @@ mod tests {
         Found,
         NotFound,
         TooMany,
+        TooLong,
         DiskFault,
         Invalid,
     }
@@ -181,7 +182,8 @@ mod tests {
                 value: Octets::new(alloc),
             },
             Said::NotFound => Answer::NotFound,
-            Said::TooMany => Answer::TooMany { count: 1 },
+            Said::TooMany => Answer::TooMany { count: 1_000 },
+            Said::TooLong => Answer::TooLong { length: 4_097 },
             Said::DiskFault => Answer::DiskFault,
             Said::Invalid => Answer::Invalid { first: Fault::Disk },
         })
@@ -204,7 +206,7 @@ mod tests {
         }
     }
 
-    const JOURNAL: [(u8, u32, Said); 12] = [
+    const JOURNAL: [(u8, u32, Said); 13] = [
         (1, 1, Said::Logged(1)),
         (0, 0, Said::Begun),
         (0, 0, Said::Durable(1)),
@@ -215,6 +217,7 @@ mod tests {
         (0, 0, Said::Begun),
         (0, 0, Said::Durable(2)),
         (1, 7, Said::TooMany),
+        (4, 9, Said::TooLong),
         (1, 8, Said::DiskFault),
         (64, 1_000_000, Said::Invalid),
     ];
@@ -228,7 +231,7 @@ mod tests {
     }
 
     const TEXT: &[u8] =
-        b"1 s1 ok\n3 s2 ok 00ff -\n6 s1 notfound\n4 s2 ok\n7 s1 toomany 1\n8 s1 diskfault\n5 s3 diskfault\n1000000 s64 invalid\nend commits 3 databases 1 records 2\n";
+        b"1 s1 ok\n3 s2 ok 00ff -\n6 s1 notfound\n4 s2 ok\n7 s1 toomany 1000\n9 s4 toolong 4097\n8 s1 diskfault\n5 s3 diskfault\n1000000 s64 invalid\nend commits 3 databases 1 records 2\n";
 
     // A commit's line comes with the sync that covers it, or with the fault before it.
     #[test]

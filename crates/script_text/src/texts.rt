@@ -54,11 +54,11 @@ fn put_record<K: Sink>(page: &mut Page, out: &mut K, key: &[u8], value: &[u8])
     put_bytes(page, out, value);
 }
 
-fn put_count<K: Sink>(page: &mut Page, out: &mut K, count: u32)
-    ensures { Adds (point (K.written out.old) (K.faults out.old) page.old) (point (K.written out.new) (K.faults out.new) page.new) (codes "toomany " ++ decimal count) }
+fn put_with_number<K: Sink>(page: &mut Page, out: &mut K, text: &[u8], number: u64)
+    ensures { Adds (point (K.written out.old) (K.faults out.old) page.old) (point (K.written out.new) (K.faults out.new) page.new) (text.now ++ decimal number) }
 {
-    page.put(out, b"toomany ");
-    put_number(page, out, u64::from(count));
+    page.put(out, text);
+    put_number(page, out, number);
 }
 
 fn put_answer<K: Sink>(page: &mut Page, out: &mut K, answer: &Answer)
@@ -72,7 +72,8 @@ fn put_answer<K: Sink>(page: &mut Page, out: &mut K, answer: &Answer)
         Answer::NotFound => page.put(out, b"notfound"),
         Answer::NoDatabase => page.put(out, b"nodatabase"),
         Answer::NameTaken => page.put(out, b"nametaken"),
-        Answer::TooMany { count } => put_count(page, out, *count),
+        Answer::TooMany { count } => put_with_number(page, out, b"toomany ", u64::from(*count)),
+        Answer::TooLong { length } => put_with_number(page, out, b"toolong ", *length),
         Answer::LogFull => page.put(out, b"logfull"),
         Answer::IdsEnded => page.put(out, b"idsended"),
         Answer::DiskFault => page.put(out, b"diskfault"),
