@@ -89,7 +89,8 @@ fn get_of(alloc: Global, mut words: Words) -> Result<Option<Call>, AllocError>
 }
 
 fn plain_get(alloc: Global, db: &[u8], key: &[u8], rmw: bool) -> Result<Option<Call>, AllocError>
-    ensures { IfOk result (λ call. call ≡ (if is_word db.now then get_call db.now rmw (key_of key.now) else None)) }
+    ensures { IfOk result (λ call.
+        call ≡ (if is_word db.now then get_call db.now rmw (key_of key.now) else None)) }
 {
     if !Word::is_word(db) {
         return Ok(None);

@@ -48,7 +48,9 @@ impl Page {
 
     // Sends what the page holds to the sink.
     pub fn flush<K: Sink>(&mut self, out: &mut K)
-        ensures adds { Adds (point (K.written out.old) (K.faults out.old) self.old) (point (K.written out.new) (K.faults out.new) self.new) [] }
+        ensures adds { Adds (point (K.written out.old) (K.faults out.old) self.old)
+            (point (K.written out.new) (K.faults out.new) self.new)
+            [] }
         ensures empty { self.new.bytes ≡ [] }
     {
         self.failed = write_out(out, &self.bytes[..self.len], self.failed);
@@ -56,7 +58,9 @@ impl Page {
     }
 
     fn make_room<K: Sink>(&mut self, out: &mut K)
-        ensures adds { Adds (point (K.written out.old) (K.faults out.old) self.old) (point (K.written out.new) (K.faults out.new) self.new) [] }
+        ensures adds { Adds (point (K.written out.old) (K.faults out.old) self.old)
+            (point (K.written out.new) (K.faults out.new) self.new)
+            [] }
         ensures room { length self.new.bytes < 4096 }
     {
         if self.len == PAGE {
@@ -66,7 +70,9 @@ impl Page {
 
     // Sends a byte.
     pub fn put_byte<K: Sink>(&mut self, out: &mut K, byte: u8)
-        ensures { Adds (point (K.written out.old) (K.faults out.old) self.old) (point (K.written out.new) (K.faults out.new) self.new) (byte ∷ []) }
+        ensures { Adds (point (K.written out.old) (K.faults out.old) self.old)
+            (point (K.written out.new) (K.faults out.new) self.new)
+            (byte ∷ []) }
     {
         self.make_room(out);
         self.bytes[self.len] = byte;
@@ -75,7 +81,9 @@ impl Page {
 
     // Sends bytes.
     pub fn put<K: Sink>(&mut self, out: &mut K, bytes: &[u8])
-        ensures { Adds (point (K.written out.old) (K.faults out.old) self.old) (point (K.written out.new) (K.faults out.new) self.new) bytes.now }
+        ensures { Adds (point (K.written out.old) (K.faults out.old) self.old)
+            (point (K.written out.new) (K.faults out.new) self.new)
+            bytes.now }
     {
         for byte in bytes {
             self.put_byte(out, *byte);
@@ -85,7 +93,9 @@ impl Page {
 
 // Writes the bytes, unless a write has failed; it answers whether one has.
 fn write_out<K: Sink>(out: &mut K, bytes: &[u8], failed: bool) -> bool
-    ensures { Adds (point (K.written out.old) (K.faults out.old) (held_of bytes.now failed)) (point (K.written out.new) (K.faults out.new) (held_of [] result)) [] }
+    ensures { Adds (point (K.written out.old) (K.faults out.old) (held_of bytes.now failed))
+        (point (K.written out.new) (K.faults out.new) (held_of [] result))
+        [] }
 {
     if failed {
         return true;

@@ -16,8 +16,10 @@ use je_model::{Answer, Event, Totals};
 /// number of commits and what the final store holds. It takes no memory. `Failed` is a fault of the
 /// sink, which then has the first bytes of the text, any number of them.
 pub fn report<K: Sink>(events: &[Event], totals: &Totals, out: &mut K) -> Result<(), Failed>
-    ensures told { OnOk result (Gains (K.written out.old) (K.written out.new) (report_text events.now totals.now)) }
-    ensures part { OnErr result (GainsPart (K.written out.old) (K.written out.new) (report_text events.now totals.now)) }
+    ensures told { OnOk result
+        (Gains (K.written out.old) (K.written out.new) (report_text events.now totals.now)) }
+    ensures part { OnErr result
+        (GainsPart (K.written out.old) (K.written out.new) (report_text events.now totals.now)) }
     ensures never_falls { K.faults out.old ≤ K.faults out.new }
     ensures cause { OnErr result (Rose (K.faults out.old) (K.faults out.new)) }
 {
@@ -57,7 +59,9 @@ fn commits_of(events: &[Event]) -> usize
 }
 
 fn put_end<K: Sink>(page: &mut Page, out: &mut K, commits: usize, totals: &Totals)
-    ensures { Adds (point (K.written out.old) (K.faults out.old) page.old) (point (K.written out.new) (K.faults out.new) page.new) (end_line commits totals.now) }
+    ensures { Adds (point (K.written out.old) (K.faults out.old) page.old)
+        (point (K.written out.new) (K.faults out.new) page.new)
+        (end_line commits totals.now) }
 {
     page.put(out, b"end commits ");
     put_number(page, out, commits as u64);
@@ -69,7 +73,9 @@ fn put_end<K: Sink>(page: &mut Page, out: &mut K, commits: usize, totals: &Total
 }
 
 fn put_events<K: Sink>(page: &mut Page, out: &mut K, events: &[Event])
-    ensures { Adds (point (K.written out.old) (K.faults out.old) page.old) (point (K.written out.new) (K.faults out.new) page.new) (events_text [] events.now) }
+    ensures { Adds (point (K.written out.old) (K.faults out.old) page.old)
+        (point (K.written out.new) (K.faults out.new) page.new)
+        (events_text [] events.now) }
 {
     let mut first = 0;
     for at in 0..events.len() {
@@ -94,14 +100,18 @@ fn next_first(events: &[Event], first: usize, at: usize) -> usize
 }
 
 fn put_event<K: Sink>(page: &mut Page, out: &mut K, before: &[Event], event: &Event)
-    ensures { Adds (point (K.written out.old) (K.faults out.old) page.old) (point (K.written out.new) (K.faults out.new) page.new) (event_text before.now event.now) }
+    ensures { Adds (point (K.written out.old) (K.faults out.old) page.old)
+        (point (K.written out.new) (K.faults out.new) page.new)
+        (event_text before.now event.now) }
 {
     put_own_line(page, out, event);
     put_settled(page, out, before, event);
 }
 
 fn put_own_line<K: Sink>(page: &mut Page, out: &mut K, event: &Event)
-    ensures { Adds (point (K.written out.old) (K.faults out.old) page.old) (point (K.written out.new) (K.faults out.new) page.new) (own_line event.now) }
+    ensures { Adds (point (K.written out.old) (K.faults out.old) page.old)
+        (point (K.written out.new) (K.faults out.new) page.new)
+        (own_line event.now) }
 {
     match event {
         Event::Call {
@@ -117,7 +127,9 @@ fn put_own_line<K: Sink>(page: &mut Page, out: &mut K, event: &Event)
 
 // The lines of the calls that have waited for the event.
 fn put_settled<K: Sink>(page: &mut Page, out: &mut K, before: &[Event], event: &Event)
-    ensures { Adds (point (K.written out.old) (K.faults out.old) page.old) (point (K.written out.new) (K.faults out.new) page.new) (flat_map (settled_line event.now) (waiting_after before.now)) }
+    ensures { Adds (point (K.written out.old) (K.faults out.old) page.old)
+        (point (K.written out.new) (K.faults out.new) page.new)
+        (flat_map (settled_line event.now) (waiting_after before.now)) }
 {
     if !may_settle(event) {
         return;
@@ -134,7 +146,9 @@ fn put_if_settled<K: Sink>(
     later: &[Event],
     event: &Event,
 )
-    ensures { Adds (point (K.written out.old) (K.faults out.old) page.old) (point (K.written out.new) (K.faults out.new) page.new) (flat_map (settled_line event.now) (if_waiting call.now later.now)) }
+    ensures { Adds (point (K.written out.old) (K.faults out.old) page.old)
+        (point (K.written out.new) (K.faults out.new) page.new)
+        (flat_map (settled_line event.now) (if_waiting call.now later.now)) }
 {
     if let Event::Call {
         session,

@@ -11,7 +11,9 @@ use je_model::Answer;
 
 // Sends a number's decimal digits.
 pub fn put_number<K: Sink>(page: &mut Page, out: &mut K, number: u64)
-    ensures { Adds (point (K.written out.old) (K.faults out.old) page.old) (point (K.written out.new) (K.faults out.new) page.new) (decimal number) }
+    ensures { Adds (point (K.written out.old) (K.faults out.old) page.old)
+        (point (K.written out.new) (K.faults out.new) page.new)
+        (decimal number) }
 {
     let mut digits = Buffer::new();
     page.put(out, digits.format(number).as_bytes());
@@ -27,7 +29,9 @@ fn digits_of(byte: u8) -> [u8; 2]
 }
 
 fn put_digits<K: Sink>(page: &mut Page, out: &mut K, bytes: &[u8])
-    ensures { Adds (point (K.written out.old) (K.faults out.old) page.old) (point (K.written out.new) (K.faults out.new) page.new) (encode_lower bytes.now) }
+    ensures { Adds (point (K.written out.old) (K.faults out.old) page.old)
+        (point (K.written out.new) (K.faults out.new) page.new)
+        (encode_lower bytes.now) }
 {
     for byte in bytes {
         page.put(out, &digits_of(*byte));
@@ -36,7 +40,9 @@ fn put_digits<K: Sink>(page: &mut Page, out: &mut K, bytes: &[u8])
 
 // Sends bytes as hexadecimal digits, or `-` where there are none.
 pub fn put_bytes<K: Sink>(page: &mut Page, out: &mut K, bytes: &[u8])
-    ensures { Adds (point (K.written out.old) (K.faults out.old) page.old) (point (K.written out.new) (K.faults out.new) page.new) (bytes_text bytes.now) }
+    ensures { Adds (point (K.written out.old) (K.faults out.old) page.old)
+        (point (K.written out.new) (K.faults out.new) page.new)
+        (bytes_text bytes.now) }
 {
     if bytes.is_empty() {
         page.put(out, b"-");
@@ -46,7 +52,9 @@ pub fn put_bytes<K: Sink>(page: &mut Page, out: &mut K, bytes: &[u8])
 }
 
 fn put_record<K: Sink>(page: &mut Page, out: &mut K, key: &[u8], value: &[u8])
-    ensures { Adds (point (K.written out.old) (K.faults out.old) page.old) (point (K.written out.new) (K.faults out.new) page.new) (codes "ok " ++ bytes_text key.now ++ codes " " ++ bytes_text value.now) }
+    ensures { Adds (point (K.written out.old) (K.faults out.old) page.old)
+        (point (K.written out.new) (K.faults out.new) page.new)
+        (codes "ok " ++ bytes_text key.now ++ codes " " ++ bytes_text value.now) }
 {
     page.put(out, b"ok ");
     put_bytes(page, out, key);
@@ -55,14 +63,18 @@ fn put_record<K: Sink>(page: &mut Page, out: &mut K, key: &[u8], value: &[u8])
 }
 
 fn put_with_number<K: Sink>(page: &mut Page, out: &mut K, text: &[u8], number: u64)
-    ensures { Adds (point (K.written out.old) (K.faults out.old) page.old) (point (K.written out.new) (K.faults out.new) page.new) (text.now ++ decimal number) }
+    ensures { Adds (point (K.written out.old) (K.faults out.old) page.old)
+        (point (K.written out.new) (K.faults out.new) page.new)
+        (text.now ++ decimal number) }
 {
     page.put(out, text);
     put_number(page, out, number);
 }
 
 fn put_answer<K: Sink>(page: &mut Page, out: &mut K, answer: &Answer)
-    ensures { Adds (point (K.written out.old) (K.faults out.old) page.old) (point (K.written out.new) (K.faults out.new) page.new) (unwrap_or (answer_text answer.now) []) }
+    ensures { Adds (point (K.written out.old) (K.faults out.old) page.old)
+        (point (K.written out.new) (K.faults out.new) page.new)
+        (unwrap_or (answer_text answer.now) []) }
 {
     match answer {
         Answer::Done => page.put(out, b"ok"),
@@ -83,7 +95,9 @@ fn put_answer<K: Sink>(page: &mut Page, out: &mut K, answer: &Answer)
 
 // Sends what stands before the text in a line.
 fn put_front<K: Sink>(page: &mut Page, out: &mut K, session: u8, line: u32)
-    ensures { Adds (point (K.written out.old) (K.faults out.old) page.old) (point (K.written out.new) (K.faults out.new) page.new) (decimal line ++ codes " s" ++ decimal session ++ codes " ") }
+    ensures { Adds (point (K.written out.old) (K.faults out.old) page.old)
+        (point (K.written out.new) (K.faults out.new) page.new)
+        (decimal line ++ codes " s" ++ decimal session ++ codes " ") }
 {
     put_number(page, out, u64::from(line));
     page.put(out, b" s");
@@ -93,7 +107,9 @@ fn put_front<K: Sink>(page: &mut Page, out: &mut K, session: u8, line: u32)
 
 // Sends a line with that text.
 pub fn put_line<K: Sink>(page: &mut Page, out: &mut K, session: u8, line: u32, text: &[u8])
-    ensures { Adds (point (K.written out.old) (K.faults out.old) page.old) (point (K.written out.new) (K.faults out.new) page.new) (line_text session line text.now) }
+    ensures { Adds (point (K.written out.old) (K.faults out.old) page.old)
+        (point (K.written out.new) (K.faults out.new) page.new)
+        (line_text session line text.now) }
 {
     put_front(page, out, session, line);
     page.put(out, text);
@@ -108,7 +124,9 @@ fn has_text(answer: &Answer) -> bool
 
 // Sends the line of a call with its answer, where the answer has a text.
 pub fn put_call<K: Sink>(page: &mut Page, out: &mut K, session: u8, line: u32, answer: &Answer)
-    ensures { Adds (point (K.written out.old) (K.faults out.old) page.old) (point (K.written out.new) (K.faults out.new) page.new) (line_if_any session line (answer_text answer.now)) }
+    ensures { Adds (point (K.written out.old) (K.faults out.old) page.old)
+        (point (K.written out.new) (K.faults out.new) page.new)
+        (line_if_any session line (answer_text answer.now)) }
 {
     if has_text(answer) {
         put_front(page, out, session, line);
