@@ -29,9 +29,9 @@ pub struct Folder<R: Files + AllocGlobal + Clone + Drop> {
     rt: R,
     path: String,
     files: BTreeMap<u32, Opened<R::File>>,
-    // a file was made since the last sync
-    has_new_files: bool,
-    // the folder itself was made since the last sync
+    // the folder's entries may not be stable
+    is_changed: bool,
+    // the folder's own name may not be stable
     is_new: bool,
     // no sync has been finished since the mount, so files of earlier runs may not be stable
     is_unsettled: bool,
@@ -56,7 +56,7 @@ impl<R: Files + AllocGlobal + Clone + Drop> Folder<R> {
             rt: rt.clone()?,
             path: String::from_str(rt.alloc(), path)?,
             files: BTreeMap::new(rt.alloc()),
-            has_new_files: false,
+            is_changed: false,
             is_new: false,
             is_unsettled: true,
         })
@@ -74,7 +74,7 @@ impl<R: Files + AllocGlobal + Clone + Drop> Folder<R> {
     /// Forgets the open files. A folder that is not there is no error, and anything else of its name is.
     pub fn mount(&mut self) -> io::Result<()> {
         self.files.clear();
-        self.has_new_files = false;
+        self.is_changed = false;
         self.is_new = false;
         self.is_unsettled = true;
         match self.rt.metadata(self.path.as_str()) {
@@ -159,7 +159,7 @@ impl<R: Files + AllocGlobal + Clone + Drop> Folder<R> {
             self.is_new = true;
             made = self.make_file(path.as_str());
         }
-        self.has_new_files = true;
+        self.is_changed = true;
         self.keep(f, made?, true)
     }
 
@@ -208,11 +208,12 @@ impl<R: Files + AllocGlobal + Clone + Drop> Folder<R> {
     pub fn sync(&mut self) -> io::Result<()> {
         if self.is_unsettled {
             self.sync_found()?;
+            self.is_unsettled = false;
         }
         self.sync_written()?;
-        if self.has_new_files {
+        if self.is_changed {
             sync_at(&self.rt, self.path.as_str())?;
-            self.has_new_files = false;
+            self.is_changed = false;
         }
         if self.is_new {
             self.sync_above()?;
@@ -221,14 +222,18 @@ impl<R: Files + AllocGlobal + Clone + Drop> Folder<R> {
         Ok(())
     }
 
+    // What earlier runs made, wrote or took away may not be stable yet, the folder itself included.
     fn sync_found(&mut self) -> io::Result<()> {
+        if is_missing(&self.rt.metadata(self.path.as_str())) {
+            return Ok(());
+        }
         let numbers = self.numbers(self.rt.alloc())?;
         for f in &numbers {
             let path = self.path_of(FileNo(*f))?;
             sync_at(&self.rt, path.as_str())?;
-            self.has_new_files = true;
         }
-        self.is_unsettled = false;
+        self.is_changed = true;
+        self.is_new = true;
         Ok(())
     }
 
