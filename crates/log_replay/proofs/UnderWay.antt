@@ -114,7 +114,7 @@ pub misplaced_stops : (bytes : List ℕ) (going : Replaying) (entry : Entry) (pr
 misplaced_stops bytes going entry prev len way below is same place =
     let run = run_step way.most going.last_offset going.at bytes entry len (omega (arith, way.enough)) (is ∙ ap (λ (p : ℕ). Whole entry p len) same) in
     let log : is_log (run_of bytes) ≡ false =
-      sym (ap (λ (e : Ending). e.log) way.ends) ∙ ap (λ (r : Run). is_log_from (going.at == 0) r.entries) run ∙ log_fails (going.at == 0) entry _ place in
+    sym (ap (λ (e : Ending). e.log) way.ends) ∙ ap (λ (r : Run). is_log_from (going.at == 0) r.entries) run ∙ log_fails (going.at == 0) entry _ place in
     rw log (and_false (is_whole bytes))
 
 -- an entry in its place
@@ -136,9 +136,9 @@ goes_on bytes going entry prev len rows pending last_txn last_db way below is sa
       stands = stands way.replay way.stands;
       ends =
           rw (txn, db, later)
-            (ending_step (going.at == 0) entry way.replay going.last_txn going.last_db (run_from (way.most - 1) going.at (going.at + len) (drop (going.at + len) bytes)) place
-             ∙ ap (λ (r : Run). ending (going.at == 0) way.replay going.last_txn going.last_db r) (sym run)
-             ∙ way.ends);
+          (ending_step (going.at == 0) entry way.replay going.last_txn going.last_db (run_from (way.most - 1) going.at (going.at + len) (drop (going.at + len) bytes)) place
+          ∙ ap (λ (r : Run). ending (going.at == 0) way.replay going.last_txn going.last_db r) (sym run)
+          ∙ way.ends);
     }
 
 -- ---- the end
