@@ -1,23 +1,22 @@
 -- A replay that is under way, from entry to entry.
-use Rattle.std.proofs.Common.{◌≡◌, ℕ, zero, suc, ◌+◌, ◌-◌, ◌<◌, ◌≤◌, ◌^◌, List, [], ◌∷◌, ◌==◌, ◌&&◌, ◌||◌, Bool, true, false, not, cond, refl, ap, sym, ◌∙◌, subst, arith, max, length, drop, nat_lt, length-drop}
+use Rattle.std.proofs.Common.{◌≡◌, ℕ, zero, suc, ◌+◌, ◌-◌, ◌<◌, ◌≤◌, ◌^◌, List, [], ◌∷◌, ◌==◌, ◌&&◌, ◌||◌, Bool, true, false, not, refl, ap, sym, ◌∙◌, arith, max, length, drop, nat_lt, length-drop}
 use Rattle.std.proofs.lemmas.Bool.Decides.{nat_tests}
 use Rattle.std.proofs.lemmas.List.{drop-drop, drop_all}
 use Rattle.std.specs.List.{list_any}
 use Rattle.log_entry.specs.declared.entry.Entry.{Entry}
-use Rattle.log_entry.specs.declared.decoder.Decoded.{Decoded}
 use Rattle.log_entry.specs.declared.decoder.Decoded.TheVariants.{Whole, Torn as NotWhole}
 use Rattle.log_entry.specs.declared.decoder.Torn.{Torn}
 use Rattle.log_entry.specs.declared.decoder.Torn.TheVariants.{Short}
 use Rattle.log_entry.specs.Reading.{decoded}
-use Rattle.log_entry.specs.Run.{Run, run_from, run_in, run_of, rest_of, run_end, run_after, run_by, last_offset_of}
+use Rattle.log_entry.specs.Run.{Run, run_from, run_in, run_of, rest_of, run_end, run_after}
 use Rattle.log_entry.proofs.ReadingLaws.{decoded-long}
 use Rattle.log_replay.specs.declared.replaying.Replaying.{Replaying}
 use Rattle.log_replay.specs.declared.pending_change.PendingChange.{PendingChange}
 use Rattle.log_replay.specs.Rows.{Row, rows_in}
-use Rattle.log_replay.specs.Replay.{Replay, replayed, replayed_entry, nothing_replayed, txn_in, db_in, greatest}
-use Rattle.log_replay.specs.Meaning.{is_header, is_first_header, is_log, is_whole}
+use Rattle.log_replay.specs.Replay.{Replay, replayed_entry, nothing_replayed, txn_in, db_in, greatest}
+use Rattle.log_replay.specs.Meaning.{is_header, is_log, is_whole}
 use Rattle.log_replay.specs.Pending.{StandsFor, pending_in}
-use Rattle.log_replay.specs.UnderWay.{Ending, ending, ending_of, is_in_place, is_log_from, is_whole_log, IsUnderWay, IsOver}
+use Rattle.log_replay.specs.UnderWay.{Ending, ending, is_in_place, is_log_from, is_whole_log, IsUnderWay, IsOver}
 
 -- ---- runs
 

@@ -135,8 +135,8 @@ mod tests {
         4, 0xfa, 0, 0x64, 5, 0, 0, 0, 0, 0x54, 0, 0, 0, 8, 0, 0, 0, 0, 0, 0, 0, 2,
     ];
 
-    // Whether the store is one database t, with the one record that is asked for, or with none.
-    fn has_t(store: &Store, record: Option<(&[u8], &[u8])>) -> bool {
+    // Whether the store is one database t, with the one record that is wanted, or with none.
+    fn has_t(store: &Store, wanted: Option<(&[u8], &[u8])>) -> bool {
         let [database] = store.databases.as_slice() else {
             return false;
         };
@@ -144,8 +144,8 @@ mod tests {
             return false;
         }
         match database.pairs.as_slice() {
-            [] => record.is_none(),
-            [(key, data)] => record == Some((key.as_slice(), data.as_slice())),
+            [] => wanted.is_none(),
+            [(key, data)] => wanted == Some((key.as_slice(), data.as_slice())),
             _ => false,
         }
     }

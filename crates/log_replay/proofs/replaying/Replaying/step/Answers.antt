@@ -1,4 +1,4 @@
-use Rattle.std.proofs.Common.{◌≡◌, ◌∙◌, ◌==◌, ℕ, Bool, true, false, sym, arith, ◌<◌, ◌+◌, ap, drop, max}
+use Rattle.std.proofs.Common.{◌≡◌, ◌∙◌, ◌==◌, ℕ, false, sym, arith, ap, drop, max}
 use Rattle.std.proofs.lemmas.Bool.Decides.{nat_tests}
 use Rattle.log_entry.proofs.ReadingLaws.{decoded-long}
 use Rattle.log_replay.proofs.UnderWay.{torn_stops, parted_stops, misplaced_stops, goes_on}
