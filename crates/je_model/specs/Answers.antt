@@ -1,7 +1,7 @@
 -- What each event of a journal may answer: the first refusal of the order whose cause holds, else evaluation's
 -- answer (Getting Started with Transaction Processing; the order of refusals is this project's own).
 use Rattle.std.specs.Prelude.{ℕ, ◌+◌, ◌≡◌, ◌⊎◌, ◌∷◌, [], List, Option, None, Some, Bool, nat_lt, nat_le, is_some, length, if◌then◌else◌}
-use Rattle.je_model.specs.declared.store.TheConstants.{MOST_DATABASES, LAST_TXN, LAST_DATABASE}
+use Rattle.je_model.specs.declared.store.TheConstants.{MOST_DATABASES, LAST_TXN, LAST_DATABASE, KEY_LIMIT, VALUE_LIMIT}
 use Rattle.je_model.specs.declared.store.Store.{Store}
 use Rattle.je_model.specs.declared.call.Call.{Call}
 use Rattle.je_model.specs.declared.call.Call.TheVariants.{Create, Put, Get, Delete}
@@ -10,7 +10,7 @@ use Rattle.je_model.specs.declared.change.Change.TheVariants.{Set, Unset, Make}
 use Rattle.je_model.specs.declared.answer.Fault.{Fault}
 use Rattle.je_model.specs.declared.answer.Fault.TheVariants.{Disk}
 use Rattle.je_model.specs.declared.answer.Answer.{Answer}
-use Rattle.je_model.specs.declared.answer.Answer.TheVariants.{Done, Logged, Durable, NoDatabase, NameTaken, TooMany, LogFull, IdsEnded, DiskFault, Invalid}
+use Rattle.je_model.specs.declared.answer.Answer.TheVariants.{Done, Logged, Durable, NoDatabase, NameTaken, TooMany, TooLong, LogFull, IdsEnded, DiskFault, Invalid}
 use Rattle.je_model.specs.declared.event.Event.{Event}
 use Rattle.je_model.specs.declared.event.Event.TheVariants.{Call as Called, SyncBegin, SyncEnd}
 use Rattle.je_model.specs.Store.{database_of, all_changed}
@@ -56,6 +56,20 @@ catalog_refusal (Put db key value) store = access_refusal (is_some (database_of 
 catalog_refusal (Get db key rmw) store = access_refusal (is_some (database_of db store))
 catalog_refusal (Delete db key) store = access_refusal (is_some (database_of db store))
 
+-- the refusal of a key past its limit, else of data past its limit
+abbrev pub too_long : ℕ → List ℕ → Option Answer
+too_long limit bytes = if nat_lt limit (length bytes) then Some (TooLong (length bytes)) else None
+
+abbrev pub or_refusal : Option Answer → Option Answer → Option Answer
+or_refusal None second = second
+or_refusal (Some refusal) second = Some refusal
+
+abbrev pub length_refusal : Call → Option Answer
+length_refusal (Create db kind) = None
+length_refusal (Put db key value) = or_refusal (too_long KEY_LIMIT key) (too_long VALUE_LIMIT value)
+length_refusal (Get db key rmw) = too_long KEY_LIMIT key
+length_refusal (Delete db key) = too_long KEY_LIMIT key
+
 -- the answer to a call that was evaluated: its changes need room in the log and numbers
 abbrev pub logging_answer : LogRule → Standing → List Change → Answer
 logging_answer rule st changes =
@@ -77,7 +91,8 @@ answer_unless (Some refusal) answer = refusal
 -- the answer of a valid environment that has a transaction number left
 abbrev pub valid_answer : LogRule → Standing → Call → Answer
 valid_answer rule st call =
-    answer_unless (catalog_refusal call st.store) (evaluated_answer rule st (evaluation call st.store))
+    answer_unless (or_refusal (catalog_refusal call st.store) (length_refusal call))
+    (evaluated_answer rule st (evaluation call st.store))
 
 abbrev pub answer_after : Option Fault → LogRule → Standing → Call → Answer
 answer_after (Some fault) rule st call = Invalid fault

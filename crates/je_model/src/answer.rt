@@ -28,6 +28,8 @@ pub enum Answer {
     NameTaken,
     /// The store has `count` databases, which is the most that it may have.
     TooMany { count: u32 },
+    /// The key, or else the data, has this many bytes, which is past its limit.
+    TooLong { length: u64 },
     /// The log has no room for the changes.
     LogFull,
     /// A transaction or database number would be past the last one.

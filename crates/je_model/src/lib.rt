@@ -19,5 +19,7 @@ pub use call::Call;
 pub use change::Change;
 pub use event::Event;
 pub use plan::{Given, RunPlan};
-pub use store::{Database, Kind, LAST_DATABASE, LAST_TXN, MOST_DATABASES, Store};
+pub use store::{
+    Database, KEY_LIMIT, Kind, LAST_DATABASE, LAST_TXN, MOST_DATABASES, Store, VALUE_LIMIT,
+};
 pub use totals::Totals;

@@ -1,5 +1,11 @@
 pub mod Entries
 pub mod Waiting
+pub mod ListLaws
+pub mod RowLaws
+pub mod StoreLaws
+pub mod TotalLaws
+pub mod LogLaws
+pub mod LoggedLaws
 pub mod Distinct
 pub mod Opening
 pub mod Changes

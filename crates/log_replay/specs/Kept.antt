@@ -10,7 +10,7 @@ use Rattle.je_model.specs.declared.change.Change.TheVariants.{Set, Unset, Make}
 use Rattle.je_model.specs.declared.store.TheConstants.{MOST_DATABASES}
 use Rattle.je_model.specs.Evaluation.{plain_name}
 use Rattle.db_catalog.specs.Catalog.{record_bytes}
-use Rattle.log_replay.specs.Rows.{Rows, RowChange, data_at, number_in, is_environment, IsRising}
+use Rattle.log_replay.specs.Rows.{Rows, RowChange, data_at, number_in, numbers_of, is_environment, IsRising}
 use Rattle.log_replay.specs.Replay.{replayed, nothing_replayed}
 use Rattle.log_replay.specs.Meaning.{is_whole, is_log}
 use Rattle.log_replay.specs.Logging.{entry_of, kind_in_catalog}
@@ -29,6 +29,7 @@ pub record IsKept (bytes : List ℕ) (rows : Rows) (last_txn last_db : ℕ) : Ty
   pub rising : (db : ℕ) → IsRising (rows db)
   pub pending : AllByRecursion (IsOfBefore last_txn last_db) (replayed (run_of bytes) nothing_replayed).pending
   pub unused : (db : ℕ) → last_db < db → rows db ≡ []
+  pub numbers : AllByRecursion (λ n. n ≤ last_db) (numbers_of rows)
 
 -- the header of file 0
 abbrev pub header_bytes : List ℕ
