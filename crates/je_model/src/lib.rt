@@ -8,8 +8,10 @@
 pub mod answer;
 pub mod call;
 pub mod change;
+mod changing;
 pub mod evaluating;
 pub mod event;
+mod filtering;
 pub mod plan;
 pub mod store;
 pub mod totals;
@@ -17,6 +19,7 @@ pub mod totals;
 pub use answer::{Answer, Fault};
 pub use call::Call;
 pub use change::Change;
+pub use evaluating::eval;
 pub use event::Event;
 pub use plan::{Given, RunPlan};
 pub use store::{
