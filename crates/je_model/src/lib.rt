@@ -14,6 +14,8 @@ pub mod event;
 mod filtering;
 pub mod plan;
 pub mod store;
+#[cfg(test)]
+mod tests;
 pub mod totals;
 
 pub use answer::{Answer, Fault};

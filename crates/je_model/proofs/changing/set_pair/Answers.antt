@@ -1,4 +1,4 @@
-use Rattle.std.proofs.Common.{rules, ◌≡◌, ◌++◌, ◌∷◌, List, ℕ, filter, IfOk, refl, subst}
+use Rattle.std.proofs.Common.{rules, ◌≡◌, List, ℕ, refl}
 use Rattle.std.specs.Ordering.{is_lt, is_gt}
 use Rattle.je_order.specs.Order.{bytes_cmp}
 use Rattle.je_order.specs.declared.name.Name.{Name}
@@ -14,8 +14,7 @@ with-plain Plain at value pairs = refl
 
 pub returns : goal.returns
 returns c =
-    rw (with-plain c.args.kind.now c.args.at.now c.args.value.now c.args.pairs.now) (
-    subst (λ (new : List ℕ × List ℕ). IfOk c.with_item.result (λ list.
-    list ≡ filter (λ p. is_lt (bytes_cmp p.0 c.args.at.now.key)) c.args.pairs.now ++ new ∷ filter (λ p. is_gt (bytes_cmp p.0 c.args.at.now.key)) c.args.pairs.now))
-    (c.in_ok-new.ensures)
-    (c.with_item.ensures (λ p. is_lt (bytes_cmp p.0 c.args.at.now.key)) (λ p. is_gt (bytes_cmp p.0 c.args.at.now.key)) (λ x b h. search rules) (λ x b h. search rules)))
+    let set =
+    c.with_item.ensures (λ p. is_lt (bytes_cmp p.0 c.args.at.now.key)) (λ p. is_gt (bytes_cmp p.0 c.args.at.now.key))
+    (λ x b h. search rules) (λ x b h. search rules) in
+    rw (with-plain c.args.kind.now c.args.at.now c.args.value.now c.args.pairs.now) (rw c.in_ok-new.ensures at set)
