@@ -1,4 +1,4 @@
-use Rattle.std.proofs.Common.{◌≡◌, ◌++◌, ◌∷◌, [], filter, arith, append_assoc}
+use Rattle.std.proofs.Common.{◌≡◌, filter, arith, append_assoc}
 use Rattle.std.proofs.lemmas.Grind.{common_steps}
 use Rattle.je_model.proofs.filtering.with_item.Goals as goal
 
