@@ -84,7 +84,9 @@ fn set_in(
     at: &Name,
     value: &Octets,
 ) -> Result<Database, AllocError>
-    ensures { IfOk result (λ copy. copy ≡ (if is_same_text d.now.name db.now then with_pairs d.now (pairs_with d.now.kind at.now value.now d.now.pairs) else d.now)) }
+    ensures { IfOk result (λ copy. copy ≡ (if is_same_text d.now.name db.now
+        then with_pairs d.now (pairs_with d.now.kind at.now value.now d.now.pairs)
+        else d.now)) }
 {
     if same_bytes(d.name.as_slice(), db.as_slice()) {
         copy_with(d, set_pair(alloc, &d.kind, at, value, d.pairs.as_slice())?)
@@ -95,7 +97,9 @@ fn set_in(
 
 /// A copy of the database, without the name if it is the database of that name.
 fn unset_in(alloc: Global, d: &Database, db: &Word, at: &Name) -> Result<Database, AllocError>
-    ensures { IfOk result (λ copy. copy ≡ (if is_same_text d.now.name db.now then with_pairs d.now (pairs_without d.now.kind at.now d.now.pairs) else d.now)) }
+    ensures { IfOk result (λ copy. copy ≡ (if is_same_text d.now.name db.now
+        then with_pairs d.now (pairs_without d.now.kind at.now d.now.pairs)
+        else d.now)) }
 {
     if same_bytes(d.name.as_slice(), db.as_slice()) {
         copy_with(d, unset_pair(alloc, &d.kind, at, d.pairs.as_slice())?)
@@ -111,7 +115,8 @@ fn set_in_each(
     at: &Name,
     value: &Octets,
 ) -> Result<List<Database>, AllocError>
-    ensures { IfOk result (λ list. list ≡ in_database db.now (λ d. with_pairs d (pairs_with d.kind at.now value.now d.pairs)) databases.now) }
+    ensures { IfOk result (λ list.
+        list ≡ in_database db.now (λ d. with_pairs d (pairs_with d.kind at.now value.now d.pairs)) databases.now) }
 {
     let mut copies = Vec::new(alloc);
     for d in databases {
@@ -126,7 +131,8 @@ fn unset_in_each(
     db: &Word,
     at: &Name,
 ) -> Result<List<Database>, AllocError>
-    ensures { IfOk result (λ list. list ≡ in_database db.now (λ d. with_pairs d (pairs_without d.kind at.now d.pairs)) databases.now) }
+    ensures { IfOk result (λ list.
+        list ≡ in_database db.now (λ d. with_pairs d (pairs_without d.kind at.now d.pairs)) databases.now) }
 {
     let mut copies = Vec::new(alloc);
     for d in databases {

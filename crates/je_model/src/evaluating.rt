@@ -10,9 +10,9 @@ use je_order::{List, Name, Octets, Word, copy_of};
 use std::alloc::{AllocError, Global};
 
 /// What a call answers, and the store after it. This is the plain program that tests compare with: it
-/// walks and copies the whole store at each call, so it is for small stores. A call that is refused
-/// here answers NoDatabase; the refusals that come before and after evaluation are not its part. The
-/// one error is want of memory.
+/// walks and copies the whole store at each call, so it is for small stores. Of the refusals it knows
+/// NoDatabase alone: names that are taken, limits, log room and numbers are asked elsewhere. The one
+/// error is want of memory.
 pub fn eval(alloc: Global, store: &Store, call: &Call) -> Result<(Answer, Store), AllocError>
     ensures answer { IfOk result (λ r. r.0 ≡ (evaluation call.now store.now).answer) }
     ensures store { IfOk result (λ r. r.1 ≡ all_changed (evaluation call.now store.now).changes store.now) }

@@ -11,7 +11,9 @@ pub fn copies_where<T: Exact + Drop, F: Fn(&T) -> bool>(
     test: F,
 ) -> Result<Vec<T>, AllocError>
     requires { F.IsAlwaysCallable test }
-    ensures { (p : T → Bool) → ((x : _) (b : Bool) → F.post test x b → b ≡ p x.now) → IfOk result (λ v. v.items ≡ filter p items.now) }
+    ensures { (p : T → Bool) →
+        ((x : _) (b : Bool) → F.post test x b → b ≡ p x.now) →
+        IfOk result (λ v. v.items ≡ filter p items.now) }
 {
     let mut copies = Vec::new(alloc);
     for item in items {
@@ -32,7 +34,10 @@ pub fn with_item<T: Exact + Drop, F: Fn(&T) -> bool, G: Fn(&T) -> bool>(
 ) -> Result<List<T>, AllocError>
     requires below { F.IsAlwaysCallable below }
     requires above { G.IsAlwaysCallable above }
-    ensures { (p q : T → Bool) → ((x : _) (b : Bool) → F.post below x b → b ≡ p x.now) → ((x : _) (b : Bool) → G.post above x b → b ≡ q x.now) → IfOk result (λ list. list ≡ filter p items.now ++ new ∷ filter q items.now) }
+    ensures { (p q : T → Bool) →
+        ((x : _) (b : Bool) → F.post below x b → b ≡ p x.now) →
+        ((x : _) (b : Bool) → G.post above x b → b ≡ q x.now) →
+        IfOk result (λ list. list ≡ filter p items.now ++ new ∷ filter q items.now) }
 {
     let mut copies = copies_where(alloc, items, below)?;
     copies.push(new)?;
