@@ -8,15 +8,20 @@
 pub mod answer;
 pub mod call;
 pub mod change;
+mod changing;
 pub mod evaluating;
 pub mod event;
+mod filtering;
 pub mod plan;
 pub mod store;
+#[cfg(test)]
+mod tests;
 pub mod totals;
 
 pub use answer::{Answer, Fault};
 pub use call::Call;
 pub use change::Change;
+pub use evaluating::eval;
 pub use event::Event;
 pub use plan::{Given, RunPlan};
 pub use store::{

@@ -16,18 +16,31 @@ impl Exact for Kind {
 }
 
 /// A database: its name, its kind, and its records as pairs of key and data, in byte order of the keys.
-#[derive(Debug, Drop, PartialEq, Eq)]
+#[derive(Clone, Debug, Drop, PartialEq, Eq)]
 pub struct Database {
     pub name: Word,
     pub kind: Kind,
     pub pairs: List<(Octets, Octets)>,
 }
 
+impl Exact for Database {
+    ghost use Rattle.std.proofs.Common.{rules};
+    ghost use Rattle.je_model.specs.contracts.store.KindExact.TheImpl.Laws as kind;
+
+    ghost exact = { λ x y h. Prim.search (rules, kind.exact-law x.kind y.kind h.1.0) };
+}
+
 /// What an environment holds at one moment, without numbers, log or locks: its databases, in byte
 /// order of their names.
-#[derive(Debug, Drop, PartialEq, Eq)]
+#[derive(Clone, Debug, Drop, PartialEq, Eq)]
 pub struct Store {
     pub databases: List<Database>,
+}
+
+impl Exact for Store {
+    ghost use Rattle.std.proofs.Common.{rules};
+
+    ghost exact = { Prim.search rules };
 }
 
 impl Store {
