@@ -1,0 +1,12 @@
+//! The program: it reads its words and its script, opens the environment over a disk, runs the script's
+//! lines in order, and writes the report. `run_je` is the public top call; its contract is the store's
+//! theorem. It stands on all the crates below, and `jedb` only hands it the real disk, input and output.
+#![tactic(auto)]
+
+pub mod cause;
+pub mod environment;
+pub mod kept;
+pub mod logging;
+pub mod planning;
+
+pub use cause::Cause;
