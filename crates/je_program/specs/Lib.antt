@@ -5,3 +5,4 @@ pub mod Planning
 pub mod Logging
 pub mod Steps
 pub mod Run
+pub mod Opening

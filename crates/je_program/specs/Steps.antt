@@ -19,6 +19,7 @@ use Rattle.je_program.specs.Environment.{IsAt, log_rule}
 pub record CanGoOn (kept : Kept) : Type 0 where
   pub log_bytes : kept.log_bytes < 2 ^ 32
   pub commits : kept.commits ≤ kept.log_bytes
+  pub last_db : kept.last_db < 2 ^ 32
 
 -- a call was answered as the model may, and the environment is where the model then stands; want of memory left it where it was
 abbrev pub GoesOn : Bool → State → Kept → Standing → Call → Result Answer AllocError → Type 0

@@ -31,6 +31,7 @@ pub struct Environment<D> {
 impl<D: Disk> Environment<D> {
     /// Answers a call, and logs what it changes. Want of memory leaves the environment as it was.
     pub fn step(&mut self, alloc: Global, call: &Call) -> Result<Answer, AllocError>
+        requires here { (st : Standing) × IsAt D.tells (now (D.history self.old.disk)) self.old.kept st }
         requires bounds { CanGoOn self.old.kept }
         ensures goes_on { (st : Standing) → IsAt D.tells (now (D.history self.old.disk)) self.old.kept st
             → GoesOn D.tells (now (D.history self.new.disk)) self.new.kept st call.now result }

@@ -7,6 +7,7 @@ pub mod cause;
 pub mod environment;
 pub mod kept;
 pub mod logging;
+pub mod opening;
 pub mod planning;
 
 pub use cause::Cause;

@@ -1,0 +1,3 @@
+pub mod PlanLaws
+pub mod StepLaws
+pub mod GoesOnLaws
