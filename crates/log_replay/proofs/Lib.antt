@@ -8,3 +8,5 @@ pub mod LogLaws
 pub mod LoggedLaws
 pub mod Distinct
 pub mod Opening
+pub mod Changes
+pub mod UnderWay

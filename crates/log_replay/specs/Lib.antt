@@ -5,3 +5,4 @@ pub mod Logging
 pub mod Kept
 pub mod Pending
 pub mod Opening
+pub mod UnderWay

@@ -7,7 +7,10 @@ mod named;
 mod numbers;
 mod pending;
 mod pending_change;
+pub mod replayed;
+mod replaying;
 pub mod rows;
 mod table;
 
+pub use replayed::{Replayed, new_environment, replay};
 pub use rows::Rows;
