@@ -1,5 +1,5 @@
 -- A file's run: what it is spelled as, and how an append makes it longer.
-use Rattle.std.proofs.Common.{◌≡◌, ◌≢◌, ℕ, zero, suc, ◌+◌, ◌-◌, ◌^◌, ◌<◌, ◌≤◌, Bool, true, false, cond, eqb, List, [], ◌∷◌, ◌++◌, length, take, drop, refl, sym, ap, subst, ◌∙◌, append_assoc, zero-add, arith}
+use Rattle.std.proofs.Common.{◌≡◌, ◌≢◌, ℕ, zero, suc, ◌+◌, ◌^◌, ◌<◌, ◌≤◌, Bool, true, false, cond, eqb, List, [], ◌∷◌, ◌++◌, length, drop, refl, sym, ap, subst, ◌∙◌, append_assoc, zero-add, arith}
 use Rattle.std.specs.List.{AllByRecursion}
 use Rattle.std.proofs.lemmas.Bool.{eqb-true, eq-eqb}
 use Rattle.std.proofs.lemmas.List.{append-nil, length-append, length-drop, drop-append-le, drop_at, nil_from_length}
@@ -13,7 +13,7 @@ use Rattle.log_entry.specs.declared.decoder.Torn.TheVariants.{Short}
 use Rattle.log_entry.specs.Body.{IsEntry}
 use Rattle.log_entry.specs.Spelling.{spelling, size_of}
 use Rattle.log_entry.specs.Reading.{decoded, IsFound}
-use Rattle.log_entry.specs.Run.{spelled, Run, run_end, run_after, run_by, run_from, run_on, run_of, rest_of, last_offset_of, last_from, run_before, AreSpelled, AreFound, GrowsByAppend, IsLongest}
+use Rattle.log_entry.specs.Run.{spelled, Run, run_end, run_after, run_by, run_from, run_on, run_of, last_offset_of, last_from, run_before, AreSpelled, AreFound, GrowsByAppend, IsLongest}
 use Rattle.log_entry.proofs.ReadingLaws.{decoded-append, decoded-long, decoded-again, length-spelling, found}
 
 -- ---- one step of a run

@@ -9,7 +9,7 @@ use Rattle.log_entry.specs.declared.decoder.Decoded.TheVariants.{Whole, Torn as 
 use Rattle.log_entry.specs.declared.decoder.Torn.{Torn}
 use Rattle.log_entry.specs.declared.decoder.Torn.TheVariants.{Short}
 use Rattle.log_entry.specs.Reading.{decoded}
-use Rattle.log_entry.specs.Run.{Run, run_from, run_in, run_of, rest_of, run_end, run_after, run_by, last_offset_of}
+use Rattle.log_entry.specs.Run.{Run, run_from, run_on, run_of, rest_of, run_end, run_after, run_by, last_offset_of}
 use Rattle.log_entry.proofs.ReadingLaws.{decoded-long}
 use Rattle.log_replay.specs.declared.replaying.Replaying.{Replaying}
 use Rattle.log_replay.specs.declared.pending_change.PendingChange.{PendingChange}
@@ -163,7 +163,7 @@ all_read bytes going way done small some =
 -- a replay that begins
 pub begins : (bytes : List ℕ) (rows : List (ℕ × List Row)) (pending : List (ℕ × List PendingChange)) → ((db : ℕ) → rows_in rows db ≡ []) → ((txn : ℕ) → pending_in pending txn ≡ []) →
     IsUnderWay bytes (record { rows = rows; pending = pending; last_txn = 0; last_db = 0; at = 0; last_offset = 0 })
-unfolding run_in
+unfolding run_on
 begins bytes rows pending no_rows no_pending = record {
   most = length bytes;
   replay = nothing_replayed;
@@ -175,6 +175,6 @@ begins bytes rows pending no_rows no_pending = record {
 
 -- a file without bytes is no log
 pub empty_is_no_log : (bytes : List ℕ) → length bytes ≡ 0 → is_whole_log bytes ≡ false
-unfolding run_in run_from
+unfolding run_on run_from
 empty_is_no_log [] h = refl
 empty_is_no_log (b ∷ bytes) h = absurd (omega arith)

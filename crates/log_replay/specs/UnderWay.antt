@@ -2,7 +2,7 @@
 use Rattle.std.specs.Prelude.{ℕ, ◌≡◌, ◌≤◌, ◌+◌, ◌==◌, ◌&&◌, List, Bool, true, false, not, max, length, drop}
 use Rattle.std.specs.List.{list_any}
 use Rattle.log_entry.specs.declared.entry.Entry.{Entry}
-use Rattle.log_entry.specs.Run.{Run, run_from, run_in, run_of, last_offset_of}
+use Rattle.log_entry.specs.Run.{Run, run_from, run_on, run_of, last_offset_of}
 use Rattle.log_replay.specs.declared.replaying.Replaying.{Replaying}
 use Rattle.log_replay.specs.Rows.{rows_in}
 use Rattle.log_replay.specs.Replay.{Replay, replayed, nothing_replayed, txn_in, db_in, greatest}
@@ -42,7 +42,7 @@ ending first replay last_txn last_db run =
 
 -- what comes of a file's bytes
 abbrev pub ending_of : List ℕ → Ending
-ending_of bytes = ending true nothing_replayed 0 0 (run_in bytes)
+ending_of bytes = ending true nothing_replayed 0 0 (run_on 0 0 bytes)
 
 -- the entries up to the offset were read, and the others will make of it what comes of the file's bytes
 pub record IsUnderWay (bytes : List ℕ) (going : Replaying) : Type 0 where
