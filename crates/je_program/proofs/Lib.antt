@@ -1,3 +1,4 @@
 pub mod PlanLaws
 pub mod StepLaws
 pub mod GoesOnLaws
+pub mod OpeningLaws

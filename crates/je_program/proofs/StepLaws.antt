@@ -41,7 +41,7 @@ use Rattle.je_program.specs.Logging.{HasLogged, IsSame, transaction_bytes}
 use Rattle.je_program.specs.Steps.{HasFaulted}
 
 -- what is kept of a log, under equal names
-kept_along : (bytes : List ℕ) (a b : Rows) (t u d e : ℕ) → a ≡ b → t ≡ u → d ≡ e → IsKept bytes a t d → IsKept bytes b u e
+pub kept_along : (bytes : List ℕ) (a b : Rows) (t u d e : ℕ) → a ≡ b → t ≡ u → d ≡ e → IsKept bytes a t d → IsKept bytes b u e
 kept_along bytes a b t u d e rows txn db h =
     subst (λ (x : ℕ). IsKept bytes b u x) db (subst (λ (x : ℕ). IsKept bytes b x d) txn (subst (λ (x : Rows). IsKept bytes x t d) rows h))
 
