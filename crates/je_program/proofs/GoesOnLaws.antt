@@ -21,7 +21,7 @@ use Rattle.je_program.specs.declared.planning.Planned.{Planned}
 use Rattle.je_program.specs.declared.planning.Planned.TheVariants.{Answered, Logs}
 use Rattle.je_program.specs.Environment.{IsAt, log_rule}
 use Rattle.je_program.specs.Planning.{IsPlain, IsLogged, IsPlanned, planned_of}
-use Rattle.je_program.specs.Steps.{GoesOn, LogsChange}
+use Rattle.je_program.specs.Steps.{GoesOn, LogsChange, IsNumbered}
 use Rattle.je_program.proofs.PlanLaws.{planned_right, fits_at}
 use Rattle.je_program.proofs.StepLaws.{same_at, answered_at, logged_at, faulted_at}
 
@@ -34,6 +34,10 @@ may_plain : (answer : Answer) → IsPlain answer → MayAnswer answer answer
 may_plain (Logged commit) plain = absurd plain
 may_plain answer plain = refl
 
+numbered_plain : (answer : Answer) (commits : ℕ) → IsPlain answer → IsNumbered answer commits
+numbered_plain (Logged commit) commits plain = absurd plain
+numbered_plain answer commits plain = tt
+
 -- what a call comes to, where the environment is valid
 pub plan_of : (tells : Bool) (state : State) (kept : Kept) (st : Standing) (call : Call) (planned : Planned) → IsAt tells state kept st → kept.fault ≡ None →
     kept.last_db < 2 ^ 32 → IsTrue (is_word (database_named call)) → planned ≡ planned_of kept call → IsPlanned kept st call planned
@@ -45,7 +49,7 @@ pub answered_goes_on : (tells : Bool) (state : State) (kept : Kept) (st : Standi
 answered_goes_on tells state kept st call answer here valid below planned =
     let due : answer_to log_rule st call ≡ answer =
       answer_is st.fault st call (sym here.fault ∙ valid) (subst (λ n. n < LAST_TXN) here.last_txn below) ∙ planned.0 in
-    (subst (λ (a : Answer). MayAnswer a answer) (sym due) (may_plain answer planned.1), answered_at tells state kept st call answer here below planned.1)
+    (subst (λ (a : Answer). MayAnswer a answer) (sym due) (may_plain answer planned.1), answered_at tells state kept st call answer here below planned.1, numbered_plain answer kept.commits planned.1)
 
 pub logged_goes_on : (tells : Bool) (before after : State) (old new : Kept) (st : Standing) (call : Call) (number : ℕ) (change : Change) (totals : Totals) (result : Result Answer AllocError) →
     IsAt tells before old st → old.fault ≡ None → old.last_txn < LAST_TXN → IsLogged old st call number change totals →
@@ -57,11 +61,12 @@ logged_goes_on tells before after old new st call number change totals (Ok (Logg
     (
       subst (λ (a : Answer). MayAnswer a (Logged commit)) (sym due) (inl (ap Logged number_is)),
       logged_at tells before after old new st call commit number change totals here (sym here.fault ∙ valid) below logged logs.1 logs.2,
+      logs.0 ∙ sym (logs.1.commits),
     )
 logged_goes_on tells before after old new st call number change totals (Ok DiskFault) here valid below logged logs =
     let due : answer_to log_rule st call ≡ Logged (st.commits + 1) =
       answer_is st.fault st call (sym here.fault ∙ valid) (subst (λ n. n < LAST_TXN) here.last_txn below) ∙ logged.answer in
-    (subst (λ (a : Answer). MayAnswer a DiskFault) (sym due) (inr refl), faulted_at tells before after old new st call here below logs)
+    (subst (λ (a : Answer). MayAnswer a DiskFault) (sym due) (inr refl), faulted_at tells before after old new st call here below logs, tt)
 logged_goes_on tells before after old new st call number change totals (Ok answer) here valid below logged logs = absurd logs
 logged_goes_on tells before after old new st call number change totals (Err error) here valid below logged logs =
     subst (λ (s : State). IsAt tells s new st) (sym logs.1) (same_at tells before old new st here logs.0)

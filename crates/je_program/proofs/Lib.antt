@@ -2,3 +2,4 @@ pub mod PlanLaws
 pub mod StepLaws
 pub mod GoesOnLaws
 pub mod OpeningLaws
+pub mod RunLaws

@@ -1,6 +1,7 @@
 -- A run of a script.
-use Rattle.std.specs.Prelude.{ℕ, ◌≡◌, ◌≢◌, ◌∷◌, [], ◌++◌, ◌==◌, ◌&&◌, List, Option, Some, None, Bool, true, false, filter, if◌then◌else◌, codes}
+use Rattle.std.specs.Prelude.{ℕ, ◌≡◌, ◌≢◌, ◌≤◌, ◌∷◌, [], ◌++◌, ◌==◌, ◌&&◌, List, Option, Some, None, Bool, true, false, filter, if◌then◌else◌, codes}
 use Rattle.std.specs.List.{list_any}
+use Rattle.je_disk.specs.Causes.{Rose}
 use Rattle.je_disk.specs.States.{State, Files}
 use Rattle.je_model.specs.declared.store.Store.{Store}
 use Rattle.je_model.specs.declared.answer.Answer.{Answer}
@@ -31,6 +32,11 @@ pub record IsRunning (tells : Bool) (state : State) (kept : Kept) (journal : Lis
   pub here : IsAt tells state kept (after_events log_rule st journal)
   pub answers : AnswersAsModel log_rule st journal
   pub settled : AllSettled journal
+
+-- since the disk's count stood at `before` it never fell, and it rose where the journal has a disk fault
+pub record IsCaused (before after : ℕ) (journal : List Event) : Type 0 where
+  pub never_falls : before ≤ after
+  pub fault : has_answer is_disk_fault journal ≡ true → Rose before after
 
 -- a run took place on an environment with these files: each answer is the model's on the opening store, and each commit
 -- is acknowledged later, or followed by a disk fault

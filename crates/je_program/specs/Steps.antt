@@ -21,10 +21,15 @@ pub record CanGoOn (kept : Kept) : Type 0 where
   pub commits : kept.commits ≤ kept.log_bytes
   pub last_db : kept.last_db < 2 ^ 32
 
+-- an answer of Logged has the number of the last commit
+abbrev pub IsNumbered : Answer → ℕ → Type 0
+IsNumbered (Logged commit) commits = commit ≡ commits
+IsNumbered answer commits = Unit {0}
+
 -- a call was answered as the model may, and the environment is where the model then stands; want of memory left it where it was
 abbrev pub GoesOn : Bool → State → Kept → Standing → Call → Result Answer AllocError → Type 0
 GoesOn tells state kept st call (Ok answer) =
-    MayAnswer (answer_to log_rule st call) answer × IsAt tells state kept (after_call log_rule st call answer)
+    MayAnswer (answer_to log_rule st call) answer × IsAt tells state kept (after_call log_rule st call answer) × IsNumbered answer kept.commits
 GoesOn tells state kept st call (Err error) = IsAt tells state kept st
 
 -- a change was to be logged, and the disk failed: the environment is invalid, and its records count for nothing

@@ -98,9 +98,8 @@ impl<D: Disk> Environment<D> {
         }
     }
 
-    /// A whole sync: makes the commits so far durable, or meets a fault of the disk.
+    /// A whole sync: makes the commits so far durable, or meets a fault of the disk. It takes no memory.
     pub fn sync(&mut self) -> Answer
-        requires valid { self.old.kept.fault ≡ None }
         ensures ends { (st : Standing) → IsAt D.tells (now (D.history self.old.disk)) self.old.kept st
             → EndsSync D.tells (now (D.history self.new.disk)) self.new.kept st result }
         ensures bounds { CanGoOn self.old.kept → CanGoOn self.new.kept }

@@ -5,6 +5,7 @@
 
 pub mod cause;
 pub mod environment;
+pub mod giving;
 pub mod kept;
 pub mod logging;
 pub mod opening;
