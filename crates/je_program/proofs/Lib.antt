@@ -3,3 +3,4 @@ pub mod StepLaws
 pub mod GoesOnLaws
 pub mod OpeningLaws
 pub mod RunLaws
+pub mod GivenLaws

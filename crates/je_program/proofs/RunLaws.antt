@@ -14,7 +14,7 @@ use Rattle.je_model.specs.Journal.{is_logged, settles, AllSettled, EachComesLate
 use Rattle.je_model.proofs.Journal.{after_events-append, answers-append, answers-push, each_comes_later-append}
 use Rattle.je_program.specs.declared.kept.Kept.{Kept}
 use Rattle.je_program.specs.Environment.{IsAt, log_rule}
-use Rattle.je_program.specs.Run.{IsRunning}
+use Rattle.je_program.specs.Run.{IsRunning, IsCaused}
 use Rattle.je_program.specs.Steps.{GoesOn, EndsSync}
 
 -- a call that was not logged waits for nothing
@@ -69,3 +69,10 @@ runs_logged tells before middle after old mid new journal session line call (Log
       ∙ ap (λ (l : List Event). l ++ SyncEnd ending ∷ []) (sym (append_assoc journal (Called session line call (Logged commit) ∷ []) (SyncBegin Done ∷ []))) in
     subst (λ (l : List Event). IsRunning tells after new l st) same all
 runs_logged tells before middle after old mid new journal session line call answer ending st running goes logged sync = cc
+
+-- a run that begins
+pub runs_none : (tells : Bool) (state : State) (kept : Kept) (st : Standing) → IsAt tells state kept st → IsRunning tells state kept [] st
+runs_none tells state kept st here = record { here = here; answers = tt; settled = tt }
+
+pub caused_none : (faults : ℕ) → IsCaused faults faults []
+caused_none faults = record { never_falls = omega arith; fault = λ h. cc }

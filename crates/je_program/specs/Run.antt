@@ -1,5 +1,5 @@
 -- A run of a script.
-use Rattle.std.specs.Prelude.{ℕ, ◌≡◌, ◌≢◌, ◌≤◌, ◌∷◌, [], ◌++◌, ◌==◌, ◌&&◌, List, Option, Some, None, Bool, true, false, filter, if◌then◌else◌, codes}
+use Rattle.std.specs.Prelude.{ℕ, ◌≡◌, ◌≢◌, ◌≤◌, ◌∷◌, [], ◌++◌, ◌==◌, ◌&&◌, List, Option, Some, None, Bool, true, false, filter, slice_index_or, if◌then◌else◌, codes}
 use Rattle.std.specs.List.{list_any}
 use Rattle.je_disk.specs.Causes.{Rose}
 use Rattle.je_disk.specs.States.{State, Files}
@@ -10,7 +10,7 @@ use Rattle.je_model.specs.declared.event.Event.{Event}
 use Rattle.je_model.specs.declared.plan.Given.{Given}
 use Rattle.je_model.specs.declared.plan.Given.TheVariants.{Session}
 use Rattle.je_model.specs.Answers.{LogRule, Standing, AnswersAsModel, after_events}
-use Rattle.je_model.specs.Journal.{AllSettled, answer_of, is_disk_fault, has_answer}
+use Rattle.je_model.specs.Journal.{AllSettled, answer_of, is_disk_fault, has_answer, lines_of}
 use Rattle.log_replay.specs.Meaning.{Meaning}
 use Rattle.je_program.specs.declared.kept.Kept.{Kept}
 use Rattle.je_program.specs.declared.cause.Cause.{Cause}
@@ -65,6 +65,17 @@ is_of_session session (Session s line call) = s == session
 
 abbrev pub of_session : ℕ → List Given → List Given
 of_session session lines = filter (is_of_session session) lines
+
+-- the first of these lines, up to some
+abbrev pub IsFront : List Given → List Given → Type 0
+IsFront front lines = (rest : List Given) × (lines ≡ front ++ rest)
+
+-- the journal has the lines that were given, and each session's without those behind one that found no memory
+pub record HasGiven (journal : List Event) (memory_ended : Bool) (stopped : List Bool) (lines : List Given) : Type 0 where
+  pub all : memory_ended ≡ false → lines_of journal ≡ lines
+  pub none_stopped : memory_ended ≡ false → (session : ℕ) → slice_index_or stopped session false ≡ false
+  pub each : (session : ℕ) → slice_index_or stopped session false ≡ false → of_session session (lines_of journal) ≡ of_session session lines
+  pub front : (session : ℕ) → IsFront (of_session session (lines_of journal)) (of_session session lines)
 
 -- the process status of each cause
 abbrev pub status_of : Cause → ℕ

@@ -10,5 +10,6 @@ pub mod kept;
 pub mod logging;
 pub mod opening;
 pub mod planning;
+pub mod running;
 
 pub use cause::Cause;
