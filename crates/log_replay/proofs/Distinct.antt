@@ -1,5 +1,5 @@
 -- Numbers that are seen one after another, and whether one stands twice.
-use Rattle.std.proofs.Common.{drop, get_or, drop-cons, add-one, suc, ◌+◌, ◌<◌, length, ◌≡◌, ℕ, List, [], ◌∷◌, ◌==◌, ◌&&◌, ◌||◌, Bool, true, false, not, cond, refl, ap, sym, ◌∙◌, arith, map, nat_cmp}
+use Rattle.std.proofs.Common.{drop, get_or, drop-cons, add-one, suc, ◌+◌, ◌<◌, length, ◌≡◌, ℕ, List, [], ◌∷◌, ◌==◌, ◌&&◌, ◌||◌, Bool, true, false, not, cond, refl, ap, sym, arith, map, nat_cmp}
 use Rattle.std.proofs.lemmas.Bool.Decides.{nat_tests}
 use Rattle.std.specs.Ordering.{is_eq}
 use Rattle.std.specs.List.{list_all, list_any}

@@ -1,5 +1,5 @@
 -- The store that a catalog's databases make is the one that the records make.
-use Rattle.std.proofs.Common.{◌≡◌, ℕ, suc, List, [], ◌∷◌, ◌&&◌, Bool, true, false, cond, refl, ap, sym, ◌∙◌, map, length, Option, Some, None, nat_le}
+use Rattle.std.proofs.Common.{◌≡◌, ℕ, suc, List, [], ◌∷◌, ◌&&◌, Bool, true, false, cond, refl, ap, ◌∙◌, map, length, Option, Some, None, nat_le}
 use Rattle.std.specs.Bool.{if◌then◌else◌}
 use Rattle.std.specs.List.{list_all}
 use Rattle.je_model.specs.declared.store.TheConstants.{MOST_DATABASES}

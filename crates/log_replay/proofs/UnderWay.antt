@@ -1,23 +1,22 @@
 -- A replay that is under way, from entry to entry.
-use Rattle.std.proofs.Common.{◌≡◌, ℕ, zero, suc, ◌+◌, ◌-◌, ◌<◌, ◌≤◌, ◌^◌, List, [], ◌∷◌, ◌==◌, ◌&&◌, ◌||◌, Bool, true, false, not, cond, refl, ap, sym, ◌∙◌, subst, arith, max, length, drop, nat_lt, length-drop}
+use Rattle.std.proofs.Common.{◌≡◌, ℕ, zero, suc, ◌+◌, ◌-◌, ◌<◌, ◌≤◌, ◌^◌, List, [], ◌∷◌, ◌==◌, ◌&&◌, ◌||◌, Bool, true, false, not, refl, ap, sym, ◌∙◌, arith, max, length, drop, nat_lt, length-drop}
 use Rattle.std.proofs.lemmas.Bool.Decides.{nat_tests}
 use Rattle.std.proofs.lemmas.List.{drop-drop, drop_all}
 use Rattle.std.specs.List.{list_any}
 use Rattle.log_entry.specs.declared.entry.Entry.{Entry}
-use Rattle.log_entry.specs.declared.decoder.Decoded.{Decoded}
 use Rattle.log_entry.specs.declared.decoder.Decoded.TheVariants.{Whole, Torn as NotWhole}
 use Rattle.log_entry.specs.declared.decoder.Torn.{Torn}
 use Rattle.log_entry.specs.declared.decoder.Torn.TheVariants.{Short}
 use Rattle.log_entry.specs.Reading.{decoded}
-use Rattle.log_entry.specs.Run.{Run, run_from, run_on, run_of, rest_of, run_end, run_after, run_by, last_offset_of}
+use Rattle.log_entry.specs.Run.{Run, run_from, run_on, run_of, rest_of, run_end, run_after}
 use Rattle.log_entry.proofs.ReadingLaws.{decoded-long}
 use Rattle.log_replay.specs.declared.replaying.Replaying.{Replaying}
 use Rattle.log_replay.specs.declared.pending_change.PendingChange.{PendingChange}
 use Rattle.log_replay.specs.Rows.{Row, rows_in}
-use Rattle.log_replay.specs.Replay.{Replay, replayed, replayed_entry, nothing_replayed, txn_in, db_in, greatest}
-use Rattle.log_replay.specs.Meaning.{is_header, is_first_header, is_log, is_whole}
+use Rattle.log_replay.specs.Replay.{Replay, replayed_entry, nothing_replayed, txn_in, db_in, greatest}
+use Rattle.log_replay.specs.Meaning.{is_header, is_log, is_whole}
 use Rattle.log_replay.specs.Pending.{StandsFor, pending_in}
-use Rattle.log_replay.specs.UnderWay.{Ending, ending, ending_of, is_in_place, is_log_from, is_whole_log, IsUnderWay, IsOver}
+use Rattle.log_replay.specs.UnderWay.{Ending, ending, is_in_place, is_log_from, is_whole_log, IsUnderWay, IsOver}
 
 -- ---- runs
 
@@ -114,7 +113,7 @@ pub misplaced_stops : (bytes : List ℕ) (going : Replaying) (entry : Entry) (pr
 misplaced_stops bytes going entry prev len way below is same place =
     let run = run_step way.most going.last_offset going.at bytes entry len (omega (arith, way.enough)) (is ∙ ap (λ (p : ℕ). Whole entry p len) same) in
     let log : is_log (run_of bytes) ≡ false =
-      sym (ap (λ (e : Ending). e.log) way.ends) ∙ ap (λ (r : Run). is_log_from (going.at == 0) r.entries) run ∙ log_fails (going.at == 0) entry _ place in
+    sym (ap (λ (e : Ending). e.log) way.ends) ∙ ap (λ (r : Run). is_log_from (going.at == 0) r.entries) run ∙ log_fails (going.at == 0) entry _ place in
     rw log (and_false (is_whole bytes))
 
 -- an entry in its place
@@ -136,9 +135,9 @@ goes_on bytes going entry prev len rows pending last_txn last_db way below is sa
       stands = stands way.replay way.stands;
       ends =
           rw (txn, db, later)
-            (ending_step (going.at == 0) entry way.replay going.last_txn going.last_db (run_from (way.most - 1) going.at (going.at + len) (drop (going.at + len) bytes)) place
-             ∙ ap (λ (r : Run). ending (going.at == 0) way.replay going.last_txn going.last_db r) (sym run)
-             ∙ way.ends);
+          (ending_step (going.at == 0) entry way.replay going.last_txn going.last_db (run_from (way.most - 1) going.at (going.at + len) (drop (going.at + len) bytes)) place
+          ∙ ap (λ (r : Run). ending (going.at == 0) way.replay going.last_txn going.last_db r) (sym run)
+          ∙ way.ends);
     }
 
 -- ---- the end

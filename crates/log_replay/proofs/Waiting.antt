@@ -1,8 +1,6 @@
 -- The changes that wait for a commit, while entries come.
-use Rattle.std.proofs.Common.{◌≡◌, ℕ, List, [], ◌∷◌, ◌++◌, ◌==◌, Bool, true, false, not, cond, refl, ap, sym, ◌∙◌, subst, arith, Option, Some, None, map}
+use Rattle.std.proofs.Common.{◌≡◌, ℕ, List, [], ◌∷◌, ◌++◌, ◌==◌, Bool, true, false, not, cond, refl, ap, sym, ◌∙◌, arith, Some, None, map}
 use Rattle.std.proofs.lemmas.Bool.Decides.{nat_tests}
-use Rattle.std.specs.Option.{unwrap_or}
-use Rattle.std.specs.List.{filter}
 use Rattle.log_replay.specs.declared.pending_change.PendingChange.{PendingChange}
 use Rattle.log_replay.specs.Rows.{RowChange}
 use Rattle.log_replay.specs.Replay.{changes_of, changes_of_others}

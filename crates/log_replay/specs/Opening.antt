@@ -1,6 +1,6 @@
 -- What a catalog names, while a store is made of the records of an environment.
 use Rattle.je_model.specs.declared.store.TheConstants.{MOST_DATABASES}
-use Rattle.std.specs.Prelude.{nat_le, length, ℕ, ◌≡◌, ◌==◌, ◌&&◌, not, List, Option, None, Some, Bool, map, if◌then◌else◌}
+use Rattle.std.specs.Prelude.{nat_le, length, ◌&&◌, List, Option, None, Some, Bool, map, if◌then◌else◌}
 use Rattle.std.specs.List.{list_all}
 use Rattle.je_model.specs.declared.store.Database.{Database}
 use Rattle.je_model.specs.declared.store.Kind.TheVariants.{Plain}

@@ -52,7 +52,7 @@ pub record IsUnderWay (bytes : List ℕ) (going : Replaying) : Type 0 where
   pub enough : length bytes ≤ going.at + most
   pub stands : StandsFor going.rows going.pending replay
   pub ends :
-    ending (going.at == 0) replay going.last_txn going.last_db (run_from most going.last_offset going.at (drop going.at bytes)) ≡ ending_of bytes
+      ending (going.at == 0) replay going.last_txn going.last_db (run_from most going.last_offset going.at (drop going.at bytes)) ≡ ending_of bytes
 
 -- the bytes are whole entries, and those of a log
 abbrev pub is_whole_log : List ℕ → Bool

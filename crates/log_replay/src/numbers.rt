@@ -8,10 +8,10 @@ use std::alloc::{AllocError, Global};
 use std::collections::BTreeSet;
 
 /// The number in a catalog record's data, and 0, which is no database's, where the data is no record.
-pub(crate) fn number_of(data: &[u8]) -> u32
-    ensures { result ≡ number_in data.now }
+pub(crate) fn number_of(bytes: &[u8]) -> u32
+    ensures { result ≡ number_in bytes.now }
 {
-    match DbRecord::from_bytes(data) {
+    match DbRecord::from_bytes(bytes) {
         Some(record) => record.number,
         None => 0,
     }

@@ -114,3 +114,55 @@ pub fn new_environment(alloc: Global) -> Replayed
         last_offset: 0,
     }
 }
+
+#[cfg(test)]
+mod tests {
+    use super::*;
+    use std::test::Fail;
+
+    // The file after `create t plain` and `put t 61 31`.
+    #[rattlefmt::skip]
+    const LOG: [u8; 138] = [
+        // the header of file 0
+        0x0c, 0xb3, 1, 0x31, 1, 0, 0, 0, 0, 0, 0, 0, 0, 0x0c, 0x4a, 0x45, 0x4c, 0x47, 0, 0, 0, 1, 0, 0, 0, 0,
+        // transaction 1 puts the database t, number 1, into the catalog
+        6, 0x14, 0, 0x90, 2, 0, 0, 0, 0, 0, 0, 0, 0, 0x16, 0, 0, 0, 0, 0, 0, 0, 1, 0, 0, 0, 0, 0, 1, 0x74, 0, 0, 0, 0, 0, 1, 0,
+        // transaction 1 commits
+        2, 7, 0, 0x29, 5, 0, 0, 0, 0, 0x1a, 0, 0, 0, 8, 0, 0, 0, 0, 0, 0, 0, 1,
+        // transaction 2 puts 61 with 31 into database 1
+        9, 0x13, 0, 0xe9, 2, 0, 0, 0, 0, 0x3e, 0, 0, 0, 0x12, 0, 0, 0, 0, 0, 0, 0, 2, 0, 0, 0, 1, 0, 1, 0x61, 0, 0, 0x31,
+        // transaction 2 commits
+        4, 0xfa, 0, 0x64, 5, 0, 0, 0, 0, 0x54, 0, 0, 0, 8, 0, 0, 0, 0, 0, 0, 0, 2,
+    ];
+
+    // Whether the store is one database t, with the one record that is wanted, or with none.
+    fn has_t(store: &Store, wanted: Option<(&[u8], &[u8])>) -> bool {
+        let [database] = store.databases.as_slice() else {
+            return false;
+        };
+        if database.name.as_slice() != b"t".as_slice() {
+            return false;
+        }
+        match database.pairs.as_slice() {
+            [] => wanted.is_none(),
+            [(key, data)] => wanted == Some((key.as_slice(), data.as_slice())),
+            _ => false,
+        }
+    }
+
+    #[test]
+    fn replays_what_is_committed(rt: HostRuntime) -> Result<(), Fail> {
+        let alloc = rt.alloc();
+        let whole = replay(alloc, &LOG)?.expect(&rt, "the log means a store");
+        assert!(rt; has_t(&whole.opening, Some((b"a", b"1"))));
+        assert!(rt; whole.last_txn == 2 && whole.last_db == 1 && whole.last_offset == 0x74);
+        assert!(rt; whole.totals.databases == 1 && whole.totals.records == 1);
+        assert!(rt; whole.rows.count(0) == 1 && whole.rows.count(1) == 1);
+        let uncommitted = replay(alloc, &LOG[..116])?.expect(&rt, "a log without the last commit");
+        assert!(rt; has_t(&uncommitted.opening, None) && uncommitted.last_txn == 2);
+        assert!(rt; replay(alloc, &LOG[..137])?.is_none() && replay(alloc, &[])?.is_none());
+        let new = new_environment(alloc);
+        assert!(rt; new.opening.databases.is_empty() && new.rows.count(0) == 0);
+        Ok(())
+    }
+}

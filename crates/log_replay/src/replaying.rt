@@ -103,12 +103,20 @@ fn take_entry(
             name,
             value,
         } => {
-            let value = Some(value);
-            pending.push(alloc, txn.0, PendingChange { db, name, value })
+            let put = PendingChange {
+                db,
+                name,
+                value: Some(value),
+            };
+            pending.push(alloc, txn.0, put)
         }
         Entry::Delete { txn, db, name } => {
-            let value = None;
-            pending.push(alloc, txn.0, PendingChange { db, name, value })
+            let delete = PendingChange {
+                db,
+                name,
+                value: None,
+            };
+            pending.push(alloc, txn.0, delete)
         }
         Entry::Commit { txn } => {
             let changes = pending.take(alloc, txn.0);
@@ -169,10 +177,7 @@ impl Replaying {
 
 /// The replay of all entries of a file, and None where its bytes are not whole entries to their end or
 /// are not those of a log.
-pub(crate) fn replay_entries(
-    alloc: Global,
-    bytes: &[u8],
-) -> Result<Option<Replaying>, AllocError>
+pub(crate) fn replay_entries(alloc: Global, bytes: &[u8]) -> Result<Option<Replaying>, AllocError>
     requires { length bytes.now < 2 ^ 32 }
     ensures { IfOk result (λ found. MatchOption found (is_whole_log bytes.now ≡ false) (IsOver bytes.now)) }
 {

@@ -70,9 +70,13 @@ impl MemDisk {
     }
 }
 
+// The clauses are the trait's, and which calls fail.
 impl Disk for MemDisk {
-    ghost use Rattle.std.specs.Prelude.{true};
-    ghost use Rattle.mem_disk.specs.Memory.{told_by, faults_of};
+    ghost use Rattle.std.specs.Prelude.{true, ◌≡◌, ◌≤◌, ◌↔◌, ◌++◌, length, take, drop, min, IsErr, IsErrOf, IfOk, OnOk};
+    ghost use Rattle.je_disk.specs.Causes.{HasFault, HasCause};
+    ghost use Rattle.je_disk.specs.Moments.{now, Passes};
+    ghost use Rattle.je_disk.specs.States.{content, created, appended, synced, IsEither, IsPartOfAppend, IsListing, IsRising};
+    ghost use Rattle.mem_disk.specs.Memory.{told_by, faults_of, IsDue, CountsCall};
 
     ghost tells = { true };
 
@@ -80,21 +84,48 @@ impl Disk for MemDisk {
 
     ghost faults = { faults_of };
 
-    fn mount(&mut self) -> Result<(), DiskErr> {
+    fn mount(&mut self) -> Result<(), DiskErr>
+        ensures same { now (told_by self.new) ≡ now (told_by self.old) }
+        ensures moments { Passes (told_by self.old) (told_by self.new) (λ s. s ≡ now (told_by self.old)) }
+        ensures cause { HasFault (faults_of self.old) (faults_of self.new) result }
+        ensures due { IsErr result ↔ IsDue self.old }
+        ensures counted { CountsCall self.old self.new }
+    {
         self.meter.call()
     }
 
-    fn list(&mut self, alloc: Global) -> Result<Vec<FileNo>, DiskErr> {
+    fn list(&mut self, alloc: Global) -> Result<Vec<FileNo>, DiskErr>
+        ensures rising { IfOk result (λ files. IsRising files.items) }
+        ensures listed { IfOk result (λ files. IsListing (now (told_by self.old)).reads files.items) }
+        ensures same { now (told_by self.new) ≡ now (told_by self.old) }
+        ensures moments { Passes (told_by self.old) (told_by self.new) (λ s. s ≡ now (told_by self.old)) }
+        ensures cause { HasCause (faults_of self.old) (faults_of self.new) result }
+        ensures due { IsErrOf result DiskErr.Failed ↔ IsDue self.old }
+        ensures counted { CountsCall self.old self.new }
+    {
         self.meter.call()?;
         Ok(self.shelf.numbers(alloc)?)
     }
 
-    fn len(&mut self, f: FileNo) -> Result<u64, DiskErr> {
+    fn len(&mut self, f: FileNo) -> Result<u64, DiskErr>
+        ensures length { IfOk result (λ n. n ≡ length (content (now (told_by self.old)).reads f.0)) }
+        ensures same { now (told_by self.new) ≡ now (told_by self.old) }
+        ensures moments { Passes (told_by self.old) (told_by self.new) (λ s. s ≡ now (told_by self.old)) }
+        ensures cause { HasFault (faults_of self.old) (faults_of self.new) result }
+        ensures due { IsErr result ↔ IsDue self.old }
+        ensures counted { CountsCall self.old self.new }
+    {
         self.meter.call()?;
         Ok(self.shelf.len(f))
     }
 
-    fn create(&mut self, f: FileNo) -> Result<(), DiskErr> {
+    fn create(&mut self, f: FileNo) -> Result<(), DiskErr>
+        ensures done { OnOk result (now (told_by self.new) ≡ created f.0 (now (told_by self.old))) }
+        ensures moments { Passes (told_by self.old) (told_by self.new) (IsEither (now (told_by self.old)) (created f.0 (now (told_by self.old)))) }
+        ensures cause { HasFault (faults_of self.old) (faults_of self.new) result }
+        ensures due { IsDue self.old → IsErr result }
+        ensures counted { CountsCall self.old self.new }
+    {
         self.meter.call()?;
         match self.shelf.create(f) {
             Ok(()) => Ok(()),
@@ -102,7 +133,13 @@ impl Disk for MemDisk {
         }
     }
 
-    fn append(&mut self, f: FileNo, bytes: &[u8]) -> Result<(), DiskErr> {
+    fn append(&mut self, f: FileNo, bytes: &[u8]) -> Result<(), DiskErr>
+        ensures done { OnOk result (now (told_by self.new) ≡ appended f.0 bytes.now (now (told_by self.old))) }
+        ensures moments { Passes (told_by self.old) (told_by self.new) (IsPartOfAppend f.0 bytes.now (now (told_by self.old))) }
+        ensures cause { HasFault (faults_of self.old) (faults_of self.new) result }
+        ensures due { IsDue self.old → IsErr result }
+        ensures counted { CountsCall self.old self.new }
+    {
         self.meter.call()?;
         match self.shelf.append(f, bytes) {
             Ok(()) => Ok(()),
@@ -110,12 +147,27 @@ impl Disk for MemDisk {
         }
     }
 
-    fn read(&mut self, f: FileNo, at: u64, into: &mut [u8]) -> Result<usize, DiskErr> {
+    fn read(&mut self, f: FileNo, at: u64, into: &mut [u8]) -> Result<usize, DiskErr>
+        ensures within { IfOk result (λ n. n ≤ length into.old) }
+        ensures count { IfOk result (λ n. n ≡ min (length into.old) (length (drop at (content (now (told_by self.old)).reads f.0)))) }
+        ensures bytes { IfOk result (λ n. into.new ≡ take n (drop at (content (now (told_by self.old)).reads f.0)) ++ drop n into.old) }
+        ensures same { now (told_by self.new) ≡ now (told_by self.old) }
+        ensures moments { Passes (told_by self.old) (told_by self.new) (λ s. s ≡ now (told_by self.old)) }
+        ensures cause { HasFault (faults_of self.old) (faults_of self.new) result }
+        ensures due { IsErr result ↔ IsDue self.old }
+        ensures counted { CountsCall self.old self.new }
+    {
         self.meter.call()?;
         Ok(self.shelf.read(f, at, into))
     }
 
-    fn sync_now(&mut self) -> Result<(), DiskErr> {
+    fn sync_now(&mut self) -> Result<(), DiskErr>
+        ensures done { OnOk result (now (told_by self.new) ≡ synced (now (told_by self.old))) }
+        ensures moments { Passes (told_by self.old) (told_by self.new) (IsEither (now (told_by self.old)) (synced (now (told_by self.old)))) }
+        ensures cause { HasFault (faults_of self.old) (faults_of self.new) result }
+        ensures due { IsDue self.old → IsErr result }
+        ensures counted { CountsCall self.old self.new }
+    {
         self.meter.call()?;
         match self.shelf.sync() {
             Ok(()) => Ok(()),

@@ -1,4 +1,4 @@
-use Rattle.std.proofs.Common.{◌≡◌, ◌∙◌, ap, sym, List, ℕ, ◌+◌, ◌&&◌, Bool, refl, map, nat_cmp, drop, get_or, drop-cons, add-one}
+use Rattle.std.proofs.Common.{◌∙◌, ap, sym, List, ◌+◌, ◌&&◌, Bool, refl, map, nat_cmp, drop}
 use Rattle.std.specs.BTreeSet.{contains}
 use Rattle.log_replay.specs.declared.named.Named.{Named}
 use Rattle.log_replay.specs.Rows.{are_distinct}

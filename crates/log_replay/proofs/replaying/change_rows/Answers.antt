@@ -1,4 +1,4 @@
-use Rattle.std.proofs.Common.{◌≡◌, ◌∙◌, ℕ, List, ◌∷◌, ap, sym, map}
+use Rattle.std.proofs.Common.{◌∙◌, List, ap, sym, map}
 use Rattle.std.specs.Vec.Iter.{into_iter_items}
 use Rattle.log_replay.specs.declared.pending_change.PendingChange.{PendingChange}
 use Rattle.log_replay.specs.Rows.{rows_in, row_changed, rows_changed}

@@ -1,4 +1,4 @@
-use Rattle.std.proofs.Common.{◌≡◌, ◌∙◌, arith, sym}
+use Rattle.std.proofs.Common.{arith}
 use Rattle.std.proofs.lemmas.Bool.Decides.{nat_tests}
 use Rattle.log_replay.proofs.UnderWay.{all_read, empty_is_no_log}
 use Rattle.log_replay.proofs.replaying.replay_entries.Goals as goal

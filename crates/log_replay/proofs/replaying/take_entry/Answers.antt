@@ -1,4 +1,3 @@
-use Rattle.std.proofs.Common.{◌≡◌}
 use Rattle.std.proofs.lemmas.Result.{on_ok_weaker}
 use Rattle.log_replay.proofs.Changes.{committed}
 use Rattle.log_replay.proofs.replaying.take_entry.Goals as goal

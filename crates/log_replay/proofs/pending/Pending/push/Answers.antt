@@ -1,4 +1,4 @@
-use Rattle.std.proofs.Common.{◌≡◌, ◌∙◌, sym, List, [], ◌∷◌, ◌++◌, Some, ap}
+use Rattle.std.proofs.Common.{◌∙◌, List, [], ◌∷◌, ◌++◌, ap}
 use Rattle.log_replay.proofs.Entries.{list_is_found, list_is_absent, is_there}
 use Rattle.log_replay.specs.declared.pending_change.PendingChange.{PendingChange}
 use Rattle.log_replay.proofs.Waiting.{pending_pushed}

@@ -1,5 +1,4 @@
 use Rattle.log_replay.proofs.Waiting.{pending_taken}
-use Rattle.std.proofs.Common.{sym}
 use Rattle.log_replay.proofs.pending.Pending.take.Goals as goal
 
 pub returns-clause-rest : goal.returns-clause-rest

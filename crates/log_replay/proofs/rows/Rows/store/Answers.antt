@@ -1,7 +1,7 @@
-use Rattle.std.proofs.Common.{◌≡◌, ◌∙◌, sym, ap, Bool, true, false, List}
+use Rattle.std.proofs.Common.{◌∙◌, sym, ap, List}
 use Rattle.log_replay.specs.declared.named.Named.{Named}
 use Rattle.log_replay.specs.Rows.{rows_in}
-use Rattle.log_replay.specs.Opening.{catalog_of, are_right}
+use Rattle.log_replay.specs.Opening.{are_right}
 use Rattle.log_replay.proofs.Opening.{no_store, store_by}
 use Rattle.log_replay.proofs.rows.Rows.store.Goals as goal
 
