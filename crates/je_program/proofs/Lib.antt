@@ -4,3 +4,4 @@ pub mod GoesOnLaws
 pub mod OpeningLaws
 pub mod RunLaws
 pub mod GivenLaws
+pub mod ReadingLaws

@@ -6,3 +6,5 @@ pub mod Logging
 pub mod Steps
 pub mod Run
 pub mod Opening
+pub mod Program
+pub mod Reading

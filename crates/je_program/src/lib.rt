@@ -3,13 +3,16 @@
 //! theorem. It stands on all the crates below, and `jedb` only hands it the real disk, input and output.
 #![tactic(auto)]
 
+pub mod attempt;
 pub mod cause;
+pub mod ending;
 pub mod environment;
 pub mod giving;
 pub mod kept;
 pub mod logging;
 pub mod opening;
 pub mod planning;
+pub mod reading;
 pub mod running;
 
 pub use cause::Cause;

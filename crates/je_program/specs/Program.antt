@@ -1,0 +1,106 @@
+-- What the program promises of one run.
+use Rattle.std.specs.Prelude.{ℕ, ◌≡◌, ◌≢◌, ◌≤◌, ◌<◌, ◌+◌, ◌⊎◌, ◌∷◌, [], ◌++◌, List, Option, Some, None, Bool, true, false, Result, Ok, Err, length, codes, decimal, IfSome, if◌then◌else◌}
+use Rattle.je_disk.specs.Causes.{Rose}
+use Rattle.je_disk.specs.States.{Files}
+use Rattle.je_io.specs.Sink.{Gains, GainsPart}
+use Rattle.je_model.specs.declared.store.Store.{Store}
+use Rattle.je_model.specs.declared.event.Event.{Event}
+use Rattle.je_model.specs.declared.plan.RunPlan.{RunPlan}
+use Rattle.je_model.specs.declared.plan.Given.{Given}
+use Rattle.je_model.specs.declared.totals.Totals.{Totals}
+use Rattle.je_model.specs.Store.{store_after, record_count}
+use Rattle.je_model.specs.Answers.{Standing}
+use Rattle.je_model.specs.Journal.{commits_of, lines_of, AllAcknowledged}
+use Rattle.log_replay.specs.Meaning.{Meaning}
+use Rattle.script_text.specs.Grammar.{plan_of}
+use Rattle.script_text.specs.Report.{report_text}
+use Rattle.je_program.specs.declared.reading.TheConstants.{MOST_INPUT}
+use Rattle.je_program.specs.declared.cause.Cause.{Cause}
+use Rattle.je_program.specs.declared.cause.Cause.TheVariants.{Done, Usage, BadScript, Disk, Log, Memory, Input, InputTooLong, LogFull, IdsEnded}
+use Rattle.je_program.specs.Files.{Means}
+use Rattle.je_program.specs.Run.{cause_of_journal, of_session, IsFront, status_of}
+
+-- the input was a script, and was read to its end
+abbrev pub ReadsPlan : Option (List ℕ) → Option (List ℕ) → RunPlan → Type 0
+ReadsPlan (Some left) (Some rest) plan = (length left ≤ MOST_INPUT) × (plan_of left ≡ Ok plan) × (rest ≡ [])
+ReadsPlan (Some left) None plan = ⊥
+ReadsPlan None (Some rest) plan = ⊥
+ReadsPlan None None plan = Unit {0}
+
+-- why the input was not a plan: the source failed, it has too many bytes, its first bad line, or there was no memory
+abbrev pub StopsReading : Option (List ℕ) → ℕ → ℕ → Cause → Type 0
+StopsReading left before after Input = Rose before after
+StopsReading left before after InputTooLong = IfSome left (λ bytes. MOST_INPUT < length bytes)
+StopsReading left before after (BadScript line) = IfSome left (λ bytes. (length bytes ≤ MOST_INPUT) × (plan_of bytes ≡ Err line))
+StopsReading left before after Memory = Unit {0}
+StopsReading left before after cause = ⊥
+
+-- whether the program ended before it came to its disk
+abbrev pub is_before_disk : Cause → Bool
+is_before_disk Usage = true
+is_before_disk (BadScript line) = true
+is_before_disk Input = true
+is_before_disk InputTooLong = true
+is_before_disk cause = false
+
+-- whether the script was run in any case, and whether it may have been
+abbrev pub RunsIf : Cause → Bool → Type 0
+RunsIf Done opened = opened ≡ true
+RunsIf LogFull opened = opened ≡ true
+RunsIf IdsEnded opened = opened ≡ true
+RunsIf Disk opened = Unit {0}
+RunsIf Memory opened = Unit {0}
+RunsIf cause opened = opened ≡ false
+
+-- a run with memory for all its lines ends as its journal says, or closing met a fault of the disk
+abbrev pub EndsBy : List Event → Cause → Type 0
+EndsBy journal cause = (cause ≡ cause_of_journal journal) ⊎ (cause ≡ Disk)
+
+-- how much a store holds
+abbrev pub totals_of : Store → Totals
+totals_of store = record { databases = length store.databases; records = record_count store }
+
+-- the store that a run leaves
+abbrev pub final_store : Store → List Event → Store
+final_store opening journal = store_after opening (commits_of opening journal)
+
+-- the files mean the store
+abbrev pub MeanStore : Files → Store → Type 0
+MeanStore files store = (meaning : Meaning) × Means files meaning × (meaning.store ≡ store)
+
+-- the line that tells why a program ended, none where all was done
+abbrev pub fault_text : Cause → List ℕ
+fault_text Done = []
+fault_text Usage = codes "fault usage\n"
+fault_text (BadScript line) = codes "fault script line " ++ decimal line ++ codes "\n"
+fault_text Disk = codes "fault disk\n"
+fault_text Log = codes "fault log\n"
+fault_text Memory = codes "fault memory\n"
+fault_text Input = codes "fault input\n"
+fault_text InputTooLong = codes "fault input too long\n"
+fault_text LogFull = codes "fault log full\n"
+fault_text IdsEnded = codes "fault ids ended\n"
+
+-- the report of a run, and none where no script was run
+abbrev pub report_if : Bool → Store → List Event → List ℕ
+report_if true opening journal = report_text journal (totals_of (final_store opening journal))
+report_if false opening journal = []
+
+-- all that the program writes
+abbrev pub output_text : Cause → Bool → Store → List Event → List ℕ
+output_text cause opened opening journal = report_if opened opening journal ++ fault_text cause
+
+-- the status where the output could not be written
+abbrev pub unwritten_status : Cause → ℕ
+unwritten_status Memory = 6
+unwritten_status cause = 8
+
+-- the output was written, and the status is the cause's; or the sink failed, which has a part of it
+abbrev pub IsWritten : Option (List ℕ) → Option (List ℕ) → ℕ → ℕ → List ℕ → Cause → ℕ → Type 0
+IsWritten before after faults_before faults_after text cause status =
+    (Gains before after text × (status ≡ status_of cause))
+    ⊎ (GainsPart before after text × Rose faults_before faults_after × (status ≡ unwritten_status cause))
+
+-- closing leaves the cause of a run's end as it is, or the disk failed and that is the cause
+abbrev pub ClosesBy : ℕ → ℕ → Cause → Cause → Type 0
+ClosesBy before after old new = (new ≡ old) ⊎ ((new ≡ Disk) × Rose before after × (old ≢ Memory))
