@@ -5,3 +5,4 @@ pub mod OpeningLaws
 pub mod RunLaws
 pub mod GivenLaws
 pub mod ReadingLaws
+pub mod FinishLaws

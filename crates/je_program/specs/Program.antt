@@ -10,7 +10,7 @@ use Rattle.je_model.specs.declared.plan.Given.{Given}
 use Rattle.je_model.specs.declared.totals.Totals.{Totals}
 use Rattle.je_model.specs.Store.{store_after, record_count}
 use Rattle.je_model.specs.Answers.{Standing}
-use Rattle.je_model.specs.Journal.{commits_of, lines_of, AllAcknowledged}
+use Rattle.je_model.specs.Journal.{commits_of, lines_of, AllAcknowledged, has_answer, is_disk_fault}
 use Rattle.log_replay.specs.Meaning.{Meaning}
 use Rattle.script_text.specs.Grammar.{plan_of}
 use Rattle.script_text.specs.Report.{report_text}
@@ -104,3 +104,9 @@ IsWritten before after faults_before faults_after text cause status =
 -- closing leaves the cause of a run's end as it is, or the disk failed and that is the cause
 abbrev pub ClosesBy : ℕ → ℕ → Cause → Cause → Type 0
 ClosesBy before after old new = (new ≡ old) ⊎ ((new ≡ Disk) × Rose before after × (old ≢ Memory))
+
+-- the disk's count never fell in a run, and it rose where the journal has a disk fault, or a disk fault is the cause of the end
+pub record ClosesRun (before after : ℕ) (journal : List Event) (cause : Cause) : Type 0 where
+  pub never_falls : before ≤ after
+  pub fault : has_answer is_disk_fault journal ≡ true → Rose before after
+  pub failed : cause ≡ Disk → Rose before after

@@ -1,17 +1,14 @@
 // A program's work, up to its output.
-ghost use Rattle.std.specs.Prelude.{◌≡◌, ◌≢◌, ◌≤◌, [], ℕ, true, false, map};
-ghost use Rattle.std.specs.Prelude.{string_bytes};
-ghost use Rattle.je_disk.specs.Causes.{Rose};
+ghost use Rattle.std.specs.Prelude.{◌≡◌, ◌≢◌, ◌≤◌, [], ℕ, None, true, false};
 ghost use Rattle.je_disk.specs.Moments.{now};
-ghost use Rattle.je_model.specs.Answers.{Standing};
+ghost use Rattle.je_model.specs.Answers.{Standing, after_events};
+ghost use Rattle.je_model.specs.Journal.{lines_of};
 ghost use Rattle.je_model.specs.Store.{no_databases};
 ghost use Rattle.je_program.specs.declared.cause.Cause.{Cause as Why};
-ghost use Rattle.je_program.specs.Environment.{IsAt};
-ghost use Rattle.je_program.specs.Opening.{IsOpenedAt, StopsBy};
-ghost use Rattle.je_program.specs.Program.{ClosesBy, EndsBy, MeanStore, RunsIf, StopsReading, final_store, is_before_disk, totals_of};
-ghost use Rattle.je_program.specs.Run.{HasRun, HasGiven, IsCaused};
-ghost use Rattle.je_program.specs.Steps.{CanGoOn};
-ghost use Rattle.je_program.specs.Words.{are_run_words};
+ghost use Rattle.je_program.specs.Environment.{log_rule};
+ghost use Rattle.je_program.specs.Files.{HasNoMeaning};
+ghost use Rattle.je_program.specs.Program.{ClosesBy, ClosesRun, EndsBy, MeanStore, RunsIf, final_store, is_before_disk, totals_of};
+ghost use Rattle.je_program.specs.Run.{HasRun, IsCaused, IsFront, IsRunning, cause_of_journal, of_session};
 
 use crate::cause::Cause;
 use crate::ending::journal_cause;
@@ -70,5 +67,76 @@ fn close<D: Disk>(environment: Environment<D>, cause: Cause) -> (D, Cause)
         Ok(()) => (disk, cause),
         Err(_) if cause == Cause::Memory => (disk, cause),
         Err(_) => (disk, Cause::Disk),
+    }
+}
+
+// How a run ends before it is closed.
+fn end_cause(memory_ended: bool, journal: &[Event]) -> Cause
+    ensures memory { memory_ended ≡ true → result ≡ Why.Memory }
+    ensures journal { memory_ended ≡ false → result ≡ cause_of_journal journal.now }
+{
+    if memory_ended {
+        Cause::Memory
+    } else {
+        journal_cause(journal)
+    }
+}
+
+// Ends a run: closes its environment.
+fn finish<D: Disk>(running: Running<D>, opening: Store) -> Attempt<D>
+    ensures opened { result.opened ≡ true }
+    ensures opening { result.opening ≡ opening }
+    ensures journal { result.journal.items ≡ running.journal.items }
+    ensures memory { running.memory_ended ≡ true → result.cause ≡ Why.Memory }
+    ensures ends { running.memory_ended ≡ false → EndsBy running.journal.items result.cause }
+    ensures caused { (before : ℕ) → IsCaused before (D.faults running.environment.disk) running.journal.items → ClosesRun before (D.faults result.disk) running.journal.items result.cause }
+    ensures totals { (st : Standing) → IsRunning D.tells (now (D.history running.environment.disk)) running.environment.kept running.journal.items st
+        → result.totals ≡ totals_of (after_events log_rule st running.journal.items).store }
+    ensures files { (st : Standing) → IsRunning D.tells (now (D.history running.environment.disk)) running.environment.kept running.journal.items st
+        → st.fault ≡ None → result.cause ≡ Why.Done → D.tells ≡ true → MeanStore (now (D.history result.disk)).reads (after_events log_rule st running.journal.items).store }
+{
+    let Running {
+        environment,
+        journal,
+        memory_ended,
+        stopped: _,
+    } = running;
+    let totals = environment.kept.totals;
+    let cause = end_cause(memory_ended, &journal);
+    let (disk, cause) = close(environment, cause);
+    Attempt {
+        cause,
+        opened: true,
+        disk,
+        journal,
+        opening,
+        totals,
+    }
+}
+
+/// Runs a plan over a disk: opens the environment, gives the lines, and closes it.
+pub fn run_plan<D: Disk>(alloc: Global, disk: D, plan: RunPlan) -> Attempt<D>
+    ensures runs { RunsIf result.cause result.opened }
+    ensures after_reading { is_before_disk result.cause ≡ false }
+    ensures run { result.opened ≡ true → (st : Standing) × HasRun D.tells (now (D.history disk)).reads result.opening result.journal.items st }
+    ensures unopened { result.opened ≡ false → (result.opening ≡ no_databases) × (result.journal.items ≡ []) }
+    ensures no_meaning { result.cause ≡ Why.Log → D.tells ≡ true → HasNoMeaning (now (D.history disk)).reads }
+    ensures lines { result.opened ≡ true → result.cause ≢ Why.Memory → lines_of result.journal.items ≡ plan.lines }
+    ensures front { result.opened ≡ true → (session : ℕ) → IsFront (of_session session (lines_of result.journal.items)) (of_session session plan.lines) }
+    ensures ends { result.opened ≡ true → result.cause ≢ Why.Memory → EndsBy result.journal.items result.cause }
+    ensures caused { ClosesRun (D.faults disk) (D.faults result.disk) result.journal.items result.cause }
+    ensures totals { result.opened ≡ true → result.totals ≡ totals_of (final_store result.opening result.journal.items) }
+    ensures files { result.cause ≡ Why.Done → D.tells ≡ true → MeanStore (now (D.history result.disk)).reads (final_store result.opening result.journal.items) }
+{
+    match open(alloc, disk) {
+        Ok(opened) => {
+            let Opened {
+                environment,
+                opening,
+            } = opened;
+            let running = run(alloc, environment, plan.lines.into_vec());
+            finish(running, opening)
+        }
+        Err(Stopped { cause, disk }) => unopened(alloc, cause, disk),
     }
 }
