@@ -220,3 +220,21 @@ caused_earlier before mid after journal earlier caused = record {
   never_falls = (let later : mid ≤ after = caused.never_falls in omega arith);
   fault = λ h. rose_earlier before mid after earlier (caused.fault h) caused.never_falls;
 }
+
+-- where a run is done, each commit is acknowledged
+pub done_acknowledged : (journal : List Event) (cause : Cause) → cause ≡ Done → EndsBy journal cause → AllSettled journal → AllAcknowledged journal
+done_acknowledged journal cause done ends settled =
+    ⊎_elim
+      (λ (e : cause ≡ cause_of_journal journal). all_acknowledged journal (no_fault_of_cause journal (sym e ∙ done)) settled)
+      (λ (e : cause ≡ Disk). absurd (disk_not_done (sym e ∙ done)))
+      ends where
+  disk_not_done : Disk ≡ Done → ⊥
+  disk_not_done e = cc
+
+pub done_is_no_memory : (cause : Cause) → cause ≡ Done → cause ≢ Memory
+done_is_no_memory cause done = λ e. done_not_memory (sym done ∙ e) where
+  done_not_memory : Done ≡ Memory → ⊥
+  done_not_memory e = cc
+
+pub done_opened : (cause : Cause) (opened : Bool) → cause ≡ Done → RunsIf cause opened → opened ≡ true
+done_opened cause opened done runs = subst (λ (c : Cause). RunsIf c opened) done runs

@@ -6,3 +6,4 @@ pub mod RunLaws
 pub mod GivenLaws
 pub mod ReadingLaws
 pub mod FinishLaws
+pub mod OutputLaws

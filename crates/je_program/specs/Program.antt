@@ -18,7 +18,7 @@ use Rattle.je_program.specs.declared.reading.TheConstants.{MOST_INPUT}
 use Rattle.je_program.specs.declared.cause.Cause.{Cause}
 use Rattle.je_program.specs.declared.cause.Cause.TheVariants.{Done, Usage, BadScript, Disk, Log, Memory, Input, InputTooLong, LogFull, IdsEnded}
 use Rattle.je_program.specs.Files.{Means}
-use Rattle.je_program.specs.Run.{cause_of_journal, of_session, IsFront, status_of}
+use Rattle.je_program.specs.Run.{cause_of_journal, of_session, IsFront, status_of, unwritten_status_of}
 
 -- the input was a script, and was read to its end
 abbrev pub ReadsPlan : Option (List ℕ) → Option (List ℕ) → RunPlan → Type 0
@@ -34,6 +34,20 @@ StopsReading left before after InputTooLong = IfSome left (λ bytes. MOST_INPUT 
 StopsReading left before after (BadScript line) = IfSome left (λ bytes. (length bytes ≤ MOST_INPUT) × (plan_of bytes ≡ Err line))
 StopsReading left before after Memory = Unit {0}
 StopsReading left before after cause = ⊥
+
+-- a cause that is one of reading came by reading; of the others this says nothing
+abbrev pub IsStopped : Option (List ℕ) → ℕ → ℕ → Cause → Type 0
+IsStopped left before after Input = Rose before after
+IsStopped left before after InputTooLong = IfSome left (λ bytes. MOST_INPUT < length bytes)
+IsStopped left before after (BadScript line) = IfSome left (λ bytes. (length bytes ≤ MOST_INPUT) × (plan_of bytes ≡ Err line))
+IsStopped left before after cause = Unit {0}
+
+-- a journal holds the lines of a script that was read: all, in order; or where a call found no memory, of each session the
+-- first of its lines
+pub record IsGivenTo (left rest : Option (List ℕ)) (journal : List Event) (cause : Cause) (plan : RunPlan) : Type 0 where
+  pub reads : ReadsPlan left rest plan
+  pub all : cause ≢ Memory → lines_of journal ≡ plan.lines
+  pub front : (session : ℕ) → IsFront (of_session session (lines_of journal)) (of_session session plan.lines)
 
 -- whether the program ended before it came to its disk
 abbrev pub is_before_disk : Cause → Bool
@@ -81,25 +95,25 @@ fault_text InputTooLong = codes "fault input too long\n"
 fault_text LogFull = codes "fault log full\n"
 fault_text IdsEnded = codes "fault ids ended\n"
 
+-- a fault line, up to the number where it has one
+abbrev pub plain_fault_text : Cause → List ℕ
+plain_fault_text (BadScript line) = codes "fault script line "
+plain_fault_text cause = fault_text cause
+
 -- the report of a run, and none where no script was run
-abbrev pub report_if : Bool → Store → List Event → List ℕ
-report_if true opening journal = report_text journal (totals_of (final_store opening journal))
-report_if false opening journal = []
+abbrev pub report_of : Bool → List Event → Totals → List ℕ
+report_of true journal totals = report_text journal totals
+report_of false journal totals = []
 
--- all that the program writes
+-- all that the program writes: the report with the totals of the final store, and the fault line
 abbrev pub output_text : Cause → Bool → Store → List Event → List ℕ
-output_text cause opened opening journal = report_if opened opening journal ++ fault_text cause
-
--- the status where the output could not be written
-abbrev pub unwritten_status : Cause → ℕ
-unwritten_status Memory = 6
-unwritten_status cause = 8
+output_text cause opened opening journal = report_of opened journal (totals_of (final_store opening journal)) ++ fault_text cause
 
 -- the output was written, and the status is the cause's; or the sink failed, which has a part of it
 abbrev pub IsWritten : Option (List ℕ) → Option (List ℕ) → ℕ → ℕ → List ℕ → Cause → ℕ → Type 0
 IsWritten before after faults_before faults_after text cause status =
     (Gains before after text × (status ≡ status_of cause))
-    ⊎ (GainsPart before after text × Rose faults_before faults_after × (status ≡ unwritten_status cause))
+    ⊎ (GainsPart before after text × Rose faults_before faults_after × (status ≡ unwritten_status_of cause))
 
 -- closing leaves the cause of a run's end as it is, or the disk failed and that is the cause
 abbrev pub ClosesBy : ℕ → ℕ → Cause → Cause → Type 0

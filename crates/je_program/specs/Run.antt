@@ -89,3 +89,8 @@ status_of Input = 7
 status_of InputTooLong = 11
 status_of NoRoom = 12
 status_of NoNumbers = 12
+
+-- the process status of a cause where the output could not be written
+abbrev pub unwritten_status_of : Cause → ℕ
+unwritten_status_of Memory = 6
+unwritten_status_of cause = 8

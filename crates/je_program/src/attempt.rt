@@ -1,5 +1,7 @@
 // A program's work, up to its output.
-ghost use Rattle.std.specs.Prelude.{◌≡◌, ◌≢◌, ◌≤◌, [], ℕ, None, true, false};
+ghost use Rattle.std.specs.Prelude.{◌≡◌, ◌≢◌, ◌≤◌, [], ℕ, None, true, false, map, string_bytes};
+ghost use Rattle.je_model.specs.declared.plan.RunPlan.{RunPlan};
+ghost use Rattle.je_program.specs.Words.{are_run_words};
 ghost use Rattle.je_disk.specs.Moments.{now};
 ghost use Rattle.je_model.specs.Answers.{Standing, after_events};
 ghost use Rattle.je_model.specs.Journal.{lines_of};
@@ -7,15 +9,18 @@ ghost use Rattle.je_model.specs.Store.{no_databases};
 ghost use Rattle.je_program.specs.declared.cause.Cause.{Cause as Why};
 ghost use Rattle.je_program.specs.Environment.{log_rule};
 ghost use Rattle.je_program.specs.Files.{HasNoMeaning};
-ghost use Rattle.je_program.specs.Program.{ClosesBy, ClosesRun, EndsBy, MeanStore, RunsIf, final_store, is_before_disk, totals_of};
+ghost use Rattle.je_program.specs.Program.{ClosesBy, ClosesRun, EndsBy, IsGivenTo, IsStopped, MeanStore, ReadsPlan, RunsIf, final_store, is_before_disk, totals_of};
 ghost use Rattle.je_program.specs.Run.{HasRun, IsCaused, IsFront, IsRunning, cause_of_journal, of_session};
 
 use crate::cause::Cause;
 use crate::ending::journal_cause;
 use crate::environment::Environment;
 use crate::opening::{Opened, Stopped, open};
+use crate::reading::read_script;
 use crate::running::{Running, run};
+use crate::words::are_right;
 use je_disk::Disk;
+use je_io::Source;
 use je_model::{Event, RunPlan, Store, Totals};
 use std::alloc::Global;
 
@@ -138,5 +143,38 @@ pub fn run_plan<D: Disk>(alloc: Global, disk: D, plan: RunPlan) -> Attempt<D>
             finish(running, opening)
         }
         Err(Stopped { cause, disk }) => unopened(alloc, cause, disk),
+    }
+}
+
+/// Does all that a program does but its output: looks at its words, reads its script, and runs it over
+/// the disk.
+pub fn work<D: Disk, S: Source>(
+    alloc: Global,
+    words: &[String],
+    disk: D,
+    input: &mut S,
+) -> Attempt<D>
+    ensures usage { result.cause ≡ Why.Usage → are_run_words (map string_bytes words.now) ≡ false }
+    ensures right { result.cause ≢ Why.Usage → are_run_words (map string_bytes words.now) ≡ true }
+    ensures stopped { IsStopped (S.left input.old) (S.faults input.old) (S.faults input.new) result.cause }
+    ensures script { is_before_disk result.cause ≡ false → result.cause ≢ Why.Memory → (plan : RunPlan) × ReadsPlan (S.left input.old) (S.left input.new) plan }
+    ensures given { result.opened ≡ true → (plan : RunPlan) × IsGivenTo (S.left input.old) (S.left input.new) result.journal.items result.cause plan }
+    ensures untouched { is_before_disk result.cause ≡ true → result.disk ≡ disk }
+    ensures runs { RunsIf result.cause result.opened }
+    ensures run { result.opened ≡ true → (st : Standing) × HasRun D.tells (now (D.history disk)).reads result.opening result.journal.items st }
+    ensures unopened { result.opened ≡ false → (result.opening ≡ no_databases) × (result.journal.items ≡ []) }
+    ensures no_meaning { result.cause ≡ Why.Log → D.tells ≡ true → HasNoMeaning (now (D.history disk)).reads }
+    ensures ends { result.opened ≡ true → result.cause ≢ Why.Memory → EndsBy result.journal.items result.cause }
+    ensures caused { ClosesRun (D.faults disk) (D.faults result.disk) result.journal.items result.cause }
+    ensures totals { result.opened ≡ true → result.totals ≡ totals_of (final_store result.opening result.journal.items) }
+    ensures files { result.cause ≡ Why.Done → D.tells ≡ true → MeanStore (now (D.history result.disk)).reads (final_store result.opening result.journal.items) }
+    ensures source { S.faults input.old ≤ S.faults input.new }
+{
+    if !are_right(words) {
+        return unopened(alloc, Cause::Usage, disk);
+    }
+    match read_script(alloc, input) {
+        Ok(plan) => run_plan(alloc, disk, plan),
+        Err(cause) => unopened(alloc, cause, disk),
     }
 }

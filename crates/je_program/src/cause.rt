@@ -1,6 +1,6 @@
 // Why a program ended as it did.
 ghost use Rattle.std.specs.Prelude.{◌≡◌};
-ghost use Rattle.je_program.specs.Run.{status_of};
+ghost use Rattle.je_program.specs.Run.{status_of, unwritten_status_of};
 
 /// Why a program ended as it did, before its output was written. Each has a status and a fault line of
 /// its own (docs/ANSWERS.md).
@@ -43,6 +43,16 @@ impl Cause {
             Cause::Input => 7,
             Cause::InputTooLong => 11,
             Cause::LogFull | Cause::IdsEnded => 12,
+        }
+    }
+
+    /// The status that a process ends with whose output could not be written.
+    pub fn unwritten_status(self) -> u8
+        ensures { result ≡ unwritten_status_of self }
+    {
+        match self {
+            Cause::Memory => 6,
+            _ => 8,
         }
     }
 }

@@ -11,8 +11,13 @@ pub mod giving;
 pub mod kept;
 pub mod logging;
 pub mod opening;
+pub mod output;
 pub mod planning;
+pub mod program;
 pub mod reading;
 pub mod running;
+pub mod words;
 
 pub use cause::Cause;
+pub use program::{Ended, run_je};
+pub use words::home;
