@@ -6,7 +6,6 @@ use Rattle.hex.specs.Hex.{decode_of}
 use Rattle.hex.specs.declared.error.FromHexError.{FromHexError}
 use Rattle.je_order.specs.Words.{is_word}
 use Rattle.je_model.specs.declared.store.Kind.TheVariants.{Plain}
-use Rattle.je_model.specs.declared.store.TheConstants.{KEY_LIMIT, VALUE_LIMIT}
 use Rattle.je_model.specs.declared.call.Call.{Call}
 use Rattle.je_model.specs.declared.call.Call.TheVariants.{Create, Put, Get, Delete}
 use Rattle.je_model.specs.declared.plan.Given.{Given}
@@ -39,22 +38,16 @@ session_of (s ∷ a ∷ []) = one_digit s a
 session_of (s ∷ a ∷ b ∷ []) = two_digits s a b
 session_of word = None
 
--- bytes are pairs of hexadecimal digits of either case, at least one pair and at most `most` pairs, or `-` for none
-abbrev pub at_most : ℕ → Result (List ℕ) FromHexError → Option (List ℕ)
-at_most most (Ok bytes) = if nat_le (length bytes) most then Some bytes else None
-at_most most (Err e) = None
+-- bytes are pairs of hexadecimal digits of either case, at least one pair, or `-` for none; their number is no part of the grammar
+abbrev pub decoded_bytes : Result (List ℕ) FromHexError → Option (List ℕ)
+decoded_bytes (Ok bytes) = Some bytes
+decoded_bytes (Err e) = None
 
-abbrev pub bytes_of : ℕ → List ℕ → Option (List ℕ)
-bytes_of most word =
+abbrev pub bytes_of : List ℕ → Option (List ℕ)
+bytes_of word =
     if bytes_eq word (codes "-") then Some []
     else if length word == 0 then None
-    else at_most most (decode_of word)
-
-abbrev pub key_of : List ℕ → Option (List ℕ)
-key_of word = bytes_of KEY_LIMIT word
-
-abbrev pub data_of : List ℕ → Option (List ℕ)
-data_of word = bytes_of VALUE_LIMIT word
+    else decoded_bytes (decode_of word)
 
 -- `create DB plain`
 abbrev pub create_of : List (List ℕ) → Option Call
@@ -67,7 +60,7 @@ put_call db (Some key) (Some value) = Some (Put db key value)
 put_call db key value = None
 
 abbrev pub put_of : List (List ℕ) → Option Call
-put_of (db ∷ key ∷ value ∷ []) = if is_word db then put_call db (key_of key) (data_of value) else None
+put_of (db ∷ key ∷ value ∷ []) = if is_word db then put_call db (bytes_of key) (bytes_of value) else None
 put_of words = None
 
 -- `get DB K` and `get DB K rmw`
@@ -76,8 +69,8 @@ get_call db rmw (Some key) = Some (Get db key rmw)
 get_call db rmw None = None
 
 abbrev pub get_of : List (List ℕ) → Option Call
-get_of (db ∷ key ∷ []) = if is_word db then get_call db false (key_of key) else None
-get_of (db ∷ key ∷ rmw ∷ []) = if is_word db && bytes_eq rmw (codes "rmw") then get_call db true (key_of key) else None
+get_of (db ∷ key ∷ []) = if is_word db then get_call db false (bytes_of key) else None
+get_of (db ∷ key ∷ rmw ∷ []) = if is_word db && bytes_eq rmw (codes "rmw") then get_call db true (bytes_of key) else None
 get_of words = None
 
 -- `delete DB K`
@@ -86,7 +79,7 @@ delete_call db (Some key) = Some (Delete db key)
 delete_call db None = None
 
 abbrev pub delete_of : List (List ℕ) → Option Call
-delete_of (db ∷ key ∷ []) = if is_word db then delete_call db (key_of key) else None
+delete_of (db ∷ key ∷ []) = if is_word db then delete_call db (bytes_of key) else None
 delete_of words = None
 
 -- a call is one of these forms

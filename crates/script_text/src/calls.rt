@@ -1,9 +1,9 @@
 // The forms of calls.
 ghost use Rattle.std.specs.Prelude.{◌≡◌, IfOk, if◌then◌else◌};
 ghost use Rattle.je_order.specs.Words.{is_word};
-ghost use Rattle.script_text.specs.Grammar.{call_of, create_of, put_of, get_of, get_call, delete_of, key_of};
+ghost use Rattle.script_text.specs.Grammar.{call_of, create_of, put_of, get_of, get_call, delete_of, bytes_of};
 
-use crate::bytes::{data_of, key_of};
+use crate::bytes::bytes_of;
 use crate::words::Words;
 use je_model::{Call, Kind};
 use je_order::Word;
@@ -60,10 +60,10 @@ fn put_of(alloc: Global, mut words: Words) -> Result<Option<Call>, AllocError>
     if words.next().is_some() || !Word::is_word(db) {
         return Ok(None);
     }
-    let Some(key) = key_of(alloc, key)? else {
+    let Some(key) = bytes_of(alloc, key)? else {
         return Ok(None);
     };
-    let Some(value) = data_of(alloc, value)? else {
+    let Some(value) = bytes_of(alloc, value)? else {
         return Ok(None);
     };
     let db = Word::from_slice(alloc, db)?;
@@ -90,12 +90,12 @@ fn get_of(alloc: Global, mut words: Words) -> Result<Option<Call>, AllocError>
 
 fn plain_get(alloc: Global, db: &[u8], key: &[u8], rmw: bool) -> Result<Option<Call>, AllocError>
     ensures { IfOk result (λ call.
-        call ≡ (if is_word db.now then get_call db.now rmw (key_of key.now) else None)) }
+        call ≡ (if is_word db.now then get_call db.now rmw (bytes_of key.now) else None)) }
 {
     if !Word::is_word(db) {
         return Ok(None);
     }
-    let Some(key) = key_of(alloc, key)? else {
+    let Some(key) = bytes_of(alloc, key)? else {
         return Ok(None);
     };
     let db = Word::from_slice(alloc, db)?;
@@ -114,7 +114,7 @@ fn delete_of(alloc: Global, mut words: Words) -> Result<Option<Call>, AllocError
     if words.next().is_some() || !Word::is_word(db) {
         return Ok(None);
     }
-    let Some(key) = key_of(alloc, key)? else {
+    let Some(key) = bytes_of(alloc, key)? else {
         return Ok(None);
     };
     let db = Word::from_slice(alloc, db)?;
