@@ -72,8 +72,9 @@ pub fn run_script(alloc: Global, disk: MemDisk, script: &[u8]) -> Result<Ran, Fa
 }
 
 // The disk that the first example leaves.
-pub fn first_disk(alloc: Global) -> Result<MemDisk, Fail> {
+pub fn first_disk(rt: &impl Abort, alloc: Global) -> Result<MemDisk, Fail> {
     let ran = run_script(alloc, MemDisk::new(alloc), FIRST)?;
+    assert_ran(rt, &ran, 0, FIRST_TEXT);
     let Ran { disk, .. } = ran;
     Ok(disk)
 }

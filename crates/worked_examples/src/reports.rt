@@ -45,7 +45,7 @@ fn create_put_get(rt: HostRuntime) -> Result<(), Fail> {
         ),
     ];
     for (script, text) in rows {
-        let ran = run_script(alloc, first_disk(alloc)?, script)?;
+        let ran = run_script(alloc, first_disk(&rt, alloc)?, script)?;
         assert_ran(&rt, &ran, 0, text);
     }
     Ok(())
