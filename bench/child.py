@@ -2,7 +2,7 @@
 
 The kernel's ru_maxrss of a child begins with what the parent had when it made the child, and this parent
 is larger than a small run of the program. So the child is stopped where it ends, and the greatest size
-that its own memory had (VmHWM) is read there. Where the child may not be traced, ru_maxrss has to do.
+that its own memory had (VmHWM) is read there. Where the child may not be traced, ru_maxrss is taken.
 """
 
 import ctypes
