@@ -1,0 +1,145 @@
+// The lock table.
+ghost use Rattle.std.specs.Prelude.{◌≡◌, ◌&&◌, ◌==◌, [], not, length, true, false, None, Some, if◌then◌else◌, IfOk, OnOk, OnErr};
+ghost use Rattle.std.specs.Option.{option_map_or, IsSome};
+ghost use Rattle.je_order.specs.declared.txn_id.TxnId.{TxnId};
+ghost use Rattle.lock_mode.specs.declared.lock_type.LockType.{LockType};
+ghost use Rattle.lock_table.specs.declared.record_id.RecordId.{RecordId};
+ghost use Rattle.lock_table.specs.declared.lock.Lock.{Lock};
+ghost use Rattle.lock_table.specs.Locks.{is_same, held_by, blocker, after_ask, after_cancel, after_release, after_give_back, WasHeld, IsSettled, lock_of, writer_in};
+ghost use Rattle.lock_table.specs.Records.{is_record};
+ghost use Rattle.lock_table.specs.Table.{locks_at, pending_at, is_waiting, was_granted, owner_in, IsSameTable};
+
+use crate::calls::{ask_in, cancel_in, give_back_in, release_in};
+use crate::queue::Queue;
+use crate::queues::{owners_at, waits_at};
+use crate::{Asked, Lock, RecordId, lists};
+use je_order::TxnId;
+use lock_mode::LockType;
+use std::alloc::{AllocError, Global};
+use std::collections::{BTreeMap, BTreeSet};
+use std::marker::Model;
+
+/// The locks of an environment: for each record its owners and, in order of arrival, its waits. It is
+/// made once and lives as long as the environment; a record is in it only while it has an owner or a
+/// wait. A transaction has one wait at most. The rules are this project's own.
+#[derive(Drop)]
+pub struct LockTable {
+    queues: BTreeMap<RecordId, Queue>,
+    lists: BTreeMap<TxnId, BTreeSet<RecordId>>,
+    pending: BTreeMap<TxnId, RecordId>,
+}
+
+impl Model for LockTable {
+    ghost use Rattle.lock_table.specs.Table.{Locks, IsTable};
+
+    ghost Value = { Locks };
+
+    ghost view = { λ a. record { records = a.queues.entries; pending = a.pending.entries } };
+
+    ghost invariant = { λ a. IsTable a.queues.entries a.lists.entries a.pending.entries };
+}
+
+impl LockTable {
+    /// No locks. It takes no memory.
+    pub fn new(alloc: Global) -> LockTable
+        ensures locks { (r : RecordId) → locks_at r result ≡ ([], []) }
+        ensures pending { (t : TxnId) → pending_at t result ≡ None }
+    {
+        LockTable {
+            queues: BTreeMap::new(alloc),
+            lists: BTreeMap::new(alloc),
+            pending: BTreeMap::new(alloc),
+        }
+    }
+
+    /// Asks for a lock. It waits exactly where it conflicts with another owner, and the least of these
+    /// is the answer's owner; the wait then stands until a grant or `cancel`. The one error is want of
+    /// memory, and nothing is changed by it.
+    pub fn ask(
+        &mut self,
+        alloc: Global,
+        txn: TxnId,
+        at: &RecordId,
+        asked: LockType,
+    ) -> Result<Asked, AllocError>
+        requires { is_waiting txn self.old ≡ false }
+        ensures answer { IfOk result (λ answer. owner_in answer ≡ blocker (lock_of txn asked) (locks_at at.now self.old).0) }
+        ensures locks { OnOk result ((r : RecordId) → locks_at r self.new ≡ (if is_record at.now r then after_ask (lock_of txn asked) (locks_at r self.old) else locks_at r self.old)) }
+        ensures pending { IfOk result (λ answer. (t : TxnId) → pending_at t self.new ≡ (if is_same txn t then option_map_or (λ _. Some at.now) (owner_in answer) None else pending_at t self.old)) }
+        ensures settled { (r : RecordId) → IsSettled (locks_at r self.new) }
+        ensures err { OnErr result (IsSameTable self.old self.new) }
+    {
+        let lock = Lock { txn, mode: asked };
+        ask_in(
+            &mut self.queues,
+            &mut self.lists,
+            &mut self.pending,
+            alloc,
+            at,
+            lock,
+        )
+    }
+
+    /// Takes back the transaction's wait, if it has one. It takes no memory.
+    pub fn cancel(&mut self, txn: TxnId)
+        ensures locks { (r : RecordId) → locks_at r self.new ≡ after_cancel txn (locks_at r self.old) }
+        ensures pending { (t : TxnId) → pending_at t self.new ≡ (if is_same txn t && is_waiting txn self.old then None else pending_at t self.old) }
+        ensures settled { (r : RecordId) → IsSettled (locks_at r self.new) }
+    {
+        cancel_in(&mut self.queues, &mut self.pending, txn);
+    }
+
+    /// Makes the transaction's lock on a record what it was before, and grants the waits that it stood
+    /// in the way of, as a release does. It takes no memory.
+    pub fn give_back(&mut self, txn: TxnId, at: &RecordId, was: Option<LockType>)
+        requires holds { IsSome (held_by txn (locks_at at.now self.old).0) }
+        requires was { (held : LockType) → held_by txn (locks_at at.now self.old).0 ≡ Some held → WasHeld was held }
+        ensures locks { (r : RecordId) → locks_at r self.new ≡ (if is_record at.now r then after_give_back txn was (locks_at r self.old) else locks_at r self.old) }
+        ensures pending { (t : TxnId) → pending_at t self.new ≡ pending_at t self.old }
+        ensures settled { (r : RecordId) → IsSettled (locks_at r self.new) }
+    {
+        give_back_in(&mut self.queues, &mut self.lists, txn, at, was);
+    }
+
+    /// Takes all the transaction's locks and its wait, and grants each of these records' waits in order
+    /// of arrival where it conflicts with no other owner. It takes no memory.
+    pub fn release_all(&mut self, txn: TxnId)
+        ensures locks { (r : RecordId) → locks_at r self.new ≡ after_release txn (locks_at r self.old) }
+        ensures pending { (t : TxnId) → pending_at t self.new ≡ (if is_same txn t then None else pending_at t self.old) }
+        ensures settled { (r : RecordId) → IsSettled (locks_at r self.new) }
+    {
+        release_in(&mut self.queues, &mut self.lists, txn);
+        let _ = self.pending.remove(&txn);
+    }
+
+    /// Whether a wait of the transaction was granted, and it has neither asked nor ended since.
+    pub fn is_granted(&self, txn: TxnId) -> bool
+        ensures { result ≡ was_granted txn self.now }
+    {
+        let Some(at) = self.pending.get(&txn) else {
+            return false;
+        };
+        !lists::is_in(waits_at(&self.queues, at), txn)
+    }
+
+    /// The type that the transaction holds on a record.
+    pub fn held(&self, txn: TxnId, at: &RecordId) -> Option<LockType>
+        ensures { result ≡ held_by txn (locks_at at.now self.now).0 }
+    {
+        lists::held_in(owners_at(&self.queues, at), txn)
+    }
+
+    /// The owner that has a lock for writing on the record; there is one at most.
+    pub fn is_write_locked(&self, at: &RecordId) -> Option<TxnId>
+        ensures { result ≡ writer_in (locks_at at.now self.now).0 }
+    {
+        lists::writer_of(owners_at(&self.queues, at))
+    }
+
+    /// Whether the record has an owner.
+    pub fn is_locked(&self, at: &RecordId) -> bool
+        ensures { result ≡ not (length (locks_at at.now self.now).0 == 0) }
+    {
+        !owners_at(&self.queues, at).is_empty()
+    }
+}
