@@ -7,3 +7,4 @@ pub mod Maps
 pub mod Sound
 pub mod Listing
 pub mod Steps
+pub mod Ranges

@@ -3,7 +3,7 @@ use Rattle.std.specs.Prelude.{◌≡◌, ℕ, Bool, true, false, cond, not, ◌&
 use Rattle.std.specs.declared.option.Option.{Option}
 use Rattle.std.specs.declared.option.Option.TheVariants.{None, Some}
 use Rattle.std.specs.List.{list_any, filter, find, AllByRecursion}
-use Rattle.std.specs.Option.{option_map}
+use Rattle.std.specs.Option.{option_map, option_map_or}
 use Rattle.je_order.specs.declared.txn_id.TxnId.{TxnId}
 use Rattle.lock_mode.specs.declared.lock_type.LockType.{LockType}
 use Rattle.lock_mode.specs.declared.lock_type.LockType.TheVariants.{Read, Write, RangeRead, RangeWrite, RangeInsert}
@@ -68,6 +68,10 @@ least (x ∷ xs) = lesser (Some x) (least xs)
 -- the least owner that a request conflicts with
 abbrev pub blocker : Lock → List Lock → Option TxnId
 blocker w os = least (map (λ o. o.txn) (filter (is_blocking w) os))
+
+-- those that the transaction waits for on a record: the owners that its wait there conflicts with
+abbrev pub waited_for : TxnId → List Lock × List Lock → List TxnId
+waited_for t q = option_map_or (λ w. map (λ o. o.txn) (filter (is_blocking w) q.0)) (find (is_of t) q.1) []
 
 -- an owner's lock, upgraded by a request of the same transaction
 abbrev pub upgraded_by : Lock → Lock → Lock

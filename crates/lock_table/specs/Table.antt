@@ -1,5 +1,6 @@
 -- The lock table as two lists: the records with their owners and waits, and where each transaction last began to wait.
-use Rattle.std.specs.Prelude.{◌≡◌, ℕ, Bool, true, false, not, List, [], ◌==◌}
+use Rattle.std.specs.Prelude.{◌≡◌, ℕ, Bool, true, false, not, List, [], ◌==◌, map}
+use Rattle.std.specs.List.{filter, flat_map}
 use Rattle.std.specs.declared.option.Option.{Option}
 use Rattle.std.specs.declared.option.Option.TheVariants.{None, Some}
 use Rattle.std.specs.Option.{option_map_or}
@@ -11,7 +12,7 @@ use Rattle.lock_table.specs.declared.lock.Lock.{Lock}
 use Rattle.lock_table.specs.declared.asked.Asked.{Asked}
 use Rattle.lock_table.specs.declared.asked.Asked.TheVariants.{Granted, Blocked}
 use Rattle.lock_table.specs.declared.record_id.RecordId.{RecordId}
-use Rattle.lock_table.specs.Locks.{has_lock, IsSettled}
+use Rattle.lock_table.specs.Locks.{has_lock, waited_for, least, IsSettled}
 use Rattle.lock_table.specs.Records.{record_cmp, queue_at}
 
 -- the value of a lock table: the records, each with its owners and, in order of arrival, its waits; and for each transaction the record on which it was last told to wait, if it has neither asked, cancelled nor ended since
@@ -38,6 +39,18 @@ is_waiting t v = option_map_or (λ r. has_lock t (locks_at r v).1) (pending_at t
 -- a wait of the transaction was granted
 abbrev pub was_granted : TxnId → Locks → Bool
 was_granted t v = option_map_or (λ r. not (has_lock t (locks_at r v).1)) (pending_at t v) false
+
+-- those that the transaction waits for
+abbrev pub waits_for : TxnId → Locks → List TxnId
+waits_for t v = option_map_or (λ r. waited_for t (locks_at r v)) (pending_at t v) []
+
+-- who waits for whom, by waiter
+abbrev pub wait_pairs : Locks → List (TxnId × TxnId)
+wait_pairs v = flat_map (λ e. map (λ u. (e.0, u)) (waited_for e.0 (locks_at e.1 v))) v.pending
+
+-- the least owner of the records of a database
+abbrev pub holder_of : ℕ → Locks → Option TxnId
+holder_of db v = least (map (λ o. o.txn) (flat_map (λ e. e.1.0) (filter (λ e. e.0.db == db) v.records)))
 
 -- nothing changed
 pub record IsSameTable (v w : Locks) : Type 0 where

@@ -1,10 +1,12 @@
 // The work on one record's owners and waits, over plain lists.
-ghost use Rattle.std.specs.Prelude.{◌≡◌, ◌+◌, ◌<◌, ◌≤◌, Some, map, vec_len, vec_capacity};
-ghost use Rattle.lock_table.specs.Locks.{has_lock, without, held_by, is_blocked, blocker, lesser, with_lock, with_type, upgraded_by, set_by, granted, is_write, writer_in};
+ghost use Rattle.std.specs.Prelude.{◌≡◌, ◌+◌, ◌<◌, ◌≤◌, Some, IfOk, map, vec_len, vec_capacity};
+ghost use Rattle.std.specs.List.{filter, find};
+ghost use Rattle.lock_table.specs.Locks.{has_lock, without, held_by, is_blocked, blocker, lesser, with_lock, with_type, upgraded_by, set_by, granted, is_write, writer_in, is_of, is_blocking, waited_for};
 
 use crate::Lock;
 use je_order::TxnId;
 use lock_mode::{LockType, conflicts, upgrade};
+use std::alloc::{AllocError, Global};
 
 // The type that the transaction holds.
 pub(crate) fn held_in(owners: &[Lock], txn: TxnId) -> Option<LockType>
@@ -72,6 +74,46 @@ pub(crate) fn writer_of(owners: &[Lock]) -> Option<TxnId>
         }
     }
     None
+}
+
+// The transaction's wait.
+pub(crate) fn wait_of(waits: &[Lock], txn: TxnId) -> Option<Lock>
+    ensures { result ≡ find (is_of txn) waits.now }
+{
+    for wait in waits {
+        if txn == wait.txn {
+            return Some(*wait);
+        }
+    }
+    None
+}
+
+// The owners that the request conflicts with, in their order.
+fn stoppers(alloc: Global, owners: &[Lock], lock: Lock) -> Result<Vec<TxnId>, AllocError>
+    ensures { IfOk result (λ found. found.items ≡ map (λ o. o.txn) (filter (is_blocking lock) owners.now)) }
+{
+    let mut found = Vec::new(alloc);
+    for owner in owners {
+        if lock.txn != owner.txn && conflicts(owner.mode, lock.mode) {
+            found.push(owner.txn)?;
+        }
+    }
+    Ok(found)
+}
+
+// Those that the transaction waits for on one record.
+pub(crate) fn waited_in(
+    alloc: Global,
+    owners: &[Lock],
+    waits: &[Lock],
+    txn: TxnId,
+) -> Result<Vec<TxnId>, AllocError>
+    ensures { IfOk result (λ found. found.items ≡ waited_for txn (owners.now, waits.now)) }
+{
+    let Some(wait) = wait_of(waits, txn) else {
+        return Ok(Vec::new(alloc));
+    };
+    stoppers(alloc, owners, wait)
 }
 
 // Takes the transaction's locks out of the list. It takes no memory.

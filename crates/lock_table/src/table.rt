@@ -1,19 +1,21 @@
 // The lock table.
-ghost use Rattle.std.specs.Prelude.{◌≡◌, ◌&&◌, ◌==◌, [], not, length, true, false, None, Some, if◌then◌else◌, IfOk, OnOk, OnErr};
+ghost use Rattle.std.specs.Prelude.{◌≡◌, ◌&&◌, ◌==◌, ◌++◌, [], map, not, length, true, false, None, Some, if◌then◌else◌, IfOk, OnOk, OnErr};
 ghost use Rattle.std.specs.Option.{option_map_or, IsSome};
+ghost use Rattle.std.specs.List.{flat_map};
 ghost use Rattle.je_order.specs.declared.txn_id.TxnId.{TxnId};
 ghost use Rattle.lock_mode.specs.declared.lock_type.LockType.{LockType};
 ghost use Rattle.lock_table.specs.declared.record_id.RecordId.{RecordId};
 ghost use Rattle.lock_table.specs.declared.lock.Lock.{Lock};
-ghost use Rattle.lock_table.specs.Locks.{is_same, held_by, blocker, after_ask, after_cancel, after_release, after_give_back, WasHeld, IsSettled, lock_of, writer_in};
-ghost use Rattle.lock_table.specs.Records.{is_record};
-ghost use Rattle.lock_table.specs.Table.{locks_at, pending_at, is_waiting, was_granted, owner_in, IsSameTable};
+ghost use Rattle.lock_table.specs.Locks.{is_same, held_by, blocker, after_ask, after_cancel, after_release, after_give_back, WasHeld, IsSettled, lock_of, writer_in, waited_for};
+ghost use Rattle.lock_table.specs.Records.{is_record, queue_at};
+ghost use Rattle.lock_table.specs.Table.{locks_at, pending_at, is_waiting, was_granted, owner_in, waits_for, wait_pairs, holder_of, IsSameTable};
 
 use crate::calls::{ask_in, cancel_in, give_back_in, release_in};
+use crate::holders::least_in;
 use crate::queue::Queue;
 use crate::queues::{owners_at, waits_at};
 use crate::{Asked, Lock, RecordId, lists};
-use je_order::TxnId;
+use je_order::{List, TxnId};
 use lock_mode::LockType;
 use std::alloc::{AllocError, Global};
 use std::collections::{BTreeMap, BTreeSet};
@@ -142,4 +144,66 @@ impl LockTable {
     {
         !owners_at(&self.queues, at).is_empty()
     }
+
+    /// The least owner of the records of a database. It looks at no other database's records.
+    pub fn holder_in(&self, db: u32) -> Option<TxnId>
+        ensures { result ≡ holder_of db self.now }
+    {
+        least_in(&self.queues, db)
+    }
+
+    /// Those that the transaction waits for: the owners that its wait conflicts with. The one error is
+    /// want of memory.
+    pub fn blockers(&self, alloc: Global, txn: TxnId) -> Result<Vec<TxnId>, AllocError>
+        ensures { IfOk result (λ found. found.items ≡ waits_for txn self.now) }
+    {
+        let Some(at) = self.pending.get(&txn) else {
+            return Ok(Vec::new(alloc));
+        };
+        lists::waited_in(
+            alloc,
+            owners_at(&self.queues, at),
+            waits_at(&self.queues, at),
+            txn,
+        )
+    }
+
+    /// Who waits for whom: each pair is a waiter and an owner that its wait conflicts with. It walks all
+    /// waits. The one error is want of memory.
+    pub fn waits(&self, alloc: Global) -> Result<List<(TxnId, TxnId)>, AllocError>
+        ensures { IfOk result (λ pairs. pairs ≡ wait_pairs self.now) }
+    {
+        let pairs = pairs_in(alloc, &self.queues, &self.pending)?;
+        Ok(List::from_vec(pairs))
+    }
+}
+
+// Puts the pairs of one waiter at the end.
+fn put_pairs(
+    pairs: &mut Vec<(TxnId, TxnId)>,
+    txn: TxnId,
+    owners: &[TxnId],
+) -> Result<(), AllocError>
+    ensures { OnOk result (pairs.new.items ≡ pairs.old.items ++ map (λ u. (txn, u)) owners.now) }
+{
+    for owner in owners {
+        pairs.push((txn, *owner))?;
+    }
+    Ok(())
+}
+
+// Who waits for whom, waiter by waiter.
+fn pairs_in(
+    alloc: Global,
+    queues: &BTreeMap<RecordId, Queue>,
+    pending: &BTreeMap<TxnId, RecordId>,
+) -> Result<Vec<(TxnId, TxnId)>, AllocError>
+    ensures { IfOk result (λ pairs. pairs.items ≡ flat_map (λ e. map (λ u. (e.0, u)) (waited_for e.0 (queue_at e.1 queues.now.entries))) pending.now.entries) }
+{
+    let mut pairs = Vec::new(alloc);
+    for (txn, at) in pending {
+        let owners = lists::waited_in(alloc, owners_at(queues, at), waits_at(queues, at), *txn)?;
+        put_pairs(&mut pairs, *txn, owners.as_slice())?;
+    }
+    Ok(pairs)
 }
