@@ -1,5 +1,5 @@
 -- The waits that stay, behind those that were looked at before.
-use Rattle.std.proofs.Common.{◌≡◌, ℕ, ◌+◌, ◌<◌, ◌≤◌, List, [], ◌∷◌, ◌++◌, take, drop, refl, length}
+use Rattle.std.proofs.Common.{List, ◌++◌}
 use Rattle.lock_table.specs.declared.lock.Lock.{Lock}
 
 abbrev pub behind : List Lock → List Lock × List Lock → List Lock × List Lock

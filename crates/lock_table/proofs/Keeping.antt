@@ -1,15 +1,14 @@
 -- What each call keeps of one record: it stays settled, and nobody comes in but the one that asked.
-use Rattle.std.proofs.Common.{◌≡◌, ℕ, Bool, true, false, cond, not, ◌&&◌, ◌||◌, List, [], ◌∷◌, ◌++◌, map, Some, None, Option, refl, ap, sym, ◌∙◌, subst, ◌⊎◌, inl, inr, ⊎_elim, arith, rules}
-use Rattle.std.specs.List.{list_any, filter, AllByRecursion}
+use Rattle.std.proofs.Common.{◌≡◌, Bool, true, false, not, List, [], ◌∷◌, ◌++◌, map, Some, None, Option, refl, ap, sym, ◌∙◌, subst, ⊎_elim}
 use Rattle.std.proofs.lemmas.List.Folds.{list_any-append}
-use Rattle.std.proofs.lemmas.Bool.{cases_Bool, or_cases, or_parts, or_from, or_left, or_right, both_ways, cond-true, cond-false, false_from_ne_true, true_from_ne_false}
+use Rattle.std.proofs.lemmas.Bool.{cases_Bool, or_cases, or_parts, or_from, both_ways, cond-true, cond-false, true_from_ne_false}
 use Rattle.je_order.specs.declared.txn_id.TxnId.{TxnId}
 use Rattle.lock_mode.specs.declared.lock_type.LockType.{LockType}
-use Rattle.lock_mode.specs.Modes.{conflicts_with, upgraded, can_be_held}
+use Rattle.lock_mode.specs.Modes.{can_be_held}
 use Rattle.lock_table.specs.declared.lock.Lock.{Lock}
-use Rattle.lock_table.specs.Locks.{is_same, is_of, has_lock, without, held_by, is_blocking, is_blocked, upgraded_by, set_by, with_lock, with_type, waits_still, granted, after_ask, after_cancel, after_release, after_give_back, WasHeld, AreApart, AreOwners, IsSettled}
+use Rattle.lock_table.specs.Locks.{is_of, has_lock, without, held_by, is_blocked, upgraded_by, set_by, with_lock, with_type, granted, after_ask, after_cancel, after_release, after_give_back, WasHeld, IsSettled}
 use Rattle.lock_table.specs.Table.{IsOut}
-use Rattle.lock_table.proofs.Settled.{same_is, same_itself, same_either, all_map, all_append, all_filter, none_each, each_none, filter_all, any_filter}
+use Rattle.lock_table.proofs.Settled.{all_map, all_append, all_filter, filter_all, any_filter}
 use Rattle.lock_table.proofs.Owners.{has_mapped, upgraded_txn, set_txn, apart_push, apart_filter, owners_taken, owners_without, owners_set, stays_blocked, granted_cases, granted_settles, granted_waits, granted_none}
 
 pub settled_nothing : IsSettled ([], [])

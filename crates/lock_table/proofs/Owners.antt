@@ -1,17 +1,16 @@
 -- Owners never conflict, and no wait is left that could be granted: what each change keeps of it.
-use Rattle.std.proofs.Common.{◌≡◌, ℕ, Bool, true, false, cond, not, ◌&&◌, ◌||◌, List, [], ◌∷◌, ◌++◌, map, Some, None, Option, refl, ap, sym, ◌∙◌, subst, ◌⊎◌, inl, inr, ⊎_elim, arith, rules}
-use Rattle.std.specs.List.{list_any, filter, AllByRecursion, find}
+use Rattle.std.proofs.Common.{◌≡◌, Bool, true, false, not, ◌&&◌, ◌||◌, List, [], ◌∷◌, ◌++◌, map, Some, refl, ap, sym, ◌∙◌, subst, ⊎_elim}
+use Rattle.std.specs.List.{filter, AllByRecursion, find}
 use Rattle.std.specs.Option.{option_map}
 use Rattle.std.proofs.lemmas.List.Folds.{list_any-append}
-use Rattle.std.proofs.lemmas.Bool.{and_parts, and_from, and_cases, and_left, and_right, cases_Bool, or_cases, or_parts, or_from, or_left, or_right, both_ways, cond-true, cond-false, not_from_true}
-use Rattle.std.proofs.lemmas.Bool.Decides.{nat_tests}
+use Rattle.std.proofs.lemmas.Bool.{and_left, cases_Bool, or_parts, or_from, or_left, both_ways, cond-true, cond-false, not_from_true}
 use Rattle.je_order.specs.declared.txn_id.TxnId.{TxnId}
 use Rattle.lock_mode.specs.declared.lock_type.LockType.{LockType}
 use Rattle.lock_mode.specs.Modes.{conflicts_with, upgraded, can_be_held}
 use Rattle.lock_mode.proofs.Laws.{laws}
 use Rattle.lock_table.specs.declared.lock.Lock.{Lock}
-use Rattle.lock_table.specs.Locks.{is_same, is_of, has_lock, without, held_by, is_blocking, is_blocked, upgraded_by, set_by, with_lock, with_type, waits_still, granted, after_ask, after_cancel, after_release, after_give_back, AreApart, AreOwners, IsSettled}
-use Rattle.lock_table.proofs.Settled.{same_is, same_itself, same_either, all_map, all_mapped, all_append, all_filter, all_both, none_each, each_none, filter_all, any_filter, lock_blocks}
+use Rattle.lock_table.specs.Locks.{is_same, is_of, has_lock, without, held_by, is_blocking, is_blocked, upgraded_by, set_by, with_lock, waits_still, granted, AreApart, AreOwners, IsSettled}
+use Rattle.lock_table.proofs.Settled.{same_is, same_itself, same_either, all_map, all_mapped, all_append, all_filter, all_both, none_each, any_filter, lock_blocks}
 
 -- ---- transactions that stand once
 pub has_mapped : (f : Lock → Lock) → ((o : Lock) → (f o).txn ≡ o.txn) → (t : TxnId) (os : List Lock) → has_lock t (map f os) ≡ has_lock t os

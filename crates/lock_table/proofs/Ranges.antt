@@ -1,9 +1,8 @@
 -- The records of one database stand between the end of the one before it and its own end.
-use Rattle.std.proofs.Common.{◌≡◌, ℕ, ◌+◌, Bool, true, false, cond, not, ◌&&◌, eqb, List, [], ◌∷◌, ◌++◌, map, Some, None, Option, Ordering, refl, ap, sym, ◌∙◌, arith, zero, suc}
+use Rattle.std.proofs.Common.{◌≡◌, ℕ, Bool, cond, List, [], ◌∷◌, ◌++◌, map, Some, Option, refl, ap, sym, ◌∙◌, arith, zero, suc}
 use Rattle.std.specs.Prelude.{◌==◌}
 use Rattle.std.specs.List.{filter, flat_map}
 use Rattle.std.specs.BTreeMap.Range.{range_contains}
-use Rattle.std.specs.declared.ops.Bound.{Bound as Ends}
 use Rattle.std.proofs.lemmas.Bool.Decides.{nat_tests}
 use Rattle.je_order.specs.declared.bound.Bound.{Bound}
 use Rattle.je_order.specs.declared.bound.Bound.TheVariants.{At, End}
@@ -12,7 +11,7 @@ use Rattle.lock_table.specs.declared.lock.Lock.{Lock}
 use Rattle.lock_table.specs.declared.record_id.RecordId.{RecordId}
 use Rattle.lock_table.specs.Locks.{lesser, least}
 use Rattle.lock_table.specs.Records.{record_cmp, start_bound, end_bound}
-use Rattle.lock_table.proofs.Least.{lesser_none, lesser_assoc}
+use Rattle.lock_table.proofs.Least.{lesser_assoc}
 
 in_db_at : (db n : ℕ) (at : Bound) → range_contains record_cmp (start_bound db) (end_bound db) (record { db = n; at = at }) ≡ (n == db)
 in_db_at zero n (At m) = grind (arith, nat_tests)

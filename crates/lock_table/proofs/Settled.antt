@@ -1,16 +1,16 @@
 -- What requests, grants and releases keep of one record's owners and waits.
-use Rattle.std.proofs.Common.{◌≡◌, ℕ, Bool, true, false, cond, not, ◌&&◌, ◌||◌, List, [], ◌∷◌, ◌++◌, map, Some, None, Option, refl, ap, sym, ◌∙◌, subst, ◌⊎◌, inl, inr, ⊎_elim, arith, rules}
+use Rattle.std.proofs.Common.{◌≡◌, ℕ, Bool, true, false, not, ◌&&◌, ◌||◌, List, [], ◌∷◌, ◌++◌, map, refl, ap, sym, ◌∙◌, ⊎_elim, arith}
 use Rattle.std.specs.List.{list_any, filter, AllByRecursion}
 use Rattle.std.proofs.lemmas.List.Folds.{list_any-append}
-use Rattle.std.proofs.lemmas.Bool.{eqb-true, and_parts, and_from, and_left, and_right, cases_Bool, or_cases, or_parts, or_from, or_left, or_right, both_ways, cond-true, cond-false}
+use Rattle.std.proofs.lemmas.Bool.{eqb-true, and_right, cases_Bool, or_parts, or_from, both_ways, cond-true, cond-false}
 use Rattle.std.proofs.lemmas.Bool.Decides.{nat_tests}
 use Rattle.je_order.specs.declared.txn_id.TxnId.{TxnId}
 use Rattle.lock_mode.specs.declared.lock_type.LockType.{LockType}
 use Rattle.lock_mode.specs.declared.lock_type.LockType.TheVariants.{Read, Write, RangeRead, RangeWrite, RangeInsert}
-use Rattle.lock_mode.specs.Modes.{conflicts_with, upgraded, can_be_held}
+use Rattle.lock_mode.specs.Modes.{conflicts_with, can_be_held}
 use Rattle.lock_mode.proofs.Laws.{laws}
 use Rattle.lock_table.specs.declared.lock.Lock.{Lock}
-use Rattle.lock_table.specs.Locks.{is_same, is_of, has_lock, without, is_blocking, is_blocked, upgraded_by, set_by, with_lock, with_type, waits_still, granted, after_ask, after_cancel, after_release, after_give_back, AreApart, AreOwners, IsSettled}
+use Rattle.lock_table.specs.Locks.{is_same, is_of, has_lock, is_blocking, is_blocked, upgraded_by, with_lock}
 
 pub same_is : (x y : TxnId) → is_same x y ≡ true → x ≡ y
 same_is x y h = ap (λ (n : ℕ). record { 0 = n }) (eqb-true x.0 y.0 h)

@@ -1,16 +1,14 @@
 -- What each call keeps of the whole table.
-use Rattle.std.proofs.Common.{◌≡◌, ℕ, Bool, true, false, cond, not, ◌&&◌, ◌||◌, List, [], ◌∷◌, ◌++◌, Some, None, Option, refl, ap, sym, ◌∙◌, subst, ◌⊎◌, inl, inr, ⊎_elim, arith}
-use Rattle.std.specs.List.{list_any, filter}
-use Rattle.std.proofs.lemmas.List.Folds.{list_any-append}
-use Rattle.std.proofs.lemmas.Bool.{cases_Bool, or_cases, or_parts, or_from, both_ways, cond-true, cond-false, and_from, and_left, and_right, and_cases}
+use Rattle.std.proofs.Common.{◌≡◌, Bool, true, false, cond, not, ◌&&◌, List, [], ◌∷◌, ◌++◌, Some, Option, ap, sym, ◌∙◌, subst, ◌⊎◌, ⊎_elim}
+use Rattle.std.proofs.lemmas.Bool.{cases_Bool, or_parts, both_ways, cond-true, cond-false, and_cases}
 use Rattle.je_order.specs.declared.txn_id.TxnId.{TxnId}
 use Rattle.lock_mode.specs.declared.lock_type.LockType.{LockType}
 use Rattle.lock_table.specs.declared.lock.Lock.{Lock}
 use Rattle.lock_table.specs.declared.record_id.RecordId.{RecordId}
-use Rattle.lock_table.specs.Locks.{is_same, is_of, has_lock, without, held_by, is_blocking, is_blocked, with_lock, with_type, granted, after_ask, after_cancel, after_release, after_give_back, WasHeld, IsSettled}
+use Rattle.lock_table.specs.Locks.{is_same, is_of, has_lock, without, held_by, is_blocked, with_lock, after_ask, after_cancel, after_release, after_give_back, WasHeld, IsSettled}
 use Rattle.lock_table.specs.Records.{is_record}
 use Rattle.lock_table.specs.Table.{IsOut, IsSound}
-use Rattle.lock_table.proofs.Settled.{same_is, same_itself, same_either, filter_all}
+use Rattle.lock_table.proofs.Settled.{same_is, same_itself, same_either}
 use Rattle.lock_table.proofs.Maps.{record_is}
 use Rattle.lock_table.proofs.Keeping.{settled_ask, settled_cancel, settled_release, settled_give_back, out_ask, out_cancel, out_release, out_released, out_give_back, waits_ask, waits_cancel, waits_release, waits_give_back, none_of}
 

@@ -1,19 +1,19 @@
 -- Single steps of the calls.
-use Rattle.std.proofs.Common.{◌≡◌, ℕ, ◌<◌, Bool, true, false, cond, not, ◌&&◌, ◌||◌, List, [], ◌∷◌, ◌++◌, length, map, Some, None, Option, refl, ap, sym, ◌∙◌, subst, ◌⊎◌, inl, inr, ⊎_elim, arith}
-use Rattle.std.specs.List.{list_any, filter}
+use Rattle.std.proofs.Common.{◌≡◌, ◌<◌, Bool, true, false, cond, ◌&&◌, ◌||◌, List, [], ◌∷◌, length, map, Some, None, Option, refl, ap, sym, ◌∙◌, subst, ◌⊎◌, inl, inr, ⊎_elim, arith}
+use Rattle.std.specs.List.{filter}
 use Rattle.std.specs.Option.{is_some, IsSome}
 use Rattle.std.specs.Ordering.{is_eq}
 use Rattle.std.specs.BTreeSet.{BTreeSet, contains}
 use Rattle.std.proofs.lemmas.Cmp.{tied_itself}
-use Rattle.std.proofs.lemmas.Bool.{cases_Bool, or_cases, or_parts, or_from, both_ways, cond-true, cond-false, and_parts, false_from_ne_true}
+use Rattle.std.proofs.lemmas.Bool.{cases_Bool, both_ways, cond-true, cond-false, and_parts, false_from_ne_true}
 use Rattle.je_order.specs.declared.txn_id.TxnId.{TxnId}
 use Rattle.lock_mode.specs.declared.lock_type.LockType.{LockType}
 use Rattle.lock_table.specs.declared.lock.Lock.{Lock}
 use Rattle.lock_table.specs.declared.record_id.RecordId.{RecordId}
 use Rattle.lock_table.specs.contracts.record_id.RecordIdOrd.TheImpl.Laws as order
-use Rattle.lock_table.specs.Locks.{is_same, is_of, has_lock, without, held_by, is_blocking, is_blocked, lesser, least, blocker, with_lock, after_ask, after_cancel, after_release, after_give_back, WasHeld, IsSettled}
+use Rattle.lock_table.specs.Locks.{is_same, has_lock, is_blocking, is_blocked, lesser, least, blocker, after_ask, after_cancel, after_release, IsSettled}
 use Rattle.lock_table.specs.Records.{record_cmp, is_record, queue_at}
-use Rattle.lock_table.specs.Table.{IsOut, IsSound, at_txn, is_listed}
+use Rattle.lock_table.specs.Table.{IsOut}
 use Rattle.lock_table.proofs.Settled.{same_is}
 use Rattle.lock_table.proofs.Maps.{record_is}
 use Rattle.lock_table.proofs.Keeping.{release_nothing, cancel_nothing}

@@ -52,6 +52,11 @@ wait_pairs v = flat_map (λ e. map (λ u. (e.0, u)) (waited_for e.0 (locks_at e.
 abbrev pub holder_of : ℕ → Locks → Option TxnId
 holder_of db v = least (map (λ o. o.txn) (flat_map (λ e. e.1.0) (filter (λ e. e.0.db == db) v.records)))
 
+-- what holds of every lock table: each record's owners never conflict and none of its waits could be granted; and who waits on a record waits there alone
+pub record IsLockTable (v : Locks) : Type 0 where
+  pub settled : (r : RecordId) → IsSettled (locks_at r v)
+  pub alone : (t : TxnId) (r : RecordId) → has_lock t (locks_at r v).1 ≡ true → pending_at t v ≡ Some r
+
 -- nothing changed
 pub record IsSameTable (v w : Locks) : Type 0 where
   pub locks : (r : RecordId) → locks_at r w ≡ locks_at r v

@@ -1,7 +1,7 @@
 // The work on one record's owners and waits, over plain lists.
 ghost use Rattle.std.specs.Prelude.{◌≡◌, ◌+◌, ◌<◌, ◌≤◌, Some, IfOk, map, vec_len, vec_capacity};
 ghost use Rattle.std.specs.List.{filter, find};
-ghost use Rattle.lock_table.specs.Locks.{has_lock, without, held_by, is_blocked, blocker, lesser, with_lock, with_type, upgraded_by, set_by, granted, is_write, writer_in, is_of, is_blocking, waited_for};
+ghost use Rattle.lock_table.specs.Locks.{has_lock, without, held_by, is_blocked, blocker, lesser, with_lock, with_type, upgraded_by, set_by, granted, is_write, writer_in, is_of, is_blocking, waited_for, after_release};
 
 use crate::Lock;
 use je_order::TxnId;
@@ -204,4 +204,16 @@ pub(crate) fn grant_in(owners: &mut Vec<Lock>, waits: &mut Vec<Lock>)
         }
     }
     waits.truncate(kept);
+}
+
+// Takes the transaction's locks and waits out, and grants others. There is room for an owner a wait, so
+// it takes no memory.
+pub(crate) fn release_from(owners: &mut Vec<Lock>, waits: &mut Vec<Lock>, txn: TxnId)
+    requires { vec_len owners.old + vec_len waits.old ≤ vec_capacity owners.old }
+    ensures items { (owners.new.items, waits.new.items) ≡ after_release txn (owners.old.items, waits.old.items) }
+    ensures room { vec_len owners.new + vec_len waits.new ≤ vec_capacity owners.new }
+{
+    remove_from(owners, txn);
+    remove_from(waits, txn);
+    grant_in(owners, waits);
 }

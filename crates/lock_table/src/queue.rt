@@ -106,9 +106,7 @@ impl Queue {
     pub(crate) fn release(&mut self, txn: TxnId)
         ensures { self.new ≡ after_release txn self.old }
     {
-        lists::remove_from(&mut self.owners, txn);
-        lists::remove_from(&mut self.waits, txn);
-        lists::grant_in(&mut self.owners, &mut self.waits);
+        lists::release_from(&mut self.owners, &mut self.waits, txn);
     }
 
     // The transaction's lock is what it was before, and others are granted. It takes no memory.

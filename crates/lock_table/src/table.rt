@@ -6,9 +6,9 @@ ghost use Rattle.je_order.specs.declared.txn_id.TxnId.{TxnId};
 ghost use Rattle.lock_mode.specs.declared.lock_type.LockType.{LockType};
 ghost use Rattle.lock_table.specs.declared.record_id.RecordId.{RecordId};
 ghost use Rattle.lock_table.specs.declared.lock.Lock.{Lock};
-ghost use Rattle.lock_table.specs.Locks.{is_same, held_by, blocker, after_ask, after_cancel, after_release, after_give_back, WasHeld, IsSettled, lock_of, writer_in, waited_for};
+ghost use Rattle.lock_table.specs.Locks.{is_same, held_by, blocker, after_ask, after_cancel, after_release, after_give_back, WasHeld, lock_of, writer_in, waited_for};
 ghost use Rattle.lock_table.specs.Records.{is_record, queue_at};
-ghost use Rattle.lock_table.specs.Table.{locks_at, pending_at, is_waiting, was_granted, owner_in, waits_for, wait_pairs, holder_of, IsSameTable};
+ghost use Rattle.lock_table.specs.Table.{locks_at, pending_at, is_waiting, was_granted, owner_in, waits_for, wait_pairs, holder_of, IsSameTable, IsLockTable};
 
 use crate::calls::{ask_in, cancel_in, give_back_in, release_in};
 use crate::holders::least_in;
@@ -46,6 +46,7 @@ impl LockTable {
     pub fn new(alloc: Global) -> LockTable
         ensures locks { (r : RecordId) → locks_at r result ≡ ([], []) }
         ensures pending { (t : TxnId) → pending_at t result ≡ None }
+        ensures settled { IsLockTable result }
     {
         LockTable {
             queues: BTreeMap::new(alloc),
@@ -68,7 +69,7 @@ impl LockTable {
         ensures answer { IfOk result (λ answer. owner_in answer ≡ blocker (lock_of txn asked) (locks_at at.now self.old).0) }
         ensures locks { OnOk result ((r : RecordId) → locks_at r self.new ≡ (if is_record at.now r then after_ask (lock_of txn asked) (locks_at r self.old) else locks_at r self.old)) }
         ensures pending { IfOk result (λ answer. (t : TxnId) → pending_at t self.new ≡ (if is_same txn t then option_map_or (λ _. Some at.now) (owner_in answer) None else pending_at t self.old)) }
-        ensures settled { (r : RecordId) → IsSettled (locks_at r self.new) }
+        ensures settled { IsLockTable self.new }
         ensures err { OnErr result (IsSameTable self.old self.new) }
     {
         let lock = Lock { txn, mode: asked };
@@ -86,7 +87,7 @@ impl LockTable {
     pub fn cancel(&mut self, txn: TxnId)
         ensures locks { (r : RecordId) → locks_at r self.new ≡ after_cancel txn (locks_at r self.old) }
         ensures pending { (t : TxnId) → pending_at t self.new ≡ (if is_same txn t && is_waiting txn self.old then None else pending_at t self.old) }
-        ensures settled { (r : RecordId) → IsSettled (locks_at r self.new) }
+        ensures settled { IsLockTable self.new }
     {
         cancel_in(&mut self.queues, &mut self.pending, txn);
     }
@@ -98,7 +99,7 @@ impl LockTable {
         requires was { (held : LockType) → held_by txn (locks_at at.now self.old).0 ≡ Some held → WasHeld was held }
         ensures locks { (r : RecordId) → locks_at r self.new ≡ (if is_record at.now r then after_give_back txn was (locks_at r self.old) else locks_at r self.old) }
         ensures pending { (t : TxnId) → pending_at t self.new ≡ pending_at t self.old }
-        ensures settled { (r : RecordId) → IsSettled (locks_at r self.new) }
+        ensures settled { IsLockTable self.new }
     {
         give_back_in(&mut self.queues, &mut self.lists, txn, at, was);
     }
@@ -108,7 +109,7 @@ impl LockTable {
     pub fn release_all(&mut self, txn: TxnId)
         ensures locks { (r : RecordId) → locks_at r self.new ≡ after_release txn (locks_at r self.old) }
         ensures pending { (t : TxnId) → pending_at t self.new ≡ (if is_same txn t then None else pending_at t self.old) }
-        ensures settled { (r : RecordId) → IsSettled (locks_at r self.new) }
+        ensures settled { IsLockTable self.new }
     {
         release_in(&mut self.queues, &mut self.lists, txn);
         let _ = self.pending.remove(&txn);
@@ -122,6 +123,17 @@ impl LockTable {
             return false;
         };
         !lists::is_in(waits_at(&self.queues, at), txn)
+    }
+
+    /// Whether the transaction has a wait that stands.
+    pub fn waits_now(&self, txn: TxnId) -> bool
+        ensures { result ≡ is_waiting txn self.now }
+    {
+        let Some(at) = self.pending.get(&txn) else {
+            return false;
+        };
+        let waits = waits_at(&self.queues, at);
+        lists::is_in(waits, txn)
     }
 
     /// The type that the transaction holds on a record.
@@ -206,4 +218,100 @@ fn pairs_in(
         put_pairs(&mut pairs, *txn, owners.as_slice())?;
     }
     Ok(pairs)
+}
+
+#[cfg(test)]
+mod tests {
+    use super::*;
+    use je_order::{Bound, Name, Octets};
+    use std::test::Fail;
+
+    fn record(alloc: Global, db: u32, key: &[u8]) -> Result<RecordId, AllocError> {
+        let key = Octets::from_slice(alloc, key)?;
+        let name = Name {
+            key,
+            dup: Octets::new(alloc),
+        };
+        Ok(RecordId {
+            db,
+            at: Bound::At(name),
+        })
+    }
+
+    // A reader holds 61, 63 and the end as ranges; a new record 62 waits at 63 until the reader ends.
+    #[test]
+    fn phantom_waits(rt: HostRuntime) -> Result<(), Fail> {
+        let alloc = rt.alloc();
+        let (reader, writer) = (TxnId(4), TxnId(5));
+        let mut table = LockTable::new(alloc);
+        for key in [b"61", b"63"] {
+            let at = record(alloc, 1, key)?;
+            if !table.waits_now(reader) {
+                assert_eq!(rt;
+                    table.ask(alloc, reader, &at, LockType::RangeRead)?,
+                    Asked::Granted
+                );
+            }
+        }
+        let new = record(alloc, 1, b"62")?;
+        if !table.waits_now(writer) {
+            assert_eq!(rt;
+                table.ask(alloc, writer, &new, LockType::Write)?,
+                Asked::Granted
+            );
+        }
+        assert_eq!(rt; table.is_write_locked(&new), Some(writer));
+        let next = record(alloc, 1, b"63")?;
+        if !table.waits_now(writer) {
+            let asked = table.ask(alloc, writer, &next, LockType::RangeInsert)?;
+            assert_eq!(rt; asked, Asked::Blocked { owner: reader });
+        }
+        assert_eq!(rt;
+            table.blockers(alloc, writer)?.as_slice(),
+            [reader].as_slice()
+        );
+        assert_eq!(rt;
+            table.waits(alloc)?.as_slice(),
+            [(writer, reader)].as_slice()
+        );
+        assert!(rt; !table.is_granted(writer) && table.is_locked(&next));
+        assert_eq!(rt; table.holder_in(1), Some(reader));
+        assert_eq!(rt; table.holder_in(0), None);
+        table.release_all(reader);
+        assert!(rt; table.is_granted(writer) && !table.is_locked(&next));
+        assert_eq!(rt; table.held(writer, &next), None);
+        assert_eq!(rt; table.held(writer, &new), Some(LockType::Write));
+        assert_eq!(rt; table.holder_in(1), Some(writer));
+        Ok(())
+    }
+
+    // A lock that was upgraded is given back, and the reader that waited is granted.
+    #[test]
+    fn gives_back_an_upgrade(rt: HostRuntime) -> Result<(), Fail> {
+        let alloc = rt.alloc();
+        let (first, second) = (TxnId(1), TxnId(2));
+        let at = record(alloc, 1, b"61")?;
+        let mut table = LockTable::new(alloc);
+        for asked in [LockType::Read, LockType::Write] {
+            if !table.waits_now(first) {
+                assert_eq!(rt; table.ask(alloc, first, &at, asked)?, Asked::Granted);
+            }
+        }
+        if !table.waits_now(second) {
+            let asked = table.ask(alloc, second, &at, LockType::Read)?;
+            assert_eq!(rt; asked, Asked::Blocked { owner: first });
+        }
+        table.cancel(second);
+        assert!(rt; !table.is_granted(second) && table.waits(alloc)?.is_empty());
+        if !table.waits_now(second) {
+            let asked = table.ask(alloc, second, &at, LockType::Read)?;
+            assert_eq!(rt; asked, Asked::Blocked { owner: first });
+        }
+        if table.held(first, &at) == Some(LockType::Write) {
+            table.give_back(first, &at, Some(LockType::Read));
+        }
+        assert_eq!(rt; table.held(first, &at), Some(LockType::Read));
+        assert!(rt; table.is_granted(second));
+        Ok(())
+    }
 }

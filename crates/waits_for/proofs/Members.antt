@@ -80,3 +80,7 @@ row_real edges y Q [] in_edges q = tt
 row_real edges y Q (e ∷ es) in_edges q =
     let rest = row_real edges y Q es (λ v h. in_edges v (or_right (is_pair v.0 v.1 e) (is_edge es v.0 v.1) h)) q in
     ⊎_elim (λ h. rw h ((in_edges e (or_left (is_pair e.0 e.1 e) (is_edge es e.0 e.1) (edge_itself e)), q e h), rest)) (λ h. rw h rest) (cases_Bool (is_same y e.0))
+
+pub all_kept : {X : Type 0} (P : X → Type 0) (p : X → Bool) (xs : List X) → AllByRecursion P xs → AllByRecursion P (filter p xs)
+all_kept P p [] a = tt
+all_kept P p (x ∷ xs) a = ⊎_elim (λ e. rw e (a.0, all_kept P p xs a.1)) (λ e. rw e (all_kept P p xs a.1)) (cases_Bool (p x))

@@ -1,7 +1,7 @@
 // The waits-for edges.
 ghost use Rattle.std.specs.Prelude.{◌≡◌, ◌<◌, ◌^◌, [], ◌||◌, reverse, IfOk, OnOk, OnErr};
 ghost use Rattle.std.specs.List.{All, filter};
-ghost use Rattle.waits_for.specs.Cycles.{is_edge, is_from, is_pair};
+ghost use Rattle.waits_for.specs.Cycles.{is_edge, is_from, is_pair, edges_without};
 
 use je_order::TxnId;
 use std::alloc::{AllocError, Global};
@@ -54,6 +54,13 @@ impl Edges {
         self.pairs.contains(&(waiter, owner))
     }
 
+    /// Takes out the edges that lead from a waiter. It takes no memory.
+    pub fn remove(&mut self, waiter: TxnId)
+        ensures { self.new ≡ edges_without waiter self.old }
+    {
+        retain_others(&mut self.pairs, waiter);
+    }
+
     /// The edges that lead from a waiter, the greatest owner first.
     pub fn from(&self, alloc: Global, waiter: TxnId) -> Result<Vec<(TxnId, TxnId)>, AllocError>
         ensures { IfOk result (λ found. found.items ≡ reverse (filter (is_from waiter) self.now)) }
@@ -62,6 +69,13 @@ impl Edges {
         found.reverse();
         Ok(found)
     }
+}
+
+// Keeps the pairs of the other waiters.
+fn retain_others(pairs: &mut BTreeSet<(TxnId, TxnId)>, waiter: TxnId)
+    ensures { pairs.new.keys ≡ edges_without waiter pairs.old.keys }
+{
+    pairs.retain(|pair| waiter != pair.0);
 }
 
 // The pairs of one waiter, the least owner first.

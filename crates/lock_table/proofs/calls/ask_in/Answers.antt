@@ -1,4 +1,4 @@
-use Rattle.std.proofs.Common.{refl, ap, sym, ◌∙◌, ◌≡◌, ◌&&◌, [], true, false, None, Some, Option, cond, inl, inr}
+use Rattle.std.proofs.Common.{ap, sym, ◌∙◌}
 use Rattle.std.specs.Option.{is_some}
 use Rattle.lock_table.specs.Locks.{blocker}
 use Rattle.lock_table.specs.Records.{queue_at}

@@ -1,4 +1,4 @@
-use Rattle.std.proofs.Common.{refl, ap, sym, ◌∙◌, ◌≡◌, [], true, false, None, Some, Option, cond, inl, inr}
+use Rattle.std.proofs.Common.{ap, sym, ◌∙◌}
 use Rattle.lock_table.specs.Locks.{has_lock}
 use Rattle.lock_table.specs.Records.{queue_at}
 use Rattle.lock_table.proofs.Steps.{not_pending, not_waiting, cancelled}

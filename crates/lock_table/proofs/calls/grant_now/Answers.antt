@@ -1,4 +1,4 @@
-use Rattle.std.proofs.Common.{refl, ap, sym, ◌∙◌, ◌≡◌, [], true, false, None, Some, Option, cond, inl, inr}
+use Rattle.std.proofs.Common.{None}
 use Rattle.std.proofs.lemmas.Bool.{both_ways}
 use Rattle.lock_table.specs.Records.{queue_at}
 use Rattle.lock_table.specs.Table.{at_txn, is_listed}

@@ -1,4 +1,3 @@
-use Rattle.std.proofs.Common.{refl, ap, sym, ◌∙◌, ◌≡◌, ◌&&◌, [], true, false, None, Some, Option, cond, inl, inr}
 use Rattle.lock_table.proofs.Steps.{release_begins, release_step}
 use Rattle.lock_table.proofs.calls.release_each.Goals as goal
 

@@ -1,4 +1,4 @@
-use Rattle.std.proofs.Common.{refl, ap, sym, ◌∙◌, ◌≡◌, ◌&&◌, [], true, false, None, Some, Option, cond, inl, inr}
+use Rattle.std.proofs.Common.{ap, sym, false}
 use Rattle.std.specs.Option.{option_map_or}
 use Rattle.std.specs.BTreeSet.{contains}
 use Rattle.lock_table.specs.Records.{record_cmp, queue_at}

@@ -1,4 +1,4 @@
-use Rattle.std.proofs.Common.{refl, ap, sym, ◌∙◌, ◌≡◌, [], true, false, None, Some, Option, cond, inl, inr}
+use Rattle.std.proofs.Common.{ap, ◌∙◌, Some}
 use Rattle.lock_table.specs.Records.{queue_at}
 use Rattle.lock_table.specs.Table.{at_txn, is_listed}
 use Rattle.lock_table.proofs.Listing.{changed_here, changed_there}

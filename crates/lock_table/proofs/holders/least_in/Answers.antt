@@ -1,4 +1,4 @@
-use Rattle.std.proofs.Common.{refl, ap, sym, ◌∙◌, ◌≡◌, None, map}
+use Rattle.std.proofs.Common.{ap, sym, ◌∙◌, map}
 use Rattle.lock_table.specs.Locks.{lesser, least}
 use Rattle.lock_table.proofs.Least.{lesser_none}
 use Rattle.lock_table.proofs.Ranges.{in_db, least_owner, least_more}

@@ -1,4 +1,4 @@
-use Rattle.std.proofs.Common.{refl, ap, sym, ◌∙◌, ◌≡◌, []}
+use Rattle.std.proofs.Common.{ap, sym}
 use Rattle.std.specs.Option.{is_some}
 use Rattle.lock_table.proofs.Listing.{list_written}
 use Rattle.lock_table.proofs.listed.unlist_at.Goals as goal

@@ -1,5 +1,4 @@
-use Rattle.std.proofs.Common.{rules, arith, not}
-use Rattle.std.proofs.lemmas.Bool.Decides.{nat_tests}
+use Rattle.std.proofs.Common.{rules, not}
 use Rattle.std.proofs.lemmas.Fn.{filter_same}
 use Rattle.lock_table.specs.Locks.{is_of}
 use Rattle.lock_table.proofs.lists.remove_from.Goals as goal

@@ -1,4 +1,4 @@
-use Rattle.std.proofs.Common.{refl, ap, sym}
+use Rattle.std.proofs.Common.{ap, sym}
 use Rattle.std.specs.Option.{is_some}
 use Rattle.lock_table.specs.Locks.{after_give_back}
 use Rattle.lock_table.proofs.Maps.{queue_written, queue_absent, queue_removed, is_nothing, give_nothing}
