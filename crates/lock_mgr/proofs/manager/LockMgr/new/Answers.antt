@@ -1,0 +1,6 @@
+use Rattle.std.proofs.Common.{refl, ap, sym, ◌∙◌, ◌≡◌, ◌+◌, ◌++◌, ◌∷◌, ◌&&◌, ◌||◌, [], true, false, None, Some, Option, List, cond, inl, inr, subst, drop, take, length, map}
+use Rattle.lock_mgr.proofs.Free.{free_new}
+use Rattle.lock_mgr.proofs.manager.LockMgr.new.Goals as goal
+
+pub invariant_of-result : goal.invariant_of-result
+invariant_of-result c = free_new _ c.new.ensures.settled c.new.ensures.pending

@@ -1,0 +1,9 @@
+use Rattle.std.proofs.Common.{refl, ap, sym, ◌∙◌, ◌≡◌, ◌+◌, ◌++◌, ◌∷◌, ◌&&◌, ◌||◌, [], true, false, None, Some, Option, List, cond, inl, inr, subst, drop, take, length, map}
+use Rattle.lock_mgr.proofs.Free.{free_release}
+use Rattle.lock_mgr.proofs.manager.LockMgr.release_all.Goals as goal
+
+pub invariant_of-self : goal.invariant_of-self
+invariant_of-self c = free_release c.self.inside.table c.release_all.new.self c.args.txn c.self.invariant c.release_all.ensures.settled c.release_all.ensures.locks c.release_all.ensures.pending
+
+pub returns-clause-free : goal.returns-clause-free
+returns-clause-free c = free_release c.self.inside.table c.release_all.new.self c.args.txn c.self.invariant c.release_all.ensures.settled c.release_all.ensures.locks c.release_all.ensures.pending
