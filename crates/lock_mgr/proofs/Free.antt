@@ -2,13 +2,14 @@
 use Rattle.std.proofs.Common.{◌≡◌, ℕ, Bool, true, false, cond, not, ◌&&◌, ◌||◌, List, [], ◌∷◌, ◌++◌, map, Some, None, Option, refl, ap, sym, ◌∙◌, subst, ◌⊎◌, inl, inr, ⊎_elim}
 use Rattle.std.specs.List.{filter, find}
 use Rattle.std.specs.Option.{option_map_or}
-use Rattle.std.proofs.lemmas.Bool.{both_ways, cases_Bool, cond-true, cond-false, or_from, or_parts, false_from_ne_true}
+use Rattle.std.proofs.lemmas.Bool.{both_ways, cases_Bool, cond-true, cond-false, or_from, or_parts, or_cases, or_left, or_right, and_from, and_left, and_parts, false_from_ne_true, false≢true}
+use Rattle.std.proofs.lemmas.List.Folds.{list_any-append}
 use Rattle.je_order.specs.declared.txn_id.TxnId.{TxnId}
 use Rattle.lock_mode.specs.declared.lock_type.LockType.{LockType}
 use Rattle.waits_for.specs.Cycles.{is_in, is_cycle_by}
 use Rattle.lock_table.specs.declared.lock.Lock.{Lock}
 use Rattle.lock_table.specs.declared.record_id.RecordId.{RecordId}
-use Rattle.lock_table.specs.Locks.{is_same, is_of, has_lock, held_by, is_blocking, is_blocked, waited_for, with_lock, after_ask, after_cancel, after_release, after_give_back, WasHeld}
+use Rattle.lock_table.specs.Locks.{is_same, is_of, has_lock, held_by, is_blocking, is_blocked, waited_for, without, with_lock, after_ask, after_cancel, after_release, after_give_back, WasHeld}
 use Rattle.lock_table.specs.Records.{is_record}
 use Rattle.lock_table.specs.Table.{Locks, locks_at, pending_at, is_waiting, waits_for, IsLockTable, IsSameTable}
 use Rattle.lock_table.proofs.Settled.{same_is, same_either, same_itself}
@@ -16,8 +17,8 @@ use Rattle.lock_table.proofs.Maps.{record_is}
 use Rattle.lock_table.proofs.Keeping.{cancel_nothing}
 use Rattle.lock_table.proofs.Sound.{cancel_asked}
 use Rattle.lock_table.proofs.Steps.{record_same}
-use Rattle.lock_mgr.specs.Deadlock.{waits, waits_with, HasNoCycle, NoDeadlock, AreVictims, without_waits}
-use Rattle.lock_mgr.proofs.Rounds.{GrowsFrom, still_none, within_none, within_cycle, none_after, on_cycle, apart_cycle}
+use Rattle.lock_mgr.specs.Deadlock.{waits, waits_with, HasNoCycle, NoDeadlock, AreVictims, others, without_waits}
+use Rattle.lock_mgr.proofs.Rounds.{GrowsFrom, still_none, within_none, within_cycle, none_after, on_cycle, apart_cycle, victim_waits}
 use Rattle.lock_mgr.proofs.Waiting.{Queue, waits_on, wait_parts, found_without, none_without, waits_cancel, waits_release, waits_give_back, waits_taken, waits_parts, waits_from, waits_has, waits_not, waits_none}
 
 pub some_if : {X : Type 0} (n o : Option X) (b : Bool) (r : X) → n ≡ cond b None o → n ≡ Some r → (b ≡ false) × (o ≡ Some r)
@@ -178,3 +179,53 @@ put_undone v w at a p r = ⊎_elim
     (λ h. ap (after_cancel a.txn) (p.locks r ∙ cond-true (is_record at r) (after_ask a (locks_at r v)) (locks_at r v) h) ∙ cancel_asked a (locks_at r v) (p.none r) (subst (λ (x : RecordId). is_blocked (locks_at x v).0 a ≡ true) (record_is at r h) p.blocked))
     (λ h. ap (after_cancel a.txn) (p.locks r ∙ cond-false (is_record at r) (after_ask a (locks_at r v)) (locks_at r v) h) ∙ cancel_nothing a.txn (locks_at r v) (p.none r))
     (cases_Bool (is_record at r))
+
+-- ---- a victim has no wait left, nor one that was granted
+abbrev pub IsGoing : TxnId → List TxnId → Locks → Type 0
+IsGoing t us v = ((is_in t us ≡ true) × (is_waiting t v ≡ true)) ⊎ (pending_at t v ≡ None)
+
+has_without : (t u : TxnId) (ws : List Lock) → is_same u t ≡ false → has_lock t (without u ws) ≡ has_lock t ws
+has_without t u [] n = refl
+has_without t u (w ∷ ws) n = ⊎_elim
+    (λ h. ap (has_lock t) (cond-false (not (is_of u w)) (w ∷ without u ws) (without u ws) (ap not h)) ∙ (has_without t u ws n ∙ sym (ap (λ b. b || has_lock t ws) (subst (λ (x : TxnId). is_same t x ≡ false) (same_is u w.txn h) (same_either t u ∙ n)))))
+    (λ h. ap (has_lock t) (cond-true (not (is_of u w)) (w ∷ without u ws) (without u ws) (ap not h)) ∙ ap (λ b. is_of t w || b) (has_without t u ws n))
+    (cases_Bool (is_of u w))
+
+same_test : (f g : RecordId → Bool) → ((r : RecordId) → f r ≡ g r) → (o : Option RecordId) → option_map_or f o false ≡ option_map_or g o false
+same_test f g h None = refl
+same_test f g h (Some r) = h r
+
+pub going_step : (t u : TxnId) (us : List TxnId) (v w : Locks) → ((r : RecordId) → locks_at r w ≡ after_cancel u (locks_at r v)) → ((x : TxnId) → pending_at x w ≡ cond (is_same u x && is_waiting u v) None (pending_at x v)) → IsGoing t (u ∷ us) v → IsGoing t us w
+going_step t u us v w l p g = ⊎_elim
+    (λ m. ⊎_elim
+    (λ h. let e = same_is u t h in inr (p t ∙ cond-true (is_same u t && is_waiting u v) None (pending_at t v) (and_from (is_same u t) (is_waiting u v) h (subst (λ (x : TxnId). is_waiting x v ≡ true) (sym e) m.1))))
+    (λ h. let q = p t ∙ cond-false (is_same u t && is_waiting u v) None (pending_at t v) (and_left (is_same u t) (is_waiting u v) h) in
+    let i : is_in t us ≡ true = ⊎_elim (λ k. absurd (both_ways (is_same t u) (same_either t u ∙ h) k)) (λ k. k) (or_cases (is_same t u) (is_in t us) m.0) in
+    let d : is_waiting t w ≡ is_waiting t v = ap (λ o. option_map_or (λ r. has_lock t (locks_at r w).1) o false) q ∙ same_test (λ r. has_lock t (locks_at r w).1) (λ r. has_lock t (locks_at r v).1) (λ r. ap (λ (k : Queue). has_lock t k.1) (l r) ∙ has_without t u (locks_at r v).1 h) (pending_at t v) in
+    inl (i, d ∙ m.1))
+    (cases_Bool (is_same u t)))
+    (λ n. inr (p t ∙ stays (is_same u t && is_waiting u v) (pending_at t v) n))
+    g
+  where
+    stays : (b : Bool) (o : Option RecordId) → o ≡ None → cond b None o ≡ None
+    stays true o n = refl
+    stays false o n = n
+
+pub gone_at_last : (t : TxnId) (v : Locks) → IsGoing t [] v → pending_at t v ≡ None
+gone_at_last t v g = ⊎_elim (λ m. absurd (false≢true m.0)) (λ n. n) g
+
+-- who waits for somebody has a wait that stands
+pub stands : (v : Locks) (x y : TxnId) → waits v x y ≡ true → is_waiting x v ≡ true
+stands v x y h = let k = waits_parts v x y h in ap (λ o. option_map_or (λ r. has_lock x (locks_at r v).1) o false) k.pending ∙ waits_has v x y k.at k.pending h
+
+-- each victim waits
+pub victims_stand : (v : Locks) (R : TxnId → TxnId → Bool) → ((x y : TxnId) → R x y ≡ true → waits v x y ≡ true) → (vs : List (TxnId × List TxnId)) → AreVictims R vs → (t : TxnId) → is_in t (map (λ u. u.0) vs) ≡ true → is_waiting t v ≡ true
+victims_stand v R w [] a t m = absurd (false≢true m)
+victims_stand v R w (u ∷ us) a t m = ⊎_elim
+    (λ h. let z = victim_waits R u.0 u.1 a.0 a.1 in subst (λ (x : TxnId). is_waiting x v ≡ true) (sym (same_is t u.0 h)) (stands v u.0 z.0 (w u.0 z.0 z.1)))
+    (λ h. victims_stand v (others u.0 R) (λ x y e. w x y (and_parts (not (is_same u.0 x)) (R x y) e).1) us a.2 t h)
+    (or_cases (is_same t u.0) (is_in t (map (λ k. k.0) us)) m)
+
+pub put_stands : (v w : Locks) (at : RecordId) (a : Lock) → IsPut v w at a → is_waiting a.txn w ≡ true
+put_stands v w at a p = ap (λ o. option_map_or (λ r. has_lock a.txn (locks_at r w).1) o false) (p.pending a.txn ∙ cond-true (is_same a.txn a.txn) (Some at) (pending_at a.txn v) (same_itself a.txn))
+    ∙ (ap (λ (q : Queue). has_lock a.txn q.1) (put_here v w at a p at (record_same at)) ∙ (list_any-append (is_of a.txn) (locks_at at v).1 (a ∷ []) ∙ or_right (has_lock a.txn (locks_at at v).1) (has_lock a.txn (a ∷ [])) (or_left (is_of a.txn a) false (same_itself a.txn))))

@@ -1,5 +1,5 @@
 -- Waiting for oneself by way of others, and the victims that end it.
-use Rattle.std.specs.Prelude.{◌≡◌, ℕ, ◌≤◌, Bool, true, false, not, cond, ◌&&◌, List, [], ◌∷◌, ◌++◌, map}
+use Rattle.std.specs.Prelude.{◌≡◌, ℕ, ◌≤◌, Bool, true, false, not, cond, ◌&&◌, List, [], ◌∷◌, ◌++◌, ◌<◌, length, map}
 use Rattle.std.specs.declared.option.Option.{Option}
 use Rattle.std.specs.declared.option.Option.TheVariants.{None, Some}
 use Rattle.std.specs.List.{list_any, list_all, filter}
@@ -56,6 +56,13 @@ victims_of Granted = None
 victims_of (Waiting owner) = Some []
 victims_of (NotAvailable owner) = None
 victims_of (Victims owner victims) = Some victims
+
+-- victims are told only where there are some
+abbrev pub IsToldRight : Requested → Type 0
+IsToldRight Granted = Unit {0}
+IsToldRight (Waiting owner) = Unit {0}
+IsToldRight (NotAvailable owner) = Unit {0}
+IsToldRight (Victims owner victims) = 0 < length victims
 
 -- those whose waits were taken back
 abbrev pub taken_back : TxnId → Requested → List TxnId

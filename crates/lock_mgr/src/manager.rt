@@ -8,7 +8,7 @@ ghost use Rattle.lock_table.specs.declared.record_id.RecordId.{RecordId};
 ghost use Rattle.lock_table.specs.Locks.{is_same, lock_of, held_by, blocker, is_blocked, writer_in, after_ask, after_cancel, after_release, after_give_back, WasHeld};
 ghost use Rattle.lock_table.specs.Records.{is_record};
 ghost use Rattle.lock_table.specs.Table.{locks_at, pending_at, is_waiting, was_granted, wait_pairs, holder_of, IsLockTable};
-ghost use Rattle.lock_mgr.specs.Deadlock.{waits, waits_with, NoDeadlock, AreVictims, owner_of, victims_of as victims_in, taken_back, without_waits};
+ghost use Rattle.lock_mgr.specs.Deadlock.{waits, waits_with, NoDeadlock, AreVictims, owner_of, victims_of as victims_in, taken_back, without_waits, IsToldRight};
 
 use crate::Requested;
 use crate::victims::{reach, victims_of};
@@ -65,6 +65,8 @@ impl LockMgr {
         ensures victims { IfOk result (λ answer. IfSome (victims_in answer) (AreVictims (waits_with (lock_of txn asked) at.now self.old))) }
         ensures locks { IfOk result (λ answer. (r : RecordId) → locks_at r self.new ≡ without_waits (taken_back txn answer) (if is_record at.now r then after_ask (lock_of txn asked) (locks_at r self.old) else locks_at r self.old)) }
         ensures pending { IfOk result (λ answer. (t : TxnId) → is_in t (taken_back txn answer) ≡ false → pending_at t self.new ≡ (if is_same txn t then option_map_or (λ _. Some at.now) (owner_of answer) None else pending_at t self.old)) }
+        ensures gone { IfOk result (λ answer. (t : TxnId) → is_in t (taken_back txn answer) ≡ true → pending_at t self.new ≡ None) }
+        ensures told { IfOk result IsToldRight }
         ensures err { OnErr result ((r : RecordId) → locks_at r self.new ≡ locks_at r self.old) }
         ensures err_pending { OnErr result ((t : TxnId) → is_same txn t ≡ false → pending_at t self.new ≡ pending_at t self.old) }
         ensures free { NoDeadlock self.new }
@@ -169,6 +171,8 @@ fn request_in(
     ensures victims { IfOk result (λ answer. IfSome (victims_in answer) (AreVictims (waits_with (lock_of txn asked) at.now table.old))) }
     ensures locks { IfOk result (λ answer. (r : RecordId) → locks_at r table.new ≡ without_waits (taken_back txn answer) (if is_record at.now r then after_ask (lock_of txn asked) (locks_at r table.old) else locks_at r table.old)) }
     ensures pending { IfOk result (λ answer. (t : TxnId) → is_in t (taken_back txn answer) ≡ false → pending_at t table.new ≡ (if is_same txn t then option_map_or (λ _. Some at.now) (owner_of answer) None else pending_at t table.old)) }
+    ensures gone { IfOk result (λ answer. (t : TxnId) → is_in t (taken_back txn answer) ≡ true → pending_at t table.new ≡ None) }
+    ensures told { IfOk result IsToldRight }
     ensures err { OnErr result ((r : RecordId) → locks_at r table.new ≡ locks_at r table.old) }
     ensures err_pending { OnErr result ((t : TxnId) → is_same txn t ≡ false → pending_at t table.new ≡ pending_at t table.old) }
     ensures free { NoDeadlock table.new }
@@ -188,12 +192,15 @@ fn blocked_in(
     wait: bool,
 ) -> Result<Requested, AllocError>
     requires sound { IsLockTable table.old }
+    requires waiting { is_waiting txn table.old ≡ true }
     requires through { (list : List TxnId) → is_cycle_by (waits table.old) list ≡ true → is_in txn list ≡ true }
     ensures owner { IfOk result (λ answer. owner_of answer ≡ Some owner) }
     ensures waits { IfOk result (λ answer. is_some (victims_in answer) ≡ wait) }
     ensures victims { IfOk result (λ answer. IfSome (victims_in answer) (AreVictims (waits table.old))) }
     ensures locks { IfOk result (λ answer. (r : RecordId) → locks_at r table.new ≡ without_waits (taken_back txn answer) (locks_at r table.old)) }
     ensures pending { IfOk result (λ answer. (t : TxnId) → is_in t (taken_back txn answer) ≡ false → pending_at t table.new ≡ pending_at t table.old) }
+    ensures gone { IfOk result (λ answer. (t : TxnId) → is_in t (taken_back txn answer) ≡ true → pending_at t table.new ≡ None) }
+    ensures told { IfOk result IsToldRight }
     ensures err { OnErr result ((r : RecordId) → locks_at r table.new ≡ after_cancel txn (locks_at r table.old)) }
     ensures err_pending { OnErr result ((t : TxnId) → is_same txn t ≡ false → pending_at t table.new ≡ pending_at t table.old) }
     ensures free { NoDeadlock table.new }
@@ -220,6 +227,7 @@ fn cancel_each(table: &mut LockTable, victims: &[(TxnId, List<TxnId>)])
     ensures locks { (r : RecordId) → locks_at r table.new ≡ without_waits (map (λ v. v.0) victims.now) (locks_at r table.old) }
     ensures sound { IsLockTable table.new }
     ensures pending { (t : TxnId) → is_in t (map (λ v. v.0) victims.now) ≡ false → pending_at t table.new ≡ pending_at t table.old }
+    ensures gone { (t : TxnId) → is_in t (map (λ v. v.0) victims.now) ≡ true → is_waiting t table.old ≡ true → pending_at t table.new ≡ None }
     ensures kept { (t : TxnId) (r : RecordId) → pending_at t table.new ≡ Some r → pending_at t table.old ≡ Some r }
 {
     for victim in victims {
@@ -245,9 +253,124 @@ fn answer_of(owner: TxnId, victims: List<(TxnId, List<TxnId>)>) -> Requested
     ensures owner { owner_of result ≡ Some owner }
     ensures victims { victims_in result ≡ Some victims }
     ensures taken { (t : TxnId) → taken_back t result ≡ map (λ v. v.0) victims }
+    ensures told { IsToldRight result }
 {
     if victims.is_empty() {
         return Requested::Waiting { owner };
     }
     Requested::Victims { owner, victims }
+}
+
+#[cfg(test)]
+mod tests {
+    use super::*;
+    use je_order::{Bound, Name, Octets};
+    use std::test::Fail;
+
+    fn record(alloc: Global, key: &[u8]) -> Result<RecordId, AllocError> {
+        let key = Octets::from_slice(alloc, key)?;
+        let name = Name {
+            key,
+            dup: Octets::new(alloc),
+        };
+        Ok(RecordId {
+            db: 1,
+            at: Bound::At(name),
+        })
+    }
+
+    // What became of the request, in one number: 0 granted, 1 waiting, 2 not available, 3 victims; 9 is
+    // for a transaction that waits already.
+    fn asked(
+        locks: &mut LockMgr,
+        alloc: Global,
+        txn: u64,
+        at: &RecordId,
+        mode: LockType,
+        wait: bool,
+    ) -> Result<u8, AllocError> {
+        if locks.waits_now(TxnId(txn)) {
+            return Ok(9);
+        }
+        match locks.request(alloc, TxnId(txn), at, mode, wait)? {
+            Requested::Granted => Ok(0),
+            Requested::Waiting { owner: _ } => Ok(1),
+            Requested::NotAvailable { owner: _ } => Ok(2),
+            Requested::Victims {
+                owner: _,
+                victims: _,
+            } => Ok(3),
+        }
+    }
+
+    // Transactions 2 and 3 each write a record and then ask for the other's: 3 is the victim, and 2 gets
+    // its lock once 3 has ended.
+    #[test]
+    fn deadlock_of_two(rt: HostRuntime) -> Result<(), Fail> {
+        let alloc = rt.alloc();
+        let mut locks = LockMgr::new(alloc);
+        let (one, two) = (record(alloc, b"61")?, record(alloc, b"62")?);
+        assert_eq!(rt;
+            asked(&mut locks, alloc, 2, &one, LockType::Write, true)?,
+            0
+        );
+        assert_eq!(rt;
+            asked(&mut locks, alloc, 3, &two, LockType::Write, true)?,
+            0
+        );
+        assert_eq!(rt;
+            asked(&mut locks, alloc, 4, &two, LockType::Read, false)?,
+            2
+        );
+        assert_eq!(rt;
+            asked(&mut locks, alloc, 2, &two, LockType::Write, true)?,
+            1
+        );
+        assert!(rt; !locks.waits_now(TxnId(3)));
+        if locks.waits_now(TxnId(3)) {
+            return Ok(());
+        }
+        let answer = locks.request(alloc, TxnId(3), &one, LockType::Write, true)?;
+        let Requested::Victims { owner, victims } = answer else {
+            return Err("no victim".into());
+        };
+        assert_eq!(rt; owner, TxnId(2));
+        assert_eq!(rt; victims.len(), 1);
+        assert_eq!(rt; victims.as_slice()[0].0, TxnId(3));
+        assert_eq!(rt;
+            victims.as_slice()[0].1.as_slice(),
+            [TxnId(3), TxnId(2)].as_slice()
+        );
+        assert_eq!(rt;
+            locks.waits(alloc)?.as_slice(),
+            [(TxnId(2), TxnId(3))].as_slice()
+        );
+        assert!(rt; !locks.is_granted(TxnId(2)) && !locks.is_granted(TxnId(3)));
+        locks.release_all(TxnId(3));
+        assert!(rt; locks.is_granted(TxnId(2)));
+        assert_eq!(rt; locks.held(TxnId(2), &two), Some(LockType::Write));
+        assert_eq!(rt; locks.holder_in(1), Some(TxnId(2)));
+        assert!(rt; locks.is_locked(&one) && locks.is_write_locked(&one) == Some(TxnId(2)));
+        Ok(())
+    }
+
+    // Two readers of one record that both ask to write it.
+    #[test]
+    fn deadlock_of_two_upgrades(rt: HostRuntime) -> Result<(), Fail> {
+        let alloc = rt.alloc();
+        let mut locks = LockMgr::new(alloc);
+        let at = record(alloc, b"61")?;
+        assert_eq!(rt; asked(&mut locks, alloc, 3, &at, LockType::Read, true)?, 0);
+        assert_eq!(rt; asked(&mut locks, alloc, 4, &at, LockType::Read, true)?, 0);
+        assert_eq!(rt; asked(&mut locks, alloc, 3, &at, LockType::Write, true)?, 1);
+        assert_eq!(rt; asked(&mut locks, alloc, 4, &at, LockType::Write, true)?, 3);
+        assert!(rt; locks.waits_now(TxnId(3)) && !locks.waits_now(TxnId(4)));
+        locks.cancel(TxnId(4));
+        if locks.held(TxnId(4), &at) == Some(LockType::Read) {
+            locks.give_back(TxnId(4), &at, None);
+        }
+        assert!(rt; locks.is_granted(TxnId(3)));
+        assert_eq!(rt; locks.held(TxnId(3), &at), Some(LockType::Write));
+        Ok(())
+    }
 }

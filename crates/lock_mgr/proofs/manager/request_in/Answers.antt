@@ -8,11 +8,17 @@ use Rattle.std.proofs.lemmas.Result.{on_err_weaker}
 use Rattle.lock_mgr.specs.Deadlock.{waits, waits_with, victims_of, AreVictims}
 use Rattle.lock_mgr.proofs.Greatest.{if_ok}
 use Rattle.lock_mgr.proofs.Rounds.{same_victims}
-use Rattle.lock_mgr.proofs.Free.{free_same, free_granted, IsPut, no_wait, put_waits, put_through, put_undone}
+use Rattle.lock_mgr.proofs.Free.{free_same, free_granted, IsPut, no_wait, put_waits, put_through, put_undone, put_stands}
 use Rattle.lock_mgr.proofs.manager.request_in.Goals as goal
 
 pub returns-in_err-ask-clause-free : goal.returns-in_err-ask-clause-free
 returns-in_err-ask-clause-free c = free_same c.args.table.now c.ask.new.self c.requires.free c.in_err-ask.ensures.settled c.in_err-ask.ensures.err
+
+pub blocked_in-requires-clause-waiting : goal.blocked_in-requires-clause-waiting
+blocked_in-requires-clause-waiting c =
+    let b : is_blocked (locks_at c.args.at.now c.args.table.now).0 (lock_of c.args.txn c.args.asked) ≡ true = blocked_some (lock_of c.args.txn c.args.asked) (locks_at c.args.at.now c.args.table.now).0 ∙ sym (ap is_some (rw c.in-Blocked.is at c.in_ok-ask.ensures.answer)) in
+    let p : IsPut c.args.table.now c.ask.new.self c.args.at.now (lock_of c.args.txn c.args.asked) = record { blocked = b; none = no_wait c.args.table.now c.args.txn c.requires.free.sound c.requires.none; locks = c.in_ok-ask.ensures.locks; pending = rw c.in-Blocked.is at c.in_ok-ask.ensures.pending } in
+    put_stands c.args.table.now c.ask.new.self c.args.at.now (lock_of c.args.txn c.args.asked) p
 
 pub blocked_in-requires-clause-through : goal.blocked_in-requires-clause-through
 blocked_in-requires-clause-through c =
