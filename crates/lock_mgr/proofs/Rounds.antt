@@ -1,9 +1,9 @@
 -- Cycles of a relation, and of one that it grows from.
-use Rattle.std.proofs.Common.{◌≡◌, Bool, true, false, not, ◌&&◌, ◌||◌, List, [], ◌∷◌, map, refl, ap, sym, ◌∙◌, ◌⊎◌, inl, inr, ⊎_elim}
-use Rattle.std.proofs.lemmas.Bool.{and_parts, and_from, both_ways, false_from_ne_true, false≢true, or_parts, or_cases, cases_Bool, true_from_ne_false, not-true}
+use Rattle.std.proofs.Common.{◌≡◌, Bool, true, false, not, ◌&&◌, List, [], ◌∷◌, map, ap, sym, ◌∙◌, ◌⊎◌, inl, ⊎_elim}
+use Rattle.std.proofs.lemmas.Bool.{and_parts, and_from, both_ways, false_from_ne_true, false≢true, or_parts, or_cases, true_from_ne_false}
 use Rattle.je_order.specs.declared.txn_id.TxnId.{TxnId}
 use Rattle.waits_for.specs.Cycles.{is_same, is_in, leads_by, is_cycle_by}
-use Rattle.waits_for.proofs.Members.{same_is, same_itself, same_either}
+use Rattle.waits_for.proofs.Members.{same_is, same_either}
 use Rattle.lock_mgr.specs.Deadlock.{HasNoCycle, others, is_greatest, AreVictims}
 use Rattle.lock_mgr.specs.Reach.{IsWithin, IsReach, BreaksAll}
 

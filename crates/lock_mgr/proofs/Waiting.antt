@@ -1,19 +1,20 @@
 -- Who waits for whom, and what each call of the lock table adds to it.
-use Rattle.std.proofs.Common.{◌≡◌, ℕ, Bool, true, false, cond, not, ◌&&◌, ◌||◌, List, [], ◌∷◌, ◌++◌, map, Some, None, Option, refl, ap, sym, ◌∙◌, subst, ◌⊎◌, inl, inr, ⊎_elim}
+use Rattle.std.proofs.Common.{◌≡◌, Bool, true, false, cond, not, ◌&&◌, ◌||◌, List, [], ◌∷◌, ◌++◌, map, Some, None, Option, refl, ap, sym, ◌∙◌, subst, ◌⊎◌, inl, inr, ⊎_elim}
 use Rattle.std.specs.List.{list_any, filter, find, AllByRecursion}
 use Rattle.std.specs.Option.{option_map_or}
 use Rattle.std.proofs.lemmas.List.Folds.{list_any-append}
-use Rattle.std.proofs.lemmas.Bool.{and_parts, and_from, and_left, and_right, both_ways, false_from_ne_true, true_from_ne_false, false≢true, or_parts, or_cases, or_from, or_left, or_right, cases_Bool, cond-true, cond-false, not-true}
+use Rattle.std.proofs.lemmas.Bool.{and_parts, and_from, and_right, both_ways, false_from_ne_true, true_from_ne_false, false≢true, or_parts, or_cases, or_from, or_left, or_right, cases_Bool, cond-true, cond-false}
 use Rattle.je_order.specs.declared.txn_id.TxnId.{TxnId}
 use Rattle.lock_mode.specs.declared.lock_type.LockType.{LockType}
-use Rattle.lock_mode.specs.Modes.{can_be_held, upgraded}
+use Rattle.lock_mode.specs.Modes.{can_be_held, conflicts_with, upgraded}
+use Rattle.lock_mode.proofs.Laws.{laws}
 use Rattle.waits_for.specs.Cycles.{is_same, is_in}
 use Rattle.lock_table.specs.declared.lock.Lock.{Lock}
 use Rattle.lock_table.specs.declared.record_id.RecordId.{RecordId}
-use Rattle.lock_table.specs.Locks.{is_of, has_lock, without, held_by, is_blocking, is_blocked, waited_for, upgraded_by, set_by, with_lock, with_type, waits_still, granted, after_ask, after_cancel, after_release, after_give_back, WasHeld, AreApart}
-use Rattle.lock_table.specs.Table.{Locks, locks_at, pending_at, waits_for, IsLockTable}
-use Rattle.lock_table.proofs.Settled.{same_is, same_itself, same_either, any_filter, none_each, all_map}
-use Rattle.lock_table.proofs.Owners.{apart_filter, upgraded_txn, set_txn, granted_cases, granted_waits, held_each, set_blocks}
+use Rattle.lock_table.specs.Locks.{is_of, has_lock, without, held_by, is_blocking, waited_for, upgraded_by, set_by, with_lock, granted, after_cancel, after_release, after_give_back, WasHeld, AreApart}
+use Rattle.lock_table.specs.Table.{Locks, locks_at, pending_at}
+use Rattle.lock_table.proofs.Settled.{same_is, same_either, any_filter}
+use Rattle.lock_table.proofs.Owners.{apart_filter, upgraded_txn, set_txn, granted_cases, granted_waits, held_each}
 use Rattle.lock_mgr.specs.Deadlock.{waits}
 
 abbrev pub Queue : Type 0
@@ -141,6 +142,20 @@ waits_release x y t q a h = ⊎_elim
     (λ k. let p = wait_parts x y (without t q.0, without t q.1) k in inl (wait_from x y q p.0 (found_without x t q.1 p.0 p.1).1 (kept (any_filter (λ o. is_blocking p.0 o && is_of y o) (λ l. not (is_of t l)) q.0) p.2)))
     (λ g. inr (kept (any_filter (is_of y) (λ l. not (is_of t l)) q.1) g.0, g.1))
     (waits_granted x y (without t q.0) (without t q.1) (apart_filter (λ l. not (is_of t l)) q.1 a) h)
+
+-- a type that an upgrade leads from conflicts with no more
+less_free : (m h x : LockType) → upgraded m h ≡ h → conflicts_with h x ≡ false → conflicts_with m x ≡ false
+less_free m h x u n = (or_parts (conflicts_with m x) (conflicts_with h x) (sym (laws.joins m h x) ∙ (ap (λ k. conflicts_with k x) u ∙ n))).0
+
+anded : (s : Bool) {a b : Bool} → (a ≡ false → b ≡ false) → (s && a) ≡ false → (s && b) ≡ false
+anded true k n = k n
+anded false k n = refl
+
+set_blocks : (t : TxnId) (m h : LockType) (v p : Lock) → upgraded m h ≡ h → (is_of t p ≡ true → p.mode ≡ h) → is_blocking v p ≡ false → is_blocking v (set_by t m p) ≡ false
+set_blocks t m h v p u k n = ⊎_elim
+    (λ i. subst (λ (l : Lock). is_blocking v l ≡ false) (sym (cond-true (is_of t p) _ p i)) (anded (not (is_same v.txn p.txn)) {a = conflicts_with p.mode v.mode} (λ e. less_free m h v.mode u (ap (λ x. conflicts_with x v.mode) (sym (k i)) ∙ e)) n))
+    (λ i. subst (λ (l : Lock). is_blocking v l ≡ false) (sym (cond-false (is_of t p) _ p i)) n)
+    (cases_Bool (is_of t p))
 
 blocks_set : (w : Lock) (y t : TxnId) (m h : LockType) → upgraded m h ≡ h → (os : List Lock) → AllByRecursion (λ o. is_of t o ≡ true → o.mode ≡ h) os → blocks w y (map (set_by t m) os) ≡ true → blocks w y os ≡ true
 blocks_set w y t m h u [] a k = k

@@ -1,8 +1,8 @@
 -- Waiting for oneself by way of others, and the victims that end it.
-use Rattle.std.specs.Prelude.{◌≡◌, ℕ, ◌≤◌, Bool, true, false, not, cond, ◌&&◌, List, [], ◌∷◌, ◌++◌, ◌<◌, length, map}
+use Rattle.std.specs.Prelude.{◌≡◌, Bool, true, false, not, cond, ◌&&◌, List, [], ◌∷◌, ◌<◌, length, map}
 use Rattle.std.specs.declared.option.Option.{Option}
 use Rattle.std.specs.declared.option.Option.TheVariants.{None, Some}
-use Rattle.std.specs.List.{list_any, list_all, filter}
+use Rattle.std.specs.List.{list_all, filter}
 use Rattle.std.specs.Prelude.{nat_le}
 use Rattle.je_order.specs.declared.txn_id.TxnId.{TxnId}
 use Rattle.waits_for.specs.Cycles.{is_same, is_in, is_cycle_by}

@@ -303,6 +303,28 @@ mod tests {
         }
     }
 
+    // Of a request that closes cycles: its owner, how many victims there are, the first, and how long its
+    // cycle is; zeros for any other request.
+    fn closing(
+        locks: &mut LockMgr,
+        alloc: Global,
+        txn: u64,
+        at: &RecordId,
+    ) -> Result<[u64; 4], AllocError> {
+        if locks.waits_now(TxnId(txn)) {
+            return Ok([0; 4]);
+        }
+        match locks.request(alloc, TxnId(txn), at, LockType::Write, true)? {
+            Requested::Victims { owner, victims } => match victims.as_slice() {
+                [(victim, cycle), ..] => {
+                    Ok([owner.0, victims.len() as u64, victim.0, cycle.len() as u64])
+                }
+                [] => Ok([0; 4]),
+            },
+            _ => Ok([0; 4]),
+        }
+    }
+
     // Transactions 2 and 3 each write a record and then ask for the other's: 3 is the victim, and 2 gets
     // its lock once 3 has ended.
     #[test]
@@ -319,42 +341,17 @@ mod tests {
             0
         );
         assert_eq!(rt;
-            asked(&mut locks, alloc, 4, &two, LockType::Read, false)?,
-            2
-        );
-        assert_eq!(rt;
             asked(&mut locks, alloc, 2, &two, LockType::Write, true)?,
             1
         );
-        assert!(rt; !locks.waits_now(TxnId(3)));
-        if locks.waits_now(TxnId(3)) {
-            return Ok(());
-        }
-        let answer = locks.request(alloc, TxnId(3), &one, LockType::Write, true)?;
-        let Requested::Victims { owner, victims } = answer else {
-            return Err("no victim".into());
-        };
-        assert_eq!(rt; owner, TxnId(2));
-        assert_eq!(rt; victims.len(), 1);
-        assert_eq!(rt; victims.as_slice()[0].0, TxnId(3));
-        assert_eq!(rt;
-            victims.as_slice()[0].1.as_slice(),
-            [TxnId(3), TxnId(2)].as_slice()
-        );
-        assert_eq!(rt;
-            locks.waits(alloc)?.as_slice(),
-            [(TxnId(2), TxnId(3))].as_slice()
-        );
-        assert!(rt; !locks.is_granted(TxnId(2)) && !locks.is_granted(TxnId(3)));
+        assert!(rt; closing(&mut locks, alloc, 3, &one)? == [2, 1, 3, 2]);
         locks.release_all(TxnId(3));
-        assert!(rt; locks.is_granted(TxnId(2)));
-        assert_eq!(rt; locks.held(TxnId(2), &two), Some(LockType::Write));
-        assert_eq!(rt; locks.holder_in(1), Some(TxnId(2)));
-        assert!(rt; locks.is_locked(&one) && locks.is_write_locked(&one) == Some(TxnId(2)));
+        assert!(rt; locks.is_granted(TxnId(2)) && !locks.is_granted(TxnId(3)));
         Ok(())
     }
 
-    // Two readers of one record that both ask to write it.
+    // Two readers of one record that both ask to write it: the later one is the victim, and the other is
+    // granted once the victim's read lock is given back.
     #[test]
     fn deadlock_of_two_upgrades(rt: HostRuntime) -> Result<(), Fail> {
         let alloc = rt.alloc();
@@ -364,13 +361,23 @@ mod tests {
         assert_eq!(rt; asked(&mut locks, alloc, 4, &at, LockType::Read, true)?, 0);
         assert_eq!(rt; asked(&mut locks, alloc, 3, &at, LockType::Write, true)?, 1);
         assert_eq!(rt; asked(&mut locks, alloc, 4, &at, LockType::Write, true)?, 3);
-        assert!(rt; locks.waits_now(TxnId(3)) && !locks.waits_now(TxnId(4)));
         locks.cancel(TxnId(4));
         if locks.held(TxnId(4), &at) == Some(LockType::Read) {
             locks.give_back(TxnId(4), &at, None);
         }
-        assert!(rt; locks.is_granted(TxnId(3)));
-        assert_eq!(rt; locks.held(TxnId(3), &at), Some(LockType::Write));
+        assert!(rt; locks.is_granted(TxnId(3)) && locks.waits(alloc)?.is_empty());
+        Ok(())
+    }
+
+    #[test]
+    fn reads_the_locks(rt: HostRuntime) -> Result<(), Fail> {
+        let alloc = rt.alloc();
+        let mut locks = LockMgr::new(alloc);
+        let at = record(alloc, b"61")?;
+        assert_eq!(rt; asked(&mut locks, alloc, 2, &at, LockType::Write, true)?, 0);
+        assert_eq!(rt; asked(&mut locks, alloc, 4, &at, LockType::Read, false)?, 2);
+        assert!(rt; locks.is_locked(&at) && locks.is_write_locked(&at) == Some(TxnId(2)));
+        assert_eq!(rt; locks.holder_in(1), Some(TxnId(2)));
         Ok(())
     }
 }

@@ -169,7 +169,7 @@ anded : (s : Bool) {a b : Bool} → (a ≡ false → b ≡ false) → (s && a) �
 anded true k n = k n
 anded false k n = refl
 
-pub set_blocks : (t : TxnId) (m h : LockType) (v p : Lock) → upgraded m h ≡ h → (is_of t p ≡ true → p.mode ≡ h) → is_blocking v p ≡ false → is_blocking v (set_by t m p) ≡ false
+set_blocks : (t : TxnId) (m h : LockType) (v p : Lock) → upgraded m h ≡ h → (is_of t p ≡ true → p.mode ≡ h) → is_blocking v p ≡ false → is_blocking v (set_by t m p) ≡ false
 set_blocks t m h v p u k n = ⊎_elim
     (λ i. subst (λ (l : Lock). is_blocking v l ≡ false) (sym (cond-true (is_of t p) _ p i)) (anded (not (is_same v.txn p.txn)) {a = conflicts_with p.mode v.mode} (λ e. less_free m h v.mode u (ap (λ x. conflicts_with x v.mode) (sym (k i)) ∙ e)) n))
     (λ i. subst (λ (l : Lock). is_blocking v l ≡ false) (sym (cond-false (is_of t p) _ p i)) n)

@@ -1,4 +1,4 @@
-use Rattle.std.proofs.Common.{refl, ap, sym, ◌∙◌, ◌≡◌, ◌&&◌, [], true, false, None, Some, Option, List, cond, subst, map}
+use Rattle.std.proofs.Common.{◌≡◌, true, map}
 use Rattle.waits_for.specs.Cycles.{is_in}
 use Rattle.lock_mgr.specs.Deadlock.{waits}
 use Rattle.lock_mgr.proofs.Free.{free_taken, free_victims, victims_stand}

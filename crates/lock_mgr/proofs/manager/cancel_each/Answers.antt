@@ -1,6 +1,6 @@
-use Rattle.std.proofs.Common.{refl, ap, sym, ◌∙◌, ◌≡◌, ◌<◌, ◌+◌, ◌≤◌, ◌++◌, ◌∷◌, ◌&&◌, ◌||◌, [], true, false, None, Some, Option, List, cond, inl, inr, subst, drop, take, length, map, get_or, rules, arith, append_assoc, length-append}
+use Rattle.std.proofs.Common.{ap, sym, ◌∙◌, ◌≡◌, ◌+◌, ◌∷◌, subst, drop, map}
 use Rattle.std.proofs.Common.{drop-cons, add-one, suc}
-use Rattle.lock_table.specs.Table.{locks_at, pending_at}
+use Rattle.lock_table.specs.Table.{locks_at}
 use Rattle.lock_table.proofs.Listing.{unless}
 use Rattle.waits_for.specs.Cycles.{is_same}
 use Rattle.lock_mgr.specs.Deadlock.{without_waits}

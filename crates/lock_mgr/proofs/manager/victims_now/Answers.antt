@@ -1,4 +1,3 @@
-use Rattle.std.proofs.Common.{refl, ap, sym, ◌∙◌, ◌≡◌, ◌<◌, ◌+◌, ◌≤◌, ◌++◌, ◌∷◌, ◌&&◌, ◌||◌, [], true, false, None, Some, Option, List, cond, inl, inr, subst, drop, take, length, map, get_or, rules, arith, append_assoc, length-append}
 use Rattle.waits_for.specs.Cycles.{is_edge}
 use Rattle.lock_mgr.specs.Deadlock.{waits}
 use Rattle.lock_mgr.proofs.Greatest.{if_ok}

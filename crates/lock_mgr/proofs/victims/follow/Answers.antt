@@ -1,4 +1,4 @@
-use Rattle.std.proofs.Common.{refl, ap, sym, ◌∙◌, ◌≡◌, ◌<◌, ◌+◌, ◌≤◌, ◌++◌, ◌∷◌, ◌&&◌, ◌||◌, [], true, false, None, Some, Option, List, cond, inl, inr, subst, drop, take, length, map, get_or, rules, arith, append_assoc, length-append}
+use Rattle.std.proofs.Common.{sym, ◌∙◌, arith, length-append}
 use Rattle.lock_mgr.specs.Deadlock.{waits}
 use Rattle.lock_table.specs.Table.{waits_for}
 use Rattle.lock_mgr.proofs.Filling.{known, followed, weight_follows}

@@ -1,4 +1,4 @@
-use Rattle.std.proofs.Common.{refl, ap, sym, ◌∙◌, ◌≡◌, ◌+◌, ◌≤◌, ◌++◌, ◌∷◌, ◌&&◌, ◌||◌, [], true, false, None, Some, Option, List, cond, inl, inr, subst, drop, take, length, map, rules, arith, append_assoc, length-append}
+use Rattle.std.proofs.Common.{◌≡◌, []}
 use Rattle.waits_for.proofs.Ends.{nothing_popped}
 use Rattle.lock_mgr.specs.Deadlock.{waits}
 use Rattle.lock_mgr.specs.Reach.{IsFilling}

@@ -1,5 +1,4 @@
-use Rattle.std.proofs.Common.{refl, ap, sym, ◌∙◌, ◌≡◌, ◌<◌, ◌+◌, ◌≤◌, ◌++◌, ◌∷◌, ◌&&◌, ◌||◌, [], true, false, None, Some, Option, List, cond, inl, inr, subst, drop, take, length, map, get_or, rules, arith, append_assoc, length-append}
-use Rattle.je_order.specs.declared.txn_id.TxnId.{TxnId}
+use Rattle.std.proofs.Common.{◌≡◌, ◌∷◌, [], true, subst, append_assoc}
 use Rattle.waits_for.specs.Cycles.{is_edge, is_cycle_by, edges_without}
 use Rattle.lock_mgr.specs.Deadlock.{is_greatest, others}
 use Rattle.lock_mgr.specs.Reach.{BreaksAll}

@@ -1,4 +1,4 @@
-use Rattle.std.proofs.Common.{refl, ap, sym, ◌∙◌, ◌≡◌, ◌+◌, ◌++◌, ◌∷◌, ◌&&◌, ◌||◌, [], true, false, None, Some, Option, List, cond, inl, inr, subst, drop, take, length, map}
+use Rattle.std.proofs.Common.{sym, ◌≡◌, Some, subst}
 use Rattle.std.specs.Option.{IsSome}
 use Rattle.lock_table.specs.Locks.{held_by}
 use Rattle.lock_table.specs.Table.{locks_at}

@@ -1,4 +1,3 @@
-use Rattle.std.proofs.Common.{refl, ap, sym, ◌∙◌, ◌≡◌, ◌+◌, ◌++◌, ◌∷◌, ◌&&◌, ◌||◌, [], true, false, None, Some, Option, List, cond, inl, inr, subst, drop, take, length, map}
 use Rattle.lock_mgr.proofs.Free.{free_release}
 use Rattle.lock_mgr.proofs.manager.LockMgr.release_all.Goals as goal
 
