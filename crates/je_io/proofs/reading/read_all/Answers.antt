@@ -1,0 +1,9 @@
+use Rattle.std.proofs.Common.{take, ◌++◌}
+use Rattle.je_io.proofs.Flow.{after_err, loses_further}
+use Rattle.je_io.proofs.reading.read_all.Goals as goal
+
+pub returns-in_err-extend_from_slice-clause-lost :
+    goal.returns-in_err-extend_from_slice-clause-lost
+returns-in_err-extend_from_slice-clause-lost g c =
+    let lost = loses_further (g.S.Source.left c.args.input.now) (g.S.Source.left c.loop-piece.input) (g.S.Source.left c.read.new.self) c.loop-piece.bytes.items _ _ c.in_ok-count.count c.loop-piece.invariant.1 c.in_ok-count.ensures.told in
+    after_err c.from_residual-in_err-extend_from_slice.result (c.loop-piece.bytes.items ++ take c.in_ok-count.count c.read.new.into, lost)

@@ -1,0 +1,12 @@
+// A log file's number.
+
+/// A log file's number, from 0. Later files have greater numbers. The greatest number, 0xffffffff,
+/// names no file.
+#[derive(Clone, Copy, Debug, PartialEq, Eq, PartialOrd, Ord, Hash)]
+pub struct FileNo(pub u32);
+
+impl je_order::Exact for FileNo {
+    ghost use Rattle.std.proofs.Common.{rules};
+
+    ghost exact = { Prim.search rules };
+}

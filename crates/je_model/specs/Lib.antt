@@ -1,0 +1,4 @@
+pub mod Store
+pub mod Evaluation
+pub mod Journal
+pub mod Answers

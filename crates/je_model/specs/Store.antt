@@ -1,0 +1,69 @@
+-- A store (Getting Started Guide, "Databases" and "Database Records"), and how it changes.
+use Rattle.std.specs.Prelude.{ℕ, ◌++◌, ◌∷◌, [], List, Option, Bool, not, filter, map, find, sum_by, length, if◌then◌else◌}
+use Rattle.std.specs.Ordering.{is_eq, is_lt, is_gt}
+use Rattle.je_order.specs.Order.{bytes_cmp}
+use Rattle.je_order.specs.declared.name.Name.{Name}
+use Rattle.je_model.specs.declared.store.Store.{Store}
+use Rattle.je_model.specs.declared.store.Database.{Database}
+use Rattle.je_model.specs.declared.store.Kind.{Kind}
+use Rattle.je_model.specs.declared.store.Kind.TheVariants.{Plain}
+use Rattle.je_model.specs.declared.change.Change.{Change}
+use Rattle.je_model.specs.declared.change.Change.TheVariants.{Set, Unset, Make}
+
+-- whether two byte strings are the same
+abbrev pub is_same : List ℕ → List ℕ → Bool
+is_same a b = is_eq (bytes_cmp a b)
+
+-- the store of a new environment
+abbrev pub no_databases : Store
+no_databases = record { databases = [] }
+
+-- the database of that name
+abbrev pub database_of : List ℕ → Store → Option Database
+database_of name store = find (λ d. is_same d.name name) store.databases
+
+-- the record of that key, as a pair of key and data
+abbrev pub pair_at : List ℕ → List (List ℕ × List ℕ) → Option (List ℕ × List ℕ)
+pair_at key pairs = find (λ p. is_same p.0 key) pairs
+
+-- the records with a name set to data: in a plain database each key has one record
+abbrev pub pairs_with : Kind → Name → List ℕ → List (List ℕ × List ℕ) → List (List ℕ × List ℕ)
+pairs_with Plain at value pairs =
+    filter (λ p. is_lt (bytes_cmp p.0 at.key)) pairs ++ (at.key, value) ∷ filter (λ p. is_gt (bytes_cmp p.0 at.key)) pairs
+
+-- the records without a name
+abbrev pub pairs_without : Kind → Name → List (List ℕ × List ℕ) → List (List ℕ × List ℕ)
+pairs_without Plain at pairs = filter (λ p. not (is_same p.0 at.key)) pairs
+
+-- a database with other records
+abbrev pub with_pairs : Database → List (List ℕ × List ℕ) → Database
+with_pairs d pairs = record { name = d.name; kind = d.kind; pairs = pairs }
+
+-- the databases, with the one of that name changed
+abbrev pub in_database : List ℕ → (Database → Database) → List Database → List Database
+in_database name change databases = map (λ d. if is_same d.name name then change d else d) databases
+
+-- the databases and one more, in order of the names
+abbrev pub databases_with : Database → List Database → List Database
+databases_with new databases =
+    filter (λ d. is_lt (bytes_cmp d.name new.name)) databases ++ new ∷ filter (λ d. is_gt (bytes_cmp d.name new.name)) databases
+
+-- the store after a change
+abbrev pub changed : Change → Store → Store
+changed (Set db at value) store = record { databases = in_database db (λ d. with_pairs d (pairs_with d.kind at value d.pairs)) store.databases }
+changed (Unset db at) store = record { databases = in_database db (λ d. with_pairs d (pairs_without d.kind at d.pairs)) store.databases }
+changed (Make db kind) store = record { databases = databases_with (record { name = db; kind = kind; pairs = [] }) store.databases }
+
+-- the store after several changes, in order
+abbrev pub all_changed : List Change → Store → Store
+all_changed [] store = store
+all_changed (change ∷ changes) store = all_changed changes (changed change store)
+
+-- the store after transactions, each the list of its changes, in order
+abbrev pub store_after : Store → List (List Change) → Store
+store_after base [] = base
+store_after base (changes ∷ transactions) = store_after (all_changed changes base) transactions
+
+-- how many records a store has
+abbrev pub record_count : Store → ℕ
+record_count store = sum_by (λ d. length d.pairs) store.databases

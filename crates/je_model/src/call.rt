@@ -1,0 +1,30 @@
+// A call of a session.
+use crate::Kind;
+use je_order::{Octets, Word};
+
+/// A call, as a line of a script gives it. Each is a transaction of its own, which is synced.
+#[derive(Debug, Drop, PartialEq, Eq)]
+pub enum Call {
+    /// Makes a database.
+    Create {
+        db: Word,
+        kind: Kind,
+    },
+    /// Sets a key's data.
+    Put {
+        db: Word,
+        key: Octets,
+        value: Octets,
+    },
+    /// Reads a key's data; `rmw` announces a write of it.
+    Get {
+        db: Word,
+        key: Octets,
+        rmw: bool,
+    },
+    /// Takes a key's record out.
+    Delete {
+        db: Word,
+        key: Octets,
+    },
+}

@@ -1,0 +1,14 @@
+// What a call changes.
+use crate::Kind;
+use je_order::{Name, Octets, Word};
+
+/// One change of a store.
+#[derive(Debug, Drop, PartialEq, Eq)]
+pub enum Change {
+    /// Sets a name of a database to data.
+    Set { db: Word, at: Name, value: Octets },
+    /// Takes a name out of a database.
+    Unset { db: Word, at: Name },
+    /// Makes an empty database.
+    Make { db: Word, kind: Kind },
+}

@@ -1,0 +1,22 @@
+// An event of the journal.
+use crate::{Answer, Call};
+
+/// One event since opening, in the order in which events took place.
+#[derive(Debug, Drop, PartialEq, Eq)]
+pub enum Event {
+    /// A session's call, given by a line of the script (from 1), with its answer.
+    Call {
+        session: u8,
+        line: u32,
+        call: Call,
+        answer: Answer,
+    },
+    /// A sync begins: it covers each commit logged before it.
+    SyncBegin {
+        answer: Answer,
+    },
+    /// The sync ends.
+    SyncEnd {
+        answer: Answer,
+    },
+}

@@ -1,0 +1,240 @@
+-- The end of a run.
+use Rattle.std.proofs.Common.{◌≡◌, ◌≢◌, ℕ, ◌+◌, ◌-◌, ◌^◌, ◌<◌, ◌≤◌, ◌||◌, ◌⊎◌, Bool, true, false, List, [], ◌∷◌, ◌++◌, length, Option, Some, None, refl, ap, sym, ◌∙◌, subst, inl, inr, ⊎_elim, arith}
+use Rattle.std.proofs.lemmas.Bool.{cases_Bool, cases_lt, cond-true, cond-false, true≢false}
+use Rattle.std.specs.List.{list_any}
+use Rattle.je_disk.specs.Causes.{Rose}
+use Rattle.je_disk.specs.States.{State, Files}
+use Rattle.je_model.specs.declared.store.Store.{Store}
+use Rattle.je_model.specs.declared.totals.Totals.{Totals}
+use Rattle.je_model.specs.declared.call.Call.{Call}
+use Rattle.je_model.specs.declared.event.Event.{Event}
+use Rattle.je_model.specs.declared.event.Event.TheVariants.{Call as Called, SyncBegin, SyncEnd}
+use Rattle.je_model.specs.declared.answer.Answer.{Answer}
+use Rattle.je_model.specs.declared.answer.Answer.TheVariants.{Done as DoneAnswer, Logged, Durable, Rec, NotFound, NoDatabase, NameTaken, TooMany, TooLong, LogFull as LogFullAnswer, IdsEnded as IdsEndedAnswer, DiskFault, Invalid}
+use Rattle.je_model.specs.Store.{record_count, store_after}
+use Rattle.je_model.specs.Answers.{LogRule, Standing, after_event, after_events, after_call, after_sync}
+use Rattle.je_model.specs.Journal.{answer_of, is_disk_fault, has_answer, is_logged, settles, acknowledges, AllSettled, AllAcknowledged, EachComesLater, ComesLater, commits_of, lines_of}
+use Rattle.je_model.proofs.Journal.{store-after_events}
+use Rattle.log_replay.specs.Meaning.{Meaning, meaning_of_file}
+use Rattle.log_replay.specs.Rows.{rows_in}
+use Rattle.log_replay.proofs.LogLaws.{kept_means}
+use Rattle.je_program.specs.declared.kept.Kept.{Kept}
+use Rattle.je_program.specs.declared.cause.Cause.{Cause}
+use Rattle.je_program.specs.declared.cause.Cause.TheVariants.{Done, Usage, BadScript, Disk, Log, Memory, Input, InputTooLong, LogFull, IdsEnded}
+use Rattle.je_program.specs.Files.{Means, IsFirstAlone}
+use Rattle.je_program.specs.Environment.{IsAt, IsValid, log_rule}
+use Rattle.je_program.specs.Program.{MeanStore, totals_of, final_store, ClosesBy, ClosesRun, EndsBy, RunsIf, is_before_disk}
+use Rattle.je_program.specs.Run.{IsRunning, IsCaused, StartsAt, cause_of_journal, cause_of_room, cause_of_answer}
+
+-- a valid environment stays valid under an event that is no disk fault
+valid_after : (st : Standing) (event : Event) → st.fault ≡ None → is_disk_fault (answer_of event) ≡ false → (after_event log_rule st event).fault ≡ None
+valid_after st (Called session line call DiskFault) none h = cc
+valid_after st (Called session line call answer) none h = none
+valid_after st (SyncBegin answer) none h = none
+valid_after st (SyncEnd DiskFault) none h = cc
+valid_after st (SyncEnd answer) none h = none
+
+or_false : (a b : Bool) → (a || b) ≡ false → (a ≡ false) × (b ≡ false)
+or_false true b h = cc
+or_false false b h = (refl, h)
+
+-- and under events that are none
+pub valid_afterwards : (st : Standing) (events : List Event) → st.fault ≡ None → has_answer is_disk_fault events ≡ false → (after_events log_rule st events).fault ≡ None
+valid_afterwards st [] none h = none
+valid_afterwards st (event ∷ events) none h =
+    let parts = or_false (is_disk_fault (answer_of event)) (has_answer is_disk_fault events) h in
+    valid_afterwards (after_event log_rule st event) events (valid_after st event none parts.0) parts.1
+
+-- the cause that room gives is no disk fault
+room_is_none : (events : List Event) → cause_of_room events ≢ Disk
+room_is_none [] = λ e. cc
+room_is_none (event ∷ events) = room_step (answer_of event) (cause_of_room events) (room_is_none events) where
+  room_step : (answer : Answer) (later : Cause) → later ≢ Disk → cause_of_answer answer later ≢ Disk
+  room_step LogFullAnswer later h = λ e. cc
+  room_step IdsEndedAnswer later h = λ e. cc
+  room_step answer later h = h
+
+-- a journal ends in a disk fault exactly where it has one
+pub fault_of_cause : (journal : List Event) → cause_of_journal journal ≡ Disk → has_answer is_disk_fault journal ≡ true
+fault_of_cause journal h =
+    ⊎_elim
+      (λ (e : has_answer is_disk_fault journal ≡ true). e)
+      (λ (e : has_answer is_disk_fault journal ≡ false).
+        absurd (room_is_none journal (sym (cond-false (has_answer is_disk_fault journal) Disk (cause_of_room journal) e) ∙ h)))
+      (cases_Bool (has_answer is_disk_fault journal))
+
+pub no_fault_of_cause : (journal : List Event) → cause_of_journal journal ≡ Done → has_answer is_disk_fault journal ≡ false
+no_fault_of_cause journal h =
+    ⊎_elim
+      (λ (e : has_answer is_disk_fault journal ≡ true).
+        absurd (disk_is_not_done (sym (cond-true (has_answer is_disk_fault journal) Disk (cause_of_room journal) e) ∙ h)))
+      (λ (e : has_answer is_disk_fault journal ≡ false). e)
+      (cases_Bool (has_answer is_disk_fault journal)) where
+  disk_is_not_done : Disk ≡ Done → ⊥
+  disk_is_not_done e = cc
+
+-- the totals that are kept are those of the store
+pub totals_are : (tells : Bool) (state : State) (kept : Kept) (st : Standing) → IsAt tells state kept st → kept.totals ≡ totals_of st.store
+totals_are tells state kept st here =
+    let make : ℕ → ℕ → Totals = λ d r. record { databases = d; records = r } in
+    ap (λ d. make d kept.totals.records) here.databases ∙ ap (λ r. make (length st.store.databases) r) here.records
+
+-- the files of a valid environment mean its store
+pub files_mean : (tells : Bool) (state : State) (files : Files) (kept : Kept) (store : Store) → IsValid tells state kept store → tells ≡ true → files ≡ state.reads → MeanStore files store
+files_mean tells state files kept store v told same =
+    let m = kept_means v.bytes (rows_in kept.rows) kept.last_txn kept.last_db v.log in
+    let alone = v.told told in
+    let means : Means state.reads m.0 = record { only = alone.only; first = ap (λ (o : Option (List ℕ)). meaning_of_file o) alone.first ∙ m.1 } in
+    (m.0, subst (λ (f : Files). Means f m.0) (sym same) means, m.2 ∙ v.made)
+
+-- the store that a run leaves is the opening one changed by its commits
+pub final_is : (st : Standing) (opening : Store) (journal : List Event) → st.store ≡ opening → (after_events log_rule st journal).store ≡ final_store opening journal
+final_is st opening journal same =
+    store-after_events log_rule st journal ∙ ap (λ (s : Store). store_after s (commits_of s journal)) same
+
+-- without a disk fault, what settles a commit acknowledges it
+acknowledges_any : (commit : ℕ) (later : List Event) → has_answer is_disk_fault later ≡ false → list_any (settles commit) later ≡ true → list_any (acknowledges commit) later ≡ true
+acknowledges_any commit [] none h = h
+acknowledges_any commit (event ∷ events) none h =
+    let parts = or_false (is_disk_fault (answer_of event)) (has_answer is_disk_fault events) none in
+    acknowledges_or (acknowledges commit event) (is_disk_fault (answer_of event)) (list_any (settles commit) events) (list_any (acknowledges commit) events) parts.0 h
+      (acknowledges_any commit events parts.1) where
+  acknowledges_or : (a f s r : Bool) → f ≡ false → ((a || f) || s) ≡ true → (s ≡ true → r ≡ true) → (a || r) ≡ true
+  acknowledges_or true f s r none h later = refl
+  acknowledges_or false true s r none h later = cc
+  acknowledges_or false false s r none h later = later h
+
+later_acknowledged : (event : Event) (later : List Event) → has_answer is_disk_fault later ≡ false → ComesLater settles event later → ComesLater acknowledges event later
+later_acknowledged (Called session line call (Logged commit)) later none h = acknowledges_any commit later none h
+later_acknowledged event later none h = tt
+
+pub all_acknowledged : (journal : List Event) → has_answer is_disk_fault journal ≡ false → AllSettled journal → AllAcknowledged journal
+all_acknowledged [] none settled = tt
+all_acknowledged (event ∷ events) none settled =
+    let parts = or_false (is_disk_fault (answer_of event)) (has_answer is_disk_fault events) none in
+    (later_acknowledged event events parts.1 settled.0, all_acknowledged events parts.1 settled.1)
+
+-- a count that rose before a later moment, or after an earlier one, rose
+pub rose_later : (before mid after : ℕ) → Rose before mid → mid ≤ after → Rose before after
+rose_later before mid after (inl less) later = inl (omega arith)
+rose_later before mid after (inr full) later = inr full
+
+pub rose_earlier : (before mid after : ℕ) → before ≤ mid → Rose mid after → mid ≤ after → Rose before after
+rose_earlier before mid after earlier (inl less) later = inl (omega arith)
+rose_earlier before mid after earlier (inr full) later = up_to_full before mid after earlier full later where
+  up_to_full : (before mid after : ℕ) → before ≤ mid → mid ≡ 2 ^ 64 - 1 → mid ≤ after → Rose before after
+  up_to_full before mid after earlier full later =
+      ⊎_elim (λ (e : before < mid). inl (omega arith)) (λ (e : mid ≤ before). (let is : before ≡ 2 ^ 64 - 1 = omega arith in inr is)) (cases_lt before mid)
+
+-- closing keeps what is known of faults
+pub closes_run : (before mid after : ℕ) (journal : List Event) (memory_ended : Bool) (old new : Cause) → IsCaused before mid journal → ClosesBy mid after old new → mid ≤ after →
+    (memory_ended ≡ true → old ≡ Memory) → (memory_ended ≡ false → old ≡ cause_of_journal journal) → ClosesRun before after journal new
+closes_run before mid after journal memory_ended old new caused closes later memory ends = record {
+  never_falls = (let first : before ≤ mid = caused.never_falls in omega arith);
+  fault = λ h. rose_later before mid after (caused.fault h) later;
+  failed = λ e. ⊎_elim
+    (λ (same : new ≡ old). rose_later before mid after (caused.fault (fault_of_cause journal (sym (ends (not_memory memory_ended old (sym same ∙ e) memory)) ∙ sym same ∙ e))) later)
+    (λ (c : (new ≡ Disk) × Rose mid after × (old ≢ Memory)). rose_earlier before mid after caused.never_falls c.1 later)
+    closes;
+} where
+  not_memory : (memory_ended : Bool) (old : Cause) → old ≡ Disk → (memory_ended ≡ true → old ≡ Memory) → memory_ended ≡ false
+  not_memory true old is memory = (let e : Disk ≡ Memory = sym is ∙ memory refl in cc)
+  not_memory false old is memory = refl
+
+-- where a run is done, its journal has no disk fault
+pub done_without_fault : (mid after : ℕ) (journal : List Event) (memory_ended : Bool) (old new : Cause) → ClosesBy mid after old new →
+    (memory_ended ≡ true → old ≡ Memory) → (memory_ended ≡ false → old ≡ cause_of_journal journal) → new ≡ Done → has_answer is_disk_fault journal ≡ false
+done_without_fault mid after journal memory_ended old new closes memory ends done =
+    ⊎_elim
+      (λ (same : new ≡ old). no_fault_of_cause journal (sym (ends (not_memory memory_ended old (sym same ∙ done) memory)) ∙ sym same ∙ done))
+      (λ (c : (new ≡ Disk) × Rose mid after × (old ≢ Memory)). absurd (disk_not_done (sym c.0 ∙ done)))
+      closes where
+  not_memory : (memory_ended : Bool) (old : Cause) → old ≡ Done → (memory_ended ≡ true → old ≡ Memory) → memory_ended ≡ false
+  not_memory true old is memory = (let e : Done ≡ Memory = sym is ∙ memory refl in cc)
+  not_memory false old is memory = refl
+  disk_not_done : Disk ≡ Done → ⊥
+  disk_not_done e = cc
+
+-- a run ends so, and not otherwise
+abbrev pub IsRanCause : Cause → Type 0
+IsRanCause Done = Unit {0}
+IsRanCause Disk = Unit {0}
+IsRanCause Memory = Unit {0}
+IsRanCause LogFull = Unit {0}
+IsRanCause IdsEnded = Unit {0}
+IsRanCause cause = ⊥
+
+room_ran : (events : List Event) → IsRanCause (cause_of_room events)
+room_ran [] = tt
+room_ran (event ∷ events) = room_step (answer_of event) (cause_of_room events) (room_ran events) where
+  room_step : (answer : Answer) (later : Cause) → IsRanCause later → IsRanCause (cause_of_answer answer later)
+  room_step LogFullAnswer later h = tt
+  room_step IdsEndedAnswer later h = tt
+  room_step answer later h = h
+
+journal_ran : (journal : List Event) → IsRanCause (cause_of_journal journal)
+journal_ran journal =
+    ⊎_elim
+      (λ (e : has_answer is_disk_fault journal ≡ true).
+        subst (λ (c : Cause). IsRanCause c) (sym (cond-true (has_answer is_disk_fault journal) Disk (cause_of_room journal) e)) tt)
+      (λ (e : has_answer is_disk_fault journal ≡ false).
+        subst (λ (c : Cause). IsRanCause c) (sym (cond-false (has_answer is_disk_fault journal) Disk (cause_of_room journal) e)) (room_ran journal))
+      (cases_Bool (has_answer is_disk_fault journal))
+
+pub ran_cause : (journal : List Event) (memory_ended : Bool) (cause : Cause) → (memory_ended ≡ true → cause ≡ Memory) → (memory_ended ≡ false → EndsBy journal cause) → IsRanCause cause
+ran_cause journal true cause memory ends = subst (λ (c : Cause). IsRanCause c) (sym (memory refl)) tt
+ran_cause journal false cause memory ends =
+    ⊎_elim
+      (λ (e : cause ≡ cause_of_journal journal). subst (λ (c : Cause). IsRanCause c) (sym e) (journal_ran journal))
+      (λ (e : cause ≡ Disk). subst (λ (c : Cause). IsRanCause c) (sym e) tt)
+      (ends refl)
+
+pub runs_if : (cause : Cause) (opened : Bool) → IsRanCause cause → opened ≡ true → RunsIf cause opened
+runs_if Done opened ran is = is
+runs_if Disk opened ran is = tt
+runs_if Memory opened ran is = tt
+runs_if LogFull opened ran is = is
+runs_if IdsEnded opened ran is = is
+runs_if cause opened ran is = absurd ran
+
+pub ran_after_reading : (cause : Cause) → IsRanCause cause → is_before_disk cause ≡ false
+ran_after_reading Done ran = refl
+ran_after_reading Disk ran = refl
+ran_after_reading Memory ran = refl
+ran_after_reading LogFull ran = refl
+ran_after_reading IdsEnded ran = refl
+ran_after_reading cause ran = absurd ran
+
+pub ran_not_log : (cause : Cause) → IsRanCause cause → cause ≡ Log → ⊥
+ran_not_log cause ran is = subst (λ (c : Cause). IsRanCause c) is ran
+
+-- with memory for all lines a run ends by its journal
+pub ends_by : (journal : List Event) (memory_ended : Bool) (cause : Cause) → (memory_ended ≡ true → cause ≡ Memory) → (memory_ended ≡ false → EndsBy journal cause) →
+    cause ≢ Memory → EndsBy journal cause
+ends_by journal true cause memory ends other = absurd (other (memory refl))
+ends_by journal false cause memory ends other = ends refl
+
+-- what is known of faults since a moment is known since an earlier one
+pub caused_earlier : (before mid after : ℕ) (journal : List Event) → before ≤ mid → IsCaused mid after journal → IsCaused before after journal
+caused_earlier before mid after journal earlier caused = record {
+  never_falls = (let later : mid ≤ after = caused.never_falls in omega arith);
+  fault = λ h. rose_earlier before mid after earlier (caused.fault h) caused.never_falls;
+}
+
+-- where a run is done, each commit is acknowledged
+pub done_acknowledged : (journal : List Event) (cause : Cause) → cause ≡ Done → EndsBy journal cause → AllSettled journal → AllAcknowledged journal
+done_acknowledged journal cause done ends settled =
+    ⊎_elim
+      (λ (e : cause ≡ cause_of_journal journal). all_acknowledged journal (no_fault_of_cause journal (sym e ∙ done)) settled)
+      (λ (e : cause ≡ Disk). absurd (disk_not_done (sym e ∙ done)))
+      ends where
+  disk_not_done : Disk ≡ Done → ⊥
+  disk_not_done e = cc
+
+pub done_is_no_memory : (cause : Cause) → cause ≡ Done → cause ≢ Memory
+done_is_no_memory cause done = λ e. done_not_memory (sym done ∙ e) where
+  done_not_memory : Done ≡ Memory → ⊥
+  done_not_memory e = cc
+
+pub done_opened : (cause : Cause) (opened : Bool) → cause ≡ Done → RunsIf cause opened → opened ≡ true
+done_opened cause opened done runs = subst (λ (c : Cause). RunsIf c opened) done runs

@@ -1,0 +1,9 @@
+pub mod PlanLaws
+pub mod StepLaws
+pub mod GoesOnLaws
+pub mod OpeningLaws
+pub mod RunLaws
+pub mod GivenLaws
+pub mod ReadingLaws
+pub mod FinishLaws
+pub mod OutputLaws

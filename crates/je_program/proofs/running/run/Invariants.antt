@@ -1,0 +1,20 @@
+use Rattle.std.proofs.Common.{◌≡◌, length}
+use Rattle.je_disk.specs.Moments.{now}
+use Rattle.je_model.specs.Answers.{Standing}
+use Rattle.je_program.specs.Environment.{IsAt}
+use Rattle.je_program.specs.Run.{IsRunning, IsCaused, HasGiven}
+use Rattle.je_program.specs.Steps.{CanGoOn}
+use Rattle.je_program.proofs.running.run.Given as goal
+
+-- the run goes on from where it began, and has given the lines so far
+abbrev pub invariant-loop-given : goal.invariant-loop-given
+invariant-loop-given g l =
+    let history = g.D.Disk.history in
+    record {
+      runs : (st : Standing) → IsAt g.D.Disk.tells (now (history l.initial.running.environment.disk)) l.initial.running.environment.kept st
+        → IsRunning g.D.Disk.tells (now (history l.running.environment.disk)) l.running.environment.kept l.running.journal.items st;
+      bounds : CanGoOn l.running.environment.kept;
+      sessions : length l.running.stopped ≡ 256;
+      caused : IsCaused (g.D.Disk.faults l.initial.running.environment.disk) (g.D.Disk.faults l.running.environment.disk) l.running.journal.items;
+      given : HasGiven l.running.journal.items l.running.memory_ended l.running.stopped l.yielded;
+    }

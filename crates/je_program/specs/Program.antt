@@ -1,0 +1,126 @@
+-- What the program promises of one run.
+use Rattle.std.specs.Prelude.{ℕ, ◌≡◌, ◌≢◌, ◌≤◌, ◌<◌, ◌+◌, ◌⊎◌, ◌∷◌, [], ◌++◌, List, Option, Some, None, Bool, true, false, Result, Ok, Err, length, codes, decimal, IfSome, if◌then◌else◌}
+use Rattle.je_disk.specs.Causes.{Rose}
+use Rattle.je_disk.specs.States.{Files}
+use Rattle.je_io.specs.Sink.{Gains, GainsPart}
+use Rattle.je_model.specs.declared.store.Store.{Store}
+use Rattle.je_model.specs.declared.event.Event.{Event}
+use Rattle.je_model.specs.declared.plan.RunPlan.{RunPlan}
+use Rattle.je_model.specs.declared.plan.Given.{Given}
+use Rattle.je_model.specs.declared.totals.Totals.{Totals}
+use Rattle.je_model.specs.Store.{store_after, record_count}
+use Rattle.je_model.specs.Answers.{Standing}
+use Rattle.je_model.specs.Journal.{commits_of, lines_of, AllAcknowledged, has_answer, is_disk_fault}
+use Rattle.log_replay.specs.Meaning.{Meaning}
+use Rattle.script_text.specs.Grammar.{plan_of}
+use Rattle.script_text.specs.Report.{report_text}
+use Rattle.je_program.specs.declared.reading.TheConstants.{MOST_INPUT}
+use Rattle.je_program.specs.declared.cause.Cause.{Cause}
+use Rattle.je_program.specs.declared.cause.Cause.TheVariants.{Done, Usage, BadScript, Disk, Log, Memory, Input, InputTooLong, LogFull, IdsEnded}
+use Rattle.je_program.specs.Files.{Means}
+use Rattle.je_program.specs.Run.{cause_of_journal, of_session, IsFront, status_of, unwritten_status_of}
+
+-- the input was a script, and was read to its end
+abbrev pub ReadsPlan : Option (List ℕ) → Option (List ℕ) → RunPlan → Type 0
+ReadsPlan (Some left) (Some rest) plan = (length left ≤ MOST_INPUT) × (plan_of left ≡ Ok plan) × (rest ≡ [])
+ReadsPlan (Some left) None plan = ⊥
+ReadsPlan None (Some rest) plan = ⊥
+ReadsPlan None None plan = Unit {0}
+
+-- why the input was not a plan: the source failed, it has too many bytes, its first bad line, or there was no memory
+abbrev pub StopsReading : Option (List ℕ) → ℕ → ℕ → Cause → Type 0
+StopsReading left before after Input = Rose before after
+StopsReading left before after InputTooLong = IfSome left (λ bytes. MOST_INPUT < length bytes)
+StopsReading left before after (BadScript line) = IfSome left (λ bytes. (length bytes ≤ MOST_INPUT) × (plan_of bytes ≡ Err line))
+StopsReading left before after Memory = Unit {0}
+StopsReading left before after cause = ⊥
+
+-- a cause that is one of reading came by reading; of the others this says nothing
+abbrev pub IsStopped : Option (List ℕ) → ℕ → ℕ → Cause → Type 0
+IsStopped left before after Input = Rose before after
+IsStopped left before after InputTooLong = IfSome left (λ bytes. MOST_INPUT < length bytes)
+IsStopped left before after (BadScript line) = IfSome left (λ bytes. (length bytes ≤ MOST_INPUT) × (plan_of bytes ≡ Err line))
+IsStopped left before after cause = Unit {0}
+
+-- a journal holds the lines of a script that was read: all, in order; or where a call found no memory, of each session the
+-- first of its lines
+pub record IsGivenTo (left rest : Option (List ℕ)) (journal : List Event) (cause : Cause) (plan : RunPlan) : Type 0 where
+  pub reads : ReadsPlan left rest plan
+  pub all : cause ≢ Memory → lines_of journal ≡ plan.lines
+  pub front : (session : ℕ) → IsFront (of_session session (lines_of journal)) (of_session session plan.lines)
+
+-- whether the program ended before it came to its disk
+abbrev pub is_before_disk : Cause → Bool
+is_before_disk Usage = true
+is_before_disk (BadScript line) = true
+is_before_disk Input = true
+is_before_disk InputTooLong = true
+is_before_disk cause = false
+
+-- whether the script was run in any case, and whether it may have been
+abbrev pub RunsIf : Cause → Bool → Type 0
+RunsIf Done opened = opened ≡ true
+RunsIf LogFull opened = opened ≡ true
+RunsIf IdsEnded opened = opened ≡ true
+RunsIf Disk opened = Unit {0}
+RunsIf Memory opened = Unit {0}
+RunsIf cause opened = opened ≡ false
+
+-- a run with memory for all its lines ends as its journal says, or closing met a fault of the disk
+abbrev pub EndsBy : List Event → Cause → Type 0
+EndsBy journal cause = (cause ≡ cause_of_journal journal) ⊎ (cause ≡ Disk)
+
+-- how much a store holds
+abbrev pub totals_of : Store → Totals
+totals_of store = record { databases = length store.databases; records = record_count store }
+
+-- the store that a run leaves
+abbrev pub final_store : Store → List Event → Store
+final_store opening journal = store_after opening (commits_of opening journal)
+
+-- the files mean the store
+abbrev pub MeanStore : Files → Store → Type 0
+MeanStore files store = (meaning : Meaning) × Means files meaning × (meaning.store ≡ store)
+
+-- the line that tells why a program ended, none where all was done
+abbrev pub fault_text : Cause → List ℕ
+fault_text Done = []
+fault_text Usage = codes "fault usage\n"
+fault_text (BadScript line) = codes "fault script line " ++ decimal line ++ codes "\n"
+fault_text Disk = codes "fault disk\n"
+fault_text Log = codes "fault log\n"
+fault_text Memory = codes "fault memory\n"
+fault_text Input = codes "fault input\n"
+fault_text InputTooLong = codes "fault input too long\n"
+fault_text LogFull = codes "fault log full\n"
+fault_text IdsEnded = codes "fault ids ended\n"
+
+-- a fault line, up to the number where it has one
+abbrev pub plain_fault_text : Cause → List ℕ
+plain_fault_text (BadScript line) = codes "fault script line "
+plain_fault_text cause = fault_text cause
+
+-- the report of a run, and none where no script was run
+abbrev pub report_of : Bool → List Event → Totals → List ℕ
+report_of true journal totals = report_text journal totals
+report_of false journal totals = []
+
+-- all that the program writes: the report with the totals of the final store, and the fault line
+abbrev pub output_text : Cause → Bool → Store → List Event → List ℕ
+output_text cause opened opening journal = report_of opened journal (totals_of (final_store opening journal)) ++ fault_text cause
+
+-- the output was written, and the status is the cause's; or the sink failed, which has a part of it
+abbrev pub IsWritten : Option (List ℕ) → Option (List ℕ) → ℕ → ℕ → List ℕ → Cause → ℕ → Type 0
+IsWritten before after faults_before faults_after text cause status =
+    (Gains before after text × (status ≡ status_of cause))
+    ⊎ (GainsPart before after text × Rose faults_before faults_after × (status ≡ unwritten_status_of cause))
+
+-- closing leaves the cause of a run's end as it is, or the disk failed and that is the cause
+abbrev pub ClosesBy : ℕ → ℕ → Cause → Cause → Type 0
+ClosesBy before after old new = (new ≡ old) ⊎ ((new ≡ Disk) × Rose before after × (old ≢ Memory))
+
+-- the disk's count never fell in a run, and it rose where the journal has a disk fault, or a disk fault is the cause of the end
+pub record ClosesRun (before after : ℕ) (journal : List Event) (cause : Cause) : Type 0 where
+  pub never_falls : before ≤ after
+  pub fault : has_answer is_disk_fault journal ≡ true → Rose before after
+  pub failed : cause ≡ Disk → Rose before after

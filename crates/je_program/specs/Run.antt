@@ -1,0 +1,96 @@
+-- A run of a script.
+use Rattle.std.specs.Prelude.{ℕ, ◌≡◌, ◌≢◌, ◌≤◌, ◌∷◌, [], ◌++◌, ◌==◌, ◌&&◌, List, Option, Some, None, Bool, true, false, filter, slice_index_or, if◌then◌else◌, codes}
+use Rattle.std.specs.List.{list_any}
+use Rattle.je_disk.specs.Causes.{Rose}
+use Rattle.je_disk.specs.States.{State, Files}
+use Rattle.je_model.specs.declared.store.Store.{Store}
+use Rattle.je_model.specs.declared.answer.Answer.{Answer}
+use Rattle.je_model.specs.declared.answer.Answer.TheVariants.{LogFull, IdsEnded}
+use Rattle.je_model.specs.declared.event.Event.{Event}
+use Rattle.je_model.specs.declared.plan.Given.{Given}
+use Rattle.je_model.specs.declared.plan.Given.TheVariants.{Session}
+use Rattle.je_model.specs.Answers.{LogRule, Standing, AnswersAsModel, after_events}
+use Rattle.je_model.specs.Journal.{AllSettled, answer_of, is_disk_fault, has_answer, lines_of}
+use Rattle.log_replay.specs.Meaning.{Meaning}
+use Rattle.je_program.specs.declared.kept.Kept.{Kept}
+use Rattle.je_program.specs.declared.cause.Cause.{Cause}
+use Rattle.je_program.specs.declared.cause.Cause.TheVariants.{Done, Usage, BadScript, Disk, Log, Memory, Input, InputTooLong, LogFull as NoRoom, IdsEnded as NoNumbers}
+use Rattle.je_program.specs.Files.{Means, log_length}
+use Rattle.je_program.specs.Environment.{log_rule, IsAt}
+
+-- where the model stands when an environment with these files was opened; a disk that does not tell says nothing of the numbers
+pub record StartsAt (tells : Bool) (files : Files) (opening : Store) (st : Standing) : Type 0 where
+  pub store : st.store ≡ opening
+  pub commits : st.commits ≡ 0
+  pub begun : st.begun ≡ None
+  pub fault : st.fault ≡ None
+  pub means : tells ≡ true → Means files (record { store = opening; last_txn = st.last_txn; last_db = st.last_db })
+  pub len : tells ≡ true → st.log_bytes ≡ log_length (files 0)
+
+-- a run is under way: the environment is where the journal leaves the model, and each answer so far is the model's
+pub record IsRunning (tells : Bool) (state : State) (kept : Kept) (journal : List Event) (st : Standing) : Type 0 where
+  pub here : IsAt tells state kept (after_events log_rule st journal)
+  pub answers : AnswersAsModel log_rule st journal
+  pub settled : AllSettled journal
+
+-- since the disk's count stood at `before` it never fell, and it rose where the journal has a disk fault
+pub record IsCaused (before after : ℕ) (journal : List Event) : Type 0 where
+  pub never_falls : before ≤ after
+  pub fault : has_answer is_disk_fault journal ≡ true → Rose before after
+
+-- a run took place on an environment with these files: each answer is the model's on the opening store, and each commit
+-- is acknowledged later, or followed by a disk fault
+pub record HasRun (tells : Bool) (files : Files) (opening : Store) (journal : List Event) (st : Standing) : Type 0 where
+  pub starts : StartsAt tells files opening st
+  pub answers : AnswersAsModel log_rule st journal
+  pub settled : AllSettled journal
+
+-- the cause that a journal's first answer of LogFull or IdsEnded gives
+abbrev pub cause_of_answer : Answer → Cause → Cause
+cause_of_answer LogFull later = NoRoom
+cause_of_answer IdsEnded later = NoNumbers
+cause_of_answer answer later = later
+
+abbrev pub cause_of_room : List Event → Cause
+cause_of_room [] = Done
+cause_of_room (event ∷ events) = cause_of_answer (answer_of event) (cause_of_room events)
+
+-- how a run with this journal ends, if there was memory for all of it and closing met no fault
+abbrev pub cause_of_journal : List Event → Cause
+cause_of_journal journal = if has_answer is_disk_fault journal then Disk else cause_of_room journal
+
+-- the session that a line is of, and the lines of one session
+abbrev pub is_of_session : ℕ → Given → Bool
+is_of_session session (Session s line call) = s == session
+
+abbrev pub of_session : ℕ → List Given → List Given
+of_session session lines = filter (is_of_session session) lines
+
+-- the first of these lines, up to some
+abbrev pub IsFront : List Given → List Given → Type 0
+IsFront front lines = (rest : List Given) × (lines ≡ front ++ rest)
+
+-- the journal has the lines that were given, and each session's without those behind one that found no memory
+pub record HasGiven (journal : List Event) (memory_ended : Bool) (stopped : List Bool) (lines : List Given) : Type 0 where
+  pub all : memory_ended ≡ false → lines_of journal ≡ lines
+  pub none_stopped : memory_ended ≡ false → (session : ℕ) → slice_index_or stopped session false ≡ false
+  pub each : (session : ℕ) → slice_index_or stopped session false ≡ false → of_session session (lines_of journal) ≡ of_session session lines
+  pub front : (session : ℕ) → IsFront (of_session session (lines_of journal)) (of_session session lines)
+
+-- the process status of each cause
+abbrev pub status_of : Cause → ℕ
+status_of Done = 0
+status_of Usage = 2
+status_of (BadScript line) = 3
+status_of Disk = 4
+status_of Log = 5
+status_of Memory = 6
+status_of Input = 7
+status_of InputTooLong = 11
+status_of NoRoom = 12
+status_of NoNumbers = 12
+
+-- the process status of a cause where the output could not be written
+abbrev pub unwritten_status_of : Cause → ℕ
+unwritten_status_of Memory = 6
+unwritten_status_of cause = 8

@@ -1,0 +1,58 @@
+// Why a program ended as it did.
+ghost use Rattle.std.specs.Prelude.{◌≡◌};
+ghost use Rattle.je_program.specs.Run.{status_of, unwritten_status_of};
+
+/// Why a program ended as it did, before its output was written. Each has a status and a fault line of
+/// its own (docs/ANSWERS.md).
+#[derive(Clone, Copy, Debug, PartialEq, Eq)]
+pub enum Cause {
+    /// All was done: 0, and no fault line.
+    Done,
+    /// The words are no right command line: 2.
+    Usage,
+    /// This line of the script is the first that is outside the grammar: 3.
+    BadScript { line: u32 },
+    /// The disk failed: 4.
+    Disk,
+    /// The files at entry have no meaning: 5.
+    Log,
+    /// Want of memory: 6.
+    Memory,
+    /// The input failed: 7.
+    Input,
+    /// The input has more bytes than an input may have: 11.
+    InputTooLong,
+    /// A call was answered LogFull: 12.
+    LogFull,
+    /// A call was answered IdsEnded: 12.
+    IdsEnded,
+}
+
+impl Cause {
+    /// The status that a process ends with.
+    pub fn status(self) -> u8
+        ensures { result ≡ status_of self }
+    {
+        match self {
+            Cause::Done => 0,
+            Cause::Usage => 2,
+            Cause::BadScript { .. } => 3,
+            Cause::Disk => 4,
+            Cause::Log => 5,
+            Cause::Memory => 6,
+            Cause::Input => 7,
+            Cause::InputTooLong => 11,
+            Cause::LogFull | Cause::IdsEnded => 12,
+        }
+    }
+
+    /// The status that a process ends with whose output could not be written.
+    pub fn unwritten_status(self) -> u8
+        ensures { result ≡ unwritten_status_of self }
+    {
+        match self {
+            Cause::Memory => 6,
+            _ => 8,
+        }
+    }
+}

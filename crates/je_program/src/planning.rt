@@ -1,0 +1,272 @@
+// What a call comes to.
+ghost use Rattle.std.specs.Prelude.{option_copied, ◌≡◌, ◌≤◌, ◌<◌, ◌+◌, ◌^◌, ◌∷◌, length, IsTrue, Some, [], IfOk, option_map};
+ghost use Rattle.je_model.specs.Evaluation.{plain_name as name_of_key, database_named};
+ghost use Rattle.je_model.specs.Answers.{or_refusal, too_long, made_by};
+ghost use Rattle.je_order.specs.Words.{is_word};
+ghost use Rattle.log_replay.specs.Rows.{rows_in, number_in};
+ghost use Rattle.log_replay.specs.Logging.{logged_bytes};
+ghost use Rattle.je_program.specs.Planning.{number_named, logs_with_room, planned_create, planned_put, planned_get, planned_delete, planned_of, records_with};
+
+use crate::kept::{Kept, LOG_LIMIT};
+use db_catalog::DbRecord;
+use je_model::{Answer, Call, Change, KEY_LIMIT, Kind, MOST_DATABASES, Totals, VALUE_LIMIT};
+use je_order::{Name, Octets, Word, copy_of};
+use std::alloc::{AllocError, Global};
+
+/// What a call of a valid environment comes to, before anything is changed.
+#[derive(Debug, Drop)]
+pub enum Planned {
+    /// An answer, and nothing to log.
+    Answered(Answer),
+    /// A change to log, in the database of this number, and the totals after it.
+    Logs {
+        number: u32,
+        change: Change,
+        totals: Totals,
+    },
+}
+
+/// The name of a plain database's record.
+pub fn plain_name(alloc: Global, key: &[u8]) -> Result<Name, AllocError>
+    ensures { IfOk result (λ name. name ≡ name_of_key key.now) }
+{
+    let key = Octets::from_slice(alloc, key)?;
+    Ok(Name {
+        key,
+        dup: Octets::new(alloc),
+    })
+}
+
+// How many bytes of log a transaction with this change takes.
+fn bytes_logged(change: &Change) -> u64
+    requires { logged_bytes (change.now ∷ []) < 2 ^ 32 }
+    ensures { result ≡ logged_bytes (change.now ∷ []) }
+{
+    match change {
+        Change::Set { at, value, .. } => {
+            52 + at.key.len() as u64 + at.dup.len() as u64 + value.len() as u64
+        }
+        Change::Unset { at, .. } => 52 + at.key.len() as u64 + at.dup.len() as u64,
+        Change::Make { db, .. } => 57 + db.len() as u64,
+    }
+}
+
+// The number of a catalog record, 0 where the data is none.
+fn number_or_0(data_bytes: &Octets) -> u32
+    ensures { result ≡ number_in data_bytes.now }
+{
+    match DbRecord::from_bytes(data_bytes.as_slice()) {
+        Some(found) => found.number,
+        None => 0,
+    }
+}
+
+// The number of the database of that name.
+fn number_of(kept: &Kept, alloc: Global, db: &Word) -> Result<Option<u32>, AllocError>
+    ensures word { IsTrue (is_word db.now) }
+    ensures number { IfOk result (λ number. number ≡ number_named (rows_in kept.now.rows) db.now) }
+{
+    let name = plain_name(alloc, db.as_slice())?;
+    match kept.rows.get(0, &name) {
+        Some(found) => Ok(Some(number_or_0(found))),
+        None => Ok(None),
+    }
+}
+
+// A change of a database that is there is logged where there is room for it.
+fn log_with_room(kept: &Kept, number: u32, change: Change, totals: Totals) -> Planned
+    requires small { logged_bytes (change ∷ []) < 2 ^ 32 }
+    requires room { kept.now.log_bytes < 2 ^ 33 }
+    requires none_made { made_by (change ∷ []) ≡ 0 }
+    ensures { result ≡ logs_with_room kept.now number change totals }
+{
+    let _no_number_is_drawn = kept.last_db;
+    if LOG_LIMIT < kept.log_bytes + bytes_logged(&change) {
+        return Planned::Answered(Answer::LogFull);
+    }
+    Planned::Logs {
+        number,
+        change,
+        totals,
+    }
+}
+
+// A database is made where there is room for its record, and then a number for it.
+fn log_creation(kept: &Kept, change: Change, totals: Totals) -> Planned
+    requires small { logged_bytes (change ∷ []) < 2 ^ 32 }
+    requires room { kept.now.log_bytes < 2 ^ 33 }
+    requires one_made { made_by (change ∷ []) ≡ 1 }
+    ensures { result ≡ logs_with_room kept.now (kept.now.last_db + 1) change totals }
+{
+    if LOG_LIMIT < kept.log_bytes + bytes_logged(&change) {
+        return Planned::Answered(Answer::LogFull);
+    }
+    match kept.last_db.checked_add(1) {
+        Some(number) => Planned::Logs {
+            number,
+            change,
+            totals,
+        },
+        None => Planned::Answered(Answer::IdsEnded),
+    }
+}
+
+// The refusal of a key past its limit.
+fn long_key(key: &Octets) -> Option<Answer>
+    ensures { result ≡ too_long KEY_LIMIT key.now }
+{
+    let length = key.len();
+    if KEY_LIMIT < length {
+        Some(Answer::TooLong {
+            length: length as u64,
+        })
+    } else {
+        None
+    }
+}
+
+fn plan_get(
+    kept: &Kept,
+    alloc: Global,
+    number: u32,
+    key: &Octets,
+) -> Result<Planned, AllocError>
+    ensures { IfOk result (λ planned. planned ≡ planned_get kept.now [] key.now (Some number)) }
+{
+    if let Some(refusal) = long_key(key) {
+        return Ok(Planned::Answered(refusal));
+    }
+    let name = plain_name(alloc, key.as_slice())?;
+    match kept.rows.get(number, &name) {
+        None => Ok(Planned::Answered(Answer::NotFound)),
+        Some(value) => {
+            let value = copy_of(value)?;
+            let Name { key, dup: _ } = name;
+            Ok(Planned::Answered(Answer::Rec { key, value }))
+        }
+    }
+}
+
+// The refusal of a key or data past its limit.
+fn long_record(key: &Octets, value: &Octets) -> Option<Answer>
+    ensures { result ≡ or_refusal (too_long KEY_LIMIT key.now) (too_long VALUE_LIMIT value.now) }
+{
+    let length = value.len();
+    match long_key(key) {
+        Some(refusal) => Some(refusal),
+        None if VALUE_LIMIT < length => Some(Answer::TooLong {
+            length: length as u64,
+        }),
+        None => None,
+    }
+}
+
+// How many records there are with one more, unless the name has one already; want of memory where that
+// is no number.
+fn count_with(records: u64, old: Option<&Octets>) -> Result<u64, AllocError>
+    ensures { IfOk result (λ count. count ≡ records_with records (option_copied old.entry)) }
+{
+    match old {
+        Some(_) => Ok(records),
+        None => records.checked_add(1).ok_or(AllocError),
+    }
+}
+
+fn plan_put(
+    kept: &Kept,
+    alloc: Global,
+    number: u32,
+    db: &Word,
+    key: &Octets,
+    value: &Octets,
+) -> Result<Planned, AllocError>
+    requires room { kept.now.log_bytes < 2 ^ 33 }
+    ensures { IfOk result (λ planned. planned ≡ planned_put kept.now db.now key.now value.now (Some number)) }
+{
+    if let Some(refusal) = long_record(key, value) {
+        return Ok(Planned::Answered(refusal));
+    }
+    let at = plain_name(alloc, key.as_slice())?;
+    let records = count_with(kept.totals.records, kept.rows.get(number, &at))?;
+    let change = Change::Set {
+        db: copy_of(db)?,
+        at,
+        value: copy_of(value)?,
+    };
+    let totals = Totals {
+        databases: kept.totals.databases,
+        records,
+    };
+    Ok(log_with_room(kept, number, change, totals))
+}
+
+fn plan_delete(
+    kept: &Kept,
+    alloc: Global,
+    number: u32,
+    db: &Word,
+    key: &Octets,
+) -> Result<Planned, AllocError>
+    requires room { kept.now.log_bytes < 2 ^ 33 }
+    ensures { IfOk result (λ planned. planned ≡ planned_delete kept.now db.now key.now (Some number)) }
+{
+    if let Some(refusal) = long_key(key) {
+        return Ok(Planned::Answered(refusal));
+    }
+    let at = plain_name(alloc, key.as_slice())?;
+    if kept.rows.get(number, &at).is_none() {
+        return Ok(Planned::Answered(Answer::NotFound));
+    }
+    let db = copy_of(db)?;
+    let totals = Totals {
+        databases: kept.totals.databases,
+        records: kept.totals.records.saturating_sub(1),
+    };
+    Ok(log_with_room(kept, number, Change::Unset { db, at }, totals))
+}
+
+fn plan_create(kept: &Kept, alloc: Global, db: &Word, kind: &Kind) -> Result<Planned, AllocError>
+    requires room { kept.now.log_bytes < 2 ^ 33 }
+    ensures { IfOk result (λ planned. planned ≡ planned_create kept.now db.now kind.now None) }
+{
+    if MOST_DATABASES as usize <= kept.rows.count(0) {
+        return Ok(Planned::Answered(Answer::TooMany {
+            count: MOST_DATABASES,
+        }));
+    }
+    let totals = Totals {
+        databases: kept.totals.databases.checked_add(1).ok_or(AllocError)?,
+        records: kept.totals.records,
+    };
+    let change = Change::Make {
+        db: copy_of(db)?,
+        kind: copy_of(kind)?,
+    };
+    Ok(log_creation(kept, change, totals))
+}
+
+/// What a call of a valid environment comes to. The one error is want of memory.
+pub fn plan(kept: &Kept, alloc: Global, call: &Call) -> Result<Planned, AllocError>
+    requires room { kept.now.log_bytes < 2 ^ 33 }
+    ensures word { IsTrue (is_word (database_named call.now)) }
+    ensures planned { IfOk result (λ planned. planned ≡ planned_of kept.now call.now) }
+{
+    match call {
+        Call::Create { db, kind } => match number_of(kept, alloc, db)? {
+            Some(_) => Ok(Planned::Answered(Answer::NameTaken)),
+            None => plan_create(kept, alloc, db, kind),
+        },
+        Call::Put { db, key, value } => match number_of(kept, alloc, db)? {
+            Some(number) => plan_put(kept, alloc, number, db, key, value),
+            None => Ok(Planned::Answered(Answer::NoDatabase)),
+        },
+        Call::Get { db, key, .. } => match number_of(kept, alloc, db)? {
+            Some(number) => plan_get(kept, alloc, number, key),
+            None => Ok(Planned::Answered(Answer::NoDatabase)),
+        },
+        Call::Delete { db, key } => match number_of(kept, alloc, db)? {
+            Some(number) => plan_delete(kept, alloc, number, db, key),
+            None => Ok(Planned::Answered(Answer::NoDatabase)),
+        },
+    }
+}

@@ -1,0 +1,117 @@
+// A run of a script's lines.
+ghost use Rattle.std.specs.Prelude.{◌≡◌, ◌≤◌, ◌<◌, ◌++◌, ◌∷◌, [], ℕ, List, length, false, slice_index_or};
+ghost use Rattle.je_disk.specs.Moments.{now};
+ghost use Rattle.je_model.specs.Answers.{Standing};
+ghost use Rattle.je_model.specs.declared.plan.Given.{Given as Line};
+ghost use Rattle.je_model.specs.declared.plan.Given.TheVariants.{Session};
+ghost use Rattle.je_program.specs.Environment.{IsAt};
+ghost use Rattle.je_program.specs.Run.{IsRunning, IsCaused, HasGiven};
+ghost use Rattle.je_program.specs.Steps.{CanGoOn};
+
+use crate::environment::Environment;
+use crate::giving::give;
+use je_disk::Disk;
+use je_model::{Call, Event, Given};
+use std::alloc::Global;
+
+/// A run under way: its environment, the journal so far, whether a call found no memory, and which
+/// sessions were ended by that, by their numbers.
+pub struct Running<D> {
+    pub environment: Environment<D>,
+    pub journal: Vec<Event>,
+    pub memory_ended: bool,
+    pub stopped: [bool; 256],
+}
+
+// No session was ended yet.
+fn none_stopped() -> [bool; 256]
+    ensures none { (session : ℕ) → slice_index_or result session false ≡ false }
+    ensures len { length result ≡ 256 }
+{
+    [false; 256]
+}
+
+// Gives a line, unless its session was ended. A call that finds no memory ends its session.
+fn give_line<D: Disk>(
+    running: &mut Running<D>,
+    alloc: Global,
+    session: u8,
+    line: u32,
+    call: Call,
+)
+    requires running { (st : Standing) × IsRunning D.tells (now (D.history running.old.environment.disk)) running.old.environment.kept running.old.journal.items st }
+    requires bounds { CanGoOn running.old.environment.kept }
+    requires sessions { length running.old.stopped ≡ 256 }
+    ensures runs { (st : Standing) → IsRunning D.tells (now (D.history running.old.environment.disk)) running.old.environment.kept running.old.journal.items st
+        → IsRunning D.tells (now (D.history running.new.environment.disk)) running.new.environment.kept running.new.journal.items st }
+    ensures bounds { CanGoOn running.new.environment.kept }
+    ensures sessions { length running.new.stopped ≡ 256 }
+    ensures caused { (before : ℕ) → IsCaused before (D.faults running.old.environment.disk) running.old.journal.items
+        → IsCaused before (D.faults running.new.environment.disk) running.new.journal.items }
+    ensures given { (lines : List Line) → HasGiven running.old.journal.items running.old.memory_ended running.old.stopped lines
+        → HasGiven running.new.journal.items running.new.memory_ended running.new.stopped (lines ++ Session session line call ∷ []) }
+{
+    if running.stopped[session as usize] {
+        return;
+    }
+    match give(
+        &mut running.environment,
+        &mut running.journal,
+        alloc,
+        session,
+        line,
+        call,
+    ) {
+        Ok(()) => {}
+        Err(_) => {
+            running.stopped[session as usize] = true;
+            running.memory_ended = true;
+        }
+    }
+}
+
+// Gives the next line.
+fn give_next<D: Disk>(running: &mut Running<D>, alloc: Global, given: Given)
+    requires running { (st : Standing) × IsRunning D.tells (now (D.history running.old.environment.disk)) running.old.environment.kept running.old.journal.items st }
+    requires bounds { CanGoOn running.old.environment.kept }
+    requires sessions { length running.old.stopped ≡ 256 }
+    ensures runs { (st : Standing) → IsRunning D.tells (now (D.history running.old.environment.disk)) running.old.environment.kept running.old.journal.items st
+        → IsRunning D.tells (now (D.history running.new.environment.disk)) running.new.environment.kept running.new.journal.items st }
+    ensures bounds { CanGoOn running.new.environment.kept }
+    ensures sessions { length running.new.stopped ≡ 256 }
+    ensures caused { (before : ℕ) → IsCaused before (D.faults running.old.environment.disk) running.old.journal.items
+        → IsCaused before (D.faults running.new.environment.disk) running.new.journal.items }
+    ensures given { (lines : List Line) → HasGiven running.old.journal.items running.old.memory_ended running.old.stopped lines
+        → HasGiven running.new.journal.items running.new.memory_ended running.new.stopped (lines ++ given ∷ []) }
+{
+    match given {
+        Given::Session {
+            session,
+            line,
+            call,
+        } => give_line(running, alloc, session, line, call),
+    }
+}
+
+/// Gives the lines in order. A call that finds no memory is not in the journal, and ends its session,
+/// which gives no further line; the others go on.
+pub fn run<D: Disk>(alloc: Global, environment: Environment<D>, lines: Vec<Given>) -> Running<D>
+    requires start { (st : Standing) × IsAt D.tells (now (D.history environment.disk)) environment.kept st }
+    requires bounds { CanGoOn environment.kept }
+    ensures runs { (st : Standing) → IsAt D.tells (now (D.history environment.disk)) environment.kept st
+        → IsRunning D.tells (now (D.history result.environment.disk)) result.environment.kept result.journal.items st }
+    ensures caused { IsCaused (D.faults environment.disk) (D.faults result.environment.disk) result.journal.items }
+    ensures given { HasGiven result.journal.items result.memory_ended result.stopped lines.items }
+    ensures bounds { CanGoOn result.environment.kept }
+{
+    let mut running = Running {
+        environment,
+        journal: Vec::new(alloc),
+        memory_ended: false,
+        stopped: none_stopped(),
+    };
+    for given in lines {
+        give_next(&mut running, alloc, given);
+    }
+    running
+}

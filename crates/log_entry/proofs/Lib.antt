@@ -1,0 +1,4 @@
+pub mod BodyLaws
+pub mod ReadingLaws
+pub mod WritingLaws
+pub mod RunLaws

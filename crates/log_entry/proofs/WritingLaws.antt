@@ -1,0 +1,76 @@
+-- An entry put at the end of a vector, a piece at a time.
+use Rattle.std.proofs.Common.{◌≡◌, ℕ, ◌+◌, ◌-◌, ◌≤◌, List, [], ◌++◌, length, take, drop, Result, Ok, Err, refl, sym, ap, subst, ◌∙◌, append_assoc, arith}
+use Rattle.std.specs.Prelude.{OnOk, OnErr}
+use Rattle.std.specs.Int.{w32, to_be_bytes}
+use Rattle.std.proofs.lemmas.List.{take_at, take-take, drop-drop, length-append, length-drop, append-nil}
+use Rattle.std.proofs.lemmas.Slice.{between_to_end}
+use Rattle.std.proofs.Math.ListN.{drop_of_length-le}
+use borrow.Rule.Slice.PartMut.{put_mid, post_of}
+use Rattle.std.proofs.Math.Seq.{drop-append-add}
+use Rattle.je_bytes.specs.Adler.{adler32_of}
+use Rattle.log_entry.specs.declared.entry.Entry.{Entry}
+use Rattle.log_entry.specs.Body.{kind_of, body_of, body_size_of}
+use Rattle.log_entry.specs.Spelling.{head, summed, spelling}
+use Rattle.log_entry.specs.Writing.{KeepsFront}
+use Rattle.log_entry.proofs.BodyLaws.{length-body_of}
+
+pub keeps_front : (old x new : List ℕ) → new ≡ old ++ x → KeepsFront old new
+keeps_front old x new is = ap (take (length old)) is ∙ take_at old x (length old) refl
+
+take_less : (m n : ℕ) (xs : List ℕ) → take m (take (m + n) xs) ≡ take m xs
+take_less m n xs = take-take m (m + n) xs (omega arith)
+
+pub keeps_then : (old x mid new : List ℕ) → mid ≡ old ++ x → KeepsFront mid new → KeepsFront old new
+keeps_then old x mid new is keeps =
+    let len : length mid ≡ length old + length x = ap length is ∙ length-append old x in
+    sym (take_less (length old) (length x) new) ∙ ap (λ (n : ℕ). take (length old) (take n new)) (sym len) ∙ ap (take (length old)) keeps ∙ keeps_front old x mid is
+
+-- the parts of an entry before it is signed
+pub unsigned_ok : {A E : Type 0} (r : Result A E) (old first second new : List ℕ) (e : Entry) (prev k n : ℕ) → first ≡ old ++ to_be_bytes w32 0 → second ≡ first ++ head k prev n → k ≡ kind_of e → n ≡ body_size_of e
+    → OnOk r (new ≡ second ++ body_of e) → OnOk r (new ≡ old ++ (to_be_bytes w32 0 ++ summed e prev))
+unfolding summed
+unsigned_ok (Ok v) old first second new e prev k n a b is_k is_n c =
+    let len : n ≡ length (body_of e) = is_n ∙ sym (length-body_of e) in
+    c ∙ ap (λ (x : List ℕ). x ++ body_of e) (b ∙ ap (λ (x : List ℕ). x ++ head k prev n) a)
+    ∙ append_assoc (old ++ to_be_bytes w32 0) (head k prev n) (body_of e)
+    ∙ append_assoc old (to_be_bytes w32 0) (head k prev n ++ body_of e)
+    ∙ ap (λ (x : ℕ). old ++ (to_be_bytes w32 0 ++ (head x prev n ++ body_of e))) is_k
+    ∙ ap (λ (x : ℕ). old ++ (to_be_bytes w32 0 ++ (head (kind_of e) prev x ++ body_of e))) len
+unsigned_ok (Err v) old first second new e prev k n a b is_k is_n c = tt
+
+pub unsigned_err : {A E : Type 0} (r : Result A E) (old first second new more : List ℕ) → first ≡ old ++ more → (text : List ℕ) → second ≡ first ++ text → OnErr r (KeepsFront second new) → OnErr r (KeepsFront old new)
+unsigned_err (Ok v) old first second new more a text b keeps = tt
+unsigned_err (Err v) old first second new more a text b keeps =
+    keeps_then old more first new a (keeps_then first text second new b keeps)
+
+-- an entry that is signed is spelled
+pub signed : (old mid new : List ℕ) (e : Entry) (prev : ℕ) → mid ≡ old ++ (to_be_bytes w32 0 ++ summed e prev)
+    → new ≡ take (length old) mid ++ (to_be_bytes w32 (adler32_of (drop (length old + 4) mid)) ++ drop (length old + 4) mid)
+    → new ≡ old ++ spelling e prev
+unfolding spelling
+signed old mid new e prev is written =
+    let front : take (length old) mid ≡ old = ap (take (length old)) is ∙ take_at old (to_be_bytes w32 0 ++ summed e prev) (length old) refl in
+    let after : drop (length old + 4) mid ≡ summed e prev = ap (drop (length old + 4)) is ∙ drop-append-add old (to_be_bytes w32 0 ++ summed e prev) 4 in
+    written ∙ ap (λ (x : List ℕ). x ++ (to_be_bytes w32 (adler32_of (drop (length old + 4) mid)) ++ drop (length old + 4) mid)) front
+    ∙ ap (λ (x : List ℕ). old ++ (to_be_bytes w32 (adler32_of x) ++ x)) after
+
+pub signed_from : (old mid new : List ℕ) (start : ℕ) (e : Entry) (prev : ℕ) → start ≡ length old → mid ≡ old ++ (to_be_bytes w32 0 ++ summed e prev)
+    → new ≡ take start mid ++ (to_be_bytes w32 (adler32_of (drop (start + 4) mid)) ++ drop (start + 4) mid) → new ≡ old ++ spelling e prev
+signed_from old mid new start e prev start_is is written =
+    signed old mid new e prev is (subst (λ (k : ℕ). new ≡ take k mid ++ (to_be_bytes w32 (adler32_of (drop (k + 4) mid)) ++ drop (k + 4) mid)) start_is written)
+
+-- a part of the bytes up to their end
+whole_part : (bytes : List ℕ) (start : ℕ) → take (length bytes - start) (drop start bytes) ≡ drop start bytes
+whole_part bytes start = between_to_end bytes start (length bytes) (omega arith)
+
+-- a number written at a place of the bytes
+pub written_at : (bytes part : List ℕ) (start n : ℕ) → start + 4 ≤ length bytes → part ≡ to_be_bytes w32 n ++ drop 4 (take (length bytes - start) (drop start bytes))
+    → n ≡ adler32_of (take (length bytes - (start + 4)) (drop (start + 4) bytes))
+    → put_mid start (length bytes - start) bytes part ≡ take start bytes ++ (to_be_bytes w32 (adler32_of (drop (start + 4) bytes)) ++ drop (start + 4) bytes)
+written_at bytes part start n le part_is n_is =
+    let after : drop 4 (take (length bytes - start) (drop start bytes)) ≡ drop (start + 4) bytes = ap (drop 4) (whole_part bytes start) ∙ drop-drop 4 start bytes in
+    let past : post_of start (length bytes - start) bytes ≡ [] = drop_of_length-le (drop start bytes) (omega (arith, length-drop start bytes)) in
+    let sum : n ≡ adler32_of (drop (start + 4) bytes) = n_is ∙ ap adler32_of (whole_part bytes (start + 4)) in
+    let text : part ≡ to_be_bytes w32 (adler32_of (drop (start + 4) bytes)) ++ drop (start + 4) bytes =
+    part_is ∙ ap (λ (x : List ℕ). to_be_bytes w32 n ++ x) after ∙ ap (λ (k : ℕ). to_be_bytes w32 k ++ drop (start + 4) bytes) sum in
+    ap (λ (x : List ℕ). take start bytes ++ (part ++ x)) past ∙ ap (λ (x : List ℕ). take start bytes ++ x) (append-nil part ∙ text)

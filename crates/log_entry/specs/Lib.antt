@@ -1,0 +1,5 @@
+pub mod Body
+pub mod Spelling
+pub mod Writing
+pub mod Reading
+pub mod Run

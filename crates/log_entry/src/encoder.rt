@@ -1,0 +1,83 @@
+// Entries as they are written.
+ghost use Rattle.std.specs.Prelude.{◌≡◌, ◌≤◌, ◌+◌, ◌++◌, ℕ, length, take, drop, IfOk, OnOk, OnErr};
+ghost use Rattle.std.specs.Int.{w32, to_be_bytes};
+ghost use Rattle.je_bytes.specs.Adler.{adler32_of};
+ghost use Rattle.log_entry.specs.Body.{IsEntry};
+ghost use Rattle.log_entry.specs.Spelling.{spelling, head, summed, size_of};
+ghost use Rattle.log_entry.specs.Writing.{KeepsFront};
+
+use crate::Entry;
+use crate::body_writer::{body_size, kind, put_body};
+use byteorder::{BigEndian, ByteOrder};
+use je_bytes::{adler32, put_u32};
+use std::alloc::{AllocError, Global};
+
+/// How many bytes the entry's spelling has, whatever its prev field.
+pub fn size(entry: &Entry) -> u32
+    requires { IsEntry entry.now }
+    ensures value { result ≡ size_of entry.now }
+    ensures spelled { (prev : ℕ) → length (spelling entry.now prev) ≡ result }
+{
+    14 + body_size(entry)
+}
+
+// Puts at the end what stands between the checksum and the body.
+fn put_head(out: &mut Vec<u8>, kind: u8, prev: u32, len: u32) -> Result<(), AllocError>
+    ensures ok { OnOk result (out.new.items ≡ out.old.items ++ head kind prev len) }
+    ensures err { OnErr result (KeepsFront out.old.items out.new.items) }
+{
+    out.push(kind)?;
+    out.push(0)?;
+    put_u32(out, prev)?;
+    put_u32(out, len)
+}
+
+// Puts the entry at the end with 0 for its checksum.
+fn put_unsigned(out: &mut Vec<u8>, entry: &Entry, prev: u32) -> Result<(), AllocError>
+    requires { IsEntry entry.now }
+    ensures ok { OnOk result (out.new.items ≡ out.old.items ++ (to_be_bytes w32 0 ++ summed entry.now prev)) }
+    ensures err { OnErr result (KeepsFront out.old.items out.new.items) }
+{
+    put_u32(out, 0)?;
+    put_head(out, kind(entry), prev, body_size(entry))?;
+    put_body(out, entry)
+}
+
+// Writes the checksum of what follows the 4 bytes from an offset on into these.
+fn sign(bytes: &mut [u8], start: usize)
+    requires { start + 4 ≤ length bytes.old }
+    ensures { bytes.new ≡ take start bytes.old ++ (to_be_bytes w32 (adler32_of (drop (start + 4) bytes.old)) ++ drop (start + 4) bytes.old) }
+{
+    let sum = adler32(&bytes[start + 4..]);
+    BigEndian::write_u32(&mut bytes[start..], sum);
+}
+
+/// Puts the entry's spelling at the end, in the time of the entry alone. Want of memory changes nothing.
+pub fn encode_onto(entry: &Entry, prev: u32, onto: &mut Vec<u8>) -> Result<(), AllocError>
+    requires { IsEntry entry.now }
+    ensures ok { OnOk result (onto.new.items ≡ onto.old.items ++ spelling entry.now prev) }
+    ensures err { OnErr result (onto.new.items ≡ onto.old.items) }
+{
+    let start = onto.len();
+    onto.reserve(size(entry) as usize)?;
+    match put_unsigned(onto, entry, prev) {
+        Ok(()) => {
+            sign(onto.as_mut_slice(), start);
+            Ok(())
+        }
+        Err(error) => {
+            onto.truncate(start);
+            Err(error)
+        }
+    }
+}
+
+/// The entry's spelling. The one error is want of memory.
+pub fn encode(alloc: Global, entry: &Entry, prev: u32) -> Result<Vec<u8>, AllocError>
+    requires { IsEntry entry.now }
+    ensures { IfOk result (λ bytes. bytes.items ≡ spelling entry.now prev) }
+{
+    let mut bytes = Vec::new(alloc);
+    encode_onto(entry, prev, &mut bytes)?;
+    Ok(bytes)
+}

@@ -1,0 +1,12 @@
+pub mod Entries
+pub mod Waiting
+pub mod ListLaws
+pub mod RowLaws
+pub mod StoreLaws
+pub mod TotalLaws
+pub mod LogLaws
+pub mod LoggedLaws
+pub mod Distinct
+pub mod Opening
+pub mod Changes
+pub mod UnderWay

@@ -1,0 +1,15 @@
+use Rattle.std.proofs.Common.{◌∙◌, ap, List, Some}
+use Rattle.log_replay.specs.Rows.{Row, rows_with}
+use Rattle.log_replay.proofs.Entries.{insert_is_set, rising_from_keys}
+use Rattle.log_replay.proofs.table.Table.set.Goals as goal
+
+pub returns-clause-ok : goal.returns-clause-ok
+returns-clause-ok c =
+    c.in_ok-insert.ensures.entries ∙ insert_is_set c.args.name c.args.value _ c.self.invariant
+    ∙ ap (λ (rows : List Row). rows_with c.args.name (Some c.args.value) rows) c.self.view_is
+
+pub invariant_of-self-2 : goal.invariant_of-self-2
+invariant_of-self-2 c = rising_from_keys _ c.insert.ensures.ordered
+
+pub returns-clause-rising : goal.returns-clause-rising
+returns-clause-rising c = rising_from_keys _ c.insert.ensures.ordered

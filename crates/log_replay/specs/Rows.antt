@@ -1,0 +1,110 @@
+-- The records of an environment, by the number of their database, and the store that they make. Database 0 is the
+-- catalog: its records are the other databases' names and numbers.
+use Rattle.std.specs.Prelude.{ℕ, ◌++◌, ◌∷◌, [], ◌==◌, ◌&&◌, nat_le, List, Option, None, Some, Bool, true, not, filter, map, find, unwrap_or, option_map, length, if◌then◌else◌}
+use Rattle.std.specs.List.{list_all, list_any}
+use Rattle.std.specs.Ordering.{is_eq, is_lt, is_gt, on}
+use Rattle.std.specs.List.Sorted.{IsStrictlySortedBy}
+use Rattle.std.specs.Map.{lookup}
+use Rattle.je_order.specs.Order.{name_cmp}
+use Rattle.je_order.specs.Words.{is_word}
+use Rattle.je_order.specs.declared.name.Name.{Name}
+use Rattle.je_model.specs.declared.store.TheConstants.{MOST_DATABASES}
+use Rattle.je_model.specs.declared.store.Store.{Store}
+use Rattle.je_model.specs.declared.store.Database.{Database}
+use Rattle.je_model.specs.declared.store.Kind.TheVariants.{Plain}
+use Rattle.db_catalog.specs.declared.db_record.DbRecord.{DbRecord}
+use Rattle.db_catalog.specs.Catalog.{record_in}
+
+-- a record: its name and its data
+abbrev pub Row : Type 0
+Row = Name × List ℕ
+
+-- the records of each database, in name order
+abbrev pub Rows : Type 0
+Rows = ℕ → List Row
+
+-- what a collection of databases' records has under a number; nothing where it has no such database
+abbrev pub rows_in : List (ℕ × List Row) → Rows
+rows_in kept db = unwrap_or (lookup (λ n. n == db) kept) []
+
+-- no records at all
+abbrev pub no_rows : Rows
+no_rows db = []
+
+-- the records of one database with a name set to data, or without it where there is no data
+abbrev pub rows_with : Name → Option (List ℕ) → List Row → List Row
+rows_with name (Some value) rows =
+    filter (λ r. is_lt (name_cmp r.0 name)) rows ++ (name, value) ∷ filter (λ r. is_gt (name_cmp r.0 name)) rows
+rows_with name None rows = filter (λ r. not (is_eq (name_cmp r.0 name))) rows
+
+-- a change of a record, by a transaction: the data that its name is set to, or None where it is taken out
+pub record RowChange : Type 0 where
+  pub txn : ℕ
+  pub db : ℕ
+  pub name : Name
+  pub value : Option (List ℕ)
+
+-- the records after a change
+abbrev pub row_changed : RowChange → Rows → Rows
+row_changed change rows db = if db == change.db then rows_with change.name change.value (rows db) else rows db
+
+-- the records after several changes, in order
+abbrev pub rows_changed : List RowChange → Rows → Rows
+rows_changed [] rows = rows
+rows_changed (change ∷ changes) rows = rows_changed changes (row_changed change rows)
+
+-- the record of a name
+abbrev pub row_at : Name → List Row → Option Row
+row_at name rows = find (λ r. is_eq (name_cmp r.0 name)) rows
+
+-- the data of a name
+abbrev pub data_at : Name → List Row → Option (List ℕ)
+data_at name rows = option_map (λ r. r.1) (row_at name rows)
+
+-- whether names rise strictly
+abbrev pub IsRising : List Row → Type 0
+IsRising rows = IsStrictlySortedBy (on (λ (r : Row). r.0) name_cmp) rows
+
+-- the number in a catalog record's data; 0, which is no database's number, where the data is no record
+abbrev pub number_or_0 : Option DbRecord → ℕ
+number_or_0 None = 0
+number_or_0 (Some record_) = record_.number
+
+abbrev pub number_in : List ℕ → ℕ
+number_in bytes = number_or_0 (record_in bytes)
+
+-- whether a catalog record is right: the key is a database's name, the dup is empty, and the data has a number
+abbrev pub is_catalog_row : Row → Bool
+is_catalog_row row = is_word row.0.key && (length row.0.dup == 0) && not (number_in row.1 == 0)
+
+-- whether no number stands twice
+abbrev pub are_distinct : List ℕ → Bool
+are_distinct [] = true
+are_distinct (n ∷ ns) = not (list_any (λ m. m == n) ns) && are_distinct ns
+
+-- whether records are right in a plain database: their dups are empty
+abbrev pub are_plain : List Row → Bool
+are_plain rows = list_all (λ r. length r.0.dup == 0) rows
+
+-- the numbers that the catalog has, in order of the names
+abbrev pub numbers_of : Rows → List ℕ
+numbers_of rows = map (λ r. number_in r.1) (rows 0)
+
+-- whether records are those of an environment: the catalog's are right and have numbers of their own, each database's
+-- are right, and there are no more databases than there may be
+abbrev pub is_environment : Rows → Bool
+is_environment rows =
+    list_all is_catalog_row (rows 0) && are_distinct (numbers_of rows) && list_all (λ n. are_plain (rows n)) (numbers_of rows)
+    && nat_le (length (rows 0)) MOST_DATABASES
+
+-- a plain database's record as a pair of key and data
+abbrev pub pair_of : Row → List ℕ × List ℕ
+pair_of row = (row.0.key, row.1)
+
+-- the database that a catalog record names, with the records under its number
+abbrev pub database_in : Rows → Row → Database
+database_in rows row = record { name = row.0.key; kind = Plain; pairs = map pair_of (rows (number_in row.1)) }
+
+-- the store that records make
+abbrev pub store_of : Rows → Store
+store_of rows = record { databases = map (database_in rows) (rows 0) }

@@ -1,0 +1,34 @@
+-- What a disk in memory tells.
+use Rattle.std.specs.Prelude.{◌≡◌, ◌+◌, ◌-◌, ◌^◌, ℕ, List, Contains, min}
+use Rattle.je_disk.specs.Moments.{History}
+use Rattle.mem_disk.specs.Replay.{history_of}
+use Rattle.mem_disk.specs.declared.memory.MemDisk.{MemDisk}
+
+-- the states of the disk at every moment so far
+abbrev pub told_by : MemDisk → History
+told_by disk = history_of disk.shelf.changes.items
+
+-- how many of its calls have failed
+abbrev pub faults_of : MemDisk → ℕ
+faults_of disk = disk.meter.faults
+
+-- how many calls it has counted
+abbrev pub calls_of : MemDisk → ℕ
+calls_of disk = disk.meter.made
+
+-- the numbers of the calls that are to fail
+abbrev pub fails_of : MemDisk → List ℕ
+fails_of disk = disk.meter.fails.items
+
+-- the number of the next call
+abbrev pub next_call : MemDisk → ℕ
+next_call disk = min (calls_of disk + 1) (2 ^ 64 - 1)
+
+-- the next call is to fail
+abbrev pub IsDue : MemDisk → Type 0
+IsDue disk = Contains (fails_of disk) (next_call disk)
+
+-- one call was counted, and the same calls are to fail
+pub record CountsCall (old new : MemDisk) : Type 0 where
+  pub calls : calls_of new ≡ next_call old
+  pub fails : fails_of new ≡ fails_of old

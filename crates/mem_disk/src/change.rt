@@ -1,0 +1,11 @@
+// What a call changed.
+use je_lsn::FileNo;
+use je_order::Octets;
+
+/// What a call that was done changed on the disk.
+#[derive(Debug, Drop)]
+pub enum Change {
+    Create(FileNo),
+    Append(FileNo, Octets),
+    Sync,
+}

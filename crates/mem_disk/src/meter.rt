@@ -1,0 +1,68 @@
+// The count of calls and faults.
+ghost use Rattle.std.specs.Prelude.{◌≡◌, ◌≤◌, ◌+◌, ◌-◌, ◌^◌, ◌↔◌, min, Contains, IsErr, OnOk};
+ghost use Rattle.je_disk.specs.Causes.{HasFault, Rose};
+
+use je_disk::DiskErr;
+
+/// Counts the calls of a disk, and fails those whose numbers are listed.
+#[derive(Debug, Drop)]
+pub struct Meter {
+    fails: Vec<u64>,
+    made: u64,
+    faults: u64,
+}
+
+impl Meter {
+    /// No call was made. The calls of these numbers are to fail; the first call is number 1.
+    pub fn new(fails: Vec<u64>) -> Meter
+        ensures fails { result.fails.items ≡ fails.items }
+        ensures made { result.made ≡ 0 }
+        ensures faults { result.faults ≡ 0 }
+    {
+        Meter {
+            fails,
+            made: 0,
+            faults: 0,
+        }
+    }
+
+    /// Lists the calls that are to fail, in place of those listed before.
+    pub fn fail(&mut self, fails: Vec<u64>)
+        ensures { self.new ≡ record self.old { fails = fails } }
+    {
+        self.fails = fails;
+    }
+
+    /// One more call. It fails exactly where its number is listed, and the count of faults rises then.
+    pub fn call(&mut self) -> Result<(), DiskErr>
+        ensures made { self.new.made ≡ min (self.old.made + 1) (2 ^ 64 - 1) }
+        ensures listed { IsErr result ↔ Contains self.old.fails.items self.new.made }
+        ensures steady { OnOk result (self.new.faults ≡ self.old.faults) }
+        ensures fails { self.new.fails ≡ self.old.fails }
+        ensures cause { HasFault self.old.faults self.new.faults result }
+    {
+        self.made = self.made.saturating_add(1);
+        if self.fails.contains(&self.made) {
+            return Err(self.fault());
+        }
+        Ok(())
+    }
+
+    /// One more fault.
+    pub fn fault(&mut self) -> DiskErr
+        ensures failed { result ≡ DiskErr.Failed }
+        ensures rose { Rose self.old.faults self.new.faults }
+        ensures never_falls { self.old.faults ≤ self.new.faults }
+        ensures fails { self.new.fails ≡ self.old.fails }
+        ensures made { self.new.made ≡ self.old.made }
+    {
+        self.faults = self.faults.saturating_add(1);
+        DiskErr::Failed
+    }
+
+    pub fn faults(&self) -> u64
+        ensures { result ≡ self.now.faults }
+    {
+        self.faults
+    }
+}

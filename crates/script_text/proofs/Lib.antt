@@ -1,0 +1,5 @@
+mod Cuts
+mod Digits
+mod Reading
+mod Sending
+mod Waits

@@ -1,0 +1,14 @@
+use Rattle.std.proofs.Common.{sym}
+use Rattle.script_text.specs.Page.{point}
+use Rattle.script_text.proofs.Digits.{encode_lower-nil, encode_lower_more}
+use Rattle.script_text.proofs.Sending.{adds_none, adds_same, adds_then}
+use Rattle.script_text.proofs.texts.put_digits.Goals as goal
+
+pub loop-byte-init : goal.loop-byte-init
+loop-byte-init g c =
+    adds_same _ _ (sym encode_lower-nil) (adds_none (point (g.K.Sink.written c.args.out.now) (g.K.Sink.faults c.args.out.now) c.args.page.now))
+
+pub loop-byte-preserved : goal.loop-byte-preserved
+loop-byte-preserved g c =
+    let digits = adds_same _ _ c.digits_of.ensures c.put.ensures in
+    adds_same _ _ (encode_lower_more c.args.bytes.now c.loop-byte.byte-index c.loop-byte-test.true) (adds_then c.loop-byte.invariant digits)

@@ -1,0 +1,145 @@
+-- The grammar of scripts (this project's own): what the bytes of a script ask for, or the first line that is outside it.
+use Rattle.std.specs.Prelude.{ℕ, ◌+◌, ◌-◌, ◌*◌, ◌≡◌, ◌==◌, ◌&&◌, ◌++◌, ◌∷◌, [], nat_le, nat_lt, not, ◌||◌, true, false, length, codes, List, Bool, Option, Some, None, option_to_list, Result, Ok, Err, if◌then◌else◌}
+use Rattle.std.specs.List.{list_all, onto_first}
+use Rattle.std.specs.Str.{bytes_eq}
+use Rattle.hex.specs.Hex.{decode_of}
+use Rattle.hex.specs.declared.error.FromHexError.{FromHexError}
+use Rattle.je_order.specs.Words.{is_word}
+use Rattle.je_model.specs.declared.store.Kind.TheVariants.{Plain}
+use Rattle.je_model.specs.declared.call.Call.{Call}
+use Rattle.je_model.specs.declared.call.Call.TheVariants.{Create, Put, Get, Delete}
+use Rattle.je_model.specs.declared.plan.Given.{Given}
+use Rattle.je_model.specs.declared.plan.Given.TheVariants.{Session}
+use Rattle.je_model.specs.declared.plan.RunPlan.{RunPlan}
+use Rattle.script_text.specs.Words.{words_of}
+use Rattle.script_text.specs.declared.parsing.TheConstants.{MOST_LINES}
+use Rattle.script_text.specs.declared.parsing.ParseErr.{ParseErr}
+use Rattle.script_text.specs.declared.parsing.ParseErr.TheVariants.{BadScript, Memory}
+
+-- the lines of a script: each ends with a line feed, which the last one may lack
+abbrev pub lines_of : List ℕ → List (List ℕ)
+lines_of [] = []
+lines_of (c ∷ rest) = if c == 10 then [] ∷ lines_of rest else onto_first c (lines_of rest)
+
+-- a session is s1 to s64, its number without a leading zero
+abbrev pub is_digit : ℕ → Bool
+is_digit c = nat_le 48 c && nat_le c 57
+
+abbrev pub one_digit : ℕ → ℕ → Option ℕ
+one_digit s a = if (s == 115) && is_digit a && not (a == 48) then Some (a - 48) else None
+
+abbrev pub two_digits : ℕ → ℕ → ℕ → Option ℕ
+two_digits s a b =
+    let number = 10 * (a - 48) + (b - 48) in
+    if (s == 115) && is_digit a && is_digit b && not (a == 48) && nat_le number 64 then Some number else None
+
+abbrev pub session_of : List ℕ → Option ℕ
+session_of (s ∷ a ∷ []) = one_digit s a
+session_of (s ∷ a ∷ b ∷ []) = two_digits s a b
+session_of word = None
+
+-- bytes are pairs of hexadecimal digits of either case, at least one pair, or `-` for none; their number is no part of the grammar
+abbrev pub decoded_bytes : Result (List ℕ) FromHexError → Option (List ℕ)
+decoded_bytes (Ok bytes) = Some bytes
+decoded_bytes (Err e) = None
+
+abbrev pub bytes_of : List ℕ → Option (List ℕ)
+bytes_of word =
+    if bytes_eq word (codes "-") then Some []
+    else if length word == 0 then None
+    else decoded_bytes (decode_of word)
+
+-- `create DB plain`
+abbrev pub create_of : List (List ℕ) → Option Call
+create_of (db ∷ kind ∷ []) = if is_word db && bytes_eq kind (codes "plain") then Some (Create db Plain) else None
+create_of words = None
+
+-- `put DB K D`
+abbrev pub put_call : List ℕ → Option (List ℕ) → Option (List ℕ) → Option Call
+put_call db (Some key) (Some value) = Some (Put db key value)
+put_call db key value = None
+
+abbrev pub put_of : List (List ℕ) → Option Call
+put_of (db ∷ key ∷ value ∷ []) = if is_word db then put_call db (bytes_of key) (bytes_of value) else None
+put_of words = None
+
+-- `get DB K` and `get DB K rmw`
+abbrev pub get_call : List ℕ → Bool → Option (List ℕ) → Option Call
+get_call db rmw (Some key) = Some (Get db key rmw)
+get_call db rmw None = None
+
+abbrev pub get_of : List (List ℕ) → Option Call
+get_of (db ∷ key ∷ []) = if is_word db then get_call db false (bytes_of key) else None
+get_of (db ∷ key ∷ rmw ∷ []) = if is_word db && bytes_eq rmw (codes "rmw") then get_call db true (bytes_of key) else None
+get_of words = None
+
+-- `delete DB K`
+abbrev pub delete_call : List ℕ → Option (List ℕ) → Option Call
+delete_call db (Some key) = Some (Delete db key)
+delete_call db None = None
+
+abbrev pub delete_of : List (List ℕ) → Option Call
+delete_of (db ∷ key ∷ []) = if is_word db then delete_call db (bytes_of key) else None
+delete_of words = None
+
+-- a call is one of these forms
+abbrev pub call_of : List ℕ → List (List ℕ) → Option Call
+call_of verb words =
+    if bytes_eq verb (codes "create") then create_of words
+    else if bytes_eq verb (codes "put") then put_of words
+    else if bytes_eq verb (codes "get") then get_of words
+    else if bytes_eq verb (codes "delete") then delete_of words
+    else None
+
+-- a line with a call is a session, and the call's words
+abbrev pub given_by : ℕ → Option ℕ → Option Call → Option Given
+given_by line (Some session) (Some call) = Some (Session session line call)
+given_by line session call = None
+
+abbrev pub given_of : ℕ → List (List ℕ) → Option Given
+given_of line (session ∷ verb ∷ words) = given_by line (session_of session) (call_of verb words)
+given_of line words = None
+
+-- an empty line, and one that begins with `#`, gives nothing
+abbrev pub is_skipped : List ℕ → Bool
+is_skipped [] = true
+is_skipped (c ∷ text) = c == 35
+
+-- what a line gives: nothing or a call; it is bad where it is none of these, has a byte outside ASCII, or is past the last line
+abbrev pub good_or_bad : ℕ → Option Given → Result (Option Given) ℕ
+good_or_bad line (Some given) = Ok (Some given)
+good_or_bad line None = Err line
+
+abbrev pub line_gives : ℕ → List ℕ → Result (Option Given) ℕ
+line_gives line text =
+    if nat_lt MOST_LINES line || not (list_all (λ c. nat_lt c 128) text) then Err line
+    else if is_skipped text then Ok None
+    else good_or_bad line (given_of line (words_of text))
+
+-- what a line gives and then what the lines behind it give; the first bad line counts
+abbrev pub before_others : Option Given → Result (List Given) ℕ → Result (List Given) ℕ
+before_others given (Ok others) = Ok (option_to_list given ++ others)
+before_others given (Err line) = Err line
+
+abbrev pub and_then : Result (Option Given) ℕ → Result (List Given) ℕ → Result (List Given) ℕ
+and_then (Ok given) others = before_others given others
+and_then (Err line) others = Err line
+
+-- what lines give, the first of them with that number
+abbrev pub lines_give : ℕ → List (List ℕ) → Result (List Given) ℕ
+lines_give line [] = Ok []
+lines_give line (text ∷ texts) = and_then (line_gives line text) (lines_give (line + 1) texts)
+
+abbrev pub as_plan : Result (List Given) ℕ → Result RunPlan ℕ
+as_plan (Ok lines) = Ok (record { lines = lines })
+as_plan (Err line) = Err line
+
+-- the plan that a script asks for, or the number of its first bad line
+abbrev pub plan_of : List ℕ → Result RunPlan ℕ
+plan_of script = as_plan (lines_give 1 (lines_of script))
+
+-- a function has answered what the grammar says, unless memory ran out
+abbrev pub Gives : {X : Type 0} → Result X ParseErr → Result X ℕ → Type 0
+Gives (Ok x) says = says ≡ Ok x
+Gives (Err (BadScript line)) says = says ≡ Err line
+Gives (Err Memory) says = Unit {0}

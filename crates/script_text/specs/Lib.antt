@@ -1,0 +1,4 @@
+pub mod Grammar
+pub mod Page
+pub mod Report
+pub mod Words

@@ -1,0 +1,122 @@
+// The forms of calls.
+ghost use Rattle.std.specs.Prelude.{◌≡◌, IfOk, if◌then◌else◌};
+ghost use Rattle.je_order.specs.Words.{is_word};
+ghost use Rattle.script_text.specs.Grammar.{call_of, create_of, put_of, get_of, get_call, delete_of, bytes_of};
+
+use crate::bytes::bytes_of;
+use crate::words::Words;
+use je_model::{Call, Kind};
+use je_order::Word;
+use std::alloc::{AllocError, Global};
+
+// The call that a verb and the words behind it spell, if they spell one.
+pub fn call_of(alloc: Global, verb: &[u8], words: Words) -> Result<Option<Call>, AllocError>
+    ensures { IfOk result (λ call. call ≡ call_of verb.now words.entry) }
+{
+    if verb == b"create".as_slice() {
+        create_of(alloc, words)
+    } else if verb == b"put".as_slice() {
+        put_of(alloc, words)
+    } else if verb == b"get".as_slice() {
+        get_of(alloc, words)
+    } else if verb == b"delete".as_slice() {
+        delete_of(alloc, words)
+    } else {
+        Ok(None)
+    }
+}
+
+fn create_of(alloc: Global, mut words: Words) -> Result<Option<Call>, AllocError>
+    ensures { IfOk result (λ call. call ≡ create_of words.entry) }
+{
+    let Some(db) = words.next() else {
+        return Ok(None);
+    };
+    let Some(kind) = words.next() else {
+        return Ok(None);
+    };
+    if words.next().is_some() || !Word::is_word(db) || kind != b"plain".as_slice() {
+        return Ok(None);
+    }
+    let db = Word::from_slice(alloc, db)?;
+    Ok(Some(Call::Create {
+        db,
+        kind: Kind::Plain,
+    }))
+}
+
+fn put_of(alloc: Global, mut words: Words) -> Result<Option<Call>, AllocError>
+    ensures { IfOk result (λ call. call ≡ put_of words.entry) }
+{
+    let Some(db) = words.next() else {
+        return Ok(None);
+    };
+    let Some(key) = words.next() else {
+        return Ok(None);
+    };
+    let Some(value) = words.next() else {
+        return Ok(None);
+    };
+    if words.next().is_some() || !Word::is_word(db) {
+        return Ok(None);
+    }
+    let Some(key) = bytes_of(alloc, key)? else {
+        return Ok(None);
+    };
+    let Some(value) = bytes_of(alloc, value)? else {
+        return Ok(None);
+    };
+    let db = Word::from_slice(alloc, db)?;
+    Ok(Some(Call::Put { db, key, value }))
+}
+
+fn get_of(alloc: Global, mut words: Words) -> Result<Option<Call>, AllocError>
+    ensures { IfOk result (λ call. call ≡ get_of words.entry) }
+{
+    let Some(db) = words.next() else {
+        return Ok(None);
+    };
+    let Some(key) = words.next() else {
+        return Ok(None);
+    };
+    let Some(rmw) = words.next() else {
+        return plain_get(alloc, db, key, false);
+    };
+    if words.next().is_some() || rmw != b"rmw".as_slice() {
+        return Ok(None);
+    }
+    plain_get(alloc, db, key, true)
+}
+
+fn plain_get(alloc: Global, db: &[u8], key: &[u8], rmw: bool) -> Result<Option<Call>, AllocError>
+    ensures { IfOk result (λ call.
+        call ≡ (if is_word db.now then get_call db.now rmw (bytes_of key.now) else None)) }
+{
+    if !Word::is_word(db) {
+        return Ok(None);
+    }
+    let Some(key) = bytes_of(alloc, key)? else {
+        return Ok(None);
+    };
+    let db = Word::from_slice(alloc, db)?;
+    Ok(Some(Call::Get { db, key, rmw }))
+}
+
+fn delete_of(alloc: Global, mut words: Words) -> Result<Option<Call>, AllocError>
+    ensures { IfOk result (λ call. call ≡ delete_of words.entry) }
+{
+    let Some(db) = words.next() else {
+        return Ok(None);
+    };
+    let Some(key) = words.next() else {
+        return Ok(None);
+    };
+    if words.next().is_some() || !Word::is_word(db) {
+        return Ok(None);
+    }
+    let Some(key) = bytes_of(alloc, key)? else {
+        return Ok(None);
+    };
+    let db = Word::from_slice(alloc, db)?;
+    Ok(Some(Call::Delete { db, key }))
+}

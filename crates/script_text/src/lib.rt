@@ -1,0 +1,20 @@
+//! Scripts and reports as text. `parse` reads a script into a plan, and names the first line that is
+//! outside the grammar; `report` prints what became of each line. It stands on the model, whose
+//! types it reads and prints, and on sources and sinks. The grammar and the report's text are
+//! definitions, and both calls are proved to be exactly these.
+#![tactic(auto)]
+
+mod bytes;
+mod calls;
+mod cutting;
+mod lines;
+mod page;
+pub mod parsing;
+pub mod reporting;
+mod session;
+mod texts;
+mod waiting;
+mod words;
+
+pub use parsing::{MOST_LINES, ParseErr, parse};
+pub use reporting::report;

@@ -1,0 +1,228 @@
+// Reading a script.
+ghost use Rattle.std.specs.Prelude.{◌≡◌, ◌≤◌, ◌++◌, nat_lt, option_to_list, IfOk, OnOk};
+ghost use Rattle.std.specs.List.{list_all};
+ghost use Rattle.script_text.specs.Grammar.{Gives, given_of, is_skipped, line_gives, plan_of};
+ghost use Rattle.script_text.specs.Words.{words_of};
+
+use crate::calls::call_of;
+use crate::lines::cut_line;
+use crate::session::session_number;
+use crate::words::Words;
+use je_model::{Given, RunPlan};
+use je_order::List;
+use std::alloc::{AllocError, AllocFailed, Global};
+
+/// The most lines that a script may have.
+pub const MOST_LINES: u32 = 1_000_000;
+
+/// Why a script was not read.
+#[derive(Clone, Copy, Debug, PartialEq, Eq)]
+pub enum ParseErr {
+    /// The line with this number, counted from 1, is the first one outside the grammar.
+    BadScript { line: u32 },
+    /// Want of memory.
+    Memory,
+}
+
+impl From<AllocError> for ParseErr {
+    ghost use Rattle.script_text.specs.declared.parsing.ParseErr.{ParseErr};
+
+    ghost from_gives = { λ _ e. e ≡ ParseErr.Memory };
+
+    fn from(_: AllocError) -> ParseErr {
+        ParseErr::Memory
+    }
+}
+
+impl<T: Drop> From<AllocFailed<T>> for ParseErr {
+    ghost use Rattle.script_text.specs.declared.parsing.ParseErr.{ParseErr};
+
+    ghost from_gives = { λ _ e. e ≡ ParseErr.Memory };
+
+    fn from(_: AllocFailed<T>) -> ParseErr {
+        ParseErr::Memory
+    }
+}
+
+/// The plan that a script asks for, or its first bad line. It answers what the grammar says, unless
+/// memory runs out. A plan's lines keep their order and their numbers; lines that are empty or begin
+/// with `#` are counted and give nothing.
+pub fn parse(alloc: Global, input: &[u8]) -> Result<RunPlan, ParseErr>
+    ensures { Gives result (plan_of input.now) }
+{
+    let mut lines = Vec::new(alloc);
+    let mut rest = input;
+    let mut line = 1u32;
+    while !rest.is_empty() {
+        let (text, behind) = cut_line(rest);
+        keep(&mut lines, given_by_line(alloc, line, text)?)?;
+        rest = behind;
+        line += 1;
+    }
+    Ok(RunPlan {
+        lines: List::from_vec(lines),
+    })
+}
+
+fn keep(lines: &mut Vec<Given>, given: Option<Given>) -> Result<(), AllocError>
+    ensures { OnOk result (lines.new.items ≡ lines.old.items ++ option_to_list given) }
+{
+    if let Some(given) = given {
+        lines.push(given)?;
+    }
+    Ok(())
+}
+
+// What one line gives: a call, or nothing.
+fn given_by_line(alloc: Global, line: u32, text: &[u8]) -> Result<Option<Given>, ParseErr>
+    ensures answer { Gives result (line_gives line text.now) }
+    ensures within { OnOk result (line ≤ MOST_LINES) }
+{
+    if line > MOST_LINES || !is_ascii(text) {
+        return Err(ParseErr::BadScript { line });
+    }
+    if is_skipped(text) {
+        return Ok(None);
+    }
+    match given_of(alloc, line, text)? {
+        Some(given) => Ok(Some(given)),
+        None => Err(ParseErr::BadScript { line }),
+    }
+}
+
+fn is_ascii(text: &[u8]) -> bool
+    ensures { result ≡ list_all (λ c. nat_lt c 128) text.now }
+{
+    text.iter().all(|c| *c < 128)
+}
+
+fn is_skipped(text: &[u8]) -> bool
+    ensures { result ≡ is_skipped text.now }
+{
+    text.is_empty() || text[0] == b'#'
+}
+
+// The call of a line, if it is one.
+fn given_of(alloc: Global, line: u32, text: &[u8]) -> Result<Option<Given>, AllocError>
+    ensures { IfOk result (λ given. given ≡ given_of line (words_of text.now)) }
+{
+    let mut words = Words::new(text);
+    let Some(session) = words.next() else {
+        return Ok(None);
+    };
+    let Some(verb) = words.next() else {
+        return Ok(None);
+    };
+    let Some(session) = session_number(session) else {
+        return Ok(None);
+    };
+    let Some(call) = call_of(alloc, verb, words)? else {
+        return Ok(None);
+    };
+    Ok(Some(Given::Session {
+        session,
+        line,
+        call,
+    }))
+}
+
+#[cfg(test)]
+mod tests {
+    use super::*;
+    use je_model::{Call, Kind};
+    use je_order::{Octets, Word};
+    use std::test::Fail;
+
+    fn octets(alloc: Global, bytes: &[u8]) -> Result<Octets, AllocError> {
+        Octets::from_slice(alloc, bytes)
+    }
+
+    // The calls of the script below.
+    fn call_at(alloc: Global, line: u32) -> Result<Call, AllocError> {
+        let db = Word::from_slice(alloc, b"t")?;
+        Ok(match line {
+            3 => Call::Create {
+                db,
+                kind: Kind::Plain,
+            },
+            4 => Call::Put {
+                db,
+                key: octets(alloc, b"\x00\xff")?,
+                value: octets(alloc, b"")?,
+            },
+            5 => Call::Get {
+                db,
+                key: octets(alloc, b"\x0a")?,
+                rmw: false,
+            },
+            6 => Call::Get {
+                db,
+                key: octets(alloc, b"")?,
+                rmw: true,
+            },
+            _ => Call::Delete {
+                db,
+                key: octets(alloc, b"\xab")?,
+            },
+        })
+    }
+
+    // Each form, in a script with a comment, an empty line and no feed at its end.
+    #[test]
+    fn reads_each_form(rt: HostRuntime) -> Result<(), Fail> {
+        let alloc = rt.alloc();
+        let text =
+            b"# a test\n\ns1 create t plain\ns64 put t 00fF -\ns9 get t 0a\ns10 get t - rmw\ns2 delete t aB";
+        let plan = parse(alloc, text)?;
+        let sessions = [1u8, 64, 9, 10, 2];
+        assert_eq!(rt; plan.lines.len(), sessions.len());
+        let mut line = 3;
+        for (given, session) in plan.lines.as_slice().iter().zip(sessions) {
+            assert!(rt; line < 8);
+            let want = Given::Session {
+                session,
+                line,
+                call: call_at(alloc, line)?,
+            };
+            assert!(rt; *given == want);
+            line += 1;
+        }
+        Ok(())
+    }
+
+    // The first bad line, and what makes it bad.
+    #[test]
+    fn names_the_first_bad_line(rt: HostRuntime) -> Result<(), Fail> {
+        let alloc = rt.alloc();
+        let rows: [(&[u8], u32); 21] = [
+            (b" ", 1),
+            (b"\n\ns1 list", 3),
+            (b"# \x80", 1),
+            (b"s0 create t plain", 1),
+            (b"s01 create t plain", 1),
+            (b"s65 create t plain", 1),
+            (b"S1 create t plain", 1),
+            (b"s1 create t dup", 1),
+            (b"s1 create T plain", 1),
+            (b"s1 create t plain x", 1),
+            (b"s1  create t plain", 1),
+            (b" s1 create t plain", 1),
+            (b"s1 create t plain ", 1),
+            (b"s1 create t\tplain", 1),
+            (b"s1 create t plain\r\n", 1),
+            (b"s1 put t 0 -", 1),
+            (b"s1 put t 0g -", 1),
+            (b"s1 put t  00", 1),
+            (b"s1 get t 00 rmx", 1),
+            (b"s1", 1),
+            (b"s1 create t plain\ns1 delete t\ns1", 2),
+        ];
+        for (text, line) in rows {
+            assert_eq!(rt;
+                parse(alloc, text).err(),
+                Some(ParseErr::BadScript { line })
+            );
+        }
+        Ok(())
+    }
+}

@@ -1,0 +1,267 @@
+// Printing a report.
+ghost use Rattle.std.specs.Prelude.{◌≡◌, ◌<◌, ◌≤◌, ◌+◌, ◌++◌, [], length, take, drop, slice_get, Some, count_by, OnOk, OnErr};
+ghost use Rattle.std.specs.List.{flat_map};
+ghost use Rattle.je_io.specs.Faults.{Rose};
+ghost use Rattle.je_io.specs.Sink.{Gains, GainsPart};
+ghost use Rattle.script_text.specs.Page.{Adds, point};
+ghost use Rattle.script_text.specs.Report.{end_line, NoneWaits, event_text, events_text, if_waiting, is_logged_call, own_line, report_text, settled_line, waiting_after};
+
+use crate::page::Page;
+use crate::texts::{put_call, put_line, put_number};
+use crate::waiting::{first_waiting, is_settled, may_settle, settles, settling_text};
+use je_io::{Failed, Sink};
+use je_model::{Answer, Event, Totals};
+
+/// Prints the report of a journal: a line for each call of the script, and the last line with the
+/// number of commits and what the final store holds. It takes no memory. `Failed` is a fault of the
+/// sink, which then has the first bytes of the text, any number of them.
+pub fn report<K: Sink>(events: &[Event], totals: &Totals, out: &mut K) -> Result<(), Failed>
+    ensures told { OnOk result
+        (Gains (K.written out.old) (K.written out.new) (report_text events.now totals.now)) }
+    ensures part { OnErr result
+        (GainsPart (K.written out.old) (K.written out.new) (report_text events.now totals.now)) }
+    ensures never_falls { K.faults out.old ≤ K.faults out.new }
+    ensures cause { OnErr result (Rose (K.faults out.old) (K.faults out.new)) }
+{
+    let mut page = Page::new();
+    put_events(&mut page, out, events);
+    put_end(&mut page, out, commits_of(events), totals);
+    page.flush(out);
+    if page.has_failed() {
+        Err(Failed)
+    } else {
+        Ok(())
+    }
+}
+
+fn is_logged_call(event: &Event) -> bool
+    ensures { result ≡ is_logged_call event.now }
+{
+    matches!(
+        event,
+        Event::Call {
+            answer: Answer::Logged { .. },
+            ..
+        }
+    )
+}
+
+fn commits_of(events: &[Event]) -> usize
+    ensures { result ≡ count_by is_logged_call events.now }
+{
+    let mut commits = 0;
+    for event in events {
+        if is_logged_call(event) {
+            commits += 1;
+        }
+    }
+    commits
+}
+
+fn put_end<K: Sink>(page: &mut Page, out: &mut K, commits: usize, totals: &Totals)
+    ensures { Adds (point (K.written out.old) (K.faults out.old) page.old)
+        (point (K.written out.new) (K.faults out.new) page.new)
+        (end_line commits totals.now) }
+{
+    page.put(out, b"end commits ");
+    put_number(page, out, commits as u64);
+    page.put(out, b" databases ");
+    put_number(page, out, totals.databases);
+    page.put(out, b" records ");
+    put_number(page, out, totals.records);
+    page.put(out, b"\n");
+}
+
+fn put_events<K: Sink>(page: &mut Page, out: &mut K, events: &[Event])
+    ensures { Adds (point (K.written out.old) (K.faults out.old) page.old)
+        (point (K.written out.new) (K.faults out.new) page.new)
+        (events_text [] events.now) }
+{
+    let mut first = 0;
+    for at in 0..events.len() {
+        put_event(page, out, &events[first..at], &events[at]);
+        first = next_first(events, first, at);
+    }
+}
+
+// Where the first call that waits after the event at `at` may stand: before `first` none does.
+fn next_first(events: &[Event], first: usize, at: usize) -> usize
+    requires there { at < length events.now }
+    requires order { first ≤ at }
+    requires none { NoneWaits (take first events.now) (drop first (take at events.now)) }
+    ensures order { result ≤ at + 1 }
+    ensures none { NoneWaits (take result events.now) (drop result (take (at + 1) events.now)) }
+{
+    if first == at || may_settle(&events[at]) {
+        first_waiting(&events[..at + 1], first)
+    } else {
+        first
+    }
+}
+
+fn put_event<K: Sink>(page: &mut Page, out: &mut K, before: &[Event], event: &Event)
+    ensures { Adds (point (K.written out.old) (K.faults out.old) page.old)
+        (point (K.written out.new) (K.faults out.new) page.new)
+        (event_text before.now event.now) }
+{
+    put_own_line(page, out, event);
+    put_settled(page, out, before, event);
+}
+
+fn put_own_line<K: Sink>(page: &mut Page, out: &mut K, event: &Event)
+    ensures { Adds (point (K.written out.old) (K.faults out.old) page.old)
+        (point (K.written out.new) (K.faults out.new) page.new)
+        (own_line event.now) }
+{
+    match event {
+        Event::Call {
+            session,
+            line,
+            call: _,
+            answer,
+        } => put_call(page, out, *session, *line, answer),
+        Event::SyncBegin { answer: _ } => {}
+        Event::SyncEnd { answer: _ } => {}
+    }
+}
+
+// The lines of the calls that have waited for the event.
+fn put_settled<K: Sink>(page: &mut Page, out: &mut K, before: &[Event], event: &Event)
+    ensures { Adds (point (K.written out.old) (K.faults out.old) page.old)
+        (point (K.written out.new) (K.faults out.new) page.new)
+        (flat_map (settled_line event.now) (waiting_after before.now)) }
+{
+    if !may_settle(event) {
+        return;
+    }
+    for k in 0..before.len() {
+        put_if_settled(page, out, &before[k], &before[k + 1..], event);
+    }
+}
+
+fn put_if_settled<K: Sink>(
+    page: &mut Page,
+    out: &mut K,
+    call: &Event,
+    later: &[Event],
+    event: &Event,
+)
+    ensures { Adds (point (K.written out.old) (K.faults out.old) page.old)
+        (point (K.written out.new) (K.faults out.new) page.new)
+        (flat_map (settled_line event.now) (if_waiting call.now later.now)) }
+{
+    if let Event::Call {
+        session,
+        line,
+        call: _,
+        answer: Answer::Logged { commit },
+    } = call
+    {
+        if settles(*commit, event) && !is_settled(*commit, later) {
+            put_line(page, out, *session, *line, settling_text(event));
+        }
+    }
+}
+
+#[cfg(test)]
+mod tests {
+    use super::*;
+    use je_io::MemSink;
+    use je_model::{Call, Fault, Kind};
+    use je_order::{Octets, Word};
+    use std::alloc::{AllocError, Global};
+    use std::test::Fail;
+
+    // What an event of the journal below answers.
+    #[derive(Clone, Copy)]
+    enum Said {
+        Logged(u64),
+        Begun,
+        Durable(u64),
+        Found,
+        NotFound,
+        TooMany,
+        TooLong,
+        DiskFault,
+        Invalid,
+    }
+
+    fn answer_of(alloc: Global, said: Said) -> Result<Answer, AllocError> {
+        Ok(match said {
+            Said::Logged(commit) => Answer::Logged { commit },
+            Said::Begun => Answer::Done,
+            Said::Durable(commit) => Answer::Durable { commit },
+            Said::Found => Answer::Rec {
+                key: Octets::from_slice(alloc, b"\x00\xff")?,
+                value: Octets::new(alloc),
+            },
+            Said::NotFound => Answer::NotFound,
+            Said::TooMany => Answer::TooMany { count: 1_000 },
+            Said::TooLong => Answer::TooLong { length: 4_097 },
+            Said::DiskFault => Answer::DiskFault,
+            Said::Invalid => Answer::Invalid { first: Fault::Disk },
+        })
+    }
+
+    fn event_of(alloc: Global, session: u8, line: u32, said: Said) -> Result<Event, AllocError> {
+        let answer = answer_of(alloc, said)?;
+        match said {
+            Said::Begun => Ok(Event::SyncBegin { answer }),
+            Said::Durable(_) => Ok(Event::SyncEnd { answer }),
+            _ => Ok(Event::Call {
+                session,
+                line,
+                call: Call::Create {
+                    db: Word::from_slice(alloc, b"t")?,
+                    kind: Kind::Plain,
+                },
+                answer,
+            }),
+        }
+    }
+
+    const JOURNAL: [(u8, u32, Said); 13] = [
+        (1, 1, Said::Logged(1)),
+        (0, 0, Said::Begun),
+        (0, 0, Said::Durable(1)),
+        (2, 3, Said::Found),
+        (2, 4, Said::Logged(2)),
+        (3, 5, Said::Logged(3)),
+        (1, 6, Said::NotFound),
+        (0, 0, Said::Begun),
+        (0, 0, Said::Durable(2)),
+        (1, 7, Said::TooMany),
+        (4, 9, Said::TooLong),
+        (1, 8, Said::DiskFault),
+        (64, 1_000_000, Said::Invalid),
+    ];
+
+    fn journal(alloc: Global) -> Result<Vec<Event>, AllocError> {
+        let mut events = Vec::new(alloc);
+        for (session, line, said) in JOURNAL {
+            events.push(event_of(alloc, session, line, said)?)?;
+        }
+        Ok(events)
+    }
+
+    const TEXT: &[u8] =
+        b"1 s1 ok\n3 s2 ok 00ff -\n6 s1 notfound\n4 s2 ok\n7 s1 toomany 1000\n9 s4 toolong 4097\n8 s1 diskfault\n5 s3 diskfault\n1000000 s64 invalid\nend commits 3 databases 1 records 2\n";
+
+    // A commit's line comes with the sync that covers it, or with the fault before it.
+    #[test]
+    fn prints_each_line_when_it_is_known(rt: HostRuntime) -> Result<(), Fail> {
+        let events = journal(rt.alloc())?;
+        let totals = Totals {
+            databases: 1,
+            records: 2,
+        };
+        let mut out = MemSink::new(rt.alloc());
+        report(&events, &totals, &mut out)?;
+        assert_eq!(rt; out.bytes(), TEXT);
+        let mut out = MemSink::failing(rt.alloc(), 20);
+        assert_eq!(rt; report(&events, &totals, &mut out), Err(Failed));
+        assert_eq!(rt; out.bytes(), &TEXT[..20]);
+        assert_eq!(rt; out.faults(), 1);
+        Ok(())
+    }
+}

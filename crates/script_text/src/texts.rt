@@ -1,0 +1,136 @@
+// The pieces of a report's lines.
+ghost use Rattle.std.specs.Prelude.{◌≡◌, ◌++◌, ◌∷◌, [], codes, decimal, unwrap_or, is_some};
+ghost use Rattle.hex.specs.Hex.{encode_lower};
+ghost use Rattle.script_text.specs.Page.{Adds, point};
+ghost use Rattle.script_text.specs.Report.{answer_text, bytes_text, line_if_any, line_text};
+
+use crate::page::Page;
+use itoa::Buffer;
+use je_io::Sink;
+use je_model::Answer;
+
+// Sends a number's decimal digits.
+pub fn put_number<K: Sink>(page: &mut Page, out: &mut K, number: u64)
+    ensures { Adds (point (K.written out.old) (K.faults out.old) page.old)
+        (point (K.written out.new) (K.faults out.new) page.new)
+        (decimal number) }
+{
+    let mut digits = Buffer::new();
+    page.put(out, digits.format(number).as_bytes());
+}
+
+// The two digits of a byte.
+fn digits_of(byte: u8) -> [u8; 2]
+    ensures { result ≡ encode_lower (byte ∷ []) }
+{
+    let mut digits = [0u8; 2];
+    let _ = hex::encode_to_slice([byte].as_slice(), &mut digits);
+    digits
+}
+
+fn put_digits<K: Sink>(page: &mut Page, out: &mut K, bytes: &[u8])
+    ensures { Adds (point (K.written out.old) (K.faults out.old) page.old)
+        (point (K.written out.new) (K.faults out.new) page.new)
+        (encode_lower bytes.now) }
+{
+    for byte in bytes {
+        page.put(out, &digits_of(*byte));
+    }
+}
+
+// Sends bytes as hexadecimal digits, or `-` where there are none.
+pub fn put_bytes<K: Sink>(page: &mut Page, out: &mut K, bytes: &[u8])
+    ensures { Adds (point (K.written out.old) (K.faults out.old) page.old)
+        (point (K.written out.new) (K.faults out.new) page.new)
+        (bytes_text bytes.now) }
+{
+    if bytes.is_empty() {
+        page.put(out, b"-");
+    } else {
+        put_digits(page, out, bytes);
+    }
+}
+
+fn put_record<K: Sink>(page: &mut Page, out: &mut K, key: &[u8], value: &[u8])
+    ensures { Adds (point (K.written out.old) (K.faults out.old) page.old)
+        (point (K.written out.new) (K.faults out.new) page.new)
+        (codes "ok " ++ bytes_text key.now ++ codes " " ++ bytes_text value.now) }
+{
+    page.put(out, b"ok ");
+    put_bytes(page, out, key);
+    page.put(out, b" ");
+    put_bytes(page, out, value);
+}
+
+fn put_with_number<K: Sink>(page: &mut Page, out: &mut K, text: &[u8], number: u64)
+    ensures { Adds (point (K.written out.old) (K.faults out.old) page.old)
+        (point (K.written out.new) (K.faults out.new) page.new)
+        (text.now ++ decimal number) }
+{
+    page.put(out, text);
+    put_number(page, out, number);
+}
+
+fn put_answer<K: Sink>(page: &mut Page, out: &mut K, answer: &Answer)
+    ensures { Adds (point (K.written out.old) (K.faults out.old) page.old)
+        (point (K.written out.new) (K.faults out.new) page.new)
+        (unwrap_or (answer_text answer.now) []) }
+{
+    match answer {
+        Answer::Done => page.put(out, b"ok"),
+        Answer::Logged { commit: _ } => page.put(out, b""),
+        Answer::Durable { commit: _ } => page.put(out, b""),
+        Answer::Rec { key, value } => put_record(page, out, key.as_slice(), value.as_slice()),
+        Answer::NotFound => page.put(out, b"notfound"),
+        Answer::NoDatabase => page.put(out, b"nodatabase"),
+        Answer::NameTaken => page.put(out, b"nametaken"),
+        Answer::TooMany { count } => put_with_number(page, out, b"toomany ", u64::from(*count)),
+        Answer::TooLong { length } => put_with_number(page, out, b"toolong ", *length),
+        Answer::LogFull => page.put(out, b"logfull"),
+        Answer::IdsEnded => page.put(out, b"idsended"),
+        Answer::DiskFault => page.put(out, b"diskfault"),
+        Answer::Invalid { first: _ } => page.put(out, b"invalid"),
+    }
+}
+
+// Sends what stands before the text in a line.
+fn put_front<K: Sink>(page: &mut Page, out: &mut K, session: u8, line: u32)
+    ensures { Adds (point (K.written out.old) (K.faults out.old) page.old)
+        (point (K.written out.new) (K.faults out.new) page.new)
+        (decimal line ++ codes " s" ++ decimal session ++ codes " ") }
+{
+    put_number(page, out, u64::from(line));
+    page.put(out, b" s");
+    put_number(page, out, u64::from(session));
+    page.put(out, b" ");
+}
+
+// Sends a line with that text.
+pub fn put_line<K: Sink>(page: &mut Page, out: &mut K, session: u8, line: u32, text: &[u8])
+    ensures { Adds (point (K.written out.old) (K.faults out.old) page.old)
+        (point (K.written out.new) (K.faults out.new) page.new)
+        (line_text session line text.now) }
+{
+    put_front(page, out, session, line);
+    page.put(out, text);
+    page.put(out, b"\n");
+}
+
+fn has_text(answer: &Answer) -> bool
+    ensures { result ≡ is_some (answer_text answer.now) }
+{
+    !matches!(answer, Answer::Logged { .. } | Answer::Durable { .. })
+}
+
+// Sends the line of a call with its answer, where the answer has a text.
+pub fn put_call<K: Sink>(page: &mut Page, out: &mut K, session: u8, line: u32, answer: &Answer)
+    ensures { Adds (point (K.written out.old) (K.faults out.old) page.old)
+        (point (K.written out.new) (K.faults out.new) page.new)
+        (line_if_any session line (answer_text answer.now)) }
+{
+    if has_text(answer) {
+        put_front(page, out, session, line);
+        put_answer(page, out, answer);
+        page.put(out, b"\n");
+    }
+}
