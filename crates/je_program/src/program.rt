@@ -1,5 +1,5 @@
 // The top call.
-ghost use Rattle.std.specs.Prelude.{◌≡◌, ◌≢◌, ◌≤◌, ◌<◌, ◌⊎◌, ◌↔◌, [], ℕ, List, Some, Ok, Err, IfSome, true, false, length, map, string_bytes};
+ghost use Rattle.std.specs.Prelude.{◌≡◌, ◌≢◌, ◌≤◌, ◌<◌, ◌⊎◌, [], ℕ, List, Some, Ok, Err, IfSome, true, false, length, map, string_bytes};
 ghost use Rattle.je_disk.specs.Causes.{Rose};
 ghost use Rattle.je_disk.specs.Moments.{now};
 ghost use Rattle.je_io.specs.Faults.{Rose as Failing};
@@ -45,8 +45,9 @@ pub fn run_je<D: Disk, S: Source, K: Sink>(
     input: &mut S,
     output: &mut K,
 ) -> Ended<D>
-    // The words are wrong exactly where that is the cause of the end.
-    ensures usage { (result.cause ≡ Why.Usage) ↔ (are_run_words (map string_bytes words.now) ≡ false) }
+    // The words are the cause of the end only where they are wrong, and then always, unless memory ran out.
+    ensures usage { result.cause ≡ Why.Usage → are_run_words (map string_bytes words.now) ≡ false }
+    ensures usage_found { are_run_words (map string_bytes words.now) ≡ false → (result.cause ≡ Why.Usage) ⊎ (result.cause ≡ Why.Memory) }
 
     // The input failed only where its count of faults rose; it is too long, or has a first bad line.
     ensures input_failed { result.cause ≡ Why.Input → Failing (S.faults input.old) (S.faults input.new) }

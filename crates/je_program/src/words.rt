@@ -1,25 +1,51 @@
 // The program's words.
-ghost use Rattle.std.specs.Prelude.{◌≡◌, IfOk, map, option_map, string_bytes};
-ghost use Rattle.je_model.specs.Store.{is_same};
-ghost use Rattle.je_program.specs.Words.{are_run_words, home_in};
+ghost use Rattle.std.specs.Prelude.{◌≡◌, IfOk, IfSome, is_some, map, option_map, string_bytes};
+ghost use Rattle.clap.specs.Words.{app_of, subcommand_of, subcommand_rows_of};
+ghost use Rattle.je_program.specs.Words.{are_run_words, home_in, home_of, jedb};
 
-use je_order::cmp_bytes;
+use clap::error::ErrorKind;
+use clap::{Arg, ArgMatches, Command};
 use std::alloc::{AllocError, Global};
 
-fn is_word(word: &String, text: &[u8]) -> bool
-    ensures { result ≡ is_same (string_bytes word.now) text.now }
+// The command line that the program has.
+fn command<'a>(alloc: Global) -> Result<Command<'a>, AllocError>
+    ensures { IfOk result (λ command. app_of command ≡ jedb) }
 {
-    cmp_bytes(word.as_bytes(), text).is_eq()
+    let home = Arg::new(alloc, "home").long("home").required(true);
+    let run = Command::new(alloc, "run").arg(home)?;
+    let jedb = Command::new(alloc, "jedb")
+        .no_binary_name(true)
+        .subcommand_required(true);
+    jedb.subcommand(run)
 }
 
-/// Whether the words are `run`, `--home` and a folder's name. It takes no memory.
-pub fn are_right(words: &[String]) -> bool
-    ensures { result ≡ are_run_words (map string_bytes words.now) }
+// What a parse of the words finds, and None where it refuses them.
+fn parse<'a>(alloc: Global, words: &'a [String]) -> Result<Option<ArgMatches<'a>>, AllocError>
+    ensures right { IfOk result (λ found. is_some found ≡ are_run_words (map string_bytes words.now)) }
+    ensures found { IfOk result (λ found. IfSome found (λ m. subcommand_rows_of m ≡ subcommand_of jedb (map string_bytes words.now))) }
 {
-    match words {
-        [command, option, _home] => is_word(command, b"run") && is_word(option, b"--home"),
-        _ => false,
+    match command(alloc)?.try_get_matches_from(words) {
+        Ok(found) => Ok(Some(found)),
+        Err(error) => match error.kind() {
+            ErrorKind::OutOfMemory => Err(AllocError),
+            _ => Ok(None),
+        },
     }
+}
+
+/// Whether the words are a right command line, `run --home DIR`. The one error is want of memory.
+pub fn are_right(alloc: Global, words: &[String]) -> Result<bool, AllocError>
+    ensures { IfOk result (λ right. right ≡ are_run_words (map string_bytes words.now)) }
+{
+    Ok(parse(alloc, words)?.is_some())
+}
+
+// The value of `--home`, in what a parse found.
+fn home_found<'a>(found: &ArgMatches<'a>) -> Option<&'a str>
+    ensures { option_map (λ folder. folder.now) result ≡ home_of (subcommand_rows_of found.now) }
+{
+    let (_, run) = found.subcommand()?;
+    run.get_str("home")
 }
 
 /// The folder that right words name, and None where the words are not right. The one error is want of
@@ -27,9 +53,11 @@ pub fn are_right(words: &[String]) -> bool
 pub fn home(alloc: Global, words: &[String]) -> Result<Option<String>, AllocError>
     ensures { IfOk result (λ folder. option_map string_bytes folder ≡ home_in (map string_bytes words.now)) }
 {
-    if !are_right(words) || words.len() != 3 {
-        return Ok(None);
+    match parse(alloc, words)? {
+        Some(found) => match home_found(&found) {
+            Some(folder) => Ok(Some(String::from_str(alloc, folder)?)),
+            None => Ok(None),
+        },
+        None => Ok(None),
     }
-    let folder = String::from_str(alloc, words[2].as_str())?;
-    Ok(Some(folder))
 }
