@@ -1,9 +1,8 @@
 -- The order of keys (Getting Started Guide, "Database Records"), and of record names above it.
-use Rattle.std.specs.Prelude.{ℕ, ◌≡◌, List}
+use Rattle.std.specs.Prelude.{ℕ, List}
 use Rattle.std.specs.Ordering.{nat_cmp, ordering_then}
 use Rattle.std.specs.Cmp.Lexicographic.{slice_cmp}
 use Rattle.std.specs.declared.cmp.Ordering.{Ordering}
-use Rattle.std.specs.declared.cmp.Ordering.TheVariants.{Equal}
 use Rattle.je_order.specs.declared.name.Name.{Name}
 
 -- byte order: bytes are compared as unsigned numbers from the left, and a proper prefix comes first
@@ -13,7 +12,3 @@ bytes_cmp a b = slice_cmp nat_cmp a b
 -- name order: by key, then by dup
 abbrev pub name_cmp : Name → Name → Ordering
 name_cmp a b = ordering_then (bytes_cmp a.key b.key) (bytes_cmp a.dup b.dup)
-
--- byte strings that compare as equal are the same, and so are names
-abbrev pub SameWhereEqual : Type 0
-SameWhereEqual = ((a b : List ℕ) → bytes_cmp a b ≡ Equal → a ≡ b) × ((m n : Name) → name_cmp m n ≡ Equal → m ≡ n)

@@ -6,7 +6,6 @@
 
 pub mod bound;
 pub mod exact;
-pub mod laws;
 pub mod list;
 pub mod name;
 pub mod octets;
@@ -16,7 +15,6 @@ pub mod word;
 
 pub use bound::Bound;
 pub use exact::{Exact, copy_of};
-pub use laws::{byte_order_is_total, equal_names_are_same, name_order_is_total};
 pub use list::List;
 pub use name::Name;
 pub use octets::Octets;

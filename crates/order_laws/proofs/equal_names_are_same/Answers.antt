@@ -3,7 +3,7 @@ use Rattle.std.proofs.lemmas.Map.Lookups.{exact_bytes, exact_pairs}
 use Rattle.std.specs.Ordering.{nat_cmp}
 use Rattle.std.specs.Cmp.Lexicographic.{slice_cmp}
 use Rattle.je_order.specs.declared.name.Name.{Name}
-use Rattle.je_order.proofs.laws.equal_names_are_same.Goals as goal
+use Rattle.order_laws.proofs.equal_names_are_same.Goals as goal
 
 pub returns : goal.returns
 returns c =
