@@ -56,8 +56,11 @@ fn failing_disk(rt: HostRuntime) -> Result<(), Fail> {
             fails_so(alloc, number, text, after)?,
             "call {number} is not {text}"
         );
-        while number < 100 && fails_so(alloc, number, text, after)? {
-            number += 1;
+        for _ in 0..100 {
+            if !fails_so(alloc, number, text, after)? {
+                break;
+            }
+            number = number.saturating_add(1);
         }
     }
     let mut disk = MemDisk::new(alloc);
