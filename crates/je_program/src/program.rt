@@ -84,11 +84,11 @@ pub fn run_je<D: Disk, S: Source, K: Sink>(
     ensures complete { (bytes : List ℕ) (plan : RunPlan) (meaning : Meaning) → are_run_words (map string_bytes words.now) ≡ true → S.left input.old ≡ Some bytes
         → length bytes ≤ MOST_INPUT → plan_of bytes ≡ Ok plan → D.tells ≡ true → Means (now (D.history disk)).reads meaning
         → (result.cause ≡ cause_of_room result.journal.items) ⊎ (result.cause ≡ Why.Memory)
-            ⊎ Failing (S.faults input.old) (S.faults input.new) ⊎ Rose (D.faults disk) (D.faults result.disk) }
+        ⊎ Failing (S.faults input.old) (S.faults input.new) ⊎ Rose (D.faults disk) (D.faults result.disk) }
     ensures no_meaning_found { (bytes : List ℕ) (plan : RunPlan) → are_run_words (map string_bytes words.now) ≡ true → S.left input.old ≡ Some bytes
         → length bytes ≤ MOST_INPUT → plan_of bytes ≡ Ok plan → D.tells ≡ true → HasNoMeaning (now (D.history disk)).reads
         → (result.cause ≡ Why.Log) ⊎ (result.cause ≡ Why.Memory)
-            ⊎ Failing (S.faults input.old) (S.faults input.new) ⊎ Rose (D.faults disk) (D.faults result.disk) }
+        ⊎ Failing (S.faults input.old) (S.faults input.new) ⊎ Rose (D.faults disk) (D.faults result.disk) }
 
     // What was written, and the status: the cause's, unless the output failed.
     ensures written { IsWritten (K.written output.old) (K.written output.new) (K.faults output.old) (K.faults output.new)
