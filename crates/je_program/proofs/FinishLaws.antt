@@ -58,20 +58,20 @@ room_is_none (event ∷ events) = room_step (answer_of event) (cause_of_room eve
 pub fault_of_cause : (journal : List Event) → cause_of_journal journal ≡ Disk → has_answer is_disk_fault journal ≡ true
 fault_of_cause journal h =
     ⊎_elim
-      (λ (e : has_answer is_disk_fault journal ≡ true). e)
-      (λ (e : has_answer is_disk_fault journal ≡ false).
-        absurd (room_is_none journal (sym (cond-false (has_answer is_disk_fault journal) Disk (cause_of_room journal) e) ∙ h)))
-      (cases_Bool (has_answer is_disk_fault journal))
+    (λ (e : has_answer is_disk_fault journal ≡ true). e)
+    (λ (e : has_answer is_disk_fault journal ≡ false).
+    absurd (room_is_none journal (sym (cond-false (has_answer is_disk_fault journal) Disk (cause_of_room journal) e) ∙ h)))
+    (cases_Bool (has_answer is_disk_fault journal))
 
 pub no_fault_of_cause : (journal : List Event) → cause_of_journal journal ≡ Done → has_answer is_disk_fault journal ≡ false
 no_fault_of_cause journal h =
     ⊎_elim
-      (λ (e : has_answer is_disk_fault journal ≡ true).
-        absurd (disk_is_not_done (sym (cond-true (has_answer is_disk_fault journal) Disk (cause_of_room journal) e) ∙ h)))
-      (λ (e : has_answer is_disk_fault journal ≡ false). e)
-      (cases_Bool (has_answer is_disk_fault journal)) where
-  disk_is_not_done : Disk ≡ Done → ⊥
-  disk_is_not_done e = cc
+    (λ (e : has_answer is_disk_fault journal ≡ true).
+    absurd (disk_is_not_done (sym (cond-true (has_answer is_disk_fault journal) Disk (cause_of_room journal) e) ∙ h)))
+    (λ (e : has_answer is_disk_fault journal ≡ false). e)
+    (cases_Bool (has_answer is_disk_fault journal)) where
+      disk_is_not_done : Disk ≡ Done → ⊥
+      disk_is_not_done e = cc
 
 -- the totals that are kept are those of the store
 pub totals_are : (tells : Bool) (state : State) (kept : Kept) (st : Standing) → IsAt tells state kept st → kept.totals ≡ totals_of st.store
@@ -98,11 +98,11 @@ acknowledges_any commit [] none h = h
 acknowledges_any commit (event ∷ events) none h =
     let parts = or_false (is_disk_fault (answer_of event)) (has_answer is_disk_fault events) none in
     acknowledges_or (acknowledges commit event) (is_disk_fault (answer_of event)) (list_any (settles commit) events) (list_any (acknowledges commit) events) parts.0 h
-      (acknowledges_any commit events parts.1) where
-  acknowledges_or : (a f s r : Bool) → f ≡ false → ((a || f) || s) ≡ true → (s ≡ true → r ≡ true) → (a || r) ≡ true
-  acknowledges_or true f s r none h later = refl
-  acknowledges_or false true s r none h later = cc
-  acknowledges_or false false s r none h later = later h
+    (acknowledges_any commit events parts.1) where
+      acknowledges_or : (a f s r : Bool) → f ≡ false → ((a || f) || s) ≡ true → (s ≡ true → r ≡ true) → (a || r) ≡ true
+      acknowledges_or true f s r none h later = refl
+      acknowledges_or false true s r none h later = cc
+      acknowledges_or false false s r none h later = later h
 
 later_acknowledged : (event : Event) (later : List Event) → has_answer is_disk_fault later ≡ false → ComesLater settles event later → ComesLater acknowledges event later
 later_acknowledged (Called session line call (Logged commit)) later none h = acknowledges_any commit later none h
@@ -133,9 +133,9 @@ closes_run before mid after journal memory_ended old new caused closes later mem
   never_falls = (let first : before ≤ mid = caused.never_falls in omega arith);
   fault = λ h. rose_later before mid after (caused.fault h) later;
   failed = λ e. ⊎_elim
-    (λ (same : new ≡ old). rose_later before mid after (caused.fault (fault_of_cause journal (sym (ends (not_memory memory_ended old (sym same ∙ e) memory)) ∙ sym same ∙ e))) later)
-    (λ (c : (new ≡ Disk) × Rose mid after × (old ≢ Memory)). rose_earlier before mid after caused.never_falls c.1 later)
-    closes;
+      (λ (same : new ≡ old). rose_later before mid after (caused.fault (fault_of_cause journal (sym (ends (not_memory memory_ended old (sym same ∙ e) memory)) ∙ sym same ∙ e))) later)
+      (λ (c : (new ≡ Disk) × Rose mid after × (old ≢ Memory)). rose_earlier before mid after caused.never_falls c.1 later)
+      closes;
 } where
   not_memory : (memory_ended : Bool) (old : Cause) → old ≡ Disk → (memory_ended ≡ true → old ≡ Memory) → memory_ended ≡ false
   not_memory true old is memory = (let e : Disk ≡ Memory = sym is ∙ memory refl in cc)
@@ -146,14 +146,15 @@ pub done_without_fault : (mid after : ℕ) (journal : List Event) (memory_ended 
     (memory_ended ≡ true → old ≡ Memory) → (memory_ended ≡ false → old ≡ cause_of_journal journal) → new ≡ Done → has_answer is_disk_fault journal ≡ false
 done_without_fault mid after journal memory_ended old new closes memory ends done =
     ⊎_elim
-      (λ (same : new ≡ old). no_fault_of_cause journal (sym (ends (not_memory memory_ended old (sym same ∙ done) memory)) ∙ sym same ∙ done))
-      (λ (c : (new ≡ Disk) × Rose mid after × (old ≢ Memory)). absurd (disk_not_done (sym c.0 ∙ done)))
-      closes where
-  not_memory : (memory_ended : Bool) (old : Cause) → old ≡ Done → (memory_ended ≡ true → old ≡ Memory) → memory_ended ≡ false
-  not_memory true old is memory = (let e : Done ≡ Memory = sym is ∙ memory refl in cc)
-  not_memory false old is memory = refl
-  disk_not_done : Disk ≡ Done → ⊥
-  disk_not_done e = cc
+    (λ (same : new ≡ old). no_fault_of_cause journal (sym (ends (not_memory memory_ended old (sym same ∙ done) memory)) ∙ sym same ∙ done))
+    (λ (c : (new ≡ Disk) × Rose mid after × (old ≢ Memory)). absurd (disk_not_done (sym c.0 ∙ done)))
+    closes where
+      not_memory : (memory_ended : Bool) (old : Cause) → old ≡ Done → (memory_ended ≡ true → old ≡ Memory) → memory_ended ≡ false
+      not_memory true old is memory = (let e : Done ≡ Memory = sym is ∙ memory refl in cc)
+      not_memory false old is memory = refl
+
+      disk_not_done : Disk ≡ Done → ⊥
+      disk_not_done e = cc
 
 -- a run ends so, and not otherwise
 abbrev pub IsRanCause : Cause → Type 0
@@ -175,19 +176,19 @@ room_ran (event ∷ events) = room_step (answer_of event) (cause_of_room events)
 journal_ran : (journal : List Event) → IsRanCause (cause_of_journal journal)
 journal_ran journal =
     ⊎_elim
-      (λ (e : has_answer is_disk_fault journal ≡ true).
-        subst (λ (c : Cause). IsRanCause c) (sym (cond-true (has_answer is_disk_fault journal) Disk (cause_of_room journal) e)) tt)
-      (λ (e : has_answer is_disk_fault journal ≡ false).
-        subst (λ (c : Cause). IsRanCause c) (sym (cond-false (has_answer is_disk_fault journal) Disk (cause_of_room journal) e)) (room_ran journal))
-      (cases_Bool (has_answer is_disk_fault journal))
+    (λ (e : has_answer is_disk_fault journal ≡ true).
+    subst (λ (c : Cause). IsRanCause c) (sym (cond-true (has_answer is_disk_fault journal) Disk (cause_of_room journal) e)) tt)
+    (λ (e : has_answer is_disk_fault journal ≡ false).
+    subst (λ (c : Cause). IsRanCause c) (sym (cond-false (has_answer is_disk_fault journal) Disk (cause_of_room journal) e)) (room_ran journal))
+    (cases_Bool (has_answer is_disk_fault journal))
 
 pub ran_cause : (journal : List Event) (memory_ended : Bool) (cause : Cause) → (memory_ended ≡ true → cause ≡ Memory) → (memory_ended ≡ false → EndsBy journal cause) → IsRanCause cause
 ran_cause journal true cause memory ends = subst (λ (c : Cause). IsRanCause c) (sym (memory refl)) tt
 ran_cause journal false cause memory ends =
     ⊎_elim
-      (λ (e : cause ≡ cause_of_journal journal). subst (λ (c : Cause). IsRanCause c) (sym e) (journal_ran journal))
-      (λ (e : cause ≡ Disk). subst (λ (c : Cause). IsRanCause c) (sym e) tt)
-      (ends refl)
+    (λ (e : cause ≡ cause_of_journal journal). subst (λ (c : Cause). IsRanCause c) (sym e) (journal_ran journal))
+    (λ (e : cause ≡ Disk). subst (λ (c : Cause). IsRanCause c) (sym e) tt)
+    (ends refl)
 
 pub runs_if : (cause : Cause) (opened : Bool) → IsRanCause cause → opened ≡ true → RunsIf cause opened
 runs_if Done opened ran is = is
@@ -225,11 +226,11 @@ caused_earlier before mid after journal earlier caused = record {
 pub done_acknowledged : (journal : List Event) (cause : Cause) → cause ≡ Done → EndsBy journal cause → AllSettled journal → AllAcknowledged journal
 done_acknowledged journal cause done ends settled =
     ⊎_elim
-      (λ (e : cause ≡ cause_of_journal journal). all_acknowledged journal (no_fault_of_cause journal (sym e ∙ done)) settled)
-      (λ (e : cause ≡ Disk). absurd (disk_not_done (sym e ∙ done)))
-      ends where
-  disk_not_done : Disk ≡ Done → ⊥
-  disk_not_done e = cc
+    (λ (e : cause ≡ cause_of_journal journal). all_acknowledged journal (no_fault_of_cause journal (sym e ∙ done)) settled)
+    (λ (e : cause ≡ Disk). absurd (disk_not_done (sym e ∙ done)))
+    ends where
+      disk_not_done : Disk ≡ Done → ⊥
+      disk_not_done e = cc
 
 pub done_is_no_memory : (cause : Cause) → cause ≡ Done → cause ≢ Memory
 done_is_no_memory cause done = λ e. done_not_memory (sym done ∙ e) where

@@ -26,11 +26,10 @@ others_same session other line call lines h =
 
 -- a front stays one when a line more is given
 front_more : (session : ℕ) (given : Given) (front lines : List Given) → IsFront front (of_session session lines) → IsFront front (of_session session (lines ++ given ∷ []))
-front_more session given front lines h =
-    (
-      h.0 ++ of_session session (given ∷ []),
-      of_session-push session lines given ∙ ap (λ (l : List Given). l ++ of_session session (given ∷ [])) h.1 ∙ append_assoc front h.0 (of_session session (given ∷ [])),
-    )
+front_more session given front lines h = (
+  h.0 ++ of_session session (given ∷ []),
+  of_session-push session lines given ∙ ap (λ (l : List Given). l ++ of_session session (given ∷ [])) h.1 ∙ append_assoc front h.0 (of_session session (given ∷ [])),
+)
 
 eqb_sym : (a b : ℕ) → (b == a) ≡ false → (a == b) ≡ false
 eqb_sym a b h = ne_eqb a b (λ e. eqb-false b a h (sym e))
@@ -39,9 +38,9 @@ eqb_sym a b h = ne_eqb a b (λ e. eqb-false b a h (sym e))
 two_sessions : (stopped : List Bool) (a b : ℕ) → get_or stopped a false ≡ true → get_or stopped b false ≡ false → (a == b) ≡ false
 two_sessions stopped a b was not_was =
     ⊎_elim
-      (λ (e : (a == b) ≡ true). absurd (true≢false (sym was ∙ ap (λ n. get_or stopped n false) (eqb-true a b e) ∙ not_was)))
-      (λ (e : (a == b) ≡ false). e)
-      (cases_Bool (a == b))
+    (λ (e : (a == b) ≡ true). absurd (true≢false (sym was ∙ ap (λ n. get_or stopped n false) (eqb-true a b e) ∙ not_was)))
+    (λ (e : (a == b) ≡ false). e)
+    (cases_Bool (a == b))
 
 -- a line of a session that was ended is not given
 pub given_skipped : (journal : List Event) (memory : Bool) (stopped : List Bool) (lines : List Given) (session line : ℕ) (call : Call) → HasGiven journal memory stopped lines →
@@ -59,18 +58,18 @@ pub given_line : (old new : List Event) (memory : Bool) (stopped : List Bool) (l
 given_line old new memory stopped lines session line call has running is =
     let given : Given = Session session line call in
     let each : (s : ℕ) → get_or stopped s false ≡ false → of_session s (lines_of new) ≡ of_session s (lines ++ given ∷ []) = λ s r.
-      ap (of_session s) is ∙ of_session-push s (lines_of old) given ∙ ap (λ (l : List Given). l ++ of_session s (given ∷ [])) (has.each s r) ∙ sym (of_session-push s lines given) in
+    ap (of_session s) is ∙ of_session-push s (lines_of old) given ∙ ap (λ (l : List Given). l ++ of_session s (given ∷ [])) (has.each s r) ∙ sym (of_session-push s lines given) in
     record {
       all = λ m. is ∙ ap (λ (l : List Given). l ++ given ∷ []) (has.all m);
       none_stopped = has.none_stopped;
       each = each;
       front = λ s. ⊎_elim
-        (λ (e : get_or stopped s false ≡ true).
+          (λ (e : get_or stopped s false ≡ true).
           let apart = eqb_sym session s (two_sessions stopped s session e running) in
           subst (λ (l : List Given). IsFront l (of_session s (lines ++ given ∷ []))) (sym (ap (of_session s) is ∙ others_same s session line call (lines_of old) apart))
-            (front_more s given (of_session s (lines_of old)) lines (has.front s)))
-        (λ (e : get_or stopped s false ≡ false). ([], sym (each s e) ∙ sym (append-nil (of_session s (lines_of new)))))
-        (cases_Bool (get_or stopped s false));
+          (front_more s given (of_session s (lines_of old)) lines (has.front s)))
+          (λ (e : get_or stopped s false ≡ false). ([], sym (each s e) ∙ sym (append-nil (of_session s (lines_of new)))))
+          (cases_Bool (get_or stopped s false));
     }
 
 -- a line that found no memory ends its session
@@ -83,8 +82,8 @@ given_stopped old new memory stopped lines session line call has within same =
       all = λ m. absurd (true≢false m);
       none_stopped = λ m. absurd (true≢false m);
       each = λ s running.
-        let apart = two_sessions (set stopped session true) session s now_stopped running in
-        has.each s (sym (get_or-set_other stopped session s true false (λ e. eqb-false session s apart (sym e))) ∙ running) ∙ sym (others_same s session line call lines apart);
+          let apart = two_sessions (set stopped session true) session s now_stopped running in
+          has.each s (sym (get_or-set_other stopped session s true false (λ e. eqb-false session s apart (sym e))) ∙ running) ∙ sym (others_same s session line call lines apart);
       front = λ s. front_more s given (of_session s (lines_of old)) lines (has.front s);
     } in
     subst (λ (j : List Event). HasGiven j true (set stopped session true) (lines ++ given ∷ [])) (sym same) here

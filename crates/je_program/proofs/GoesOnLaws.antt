@@ -48,7 +48,7 @@ pub answered_goes_on : (tells : Bool) (state : State) (kept : Kept) (st : Standi
     kept.last_txn < LAST_TXN → IsPlanned kept st call (Answered answer) → GoesOn tells state (record kept { last_txn = kept.last_txn + 1 }) st call (Ok answer)
 answered_goes_on tells state kept st call answer here valid below planned =
     let due : answer_to log_rule st call ≡ answer =
-      answer_is st.fault st call (sym here.fault ∙ valid) (subst (λ n. n < LAST_TXN) here.last_txn below) ∙ planned.0 in
+    answer_is st.fault st call (sym here.fault ∙ valid) (subst (λ n. n < LAST_TXN) here.last_txn below) ∙ planned.0 in
     (subst (λ (a : Answer). MayAnswer a answer) (sym due) (may_plain answer planned.1), answered_at tells state kept st call answer here below planned.1, numbered_plain answer kept.commits planned.1)
 
 pub logged_goes_on : (tells : Bool) (before after : State) (old new : Kept) (st : Standing) (call : Call) (number : ℕ) (change : Change) (totals : Totals) (result : Result Answer AllocError) →
@@ -56,16 +56,15 @@ pub logged_goes_on : (tells : Bool) (before after : State) (old new : Kept) (st 
     LogsChange tells before after old new number change totals result → GoesOn tells after new st call result
 logged_goes_on tells before after old new st call number change totals (Ok (Logged commit)) here valid below logged logs =
     let due : answer_to log_rule st call ≡ Logged (st.commits + 1) =
-      answer_is st.fault st call (sym here.fault ∙ valid) (subst (λ n. n < LAST_TXN) here.last_txn below) ∙ logged.answer in
-    let number_is : commit ≡ st.commits + 1 = logs.0 ∙ ap (λ n. n + 1) here.commits in
-    (
+    answer_is st.fault st call (sym here.fault ∙ valid) (subst (λ n. n < LAST_TXN) here.last_txn below) ∙ logged.answer in
+    let number_is : commit ≡ st.commits + 1 = logs.0 ∙ ap (λ n. n + 1) here.commits in (
       subst (λ (a : Answer). MayAnswer a (Logged commit)) (sym due) (inl (ap Logged number_is)),
       logged_at tells before after old new st call commit number change totals here (sym here.fault ∙ valid) below logged logs.1 logs.2,
       logs.0 ∙ sym (logs.1.commits),
     )
 logged_goes_on tells before after old new st call number change totals (Ok DiskFault) here valid below logged logs =
     let due : answer_to log_rule st call ≡ Logged (st.commits + 1) =
-      answer_is st.fault st call (sym here.fault ∙ valid) (subst (λ n. n < LAST_TXN) here.last_txn below) ∙ logged.answer in
+    answer_is st.fault st call (sym here.fault ∙ valid) (subst (λ n. n < LAST_TXN) here.last_txn below) ∙ logged.answer in
     (subst (λ (a : Answer). MayAnswer a DiskFault) (sym due) (inr refl), faulted_at tells before after old new st call here below logs, tt)
 logged_goes_on tells before after old new st call number change totals (Ok answer) here valid below logged logs = absurd logs
 logged_goes_on tells before after old new st call number change totals (Err error) here valid below logged logs =

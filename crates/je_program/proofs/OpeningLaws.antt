@@ -48,38 +48,37 @@ pub opened_log : (tells : Bool) (before after : State) (bytes : List ℕ) (kept 
     kept.last_offset ≡ last_offset_of bytes → store_of (rows_in kept.rows) ≡ opening → kept.totals.databases ≡ length opening.databases →
     kept.totals.records ≡ record_count opening → kept.log_bytes ≡ length bytes → kept.commits ≡ 0 → kept.fault ≡ None →
     (tells ≡ true → IsFirstAlone before.reads bytes) → (tells ≡ true → after.reads ≡ before.reads) → IsOpened tells before.reads after opening kept
-opened_log tells before after bytes kept opening means rows rising offset made databases records len commits fault told same =
-    (
-      start_of kept opening,
-      record {
-        starts = record {
-          store = refl;
-          commits = refl;
-          begun = refl;
-          fault = refl;
-          means = λ t. record { only = (told t).only; first = ap (λ (o : Option (List ℕ)). meaning_of_file o) (told t).first ∙ means };
-          len = λ t. len ∙ sym (ap (λ (o : Option (List ℕ)). log_length o) (told t).first);
-        };
-        here = record {
-          fault = fault;
-          last_txn = refl;
-          last_db = refl;
-          log_bytes = refl;
-          commits = commits;
-          databases = databases;
-          records = records;
-          few = omega arith;
-          valid = λ none. record {
-            bytes = bytes;
-            made = made;
-            log = kept_opened bytes (record { store = opening; last_txn = kept.last_txn; last_db = kept.last_db }) (rows_in kept.rows) means rows rising;
-            len = sym len;
-            last = sym offset;
-            told = λ t. subst (λ (f : Files). IsFirstAlone f bytes) (sym (same t)) (told t);
-          };
-        };
-      },
-    )
+opened_log tells before after bytes kept opening means rows rising offset made databases records len commits fault told same = (
+  start_of kept opening,
+  record {
+    starts = record {
+      store = refl;
+      commits = refl;
+      begun = refl;
+      fault = refl;
+      means = λ t. record { only = (told t).only; first = ap (λ (o : Option (List ℕ)). meaning_of_file o) (told t).first ∙ means };
+      len = λ t. len ∙ sym (ap (λ (o : Option (List ℕ)). log_length o) (told t).first);
+    };
+    here = record {
+      fault = fault;
+      last_txn = refl;
+      last_db = refl;
+      log_bytes = refl;
+      commits = commits;
+      databases = databases;
+      records = records;
+      few = omega arith;
+      valid = λ none. record {
+        bytes = bytes;
+        made = made;
+        log = kept_opened bytes (record { store = opening; last_txn = kept.last_txn; last_db = kept.last_db }) (rows_in kept.rows) means rows rising;
+        len = sym len;
+        last = sym offset;
+        told = λ t. subst (λ (f : Files). IsFirstAlone f bytes) (sym (same t)) (told t);
+      };
+    };
+  },
+)
 
 new_is : (opening : Store) (txn db : ℕ) → opening ≡ no_databases → txn ≡ 0 → db ≡ 0 →
     new_meaning ≡ record { store = opening; last_txn = txn; last_db = db }
@@ -92,38 +91,37 @@ pub opened_new : (tells : Bool) (before after : State) (kept : Kept) (opening : 
     ((db : ℕ) → rows_in kept.rows db ≡ []) → opening ≡ no_databases → store_of (rows_in kept.rows) ≡ opening → kept.totals.databases ≡ 0 →
     kept.totals.records ≡ 0 → kept.last_txn ≡ 0 → kept.last_db ≡ 0 → kept.last_offset ≡ 0 → kept.log_bytes ≡ 26 → kept.commits ≡ 0 → kept.fault ≡ None →
     (tells ≡ true → IsFirstOnly before.reads × (before.reads 0 ≡ None)) → (tells ≡ true → IsFirstAlone after.reads header_bytes) → IsOpened tells before.reads after opening kept
-opened_new tells before after kept opening rows new made databases records txn db offset len commits fault none alone =
-    (
-      start_of kept opening,
-      record {
-        starts = record {
-          store = refl;
-          commits = refl;
-          begun = refl;
-          fault = refl;
-          means = λ t. record { only = (none t).0; first = ap (λ (o : Option (List ℕ)). meaning_of_file o) (none t).1 ∙ ap (λ (m : Meaning). Some m) (new_is opening kept.last_txn kept.last_db new txn db) };
-          len = λ t. len ∙ sym length-header ∙ sym (ap (λ (o : Option (List ℕ)). log_length o) (none t).1);
-        };
-        here = record {
-          fault = fault;
-          last_txn = refl;
-          last_db = refl;
-          log_bytes = refl;
-          commits = commits;
-          databases = databases ∙ sym (ap (λ (s : Store). length s.databases) new);
-          records = records ∙ sym (ap record_count new);
-          few = omega arith;
-          valid = λ again. record {
-            bytes = header_bytes;
-            made = made;
-            log = kept_along header_bytes no_rows (rows_in kept.rows) 0 kept.last_txn 0 kept.last_db (sym (fun_ext rows)) (sym txn) (sym db) kept_new;
-            len = length-header ∙ sym len;
-            last = last_offset-header ∙ sym offset;
-            told = alone;
-          };
-        };
-      },
-    )
+opened_new tells before after kept opening rows new made databases records txn db offset len commits fault none alone = (
+  start_of kept opening,
+  record {
+    starts = record {
+      store = refl;
+      commits = refl;
+      begun = refl;
+      fault = refl;
+      means = λ t. record { only = (none t).0; first = ap (λ (o : Option (List ℕ)). meaning_of_file o) (none t).1 ∙ ap (λ (m : Meaning). Some m) (new_is opening kept.last_txn kept.last_db new txn db) };
+      len = λ t. len ∙ sym length-header ∙ sym (ap (λ (o : Option (List ℕ)). log_length o) (none t).1);
+    };
+    here = record {
+      fault = fault;
+      last_txn = refl;
+      last_db = refl;
+      log_bytes = refl;
+      commits = commits;
+      databases = databases ∙ sym (ap (λ (s : Store). length s.databases) new);
+      records = records ∙ sym (ap record_count new);
+      few = omega arith;
+      valid = λ again. record {
+        bytes = header_bytes;
+        made = made;
+        log = kept_along header_bytes no_rows (rows_in kept.rows) 0 kept.last_txn 0 kept.last_db (sym (fun_ext rows)) (sym txn) (sym db) kept_new;
+        len = length-header ∙ sym len;
+        last = last_offset-header ∙ sym offset;
+        told = alone;
+      };
+    };
+  },
+)
 
 -- what was opened, under equal names
 pub opened_along : (tells : Bool) (files : Files) (a b : State) (o p : Store) (k l : Kept) → a ≡ b → o ≡ p → k ≡ l → IsOpened tells files a o k → IsOpened tells files b p l

@@ -30,12 +30,12 @@ gains_then_part a b c x y p q = (length x + q.0, gains_same a c (x ++ take q.0 y
 pub part_of_first : (a b : Option (List ℕ)) (x y : List ℕ) → GainsPart a b x → GainsPart a b (x ++ y)
 part_of_first a b x y p =
     ⊎_elim
-      (λ (e : length x < p.0). (length x, gains_same a b (take p.0 x) (take (length x) (x ++ y)) (take_all p.0 x (omega arith) ∙ whole x y) p.1))
-      (λ (e : p.0 ≤ length x). (p.0, gains_same a b (take p.0 x) (take p.0 (x ++ y)) (sym (take-append-le p.0 x y e)) p.1))
-      (cases_lt (length x) p.0) where
-  whole : (x y : List ℕ) → x ≡ take (length x) (x ++ y)
-  whole [] y = refl
-  whole (a ∷ x) y = ap (λ l. a ∷ l) (whole x y)
+    (λ (e : length x < p.0). (length x, gains_same a b (take p.0 x) (take (length x) (x ++ y)) (take_all p.0 x (omega arith) ∙ whole x y) p.1))
+    (λ (e : p.0 ≤ length x). (p.0, gains_same a b (take p.0 x) (take p.0 (x ++ y)) (sym (take-append-le p.0 x y e)) p.1))
+    (cases_lt (length x) p.0) where
+      whole : (x y : List ℕ) → x ≡ take (length x) (x ++ y)
+      whole [] y = refl
+      whole (a ∷ x) y = ap (λ l. a ∷ l) (whole x y)
 
 -- the same of a second write's result
 pub both_told : {T E : Type 0} → (a b c : Option (List ℕ)) (x y : List ℕ) (r : Result T E) → Gains a b x → OnOk r (Gains b c y) → OnOk r (Gains a c (x ++ y))

@@ -43,10 +43,10 @@ runs_plain tells before after old new journal session line call answer st runnin
 ends_settled : (commit commits : ℕ) (ending : Answer) → commit ≡ commits → MayEndSync (Some commits) ending → list_any (settles commit) (SyncBegin Done ∷ SyncEnd ending ∷ []) ≡ true
 ends_settled commit commits ending is ends =
     ⊎_elim
-      (λ (e : ending ≡ Durable commits). subst (λ (a : Answer). list_any (settles commit) (SyncBegin Done ∷ SyncEnd a ∷ []) ≡ true) (sym e)
-        (subst (λ c. list_any (settles c) (SyncBegin Done ∷ SyncEnd (Durable commits) ∷ []) ≡ true) (sym is) (grind (arith, nat_tests))))
-      (λ (e : ending ≡ DiskFault). subst (λ (a : Answer). list_any (settles commit) (SyncBegin Done ∷ SyncEnd a ∷ []) ≡ true) (sym e) refl)
-      ends
+    (λ (e : ending ≡ Durable commits). subst (λ (a : Answer). list_any (settles commit) (SyncBegin Done ∷ SyncEnd a ∷ []) ≡ true) (sym e)
+    (subst (λ c. list_any (settles c) (SyncBegin Done ∷ SyncEnd (Durable commits) ∷ []) ≡ true) (sym is) (grind (arith, nat_tests))))
+    (λ (e : ending ≡ DiskFault). subst (λ (a : Answer). list_any (settles commit) (SyncBegin Done ∷ SyncEnd a ∷ []) ≡ true) (sym e) refl)
+    ends
 
 -- a call that was logged, and its sync
 pub runs_logged : (tells : Bool) (before middle after : State) (old mid new : Kept) (journal : List Event) (session line : ℕ) (call : Call) (answer ending : Answer) (st : Standing) →
@@ -65,8 +65,8 @@ runs_logged tells before middle after old mid new journal session line call (Log
       settled = each_comes_later-append settles journal events running.settled (ends_settled commit st1.commits ending number ended.0, (tt, (tt, tt)));
     } in
     let same : journal ++ events ≡ ((journal ++ Called session line call (Logged commit) ∷ []) ++ SyncBegin Done ∷ []) ++ SyncEnd ending ∷ [] =
-      sym (append_assoc journal (Called session line call (Logged commit) ∷ SyncBegin Done ∷ []) (SyncEnd ending ∷ []))
-      ∙ ap (λ (l : List Event). l ++ SyncEnd ending ∷ []) (sym (append_assoc journal (Called session line call (Logged commit) ∷ []) (SyncBegin Done ∷ []))) in
+    sym (append_assoc journal (Called session line call (Logged commit) ∷ SyncBegin Done ∷ []) (SyncEnd ending ∷ []))
+    ∙ ap (λ (l : List Event). l ++ SyncEnd ending ∷ []) (sym (append_assoc journal (Called session line call (Logged commit) ∷ []) (SyncBegin Done ∷ []))) in
     subst (λ (l : List Event). IsRunning tells after new l st) same all
 runs_logged tells before middle after old mid new journal session line call answer ending st running goes logged sync = cc
 

@@ -127,7 +127,7 @@ number_below : (rows : Rows) (name : List ℕ) (number last : ℕ) → AllByRecu
 number_below rows name number last all has =
     let row = row_of_data (plain_name name) (rows 0) has.0 has.1 in
     let below = (found (λ (r : Row). number_in r.1 ≤ last) (λ r. is_eq (name_cmp r.0 (plain_name name))) (rows 0) row.0 row.1
-      (all_of_map (λ (r : Row). number_in r.1) (λ n. n ≤ last) (rows 0) all)).0 in
+    (all_of_map (λ (r : Row). number_in r.1) (λ n. n ≤ last) (rows 0) all)).0 in
     let same : number_in row.0.1 ≡ number = ap number_in row.2 ∙ has.2 in
     subst (λ n. n ≤ last) same below
 
@@ -150,10 +150,10 @@ told_logged before after old bytes number change alone len last disk =
     let commit : ℕ → List ℕ = λ n. spelling (Commit (record { 0 = txn })) n in
     let grown = alone_appended before bytes (transaction_bytes old txn entry) alone in
     let same : bytes ++ transaction_bytes old txn entry ≡ log_with bytes txn number change =
-      sym (append_assoc bytes (spelling entry old.last_offset) (commit old.log_bytes))
-      ∙ ap (λ n. bytes ++ spelling entry old.last_offset ++ commit n) (sym len) ∙ ap (λ n. bytes ++ spelling entry n ++ commit (length bytes)) (sym last) in
+    sym (append_assoc bytes (spelling entry old.last_offset) (commit old.log_bytes))
+    ∙ ap (λ n. bytes ++ spelling entry old.last_offset ++ commit n) (sym len) ∙ ap (λ n. bytes ++ spelling entry n ++ commit (length bytes)) (sym last) in
     subst (λ (s : State). IsFirstAlone s.reads (log_with bytes txn number change)) (sym disk)
-      (subst (λ (b : List ℕ). IsFirstAlone (appended 0 (transaction_bytes old txn entry) before).reads b) same grown)
+    (subst (λ (b : List ℕ). IsFirstAlone (appended 0 (transaction_bytes old txn entry) before).reads b) same grown)
 
 -- a logged change leaves a valid environment valid
 valid_logged : (tells : Bool) (before after : State) (old new : Kept) (store : Store) (number : ℕ) (change : Change) (totals : Totals) →
@@ -164,18 +164,18 @@ valid_logged : (tells : Bool) (before after : State) (old new : Kept) (store : S
 valid_logged tells before after old new store number change totals v has may entry below room disk =
     let txn = old.last_txn + 1 in
     let long : length (log_with v.bytes txn number change) < 2 ^ 32 =
-      (let is : length (log_with v.bytes txn number change) ≡ length v.bytes + logged_bytes (change ∷ []) = length-log_with v.bytes txn number change in
-       let start : length v.bytes ≡ old.log_bytes = v.len in
-       omega arith) in
+    (let is : length (log_with v.bytes txn number change) ≡ length v.bytes + logged_bytes (change ∷ []) = length-log_with v.bytes txn number change in
+    let start : length v.bytes ≡ old.log_bytes = v.len in
+    omega arith) in
     let kept = kept_logged v.bytes (rows_in old.rows) (rows_in new.rows) old.last_txn old.last_db txn number change v.log may entry (omega arith) (omega arith) long has.rows in
     record {
       bytes = log_with v.bytes txn number change;
       made = store_of-logged v.bytes (rows_in old.rows) (rows_in new.rows) old.last_txn old.last_db txn number change v.log may has.rows ∙ ap (changed change) v.made;
       log = kept_along (log_with v.bytes txn number change) (rows_in new.rows) (rows_in new.rows) txn new.last_txn (last_db_after old.last_db number change) new.last_db
-        refl (sym has.last_txn) (sym ((last_db_is (rows_in old.rows) old.last_db number change v.log.numbers may).1) ∙ sym has.last_db) kept;
+          refl (sym has.last_txn) (sym ((last_db_is (rows_in old.rows) old.last_db number change v.log.numbers may).1) ∙ sym has.last_db) kept;
       len = length-log_with v.bytes txn number change ∙ ap (λ n. n + logged_bytes (change ∷ [])) v.len ∙ sym has.log_bytes;
       last = last_offset-log_with v.bytes (rows_in old.rows) old.last_txn old.last_db txn number change v.log entry (omega arith) long
-        ∙ ap (λ n. n + size_of (entry_of txn number change)) v.len ∙ sym has.last_offset;
+          ∙ ap (λ n. n + size_of (entry_of txn number change)) v.len ∙ sym has.last_offset;
       told = λ tells_it. told_logged before after old v.bytes number change (v.told tells_it) v.len v.last (disk tells_it);
     }
 
@@ -214,7 +214,7 @@ logged_at tells before after old new st call commit number change totals here no
       records = ap (λ (t : Totals). t.records) has.counts ∙ logged.records;
       few = (let few : st.commits ≤ st.log_bytes = here.few in let more = logs_bytes one in omega arith);
       valid = λ again. valid_logged tells before after old new st.store number change totals v has logged.may
-        (logged.entry (old.last_txn + 1) (omega arith)) below logged.room disk;
+          (logged.entry (old.last_txn + 1) (omega arith)) below logged.room disk;
     } in
     subst (λ (changes : List Change). IsAt tells after new (logged_standing st changes)) (sym logged.changes) there
 

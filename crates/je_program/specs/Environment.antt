@@ -36,4 +36,3 @@ pub record IsAt (tells : Bool) (state : State) (kept : Kept) (st : Standing) : T
   pub records : kept.totals.records ≡ record_count st.store
   pub few : st.commits ≤ st.log_bytes
   pub valid : st.fault ≡ None → IsValid tells state kept st.store
-

@@ -53,8 +53,8 @@ abbrev pub planned_put : Kept → List ℕ → List ℕ → List ℕ → Option 
 planned_put kept db key value None = Answered NoDatabase
 planned_put kept db key value (Some number) =
     planned_unless (length_refusal (Put db key value))
-        (logs_with_room kept number (Set db (plain_name key) value)
-            (record { databases = kept.totals.databases; records = records_with kept.totals.records (data_at (plain_name key) (rows_in kept.rows number)) }))
+    (logs_with_room kept number (Set db (plain_name key) value)
+    (record { databases = kept.totals.databases; records = records_with kept.totals.records (data_at (plain_name key) (rows_in kept.rows number)) }))
 
 abbrev pub planned_read : List ℕ → Option (List ℕ) → Planned
 planned_read key None = Answered NotFound

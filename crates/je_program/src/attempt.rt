@@ -1,5 +1,5 @@
 // A program's work, up to its output.
-ghost use Rattle.std.specs.Prelude.{◌≡◌, ◌≢◌, ◌≤◌, [], ℕ, None, true, false, map, string_bytes};
+ghost use Rattle.std.specs.Prelude.{◌≡◌, ◌≢◌, ◌≤◌, ◌⊎◌, [], ℕ, None, true, false, map, string_bytes};
 ghost use Rattle.je_model.specs.declared.plan.RunPlan.{RunPlan};
 ghost use Rattle.je_program.specs.Words.{are_run_words};
 ghost use Rattle.je_disk.specs.Moments.{now};
@@ -155,7 +155,7 @@ pub fn work<D: Disk, S: Source>(
     input: &mut S,
 ) -> Attempt<D>
     ensures usage { result.cause ≡ Why.Usage → are_run_words (map string_bytes words.now) ≡ false }
-    ensures right { result.cause ≢ Why.Usage → are_run_words (map string_bytes words.now) ≡ true }
+    ensures wrong { are_run_words (map string_bytes words.now) ≡ false → (result.cause ≡ Why.Usage) ⊎ (result.cause ≡ Why.Memory) }
     ensures stopped { IsStopped (S.left input.old) (S.faults input.old) (S.faults input.new) result.cause }
     ensures script { is_before_disk result.cause ≡ false → result.cause ≢ Why.Memory → (plan : RunPlan) × ReadsPlan (S.left input.old) (S.left input.new) plan }
     ensures given { result.opened ≡ true → (plan : RunPlan) × IsGivenTo (S.left input.old) (S.left input.new) result.journal.items result.cause plan }
@@ -170,8 +170,10 @@ pub fn work<D: Disk, S: Source>(
     ensures files { result.cause ≡ Why.Done → D.tells ≡ true → MeanStore (now (D.history result.disk)).reads (final_store result.opening result.journal.items) }
     ensures source { S.faults input.old ≤ S.faults input.new }
 {
-    if !are_right(words) {
-        return unopened(alloc, Cause::Usage, disk);
+    match are_right(alloc, words) {
+        Ok(true) => {}
+        Ok(false) => return unopened(alloc, Cause::Usage, disk),
+        Err(_) => return unopened(alloc, Cause::Memory, disk),
     }
     match read_script(alloc, input) {
         Ok(plan) => run_plan(alloc, disk, plan),

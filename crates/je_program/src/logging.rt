@@ -39,12 +39,7 @@ fn creation(
 }
 
 /// The entry that logs a change, by a transaction, in the database of that number.
-pub fn entry_of(
-    alloc: Global,
-    txn: u64,
-    number: u32,
-    change: Change,
-) -> Result<Entry, AllocError>
+pub fn entry_of(alloc: Global, txn: u64, number: u32, change: Change) -> Result<Entry, AllocError>
     ensures { IfOk result (λ entry. entry ≡ entry_of_change txn number change) }
 {
     match change {
@@ -88,7 +83,10 @@ pub fn change_rows(rows: &mut Rows, alloc: Global, entry: Entry) -> Result<(), A
 {
     match entry {
         Entry::Put {
-            db, name, value, ..
+            db,
+            name,
+            value,
+            ..
         } => rows.set(alloc, db, name, value),
         Entry::Delete { db, name, .. } => {
             rows.unset(db, &name);

@@ -125,12 +125,7 @@ fn long_key(key: &Octets) -> Option<Answer>
     }
 }
 
-fn plan_get(
-    kept: &Kept,
-    alloc: Global,
-    number: u32,
-    key: &Octets,
-) -> Result<Planned, AllocError>
+fn plan_get(kept: &Kept, alloc: Global, number: u32, key: &Octets) -> Result<Planned, AllocError>
     ensures { IfOk result (λ planned. planned ≡ planned_get kept.now [] key.now (Some number)) }
 {
     if let Some(refusal) = long_key(key) {

@@ -1,5 +1,5 @@
 // The top call.
-ghost use Rattle.std.specs.Prelude.{◌≡◌, ◌≢◌, ◌≤◌, ◌<◌, ◌⊎◌, ◌↔◌, [], ℕ, List, Some, Ok, Err, IfSome, true, false, length, map, string_bytes};
+ghost use Rattle.std.specs.Prelude.{◌≡◌, ◌≢◌, ◌≤◌, ◌<◌, ◌⊎◌, [], ℕ, List, Some, Ok, Err, IfSome, true, false, length, map, string_bytes};
 ghost use Rattle.je_disk.specs.Causes.{Rose};
 ghost use Rattle.je_disk.specs.Moments.{now};
 ghost use Rattle.je_io.specs.Faults.{Rose as Failing};
@@ -45,8 +45,9 @@ pub fn run_je<D: Disk, S: Source, K: Sink>(
     input: &mut S,
     output: &mut K,
 ) -> Ended<D>
-    // The words are wrong exactly where that is the cause of the end.
-    ensures usage { (result.cause ≡ Why.Usage) ↔ (are_run_words (map string_bytes words.now) ≡ false) }
+    // The words are the cause of the end only where they are wrong, and then always, unless memory ran out.
+    ensures usage { result.cause ≡ Why.Usage → are_run_words (map string_bytes words.now) ≡ false }
+    ensures usage_found { are_run_words (map string_bytes words.now) ≡ false → (result.cause ≡ Why.Usage) ⊎ (result.cause ≡ Why.Memory) }
 
     // The input failed only where its count of faults rose; it is too long, or has a first bad line.
     ensures input_failed { result.cause ≡ Why.Input → Failing (S.faults input.old) (S.faults input.new) }
@@ -83,11 +84,11 @@ pub fn run_je<D: Disk, S: Source, K: Sink>(
     ensures complete { (bytes : List ℕ) (plan : RunPlan) (meaning : Meaning) → are_run_words (map string_bytes words.now) ≡ true → S.left input.old ≡ Some bytes
         → length bytes ≤ MOST_INPUT → plan_of bytes ≡ Ok plan → D.tells ≡ true → Means (now (D.history disk)).reads meaning
         → (result.cause ≡ cause_of_room result.journal.items) ⊎ (result.cause ≡ Why.Memory)
-            ⊎ Failing (S.faults input.old) (S.faults input.new) ⊎ Rose (D.faults disk) (D.faults result.disk) }
+        ⊎ Failing (S.faults input.old) (S.faults input.new) ⊎ Rose (D.faults disk) (D.faults result.disk) }
     ensures no_meaning_found { (bytes : List ℕ) (plan : RunPlan) → are_run_words (map string_bytes words.now) ≡ true → S.left input.old ≡ Some bytes
         → length bytes ≤ MOST_INPUT → plan_of bytes ≡ Ok plan → D.tells ≡ true → HasNoMeaning (now (D.history disk)).reads
         → (result.cause ≡ Why.Log) ⊎ (result.cause ≡ Why.Memory)
-            ⊎ Failing (S.faults input.old) (S.faults input.new) ⊎ Rose (D.faults disk) (D.faults result.disk) }
+        ⊎ Failing (S.faults input.old) (S.faults input.new) ⊎ Rose (D.faults disk) (D.faults result.disk) }
 
     // What was written, and the status: the cause's, unless the output failed.
     ensures written { IsWritten (K.written output.old) (K.written output.new) (K.faults output.old) (K.faults output.new)

@@ -32,13 +32,7 @@ fn none_stopped() -> [bool; 256]
 }
 
 // Gives a line, unless its session was ended. A call that finds no memory ends its session.
-fn give_line<D: Disk>(
-    running: &mut Running<D>,
-    alloc: Global,
-    session: u8,
-    line: u32,
-    call: Call,
-)
+fn give_line<D: Disk>(running: &mut Running<D>, alloc: Global, session: u8, line: u32, call: Call)
     requires running { (st : Standing) × IsRunning D.tells (now (D.history running.old.environment.disk)) running.old.environment.kept running.old.journal.items st }
     requires bounds { CanGoOn running.old.environment.kept }
     requires sessions { length running.old.stopped ≡ 256 }

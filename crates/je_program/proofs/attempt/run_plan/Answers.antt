@@ -25,11 +25,10 @@ returns-in-Ok-clause-run g c = λ opened.
     let at = c.in-Ok.ensures.opened.1 in
     let running = c.run-running.ensures.runs st at.here in
     let files = (now (g.D.Disk.history c.args.disk)).reads in
-    let run : HasRun g.D.Disk.tells files c.in-Ok.opened.opening c.run-running.result.journal.items st = record { starts = at.starts; answers = running.answers; settled = running.settled } in
-    (
+    let run : HasRun g.D.Disk.tells files c.in-Ok.opened.opening c.run-running.result.journal.items st = record { starts = at.starts; answers = running.answers; settled = running.settled } in (
       st,
       subst (λ (s : Store). HasRun g.D.Disk.tells files s c.finish.result.journal.items st) (sym c.finish.ensures.opening)
-        (subst (λ (j : List Event). HasRun g.D.Disk.tells files c.in-Ok.opened.opening j st) (sym c.finish.ensures.journal) run),
+          (subst (λ (j : List Event). HasRun g.D.Disk.tells files c.in-Ok.opened.opening j st) (sym c.finish.ensures.journal) run),
     )
 
 pub returns-in-Ok-clause-no_meaning : goal.returns-in-Ok-clause-no_meaning
@@ -41,13 +40,13 @@ pub returns-in-Ok-clause-front : goal.returns-in-Ok-clause-front
 returns-in-Ok-clause-front g c = λ opened session.
     let front = c.run-running.ensures.given.front session in
     subst (λ (j : List Event). IsFront (of_session session (lines_of j)) (of_session session c.args.plan.lines)) (sym c.finish.ensures.journal)
-      (subst (λ (l : List Given). IsFront (of_session session (lines_of c.run-running.result.journal.items)) (of_session session l)) c.into_vec.ensures front)
+    (subst (λ (l : List Given). IsFront (of_session session (lines_of c.run-running.result.journal.items)) (of_session session l)) c.into_vec.ensures front)
 
 pub returns-in-Ok-clause-ends : goal.returns-in-Ok-clause-ends
 returns-in-Ok-clause-ends g c = λ opened other.
     let f = c.finish in
     subst (λ (j : List Event). EndsBy j f.result.cause) (sym f.ensures.journal)
-      (ends_by c.run-running.result.journal.items c.run-running.result.memory_ended f.result.cause f.ensures.memory f.ensures.ends other)
+    (ends_by c.run-running.result.journal.items c.run-running.result.memory_ended f.result.cause f.ensures.memory f.ensures.ends other)
 
 pub returns-in-Ok-clause-caused : goal.returns-in-Ok-clause-caused
 returns-in-Ok-clause-caused g c =
@@ -55,8 +54,8 @@ returns-in-Ok-clause-caused g c =
     let j = c.run-running.result.journal.items in
     let faults = g.D.Disk.faults in
     subst (λ (l : List Event). ClosesRun (faults c.args.disk) (faults f.result.disk) l f.result.cause) (sym f.ensures.journal)
-      (f.ensures.caused (faults c.args.disk)
-        (caused_earlier (faults c.args.disk) (faults c.in-Ok.opened.environment.disk) (faults c.run-running.result.environment.disk) j c.in-Ok.ensures.faults c.run-running.ensures.caused))
+    (f.ensures.caused (faults c.args.disk)
+    (caused_earlier (faults c.args.disk) (faults c.in-Ok.opened.environment.disk) (faults c.run-running.result.environment.disk) j c.in-Ok.ensures.faults c.run-running.ensures.caused))
 
 pub returns-in-Ok-clause-totals : goal.returns-in-Ok-clause-totals
 returns-in-Ok-clause-totals g c = λ opened.
@@ -66,7 +65,7 @@ returns-in-Ok-clause-totals g c = λ opened.
     let running = c.run-running.ensures.runs st at.here in
     let j = c.run-running.result.journal.items in
     f.ensures.totals st running ∙ ap totals_of (final_is st c.in-Ok.opened.opening j at.starts.store
-      ∙ ap (λ (s : Store). final_store s j) (sym f.ensures.opening) ∙ ap (λ (l : List Event). final_store f.result.opening l) (sym f.ensures.journal))
+    ∙ ap (λ (s : Store). final_store s j) (sym f.ensures.opening) ∙ ap (λ (l : List Event). final_store f.result.opening l) (sym f.ensures.journal))
 
 pub returns-in-Ok-clause-files : goal.returns-in-Ok-clause-files
 returns-in-Ok-clause-files g c = λ done told.
@@ -76,5 +75,5 @@ returns-in-Ok-clause-files g c = λ done told.
     let running = c.run-running.ensures.runs st at.here in
     let j = c.run-running.result.journal.items in
     let same = final_is st c.in-Ok.opened.opening j at.starts.store
-      ∙ ap (λ (s : Store). final_store s j) (sym f.ensures.opening) ∙ ap (λ (l : List Event). final_store f.result.opening l) (sym f.ensures.journal) in
+    ∙ ap (λ (s : Store). final_store s j) (sym f.ensures.opening) ∙ ap (λ (l : List Event). final_store f.result.opening l) (sym f.ensures.journal) in
     subst (λ (s : Store). MeanStore (now (g.D.Disk.history f.result.disk)).reads s) same (f.ensures.files st running at.starts.fault done told)

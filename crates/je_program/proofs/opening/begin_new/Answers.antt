@@ -12,6 +12,6 @@ returns-in-Ok-clause-opened g c =
     let before = now (history c.args.disk) in
     let after = now (history c.write_header.new.disk) in
     opened_along g.D.Disk.tells before.reads after (now (history c.begin.result.environment.disk)) r.opening c.begin.result.opening
-      (kept_at_start r 26) c.begin.result.environment.kept (ap (λ d. now (history d)) (sym c.begin.ensures.disk)) (sym c.begin.ensures.opening) (sym c.begin.ensures.kept)
-      (opened_new g.D.Disk.tells before after (kept_at_start r 26) r.opening facts.rows facts.opening facts.store facts.databases facts.records facts.txn facts.db facts.offset
-        refl refl refl c.requires.none (λ t. c.in-Ok.ensures.made t (c.requires.none t).0 (c.requires.none t).1))
+    (kept_at_start r 26) c.begin.result.environment.kept (ap (λ d. now (history d)) (sym c.begin.ensures.disk)) (sym c.begin.ensures.opening) (sym c.begin.ensures.kept)
+    (opened_new g.D.Disk.tells before after (kept_at_start r 26) r.opening facts.rows facts.opening facts.store facts.databases facts.records facts.txn facts.db facts.offset
+    refl refl refl c.requires.none (λ t. c.in-Ok.ensures.made t (c.requires.none t).0 (c.requires.none t).1))

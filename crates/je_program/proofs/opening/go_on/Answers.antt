@@ -15,7 +15,7 @@ returns-in-Ok-clause-opened g c =
     let facts = c.in-Ok-Some.ensures in
     let is = c.in-Ok-Some.field-0-is in
     opened_along g.D.Disk.tells before.reads after (now (history c.begin.result.environment.disk)) r.opening c.begin.result.opening
-      (kept_at_start r (length bytes)) c.begin.result.environment.kept (ap (λ d. now (history d)) (sym c.begin.ensures.disk)) (sym c.begin.ensures.opening) (sym c.begin.ensures.kept)
-      (opened_log g.D.Disk.tells before after bytes (kept_at_start r (length bytes)) r.opening (rw is at facts.meaning) (rw is at facts.rows) (rw is at facts.rising)
-        (rw is at facts.offset) (rw is at facts.store) (rw is at facts.databases) (rw is at facts.records) refl refl refl c.requires.found
-        (λ t. ap (λ (s : State). s.reads) (c.in-Ok.ensures.done t)))
+    (kept_at_start r (length bytes)) c.begin.result.environment.kept (ap (λ d. now (history d)) (sym c.begin.ensures.disk)) (sym c.begin.ensures.opening) (sym c.begin.ensures.kept)
+    (opened_log g.D.Disk.tells before after bytes (kept_at_start r (length bytes)) r.opening (rw is at facts.meaning) (rw is at facts.rows) (rw is at facts.rising)
+    (rw is at facts.offset) (rw is at facts.store) (rw is at facts.databases) (rw is at facts.records) refl refl refl c.requires.found
+    (λ t. ap (λ (s : State). s.reads) (c.in-Ok.ensures.done t)))

@@ -9,9 +9,9 @@ returns-then-running-session-clause-given g c = λ lines has.
 pub returns-in-Ok-clause-given : goal.returns-in-Ok-clause-given
 returns-in-Ok-clause-given g c = λ lines has.
     given_line c.args.running.now.journal.items c.give.new.journal.items c.args.running.now.memory_ended c.args.running.now.stopped lines c.args.session c.args.line c.args.call has
-      c.if-running-session.false c.in-Ok.ensures.line
+    c.if-running-session.false c.in-Ok.ensures.line
 
 pub returns-in-Err-clause-given : goal.returns-in-Err-clause-given
 returns-in-Err-clause-given g c = λ lines has.
     given_stopped c.args.running.now.journal.items c.give.new.journal.items c.args.running.now.memory_ended c.args.running.now.stopped lines c.args.session c.args.line c.args.call has
-      (omega arith) c.in-Err.ensures.err
+    (omega arith) c.in-Err.ensures.err

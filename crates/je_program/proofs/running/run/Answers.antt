@@ -7,7 +7,7 @@ use Rattle.je_program.proofs.GivenLaws.{given_none}
 use Rattle.je_program.proofs.running.run.Goals as goal
 
 pub loop-given-init : goal.loop-given-init
-loop-given-init g c = 
+loop-given-init g c =
     let empty = sym c.new.ensures.items in
     let env = c.args.environment in
     record {

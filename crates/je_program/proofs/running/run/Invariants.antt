@@ -12,7 +12,7 @@ invariant-loop-given g l =
     let history = g.D.Disk.history in
     record {
       runs : (st : Standing) → IsAt g.D.Disk.tells (now (history l.initial.running.environment.disk)) l.initial.running.environment.kept st
-        → IsRunning g.D.Disk.tells (now (history l.running.environment.disk)) l.running.environment.kept l.running.journal.items st;
+          → IsRunning g.D.Disk.tells (now (history l.running.environment.disk)) l.running.environment.kept l.running.journal.items st;
       bounds : CanGoOn l.running.environment.kept;
       sessions : length l.running.stopped ≡ 256;
       caused : IsCaused (g.D.Disk.faults l.initial.running.environment.disk) (g.D.Disk.faults l.running.environment.disk) l.running.journal.items;

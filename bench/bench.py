@@ -1,0 +1,312 @@
+#!/usr/bin/env python3
+"""Measures the built program: puts, gets and reopening, in memory and on disk. bench/README.md says more.
+
+    python3 bench/bench.py                      all of it
+    python3 bench/bench.py --quick              a tenth of the sizes, two repeats
+    python3 bench/bench.py --bdb PATH           beside a driver of Berkeley DB, on the same scripts
+"""
+
+import argparse
+import math
+import os
+import shlex
+import shutil
+import sys
+import tempfile
+from dataclasses import dataclass, field
+
+from child import NoPeak, run_child
+from scripts import Script, create_scripts, empty_script, get_scripts, put_scripts, records_of
+
+TOP = os.path.dirname(os.path.dirname(os.path.abspath(__file__)))
+PROGRAM = os.path.join(TOP, "crates", "jedb", "out", "jedb")
+ON_DISK = os.path.join(TOP, "bench", "build")
+
+# What is asked of the program, at the full sizes.
+MOST_EXPONENT = 1.15
+LEAST_PUTS = 100_000  # lines per net second, at the smallest size and in memory
+LEAST_GETS = 200_000
+MOST_PUT_MEMORY = 1_600  # bytes a line
+MOST_GET_MEMORY = 800
+MOST_RATIO = 1.5  # cost per record in many databases over that in one
+
+
+@dataclass
+class Sizes:
+    lines: list = field(default_factory=lambda: [40_000, 80_000, 160_000])
+    databases: int = 1_000
+    records: int = 100  # in each of them
+    repeats: int = 5
+
+
+QUICK = Sizes([4_000, 8_000, 16_000], 100, 100, 2)
+
+
+@dataclass
+class Least:
+    """The least wall time and the greatest peak memory of several runs."""
+
+    seconds: float = math.inf
+    peak: int = 0
+
+    def take(self, ran):
+        self.seconds = min(self.seconds, ran.seconds)
+        self.peak = max(self.peak, ran.peak)
+
+
+class Failure(Exception):
+    pass
+
+
+class System:
+    """A program that takes `run --home DIR < script`."""
+
+    def __init__(self, name, words):
+        self.name = name
+        self.words = words
+
+    def run(self, home, scripts, work):
+        """Runs scripts on a folder, one after another: the sum of their times and the greatest peak."""
+        seconds, peak = 0.0, 0
+        for script in scripts:
+            report = os.path.join(work, "report")
+            ran = run_child([*self.words, "run", "--home", home], script.path, report)
+            if ran.status != 0:
+                raise Failure(f"{self.name}: {script.name}: status {ran.status}")
+            wrong = script.first_wrong_line(report)
+            if wrong is not None:
+                raise Failure(f"{self.name}: {script.name}: the report is wrong at: {wrong}")
+            seconds += ran.seconds
+            peak = max(peak, ran.peak)
+        return Least(seconds, peak)
+
+
+@dataclass
+class Row:
+    """What one kind of work came to at one size: net seconds, net memory of a line, bytes of log."""
+
+    system: str
+    work: str
+    size: int
+    seconds: float
+    memory: float
+    log: int
+
+
+def folder_bytes(home):
+    return sum(os.path.getsize(os.path.join(at, name)) for at, _, names in os.walk(home) for name in names)
+
+
+def room_in(folder):
+    """A folder of the benchmark's own, which goes when it ends."""
+    return tempfile.TemporaryDirectory(prefix="jedb-bench-", dir=folder)
+
+
+def fresh(folder):
+    return tempfile.mkdtemp(dir=folder)
+
+
+def net(whole, empty):
+    """Time less that of an empty script; never nothing, since a logarithm is taken of it."""
+    return max(whole - empty, 1e-6)
+
+
+class Bench:
+    def __init__(self, systems, sizes, work):
+        self.systems = systems
+        self.sizes = sizes
+        self.work = work
+        self.empty = empty_script(work)
+        self.rows = []
+
+    def base(self, system, home, times):
+        """The least of an empty script on a folder."""
+        least = Least()
+        for _ in range(times):
+            least.take(system.run(home, [self.empty], self.work))
+        return least
+
+    def size(self, system, folder, size, times):
+        """Puts, gets and reopening at one size."""
+        records = records_of(size)
+        create = create_scripts(self.work, ["t"])
+        puts = put_scripts(self.work, records, ["t"])
+        gets = get_scripts(self.work, records, "t")
+        put, put_base, home = Least(), Least(), None
+        for _ in range(times):
+            if home:
+                shutil.rmtree(home)
+            home = fresh(folder)
+            system.run(home, create, self.work)
+            put_base.take(system.run(home, [self.empty], self.work))
+            put.take(system.run(home, puts, self.work))
+        log = folder_bytes(home)
+        reopened = self.base(system, home, times)
+        got = Least()
+        for _ in range(times):
+            got.take(system.run(home, gets, self.work))
+        shutil.rmtree(home)
+        add = lambda work, whole, base: self.rows.append(
+            Row(system.name, work, size, net(whole.seconds, base.seconds), (whole.peak - base.peak) / size, log))
+        add("put", put, put_base)
+        add("get", got, reopened)
+        add("reopen", reopened, put_base)
+
+    def growth(self, folder):
+        self.rows = []
+        for size in self.sizes.lines:
+            for system in self.systems:
+                say(f"{system.name}: {size:,} lines in {folder}")
+                self.size(system, folder, size, self.sizes.repeats)
+        return self.rows
+
+    def many_databases(self, folder):
+        """The same records in many databases and in one: net seconds to write and to open them."""
+        system = self.systems[0]
+        records = records_of(self.sizes.databases * self.sizes.records)
+        many = [f"d{number}" for number in range(self.sizes.databases)]
+        kinds = [(many, create_scripts(self.work, many), put_scripts(self.work, records, many)),
+                 (["t"], create_scripts(self.work, ["t"]), put_scripts(self.work, records, ["t"]))]
+        found = [(Least(), Least(), Least()) for _ in kinds]
+        # the two take turns, so that the load of a shared machine falls on both
+        for _ in range(self.sizes.repeats):
+            for (names, create, puts), (base, wrote, opened) in zip(kinds, found):
+                say(f"{system.name}: {len(records):,} records in {len(names):,} databases")
+                home = fresh(folder)
+                system.run(home, create, self.work)
+                base.take(system.run(home, [self.empty], self.work))
+                wrote.take(system.run(home, puts, self.work))
+                opened.take(system.run(home, [self.empty], self.work))
+                shutil.rmtree(home)
+        return [(len(names), net(wrote.seconds, base.seconds), net(opened.seconds, base.seconds))
+                for (names, _, _), (base, wrote, opened) in zip(kinds, found)]
+
+
+def exponent(points):
+    """The slope of log time over log size, by least squares."""
+    logs = [(math.log(size), math.log(seconds)) for size, seconds in points]
+    x = sum(a for a, _ in logs) / len(logs)
+    y = sum(b for _, b in logs) / len(logs)
+    return sum((a - x) * (b - y) for a, b in logs) / sum((a - x) ** 2 for a, _ in logs)
+
+
+def say(text):
+    print(text, file=sys.stderr, flush=True)
+
+
+class Goals:
+    """What is asked, and whether it was met; nothing is asked at the small sizes."""
+
+    def __init__(self, asked):
+        self.asked = asked
+        self.missed = []
+
+    def mark(self, what, value, most=None, least=None):
+        if not self.asked or (most is None and least is None):
+            return ""
+        met = value <= most if most is not None else value >= least
+        limit = f"at most {most:,}" if most is not None else f"at least {least:,}"
+        if not met:
+            self.missed.append(f"{what}: {value:,.2f}, asked {limit}")
+        return f"  ({limit}: {'met' if met else 'MISSED'})"
+
+
+def table(head, rows):
+    widths = [max(len(row[at]) for row in [head, *rows]) for at in range(len(head))]
+    for row in [head, *rows]:
+        print("  ".join(cell.rjust(width) for cell, width in zip(row, widths)))
+    print()
+
+
+def print_growth(title, rows, systems, smallest, goals, in_memory):
+    print(f"## {title}\n")
+    own = {(row.work, row.size): row for row in rows if row.system == systems[0].name}
+    lines = []
+    for row in rows:
+        against = own[row.work, row.size].seconds
+        lines.append([row.system, row.work, f"{row.size:,}", f"{row.seconds:.4f}", f"{row.size / row.seconds:,.0f}",
+                      f"{row.memory:,.0f}", f"{row.log:,}", f"{row.seconds / against:.2f}"])
+    table(["system", "work", "N", "net s", "lines/s", "bytes/line", "log bytes", "time ratio"], lines)
+    for system in systems:
+        for work in ("put", "get", "reopen"):
+            mine = [row for row in rows if row.system == system.name and row.work == work]
+            value = exponent([(row.size, row.seconds) for row in mine])
+            mark = goals.mark(f"{title}, {work}, exponent", value, most=MOST_EXPONENT) if system is systems[0] else ""
+            print(f"exponent of {work}, {system.name}: {value:.2f}{mark}")
+    if in_memory:
+        for work, least, most in (("put", LEAST_PUTS, MOST_PUT_MEMORY), ("get", LEAST_GETS, MOST_GET_MEMORY)):
+            row = own[work, smallest]
+            rate = row.size / row.seconds
+            print(f"{work} lines per second at {smallest:,}: {rate:,.0f}{goals.mark(work + ' lines per second', rate, least=least)}")
+            worst = max(row.memory for row in rows if row.system == systems[0].name and row.work == work)
+            print(f"{work} memory, bytes a line: {worst:,.0f}{goals.mark(work + ' memory', worst, most=most)}")
+    print()
+
+
+def print_databases(found, records, goals):
+    print("## Many databases, and one\n")
+    (many, wrote, opened), (_, wrote_one, opened_one) = found
+    for what, a, b in (("written", wrote, wrote_one), ("opened", opened, opened_one)):
+        ratio = a / b
+        print(f"{what}: {a / records * 1e6:.3f} microseconds a record in {many:,} databases, {b / records * 1e6:.3f} in one,"
+              f" ratio {ratio:.2f}{goals.mark(f'{what}, ratio', ratio, most=MOST_RATIO)}")
+    print()
+
+
+def read_words():
+    p = argparse.ArgumentParser(description=__doc__, formatter_class=argparse.RawDescriptionHelpFormatter)
+    p.add_argument("--program", default=PROGRAM, help="the program (without it, the one that ./jedb built)")
+    p.add_argument("--quick", action="store_true", help="a tenth of the sizes, two repeats")
+    p.add_argument("--repeat", type=int, help="how many runs the least is taken of")
+    p.add_argument("--only", choices=["memory", "disk", "databases"], help="one part alone")
+    p.add_argument("--memory", default="/dev/shm", help="a folder in memory (/dev/shm)")
+    p.add_argument("--disk", default=ON_DISK, help="a folder on disk (bench/build)")
+    p.add_argument("--bdb", default=os.environ.get("JEDB_BENCH_BDB", ""), help="command of a driver of Berkeley DB")
+    p.add_argument("--je", default=os.environ.get("JEDB_BENCH_JE", ""), help="command of a driver of Berkeley DB Java Edition")
+    return p.parse_args()
+
+
+def systems_of(words):
+    if not os.access(words.program, os.X_OK):
+        sys.exit(f"bench: no program at {words.program}; run ./jedb once, which builds it, or give --program")
+    systems = [System("jedb", [os.path.abspath(words.program)])]
+    for name, command in (("bdb", words.bdb), ("je", words.je)):
+        if command:
+            systems.append(System(name, shlex.split(command)))
+    return systems
+
+
+def measure(words, systems, sizes, work, goals):
+    bench = Bench(systems, sizes, work)
+    parts = [words.only] if words.only else ["memory", "disk", "databases"]
+    for part, title, folder in (("memory", "In memory", words.memory), ("disk", "On disk", words.disk)):
+        if part in parts:
+            with room_in(folder) as room:
+                rows = bench.growth(room)
+            print_growth(title, rows, systems, sizes.lines[0], goals, part == "memory")
+    if "databases" in parts:
+        with room_in(words.memory) as room:
+            found = bench.many_databases(room)
+        print_databases(found, sizes.databases * sizes.records, goals)
+
+
+def main():
+    words = read_words()
+    systems = systems_of(words)
+    sizes = QUICK if words.quick else Sizes()
+    if words.repeat:
+        sizes.repeats = words.repeat
+    os.makedirs(words.disk, exist_ok=True)
+    goals = Goals(not words.quick)
+    with room_in(words.memory) as work:
+        try:
+            measure(words, systems, sizes, work, goals)
+        except (Failure, NoPeak) as failure:
+            sys.exit(f"bench: {failure}")
+    for missed in goals.missed:
+        print(f"MISSED: {missed}")
+    sys.exit(1 if goals.missed else 0)
+
+
+if __name__ == "__main__":
+    main()

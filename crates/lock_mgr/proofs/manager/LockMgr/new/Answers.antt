@@ -1,0 +1,5 @@
+use Rattle.lock_mgr.proofs.Free.{free_new}
+use Rattle.lock_mgr.proofs.manager.LockMgr.new.Goals as goal
+
+pub invariant_of-result : goal.invariant_of-result
+invariant_of-result c = free_new _ c.new.ensures.settled c.new.ensures.pending

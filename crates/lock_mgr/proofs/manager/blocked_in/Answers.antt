@@ -1,0 +1,20 @@
+use Rattle.std.proofs.Common.{◌≡◌, true, map}
+use Rattle.waits_for.specs.Cycles.{is_in}
+use Rattle.lock_mgr.specs.Deadlock.{waits}
+use Rattle.lock_mgr.proofs.Free.{free_taken, free_victims, victims_stand}
+use Rattle.lock_mgr.proofs.manager.blocked_in.Goals as goal
+
+pub returns-then-not-wait-clause-free : goal.returns-then-not-wait-clause-free
+returns-then-not-wait-clause-free c = free_taken c.args.table.now c.cancel.new.self c.args.txn c.cancel.ensures.settled c.requires.through c.cancel.ensures.locks c.cancel.ensures.pending
+
+pub returns-in-Ok-clause-free : goal.returns-in-Ok-clause-free
+returns-in-Ok-clause-free c = free_victims c.args.table.now c.cancel_each.new.table c.in-Ok.victims c.cancel_each.ensures.sound (λ r. rw (← c.as_slice.ensures) (c.cancel_each.ensures.locks r)) c.cancel_each.ensures.kept c.in-Ok.ensures
+
+pub returns-in-Err-clause-free : goal.returns-in-Err-clause-free
+returns-in-Err-clause-free c = free_taken c.args.table.now c.cancel-in-Err.new.self c.args.txn c.cancel-in-Err.ensures.settled c.requires.through c.cancel-in-Err.ensures.locks c.cancel-in-Err.ensures.pending
+
+pub returns-in-Ok-clause-gone : goal.returns-in-Ok-clause-gone
+returns-in-Ok-clause-gone c = λ t m.
+    let k : is_in t (map (λ v. v.0) c.in-Ok.victims) ≡ true = rw (c.answer_of.ensures.taken c.args.txn) at m in
+    let j : is_in t (map (λ v. v.0) c.as_slice.result.now) ≡ true = rw c.as_slice.ensures k in
+    c.cancel_each.ensures.gone t j (victims_stand c.args.table.now (waits c.args.table.now) (λ x y e. e) c.in-Ok.victims c.in-Ok.ensures t k)

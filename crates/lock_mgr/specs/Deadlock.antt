@@ -1,0 +1,77 @@
+-- Waiting for oneself by way of others, and the victims that end it.
+use Rattle.std.specs.Prelude.{◌≡◌, Bool, true, false, not, cond, ◌&&◌, List, [], ◌∷◌, ◌<◌, length, map}
+use Rattle.std.specs.declared.option.Option.{Option}
+use Rattle.std.specs.declared.option.Option.TheVariants.{None, Some}
+use Rattle.std.specs.List.{list_all, filter}
+use Rattle.std.specs.Prelude.{nat_le}
+use Rattle.je_order.specs.declared.txn_id.TxnId.{TxnId}
+use Rattle.waits_for.specs.Cycles.{is_same, is_in, is_cycle_by}
+use Rattle.lock_table.specs.declared.lock.Lock.{Lock}
+use Rattle.lock_table.specs.declared.record_id.RecordId.{RecordId}
+use Rattle.lock_table.specs.Locks.{is_blocking, after_cancel}
+use Rattle.lock_table.specs.Table.{Locks, locks_at, waits_for, IsLockTable}
+use Rattle.lock_mgr.specs.declared.requested.Requested.{Requested}
+use Rattle.lock_mgr.specs.declared.requested.Requested.TheVariants.{Granted, Waiting, NotAvailable, Victims}
+
+-- x waits for y
+abbrev pub waits : Locks → TxnId → TxnId → Bool
+waits v x y = is_in y (waits_for x v)
+
+-- the same once this lock was asked for and waits
+abbrev pub waits_with : Lock → RecordId → Locks → TxnId → TxnId → Bool
+waits_with w at v x y = cond (is_same w.txn x) (is_in y (map (λ o. o.txn) (filter (is_blocking w) (locks_at at v).0))) (waits v x y)
+
+-- nobody waits for himself by way of others
+abbrev pub HasNoCycle : (TxnId → TxnId → Bool) → Type 0
+HasNoCycle R = (list : List TxnId) → is_cycle_by R list ≡ false
+
+-- what holds of the locks after every call: they are a lock table's, and nobody waits for himself by way of others
+pub record NoDeadlock (v : Locks) : Type 0 where
+  pub sound : IsLockTable v
+  pub free : HasNoCycle (waits v)
+
+-- the waits of the others
+abbrev pub others : TxnId → (TxnId → TxnId → Bool) → TxnId → TxnId → Bool
+others u R x y = not (is_same u x) && R x y
+
+-- the greatest of a list
+abbrev pub is_greatest : TxnId → List TxnId → Bool
+is_greatest u list = is_in u list && list_all (λ x. nat_le x.0 u.0) list
+
+-- victims, one after another: each one's list is a cycle as the waits then stand, it is the greatest there, and its wait goes; at the end there is no cycle left
+abbrev pub AreVictims : (TxnId → TxnId → Bool) → List (TxnId × List TxnId) → Type 0
+AreVictims R [] = HasNoCycle R
+AreVictims R (v ∷ vs) = (is_cycle_by R v.1 ≡ true) × (is_greatest v.0 v.1 ≡ true) × AreVictims (others v.0 R) vs
+
+-- the owner that an answer names
+abbrev pub owner_of : Requested → Option TxnId
+owner_of Granted = None
+owner_of (Waiting owner) = Some owner
+owner_of (NotAvailable owner) = Some owner
+owner_of (Victims owner victims) = Some owner
+
+-- the victims of a request that waited
+abbrev pub victims_of : Requested → Option (List (TxnId × List TxnId))
+victims_of Granted = None
+victims_of (Waiting owner) = Some []
+victims_of (NotAvailable owner) = None
+victims_of (Victims owner victims) = Some victims
+
+-- victims are told only where there are some
+abbrev pub IsToldRight : Requested → Type 0
+IsToldRight Granted = Unit {0}
+IsToldRight (Waiting owner) = Unit {0}
+IsToldRight (NotAvailable owner) = Unit {0}
+IsToldRight (Victims owner victims) = 0 < length victims
+
+-- those whose waits were taken back
+abbrev pub taken_back : TxnId → Requested → List TxnId
+taken_back t Granted = []
+taken_back t (Waiting owner) = []
+taken_back t (NotAvailable owner) = t ∷ []
+taken_back t (Victims owner victims) = map (λ v. v.0) victims
+
+-- a record's owners and waits, without the waits of these
+abbrev pub without_waits : List TxnId → List Lock × List Lock → List Lock × List Lock
+without_waits [] q = q
+without_waits (u ∷ us) q = without_waits us (after_cancel u q)

@@ -1,0 +1,383 @@
+// The lock manager.
+ghost use Rattle.std.specs.Prelude.{◌≡◌, ◌&&◌, ◌∷◌, ◌++◌, ◌<◌, ◌==◌, ◌↔◌, [], map, not, length, true, false, None, Some, if◌then◌else◌, IfOk, OnOk, OnErr};
+ghost use Rattle.std.specs.Option.{IfSome, IsSome, is_some, option_map_or};
+ghost use Rattle.je_order.specs.declared.txn_id.TxnId.{TxnId};
+ghost use Rattle.lock_mode.specs.declared.lock_type.LockType.{LockType};
+ghost use Rattle.waits_for.specs.Cycles.{is_in, is_edge, is_cycle_by};
+ghost use Rattle.lock_table.specs.declared.record_id.RecordId.{RecordId};
+ghost use Rattle.lock_table.specs.Locks.{is_same, lock_of, held_by, blocker, is_blocked, writer_in, after_ask, after_cancel, after_release, after_give_back, WasHeld};
+ghost use Rattle.lock_table.specs.Records.{is_record};
+ghost use Rattle.lock_table.specs.Table.{locks_at, pending_at, is_waiting, was_granted, wait_pairs, holder_of, IsLockTable};
+ghost use Rattle.lock_mgr.specs.Deadlock.{waits, waits_with, NoDeadlock, AreVictims, owner_of, victims_of as victims_in, taken_back, without_waits, IsToldRight};
+
+use crate::Requested;
+use crate::victims::{reach, victims_of};
+use je_order::{List, TxnId};
+use lock_mode::LockType;
+use lock_table::{Asked, LockTable, RecordId};
+use std::alloc::{AllocError, Global};
+use std::marker::Model;
+
+/// The locks of an environment, in which no transaction waits for itself by way of others. It is made
+/// once and lives as long as the environment. A transaction has one wait at most.
+#[derive(Drop)]
+pub struct LockMgr {
+    table: LockTable,
+}
+
+impl Model for LockMgr {
+    ghost use Rattle.lock_table.specs.Table.{Locks};
+    ghost use Rattle.lock_mgr.specs.Deadlock.{NoDeadlock};
+
+    ghost Value = { Locks };
+
+    ghost view = { λ a. a.table };
+
+    ghost invariant = { λ a. NoDeadlock a.table };
+}
+
+impl LockMgr {
+    /// No locks. It takes no memory.
+    pub fn new(alloc: Global) -> LockMgr
+        ensures locks { (r : RecordId) → locks_at r result ≡ ([], []) }
+        ensures pending { (t : TxnId) → pending_at t result ≡ None }
+    {
+        LockMgr {
+            table: LockTable::new(alloc),
+        }
+    }
+
+    /// Asks for a lock. Where it conflicts with another owner it waits, or, without `wait`, is not
+    /// available. A wait that closes cycles costs the greatest transaction of each its wait, one after
+    /// another; these are the victims. The one error is want of memory: then no lock and no wait is
+    /// changed, and the transaction has no wait any more that was granted.
+    pub fn request(
+        &mut self,
+        alloc: Global,
+        txn: TxnId,
+        at: &RecordId,
+        asked: LockType,
+        wait: bool,
+    ) -> Result<Requested, AllocError>
+        requires { is_waiting txn self.old ≡ false }
+        ensures owner { IfOk result (λ answer. owner_of answer ≡ blocker (lock_of txn asked) (locks_at at.now self.old).0) }
+        ensures waits { IfOk result (λ answer. is_some (victims_in answer) ≡ (is_some (owner_of answer) && wait)) }
+        ensures victims { IfOk result (λ answer. IfSome (victims_in answer) (AreVictims (waits_with (lock_of txn asked) at.now self.old))) }
+        ensures locks { IfOk result (λ answer. (r : RecordId) → locks_at r self.new ≡ without_waits (taken_back txn answer) (if is_record at.now r then after_ask (lock_of txn asked) (locks_at r self.old) else locks_at r self.old)) }
+        ensures pending { IfOk result (λ answer. (t : TxnId) → is_in t (taken_back txn answer) ≡ false → pending_at t self.new ≡ (if is_same txn t then option_map_or (λ _. Some at.now) (owner_of answer) None else pending_at t self.old)) }
+        ensures gone { IfOk result (λ answer. (t : TxnId) → is_in t (taken_back txn answer) ≡ true → pending_at t self.new ≡ None) }
+        ensures told { IfOk result IsToldRight }
+        ensures err { OnErr result ((r : RecordId) → locks_at r self.new ≡ locks_at r self.old) }
+        ensures err_pending { OnErr result ((t : TxnId) → is_same txn t ≡ false → pending_at t self.new ≡ pending_at t self.old) }
+        ensures free { NoDeadlock self.new }
+    {
+        request_in(&mut self.table, alloc, txn, at, asked, wait)
+    }
+
+    /// Takes back the transaction's wait, if it has one. It takes no memory.
+    pub fn cancel(&mut self, txn: TxnId)
+        ensures locks { (r : RecordId) → locks_at r self.new ≡ after_cancel txn (locks_at r self.old) }
+        ensures pending { (t : TxnId) → pending_at t self.new ≡ (if is_same txn t && is_waiting txn self.old then None else pending_at t self.old) }
+        ensures free { NoDeadlock self.new }
+    {
+        self.table.cancel(txn);
+    }
+
+    /// Makes the transaction's lock on a record what it was before, and grants the waits that it stood
+    /// in the way of, as a release does. It takes no memory.
+    pub fn give_back(&mut self, txn: TxnId, at: &RecordId, was: Option<LockType>)
+        requires holds { IsSome (held_by txn (locks_at at.now self.old).0) }
+        requires was { (held : LockType) → held_by txn (locks_at at.now self.old).0 ≡ Some held → WasHeld was held }
+        ensures locks { (r : RecordId) → locks_at r self.new ≡ (if is_record at.now r then after_give_back txn was (locks_at r self.old) else locks_at r self.old) }
+        ensures pending { (t : TxnId) → pending_at t self.new ≡ pending_at t self.old }
+        ensures free { NoDeadlock self.new }
+    {
+        self.table.give_back(txn, at, was);
+    }
+
+    /// Takes all the transaction's locks and its wait, and grants each of these records' waits in order
+    /// of arrival where it conflicts with no other owner. It takes no memory.
+    pub fn release_all(&mut self, txn: TxnId)
+        ensures locks { (r : RecordId) → locks_at r self.new ≡ after_release txn (locks_at r self.old) }
+        ensures pending { (t : TxnId) → pending_at t self.new ≡ (if is_same txn t then None else pending_at t self.old) }
+        ensures free { NoDeadlock self.new }
+    {
+        self.table.release_all(txn);
+    }
+
+    /// Whether a wait of the transaction was granted, and it has neither asked nor ended since.
+    pub fn is_granted(&self, txn: TxnId) -> bool
+        ensures { result ≡ was_granted txn self.now }
+    {
+        self.table.is_granted(txn)
+    }
+
+    /// Whether the transaction has a wait that stands.
+    pub fn waits_now(&self, txn: TxnId) -> bool
+        ensures { result ≡ is_waiting txn self.now }
+    {
+        self.table.waits_now(txn)
+    }
+
+    /// The type that the transaction holds on a record.
+    pub fn held(&self, txn: TxnId, at: &RecordId) -> Option<LockType>
+        ensures { result ≡ held_by txn (locks_at at.now self.now).0 }
+    {
+        self.table.held(txn, at)
+    }
+
+    /// Who waits for whom. It walks all waits. The one error is want of memory.
+    pub fn waits(&self, alloc: Global) -> Result<List<(TxnId, TxnId)>, AllocError>
+        ensures { IfOk result (λ pairs. pairs ≡ wait_pairs self.now) }
+    {
+        self.table.waits(alloc)
+    }
+
+    /// The owner that has a lock for writing on the record; there is one at most.
+    pub fn is_write_locked(&self, at: &RecordId) -> Option<TxnId>
+        ensures { result ≡ writer_in (locks_at at.now self.now).0 }
+    {
+        self.table.is_write_locked(at)
+    }
+
+    /// Whether the record has an owner.
+    pub fn is_locked(&self, at: &RecordId) -> bool
+        ensures { result ≡ not (length (locks_at at.now self.now).0 == 0) }
+    {
+        self.table.is_locked(at)
+    }
+
+    /// The least owner of the records of a database. It looks at no other database's records.
+    pub fn holder_in(&self, db: u32) -> Option<TxnId>
+        ensures { result ≡ holder_of db self.now }
+    {
+        self.table.holder_in(db)
+    }
+}
+
+// A request: its lock is granted, or it waits and no cycle is left, or it is not to wait.
+fn request_in(
+    table: &mut LockTable,
+    alloc: Global,
+    txn: TxnId,
+    at: &RecordId,
+    asked: LockType,
+    wait: bool,
+) -> Result<Requested, AllocError>
+    requires free { NoDeadlock table.old }
+    requires none { is_waiting txn table.old ≡ false }
+    ensures owner { IfOk result (λ answer. owner_of answer ≡ blocker (lock_of txn asked) (locks_at at.now table.old).0) }
+    ensures waits { IfOk result (λ answer. is_some (victims_in answer) ≡ (is_some (owner_of answer) && wait)) }
+    ensures victims { IfOk result (λ answer. IfSome (victims_in answer) (AreVictims (waits_with (lock_of txn asked) at.now table.old))) }
+    ensures locks { IfOk result (λ answer. (r : RecordId) → locks_at r table.new ≡ without_waits (taken_back txn answer) (if is_record at.now r then after_ask (lock_of txn asked) (locks_at r table.old) else locks_at r table.old)) }
+    ensures pending { IfOk result (λ answer. (t : TxnId) → is_in t (taken_back txn answer) ≡ false → pending_at t table.new ≡ (if is_same txn t then option_map_or (λ _. Some at.now) (owner_of answer) None else pending_at t table.old)) }
+    ensures gone { IfOk result (λ answer. (t : TxnId) → is_in t (taken_back txn answer) ≡ true → pending_at t table.new ≡ None) }
+    ensures told { IfOk result IsToldRight }
+    ensures err { OnErr result ((r : RecordId) → locks_at r table.new ≡ locks_at r table.old) }
+    ensures err_pending { OnErr result ((t : TxnId) → is_same txn t ≡ false → pending_at t table.new ≡ pending_at t table.old) }
+    ensures free { NoDeadlock table.new }
+{
+    match table.ask(alloc, txn, at, asked)? {
+        Asked::Granted => Ok(Requested::Granted),
+        Asked::Blocked { owner } => blocked_in(table, alloc, txn, owner, wait),
+    }
+}
+
+// A request that was just made to wait: it stays so and no cycle is left, or it is not to wait.
+fn blocked_in(
+    table: &mut LockTable,
+    alloc: Global,
+    txn: TxnId,
+    owner: TxnId,
+    wait: bool,
+) -> Result<Requested, AllocError>
+    requires sound { IsLockTable table.old }
+    requires waiting { is_waiting txn table.old ≡ true }
+    requires through { (list : List TxnId) → is_cycle_by (waits table.old) list ≡ true → is_in txn list ≡ true }
+    ensures owner { IfOk result (λ answer. owner_of answer ≡ Some owner) }
+    ensures waits { IfOk result (λ answer. is_some (victims_in answer) ≡ wait) }
+    ensures victims { IfOk result (λ answer. IfSome (victims_in answer) (AreVictims (waits table.old))) }
+    ensures locks { IfOk result (λ answer. (r : RecordId) → locks_at r table.new ≡ without_waits (taken_back txn answer) (locks_at r table.old)) }
+    ensures pending { IfOk result (λ answer. (t : TxnId) → is_in t (taken_back txn answer) ≡ false → pending_at t table.new ≡ pending_at t table.old) }
+    ensures gone { IfOk result (λ answer. (t : TxnId) → is_in t (taken_back txn answer) ≡ true → pending_at t table.new ≡ None) }
+    ensures told { IfOk result IsToldRight }
+    ensures err { OnErr result ((r : RecordId) → locks_at r table.new ≡ after_cancel txn (locks_at r table.old)) }
+    ensures err_pending { OnErr result ((t : TxnId) → is_same txn t ≡ false → pending_at t table.new ≡ pending_at t table.old) }
+    ensures free { NoDeadlock table.new }
+{
+    if !wait {
+        table.cancel(txn);
+        return Ok(Requested::NotAvailable { owner });
+    }
+    match victims_now(alloc, table, txn) {
+        Ok(victims) => {
+            cancel_each(table, victims.as_slice());
+            Ok(answer_of(owner, victims))
+        }
+        Err(failed) => {
+            table.cancel(txn);
+            Err(failed)
+        }
+    }
+}
+
+// Takes back the victims' waits. It takes no memory.
+fn cancel_each(table: &mut LockTable, victims: &[(TxnId, List<TxnId>)])
+    requires { IsLockTable table.old }
+    ensures locks { (r : RecordId) → locks_at r table.new ≡ without_waits (map (λ v. v.0) victims.now) (locks_at r table.old) }
+    ensures sound { IsLockTable table.new }
+    ensures pending { (t : TxnId) → is_in t (map (λ v. v.0) victims.now) ≡ false → pending_at t table.new ≡ pending_at t table.old }
+    ensures gone { (t : TxnId) → is_in t (map (λ v. v.0) victims.now) ≡ true → is_waiting t table.old ≡ true → pending_at t table.new ≡ None }
+    ensures kept { (t : TxnId) (r : RecordId) → pending_at t table.new ≡ Some r → pending_at t table.old ≡ Some r }
+{
+    for victim in victims {
+        table.cancel(victim.0);
+    }
+}
+
+// The victims of a wait that stands.
+fn victims_now(
+    alloc: Global,
+    table: &LockTable,
+    txn: TxnId,
+) -> Result<List<(TxnId, List<TxnId>)>, AllocError>
+    requires { (list : List TxnId) → is_cycle_by (waits table.now) list ≡ true → is_in txn list ≡ true }
+    ensures { IfOk result (AreVictims (waits table.now)) }
+{
+    let edges = reach(alloc, table, txn)?;
+    victims_of(alloc, edges, txn)
+}
+
+// The answer of a request that waits.
+fn answer_of(owner: TxnId, victims: List<(TxnId, List<TxnId>)>) -> Requested
+    ensures owner { owner_of result ≡ Some owner }
+    ensures victims { victims_in result ≡ Some victims }
+    ensures taken { (t : TxnId) → taken_back t result ≡ map (λ v. v.0) victims }
+    ensures told { IsToldRight result }
+{
+    if victims.is_empty() {
+        return Requested::Waiting { owner };
+    }
+    Requested::Victims { owner, victims }
+}
+
+#[cfg(test)]
+mod tests {
+    use super::*;
+    use je_order::{Bound, Name, Octets};
+    use std::test::Fail;
+
+    fn record(alloc: Global, key: &[u8]) -> Result<RecordId, AllocError> {
+        let key = Octets::from_slice(alloc, key)?;
+        let name = Name {
+            key,
+            dup: Octets::new(alloc),
+        };
+        Ok(RecordId {
+            db: 1,
+            at: Bound::At(name),
+        })
+    }
+
+    // What became of the request, in one number: 0 granted, 1 waiting, 2 not available, 3 victims; 9 is
+    // for a transaction that waits already.
+    fn asked(
+        locks: &mut LockMgr,
+        alloc: Global,
+        txn: u64,
+        at: &RecordId,
+        mode: LockType,
+        wait: bool,
+    ) -> Result<u8, AllocError> {
+        if locks.waits_now(TxnId(txn)) {
+            return Ok(9);
+        }
+        match locks.request(alloc, TxnId(txn), at, mode, wait)? {
+            Requested::Granted => Ok(0),
+            Requested::Waiting { owner: _ } => Ok(1),
+            Requested::NotAvailable { owner: _ } => Ok(2),
+            Requested::Victims {
+                owner: _,
+                victims: _,
+            } => Ok(3),
+        }
+    }
+
+    // Of a request that closes cycles: its owner, how many victims there are, the first, and how long its
+    // cycle is; zeros for any other request.
+    fn closing(
+        locks: &mut LockMgr,
+        alloc: Global,
+        txn: u64,
+        at: &RecordId,
+    ) -> Result<[u64; 4], AllocError> {
+        if locks.waits_now(TxnId(txn)) {
+            return Ok([0; 4]);
+        }
+        match locks.request(alloc, TxnId(txn), at, LockType::Write, true)? {
+            Requested::Victims { owner, victims } => match victims.as_slice() {
+                [(victim, cycle), ..] => {
+                    Ok([owner.0, victims.len() as u64, victim.0, cycle.len() as u64])
+                }
+                [] => Ok([0; 4]),
+            },
+            _ => Ok([0; 4]),
+        }
+    }
+
+    // Transactions 2 and 3 each write a record and then ask for the other's: 3 is the victim, and 2 gets
+    // its lock once 3 has ended.
+    #[test]
+    fn deadlock_of_two(rt: HostRuntime) -> Result<(), Fail> {
+        let alloc = rt.alloc();
+        let mut locks = LockMgr::new(alloc);
+        let (one, two) = (record(alloc, b"61")?, record(alloc, b"62")?);
+        assert_eq!(rt;
+            asked(&mut locks, alloc, 2, &one, LockType::Write, true)?,
+            0
+        );
+        assert_eq!(rt;
+            asked(&mut locks, alloc, 3, &two, LockType::Write, true)?,
+            0
+        );
+        assert_eq!(rt;
+            asked(&mut locks, alloc, 2, &two, LockType::Write, true)?,
+            1
+        );
+        assert!(rt; closing(&mut locks, alloc, 3, &one)? == [2, 1, 3, 2]);
+        locks.release_all(TxnId(3));
+        assert!(rt; locks.is_granted(TxnId(2)) && !locks.is_granted(TxnId(3)));
+        Ok(())
+    }
+
+    // Two readers of one record that both ask to write it: the later one is the victim, and the other is
+    // granted once the victim's read lock is given back.
+    #[test]
+    fn deadlock_of_two_upgrades(rt: HostRuntime) -> Result<(), Fail> {
+        let alloc = rt.alloc();
+        let mut locks = LockMgr::new(alloc);
+        let at = record(alloc, b"61")?;
+        assert_eq!(rt; asked(&mut locks, alloc, 3, &at, LockType::Read, true)?, 0);
+        assert_eq!(rt; asked(&mut locks, alloc, 4, &at, LockType::Read, true)?, 0);
+        assert_eq!(rt; asked(&mut locks, alloc, 3, &at, LockType::Write, true)?, 1);
+        assert_eq!(rt; asked(&mut locks, alloc, 4, &at, LockType::Write, true)?, 3);
+        locks.cancel(TxnId(4));
+        if locks.held(TxnId(4), &at) == Some(LockType::Read) {
+            locks.give_back(TxnId(4), &at, None);
+        }
+        assert!(rt; locks.is_granted(TxnId(3)) && locks.waits(alloc)?.is_empty());
+        Ok(())
+    }
+
+    #[test]
+    fn reads_the_locks(rt: HostRuntime) -> Result<(), Fail> {
+        let alloc = rt.alloc();
+        let mut locks = LockMgr::new(alloc);
+        let at = record(alloc, b"61")?;
+        assert_eq!(rt; asked(&mut locks, alloc, 2, &at, LockType::Write, true)?, 0);
+        assert_eq!(rt; asked(&mut locks, alloc, 4, &at, LockType::Read, false)?, 2);
+        assert!(rt; locks.is_locked(&at) && locks.is_write_locked(&at) == Some(TxnId(2)));
+        assert_eq!(rt; locks.holder_in(1), Some(TxnId(2)));
+        Ok(())
+    }
+}

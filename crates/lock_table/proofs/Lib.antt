@@ -1,0 +1,10 @@
+pub mod Least
+pub mod Grants
+pub mod Settled
+pub mod Owners
+pub mod Keeping
+pub mod Maps
+pub mod Sound
+pub mod Listing
+pub mod Steps
+pub mod Ranges

@@ -1,0 +1,9 @@
+use Rattle.std.proofs.Common.{length}
+use Rattle.lock_table.proofs.Steps.{IsUnderWay}
+use Rattle.lock_table.proofs.calls.release_each.Given as goal
+
+abbrev pub invariant-loop-at : goal.invariant-loop-at
+invariant-loop-at l = IsUnderWay l.txn l.initial.queues.entries l.queues.entries l.list
+
+abbrev pub decreases-loop-at : goal.decreases-loop-at
+decreases-loop-at l = length l.list.keys

@@ -1,0 +1,15 @@
+use Rattle.std.proofs.Common.{None}
+use Rattle.lock_table.specs.Records.{queue_at}
+use Rattle.lock_table.specs.Table.{at_txn, is_listed}
+use Rattle.lock_table.proofs.Listing.{changed_there, changed_at}
+use Rattle.lock_table.proofs.Sound.{sound_release}
+use Rattle.lock_table.proofs.table.LockTable.release_all.Goals as goal
+
+pub invariant_of-self : goal.invariant_of-self
+invariant_of-self c = sound_release (λ r. queue_at r c.self.inside.queues.entries) (λ r. queue_at r c.release_in.new.queues.entries) (is_listed c.self.inside.lists.entries) (is_listed c.release_in.new.lists.entries) (λ t. at_txn t c.self.inside.pending.entries) (λ t. at_txn t c.remove.new.self.entries) c.args.txn c.self.invariant c.release_in.ensures.queues c.release_in.ensures.lists (changed_there c.self.inside.pending.entries c.remove.new.self.entries c.args.txn None c.remove.ensures.updates.0)
+
+pub returns-clause-settled : goal.returns-clause-settled
+returns-clause-settled c = let s = sound_release (λ r. queue_at r c.self.inside.queues.entries) (λ r. queue_at r c.release_in.new.queues.entries) (is_listed c.self.inside.lists.entries) (is_listed c.release_in.new.lists.entries) (λ t. at_txn t c.self.inside.pending.entries) (λ t. at_txn t c.remove.new.self.entries) c.args.txn c.self.invariant c.release_in.ensures.queues c.release_in.ensures.lists (changed_there c.self.inside.pending.entries c.remove.new.self.entries c.args.txn None c.remove.ensures.updates.0) in record { settled = s.settled; alone = s.waits }
+
+pub returns-clause-pending : goal.returns-clause-pending
+returns-clause-pending c = rw (← c.self.view_is) (changed_at c.self.inside.pending.entries c.remove.new.self.entries c.args.txn None c.remove.ensures.updates.0)

@@ -1,0 +1,169 @@
+// The calls' work, over the three maps that a lock table keeps.
+ghost use Rattle.std.specs.Prelude.{◌≡◌, ◌&&◌, true, false, None, Some, ◌⊎◌, if◌then◌else◌, IfOk, OnOk, OnErr};
+ghost use Rattle.std.specs.BTreeSet.{contains as set_has};
+ghost use Rattle.std.specs.Option.{option_map_or};
+ghost use Rattle.je_order.specs.declared.txn_id.TxnId.{TxnId};
+ghost use Rattle.lock_mode.specs.declared.lock_type.LockType.{LockType};
+ghost use Rattle.lock_table.specs.declared.record_id.RecordId.{RecordId};
+ghost use Rattle.lock_table.specs.Locks.{is_same, has_lock, held_by, blocker, is_blocked, after_ask, after_cancel, after_release, after_give_back, WasHeld, IsSettled};
+ghost use Rattle.lock_table.specs.Records.{record_cmp, is_record, queue_at};
+ghost use Rattle.lock_table.specs.Table.{at_txn, owner_in, is_listed, IsOut, IsTable};
+
+use crate::listed::{list_at, unlist_at};
+use crate::queue::Queue;
+use crate::queues::{ask_at, cancel_at, give_back_at, owners_at, release_at, waits_at};
+use crate::{Asked, Lock, RecordId, lists};
+use je_order::{TxnId, copy_of};
+use lock_mode::LockType;
+use std::alloc::{AllocError, Global};
+use std::collections::{BTreeMap, BTreeSet};
+
+// A request: it waits exactly where it conflicts with another owner. Want of memory changes nothing.
+pub(crate) fn ask_in(
+    queues: &mut BTreeMap<RecordId, Queue>,
+    lists: &mut BTreeMap<TxnId, BTreeSet<RecordId>>,
+    pending: &mut BTreeMap<TxnId, RecordId>,
+    alloc: Global,
+    at: &RecordId,
+    lock: Lock,
+) -> Result<Asked, AllocError>
+    requires table { IsTable queues.old.entries lists.old.entries pending.old.entries }
+    requires free { (r : RecordId) → has_lock lock.txn (queue_at r queues.old.entries).1 ≡ false }
+    ensures table { IsTable queues.new.entries lists.new.entries pending.new.entries }
+    ensures answer { IfOk result (λ asked. owner_in asked ≡ blocker lock (queue_at at.now queues.old.entries).0) }
+    ensures queues { OnOk result ((r : RecordId) → queue_at r queues.new.entries ≡ (if is_record at.now r then after_ask lock (queue_at r queues.old.entries) else queue_at r queues.old.entries)) }
+    ensures pending { IfOk result (λ asked. (t : TxnId) → at_txn t pending.new.entries ≡ (if is_same lock.txn t then option_map_or (λ _. Some at.now) (owner_in asked) None else at_txn t pending.old.entries)) }
+    ensures err_queues { OnErr result ((r : RecordId) → queue_at r queues.new.entries ≡ queue_at r queues.old.entries) }
+    ensures err_pending { OnErr result ((t : TxnId) → at_txn t pending.new.entries ≡ at_txn t pending.old.entries) }
+{
+    let Some(owner) = lists::blocker_in(owners_at(queues, at), lock) else {
+        grant_now(queues, lists, pending, alloc, at, lock)?;
+        return Ok(Asked::Granted);
+    };
+    wait_now(queues, lists, pending, alloc, at, lock)?;
+    Ok(Asked::Blocked { owner })
+}
+
+// A request that conflicts with no other owner.
+fn grant_now(
+    queues: &mut BTreeMap<RecordId, Queue>,
+    lists: &mut BTreeMap<TxnId, BTreeSet<RecordId>>,
+    pending: &mut BTreeMap<TxnId, RecordId>,
+    alloc: Global,
+    at: &RecordId,
+    lock: Lock,
+) -> Result<(), AllocError>
+    requires table { IsTable queues.old.entries lists.old.entries pending.old.entries }
+    requires free { (r : RecordId) → has_lock lock.txn (queue_at r queues.old.entries).1 ≡ false }
+    requires clear { is_blocked (queue_at at.now queues.old.entries).0 lock ≡ false }
+    ensures table { IsTable queues.new.entries lists.new.entries pending.new.entries }
+    ensures queues { OnOk result ((r : RecordId) → queue_at r queues.new.entries ≡ (if is_record at.now r then after_ask lock (queue_at r queues.old.entries) else queue_at r queues.old.entries)) }
+    ensures pending { OnOk result ((t : TxnId) → at_txn t pending.new.entries ≡ (if is_same lock.txn t then None else at_txn t pending.old.entries)) }
+    ensures err_queues { OnErr result ((r : RecordId) → queue_at r queues.new.entries ≡ queue_at r queues.old.entries) }
+    ensures err_pending { OnErr result ((t : TxnId) → at_txn t pending.new.entries ≡ at_txn t pending.old.entries) }
+{
+    list_at(lists, alloc, lock.txn, at)?;
+    ask_at(queues, alloc, at, lock)?;
+    let _ = pending.remove(&lock.txn);
+    Ok(())
+}
+
+// A request that conflicts with another owner.
+fn wait_now(
+    queues: &mut BTreeMap<RecordId, Queue>,
+    lists: &mut BTreeMap<TxnId, BTreeSet<RecordId>>,
+    pending: &mut BTreeMap<TxnId, RecordId>,
+    alloc: Global,
+    at: &RecordId,
+    lock: Lock,
+) -> Result<(), AllocError>
+    requires table { IsTable queues.old.entries lists.old.entries pending.old.entries }
+    requires free { (r : RecordId) → has_lock lock.txn (queue_at r queues.old.entries).1 ≡ false }
+    requires blocked { is_blocked (queue_at at.now queues.old.entries).0 lock ≡ true }
+    ensures table { IsTable queues.new.entries lists.new.entries pending.new.entries }
+    ensures queues { OnOk result ((r : RecordId) → queue_at r queues.new.entries ≡ (if is_record at.now r then after_ask lock (queue_at r queues.old.entries) else queue_at r queues.old.entries)) }
+    ensures pending { OnOk result ((t : TxnId) → at_txn t pending.new.entries ≡ (if is_same lock.txn t then Some at.now else at_txn t pending.old.entries)) }
+    ensures err_queues { OnErr result ((r : RecordId) → queue_at r queues.new.entries ≡ queue_at r queues.old.entries) }
+    ensures err_pending { OnErr result ((t : TxnId) → at_txn t pending.new.entries ≡ at_txn t pending.old.entries) }
+{
+    let key = copy_of(at)?;
+    list_at(lists, alloc, lock.txn, at)?;
+    ask_at(queues, alloc, at, lock)?;
+    match pending.insert(lock.txn, key) {
+        Ok(_) => Ok(()),
+        Err(failed) => {
+            cancel_at(queues, at, lock.txn);
+            Err(AllocError::from(failed))
+        }
+    }
+}
+
+// The transaction's wait is taken back, if it has one. It takes no memory.
+pub(crate) fn cancel_in(
+    queues: &mut BTreeMap<RecordId, Queue>,
+    pending: &mut BTreeMap<TxnId, RecordId>,
+    txn: TxnId,
+)
+    requires { (r : RecordId) → has_lock txn (queue_at r queues.old.entries).1 ≡ true → at_txn txn pending.old.entries ≡ Some r }
+    ensures queues { (r : RecordId) → queue_at r queues.new.entries ≡ after_cancel txn (queue_at r queues.old.entries) }
+    ensures pending { (t : TxnId) → at_txn t pending.new.entries ≡ (if is_same txn t && option_map_or (λ r. has_lock txn (queue_at r queues.old.entries).1) (at_txn txn pending.old.entries) false then None else at_txn t pending.old.entries) }
+{
+    let Some(at) = pending.get(&txn) else {
+        return;
+    };
+    if !lists::is_in(waits_at(queues, at), txn) {
+        return;
+    }
+    cancel_at(queues, at, txn);
+    let _ = pending.remove(&txn);
+}
+
+// All locks and the wait of a transaction go. It takes no memory.
+pub(crate) fn release_in(
+    queues: &mut BTreeMap<RecordId, Queue>,
+    lists: &mut BTreeMap<TxnId, BTreeSet<RecordId>>,
+    txn: TxnId,
+)
+    requires settled { (r : RecordId) → IsSettled (queue_at r queues.old.entries) }
+    requires listed { (r : RecordId) → is_listed lists.old.entries txn r ≡ false → IsOut txn (queue_at r queues.old.entries) }
+    ensures queues { (r : RecordId) → queue_at r queues.new.entries ≡ after_release txn (queue_at r queues.old.entries) }
+    ensures lists { (t : TxnId) (r : RecordId) → is_same txn t ≡ false → is_listed lists.new.entries t r ≡ is_listed lists.old.entries t r }
+{
+    let Some(list) = lists.remove(&txn) else {
+        return;
+    };
+    release_each(queues, list, txn);
+}
+
+// The transaction's locks and waits on these records go.
+fn release_each(queues: &mut BTreeMap<RecordId, Queue>, list: BTreeSet<RecordId>, txn: TxnId)
+    requires settled { (r : RecordId) → IsSettled (queue_at r queues.old.entries) }
+    requires listed { (r : RecordId) → set_has record_cmp list r ≡ false → IsOut txn (queue_at r queues.old.entries) }
+    ensures { (r : RecordId) → queue_at r queues.new.entries ≡ after_release txn (queue_at r queues.old.entries) }
+{
+    let mut list = list;
+    while let Some(at) = list.pop_first() {
+        release_at(queues, &at, txn);
+    }
+}
+
+// The transaction's lock on a record is what it was before. It takes no memory.
+pub(crate) fn give_back_in(
+    queues: &mut BTreeMap<RecordId, Queue>,
+    lists: &mut BTreeMap<TxnId, BTreeSet<RecordId>>,
+    txn: TxnId,
+    at: &RecordId,
+    was: Option<LockType>,
+)
+    ensures queues { (r : RecordId) → queue_at r queues.new.entries ≡ (if is_record at.now r then after_give_back txn was (queue_at r queues.old.entries) else queue_at r queues.old.entries) }
+    ensures lists { (t : TxnId) (r : RecordId) → is_listed lists.new.entries t r ≡ false → (is_listed lists.old.entries t r ≡ false) ⊎ IsOut t (queue_at r queues.new.entries) }
+{
+    give_back_at(queues, at, txn, was);
+    if lists::is_in(owners_at(queues, at), txn) {
+        return;
+    }
+    if lists::is_in(waits_at(queues, at), txn) {
+        return;
+    }
+    unlist_at(lists, txn, at);
+}

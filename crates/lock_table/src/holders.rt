@@ -1,0 +1,54 @@
+// The owners in one database.
+ghost use Rattle.std.specs.Prelude.{◌≡◌, ◌==◌, map};
+ghost use Rattle.std.specs.List.{flat_map, filter};
+ghost use Rattle.lock_table.specs.Locks.{lesser, least};
+ghost use Rattle.lock_table.specs.Records.{start_bound, end_bound};
+
+use crate::lists::lesser_of;
+use crate::queue::Queue;
+use crate::{Lock, RecordId};
+use je_order::{Bound as Place, TxnId};
+use std::collections::BTreeMap;
+use std::ops::Bound;
+
+// The lesser of a transaction and the least owner.
+fn least_with(found: Option<TxnId>, owners: &[Lock]) -> Option<TxnId>
+    ensures { result ≡ lesser found (least (map (λ o. o.txn) owners.now)) }
+{
+    let mut found = found;
+    for owner in owners {
+        found = lesser_of(found, owner.txn);
+    }
+    found
+}
+
+// The least owner of the records of a database. It looks at no other database's records.
+pub(crate) fn least_in(queues: &BTreeMap<RecordId, Queue>, db: u32) -> Option<TxnId>
+    ensures { result ≡ least (map (λ o. o.txn) (flat_map (λ e. e.1.0) (filter (λ e. e.0.db == db) queues.now.entries))) }
+{
+    let mut found = None;
+    for (_, queue) in queues.range((start_of(db), end_of(db))) {
+        found = least_with(found, queue.owners());
+    }
+    found
+}
+
+// What stands before a database's first record: the end of the database before it.
+fn start_of(db: u32) -> Bound<RecordId>
+    ensures { result ≡ start_bound db }
+{
+    if db == 0 {
+        return Bound::Unbounded;
+    }
+    Bound::Excluded(RecordId {
+        db: db - 1,
+        at: Place::End,
+    })
+}
+
+// The end of a database.
+fn end_of(db: u32) -> Bound<RecordId>
+    ensures { result ≡ end_bound db }
+{
+    Bound::Included(RecordId { db, at: Place::End })
+}

@@ -1,0 +1,102 @@
+// The records that are locked, each with its owners and waits.
+ghost use Rattle.std.specs.Prelude.{◌≡◌, if◌then◌else◌, OnOk, OnErr};
+ghost use Rattle.lock_table.specs.declared.record_id.RecordId.{RecordId};
+ghost use Rattle.lock_table.specs.Locks.{after_ask, after_cancel, after_release, after_give_back};
+ghost use Rattle.lock_table.specs.Records.{is_record, queue_at};
+
+use crate::queue::Queue;
+use crate::{Lock, RecordId, lists};
+use je_order::{TxnId, copy_of};
+use lock_mode::LockType;
+use std::alloc::{AllocError, Global};
+use std::collections::BTreeMap;
+
+// The owners of a record.
+pub(crate) fn owners_at<'a>(queues: &'a BTreeMap<RecordId, Queue>, at: &RecordId) -> &'a [Lock]
+    ensures { result.now ≡ (queue_at at.now queues.now.entries).0 }
+{
+    match queues.get(at) {
+        Some(queue) => queue.owners(),
+        None => &[],
+    }
+}
+
+// The waits on a record.
+pub(crate) fn waits_at<'a>(queues: &'a BTreeMap<RecordId, Queue>, at: &RecordId) -> &'a [Lock]
+    ensures { result.now ≡ (queue_at at.now queues.now.entries).1 }
+{
+    match queues.get(at) {
+        Some(queue) => queue.waits(),
+        None => &[],
+    }
+}
+
+// A transaction asks for a lock on a record. Want of memory changes nothing.
+pub(crate) fn ask_at(
+    queues: &mut BTreeMap<RecordId, Queue>,
+    alloc: Global,
+    at: &RecordId,
+    lock: Lock,
+) -> Result<(), AllocError>
+    ensures ok { OnOk result ((r : RecordId) → queue_at r queues.new.entries ≡ (if is_record at.now r then after_ask lock (queue_at r queues.old.entries) else queue_at r queues.old.entries)) }
+    ensures err { OnErr result ((r : RecordId) → queue_at r queues.new.entries ≡ queue_at r queues.old.entries) }
+{
+    if let Some(queue) = queues.get_mut(at) {
+        return queue.ask(lock);
+    }
+    let mut queue = Queue::new(alloc);
+    queue.ask(lock)?;
+    if queue.is_empty() {
+        return Ok(());
+    }
+    let key = copy_of(at)?;
+    queues.insert(key, queue)?;
+    Ok(())
+}
+
+// A transaction's wait on a record is taken back. It takes no memory.
+pub(crate) fn cancel_at(queues: &mut BTreeMap<RecordId, Queue>, at: &RecordId, txn: TxnId)
+    ensures { (r : RecordId) → queue_at r queues.new.entries ≡ (if is_record at.now r then after_cancel txn (queue_at r queues.old.entries) else queue_at r queues.old.entries) }
+{
+    let Some(queue) = queues.get_mut(at) else {
+        return;
+    };
+    queue.cancel(txn);
+    if !queue.is_empty() {
+        return;
+    }
+    let _ = queues.remove(at);
+}
+
+// A transaction's lock and wait on a record go, and others are granted. It takes no memory.
+pub(crate) fn release_at(queues: &mut BTreeMap<RecordId, Queue>, at: &RecordId, txn: TxnId)
+    ensures { (r : RecordId) → queue_at r queues.new.entries ≡ (if is_record at.now r then after_release txn (queue_at r queues.old.entries) else queue_at r queues.old.entries) }
+{
+    let Some(queue) = queues.get_mut(at) else {
+        return;
+    };
+    queue.release(txn);
+    if !queue.is_empty() {
+        return;
+    }
+    let _ = queues.remove(at);
+}
+
+// A transaction's lock on a record is what it was before, and others are granted. It takes no memory.
+pub(crate) fn give_back_at(
+    queues: &mut BTreeMap<RecordId, Queue>,
+    at: &RecordId,
+    txn: TxnId,
+    was: Option<LockType>,
+)
+    ensures { (r : RecordId) → queue_at r queues.new.entries ≡ (if is_record at.now r then after_give_back txn was (queue_at r queues.old.entries) else queue_at r queues.old.entries) }
+{
+    let Some(queue) = queues.get_mut(at) else {
+        return;
+    };
+    queue.give_back(txn, was);
+    if !queue.is_empty() {
+        return;
+    }
+    let _ = queues.remove(at);
+}

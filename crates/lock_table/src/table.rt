@@ -1,0 +1,317 @@
+// The lock table.
+ghost use Rattle.std.specs.Prelude.{◌≡◌, ◌&&◌, ◌==◌, ◌++◌, [], map, not, length, true, false, None, Some, if◌then◌else◌, IfOk, OnOk, OnErr};
+ghost use Rattle.std.specs.Option.{option_map_or, IsSome};
+ghost use Rattle.std.specs.List.{flat_map};
+ghost use Rattle.je_order.specs.declared.txn_id.TxnId.{TxnId};
+ghost use Rattle.lock_mode.specs.declared.lock_type.LockType.{LockType};
+ghost use Rattle.lock_table.specs.declared.record_id.RecordId.{RecordId};
+ghost use Rattle.lock_table.specs.declared.lock.Lock.{Lock};
+ghost use Rattle.lock_table.specs.Locks.{is_same, held_by, blocker, after_ask, after_cancel, after_release, after_give_back, WasHeld, lock_of, writer_in, waited_for};
+ghost use Rattle.lock_table.specs.Records.{is_record, queue_at};
+ghost use Rattle.lock_table.specs.Table.{locks_at, pending_at, is_waiting, was_granted, owner_in, waits_for, wait_pairs, holder_of, IsSameTable, IsLockTable};
+
+use crate::calls::{ask_in, cancel_in, give_back_in, release_in};
+use crate::holders::least_in;
+use crate::queue::Queue;
+use crate::queues::{owners_at, waits_at};
+use crate::{Asked, Lock, RecordId, lists};
+use je_order::{List, TxnId};
+use lock_mode::LockType;
+use std::alloc::{AllocError, Global};
+use std::collections::{BTreeMap, BTreeSet};
+use std::marker::Model;
+
+/// The locks of an environment: for each record its owners and, in order of arrival, its waits. It is
+/// made once and lives as long as the environment; a record is in it only while it has an owner or a
+/// wait. A transaction has one wait at most. The rules are this project's own.
+#[derive(Drop)]
+pub struct LockTable {
+    queues: BTreeMap<RecordId, Queue>,
+    lists: BTreeMap<TxnId, BTreeSet<RecordId>>,
+    pending: BTreeMap<TxnId, RecordId>,
+}
+
+impl Model for LockTable {
+    ghost use Rattle.lock_table.specs.Table.{Locks, IsTable};
+
+    ghost Value = { Locks };
+
+    ghost view = { λ a. record { records = a.queues.entries; pending = a.pending.entries } };
+
+    ghost invariant = { λ a. IsTable a.queues.entries a.lists.entries a.pending.entries };
+}
+
+impl LockTable {
+    /// No locks. It takes no memory.
+    pub fn new(alloc: Global) -> LockTable
+        ensures locks { (r : RecordId) → locks_at r result ≡ ([], []) }
+        ensures pending { (t : TxnId) → pending_at t result ≡ None }
+        ensures settled { IsLockTable result }
+    {
+        LockTable {
+            queues: BTreeMap::new(alloc),
+            lists: BTreeMap::new(alloc),
+            pending: BTreeMap::new(alloc),
+        }
+    }
+
+    /// Asks for a lock. It waits exactly where it conflicts with another owner, and the least of these
+    /// is the answer's owner; the wait then stands until a grant or `cancel`. The one error is want of
+    /// memory, and nothing is changed by it.
+    pub fn ask(
+        &mut self,
+        alloc: Global,
+        txn: TxnId,
+        at: &RecordId,
+        asked: LockType,
+    ) -> Result<Asked, AllocError>
+        requires { is_waiting txn self.old ≡ false }
+        ensures answer { IfOk result (λ answer. owner_in answer ≡ blocker (lock_of txn asked) (locks_at at.now self.old).0) }
+        ensures locks { OnOk result ((r : RecordId) → locks_at r self.new ≡ (if is_record at.now r then after_ask (lock_of txn asked) (locks_at r self.old) else locks_at r self.old)) }
+        ensures pending { IfOk result (λ answer. (t : TxnId) → pending_at t self.new ≡ (if is_same txn t then option_map_or (λ _. Some at.now) (owner_in answer) None else pending_at t self.old)) }
+        ensures settled { IsLockTable self.new }
+        ensures err { OnErr result (IsSameTable self.old self.new) }
+    {
+        let lock = Lock { txn, mode: asked };
+        ask_in(
+            &mut self.queues,
+            &mut self.lists,
+            &mut self.pending,
+            alloc,
+            at,
+            lock,
+        )
+    }
+
+    /// Takes back the transaction's wait, if it has one. It takes no memory.
+    pub fn cancel(&mut self, txn: TxnId)
+        ensures locks { (r : RecordId) → locks_at r self.new ≡ after_cancel txn (locks_at r self.old) }
+        ensures pending { (t : TxnId) → pending_at t self.new ≡ (if is_same txn t && is_waiting txn self.old then None else pending_at t self.old) }
+        ensures settled { IsLockTable self.new }
+    {
+        cancel_in(&mut self.queues, &mut self.pending, txn);
+    }
+
+    /// Makes the transaction's lock on a record what it was before, and grants the waits that it stood
+    /// in the way of, as a release does. It takes no memory.
+    pub fn give_back(&mut self, txn: TxnId, at: &RecordId, was: Option<LockType>)
+        requires holds { IsSome (held_by txn (locks_at at.now self.old).0) }
+        requires was { (held : LockType) → held_by txn (locks_at at.now self.old).0 ≡ Some held → WasHeld was held }
+        ensures locks { (r : RecordId) → locks_at r self.new ≡ (if is_record at.now r then after_give_back txn was (locks_at r self.old) else locks_at r self.old) }
+        ensures pending { (t : TxnId) → pending_at t self.new ≡ pending_at t self.old }
+        ensures settled { IsLockTable self.new }
+    {
+        give_back_in(&mut self.queues, &mut self.lists, txn, at, was);
+    }
+
+    /// Takes all the transaction's locks and its wait, and grants each of these records' waits in order
+    /// of arrival where it conflicts with no other owner. It takes no memory.
+    pub fn release_all(&mut self, txn: TxnId)
+        ensures locks { (r : RecordId) → locks_at r self.new ≡ after_release txn (locks_at r self.old) }
+        ensures pending { (t : TxnId) → pending_at t self.new ≡ (if is_same txn t then None else pending_at t self.old) }
+        ensures settled { IsLockTable self.new }
+    {
+        release_in(&mut self.queues, &mut self.lists, txn);
+        let _ = self.pending.remove(&txn);
+    }
+
+    /// Whether a wait of the transaction was granted, and it has neither asked nor ended since.
+    pub fn is_granted(&self, txn: TxnId) -> bool
+        ensures { result ≡ was_granted txn self.now }
+    {
+        let Some(at) = self.pending.get(&txn) else {
+            return false;
+        };
+        !lists::is_in(waits_at(&self.queues, at), txn)
+    }
+
+    /// Whether the transaction has a wait that stands.
+    pub fn waits_now(&self, txn: TxnId) -> bool
+        ensures { result ≡ is_waiting txn self.now }
+    {
+        let Some(at) = self.pending.get(&txn) else {
+            return false;
+        };
+        let waits = waits_at(&self.queues, at);
+        lists::is_in(waits, txn)
+    }
+
+    /// The type that the transaction holds on a record.
+    pub fn held(&self, txn: TxnId, at: &RecordId) -> Option<LockType>
+        ensures { result ≡ held_by txn (locks_at at.now self.now).0 }
+    {
+        lists::held_in(owners_at(&self.queues, at), txn)
+    }
+
+    /// The owner that has a lock for writing on the record; there is one at most.
+    pub fn is_write_locked(&self, at: &RecordId) -> Option<TxnId>
+        ensures { result ≡ writer_in (locks_at at.now self.now).0 }
+    {
+        lists::writer_of(owners_at(&self.queues, at))
+    }
+
+    /// Whether the record has an owner.
+    pub fn is_locked(&self, at: &RecordId) -> bool
+        ensures { result ≡ not (length (locks_at at.now self.now).0 == 0) }
+    {
+        !owners_at(&self.queues, at).is_empty()
+    }
+
+    /// The least owner of the records of a database. It looks at no other database's records.
+    pub fn holder_in(&self, db: u32) -> Option<TxnId>
+        ensures { result ≡ holder_of db self.now }
+    {
+        least_in(&self.queues, db)
+    }
+
+    /// Those that the transaction waits for: the owners that its wait conflicts with. The one error is
+    /// want of memory.
+    pub fn blockers(&self, alloc: Global, txn: TxnId) -> Result<Vec<TxnId>, AllocError>
+        ensures { IfOk result (λ found. found.items ≡ waits_for txn self.now) }
+    {
+        let Some(at) = self.pending.get(&txn) else {
+            return Ok(Vec::new(alloc));
+        };
+        lists::waited_in(
+            alloc,
+            owners_at(&self.queues, at),
+            waits_at(&self.queues, at),
+            txn,
+        )
+    }
+
+    /// Who waits for whom: each pair is a waiter and an owner that its wait conflicts with. It walks all
+    /// waits. The one error is want of memory.
+    pub fn waits(&self, alloc: Global) -> Result<List<(TxnId, TxnId)>, AllocError>
+        ensures { IfOk result (λ pairs. pairs ≡ wait_pairs self.now) }
+    {
+        let pairs = pairs_in(alloc, &self.queues, &self.pending)?;
+        Ok(List::from_vec(pairs))
+    }
+}
+
+// Puts the pairs of one waiter at the end.
+fn put_pairs(
+    pairs: &mut Vec<(TxnId, TxnId)>,
+    txn: TxnId,
+    owners: &[TxnId],
+) -> Result<(), AllocError>
+    ensures { OnOk result (pairs.new.items ≡ pairs.old.items ++ map (λ u. (txn, u)) owners.now) }
+{
+    for owner in owners {
+        pairs.push((txn, *owner))?;
+    }
+    Ok(())
+}
+
+// Who waits for whom, waiter by waiter.
+fn pairs_in(
+    alloc: Global,
+    queues: &BTreeMap<RecordId, Queue>,
+    pending: &BTreeMap<TxnId, RecordId>,
+) -> Result<Vec<(TxnId, TxnId)>, AllocError>
+    ensures { IfOk result (λ pairs. pairs.items ≡ flat_map (λ e. map (λ u. (e.0, u)) (waited_for e.0 (queue_at e.1 queues.now.entries))) pending.now.entries) }
+{
+    let mut pairs = Vec::new(alloc);
+    for (txn, at) in pending {
+        let owners = lists::waited_in(alloc, owners_at(queues, at), waits_at(queues, at), *txn)?;
+        put_pairs(&mut pairs, *txn, owners.as_slice())?;
+    }
+    Ok(pairs)
+}
+
+#[cfg(test)]
+mod tests {
+    use super::*;
+    use je_order::{Bound, Name, Octets};
+    use std::test::Fail;
+
+    fn record(alloc: Global, db: u32, key: &[u8]) -> Result<RecordId, AllocError> {
+        let key = Octets::from_slice(alloc, key)?;
+        let name = Name {
+            key,
+            dup: Octets::new(alloc),
+        };
+        Ok(RecordId {
+            db,
+            at: Bound::At(name),
+        })
+    }
+
+    // A reader holds 61, 63 and the end as ranges; a new record 62 waits at 63 until the reader ends.
+    #[test]
+    fn phantom_waits(rt: HostRuntime) -> Result<(), Fail> {
+        let alloc = rt.alloc();
+        let (reader, writer) = (TxnId(4), TxnId(5));
+        let mut table = LockTable::new(alloc);
+        for key in [b"61", b"63"] {
+            let at = record(alloc, 1, key)?;
+            if !table.waits_now(reader) {
+                assert_eq!(rt;
+                    table.ask(alloc, reader, &at, LockType::RangeRead)?,
+                    Asked::Granted
+                );
+            }
+        }
+        let new = record(alloc, 1, b"62")?;
+        if !table.waits_now(writer) {
+            assert_eq!(rt;
+                table.ask(alloc, writer, &new, LockType::Write)?,
+                Asked::Granted
+            );
+        }
+        assert_eq!(rt; table.is_write_locked(&new), Some(writer));
+        let next = record(alloc, 1, b"63")?;
+        if !table.waits_now(writer) {
+            let asked = table.ask(alloc, writer, &next, LockType::RangeInsert)?;
+            assert_eq!(rt; asked, Asked::Blocked { owner: reader });
+        }
+        assert_eq!(rt;
+            table.blockers(alloc, writer)?.as_slice(),
+            [reader].as_slice()
+        );
+        assert_eq!(rt;
+            table.waits(alloc)?.as_slice(),
+            [(writer, reader)].as_slice()
+        );
+        assert!(rt; !table.is_granted(writer) && table.is_locked(&next));
+        assert_eq!(rt; table.holder_in(1), Some(reader));
+        assert_eq!(rt; table.holder_in(0), None);
+        table.release_all(reader);
+        assert!(rt; table.is_granted(writer) && !table.is_locked(&next));
+        assert_eq!(rt; table.held(writer, &next), None);
+        assert_eq!(rt; table.held(writer, &new), Some(LockType::Write));
+        assert_eq!(rt; table.holder_in(1), Some(writer));
+        Ok(())
+    }
+
+    // A lock that was upgraded is given back, and the reader that waited is granted.
+    #[test]
+    fn gives_back_an_upgrade(rt: HostRuntime) -> Result<(), Fail> {
+        let alloc = rt.alloc();
+        let (first, second) = (TxnId(1), TxnId(2));
+        let at = record(alloc, 1, b"61")?;
+        let mut table = LockTable::new(alloc);
+        for asked in [LockType::Read, LockType::Write] {
+            if !table.waits_now(first) {
+                assert_eq!(rt; table.ask(alloc, first, &at, asked)?, Asked::Granted);
+            }
+        }
+        if !table.waits_now(second) {
+            let asked = table.ask(alloc, second, &at, LockType::Read)?;
+            assert_eq!(rt; asked, Asked::Blocked { owner: first });
+        }
+        table.cancel(second);
+        assert!(rt; !table.is_granted(second) && table.waits(alloc)?.is_empty());
+        if !table.waits_now(second) {
+            let asked = table.ask(alloc, second, &at, LockType::Read)?;
+            assert_eq!(rt; asked, Asked::Blocked { owner: first });
+        }
+        if table.held(first, &at) == Some(LockType::Write) {
+            table.give_back(first, &at, Some(LockType::Read));
+        }
+        assert_eq!(rt; table.held(first, &at), Some(LockType::Read));
+        assert!(rt; table.is_granted(second));
+        Ok(())
+    }
+}

@@ -1,0 +1,53 @@
+-- How the search ends: with a cycle along its steps, or with no edge left and so no cycle.
+use Rattle.std.proofs.Common.{◌≡◌, ℕ, ◌-◌, ◌++◌, take, Bool, true, false, List, [], ◌∷◌, refl, sym, ◌∙◌, ◌⊎◌, ⊎_elim}
+use Rattle.std.specs.BTreeMap.{BTreeMap}
+use Rattle.std.proofs.lemmas.Bool.{and_parts, or_cases, or_from, both_ways, false_from_ne_true, false≢true}
+use Rattle.je_order.specs.declared.txn_id.TxnId.{TxnId}
+use Rattle.waits_for.specs.declared.search.Step.{Step}
+use Rattle.waits_for.specs.Cycles.{is_same, is_edge, is_in, leads_to, is_cycle}
+use Rattle.waits_for.specs.Walk.{has, IsWalk}
+use Rattle.waits_for.proofs.Members.{same_is, same_either}
+
+-- a set of transactions that no edge leaves, and from which no edge leads to the first one
+pub record IsClosed (edges : List (TxnId × TxnId)) (from : TxnId) (S : TxnId → Bool) : Type 0 where
+  pub start : S from ≡ true
+  pub stays : (x y : TxnId) → is_edge edges x y ≡ true → S x ≡ true → S y ≡ true
+  pub never : (x y : TxnId) → is_edge edges x y ≡ true → S x ≡ true → is_same y from ≡ false
+
+pub closed_walk : (edges : List (TxnId × TxnId)) (from : TxnId) (seen : BTreeMap TxnId Step) → IsWalk edges from seen [] → IsClosed edges from (has seen)
+closed_walk edges from seen w = record {
+  start = w.tree.start;
+  stays = λ x y e h. ⊎_elim (λ m. absurd (false≢true m)) (λ m. m.0) (w.closed x y e h);
+  never = λ x y e h. ⊎_elim (λ m. absurd (false≢true m)) (λ m. m.1) (w.closed x y e h);
+}
+
+-- from inside the set on, the first is never met again
+pub along : (edges : List (TxnId × TxnId)) (from : TxnId) (S : TxnId → Bool) → IsClosed edges from S → (first x : TxnId) (ys : List TxnId) → leads_to edges first x ys ≡ true → S x ≡ true
+    → (S first ≡ true) × (is_same first from ≡ false) × (is_in from ys ≡ false)
+along edges from S c first x [] l h = (c.stays x first l h, c.never x first l h, refl)
+along edges from S c first x (y ∷ ys) l h =
+    let p = and_parts (is_edge edges x y) (leads_to edges first y ys) l in
+    let r = along edges from S c first y ys p.1 (c.stays x y p.0 h) in
+    (r.0, r.1, or_from (is_same from y) (is_in from ys) (same_either from y ∙ c.never x y p.0 h) r.2)
+
+-- where the first is met, the way goes on inside the set
+pub through : (edges : List (TxnId × TxnId)) (from : TxnId) (S : TxnId → Bool) → IsClosed edges from S → (first x : TxnId) (ys : List TxnId) → leads_to edges first x ys ≡ true → is_in from ys ≡ true → S first ≡ true
+through edges from S c first x [] l m = absurd (false≢true m)
+through edges from S c first x (y ∷ ys) l m =
+    let p = and_parts (is_edge edges x y) (leads_to edges first y ys) l in
+    ⊎_elim (λ i. (along edges from S c first y ys p.1 (rw (← same_is from y i) c.start)).0) (λ i. through edges from S c first y ys p.1 i) (or_cases (is_same from y) (is_in from ys) m)
+
+pub no_cycle : (edges : List (TxnId × TxnId)) (from : TxnId) (S : TxnId → Bool) → IsClosed edges from S → (list : List TxnId) → is_cycle edges list ≡ true → is_in from list ≡ false
+no_cycle edges from S c [] h = refl
+no_cycle edges from S c (x ∷ xs) h = false_from_ne_true (is_in from (x ∷ xs)) (λ m. met (or_cases (is_same from x) (is_in from xs) m))
+  where
+    met : ((is_same from x ≡ true) ⊎ (is_in from xs ≡ true)) → ⊥
+    met = ⊎_elim (λ i. let r = along edges from S c x x xs h (rw (← same_is from x i) c.start) in both_ways (is_same x from) r.1 (sym (same_either from x) ∙ i))
+        (λ i. let s = through edges from S c x x xs h i in both_ways (is_in from xs) (along edges from S c x x xs h s).2 i)
+
+pub none_left : (edges : List (TxnId × TxnId)) (from : TxnId) (seen : BTreeMap TxnId Step) → IsWalk edges from seen [] → (list : List TxnId) → is_cycle edges list ≡ true → is_in from list ≡ false
+none_left edges from seen w list h = no_cycle edges from (has seen) (closed_walk edges from seen w) list h
+
+-- an empty vector: nothing was popped
+pub nothing_popped : {X : Type 0} (xs ys : List X) (n : ℕ) → xs ≡ ys ++ [] → ys ≡ take (n - 1) xs → n ≡ 0 → xs ≡ []
+nothing_popped xs ys n a b e = let d : ys ≡ [] = rw e at b in a ∙ rw d refl

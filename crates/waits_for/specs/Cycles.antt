@@ -1,0 +1,46 @@
+-- Waits-for edges as a list of pairs (who waits, for whom), and cycles by that relation.
+use Rattle.std.specs.Prelude.{Bool, false, not, ◌&&◌, ◌==◌, List, [], ◌∷◌}
+use Rattle.std.specs.List.{list_any, filter}
+use Rattle.je_order.specs.declared.txn_id.TxnId.{TxnId}
+
+-- two numbers of one transaction
+abbrev pub is_same : TxnId → TxnId → Bool
+is_same x y = x.0 == y.0
+
+-- the pair is that of these two
+abbrev pub is_pair : TxnId → TxnId → TxnId × TxnId → Bool
+is_pair x y e = is_same x e.0 && is_same y e.1
+
+-- the pair leads from this one
+abbrev pub is_from : TxnId → TxnId × TxnId → Bool
+is_from x e = is_same x e.0
+
+-- x waits for y
+abbrev pub is_edge : List (TxnId × TxnId) → TxnId → TxnId → Bool
+is_edge edges x y = list_any (is_pair x y) edges
+
+-- from x on each is related to the next, and the last to the first
+abbrev pub leads_by : (TxnId → TxnId → Bool) → TxnId → TxnId → List TxnId → Bool
+leads_by waits first x [] = waits x first
+leads_by waits first x (y ∷ ys) = waits x y && leads_by waits first y ys
+
+-- a cycle of a relation: a list, not empty, in which each is related to the next and the last to the first
+abbrev pub is_cycle_by : (TxnId → TxnId → Bool) → List TxnId → Bool
+is_cycle_by waits [] = false
+is_cycle_by waits (x ∷ xs) = leads_by waits x x xs
+
+-- from x on each waits for the next, and the last for the first
+abbrev pub leads_to : List (TxnId × TxnId) → TxnId → TxnId → List TxnId → Bool
+leads_to edges = leads_by (is_edge edges)
+
+-- a cycle: each waits for the next and the last for the first
+abbrev pub is_cycle : List (TxnId × TxnId) → List TxnId → Bool
+is_cycle edges = is_cycle_by (is_edge edges)
+
+-- x is in the list
+abbrev pub is_in : TxnId → List TxnId → Bool
+is_in x list = list_any (is_same x) list
+
+-- the edges without those of one waiter
+abbrev pub edges_without : TxnId → List (TxnId × TxnId) → List (TxnId × TxnId)
+edges_without x edges = filter (λ e. not (is_from x e)) edges

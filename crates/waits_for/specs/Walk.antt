@@ -1,0 +1,36 @@
+-- What holds while the search for a cycle goes on.
+use Rattle.std.specs.Prelude.{◌≡◌, ℕ, ◌+◌, ◌<◌, Bool, true, false, not, List, length, Some, ◌⊎◌}
+use Rattle.std.specs.List.{list_any, filter, AllByRecursion}
+use Rattle.std.specs.Option.{is_some}
+use Rattle.std.specs.declared.cmp.Ordering.{Ordering}
+use Rattle.std.specs.Ordering.{nat_cmp}
+use Rattle.std.specs.BTreeMap.{BTreeMap, get, btree_map_len}
+use Rattle.je_order.specs.declared.txn_id.TxnId.{TxnId}
+use Rattle.waits_for.specs.declared.search.Step.{Step}
+use Rattle.waits_for.specs.Cycles.{is_same, is_pair, is_edge}
+
+-- the order of transaction numbers
+abbrev pub txn_cmp : TxnId → TxnId → Ordering
+txn_cmp x y = nat_cmp x.0 y.0
+
+-- x was seen
+abbrev pub has : BTreeMap TxnId Step → TxnId → Bool
+has seen x = is_some (get txn_cmp seen x)
+
+-- the steps lead back to the first transaction, each along an edge to one that was seen earlier
+pub record IsTree (edges : List (TxnId × TxnId)) (from : TxnId) (seen : BTreeMap TxnId Step) : Type 0 where
+  pub start : has seen from ≡ true
+  pub back_seen : (x : TxnId) (s : Step) → get txn_cmp seen x ≡ Some s → is_same x from ≡ false → has seen s.before ≡ true
+  pub back_edge : (x : TxnId) (s : Step) → get txn_cmp seen x ≡ Some s → is_same x from ≡ false → is_edge edges s.before x ≡ true
+  pub back_rank : (x : TxnId) (s r : Step) → get txn_cmp seen x ≡ Some s → is_same x from ≡ false → get txn_cmp seen s.before ≡ Some r → r.rank < s.rank
+  pub rank : (x : TxnId) (s : Step) → get txn_cmp seen x ≡ Some s → s.rank < btree_map_len seen
+
+-- and each edge from a transaction that was seen is still to be followed, or leads to one that was seen and is not the first
+pub record IsWalk (edges : List (TxnId × TxnId)) (from : TxnId) (seen : BTreeMap TxnId Step) (todo : List (TxnId × TxnId)) : Type 0 where
+  pub tree : IsTree edges from seen
+  pub closed : (x y : TxnId) → is_edge edges x y ≡ true → has seen x ≡ true → (list_any (is_pair x y) todo ≡ true) ⊎ ((has seen y ≡ true) × (is_same y from ≡ false))
+  pub real : AllByRecursion (λ e. (is_edge edges e.0 e.1 ≡ true) × (has seen e.0 ≡ true)) todo
+
+-- how many edges may still be followed
+abbrev pub left : List (TxnId × TxnId) → BTreeMap TxnId Step → List (TxnId × TxnId) → ℕ
+left edges seen todo = length (filter (λ e. not (has seen e.0)) edges) + length todo
