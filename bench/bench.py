@@ -1,5 +1,5 @@
 #!/usr/bin/env python3
-"""Measures the built program: puts, gets and reopening, in memory and on disk. bench/README.md says more.
+"""Measures the built program: puts, gets and opening, in memory and on disk. bench/README.md says more.
 
     python3 bench/bench.py                      all of it
     python3 bench/bench.py --quick              a tenth of the sizes, two repeats
@@ -22,6 +22,8 @@ TOP = os.path.dirname(os.path.dirname(os.path.abspath(__file__)))
 PROGRAM = os.path.join(TOP, "crates", "jedb", "out", "jedb")
 ON_DISK = os.path.join(TOP, "bench", "build")
 
+PARTS = ["memory", "disk", "databases", "opening", "files"]
+
 # What is asked of the program, at the full sizes.
 MOST_EXPONENT = 1.15
 LEAST_PUTS = 100_000  # lines per net second, at the smallest size and in memory
@@ -29,6 +31,9 @@ LEAST_GETS = 200_000
 MOST_PUT_MEMORY = 1_600  # bytes a line
 MOST_GET_MEMORY = 800
 MOST_RATIO = 1.5  # cost per record in many databases over that in one
+MOST_OPENING = 4.0  # seconds to open the greatest log
+MOST_OPENING_MEMORY = 450  # bytes a record, beside one file
+MOST_FILES_RATIO = 1.25  # cost of a put among many files over that among few
 
 
 @dataclass
@@ -37,9 +42,14 @@ class Sizes:
     databases: int = 1_000
     records: int = 100  # in each of them
     repeats: int = 5
+    opened: list = field(default_factory=lambda: [250_000, 500_000, 1_000_000])
 
 
-QUICK = Sizes([4_000, 8_000, 16_000], 100, 100, 2)
+QUICK = Sizes([4_000, 8_000, 16_000], 100, 100, 2, [25_000, 50_000, 100_000])
+
+# Greatest sizes of a file, in bytes: that of the program where nothing is said, and one that makes many files.
+FEW_FILES = 10_000_000
+MANY_FILES = 100_000
 
 
 @dataclass
@@ -65,12 +75,12 @@ class System:
         self.name = name
         self.words = words
 
-    def run(self, home, scripts, work):
+    def run(self, home, scripts, work, options=()):
         """Runs scripts on a folder, one after another: the sum of their times and the greatest peak."""
         seconds, peak = 0.0, 0
         for script in scripts:
             report = os.path.join(work, "report")
-            ran = run_child([*self.words, "run", "--home", home], script.path, report)
+            ran = run_child([*self.words, "run", "--home", home, *options], script.path, report)
             if ran.status != 0:
                 raise Failure(f"{self.name}: {script.name}: status {ran.status}")
             wrong = script.first_wrong_line(report)
@@ -91,6 +101,17 @@ class Row:
     seconds: float
     memory: float
     log: int
+
+
+@dataclass
+class Opened:
+    """What opening came to at one size: net seconds and bytes, how many files there are, the greatest one's bytes."""
+
+    size: int
+    seconds: float
+    memory: int
+    files: int
+    greatest: int
 
 
 def folder_bytes(home):
@@ -182,6 +203,41 @@ class Bench:
                 for (names, _, _), (base, wrote, opened) in zip(kinds, found)]
 
 
+    def opening(self, folder):
+        """Opening logs of many files: of each size its records, net seconds, net memory, files, greatest file."""
+        system = self.systems[0]
+        found = []
+        for size in self.sizes.opened:
+            say(f"{system.name}: opening {size:,} records")
+            home = fresh(folder)
+            system.run(home, create_scripts(self.work, ["t"]), self.work)
+            before = self.base(system, home, self.sizes.repeats)
+            system.run(home, put_scripts(self.work, records_of(size), ["t"]), self.work)
+            opened = self.base(system, home, self.sizes.repeats)
+            files = [os.path.getsize(os.path.join(home, name)) for name in os.listdir(home)]
+            shutil.rmtree(home)
+            found.append(Opened(size, net(opened.seconds, before.seconds), opened.peak - before.peak, len(files), max(files)))
+        return found
+
+    def many_files(self, folder):
+        """The same puts among few files and among many: the files that they leave, and net seconds."""
+        system = self.systems[0]
+        size = self.sizes.lines[-1]
+        puts = put_scripts(self.work, records_of(size), ["t"])
+        kinds = [("--file-max", str(most)) for most in (FEW_FILES, MANY_FILES)]
+        found = [[Least(), Least(), 0] for _ in kinds]
+        for _ in range(self.sizes.repeats):
+            for options, kind in zip(kinds, found):
+                say(f"{system.name}: {size:,} puts with {' '.join(options)}")
+                home = fresh(folder)
+                system.run(home, create_scripts(self.work, ["t"]), self.work, options)
+                kind[0].take(system.run(home, [self.empty], self.work, options))
+                kind[1].take(system.run(home, puts, self.work, options))
+                kind[2] = len(os.listdir(home))
+                shutil.rmtree(home)
+        return size, [(files, net(wrote.seconds, base.seconds)) for base, wrote, files in found]
+
+
 def exponent(points):
     """The slope of log time over log size, by least squares."""
     logs = [(math.log(size), math.log(seconds)) for size, seconds in points]
@@ -253,12 +309,33 @@ def print_databases(found, records, goals):
     print()
 
 
+def print_opening(found, goals):
+    print("## Opening a log of many files\n")
+    lines = [[f"{one.size:,}", str(one.files), f"{one.seconds:.3f}", f"{one.size / one.seconds:,.0f}",
+              f"{(one.memory - one.greatest) / one.size:,.0f}"] for one in found]
+    table(["records", "files", "net s", "records/s", "bytes/record"], lines)
+    value = exponent([(one.size, one.seconds) for one in found])
+    last = found[-1]
+    memory = (last.memory - last.greatest) / last.size
+    print(f"exponent of opening: {value:.2f}{goals.mark('opening, exponent', value, most=MOST_EXPONENT)}")
+    print(f"seconds to open {last.size:,} records: {last.seconds:.2f}{goals.mark('opening, seconds', last.seconds, most=MOST_OPENING)}")
+    print(f"bytes a record, beside one file: {memory:,.0f}{goals.mark('opening, memory', memory, most=MOST_OPENING_MEMORY)}\n")
+
+
+def print_files(size, found, goals):
+    print("## Puts among few files and many\n")
+    (few, fast), (many, slow) = found
+    ratio = slow / fast
+    print(f"{size:,} puts: {fast / size * 1e6:.3f} microseconds each into {few} files, {slow / size * 1e6:.3f} into {many},"
+          f" ratio {ratio:.2f}{goals.mark('puts among many files, ratio', ratio, most=MOST_FILES_RATIO)}\n")
+
+
 def read_words():
     p = argparse.ArgumentParser(description=__doc__, formatter_class=argparse.RawDescriptionHelpFormatter)
     p.add_argument("--program", default=PROGRAM, help="the program (without it, the one that ./jedb built)")
     p.add_argument("--quick", action="store_true", help="a tenth of the sizes, two repeats")
     p.add_argument("--repeat", type=int, help="how many runs the least is taken of")
-    p.add_argument("--only", choices=["memory", "disk", "databases"], help="one part alone")
+    p.add_argument("--only", choices=PARTS, help="one part alone")
     p.add_argument("--memory", default="/dev/shm", help="a folder in memory (/dev/shm)")
     p.add_argument("--disk", default=ON_DISK, help="a folder on disk (bench/build)")
     p.add_argument("--bdb", default=os.environ.get("JEDB_BENCH_BDB", ""), help="command of a driver of Berkeley DB")
@@ -278,7 +355,7 @@ def systems_of(words):
 
 def measure(words, systems, sizes, work, goals):
     bench = Bench(systems, sizes, work)
-    parts = [words.only] if words.only else ["memory", "disk", "databases"]
+    parts = [words.only] if words.only else PARTS
     for part, title, folder in (("memory", "In memory", words.memory), ("disk", "On disk", words.disk)):
         if part in parts:
             with room_in(folder) as room:
@@ -288,6 +365,14 @@ def measure(words, systems, sizes, work, goals):
         with room_in(words.memory) as room:
             found = bench.many_databases(room)
         print_databases(found, sizes.databases * sizes.records, goals)
+    if "opening" in parts:
+        with room_in(words.memory) as room:
+            found = bench.opening(room)
+        print_opening(found, goals)
+    if "files" in parts:
+        with room_in(words.memory) as room:
+            size, found = bench.many_files(room)
+        print_files(size, found, goals)
 
 
 def main():

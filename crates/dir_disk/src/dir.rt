@@ -1,8 +1,10 @@
 // The disk over a folder.
 use crate::folder::Folder;
-use je_disk::{Disk, DiskErr};
+use crate::{DirDone, DirJob, DirReadDone, DirReadJob};
+use je_disk::{Disk, DiskErr, Jobs};
 use je_lsn::FileNo;
 use std::alloc::{AllocError, Global};
+use std::io;
 use std::io::ErrorKind;
 use std::rt::Files;
 
@@ -12,34 +14,62 @@ use std::rt::Files;
 pub struct DirDisk<R: Files + AllocGlobal + Clone + Drop> {
     folder: Folder<R>,
     faults: u64,
+    jobs: Jobs,
 }
 
 impl<R: Files + AllocGlobal + Clone + Drop> DirDisk<R> {
-    ghost use Rattle.std.specs.Prelude.{◌≡◌, ◌≤◌, IfOk};
+    ghost use Rattle.std.specs.Prelude.{◌≡◌, ◌≤◌, None, IfOk};
     ghost use Rattle.je_disk.specs.Causes.{Rose};
 
     /// The folder of this path, which need not be there. Nothing is done to it yet.
     pub fn new(rt: &R, path: &str) -> Result<DirDisk<R>, AllocError>
-        ensures { IfOk result (λ disk. disk.faults ≡ 0) }
+        ensures faults { IfOk result (λ disk. disk.faults ≡ 0) }
+        ensures sync_out { IfOk result (λ disk. disk.jobs.sync ≡ None) }
+        ensures read_out { IfOk result (λ disk. disk.jobs.reading ≡ None) }
+        ensures drawn { IfOk result (λ disk. disk.jobs.drawn ≡ 0) }
     {
         let folder = Folder::new(rt, path)?;
-        Ok(DirDisk { folder, faults: 0 })
+        Ok(DirDisk {
+            folder,
+            faults: 0,
+            jobs: Jobs::new(),
+        })
     }
 
     fn fault(&mut self) -> DiskErr
         ensures failed { result ≡ DiskErr.Failed }
         ensures rose { Rose self.old.faults self.new.faults }
         ensures never_falls { self.old.faults ≤ self.new.faults }
+        ensures jobs { self.new.jobs ≡ self.old.jobs }
     {
         self.faults = self.faults.saturating_add(1);
         DiskErr::Failed
     }
+
+    // What a call says that may also answer Memory.
+    fn refusal(&mut self, error: &io::Error) -> DiskErr
+        ensures failed { result ≡ DiskErr.Failed → Rose self.old.faults self.new.faults }
+        ensures never_falls { self.old.faults ≤ self.new.faults }
+        ensures jobs { self.new.jobs ≡ self.old.jobs }
+    {
+        match error.kind() {
+            ErrorKind::OutOfMemory => DiskErr::Memory,
+            _ => self.fault(),
+        }
+    }
 }
 
-impl<R: Files + AllocGlobal + Clone + Drop> Disk for DirDisk<R> {
+impl<R: Files + AllocGlobal + Clone + Drop> Disk for DirDisk<R>
+where
+    R::File: Send,
+{
     ghost use Rattle.std.specs.Prelude.{false};
     ghost use Rattle.je_disk.specs.Moments.{History};
     ghost use Rattle.je_disk.specs.States.{nothing};
+
+    type Job = DirJob<R::File>;
+
+    type ReadJob = DirReadJob<R::File>;
 
     ghost tells = { false };
 
@@ -47,7 +77,17 @@ impl<R: Files + AllocGlobal + Clone + Drop> Disk for DirDisk<R> {
 
     ghost faults = { λ disk. disk.faults };
 
+    ghost sync_out = { λ disk. disk.jobs.sync };
+
+    ghost read_out = { λ disk. disk.jobs.reading };
+
+    ghost read_of = { λ disk. disk.jobs.file.0 };
+
+    ghost drawn = { λ disk. disk.jobs.drawn };
+
     fn mount(&mut self) -> Result<(), DiskErr> {
+        self.jobs.give_up_sync();
+        self.jobs.give_up_reading();
         match self.folder.mount() {
             Ok(()) => Ok(()),
             Err(_) => Err(self.fault()),
@@ -57,8 +97,7 @@ impl<R: Files + AllocGlobal + Clone + Drop> Disk for DirDisk<R> {
     fn list(&mut self, alloc: Global) -> Result<Vec<FileNo>, DiskErr> {
         match self.folder.list(alloc) {
             Ok(files) => Ok(files),
-            Err(e) if e.kind() == ErrorKind::OutOfMemory => Err(DiskErr::Memory),
-            Err(_) => Err(self.fault()),
+            Err(e) => Err(self.refusal(&e)),
         }
     }
 
@@ -83,6 +122,20 @@ impl<R: Files + AllocGlobal + Clone + Drop> Disk for DirDisk<R> {
         }
     }
 
+    fn cut(&mut self, f: FileNo, len: u64) -> Result<(), DiskErr> {
+        match self.folder.cut(f, len) {
+            Ok(()) => Ok(()),
+            Err(_) => Err(self.fault()),
+        }
+    }
+
+    fn remove(&mut self, f: FileNo) -> Result<(), DiskErr> {
+        match self.folder.remove(f) {
+            Ok(()) => Ok(()),
+            Err(_) => Err(self.fault()),
+        }
+    }
+
     fn read(&mut self, f: FileNo, at: u64, into: &mut [u8]) -> Result<usize, DiskErr> {
         match self.folder.read(f, at, into) {
             Ok(count) => Ok(count),
@@ -97,58 +150,60 @@ impl<R: Files + AllocGlobal + Clone + Drop> Disk for DirDisk<R> {
         }
     }
 
+    fn begin_sync(&mut self) -> Result<DirJob<R::File>, DiskErr> {
+        self.jobs.give_up_sync();
+        let Some(number) = self.jobs.next() else {
+            self.folder.give_up_sync();
+            return Err(self.fault());
+        };
+        match self.folder.begin_sync(number) {
+            Ok(job) => {
+                self.jobs.begin_sync(number);
+                Ok(job)
+            }
+            Err(_) => Err(self.fault()),
+        }
+    }
+
+    fn end_sync(&mut self, done: DirDone) -> Result<(), DiskErr> {
+        self.jobs.give_up_sync();
+        match self.folder.end_sync(done.worked()) {
+            Ok(()) => Ok(()),
+            Err(_) => Err(self.fault()),
+        }
+    }
+
+    fn read_job(&mut self, f: FileNo) -> Result<DirReadJob<R::File>, DiskErr> {
+        self.jobs.give_up_reading();
+        let Some(number) = self.jobs.next() else {
+            return Err(self.fault());
+        };
+        match self.folder.begin_read(number, f) {
+            Ok(job) => {
+                self.jobs.begin_reading(number, f);
+                Ok(job)
+            }
+            Err(_) => Err(self.fault()),
+        }
+    }
+
+    fn end_read(&mut self, alloc: Global, done: DirReadDone) -> Result<Vec<u8>, DiskErr> {
+        self.jobs.give_up_reading();
+        match self.folder.end_read(alloc, done.bytes()) {
+            Ok(bytes) => Ok(bytes),
+            Err(e) => Err(self.refusal(&e)),
+        }
+    }
+
     fn faults(&self) -> u64 {
         self.faults
     }
-}
 
-#[cfg(test)]
-mod tests {
-    use super::*;
-    use std::fs;
-    use std::test::Fail;
+    fn sync_out(&self) -> Option<u64> {
+        self.jobs.sync()
+    }
 
-    #[test]
-    fn keeps_files_in_a_folder(rt: HostRuntime) -> Result<(), Fail> {
-        let alloc = rt.alloc();
-        let mut disk = DirDisk::new(&rt, "log")?;
-        disk.mount()?;
-        assert!(rt; disk.list(alloc)?.is_empty() && disk.len(FileNo(0))? == 0);
-        disk.sync_now()?;
-        disk.create(FileNo(26))?;
-        disk.append(FileNo(3), b"abc")?;
-        disk.append(FileNo(3), b"defg")?;
-        disk.create(FileNo(3))?;
-        disk.sync_now()?;
-        fs::write(&rt, "log/notes.txt", "no log file")?;
-        fs::write(&rt, "log/0000000A.jdb", "no log file")?;
-        assert!(rt; disk.list(alloc)?.as_slice() == [FileNo(3), FileNo(26)].as_slice());
-        assert!(rt; disk.len(FileNo(3))? == 7 && disk.len(FileNo(26))? == 0);
-        let mut piece = [b'.'; 4];
-        assert_eq!(rt; disk.read(FileNo(3), 5, &mut piece)?, 2);
-        assert!(rt; piece.as_slice() == b"fg..".as_slice());
-        disk.append(FileNo(3), b"hi")?;
-        assert_eq!(rt;
-            fs::read_to_string(&rt, "log/00000003.jdb")?.as_str(),
-            "abcdefghi"
-        );
-
-        let mut again = DirDisk::new(&rt, "log")?;
-        again.mount()?;
-        assert!(rt; again.list(alloc)?.as_slice() == [FileNo(3), FileNo(26)].as_slice());
-        again.append(FileNo(3), b"!")?;
-        again.sync_now()?;
-        assert_eq!(rt; again.read(FileNo(3), 0, &mut piece)?, 4);
-        assert!(rt; piece.as_slice() == b"abcd".as_slice());
-        assert_eq!(rt; again.read(FileNo(3), 8, &mut piece)?, 2);
-        assert!(rt; piece.as_slice() == b"i!cd".as_slice());
-        assert!(rt; again.read(FileNo(9), 0, &mut piece)? == 0 && again.len(FileNo(9))? == 0);
-        assert!(rt; disk.faults() == 0 && again.faults() == 0);
-
-        let mut no_folder = DirDisk::new(&rt, "log/notes.txt")?;
-        assert!(rt; no_folder.mount() == Err(DiskErr::Failed));
-        assert!(rt; no_folder.append(FileNo(0), b"x") == Err(DiskErr::Failed));
-        assert_eq!(rt; no_folder.faults(), 2);
-        Ok(())
+    fn read_out(&self) -> Option<u64> {
+        self.jobs.reading()
     }
 }

@@ -1,16 +1,21 @@
 // The folder and its open files.
-ghost use Rattle.std.specs.Prelude.{◌≤◌, length, IfOk};
+ghost use Rattle.std.specs.Prelude.{◌≡◌, ◌≤◌, length, IfOk};
 ghost use Rattle.je_disk.specs.States.{IsRising};
 
+use crate::job::{DirJob, DirReadJob, Lost, sync_all, sync_file, whole};
+use crate::pending::Pending;
 use crate::pieces::{fill, in_order};
-use je_lsn::{FileNo, file_name, parse_name};
+use crate::place::Place;
+use je_lsn::FileNo;
 use std::alloc::{AllocError, Global};
-use std::collections::{BTreeMap, BTreeSet};
-use std::fs::{OpenFile, OpenOptions};
-use std::io::{Error, ErrorKind, Read, Seek, SeekFrom, Write};
-use std::path::Path;
+use std::collections::BTreeMap;
+use std::fs::OpenFile;
+use std::io;
+use std::io::{Error, ErrorKind, Seek, SeekFrom, Write};
 use std::rt::Files;
-use std::{fs, io};
+use std::sync::Arc;
+use std::sync::atomic::AtomicBool;
+use std::sync::atomic::Ordering::SeqCst;
 
 // Beyond this many open files, those that need no sync are closed.
 const MOST_OPEN: usize = 64;
@@ -19,99 +24,65 @@ const MOST_OPEN: usize = 64;
 #[derive(Drop)]
 struct Opened<F> {
     file: F,
-    // it was written to since the last sync
-    is_written: bool,
+    pending: Pending,
+}
+
+/// The file of the read job that is out, and whether it was changed since the job began.
+#[derive(Clone, Copy)]
+struct Reading {
+    file: FileNo,
+    is_changed: bool,
 }
 
 /// The folder, and what has to be done at the next sync.
 #[derive(Drop)]
 pub struct Folder<R: Files + AllocGlobal + Clone + Drop> {
-    rt: R,
-    path: String,
+    place: Place<R>,
     files: BTreeMap<u32, Opened<R::File>>,
-    // the folder's entries may not be stable
-    is_changed: bool,
-    // the folder's own name may not be stable
-    is_new: bool,
+    // the folder's entries
+    entries: Pending,
+    // the folder's own name, in the folder above
+    name: Pending,
     // no sync has been finished since the mount, so files of earlier runs may not be stable
     is_unsettled: bool,
+    lost: Lost,
+    reading: Option<Reading>,
 }
 
-fn is_missing<T>(answer: &io::Result<T>) -> bool {
-    match answer {
-        Ok(_) => false,
-        Err(e) => e.kind() == ErrorKind::NotFound,
-    }
-}
-
-fn sync_at<R: Files>(rt: &R, path: &str) -> io::Result<()> {
-    let file = OpenOptions::new().read(true).open(rt, path)?;
-    file.sync_all()
+fn lost_data() -> Error {
+    Error::from(ErrorKind::Other)
 }
 
 impl<R: Files + AllocGlobal + Clone + Drop> Folder<R> {
     pub fn new(rt: &R, path: &str) -> Result<Folder<R>, AllocError> {
-        let path = if path.is_empty() { "." } else { path };
         Ok(Folder {
-            rt: rt.clone()?,
-            path: String::from_str(rt.alloc(), path)?,
+            place: Place::new(rt, path)?,
             files: BTreeMap::new(rt.alloc()),
-            is_changed: false,
-            is_new: false,
+            entries: Pending::Nothing,
+            name: Pending::Nothing,
             is_unsettled: true,
+            lost: Arc::new(rt.alloc(), AtomicBool::new(false))?,
+            reading: None,
         })
-    }
-
-    fn path_of(&self, f: FileNo) -> io::Result<String> {
-        let name = file_name(f);
-        let Ok(name) = std::str::from_utf8(name.as_slice()) else {
-            return Err(Error::from(ErrorKind::InvalidFilename));
-        };
-        let folder = self.path.as_str();
-        Ok(format!(in self.rt.alloc(); "{folder}/{name}")?)
     }
 
     /// Forgets the open files. A folder that is not there is no error, and anything else of its name is.
     pub fn mount(&mut self) -> io::Result<()> {
         self.files.clear();
-        self.is_changed = false;
-        self.is_new = false;
+        self.entries = Pending::Nothing;
+        self.name = Pending::Nothing;
         self.is_unsettled = true;
-        match self.rt.metadata(self.path.as_str()) {
-            Ok(found) if found.is_dir() => Ok(()),
-            Ok(_) => Err(Error::from(ErrorKind::NotADirectory)),
-            Err(e) if e.kind() == ErrorKind::NotFound => Ok(()),
-            Err(e) => Err(e),
-        }
+        self.reading = None;
+        self.place.is_there()?;
+        Ok(())
     }
 
     /// The numbers of the log files, rising; none where there is no folder.
     pub fn list(&self, alloc: Global) -> io::Result<Vec<FileNo>>
         ensures { IfOk result (λ files. IsRising files.items) }
     {
-        let numbers = self.numbers(alloc)?;
+        let numbers = self.place.numbers(alloc)?;
         Ok(in_order(alloc, &numbers)?)
-    }
-
-    fn numbers(&self, alloc: Global) -> io::Result<BTreeSet<u32>> {
-        let mut numbers = BTreeSet::new(alloc);
-        let entries = fs::read_dir(&self.rt, self.path.as_str());
-        if is_missing(&entries) {
-            return Ok(numbers);
-        }
-        for entry in entries? {
-            match entry {
-                Ok(entry) => {
-                    if let Some(f) = parse_name(entry.file_name().as_bytes()) {
-                        numbers.insert(f.0)?;
-                    }
-                }
-                // a name that is no text is no log file's
-                Err(e) if e.kind() == ErrorKind::InvalidFilename => {}
-                Err(e) => return Err(e),
-            }
-        }
-        Ok(numbers)
     }
 
     // Opens a file that is there, and answers whether it is.
@@ -119,32 +90,30 @@ impl<R: Files + AllocGlobal + Clone + Drop> Folder<R> {
         if self.files.contains_key(&f.0) {
             return Ok(true);
         }
-        let path = self.path_of(f)?;
-        let opened = OpenOptions::new()
-            .read(true)
-            .append(true)
-            .open(&self.rt, path.as_str());
-        if is_missing(&opened) {
-            return Ok(false);
+        match self.place.file(f)? {
+            Some(file) => {
+                self.keep(f, file, Pending::Nothing)?;
+                Ok(true)
+            }
+            None => Ok(false),
         }
-        self.keep(f, opened?, false)?;
-        Ok(true)
     }
 
-    fn keep(&mut self, f: FileNo, file: R::File, is_written: bool) -> io::Result<()> {
+    fn keep(&mut self, f: FileNo, file: R::File, pending: Pending) -> io::Result<()> {
         if self.files.len() >= MOST_OPEN {
-            self.files.retain(|_, opened| opened.is_written);
+            self.files.retain(|_, opened| opened.pending.is_due());
         }
-        self.files.insert(f.0, Opened { file, is_written })?;
+        self.files.insert(f.0, Opened { file, pending })?;
         Ok(())
     }
 
-    fn make_file(&self, path: &str) -> io::Result<R::File> {
-        OpenOptions::new()
-            .read(true)
-            .append(true)
-            .create_new(true)
-            .open(&self.rt, path)
+    // The read job that is out for this file has to read it again at its end.
+    fn note_change(&mut self, f: FileNo) {
+        if let Some(reading) = &mut self.reading {
+            if reading.file == f {
+                reading.is_changed = true;
+            }
+        }
     }
 
     /// Makes a file that is not there, and the folder too where it is not there.
@@ -152,27 +121,56 @@ impl<R: Files + AllocGlobal + Clone + Drop> Folder<R> {
         if self.open(f)? {
             return Ok(());
         }
-        let path = self.path_of(f)?;
-        let mut made = self.make_file(path.as_str());
-        if is_missing(&made) {
-            fs::create_dir(&self.rt, self.path.as_str())?;
-            self.is_new = true;
-            made = self.make_file(path.as_str());
+        self.note_change(f);
+        let mut made = self.place.make(f)?;
+        if made.is_none() {
+            self.place.make_folder()?;
+            self.name = Pending::Sync;
+            made = self.place.make(f)?;
         }
-        self.is_changed = true;
-        self.keep(f, made?, true)
+        self.entries = Pending::Sync;
+        match made {
+            Some(file) => self.keep(f, file, Pending::Sync),
+            None => Err(Error::from(ErrorKind::NotFound)),
+        }
     }
 
     /// Puts bytes at a file's end.
     pub fn append(&mut self, f: FileNo, bytes: &[u8]) -> io::Result<()> {
         self.create(f)?;
+        self.note_change(f);
         match self.files.get_mut(&f.0) {
             Some(opened) => {
-                opened.is_written = true;
+                opened.pending = Pending::Sync;
                 opened.file.write_all(bytes)
             }
             None => Err(Error::from(ErrorKind::NotFound)),
         }
+    }
+
+    /// Cuts a file to a length, where it is longer.
+    pub fn cut(&mut self, f: FileNo, len: u64) -> io::Result<()> {
+        if self.len(f)? <= len {
+            return Ok(());
+        }
+        self.note_change(f);
+        match self.files.get_mut(&f.0) {
+            Some(opened) => {
+                opened.pending = Pending::Sync;
+                opened.file.set_len(len)
+            }
+            None => Ok(()),
+        }
+    }
+
+    /// Takes a file away, where it is there.
+    pub fn remove(&mut self, f: FileNo) -> io::Result<()> {
+        self.note_change(f);
+        if self.place.remove(f)? {
+            self.entries = Pending::Sync;
+            self.files.remove(&f.0);
+        }
+        Ok(())
     }
 
     /// How many bytes a file has; 0 where it is not there.
@@ -203,54 +201,125 @@ impl<R: Files + AllocGlobal + Clone + Drop> Folder<R> {
         }
     }
 
-    /// Makes stable each file that was written to, then the folder where a file was made in it, then
-    /// the folder above it where the folder was made. The first sync after a mount makes all stable.
+    /// Begins to read a whole file.
+    pub fn begin_read(&mut self, number: u64, f: FileNo) -> io::Result<DirReadJob<R::File>>
+        ensures { IfOk result (λ job. job.number ≡ number) }
+    {
+        let file = self.place.reader(f)?;
+        self.reading = Some(Reading {
+            file: f,
+            is_changed: false,
+        });
+        Ok(DirReadJob {
+            number,
+            alloc: self.place.alloc(),
+            file,
+        })
+    }
+
+    /// Ends a reading, with what the job read, or with the file's bytes now where it was changed since.
+    pub fn end_read(&mut self, alloc: Global, bytes: io::Result<Vec<u8>>) -> io::Result<Vec<u8>> {
+        match self.reading.take() {
+            Some(reading) if reading.is_changed => whole(alloc, self.place.reader(reading.file)?),
+            _ => bytes,
+        }
+    }
+
+    /// Makes stable each file that was written to, then the folder where a file was made in it or taken
+    /// away, then the folder above it where the folder was made. The first sync after a mount makes all
+    /// stable. Once the system has failed to sync, no sync works.
     pub fn sync(&mut self) -> io::Result<()> {
-        if self.is_unsettled {
-            self.sync_found()?;
-            self.is_unsettled = false;
-        }
-        self.sync_written()?;
-        if self.is_changed {
-            sync_at(&self.rt, self.path.as_str())?;
-            self.is_changed = false;
-        }
-        if self.is_new {
-            self.sync_above()?;
-            self.is_new = false;
+        let handles = self.handles()?;
+        self.finish(sync_all(handles.as_slice(), &self.lost))?;
+        self.begin_pending();
+        self.end_pending(true);
+        Ok(())
+    }
+
+    /// Begins a sync job, of the same files and folders.
+    pub fn begin_sync(&mut self, number: u64) -> io::Result<DirJob<R::File>>
+        ensures { IfOk result (λ job. job.number ≡ number) }
+    {
+        self.end_pending(false);
+        let files = self.handles()?;
+        let lost = Arc::try_clone(&self.lost)?;
+        self.begin_pending();
+        Ok(DirJob {
+            number,
+            files,
+            lost,
+        })
+    }
+
+    /// Ends a sync job that has worked or failed. What was done since it began is due still.
+    pub fn end_sync(&mut self, worked: bool) -> io::Result<()> {
+        self.end_pending(worked);
+        self.finish(if worked { Ok(()) } else { Err(lost_data()) })
+    }
+
+    /// No sync job is out: what it was to make stable is due again.
+    pub fn give_up_sync(&mut self) {
+        self.end_pending(false);
+    }
+
+    fn finish(&self, answer: io::Result<()>) -> io::Result<()> {
+        answer?;
+        if self.lost.load(SeqCst) {
+            return Err(lost_data());
         }
         Ok(())
+    }
+
+    // Handles of all that is due: of the files, of the folder, of the folder above.
+    fn handles(&mut self) -> io::Result<Vec<R::File>> {
+        if self.is_unsettled {
+            self.settle()?;
+            self.is_unsettled = false;
+        }
+        let mut handles = Vec::new(self.place.alloc());
+        for opened in self.files.values() {
+            if opened.pending.is_due() {
+                handles.push(opened.file.try_clone()?)?;
+            }
+        }
+        if self.entries.is_due() {
+            handles.push(self.place.folder()?)?;
+        }
+        if self.name.is_due() {
+            handles.push(self.place.above()?)?;
+        }
+        Ok(handles)
     }
 
     // What earlier runs made, wrote or took away may not be stable yet, the folder itself included.
-    fn sync_found(&mut self) -> io::Result<()> {
-        if is_missing(&self.rt.metadata(self.path.as_str())) {
+    fn settle(&mut self) -> io::Result<()> {
+        if !self.place.is_there()? {
             return Ok(());
         }
-        let numbers = self.numbers(self.rt.alloc())?;
+        let numbers = self.place.numbers(self.place.alloc())?;
         for f in &numbers {
-            let path = self.path_of(FileNo(*f))?;
-            sync_at(&self.rt, path.as_str())?;
-        }
-        self.is_changed = true;
-        self.is_new = true;
-        Ok(())
-    }
-
-    fn sync_written(&mut self) -> io::Result<()> {
-        for opened in self.files.values_mut() {
-            if opened.is_written {
-                opened.file.sync_all()?;
-                opened.is_written = false;
+            if let Some(file) = self.place.reader(FileNo(*f))? {
+                sync_file(&file, &self.lost)?;
             }
         }
+        self.entries = Pending::Sync;
+        self.name = Pending::Sync;
         Ok(())
     }
 
-    fn sync_above(&self) -> io::Result<()> {
-        match Path::new(self.path.as_str()).parent() {
-            Some(above) if !above.as_os_str().is_empty() => sync_at(&self.rt, above.as_str()),
-            _ => sync_at(&self.rt, "."),
+    fn begin_pending(&mut self) {
+        for opened in self.files.values_mut() {
+            opened.pending.begin();
         }
+        self.entries.begin();
+        self.name.begin();
+    }
+
+    fn end_pending(&mut self, worked: bool) {
+        for opened in self.files.values_mut() {
+            opened.pending.end(worked);
+        }
+        self.entries.end(worked);
+        self.name.end(worked);
     }
 }

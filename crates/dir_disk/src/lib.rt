@@ -1,10 +1,19 @@
 //! A disk that is a folder. It stands on `je_disk`, over std's files. It tells nothing, since no
-//! contract can say what a file holds: proved are its safety and the causes of its errors, and the rest
-//! is for its readers and its tests. The folder is this process's own while the disk is in use.
+//! contract can say what a file holds: proved are its safety, the causes of its errors, and which jobs
+//! are out; the rest is for its readers and its tests. A sync job has handles of its own of what is to
+//! be synced, and a read job has one of its file. The folder is this process's own while the disk is in
+//! use.
 #![tactic(auto)]
 
 pub mod dir;
 pub mod folder;
+pub mod job;
+pub mod pending;
 pub mod pieces;
+pub mod place;
 
 pub use dir::DirDisk;
+pub use job::{DirDone, DirJob, DirReadDone, DirReadJob};
+
+#[cfg(test)]
+mod tests;

@@ -5,7 +5,7 @@ use Rattle.std.proofs.lemmas.List.Folds.{list_any-append}
 use Rattle.je_model.specs.declared.store.Store.{Store}
 use Rattle.je_model.specs.declared.change.Change.{Change}
 use Rattle.je_model.specs.declared.event.Event.{Event}
-use Rattle.je_model.specs.declared.event.Event.TheVariants.{Call as Called, SyncEnd}
+use Rattle.je_model.specs.declared.event.Event.TheVariants.{Call as Called, SyncBegin, SyncEnd}
 use Rattle.je_model.specs.declared.answer.Answer.TheVariants.{Logged, DiskFault}
 use Rattle.je_model.specs.Store.{store_after, all_changed}
 use Rattle.je_model.specs.Journal.{commit_of, commits_of, EachComesLater, ComesLater, lines_of, line_of}
@@ -36,6 +36,7 @@ store_after-append base (changes ∷ before) after = store_after-append (all_cha
 pub store-after_event : (rule : LogRule) (st : Standing) (event : Event) →
     (after_event rule st event).store ≡ store_after st.store (commit_of st.store event)
 store-after_event rule st (Called session line call (Logged commit)) = refl
+store-after_event rule st (SyncBegin DiskFault) = refl
 store-after_event rule st (SyncEnd DiskFault) = refl
 store-after_event rule st event = refl
 

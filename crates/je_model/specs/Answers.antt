@@ -16,17 +16,21 @@ use Rattle.je_model.specs.declared.event.Event.TheVariants.{Call as Called, Sync
 use Rattle.je_model.specs.Store.{database_of, all_changed}
 use Rattle.je_model.specs.Evaluation.{Outcome, evaluation}
 
--- how many bytes of log a transaction's changes take, its commit included, and how many the log may have
+-- where a log ends: its last file, and the offset in it
+abbrev pub LogEnd : Type 0
+LogEnd = ℕ × ℕ
+
+-- where a log ends once a transaction's changes and its commit are logged, and the last file that a log may have
 pub record LogRule : Type 0 where
-  pub bytes_of : List Change → ℕ
-  pub most : ℕ
+  pub end_after : LogEnd → List Change → LogEnd
+  pub last_file : ℕ
 
 -- where an environment stands between two events
 pub record Standing : Type 0 where
   pub store : Store  -- the store that calls see
   pub last_txn : ℕ  -- the transaction number drawn last
   pub last_db : ℕ  -- the database number drawn last
-  pub log_bytes : ℕ  -- the length of the log
+  pub log_end : LogEnd  -- where the log ends
   pub commits : ℕ  -- how many transactions were committed since opening
   pub begun : Option ℕ  -- how many of them when the sync under way began
   pub fault : Option Fault  -- the first fault, after which each call is Invalid
@@ -73,7 +77,7 @@ length_refusal (Delete db key) = too_long KEY_LIMIT key
 -- the answer to a call that was evaluated: its changes need room in the log and numbers
 abbrev pub logging_answer : LogRule → Standing → List Change → Answer
 logging_answer rule st changes =
-    if nat_lt rule.most (st.log_bytes + rule.bytes_of changes) then LogFull
+    if nat_lt rule.last_file (rule.end_after st.log_end changes).0 then LogFull
     else if nat_lt LAST_DATABASE (st.last_db + made_by changes) then IdsEnded
     else Logged (st.commits + 1)
 
@@ -107,6 +111,10 @@ abbrev pub MayAnswer : Answer → Answer → Type 0
 MayAnswer (Logged commit) answer = (answer ≡ Logged commit) ⊎ (answer ≡ DiskFault)
 MayAnswer due answer = answer ≡ due
 
+-- a sync begins, or fails before it does
+abbrev pub MayBeginSync : Answer → Type 0
+MayBeginSync answer = (answer ≡ Done) ⊎ (answer ≡ DiskFault)
+
 -- a sync covers the commits before its beginning, or fails
 abbrev pub MayEndSync : Option ℕ → Answer → Type 0
 MayEndSync None answer = ⊥
@@ -115,7 +123,7 @@ MayEndSync (Some commits) answer = (answer ≡ Durable commits) ⊎ (answer ≡ 
 -- an event answers what it may
 abbrev pub IsAnswered : LogRule → Standing → Event → Type 0
 IsAnswered rule st (Called session line call answer) = MayAnswer (answer_to rule st call) answer
-IsAnswered rule st (SyncBegin answer) = answer ≡ Done
+IsAnswered rule st (SyncBegin answer) = MayBeginSync answer
 IsAnswered rule st (SyncEnd answer) = MayEndSync st.begun answer
 
 -- where the environment stands after a call with that answer
@@ -126,7 +134,7 @@ after_call rule st call (Logged commit) =
       store = all_changed changes st.store;
       last_txn = next_txn st.last_txn;
       last_db = st.last_db + made_by changes;
-      log_bytes = st.log_bytes + rule.bytes_of changes;
+      log_end = rule.end_after st.log_end changes;
       commits = st.commits + 1;
       begun = st.begun;
       fault = st.fault;
@@ -139,10 +147,14 @@ abbrev pub after_sync : Standing → Answer → Standing
 after_sync st DiskFault = record st { fault = Some Disk }
 after_sync st answer = st
 
+abbrev pub after_begin : Standing → Answer → Standing
+after_begin st DiskFault = record st { fault = Some Disk }
+after_begin st answer = record st { begun = Some st.commits }
+
 -- where the environment stands after an event
 abbrev pub after_event : LogRule → Standing → Event → Standing
 after_event rule st (Called session line call answer) = after_call rule st call answer
-after_event rule st (SyncBegin answer) = record st { begun = Some st.commits }
+after_event rule st (SyncBegin answer) = after_begin st answer
 after_event rule st (SyncEnd answer) = after_sync st answer
 
 abbrev pub after_events : LogRule → Standing → List Event → Standing

@@ -11,7 +11,8 @@ pub enum Event {
         call: Call,
         answer: Answer,
     },
-    /// A sync begins: it covers each commit logged before it.
+    /// A sync begins: it covers each commit logged before it. It fails where the log could not be
+    /// written out to its files.
     SyncBegin {
         answer: Answer,
     },

@@ -1,49 +1,59 @@
 -- The end of a run.
-use Rattle.std.proofs.Common.{◌≡◌, ◌≢◌, ℕ, ◌+◌, ◌-◌, ◌^◌, ◌<◌, ◌≤◌, ◌||◌, ◌⊎◌, Bool, true, false, List, [], ◌∷◌, ◌++◌, length, Option, Some, None, refl, ap, sym, ◌∙◌, subst, inl, inr, ⊎_elim, arith}
-use Rattle.std.proofs.lemmas.Bool.{cases_Bool, cases_lt, cond-true, cond-false, true≢false}
-use Rattle.std.specs.List.{list_any}
+use Rattle.std.proofs.Common.{◌≡◌, ◌≢◌, ℕ, ◌-◌, ◌^◌, ◌<◌, ◌≤◌, ◌||◌, Bool, true, false, List, [], ◌∷◌, ◌++◌, length, None, refl, ap, sym, ◌∙◌, subst, inl, inr, ⊎_elim, arith}
+use Rattle.std.proofs.lemmas.Bool.{cases_Bool, cases_lt, cond-true, cond-false}
+use Rattle.std.specs.List.{AllByRecursion, list_any}
 use Rattle.je_disk.specs.Causes.{Rose}
 use Rattle.je_disk.specs.States.{State, Files}
 use Rattle.je_model.specs.declared.store.Store.{Store}
 use Rattle.je_model.specs.declared.totals.Totals.{Totals}
-use Rattle.je_model.specs.declared.call.Call.{Call}
 use Rattle.je_model.specs.declared.event.Event.{Event}
 use Rattle.je_model.specs.declared.event.Event.TheVariants.{Call as Called, SyncBegin, SyncEnd}
 use Rattle.je_model.specs.declared.answer.Answer.{Answer}
-use Rattle.je_model.specs.declared.answer.Answer.TheVariants.{Done as DoneAnswer, Logged, Durable, Rec, NotFound, NoDatabase, NameTaken, TooMany, TooLong, LogFull as LogFullAnswer, IdsEnded as IdsEndedAnswer, DiskFault, Invalid}
-use Rattle.je_model.specs.Store.{record_count, store_after}
-use Rattle.je_model.specs.Answers.{LogRule, Standing, after_event, after_events, after_call, after_sync}
-use Rattle.je_model.specs.Journal.{answer_of, is_disk_fault, has_answer, is_logged, settles, acknowledges, AllSettled, AllAcknowledged, EachComesLater, ComesLater, commits_of, lines_of}
+use Rattle.je_model.specs.declared.answer.Answer.TheVariants.{Logged, LogFull as LogFullAnswer, IdsEnded as IdsEndedAnswer, DiskFault}
+use Rattle.je_model.specs.Store.{store_after}
+use Rattle.je_model.specs.Answers.{Standing, after_event, after_events}
+use Rattle.je_model.specs.Journal.{answer_of, is_disk_fault, has_answer, settles, acknowledges, AllSettled, AllAcknowledged, ComesLater, commits_of}
 use Rattle.je_model.proofs.Journal.{store-after_events}
-use Rattle.log_replay.specs.Meaning.{Meaning, meaning_of_file}
-use Rattle.log_replay.specs.Rows.{rows_in}
-use Rattle.log_replay.proofs.LogLaws.{kept_means}
+use Rattle.log_buffer.specs.declared.buffer.LogBuffer.{LogBuffer}
+use Rattle.je_lsn.specs.Naming.{last_file}
+use Rattle.log_entry.specs.declared.entry.Entry.{Entry}
+use Rattle.log_buffer.specs.Log.{EndsAt}
+use Rattle.log_buffer.proofs.Logs.{AreBelow, below_last}
+use Rattle.log_replay.proofs.FilesLaws.{all_push}
+use Rattle.log_file.specs.Log.{Log, IsLog, AreFiles, entries_of, files_of_log}
+use Rattle.log_file.proofs.FilesLaws.{are_spelled_files, spelled_files}
+use Rattle.log_replay.specs.declared.finding.Finding.{Finding}
+use Rattle.log_replay.specs.Kept.{IsKept}
+use Rattle.log_replay.specs.Meaning.{Meaning, meaning_of}
+use Rattle.log_replay.specs.Rows.{Rows, store_of}
+use Rattle.log_replay.proofs.LogLaws.{kept_judged, kept_store}
+use Rattle.log_replay.proofs.AgainLaws.{are_read_again}
 use Rattle.je_program.specs.declared.kept.Kept.{Kept}
 use Rattle.je_program.specs.declared.cause.Cause.{Cause}
-use Rattle.je_program.specs.declared.cause.Cause.TheVariants.{Done, Usage, BadScript, Disk, Log, Memory, Input, InputTooLong, LogFull, IdsEnded}
-use Rattle.je_program.specs.Files.{Means, IsFirstAlone}
-use Rattle.je_program.specs.Environment.{IsAt, IsValid, log_rule}
+use Rattle.je_program.specs.declared.cause.Cause.TheVariants.{Done, Disk, Unreadable, Memory, LogFull, IdsEnded}
+use Rattle.je_program.specs.Environment.{IsAt, IsWhole, log_rule}
 use Rattle.je_program.specs.Program.{MeanStore, totals_of, final_store, ClosesBy, ClosesRun, EndsBy, RunsIf, is_before_disk}
-use Rattle.je_program.specs.Run.{IsRunning, IsCaused, StartsAt, cause_of_journal, cause_of_room, cause_of_answer}
+use Rattle.je_program.specs.Run.{IsCaused, cause_of_journal, cause_of_room, cause_of_answer}
 
 -- a valid environment stays valid under an event that is no disk fault
-valid_after : (st : Standing) (event : Event) → st.fault ≡ None → is_disk_fault (answer_of event) ≡ false → (after_event log_rule st event).fault ≡ None
-valid_after st (Called session line call DiskFault) none h = cc
-valid_after st (Called session line call answer) none h = none
-valid_after st (SyncBegin answer) none h = none
-valid_after st (SyncEnd DiskFault) none h = cc
-valid_after st (SyncEnd answer) none h = none
+valid_after : (most : ℕ) (st : Standing) (event : Event) → st.fault ≡ None → is_disk_fault (answer_of event) ≡ false → (after_event (log_rule most) st event).fault ≡ None
+valid_after most st (Called session line call DiskFault) none h = cc
+valid_after most st (Called session line call answer) none h = none
+valid_after most st (SyncBegin DiskFault) none h = cc
+valid_after most st (SyncBegin answer) none h = none
+valid_after most st (SyncEnd DiskFault) none h = cc
+valid_after most st (SyncEnd answer) none h = none
 
 or_false : (a b : Bool) → (a || b) ≡ false → (a ≡ false) × (b ≡ false)
 or_false true b h = cc
 or_false false b h = (refl, h)
 
 -- and under events that are none
-pub valid_afterwards : (st : Standing) (events : List Event) → st.fault ≡ None → has_answer is_disk_fault events ≡ false → (after_events log_rule st events).fault ≡ None
-valid_afterwards st [] none h = none
-valid_afterwards st (event ∷ events) none h =
+pub valid_afterwards : (most : ℕ) (st : Standing) (events : List Event) → st.fault ≡ None → has_answer is_disk_fault events ≡ false → (after_events (log_rule most) st events).fault ≡ None
+valid_afterwards most st [] none h = none
+valid_afterwards most st (event ∷ events) none h =
     let parts = or_false (is_disk_fault (answer_of event)) (has_answer is_disk_fault events) h in
-    valid_afterwards (after_event log_rule st event) events (valid_after st event none parts.0) parts.1
+    valid_afterwards most (after_event (log_rule most) st event) events (valid_after most st event none parts.0) parts.1
 
 -- the cause that room gives is no disk fault
 room_is_none : (events : List Event) → cause_of_room events ≢ Disk
@@ -74,23 +84,15 @@ no_fault_of_cause journal h =
       disk_is_not_done e = cc
 
 -- the totals that are kept are those of the store
-pub totals_are : (tells : Bool) (state : State) (kept : Kept) (st : Standing) → IsAt tells state kept st → kept.totals ≡ totals_of st.store
-totals_are tells state kept st here =
+pub totals_are : {D : Type 0} → (most : ℕ) (tells : Bool) (state : State) (buffer : LogBuffer D) (kept : Kept) (st : Standing) → IsAt most tells state buffer kept st → kept.totals ≡ totals_of st.store
+totals_are most tells state buffer kept st here =
     let make : ℕ → ℕ → Totals = λ d r. record { databases = d; records = r } in
-    ap (λ d. make d kept.totals.records) here.databases ∙ ap (λ r. make (length st.store.databases) r) here.records
-
--- the files of a valid environment mean its store
-pub files_mean : (tells : Bool) (state : State) (files : Files) (kept : Kept) (store : Store) → IsValid tells state kept store → tells ≡ true → files ≡ state.reads → MeanStore files store
-files_mean tells state files kept store v told same =
-    let m = kept_means v.bytes (rows_in kept.rows) kept.last_txn kept.last_db v.log in
-    let alone = v.told told in
-    let means : Means state.reads m.0 = record { only = alone.only; first = ap (λ (o : Option (List ℕ)). meaning_of_file o) alone.first ∙ m.1 } in
-    (m.0, subst (λ (f : Files). Means f m.0) (sym same) means, m.2 ∙ v.made)
+    ap (λ d. make d kept.totals.records) here.databases ∙ ap (λ r. make (length st.store.databases) r) here.record_count_is
 
 -- the store that a run leaves is the opening one changed by its commits
-pub final_is : (st : Standing) (opening : Store) (journal : List Event) → st.store ≡ opening → (after_events log_rule st journal).store ≡ final_store opening journal
-final_is st opening journal same =
-    store-after_events log_rule st journal ∙ ap (λ (s : Store). store_after s (commits_of s journal)) same
+pub final_is : (most : ℕ) (st : Standing) (opening : Store) (journal : List Event) → st.store ≡ opening → (after_events (log_rule most) st journal).store ≡ final_store opening journal
+final_is most st opening journal same =
+    store-after_events (log_rule most) st journal ∙ ap (λ (s : Store). store_after s (commits_of s journal)) same
 
 -- without a disk fault, what settles a commit acknowledges it
 acknowledges_any : (commit : ℕ) (later : List Event) → has_answer is_disk_fault later ≡ false → list_any (settles commit) later ≡ true → list_any (acknowledges commit) later ≡ true
@@ -206,8 +208,8 @@ ran_after_reading LogFull ran = refl
 ran_after_reading IdsEnded ran = refl
 ran_after_reading cause ran = absurd ran
 
-pub ran_not_log : (cause : Cause) → IsRanCause cause → cause ≡ Log → ⊥
-ran_not_log cause ran is = subst (λ (c : Cause). IsRanCause c) is ran
+pub ran_not_unreadable : (cause : Cause) (finding : Finding) → IsRanCause cause → cause ≡ Unreadable finding → ⊥
+ran_not_unreadable cause finding ran is = subst (λ (c : Cause). IsRanCause c) is ran
 
 -- with memory for all lines a run ends by its journal
 pub ends_by : (journal : List Event) (memory_ended : Bool) (cause : Cause) → (memory_ended ≡ true → cause ≡ Memory) → (memory_ended ≡ false → EndsBy journal cause) →
@@ -239,3 +241,26 @@ done_is_no_memory cause done = λ e. done_not_memory (sym done ∙ e) where
 
 pub done_opened : (cause : Cause) (opened : Bool) → cause ≡ Done → RunsIf cause opened → opened ≡ true
 done_opened cause opened done runs = subst (λ (c : Cause). RunsIf c opened) done runs
+
+below_all : (n : ℕ) (log : Log) → n ≤ last_file → AreBelow n log → AllByRecursion (λ file. file.0 ≤ last_file) log
+below_all n [] small below = tt
+below_all n (file ∷ log) small below = (let less : file.0 < n = below.0 in omega (arith, less, small), below_all n log small below.1)
+
+-- a log that ends in a file has no file above it
+small_files : (log : Log) (file offset last : ℕ) → IsLog log → EndsAt log file offset last → file ≤ last_file → AllByRecursion (λ file. file.0 ≤ last_file) log
+small_files log file offset last is ends small =
+    let end : ℕ × List Entry = (file, ends.entries) in
+    let parts : IsLog (ends.before ++ end ∷ []) = subst IsLog ends.log_is is in
+    subst (λ (l : Log). AllByRecursion (λ file. file.0 ≤ last_file) l) (sym ends.log_is)
+    (all_push (λ (file : ℕ × List Entry). file.0 ≤ last_file) ends.before end (below_all file ends.before small (below_last ends.before end parts)) small)
+
+-- the files of a log that is kept mean its records' store
+pub files_mean : (reads : Files) (log : Log) (file offset last : ℕ) (rows : Rows) (last_txn last_db : ℕ) (store : Store) → IsLog log → EndsAt log file offset last → file ≤ last_file → IsWhole log → IsKept (entries_of log) rows last_txn last_db → store_of rows ≡ store →
+    ((f : ℕ) → reads f ≡ files_of_log log f) → MeanStore reads store
+files_mean reads log file offset last rows last_txn last_db store is ends small whole kept made same =
+    let are : AreFiles reads (spelled_files log) = are_spelled_files reads log is.rising same in
+    let meaning : Meaning = meaning_of (entries_of log) in (
+      meaning,
+      record { held = spelled_files log; are = are; reads = are_read_again reads (spelled_files log) log is are same (small_files log file offset last is ends small) whole ∙ kept_judged log rows last_txn last_db kept },
+      kept_store (entries_of log) rows last_txn last_db kept ∙ made,
+    )

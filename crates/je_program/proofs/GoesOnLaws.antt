@@ -1,24 +1,22 @@
 -- A step of an environment goes on as the model does.
-use Rattle.std.proofs.Common.{◌≡◌, ℕ, ◌+◌, ◌<◌, ◌≤◌, ◌^◌, Bool, true, false, List, [], ◌∷◌, Option, Some, None, Result, Ok, Err, IsTrue, refl, ap, sym, ◌∙◌, subst, inl, inr, arith}
+use Rattle.std.proofs.Common.{◌≡◌, ℕ, ◌+◌, ◌<◌, ◌^◌, Bool, Option, Some, None, Result, Ok, Err, IsTrue, refl, ap, sym, ◌∙◌, subst, inl, inr, arith}
 use Rattle.std.proofs.lemmas.Bool.Decides.{nat_tests}
 use Rattle.std.specs.declared.alloc.AllocError.{AllocError}
-use Rattle.je_disk.specs.States.{State, appended}
+use Rattle.je_disk.specs.States.{State}
+use Rattle.log_buffer.specs.declared.buffer.LogBuffer.{LogBuffer}
 use Rattle.je_order.specs.Words.{is_word}
 use Rattle.je_model.specs.declared.call.Call.{Call}
 use Rattle.je_model.specs.declared.change.Change.{Change}
 use Rattle.je_model.specs.declared.totals.Totals.{Totals}
 use Rattle.je_model.specs.declared.store.TheConstants.{LAST_TXN}
 use Rattle.je_model.specs.declared.answer.Answer.{Answer}
-use Rattle.je_model.specs.declared.answer.Answer.TheVariants.{Done, Logged, Durable, Rec, NotFound, NoDatabase, NameTaken, TooMany, TooLong, LogFull, IdsEnded, DiskFault, Invalid}
+use Rattle.je_model.specs.declared.answer.Answer.TheVariants.{Logged, DiskFault}
 use Rattle.je_model.specs.declared.answer.Fault.{Fault}
 use Rattle.je_model.specs.Evaluation.{database_named}
-use Rattle.je_model.specs.Answers.{Standing, MayAnswer, answer_to, answer_after, valid_answer, after_call}
-use Rattle.log_entry.specs.Body.{IsEntry}
-use Rattle.log_replay.specs.Logging.{entry_of, logged_bytes}
+use Rattle.je_model.specs.Answers.{Standing, MayAnswer, answer_to, answer_after, valid_answer}
 use Rattle.je_program.specs.declared.kept.Kept.{Kept}
-use Rattle.je_program.specs.declared.kept.TheConstants.{LOG_LIMIT}
 use Rattle.je_program.specs.declared.planning.Planned.{Planned}
-use Rattle.je_program.specs.declared.planning.Planned.TheVariants.{Answered, Logs}
+use Rattle.je_program.specs.declared.planning.Planned.TheVariants.{Answered}
 use Rattle.je_program.specs.Environment.{IsAt, log_rule}
 use Rattle.je_program.specs.Planning.{IsPlain, IsLogged, IsPlanned, planned_of}
 use Rattle.je_program.specs.Steps.{GoesOn, LogsChange, IsNumbered}
@@ -26,9 +24,9 @@ use Rattle.je_program.proofs.PlanLaws.{planned_right, fits_at}
 use Rattle.je_program.proofs.StepLaws.{same_at, answered_at, logged_at, faulted_at}
 
 -- a valid environment with a number left answers as it is planned
-answer_is : (fault : Option Fault) (st : Standing) (call : Call) → fault ≡ None → st.last_txn < LAST_TXN → answer_after fault log_rule st call ≡ valid_answer log_rule st call
-answer_is None st call none below = grind (arith, nat_tests)
-answer_is (Some fault) st call none below = cc
+answer_is : (most : ℕ) (fault : Option Fault) (st : Standing) (call : Call) → fault ≡ None → st.last_txn < LAST_TXN → answer_after fault (log_rule most) st call ≡ valid_answer (log_rule most) st call
+answer_is most None st call none below = grind (arith, nat_tests)
+answer_is most (Some fault) st call none below = cc
 
 may_plain : (answer : Answer) → IsPlain answer → MayAnswer answer answer
 may_plain (Logged commit) plain = absurd plain
@@ -38,34 +36,38 @@ numbered_plain : (answer : Answer) (commits : ℕ) → IsPlain answer → IsNumb
 numbered_plain (Logged commit) commits plain = absurd plain
 numbered_plain answer commits plain = tt
 
--- what a call comes to, where the environment is valid
-pub plan_of : (tells : Bool) (state : State) (kept : Kept) (st : Standing) (call : Call) (planned : Planned) → IsAt tells state kept st → kept.fault ≡ None →
-    kept.last_db < 2 ^ 32 → IsTrue (is_word (database_named call)) → planned ≡ planned_of kept call → IsPlanned kept st call planned
-plan_of tells state kept st call planned here valid few word is =
-    subst (λ (p : Planned). IsPlanned kept st call p) (sym is) (planned_right kept st call (fits_at tells state kept st here (sym here.fault ∙ valid) few) word)
+module _ {D : Type 0} where
+  -- what a call comes to, where the environment is valid
+  pub plan_of : (most : ℕ) (tells : Bool) (state : State) (buffer : LogBuffer D) (kept : Kept) (st : Standing) (call : Call) (planned : Planned) → IsAt most tells state buffer kept st → kept.fault ≡ None →
+      kept.last_db < 2 ^ 32 → IsTrue (is_word (database_named call)) → planned ≡ planned_of kept call → IsPlanned kept st call planned
+  plan_of most tells state buffer kept st call planned here valid few word is =
+      subst (λ (p : Planned). IsPlanned kept st call p) (sym is) (planned_right kept st call (fits_at most tells state buffer kept st here (sym here.fault ∙ valid) few) word)
 
-pub answered_goes_on : (tells : Bool) (state : State) (kept : Kept) (st : Standing) (call : Call) (answer : Answer) → IsAt tells state kept st → kept.fault ≡ None →
-    kept.last_txn < LAST_TXN → IsPlanned kept st call (Answered answer) → GoesOn tells state (record kept { last_txn = kept.last_txn + 1 }) st call (Ok answer)
-answered_goes_on tells state kept st call answer here valid below planned =
-    let due : answer_to log_rule st call ≡ answer =
-    answer_is st.fault st call (sym here.fault ∙ valid) (subst (λ n. n < LAST_TXN) here.last_txn below) ∙ planned.0 in
-    (subst (λ (a : Answer). MayAnswer a answer) (sym due) (may_plain answer planned.1), answered_at tells state kept st call answer here below planned.1, numbered_plain answer kept.commits planned.1)
+  pub answered_goes_on : (most : ℕ) (tells : Bool) (state : State) (buffer : LogBuffer D) (kept : Kept) (st : Standing) (call : Call) (answer : Answer) → IsAt most tells state buffer kept st → kept.fault ≡ None →
+      kept.last_txn < LAST_TXN → IsPlanned kept st call (Answered answer) → GoesOn most tells state buffer (record kept { last_txn = kept.last_txn + 1 }) st call (Ok answer)
+  answered_goes_on most tells state buffer kept st call answer here valid below planned =
+      let due : answer_to (log_rule most) st call ≡ answer =
+      answer_is most st.fault st call (sym here.fault ∙ valid) (subst (λ n. n < LAST_TXN) here.last_txn below)
+      ∙ ap (λ m. valid_answer (log_rule m) st call) (sym here.file_max) ∙ planned.0 in
+      (subst (λ (a : Answer). MayAnswer a answer) (sym due) (may_plain answer planned.1), answered_at most tells state buffer kept st call answer here below planned.1, numbered_plain answer kept.commits planned.1)
 
-pub logged_goes_on : (tells : Bool) (before after : State) (old new : Kept) (st : Standing) (call : Call) (number : ℕ) (change : Change) (totals : Totals) (result : Result Answer AllocError) →
-    IsAt tells before old st → old.fault ≡ None → old.last_txn < LAST_TXN → IsLogged old st call number change totals →
-    LogsChange tells before after old new number change totals result → GoesOn tells after new st call result
-logged_goes_on tells before after old new st call number change totals (Ok (Logged commit)) here valid below logged logs =
-    let due : answer_to log_rule st call ≡ Logged (st.commits + 1) =
-    answer_is st.fault st call (sym here.fault ∙ valid) (subst (λ n. n < LAST_TXN) here.last_txn below) ∙ logged.answer in
-    let number_is : commit ≡ st.commits + 1 = logs.0 ∙ ap (λ n. n + 1) here.commits in (
-      subst (λ (a : Answer). MayAnswer a (Logged commit)) (sym due) (inl (ap Logged number_is)),
-      logged_at tells before after old new st call commit number change totals here (sym here.fault ∙ valid) below logged logs.1 logs.2,
-      logs.0 ∙ sym (logs.1.commits),
-    )
-logged_goes_on tells before after old new st call number change totals (Ok DiskFault) here valid below logged logs =
-    let due : answer_to log_rule st call ≡ Logged (st.commits + 1) =
-    answer_is st.fault st call (sym here.fault ∙ valid) (subst (λ n. n < LAST_TXN) here.last_txn below) ∙ logged.answer in
-    (subst (λ (a : Answer). MayAnswer a DiskFault) (sym due) (inr refl), faulted_at tells before after old new st call here below logs, tt)
-logged_goes_on tells before after old new st call number change totals (Ok answer) here valid below logged logs = absurd logs
-logged_goes_on tells before after old new st call number change totals (Err error) here valid below logged logs =
-    subst (λ (s : State). IsAt tells s new st) (sym logs.1) (same_at tells before old new st here logs.0)
+  pub logged_goes_on : (most : ℕ) (tells : Bool) (before after : State) (buffer longer : LogBuffer D) (old new : Kept) (st : Standing) (call : Call) (number : ℕ) (change : Change) (totals : Totals) (result : Result Answer AllocError) →
+      IsAt most tells before buffer old st → old.fault ≡ None → old.last_txn < LAST_TXN → old.end.offset < 2 ^ 32 → IsLogged old st call number change totals →
+      LogsChange tells before after buffer longer old new number change totals result → GoesOn most tells after longer new st call result
+  logged_goes_on most tells before after buffer longer old new st call number change totals (Ok (Logged commit)) here valid below bound logged logs =
+      let due : answer_to (log_rule most) st call ≡ Logged (st.commits + 1) =
+      answer_is most st.fault st call (sym here.fault ∙ valid) (subst (λ n. n < LAST_TXN) here.last_txn below)
+      ∙ ap (λ m. valid_answer (log_rule m) st call) (sym here.file_max) ∙ logged.answer in
+      let number_is : commit ≡ st.commits + 1 = logs.0 ∙ ap (λ n. n + 1) here.commits in (
+        subst (λ (a : Answer). MayAnswer a (Logged commit)) (sym due) (inl (ap Logged number_is)),
+        logged_at most tells before after buffer longer old new st call commit number change totals here (sym here.fault ∙ valid) below bound logged logs.1 logs.2 logs.3,
+        logs.0 ∙ sym (logs.1.commits),
+      )
+  logged_goes_on most tells before after buffer longer old new st call number change totals (Ok DiskFault) here valid below bound logged logs =
+      let due : answer_to (log_rule most) st call ≡ Logged (st.commits + 1) =
+      answer_is most st.fault st call (sym here.fault ∙ valid) (subst (λ n. n < LAST_TXN) here.last_txn below)
+      ∙ ap (λ m. valid_answer (log_rule m) st call) (sym here.file_max) ∙ logged.answer in
+      (subst (λ (a : Answer). MayAnswer a DiskFault) (sym due) (inr refl), faulted_at most tells before after buffer longer old new st call here below logs, tt)
+  logged_goes_on most tells before after buffer longer old new st call number change totals (Ok answer) here valid below bound logged logs = absurd logs
+  logged_goes_on most tells before after buffer longer old new st call number change totals (Err error) here valid below bound logged logs =
+      same_at most tells before after buffer longer old new st here logs.0 logs.1

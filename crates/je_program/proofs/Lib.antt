@@ -7,3 +7,9 @@ pub mod GivenLaws
 pub mod ReadingLaws
 pub mod FinishLaws
 pub mod OutputLaws
+pub mod Digits
+pub mod FlipLaws
+pub mod AppendLaws
+pub mod FileLaws
+pub mod LoggingLaws
+pub mod EndLaws

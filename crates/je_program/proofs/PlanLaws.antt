@@ -21,21 +21,22 @@ use Rattle.je_model.specs.declared.answer.Answer.TheVariants.{Logged, Rec, TooMa
 use Rattle.je_model.specs.declared.totals.Totals.{Totals}
 use Rattle.je_model.specs.Store.{database_of, record_count, all_changed}
 use Rattle.je_model.specs.Evaluation.{Outcome, evaluation, evaluation_in, database_named, deleting, plain_name, reading}
-use Rattle.je_model.specs.Answers.{Standing, access_refusal, answer_unless, creation_refusal, evaluated_answer, length_refusal, logging_answer, made_by, or_refusal, too_long, valid_answer}
+use Rattle.je_model.specs.Answers.{LogEnd, Standing, access_refusal, answer_unless, creation_refusal, evaluated_answer, length_refusal, logging_answer, made_by, or_refusal, too_long, valid_answer}
 use Rattle.log_entry.specs.Body.{IsEntry}
 use Rattle.log_replay.specs.Rows.{Row, Rows, rows_in, row_at, row_changed, data_at, number_in, numbers_of, is_environment, IsRising, are_plain, pair_of, store_of}
 use Rattle.log_replay.specs.Kept.{row_change_of, HasNumber, MayBeLogged}
-use Rattle.log_replay.specs.Logging.{entry_of, logged_bytes}
+use Rattle.log_replay.specs.Logging.{entry_of}
 use Rattle.log_replay.proofs.ListLaws.{all_of_map, found}
 use Rattle.log_replay.proofs.RowLaws.{equal_from_test, name_exact, pair_at-rows, row_of_data, dups_empty}
 use Rattle.log_replay.proofs.StoreLaws.{number_of_row, database_of-absent, database_of-numbered, has_number-plain, length-databases, store_of-changed}
 use Rattle.log_replay.proofs.TotalLaws.{databases-make, databases-set, databases-unset, record_count-make, record_count-set, record_count-set_again, record_count-unset}
 use Rattle.je_program.specs.declared.kept.Kept.{Kept}
-use Rattle.je_program.specs.declared.kept.TheConstants.{LOG_LIMIT}
+use Rattle.je_program.specs.declared.kept.TheConstants.{LAST_FILE}
 use Rattle.je_program.specs.declared.planning.Planned.{Planned}
 use Rattle.je_program.specs.declared.planning.Planned.TheVariants.{Answered, Logs}
-use Rattle.je_program.specs.Environment.{IsAt, log_rule}
-use Rattle.je_program.specs.Planning.{Fits, IsPlain, IsPlanned, logs_with_room, planned_create, planned_delete, planned_get, planned_of, planned_put, planned_read, planned_unless, planned_unset, records_with}
+use Rattle.log_buffer.specs.declared.buffer.LogBuffer.{LogBuffer}
+use Rattle.je_program.specs.Environment.{IsAt, log_end_of, log_rule}
+use Rattle.je_program.specs.Planning.{Fits, end_behind, IsPlain, IsPlanned, logs_with_room, planned_create, planned_delete, planned_get, planned_of, planned_put, planned_read, planned_unless, planned_unset, records_with}
 
 -- ---- refusals for a length
 
@@ -70,8 +71,8 @@ within_limit limit bytes h = within_by (nat_lt limit (length bytes)) limit bytes
 
 -- where a refusal comes first, it is the answer, and else what is planned
 unless_planned : (kept : Kept) (st : Standing) (call : Call) (refusal : Option Answer) (answer : Answer) (planned : Planned) →
-    RefusesPlainly refusal → valid_answer log_rule st call ≡ answer_unless refusal answer →
-    (refusal ≡ None → valid_answer log_rule st call ≡ answer → IsPlanned kept st call planned) → IsPlanned kept st call (planned_unless refusal planned)
+    RefusesPlainly refusal → valid_answer (log_rule kept.file_max) st call ≡ answer_unless refusal answer →
+    (refusal ≡ None → valid_answer (log_rule kept.file_max) st call ≡ answer → IsPlanned kept st call planned) → IsPlanned kept st call (planned_unless refusal planned)
 unless_planned kept st call None answer planned plain e rest = rest refl e
 unless_planned kept st call (Some refusal) answer planned plain e rest = (e, plain)
 
@@ -86,8 +87,8 @@ record CanBeLogged (kept : Kept) (st : Standing) (number : ℕ) (change : Change
 
 -- a change is logged where there is room and a number, by the two tests
 room_by : (kept : Kept) (st : Standing) (call : Call) (number : ℕ) (change : Change) (totals : Totals) (full ended : Bool) →
-    nat_lt LOG_LIMIT (kept.log_bytes + logged_bytes (change ∷ [])) ≡ full →
-    valid_answer log_rule st call ≡ cond full LogFull (cond ended IdsEnded (Logged (st.commits + 1))) → (evaluation call st.store).changes ≡ change ∷ [] →
+    nat_lt LAST_FILE (end_behind kept change).file ≡ full →
+    valid_answer (log_rule kept.file_max) st call ≡ cond full LogFull (cond ended IdsEnded (Logged (st.commits + 1))) → (evaluation call st.store).changes ≡ change ∷ [] →
     (ended ≡ false → CanBeLogged kept st number change totals) →
     IsPlanned kept st call (cond full (Answered LogFull) (cond ended (Answered IdsEnded) (Logs number change totals)))
 room_by kept st call number change totals true ended room answer changes can = (answer, tt)
@@ -99,23 +100,23 @@ room_by kept st call number change totals false false room answer changes can =
       changes = changes;
       may = logged.may;
       entry = logged.entry;
-      room = ltb-false LOG_LIMIT (kept.log_bytes + logged_bytes (change ∷ [])) room;
+      room = ltb-false LAST_FILE (end_behind kept change).file room;
       databases = logged.databases;
       records = logged.records;
     }
 
 -- where the model stands, as what is kept says
 abbrev standing_of : Kept → Standing → Standing
-standing_of kept st = record st { store = store_of (rows_in kept.rows); last_db = kept.last_db; log_bytes = kept.log_bytes }
+standing_of kept st = record st { store = store_of (rows_in kept.rows); last_db = kept.last_db; log_end = log_end_of kept.end }
 
 -- a change is logged where there is room and a number
 room_planned : (kept : Kept) (st : Standing) (call : Call) (number : ℕ) (change : Change) (totals : Totals) →
-    valid_answer log_rule (standing_of kept st) call ≡ logging_answer log_rule (standing_of kept st) (change ∷ []) →
+    valid_answer (log_rule kept.file_max) (standing_of kept st) call ≡ logging_answer (log_rule kept.file_max) (standing_of kept st) (change ∷ []) →
     (evaluation call (store_of (rows_in kept.rows))).changes ≡ change ∷ [] →
     (nat_lt LAST_DATABASE (kept.last_db + made_by (change ∷ [])) ≡ false → CanBeLogged kept (standing_of kept st) number change totals) →
     IsPlanned kept (standing_of kept st) call (logs_with_room kept number change totals)
 room_planned kept st call number change totals answer changes can =
-    room_by kept (standing_of kept st) call number change totals (nat_lt LOG_LIMIT (kept.log_bytes + logged_bytes (change ∷ [])))
+    room_by kept (standing_of kept st) call number change totals (nat_lt LAST_FILE (end_behind kept change).file)
     (nat_lt LAST_DATABASE (kept.last_db + made_by (change ∷ []))) refl answer changes can
 
 -- ---- the database that a call names
@@ -129,8 +130,8 @@ number_at_most rows last_db number name known has =
     (all_of_map number_of_row (λ n. n ≤ last_db) (rows 0) known)).0
 
 -- the answer to a call on the records of its database, if it is there
-abbrev accessed : Standing → Call → Option Database → Answer
-accessed st call d = answer_unless (or_refusal (access_refusal (is_some d)) (length_refusal call)) (evaluated_answer log_rule st (evaluation_in call d))
+abbrev accessed : ℕ → Standing → Call → Option Database → Answer
+accessed most st call d = answer_unless (or_refusal (access_refusal (is_some d)) (length_refusal call)) (evaluated_answer (log_rule most) st (evaluation_in call d))
 
 -- the database of a number
 abbrev database_at : Rows → List ℕ → ℕ → Database
@@ -173,7 +174,7 @@ set_logged kept st db key value number fits has key_fits value_fits =
 put_planned : (kept : Kept) (st : Standing) (db key value : List ℕ) (o : Option (List ℕ)) → Fits kept (standing_of kept st) →
     data_at (plain_name db) (rows_in kept.rows 0) ≡ o → IsPlanned kept (standing_of kept st) (Put db key value) (planned_put kept db key value (option_map number_in o))
 put_planned kept st db key value None fits e =
-    (ap (accessed (standing_of kept st) (Put db key value)) (database_of-absent (rows_in kept.rows) db fits.environment e), tt)
+    (ap (accessed kept.file_max (standing_of kept st) (Put db key value)) (database_of-absent (rows_in kept.rows) db fits.environment e), tt)
 put_planned kept st db key value (Some bytes) fits e =
     let rows : Rows = rows_in kept.rows in
     let call : Call = Put db key value in
@@ -181,11 +182,11 @@ put_planned kept st db key value (Some bytes) fits e =
     let number : ℕ = number_in bytes in
     let has : HasNumber rows db number = (bytes, e, refl) in
     let there : database_of db (store_of rows) ≡ Some (database_at rows db number) = database_of-numbered rows db number fits.environment has in
-    unless_planned kept (standing_of kept st) call (length_refusal call) (logging_answer log_rule (standing_of kept st) (change ∷ []))
+    unless_planned kept (standing_of kept st) call (length_refusal call) (logging_answer (log_rule kept.file_max) (standing_of kept st) (change ∷ []))
     (logs_with_room kept number change (record { databases = kept.totals.databases; records = records_with kept.totals.records (data_at (plain_name key) (rows number)) }))
     (or_refusal-plain (too_long KEY_LIMIT key) (too_long VALUE_LIMIT value) (too_long-plain (nat_lt KEY_LIMIT (length key)) (length key))
     (too_long-plain (nat_lt VALUE_LIMIT (length value)) (length value)))
-    (ap (accessed (standing_of kept st) call) there)
+    (ap (accessed kept.file_max (standing_of kept st) call) there)
     (λ none answer.
     let fit = no_refusal (too_long KEY_LIMIT key) (too_long VALUE_LIMIT value) none in
     room_planned kept st call number change
@@ -197,7 +198,7 @@ put_planned kept st db key value (Some bytes) fits e =
 
 -- a read, by the record that its name has
 read_planned : (kept : Kept) (st : Standing) (key : List ℕ) (call : Call) (rows : List Row) (o : Option Row) → are_plain rows ≡ true →
-    row_at (plain_name key) rows ≡ o → valid_answer log_rule st call ≡ evaluated_answer log_rule st (reading (option_map pair_of o)) →
+    row_at (plain_name key) rows ≡ o → valid_answer (log_rule kept.file_max) st call ≡ evaluated_answer (log_rule kept.file_max) st (reading (option_map pair_of o)) →
     IsPlanned kept st call (planned_read key (option_map (λ (r : Row). r.1) o))
 read_planned kept st key call rows None plain e answer = (answer, tt)
 read_planned kept st key call rows (Some row) plain e answer =
@@ -210,7 +211,7 @@ read_planned kept st key call rows (Some row) plain e answer =
 get_planned : (kept : Kept) (st : Standing) (db key : List ℕ) (rmw : Bool) (o : Option (List ℕ)) → Fits kept (standing_of kept st) →
     data_at (plain_name db) (rows_in kept.rows 0) ≡ o → IsPlanned kept (standing_of kept st) (Get db key rmw) (planned_get kept db key (option_map number_in o))
 get_planned kept st db key rmw None fits e =
-    (ap (accessed (standing_of kept st) (Get db key rmw)) (database_of-absent (rows_in kept.rows) db fits.environment e), tt)
+    (ap (accessed kept.file_max (standing_of kept st) (Get db key rmw)) (database_of-absent (rows_in kept.rows) db fits.environment e), tt)
 get_planned kept st db key rmw (Some bytes) fits e =
     let rows : Rows = rows_in kept.rows in
     let call : Call = Get db key rmw in
@@ -218,12 +219,12 @@ get_planned kept st db key rmw (Some bytes) fits e =
     let has : HasNumber rows db number = (bytes, e, refl) in
     let plain : are_plain (rows number) ≡ true = has_number-plain rows db number fits.environment has in
     let there : database_of db (store_of rows) ≡ Some (database_at rows db number) = database_of-numbered rows db number fits.environment has in
-    let read : Option (List ℕ × List ℕ) → Answer = λ p. answer_unless (too_long KEY_LIMIT key) (evaluated_answer log_rule (standing_of kept st) (reading p)) in
+    let read : Option (List ℕ × List ℕ) → Answer = λ p. answer_unless (too_long KEY_LIMIT key) (evaluated_answer (log_rule kept.file_max) (standing_of kept st) (reading p)) in
     unless_planned kept (standing_of kept st) call (too_long KEY_LIMIT key)
-    (evaluated_answer log_rule (standing_of kept st) (reading (option_map pair_of (row_at (plain_name key) (rows number)))))
+    (evaluated_answer (log_rule kept.file_max) (standing_of kept st) (reading (option_map pair_of (row_at (plain_name key) (rows number)))))
     (planned_read key (data_at (plain_name key) (rows number)))
     (too_long-plain (nat_lt KEY_LIMIT (length key)) (length key))
-    (ap (accessed (standing_of kept st) call) there ∙ ap read (pair_at-rows (rows number) key plain))
+    (ap (accessed kept.file_max (standing_of kept st) call) there ∙ ap read (pair_at-rows (rows number) key plain))
     (λ none answer. read_planned kept (standing_of kept st) key call (rows number) (row_at (plain_name key) (rows number)) plain refl answer)
 
 -- ---- Delete
@@ -256,7 +257,7 @@ unset_logged kept st db key old number fits has key_fits there =
 -- a delete in a database that is there, by the record that its name has
 unset_planned : (kept : Kept) (st : Standing) (db key : List ℕ) (number : ℕ) (o : Option Row) → Fits kept (standing_of kept st) →
     HasNumber (rows_in kept.rows) db number → length key ≤ 4096 → row_at (plain_name key) (rows_in kept.rows number) ≡ o →
-    valid_answer log_rule (standing_of kept st) (Delete db key) ≡ evaluated_answer log_rule (standing_of kept st) (deleting db key (option_map pair_of o)) →
+    valid_answer (log_rule kept.file_max) (standing_of kept st) (Delete db key) ≡ evaluated_answer (log_rule kept.file_max) (standing_of kept st) (deleting db key (option_map pair_of o)) →
     evaluation (Delete db key) (store_of (rows_in kept.rows)) ≡ deleting db key (option_map pair_of o) →
     IsPlanned kept (standing_of kept st) (Delete db key) (planned_unset kept db key number (option_map (λ (r : Row). r.1) o))
 unset_planned kept st db key number None fits has key_fits e answer outcome = (answer, tt)
@@ -269,7 +270,7 @@ unset_planned kept st db key number (Some row) fits has key_fits e answer outcom
 delete_planned : (kept : Kept) (st : Standing) (db key : List ℕ) (o : Option (List ℕ)) → Fits kept (standing_of kept st) →
     data_at (plain_name db) (rows_in kept.rows 0) ≡ o → IsPlanned kept (standing_of kept st) (Delete db key) (planned_delete kept db key (option_map number_in o))
 delete_planned kept st db key None fits e =
-    (ap (accessed (standing_of kept st) (Delete db key)) (database_of-absent (rows_in kept.rows) db fits.environment e), tt)
+    (ap (accessed kept.file_max (standing_of kept st) (Delete db key)) (database_of-absent (rows_in kept.rows) db fits.environment e), tt)
 delete_planned kept st db key (Some bytes) fits e =
     let rows : Rows = rows_in kept.rows in
     let call : Call = Delete db key in
@@ -279,12 +280,12 @@ delete_planned kept st db key (Some bytes) fits e =
     let there : database_of db (store_of rows) ≡ Some (database_at rows db number) = database_of-numbered rows db number fits.environment has in
     let outcome : evaluation call (store_of rows) ≡ deleting db key (option_map pair_of (row_at (plain_name key) (rows number))) =
     ap (evaluation_in call) there ∙ ap (deleting db key) pairs in
-    let by : Outcome → Answer = λ x. answer_unless (too_long KEY_LIMIT key) (evaluated_answer log_rule (standing_of kept st) x) in
+    let by : Outcome → Answer = λ x. answer_unless (too_long KEY_LIMIT key) (evaluated_answer (log_rule kept.file_max) (standing_of kept st) x) in
     unless_planned kept (standing_of kept st) call (too_long KEY_LIMIT key)
-    (evaluated_answer log_rule (standing_of kept st) (deleting db key (option_map pair_of (row_at (plain_name key) (rows number)))))
+    (evaluated_answer (log_rule kept.file_max) (standing_of kept st) (deleting db key (option_map pair_of (row_at (plain_name key) (rows number)))))
     (planned_unset kept db key number (data_at (plain_name key) (rows number)))
     (too_long-plain (nat_lt KEY_LIMIT (length key)) (length key))
-    (ap (accessed (standing_of kept st) call) there ∙ ap by (ap (deleting db key) pairs))
+    (ap (accessed kept.file_max (standing_of kept st) call) there ∙ ap by (ap (deleting db key) pairs))
     (λ none answer.
     unset_planned kept st db key number (row_at (plain_name key) (rows number)) fits has (within_limit KEY_LIMIT key none) refl answer outcome)
 
@@ -319,14 +320,14 @@ make_logged kept st db Plain fits word absent room numbered =
     }
 
 -- the answer to a Create, by whether the name is taken and how many databases there are
-abbrev created : Standing → List ℕ → Kind → Bool → ℕ → Answer
-created st db kind taken count = answer_unless (or_refusal (creation_refusal taken count) None) (logging_answer log_rule st (Make db kind ∷ []))
+abbrev created : ℕ → Standing → List ℕ → Kind → Bool → ℕ → Answer
+created max st db kind taken count = answer_unless (or_refusal (creation_refusal taken count) None) (logging_answer (log_rule max) st (Make db kind ∷ []))
 
 -- a Create of a new name, by whether there is room for one database more
 make_planned : (kept : Kept) (st : Standing) (db : List ℕ) (kind : Kind) (most : Bool) → Fits kept (standing_of kept st) → IsTrue (is_word db) →
     data_at (plain_name db) (rows_in kept.rows 0) ≡ None → nat_le MOST_DATABASES (length (rows_in kept.rows 0)) ≡ most →
-    valid_answer log_rule (standing_of kept st) (Create db kind)
-    ≡ answer_unless (or_refusal (cond most (Some (TooMany MOST_DATABASES)) None) None) (logging_answer log_rule (standing_of kept st) (Make db kind ∷ [])) →
+    valid_answer (log_rule kept.file_max) (standing_of kept st) (Create db kind)
+    ≡ answer_unless (or_refusal (cond most (Some (TooMany MOST_DATABASES)) None) None) (logging_answer (log_rule kept.file_max) (standing_of kept st) (Make db kind ∷ [])) →
     IsPlanned kept (standing_of kept st) (Create db kind)
     (cond most (Answered (TooMany MOST_DATABASES))
     (logs_with_room kept (kept.last_db + 1) (Make db kind) (record { databases = kept.totals.databases + 1; records = kept.totals.records })))
@@ -341,12 +342,12 @@ create_planned : (kept : Kept) (st : Standing) (db : List ℕ) (kind : Kind) (o 
 create_planned kept st db kind (Some bytes) fits word e =
     let rows : Rows = rows_in kept.rows in
     let there = database_of-numbered rows db (number_in bytes) fits.environment (bytes, e, refl) in
-    (ap (λ (d : Option Database). created (standing_of kept st) db kind (is_some d) (length (store_of rows).databases)) there, tt)
+    (ap (λ (d : Option Database). created kept.file_max (standing_of kept st) db kind (is_some d) (length (store_of rows).databases)) there, tt)
 create_planned kept st db kind None fits word e =
     let rows : Rows = rows_in kept.rows in
     make_planned kept st db kind (nat_le MOST_DATABASES (length (rows 0))) fits word e refl
-    (ap (λ (d : Option Database). created (standing_of kept st) db kind (is_some d) (length (store_of rows).databases)) (database_of-absent rows db fits.environment e)
-    ∙ ap (created (standing_of kept st) db kind false) (length-databases rows))
+    (ap (λ (d : Option Database). created kept.file_max (standing_of kept st) db kind (is_some d) (length (store_of rows).databases)) (database_of-absent rows db fits.environment e)
+    ∙ ap (created kept.file_max (standing_of kept st) db kind false) (length-databases rows))
 
 -- ---- each call
 
@@ -361,8 +362,8 @@ planned_here kept st (Delete db key) fits word = delete_planned kept st db key (
 -- the model stands as what is kept says
 stands : (kept : Kept) (st : Standing) → Fits kept st → standing_of kept st ≡ st
 stands kept st fits =
-    let make : Store → ℕ → ℕ → Standing = λ s d l. record st { store = s; last_db = d; log_bytes = l } in
-    ap (λ (s : Store). make s kept.last_db kept.log_bytes) fits.made ∙ ap₂ (make st.store) fits.last_db fits.log_bytes
+    let make : Store → ℕ → LogEnd → Standing = λ s d l. record st { store = s; last_db = d; log_end = l } in
+    ap (λ (s : Store). make s kept.last_db (log_end_of kept.end)) fits.made ∙ ap₂ (make st.store) fits.last_db fits.log_end
 
 -- what a call comes to is what the model answers
 pub planned_right : (kept : Kept) (st : Standing) (call : Call) → Fits kept st → IsTrue (is_word (database_named call)) → IsPlanned kept st call (planned_of kept call)
@@ -374,18 +375,18 @@ planned_right kept st call fits word =
 -- ---- a valid environment
 
 -- a valid environment's records make the model's store, and its numbers are the model's
-pub fits_at : (tells : Bool) (state : State) (kept : Kept) (st : Standing) → IsAt tells state kept st → st.fault ≡ None → kept.last_db < 2 ^ 32 → Fits kept st
-fits_at tells state kept st at none few =
+pub fits_at : {D : Type 0} → (most : ℕ) (tells : Bool) (state : State) (buffer : LogBuffer D) (kept : Kept) (st : Standing) → IsAt most tells state buffer kept st → st.fault ≡ None → kept.last_db < 2 ^ 32 → Fits kept st
+fits_at most tells state buffer kept st at none few =
     let valid = at.valid none in
     record {
       made = valid.made;
-      environment = valid.log.environment;
-      rising = valid.log.rising;
-      unused = valid.log.unused;
-      numbers = valid.log.numbers;
+      environment = valid.records.environment;
+      rising = valid.records.rising;
+      unused = valid.records.unused;
+      numbers = valid.records.numbers;
       few = few;
       last_db = at.last_db;
-      log_bytes = at.log_bytes;
+      log_end = at.log_end;
       databases = at.databases;
-      records = at.records;
+      records = at.record_count_is;
     }

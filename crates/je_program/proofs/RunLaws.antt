@@ -1,43 +1,68 @@
 -- A run goes on by one line of its script.
-use Rattle.std.proofs.Common.{◌≡◌, ℕ, ◌+◌, ◌<◌, ◌≤◌, ◌||◌, Bool, true, false, List, [], ◌∷◌, ◌++◌, Option, Some, None, Result, Ok, Err, IsTrue, refl, ap, sym, ◌∙◌, subst, ⊎_elim, append_assoc, nat_le, arith}
+use Rattle.std.proofs.Common.{◌≡◌, ℕ, ◌≤◌, ◌||◌, Bool, true, false, List, [], ◌∷◌, ◌++◌, Option, Some, None, Ok, refl, ap, sym, ◌∙◌, subst, ⊎_elim, inl, inr, append_assoc, arith}
 use Rattle.std.proofs.lemmas.Bool.Decides.{nat_tests}
 use Rattle.std.specs.List.{list_any}
-use Rattle.std.specs.declared.alloc.AllocError.{AllocError}
+use Rattle.std.proofs.lemmas.List.Folds.{list_any-append}
+use Rattle.je_disk.specs.Causes.{Rose}
 use Rattle.je_disk.specs.States.{State}
 use Rattle.je_model.specs.declared.call.Call.{Call}
 use Rattle.je_model.specs.declared.event.Event.{Event}
 use Rattle.je_model.specs.declared.event.Event.TheVariants.{Call as Called, SyncBegin, SyncEnd}
 use Rattle.je_model.specs.declared.answer.Answer.{Answer}
-use Rattle.je_model.specs.declared.answer.Answer.TheVariants.{Done, Logged, Durable, Rec, NotFound, NoDatabase, NameTaken, TooMany, TooLong, LogFull, IdsEnded, DiskFault, Invalid}
-use Rattle.je_model.specs.Answers.{LogRule, Standing, IsAnswered, AnswersAsModel, MayEndSync, after_event, after_events, after_call}
-use Rattle.je_model.specs.Journal.{is_logged, settles, AllSettled, EachComesLater, ComesLater}
+use Rattle.je_model.specs.declared.answer.Answer.TheVariants.{Done, Logged, Durable, DiskFault}
+use Rattle.je_model.specs.Answers.{Standing, IsAnswered, MayAnswer, MayEndSync, answer_after, after_begin, after_event, after_events, after_call}
+use Rattle.je_model.specs.declared.answer.Fault.{Fault}
+use Rattle.je_model.specs.Journal.{answer_of, has_answer, is_disk_fault, is_logged, settles, EachComesLater}
 use Rattle.je_model.proofs.Journal.{after_events-append, answers-append, answers-push, each_comes_later-append}
+use Rattle.log_buffer.specs.declared.buffer.LogBuffer.{LogBuffer}
+use Rattle.log_buffer.specs.Buffer.{has_failed}
 use Rattle.je_program.specs.declared.kept.Kept.{Kept}
 use Rattle.je_program.specs.Environment.{IsAt, log_rule}
 use Rattle.je_program.specs.Run.{IsRunning, IsCaused}
-use Rattle.je_program.specs.Steps.{GoesOn, EndsSync}
+use Rattle.je_program.specs.Steps.{EndsSync, GoesOn}
+use Rattle.je_program.proofs.FinishLaws.{rose_earlier, rose_later}
 
 -- a call that was not logged waits for nothing
 not_waiting : (session line : ℕ) (call : Call) (answer : Answer) → is_logged answer ≡ false → EachComesLater settles (Called session line call answer ∷ [])
 not_waiting session line call (Logged commit) h = cc
 not_waiting session line call answer h = (tt, tt)
 
--- one event more
-pub runs_on : (tells : Bool) (before after : State) (old new : Kept) (journal : List Event) (event : Event) (st : Standing) → IsRunning tells before old journal st →
-    IsAnswered log_rule (after_events log_rule st journal) event → IsAt tells after new (after_event log_rule (after_events log_rule st journal) event) →
-    EachComesLater settles (event ∷ []) → IsRunning tells after new (journal ++ event ∷ []) st
-runs_on tells before after old new journal event st running answered here settled = record {
-  here = subst (λ (s : Standing). IsAt tells after new s) (sym (after_events-append log_rule st journal (event ∷ []))) here;
-  answers = answers-push log_rule st journal event running.answers answered;
-  settled = each_comes_later-append settles journal (event ∷ []) running.settled settled;
-}
+-- a call of an environment that is not valid is not answered Logged
+logged_valid : (most : ℕ) (fault : Option Fault) (st : Standing) (call : Call) (commit : ℕ) → MayAnswer (answer_after fault (log_rule most) st call) (Logged commit) → fault ≡ None
+logged_valid most None st call commit may = refl
+logged_valid most (Some fault) st call commit may = cc
 
--- a call that was not logged
-pub runs_plain : (tells : Bool) (before after : State) (old new : Kept) (journal : List Event) (session line : ℕ) (call : Call) (answer : Answer) (st : Standing) →
-    IsRunning tells before old journal st → GoesOn tells after new (after_events log_rule st journal) call (Ok answer) → is_logged answer ≡ false →
-    IsRunning tells after new (journal ++ Called session line call answer ∷ []) st
-runs_plain tells before after old new journal session line call answer st running goes plain =
-    runs_on tells before after old new journal (Called session line call answer) st running goes.0 goes.1 (not_waiting session line call answer plain)
+module _ {D : Type 0} where
+  -- one event more
+  pub runs_on : (most : ℕ) (tells : Bool) (before after : State) (buffer longer : LogBuffer D) (old new : Kept) (journal : List Event) (event : Event) (st : Standing) →
+      IsRunning most tells before buffer old journal st →
+      IsAnswered (log_rule most) (after_events (log_rule most) st journal) event → IsAt most tells after longer new (after_event (log_rule most) (after_events (log_rule most) st journal) event) →
+      EachComesLater settles (event ∷ []) → IsRunning most tells after longer new (journal ++ event ∷ []) st
+  runs_on most tells before after buffer longer old new journal event st running answered here settled = record {
+    here = subst (λ (s : Standing). IsAt most tells after longer new s) (sym (after_events-append (log_rule most) st journal (event ∷ []))) here;
+    answers = answers-push (log_rule most) st journal event running.answers answered;
+    settled = each_comes_later-append settles journal (event ∷ []) running.settled settled;
+  }
+
+  -- no event more: a call found no memory
+  pub runs_same : (most : ℕ) (tells : Bool) (before after : State) (buffer longer : LogBuffer D) (old new : Kept) (journal : List Event) (st : Standing) →
+      IsRunning most tells before buffer old journal st → IsAt most tells after longer new (after_events (log_rule most) st journal) → IsRunning most tells after longer new journal st
+  runs_same most tells before after buffer longer old new journal st running here = record { here = here; answers = running.answers; settled = running.settled }
+
+  -- where a call was logged, the model stands at a valid environment, whose log buffer works
+  pub logged_at_work : (most : ℕ) (tells : Bool) (state : State) (buffer : LogBuffer D) (kept : Kept) (st : Standing) (call : Call) (answer : Answer) →
+      GoesOn most tells state buffer kept st call (Ok answer) → is_logged answer ≡ true → (s : Standing) × (IsAt most tells state buffer kept s × (s.fault ≡ None)) × (has_failed buffer ≡ false)
+  logged_at_work most tells state buffer kept st call (Logged commit) goes logged =
+      let none : st.fault ≡ None = logged_valid most st.fault st call commit goes.0 in
+      (after_call (log_rule most) st call (Logged commit), (goes.1, none), (goes.1.valid none).at_end.works)
+  logged_at_work most tells state buffer kept st call answer goes logged = cc
+
+  -- a call that was not logged
+  pub runs_plain : (most : ℕ) (tells : Bool) (before after : State) (buffer longer : LogBuffer D) (old new : Kept) (journal : List Event) (session line : ℕ) (call : Call) (answer : Answer) (st : Standing) →
+      IsRunning most tells before buffer old journal st → GoesOn most tells after longer new (after_events (log_rule most) st journal) call (Ok answer) → is_logged answer ≡ false →
+      IsRunning most tells after longer new (journal ++ Called session line call answer ∷ []) st
+  runs_plain most tells before after buffer longer old new journal session line call answer st running goes plain =
+      runs_on most tells before after buffer longer old new journal (Called session line call answer) st running goes.0 goes.1 (not_waiting session line call answer plain)
 
 -- the end of a sync settles the commit that it covers
 ends_settled : (commit commits : ℕ) (ending : Answer) → commit ≡ commits → MayEndSync (Some commits) ending → list_any (settles commit) (SyncBegin Done ∷ SyncEnd ending ∷ []) ≡ true
@@ -48,31 +73,103 @@ ends_settled commit commits ending is ends =
     (λ (e : ending ≡ DiskFault). subst (λ (a : Answer). list_any (settles commit) (SyncBegin Done ∷ SyncEnd a ∷ []) ≡ true) (sym e) refl)
     ends
 
--- a call that was logged, and its sync
-pub runs_logged : (tells : Bool) (before middle after : State) (old mid new : Kept) (journal : List Event) (session line : ℕ) (call : Call) (answer ending : Answer) (st : Standing) →
-    IsRunning tells before old journal st → GoesOn tells middle mid (after_events log_rule st journal) call (Ok answer) → is_logged answer ≡ true →
-    ((s : Standing) → IsAt tells middle mid s → EndsSync tells after new s ending) →
-    IsRunning tells after new (((journal ++ Called session line call answer ∷ []) ++ SyncBegin Done ∷ []) ++ SyncEnd ending ∷ []) st
-runs_logged tells before middle after old mid new journal session line call (Logged commit) ending st running goes logged sync =
-    let st0 = after_events log_rule st journal in
-    let st1 = after_call log_rule st0 call (Logged commit) in
-    let ended = sync st1 goes.1 in
-    let events : List Event = Called session line call (Logged commit) ∷ SyncBegin Done ∷ SyncEnd ending ∷ [] in
-    let number : commit ≡ st1.commits = goes.2 ∙ (goes.1).commits in
-    let all : IsRunning tells after new (journal ++ events) st = record {
-      here = subst (λ (s : Standing). IsAt tells after new s) (sym (after_events-append log_rule st journal events)) ended.1;
-      answers = answers-append log_rule st journal events running.answers (goes.0, (refl, (ended.0, tt)));
-      settled = each_comes_later-append settles journal events running.settled (ends_settled commit st1.commits ending number ended.0, (tt, (tt, tt)));
-    } in
-    let same : journal ++ events ≡ ((journal ++ Called session line call (Logged commit) ∷ []) ++ SyncBegin Done ∷ []) ++ SyncEnd ending ∷ [] =
-    sym (append_assoc journal (Called session line call (Logged commit) ∷ SyncBegin Done ∷ []) (SyncEnd ending ∷ []))
-    ∙ ap (λ (l : List Event). l ++ SyncEnd ending ∷ []) (sym (append_assoc journal (Called session line call (Logged commit) ∷ []) (SyncBegin Done ∷ []))) in
-    subst (λ (l : List Event). IsRunning tells after new l st) same all
-runs_logged tells before middle after old mid new journal session line call answer ending st running goes logged sync = cc
+module _ {D : Type 0} where
+  -- a call that was logged, and a sync that could not begin
+  pub runs_unsynced : (most : ℕ) (tells : Bool) (before middle after : State) (buffer longer written : LogBuffer D) (old mid new : Kept) (journal : List Event) (session line : ℕ) (call : Call) (answer : Answer) (st : Standing) →
+      IsRunning most tells before buffer old journal st → GoesOn most tells middle longer mid (after_events (log_rule most) st journal) call (Ok answer) → is_logged answer ≡ true →
+      ((s : Standing) → IsAt most tells middle longer mid s → s.fault ≡ None → IsAt most tells after written new (after_begin s DiskFault)) →
+      IsRunning most tells after written new ((journal ++ Called session line call answer ∷ []) ++ SyncBegin DiskFault ∷ []) st
+  runs_unsynced most tells before middle after buffer longer written old mid new journal session line call (Logged commit) st running goes logged begins =
+      let st0 = after_events (log_rule most) st journal in
+      let st1 = after_call (log_rule most) st0 call (Logged commit) in
+      let begun = begins st1 goes.1 (logged_valid most st0.fault st0 call commit goes.0) in
+      let events : List Event = Called session line call (Logged commit) ∷ SyncBegin DiskFault ∷ [] in
+      let all : IsRunning most tells after written new (journal ++ events) st = record {
+        here = subst (λ (s : Standing). IsAt most tells after written new s) (sym (after_events-append (log_rule most) st journal events)) begun;
+        answers = answers-append (log_rule most) st journal events running.answers (goes.0, (inr refl, tt));
+        settled = each_comes_later-append settles journal events running.settled (refl, (tt, tt));
+      } in
+      let same : journal ++ events ≡ (journal ++ Called session line call (Logged commit) ∷ []) ++ SyncBegin DiskFault ∷ [] =
+      sym (append_assoc journal (Called session line call (Logged commit) ∷ []) (SyncBegin DiskFault ∷ [])) in
+      subst (λ (l : List Event). IsRunning most tells after written new l st) same all
+  runs_unsynced most tells before middle after buffer longer written old mid new journal session line call answer st running goes logged begins = cc
 
--- a run that begins
-pub runs_none : (tells : Bool) (state : State) (kept : Kept) (st : Standing) → IsAt tells state kept st → IsRunning tells state kept [] st
-runs_none tells state kept st here = record { here = here; answers = tt; settled = tt }
+  -- a call that was logged, and its sync
+  pub runs_logged : (most : ℕ) (tells : Bool) (before middle after : State) (buffer longer synced : LogBuffer D) (old mid new : Kept) (journal : List Event) (session line : ℕ) (call : Call) (answer ending : Answer) (st : Standing) →
+      IsRunning most tells before buffer old journal st → GoesOn most tells middle longer mid (after_events (log_rule most) st journal) call (Ok answer) → is_logged answer ≡ true →
+      ((s : Standing) → IsAt most tells middle longer mid s → s.fault ≡ None → EndsSync most tells after synced new s ending) →
+      IsRunning most tells after synced new (((journal ++ Called session line call answer ∷ []) ++ SyncBegin Done ∷ []) ++ SyncEnd ending ∷ []) st
+  runs_logged most tells before middle after buffer longer synced old mid new journal session line call (Logged commit) ending st running goes logged sync =
+      let st0 = after_events (log_rule most) st journal in
+      let st1 = after_call (log_rule most) st0 call (Logged commit) in
+      let ended = sync st1 goes.1 (logged_valid most st0.fault st0 call commit goes.0) in
+      let events : List Event = Called session line call (Logged commit) ∷ SyncBegin Done ∷ SyncEnd ending ∷ [] in
+      let number : commit ≡ st1.commits = goes.2 ∙ (goes.1).commits in
+      let all : IsRunning most tells after synced new (journal ++ events) st = record {
+        here = subst (λ (s : Standing). IsAt most tells after synced new s) (sym (after_events-append (log_rule most) st journal events)) ended.1;
+        answers = answers-append (log_rule most) st journal events running.answers (goes.0, (inl refl, (ended.0, tt)));
+        settled = each_comes_later-append settles journal events running.settled (ends_settled commit st1.commits ending number ended.0, (tt, (tt, tt)));
+      } in
+      let same : journal ++ events ≡ ((journal ++ Called session line call (Logged commit) ∷ []) ++ SyncBegin Done ∷ []) ++ SyncEnd ending ∷ [] =
+      sym (append_assoc journal (Called session line call (Logged commit) ∷ SyncBegin Done ∷ []) (SyncEnd ending ∷ []))
+      ∙ ap (λ (l : List Event). l ++ SyncEnd ending ∷ []) (sym (append_assoc journal (Called session line call (Logged commit) ∷ []) (SyncBegin Done ∷ []))) in
+      subst (λ (l : List Event). IsRunning most tells after synced new l st) same all
+  runs_logged most tells before middle after buffer longer synced old mid new journal session line call answer ending st running goes logged sync = cc
+
+  -- a run that begins
+  pub runs_none : (most : ℕ) (tells : Bool) (state : State) (buffer : LogBuffer D) (kept : Kept) (st : Standing) → IsAt most tells state buffer kept st → IsRunning most tells state buffer kept [] st
+  runs_none most tells state buffer kept st here = record { here = here; answers = tt; settled = tt }
 
 pub caused_none : (faults : ℕ) → IsCaused faults faults []
 caused_none faults = record { never_falls = omega arith; fault = λ h. cc }
+
+has_answer-push : (test : Answer → Bool) (journal : List Event) (event : Event) → has_answer test (journal ++ event ∷ []) ≡ (has_answer test journal || test (answer_of event))
+has_answer-push test journal event = list_any-append (λ (e : Event). test (answer_of e)) journal (event ∷ []) ∙ ap (λ b. has_answer test journal || b) (or_none (test (answer_of event)))
+  where
+    or_none : (b : Bool) → (b || false) ≡ b
+    or_none true = refl
+    or_none false = refl
+
+-- a sync could not begin: the count rose
+pub caused_unsynced : (before start mid after : ℕ) (journal longer : List Event) → IsCaused before start journal → start ≤ mid → Rose mid after → mid ≤ after → IsCaused before after longer
+caused_unsynced before start mid after journal longer caused steps rose later = record {
+  never_falls = (let first : before ≤ start = caused.never_falls in omega (arith, first, steps, later));
+  fault = λ h. (let first : before ≤ start = caused.never_falls in rose_earlier before mid after (omega (arith, first, steps)) rose later);
+}
+
+fault_is : (answer : Answer) → is_disk_fault answer ≡ true → answer ≡ DiskFault
+fault_is DiskFault h = refl
+fault_is answer h = cc
+
+logged_no_fault : (answer : Answer) → is_logged answer ≡ true → is_disk_fault answer ≡ false
+logged_no_fault (Logged commit) h = refl
+logged_no_fault answer h = cc
+
+-- a call that was logged, and its sync: only the sync's end can be a disk fault
+pub caused_synced : (before start mid begun after : ℕ) (journal : List Event) (session line : ℕ) (call : Call) (answer ending : Answer) → IsCaused before start journal →
+    start ≤ mid → mid ≤ begun → begun ≤ after → is_logged answer ≡ true → (ending ≡ DiskFault → Rose begun after) →
+    IsCaused before after (((journal ++ Called session line call answer ∷ []) ++ SyncBegin Done ∷ []) ++ SyncEnd ending ∷ [])
+caused_synced before start mid begun after journal session line call answer ending caused steps begins ends logged rose = record {
+  never_falls = (let first : before ≤ start = caused.never_falls in omega (arith, first, steps, begins, ends));
+  fault = λ h. by_parts (has_answer is_disk_fault journal) (is_disk_fault ending) caused.fault (λ e. rose (fault_is ending e)) (sym parts ∙ h);
+}
+  where
+    first : before ≤ start
+    first = caused.never_falls
+
+    parts : has_answer is_disk_fault (((journal ++ Called session line call answer ∷ []) ++ SyncBegin Done ∷ []) ++ SyncEnd ending ∷ []) ≡ (has_answer is_disk_fault journal || is_disk_fault ending)
+    parts =
+        has_answer-push is_disk_fault ((journal ++ Called session line call answer ∷ []) ++ SyncBegin Done ∷ []) (SyncEnd ending)
+        ∙ ap (λ b. b || is_disk_fault ending) (has_answer-push is_disk_fault (journal ++ Called session line call answer ∷ []) (SyncBegin Done)
+        ∙ or_false_is (has_answer is_disk_fault (journal ++ Called session line call answer ∷ []))
+        ∙ has_answer-push is_disk_fault journal (Called session line call answer)
+        ∙ ap (λ b. has_answer is_disk_fault journal || b) (logged_no_fault answer logged) ∙ or_false_is (has_answer is_disk_fault journal))
+      where
+        or_false_is : (b : Bool) → (b || false) ≡ b
+        or_false_is true = refl
+        or_false_is false = refl
+
+    by_parts : (a b : Bool) → (a ≡ true → Rose before start) → (b ≡ true → Rose begun after) → (a || b) ≡ true → Rose before after
+    by_parts true b old last h = rose_later before start after (old refl) (omega (arith, steps, begins, ends))
+    by_parts false true old last h = rose_earlier before begun after (omega (arith, first, steps, begins)) (last refl) ends
+    by_parts false false old last h = cc

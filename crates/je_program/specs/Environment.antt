@@ -1,38 +1,77 @@
--- An open environment beside the model: what it keeps in memory, what the disk reads, and where the model stands.
-use Rattle.std.specs.Prelude.{ℕ, ◌≡◌, ◌≤◌, ◌<◌, ◌+◌, ◌^◌, ◌∷◌, [], List, Option, Some, None, Bool, true, false, length}
+-- An open environment beside the model: its log, what it keeps in memory, and where the model stands.
+use Rattle.std.specs.Prelude.{ℕ, ◌≡◌, ◌≤◌, ◌+◌, ◌*◌, ◌^◌, ◌∷◌, [], List, None, Bool, false, length, map}
 use Rattle.je_disk.specs.States.{State}
+use Rattle.je_model.specs.declared.change.Change.{Change}
 use Rattle.je_model.specs.declared.store.Store.{Store}
 use Rattle.je_model.specs.Store.{record_count}
-use Rattle.je_model.specs.Answers.{LogRule, Standing}
-use Rattle.log_entry.specs.Run.{last_offset_of}
+use Rattle.je_model.specs.Answers.{LogEnd, LogRule, Standing}
+use Rattle.log_entry.specs.declared.entry.Entry.TheVariants.{Commit}
+use Rattle.log_entry.specs.Spelling.{size_of}
+use Rattle.log_file.specs.Log.{Log, entries_of}
+use Rattle.log_buffer.specs.declared.buffer.LogBuffer.{LogBuffer}
+use Rattle.log_buffer.specs.declared.place.Place.{Place}
+use Rattle.log_buffer.specs.Buffer.{end_of, file_max_of, has_failed}
+use Rattle.log_buffer.specs.Flip.{end_after_all}
+use Rattle.log_buffer.specs.Log.{HasLog}
 use Rattle.log_replay.specs.Rows.{rows_in, store_of}
 use Rattle.log_replay.specs.Kept.{IsKept}
-use Rattle.log_replay.specs.Logging.{logged_bytes}
+use Rattle.log_replay.specs.Logging.{entry_of}
+use Rattle.log_replay.specs.Reading.{gap_in}
 use Rattle.je_program.specs.declared.kept.Kept.{Kept}
-use Rattle.je_program.specs.declared.kept.TheConstants.{LOG_LIMIT}
-use Rattle.je_program.specs.Files.{IsFirstAlone}
+use Rattle.je_program.specs.declared.kept.TheConstants.{LAST_FILE}
 
--- how a log in one file grows: by the entries of each transaction, up to 1 GiB
-abbrev pub log_rule : LogRule
-log_rule = record { bytes_of = logged_bytes; most = LOG_LIMIT }
+-- the sizes of the entries that a transaction's changes are logged as, its commit last; no number changes an entry's size
+abbrev pub logged_sizes : List Change → List ℕ
+logged_sizes [] = size_of (Commit (record { 0 = 0 })) ∷ []
+logged_sizes (change ∷ changes) = size_of (entry_of 0 0 change) ∷ logged_sizes changes
 
--- what is kept of a valid environment: the log's bytes, as the disk reads them where it tells, and their records
-pub record IsValid (tells : Bool) (state : State) (kept : Kept) (store : Store) : Type 0 where
-  pub bytes : List ℕ
-  pub made : store_of (rows_in kept.rows) ≡ store
-  pub log : IsKept bytes (rows_in kept.rows) kept.last_txn kept.last_db
-  pub len : length bytes ≡ kept.log_bytes
-  pub last : last_offset_of bytes ≡ kept.last_offset
-  pub told : tells ≡ true → IsFirstAlone state.reads bytes
+-- a place as the model has it, and back
+abbrev pub log_end_of : Place → LogEnd
+log_end_of place = (place.file, place.offset)
 
--- the environment is where the model stands
-pub record IsAt (tells : Bool) (state : State) (kept : Kept) (st : Standing) : Type 0 where
-  pub fault : kept.fault ≡ st.fault
-  pub last_txn : kept.last_txn ≡ st.last_txn
-  pub last_db : kept.last_db ≡ st.last_db
-  pub log_bytes : kept.log_bytes ≡ st.log_bytes
-  pub commits : kept.commits ≡ st.commits
-  pub databases : kept.totals.databases ≡ length st.store.databases
-  pub records : kept.totals.records ≡ record_count st.store
-  pub few : st.commits ≤ st.log_bytes
-  pub valid : st.fault ≡ None → IsValid tells state kept st.store
+abbrev pub place_of : LogEnd → Place
+place_of end = record { file = end.0; offset = end.1 }
+
+-- how a log of many files grows: by the entries of each transaction, up to its last file
+abbrev pub log_rule : ℕ → LogRule
+log_rule file_max = record {
+  end_after = λ end changes. log_end_of (end_after_all file_max (place_of end) (logged_sizes changes));
+  last_file = LAST_FILE;
+}
+
+-- no file is missing between the first and the last
+abbrev pub IsWhole : Log → Type 0
+IsWhole log = gap_in (map (λ file. file.0) log) ≡ None
+
+-- a place in the log as one number
+abbrev pub number_of : LogEnd → ℕ
+number_of end = end.0 * 2 ^ 32 + end.1
+
+module _ {D : Type 0} where
+  -- the log buffer works, and its log ends where what is kept says
+  pub record IsAtEnd (buffer : LogBuffer D) (kept : Kept) : Type 0 where
+    pub end : end_of buffer ≡ kept.end
+    pub file_max : file_max_of buffer ≡ kept.file_max
+    pub works : has_failed buffer ≡ false
+
+  -- what is kept of a valid environment: its log, with the disk's files where the disk tells, and the log's records
+  pub record IsValid (tells : Bool) (state : State) (buffer : LogBuffer D) (kept : Kept) (store : Store) : Type 0 where
+    pub log : Log
+    pub has : HasLog tells state buffer log
+    pub whole : IsWhole log
+    pub made : store_of (rows_in kept.rows) ≡ store
+    pub records : IsKept (entries_of log) (rows_in kept.rows) kept.last_txn kept.last_db
+    pub at_end : IsAtEnd buffer kept
+
+  -- the environment, whose files have at most so many bytes, is where the model stands
+  pub record IsAt (most : ℕ) (tells : Bool) (state : State) (buffer : LogBuffer D) (kept : Kept) (st : Standing) : Type 0 where
+    pub file_max : kept.file_max ≡ most
+    pub fault : kept.fault ≡ st.fault
+    pub last_txn : kept.last_txn ≡ st.last_txn
+    pub last_db : kept.last_db ≡ st.last_db
+    pub log_end : log_end_of kept.end ≡ st.log_end
+    pub commits : kept.commits ≡ st.commits
+    pub databases : kept.totals.databases ≡ length st.store.databases
+    pub record_count_is : kept.totals.records ≡ record_count st.store
+    pub few : st.commits ≤ number_of st.log_end
+    pub valid : st.fault ≡ None → IsValid tells state buffer kept st.store

@@ -1,28 +1,35 @@
--- The files of an environment, as the disk reads.
-use Rattle.std.specs.Prelude.{ℕ, ◌≡◌, ◌≢◌, ◌⊎◌, List, Option, Some, None, IsSome, length}
+-- The files of an environment, as the disk reads them.
+use Rattle.std.specs.Prelude.{ℕ, ◌≡◌, ◌==◌, List, [], ◌∷◌, Ok, Err, if◌then◌else◌}
 use Rattle.je_disk.specs.States.{Files}
-use Rattle.log_replay.specs.Meaning.{Meaning, meaning_of_file}
-use Rattle.log_replay.specs.Kept.{header_bytes}
-
--- there is no file but file 0
-abbrev pub IsFirstOnly : Files → Type 0
-IsFirstOnly files = (f : ℕ) → f ≢ 0 → files f ≡ None
-
--- file 0 is there with these bytes, and no other
-pub record IsFirstAlone (files : Files) (bytes : List ℕ) : Type 0 where
-  pub first : files 0 ≡ Some bytes
-  pub only : IsFirstOnly files
+use Rattle.je_model.specs.Answers.{LogEnd}
+use Rattle.log_file.specs.declared.found.Found.{Found}
+use Rattle.log_file.specs.declared.found.Found.TheVariants.{Run}
+use Rattle.log_file.specs.Log.{AreFiles}
+use Rattle.log_file.specs.Scan.{found_in}
+use Rattle.log_buffer.specs.Flip.{header_size}
+use Rattle.log_replay.specs.declared.finding.Finding.{Finding}
+use Rattle.log_replay.specs.Meaning.{Meaning}
+use Rattle.log_replay.specs.Reading.{reading_of}
 
 -- what the files of an environment mean
 pub record Means (files : Files) (meaning : Meaning) : Type 0 where
-  pub only : IsFirstOnly files
-  pub first : meaning_of_file (files 0) ≡ Some meaning
+  pub held : List (ℕ × List ℕ)
+  pub are : AreFiles files held
+  pub reads : reading_of held ≡ Ok meaning
 
--- there is a file besides file 0, or file 0 has no meaning
-abbrev pub HasNoMeaning : Files → Type 0
-HasNoMeaning files = ((f : ℕ) × (f ≢ 0) × IsSome (files f)) ⊎ (meaning_of_file (files 0) ≡ None)
+-- why the files of an environment cannot be opened: what is found first in the order of reading
+pub record HasFinding (files : Files) (finding : Finding) : Type 0 where
+  pub held : List (ℕ × List ℕ)
+  pub are : AreFiles files held
+  pub reads : reading_of held ≡ Err finding
 
--- the length of file 0 once it is opened: a file that is made has its header
-abbrev pub log_length : Option (List ℕ) → ℕ
-log_length None = length header_bytes
-log_length (Some bytes) = length bytes
+-- where a file ends once it is opened: behind its run, or behind the header that is written where it has none
+abbrev pub opened_end : ℕ → Found → LogEnd
+opened_end f (Run run) = (f, if run.end == 0 then header_size else run.end)
+opened_end f found = (f, header_size)
+
+-- where the log of these files ends, once they are opened
+abbrev pub end_in : List (ℕ × List ℕ) → LogEnd
+end_in [] = (0, header_size)
+end_in (file ∷ []) = opened_end file.0 (found_in file.0 file.1)
+end_in (file ∷ next ∷ more) = end_in (next ∷ more)

@@ -1,14 +1,15 @@
 -- What logging a change does to what is kept.
-use Rattle.std.specs.Prelude.{ℕ, ◌≡◌, ◌+◌, ◌++◌, ◌∷◌, [], List, Option, Some, None, max}
+use Rattle.std.specs.Prelude.{ℕ, ◌≡◌, ◌+◌, ◌∷◌, [], List, Some, None, max}
 use Rattle.log_entry.specs.declared.entry.Entry.{Entry}
 use Rattle.log_entry.specs.declared.entry.Entry.TheVariants.{FileHeader, Put, Delete, Commit}
-use Rattle.log_entry.specs.Spelling.{spelling, size_of}
+use Rattle.log_buffer.specs.Flip.{end_after_all}
 use Rattle.je_model.specs.declared.change.Change.{Change}
 use Rattle.je_model.specs.declared.totals.Totals.{Totals}
 use Rattle.log_replay.specs.Rows.{Rows, rows_in, row_changed}
 use Rattle.log_replay.specs.Kept.{row_change_of}
-use Rattle.log_replay.specs.Logging.{entry_of, logged_bytes}
+use Rattle.log_replay.specs.Logging.{entry_of}
 use Rattle.je_program.specs.declared.kept.Kept.{Kept}
+use Rattle.je_program.specs.Environment.{logged_sizes}
 
 -- the records after an entry of a committed transaction
 abbrev pub rows_after : Entry → Rows → Rows
@@ -17,9 +18,9 @@ rows_after (Put txn db name value) rows = row_changed (record { txn = 0; db = db
 rows_after (Delete txn db name) rows = row_changed (record { txn = 0; db = db; name = name; value = None }) rows
 rows_after (Commit txn) rows = rows
 
--- the bytes that a transaction of one entry adds to the log
-abbrev pub transaction_bytes : Kept → ℕ → Entry → List ℕ
-transaction_bytes kept txn entry = spelling entry kept.last_offset ++ spelling (Commit (record { 0 = txn })) kept.log_bytes
+-- the entries of a transaction with one change, its commit last
+abbrev pub entries_logged : ℕ → ℕ → Change → List Entry
+entries_logged txn number change = entry_of txn number change ∷ Commit (record { 0 = txn }) ∷ []
 
 -- a change was logged: what is kept now has it
 pub record HasLogged (old new : Kept) (number : ℕ) (change : Change) (totals : Totals) : Type 0 where
@@ -27,8 +28,8 @@ pub record HasLogged (old new : Kept) (number : ℕ) (change : Change) (totals :
   pub counts : new.totals ≡ totals
   pub last_txn : new.last_txn ≡ old.last_txn + 1
   pub last_db : new.last_db ≡ max old.last_db number
-  pub log_bytes : new.log_bytes ≡ old.log_bytes + logged_bytes (change ∷ [])
-  pub last_offset : new.last_offset ≡ old.log_bytes + size_of (entry_of (old.last_txn + 1) number change)
+  pub end : new.end ≡ end_after_all old.file_max old.end (logged_sizes (change ∷ []))
+  pub file_max : new.file_max ≡ old.file_max
   pub commits : new.commits ≡ old.commits + 1
   pub fault : new.fault ≡ old.fault
 
@@ -38,7 +39,7 @@ pub record IsSame (old new : Kept) : Type 0 where
   pub totals : new.totals ≡ old.totals
   pub last_txn : new.last_txn ≡ old.last_txn
   pub last_db : new.last_db ≡ old.last_db
-  pub log_bytes : new.log_bytes ≡ old.log_bytes
-  pub last_offset : new.last_offset ≡ old.last_offset
+  pub end : new.end ≡ old.end
+  pub file_max : new.file_max ≡ old.file_max
   pub commits : new.commits ≡ old.commits
   pub fault : new.fault ≡ old.fault

@@ -1,5 +1,5 @@
 -- What a call of a valid environment comes to, from the records in memory.
-use Rattle.std.specs.Prelude.{ℕ, ◌≡◌, ◌≤◌, ◌<◌, ◌+◌, ◌-◌, ◌^◌, ◌∷◌, [], List, Option, Some, None, Bool, true, option_map, is_some, nat_lt, nat_le, length, if◌then◌else◌}
+use Rattle.std.specs.Prelude.{ℕ, ◌≡◌, ◌≤◌, ◌<◌, ◌+◌, ◌-◌, ◌^◌, ◌∷◌, [], List, Option, Some, None, true, option_map, nat_lt, nat_le, length, if◌then◌else◌}
 use Rattle.std.specs.List.{AllByRecursion}
 use Rattle.je_model.specs.declared.store.TheConstants.{MOST_DATABASES, LAST_DATABASE}
 use Rattle.je_model.specs.declared.store.Kind.{Kind}
@@ -16,21 +16,32 @@ use Rattle.je_model.specs.Answers.{Standing, valid_answer, length_refusal, made_
 use Rattle.log_entry.specs.Body.{IsEntry}
 use Rattle.log_replay.specs.Rows.{Rows, rows_in, store_of, data_at, number_in, is_environment, numbers_of, IsRising}
 use Rattle.log_replay.specs.Kept.{MayBeLogged}
-use Rattle.log_replay.specs.Logging.{logged_bytes, entry_of}
+use Rattle.log_replay.specs.Logging.{entry_of}
+use Rattle.log_buffer.specs.declared.place.Place.{Place}
+use Rattle.log_buffer.specs.Flip.{end_after_all}
 use Rattle.je_program.specs.declared.kept.Kept.{Kept}
-use Rattle.je_program.specs.declared.kept.TheConstants.{LOG_LIMIT}
+use Rattle.je_program.specs.declared.kept.TheConstants.{LAST_FILE}
 use Rattle.je_program.specs.declared.planning.Planned.{Planned}
 use Rattle.je_program.specs.declared.planning.Planned.TheVariants.{Answered, Logs}
-use Rattle.je_program.specs.Environment.{log_rule}
+use Rattle.je_program.specs.Environment.{log_rule, logged_sizes, log_end_of}
 
 -- the number of the database of that name
 abbrev pub number_named : Rows → List ℕ → Option ℕ
 number_named rows name = option_map number_in (data_at (plain_name name) (rows 0))
 
+-- a place in a log's files
+pub record IsPlace (place : Place) : Type 0 where
+  pub file : place.file ≤ LAST_FILE
+  pub offset : place.offset < 2 ^ 32
+
+-- where the log ends behind a transaction with one change
+abbrev pub end_behind : Kept → Change → Place
+end_behind kept change = end_after_all kept.file_max kept.end (logged_sizes (change ∷ []))
+
 -- a change is logged where there is room for it, and a number for the database that it makes
 abbrev pub logs_with_room : Kept → ℕ → Change → Totals → Planned
 logs_with_room kept number change totals =
-    if nat_lt LOG_LIMIT (kept.log_bytes + logged_bytes (change ∷ [])) then Answered LogFull
+    if nat_lt LAST_FILE (end_behind kept change).file then Answered LogFull
     else if nat_lt LAST_DATABASE (kept.last_db + made_by (change ∷ [])) then Answered IdsEnded
     else Logs number change totals
 
@@ -91,7 +102,7 @@ pub record Fits (kept : Kept) (st : Standing) : Type 0 where
   pub numbers : AllByRecursion (λ n. n ≤ kept.last_db) (numbers_of (rows_in kept.rows))
   pub few : kept.last_db < 2 ^ 32
   pub last_db : kept.last_db ≡ st.last_db
-  pub log_bytes : kept.log_bytes ≡ st.log_bytes
+  pub log_end : log_end_of kept.end ≡ st.log_end
   pub databases : kept.totals.databases ≡ length st.store.databases
   pub records : kept.totals.records ≡ record_count st.store
 
@@ -105,15 +116,15 @@ IsPlain answer = Unit {0}
 
 -- what a call may log: the one change that it makes, in the database that the change names, with the totals after it
 pub record IsLogged (kept : Kept) (st : Standing) (call : Call) (number : ℕ) (change : Change) (totals : Totals) : Type 0 where
-  pub answer : valid_answer log_rule st call ≡ Logged (st.commits + 1)
+  pub answer : valid_answer (log_rule kept.file_max) st call ≡ Logged (st.commits + 1)
   pub changes : (evaluation call st.store).changes ≡ change ∷ []
   pub may : MayBeLogged (rows_in kept.rows) kept.last_db number change
   pub entry : (txn : ℕ) → txn ≤ 2 ^ 63 - 1 → IsEntry (entry_of txn number change)
-  pub room : kept.log_bytes + logged_bytes (change ∷ []) ≤ LOG_LIMIT
+  pub room : (end_behind kept change).file ≤ LAST_FILE
   pub databases : totals.databases ≡ length (all_changed (change ∷ []) st.store).databases
   pub records : totals.records ≡ record_count (all_changed (change ∷ []) st.store)
 
 -- what a call comes to is what the model answers
 abbrev pub IsPlanned : Kept → Standing → Call → Planned → Type 0
-IsPlanned kept st call (Answered answer) = (valid_answer log_rule st call ≡ answer) × IsPlain answer
+IsPlanned kept st call (Answered answer) = (valid_answer (log_rule kept.file_max) st call ≡ answer) × IsPlain answer
 IsPlanned kept st call (Logs number change totals) = IsLogged kept st call number change totals

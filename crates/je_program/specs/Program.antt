@@ -1,22 +1,24 @@
 -- What the program promises of one run.
-use Rattle.std.specs.Prelude.{ℕ, ◌≡◌, ◌≢◌, ◌≤◌, ◌<◌, ◌+◌, ◌⊎◌, ◌∷◌, [], ◌++◌, List, Option, Some, None, Bool, true, false, Result, Ok, Err, length, codes, decimal, IfSome, if◌then◌else◌}
+use Rattle.std.specs.Prelude.{ℕ, ◌/◌, ◌%◌, ◌^◌, ◌≡◌, ◌≢◌, ◌≤◌, ◌<◌, ◌⊎◌, [], ◌++◌, List, Option, Some, None, Bool, true, false, Ok, Err, length, codes, decimal, IfSome}
 use Rattle.je_disk.specs.Causes.{Rose}
 use Rattle.je_disk.specs.States.{Files}
 use Rattle.je_io.specs.Sink.{Gains, GainsPart}
 use Rattle.je_model.specs.declared.store.Store.{Store}
 use Rattle.je_model.specs.declared.event.Event.{Event}
 use Rattle.je_model.specs.declared.plan.RunPlan.{RunPlan}
-use Rattle.je_model.specs.declared.plan.Given.{Given}
 use Rattle.je_model.specs.declared.totals.Totals.{Totals}
 use Rattle.je_model.specs.Store.{store_after, record_count}
-use Rattle.je_model.specs.Answers.{Standing}
-use Rattle.je_model.specs.Journal.{commits_of, lines_of, AllAcknowledged, has_answer, is_disk_fault}
+use Rattle.je_model.specs.Journal.{commits_of, lines_of, has_answer, is_disk_fault}
 use Rattle.log_replay.specs.Meaning.{Meaning}
 use Rattle.script_text.specs.Grammar.{plan_of}
 use Rattle.script_text.specs.Report.{report_text}
 use Rattle.je_program.specs.declared.reading.TheConstants.{MOST_INPUT}
 use Rattle.je_program.specs.declared.cause.Cause.{Cause}
-use Rattle.je_program.specs.declared.cause.Cause.TheVariants.{Done, Usage, BadScript, Disk, Log, Memory, Input, InputTooLong, LogFull, IdsEnded}
+use Rattle.je_program.specs.declared.cause.Cause.TheVariants.{Done, Usage, BadScript, Disk, Unreadable, Memory, Input, InputTooLong, LogFull, IdsEnded}
+use Rattle.std.specs.Fmt.{digits}
+use Rattle.je_lsn.specs.Naming.{name_of}
+use Rattle.log_replay.specs.declared.finding.Finding.{Finding}
+use Rattle.log_replay.specs.declared.finding.Finding.TheVariants.{Damaged, Missing, Tree, VersionUnknown}
 use Rattle.je_program.specs.Files.{Means}
 use Rattle.je_program.specs.Run.{cause_of_journal, of_session, IsFront, status_of, unwritten_status_of}
 
@@ -82,23 +84,29 @@ final_store opening journal = store_after opening (commits_of opening journal)
 abbrev pub MeanStore : Files → Store → Type 0
 MeanStore files store = (meaning : Meaning) × Means files meaning × (meaning.store ≡ store)
 
+-- an LSN as it is printed: its file and its offset there, in hexadecimal digits
+abbrev pub lsn_text : ℕ → List ℕ
+lsn_text lsn = codes "0x" ++ digits 16 false (lsn / 2 ^ 32) ++ codes "/0x" ++ digits 16 false (lsn % 2 ^ 32)
+
+-- the line that tells why files cannot be opened
+abbrev pub finding_text : Finding → List ℕ
+finding_text (Damaged lsn) = codes "fault damaged " ++ lsn_text lsn ++ codes "\n"
+finding_text (Missing lsn) = codes "fault missing " ++ lsn_text lsn ++ codes "\n"
+finding_text (Tree lsn) = codes "fault tree " ++ lsn_text lsn ++ codes "\n"
+finding_text (VersionUnknown file version) = codes "fault version " ++ name_of file.0 ++ codes " " ++ decimal version ++ codes "\n"
+
 -- the line that tells why a program ended, none where all was done
 abbrev pub fault_text : Cause → List ℕ
 fault_text Done = []
 fault_text Usage = codes "fault usage\n"
 fault_text (BadScript line) = codes "fault script line " ++ decimal line ++ codes "\n"
 fault_text Disk = codes "fault disk\n"
-fault_text Log = codes "fault log\n"
+fault_text (Unreadable finding) = finding_text finding
 fault_text Memory = codes "fault memory\n"
 fault_text Input = codes "fault input\n"
 fault_text InputTooLong = codes "fault input too long\n"
 fault_text LogFull = codes "fault log full\n"
 fault_text IdsEnded = codes "fault ids ended\n"
-
--- a fault line, up to the number where it has one
-abbrev pub plain_fault_text : Cause → List ℕ
-plain_fault_text (BadScript line) = codes "fault script line "
-plain_fault_text cause = fault_text cause
 
 -- the report of a run, and none where no script was run
 abbrev pub report_of : Bool → List Event → Totals → List ℕ

@@ -1,6 +1,5 @@
 -- A run of a script.
-use Rattle.std.specs.Prelude.{ℕ, ◌≡◌, ◌≢◌, ◌≤◌, ◌∷◌, [], ◌++◌, ◌==◌, ◌&&◌, List, Option, Some, None, Bool, true, false, filter, slice_index_or, if◌then◌else◌, codes}
-use Rattle.std.specs.List.{list_any}
+use Rattle.std.specs.Prelude.{ℕ, ◌≡◌, ◌≤◌, ◌∷◌, [], ◌++◌, ◌==◌, List, None, Ok, Bool, true, false, filter, slice_index_or, if◌then◌else◌}
 use Rattle.je_disk.specs.Causes.{Rose}
 use Rattle.je_disk.specs.States.{State, Files}
 use Rattle.je_model.specs.declared.store.Store.{Store}
@@ -9,29 +8,35 @@ use Rattle.je_model.specs.declared.answer.Answer.TheVariants.{LogFull, IdsEnded}
 use Rattle.je_model.specs.declared.event.Event.{Event}
 use Rattle.je_model.specs.declared.plan.Given.{Given}
 use Rattle.je_model.specs.declared.plan.Given.TheVariants.{Session}
-use Rattle.je_model.specs.Answers.{LogRule, Standing, AnswersAsModel, after_events}
+use Rattle.je_model.specs.Answers.{Standing, AnswersAsModel, after_events}
 use Rattle.je_model.specs.Journal.{AllSettled, answer_of, is_disk_fault, has_answer, lines_of}
-use Rattle.log_replay.specs.Meaning.{Meaning}
+use Rattle.log_buffer.specs.declared.buffer.LogBuffer.{LogBuffer}
+use Rattle.log_file.specs.Log.{AreFiles}
+use Rattle.log_replay.specs.Reading.{reading_of}
 use Rattle.je_program.specs.declared.kept.Kept.{Kept}
 use Rattle.je_program.specs.declared.cause.Cause.{Cause}
-use Rattle.je_program.specs.declared.cause.Cause.TheVariants.{Done, Usage, BadScript, Disk, Log, Memory, Input, InputTooLong, LogFull as NoRoom, IdsEnded as NoNumbers}
-use Rattle.je_program.specs.Files.{Means, log_length}
+use Rattle.je_program.specs.declared.cause.Cause.TheVariants.{Done, Usage, BadScript, Disk, Unreadable, Memory, Input, InputTooLong, LogFull as NoRoom, IdsEnded as NoNumbers}
+use Rattle.je_program.specs.Files.{end_in}
 use Rattle.je_program.specs.Environment.{log_rule, IsAt}
 
--- where the model stands when an environment with these files was opened; a disk that does not tell says nothing of the numbers
+-- where the model stands when an environment with these files was opened: at what the files mean that were read, which
+-- are the disk's where it tells
 pub record StartsAt (tells : Bool) (files : Files) (opening : Store) (st : Standing) : Type 0 where
   pub store : st.store ≡ opening
   pub commits : st.commits ≡ 0
   pub begun : st.begun ≡ None
   pub fault : st.fault ≡ None
-  pub means : tells ≡ true → Means files (record { store = opening; last_txn = st.last_txn; last_db = st.last_db })
-  pub len : tells ≡ true → st.log_bytes ≡ log_length (files 0)
+  pub held : List (ℕ × List ℕ)
+  pub told : tells ≡ true → AreFiles files held
+  pub means : reading_of held ≡ Ok (record { store = opening; last_txn = st.last_txn; last_db = st.last_db })
+  pub log_end : st.log_end ≡ end_in held
 
--- a run is under way: the environment is where the journal leaves the model, and each answer so far is the model's
-pub record IsRunning (tells : Bool) (state : State) (kept : Kept) (journal : List Event) (st : Standing) : Type 0 where
-  pub here : IsAt tells state kept (after_events log_rule st journal)
-  pub answers : AnswersAsModel log_rule st journal
-  pub settled : AllSettled journal
+module _ {D : Type 0} where
+  -- a run is under way: the environment is where the journal leaves the model, and each answer so far is the model's
+  pub record IsRunning (most : ℕ) (tells : Bool) (state : State) (buffer : LogBuffer D) (kept : Kept) (journal : List Event) (st : Standing) : Type 0 where
+    pub here : IsAt most tells state buffer kept (after_events (log_rule most) st journal)
+    pub answers : AnswersAsModel (log_rule most) st journal
+    pub settled : AllSettled journal
 
 -- since the disk's count stood at `before` it never fell, and it rose where the journal has a disk fault
 pub record IsCaused (before after : ℕ) (journal : List Event) : Type 0 where
@@ -40,9 +45,9 @@ pub record IsCaused (before after : ℕ) (journal : List Event) : Type 0 where
 
 -- a run took place on an environment with these files: each answer is the model's on the opening store, and each commit
 -- is acknowledged later, or followed by a disk fault
-pub record HasRun (tells : Bool) (files : Files) (opening : Store) (journal : List Event) (st : Standing) : Type 0 where
+pub record HasRun (most : ℕ) (tells : Bool) (files : Files) (opening : Store) (journal : List Event) (st : Standing) : Type 0 where
   pub starts : StartsAt tells files opening st
-  pub answers : AnswersAsModel log_rule st journal
+  pub answers : AnswersAsModel (log_rule most) st journal
   pub settled : AllSettled journal
 
 -- the cause that a journal's first answer of LogFull or IdsEnded gives
@@ -83,7 +88,7 @@ status_of Done = 0
 status_of Usage = 2
 status_of (BadScript line) = 3
 status_of Disk = 4
-status_of Log = 5
+status_of (Unreadable finding) = 5
 status_of Memory = 6
 status_of Input = 7
 status_of InputTooLong = 11

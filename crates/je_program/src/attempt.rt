@@ -1,14 +1,18 @@
 // A program's work, up to its output.
-ghost use Rattle.std.specs.Prelude.{◌≡◌, ◌≢◌, ◌≤◌, ◌⊎◌, [], ℕ, None, true, false, map, string_bytes};
+ghost use Rattle.std.specs.Prelude.{◌≡◌, ◌≢◌, ◌≤◌, ◌^◌, ◌⊎◌, [], ℕ, None, true, false, map, string_bytes};
 ghost use Rattle.je_model.specs.declared.plan.RunPlan.{RunPlan};
-ghost use Rattle.je_program.specs.Words.{are_run_words};
+ghost use Rattle.command_line.specs.Words.{file_max_in, is_taken};
 ghost use Rattle.je_disk.specs.Moments.{now};
+ghost use Rattle.log_buffer.specs.Buffer.{disk_of, has_failed};
+ghost use Rattle.log_buffer.specs.Log.{HasLog, ReadAs};
+ghost use Rattle.log_file.specs.Log.{Log};
+ghost use Rattle.log_replay.specs.declared.finding.Finding.{Finding as Found};
 ghost use Rattle.je_model.specs.Answers.{Standing, after_events};
 ghost use Rattle.je_model.specs.Journal.{lines_of};
 ghost use Rattle.je_model.specs.Store.{no_databases};
 ghost use Rattle.je_program.specs.declared.cause.Cause.{Cause as Why};
 ghost use Rattle.je_program.specs.Environment.{log_rule};
-ghost use Rattle.je_program.specs.Files.{HasNoMeaning};
+ghost use Rattle.je_program.specs.Files.{HasFinding};
 ghost use Rattle.je_program.specs.Program.{ClosesBy, ClosesRun, EndsBy, IsGivenTo, IsStopped, MeanStore, ReadsPlan, RunsIf, final_store, is_before_disk, totals_of};
 ghost use Rattle.je_program.specs.Run.{HasRun, IsCaused, IsFront, IsRunning, cause_of_journal, of_session};
 
@@ -18,15 +22,17 @@ use crate::environment::Environment;
 use crate::opening::{Opened, Stopped, open};
 use crate::reading::read_script;
 use crate::running::{Running, run};
-use crate::words::are_right;
+use command_line::parse;
 use je_disk::Disk;
 use je_io::Source;
 use je_model::{Event, RunPlan, Store, Totals};
+use log_buffer::LogBuffer;
+use log_replay::Rows;
 use std::alloc::Global;
 
 /// What a program came to, before its output is written: the cause of its end, whether its environment
-/// was opened and the script run, the disk, the journal, the store at entry, and how much the store
-/// holds at the end.
+/// was opened and the script run, the disk, the journal, the store at entry, how much the store holds at
+/// the end, and the records that were kept in memory.
 pub struct Attempt<D> {
     pub cause: Cause,
     pub opened: bool,
@@ -34,6 +40,7 @@ pub struct Attempt<D> {
     pub journal: Vec<Event>,
     pub opening: Store,
     pub totals: Totals,
+    pub rows: Rows,
 }
 
 /// A program that ended before its environment was opened.
@@ -54,24 +61,25 @@ pub fn unopened<D>(alloc: Global, cause: Cause, disk: D) -> Attempt<D>
             databases: 0,
             records: 0,
         },
+        rows: Rows::new(alloc),
     }
 }
 
-// Syncs a valid environment. A disk fault is the cause of the end, unless there was no memory.
-fn close<D: Disk>(environment: Environment<D>, cause: Cause) -> (D, Cause)
-    ensures same { D.tells ≡ true → (now (D.history result.0)).reads ≡ (now (D.history environment.disk)).reads }
-    ensures cause { ClosesBy (D.faults environment.disk) (D.faults result.0) cause result.1 }
-    ensures never_falls { D.faults environment.disk ≤ D.faults result.0 }
+// Closes a log: writes it out, and syncs, unless the disk failed before. A disk fault is the cause of the
+// end, unless there was no memory.
+fn close<D: Disk>(log: LogBuffer<D>, cause: Cause) -> (D, Cause)
+    ensures written { (held : Log) → HasLog D.tells (now (D.history (disk_of log))) log held → has_failed log ≡ false → result.1 ≡ Why.Done
+        → ReadAs D.tells (now (D.history result.0)).reads held }
+    ensures cause { ClosesBy (D.faults (disk_of log)) (D.faults result.0) cause result.1 }
+    ensures never_falls { D.faults (disk_of log) ≤ D.faults result.0 }
 {
-    let Environment { disk, kept } = environment;
-    let mut disk = disk;
-    if kept.fault.is_some() {
-        return (disk, cause);
+    if log.has_failed() {
+        return (log.into_disk(), cause);
     }
-    match disk.sync_now() {
-        Ok(()) => (disk, cause),
-        Err(_) if cause == Cause::Memory => (disk, cause),
-        Err(_) => (disk, Cause::Disk),
+    match log.close() {
+        (disk, Ok(())) => (disk, cause),
+        (disk, Err(_)) if cause == Cause::Memory => (disk, cause),
+        (disk, Err(_)) => (disk, Cause::Disk),
     }
 }
 
@@ -94,11 +102,11 @@ fn finish<D: Disk>(running: Running<D>, opening: Store) -> Attempt<D>
     ensures journal { result.journal.items ≡ running.journal.items }
     ensures memory { running.memory_ended ≡ true → result.cause ≡ Why.Memory }
     ensures ends { running.memory_ended ≡ false → EndsBy running.journal.items result.cause }
-    ensures caused { (before : ℕ) → IsCaused before (D.faults running.environment.disk) running.journal.items → ClosesRun before (D.faults result.disk) running.journal.items result.cause }
-    ensures totals { (st : Standing) → IsRunning D.tells (now (D.history running.environment.disk)) running.environment.kept running.journal.items st
-        → result.totals ≡ totals_of (after_events log_rule st running.journal.items).store }
-    ensures files { (st : Standing) → IsRunning D.tells (now (D.history running.environment.disk)) running.environment.kept running.journal.items st
-        → st.fault ≡ None → result.cause ≡ Why.Done → D.tells ≡ true → MeanStore (now (D.history result.disk)).reads (after_events log_rule st running.journal.items).store }
+    ensures caused { (before : ℕ) → IsCaused before (D.faults (disk_of running.environment.log)) running.journal.items → ClosesRun before (D.faults result.disk) running.journal.items result.cause }
+    ensures totals { (most : ℕ) (st : Standing) → IsRunning most D.tells (now (D.history (disk_of running.environment.log))) running.environment.log running.environment.kept running.journal.items st
+        → result.totals ≡ totals_of (after_events (log_rule most) st running.journal.items).store }
+    ensures files { (most : ℕ) (st : Standing) → IsRunning most D.tells (now (D.history (disk_of running.environment.log))) running.environment.log running.environment.kept running.journal.items st
+        → st.fault ≡ None → result.cause ≡ Why.Done → D.tells ≡ true → MeanStore (now (D.history result.disk)).reads (after_events (log_rule most) st running.journal.items).store }
 {
     let Running {
         environment,
@@ -106,26 +114,28 @@ fn finish<D: Disk>(running: Running<D>, opening: Store) -> Attempt<D>
         memory_ended,
         stopped: _,
     } = running;
-    let totals = environment.kept.totals;
+    let Environment { log, kept } = environment;
     let cause = end_cause(memory_ended, &journal);
-    let (disk, cause) = close(environment, cause);
+    let (disk, cause) = close(log, cause);
     Attempt {
         cause,
         opened: true,
         disk,
         journal,
         opening,
-        totals,
+        totals: kept.totals,
+        rows: kept.rows,
     }
 }
 
 /// Runs a plan over a disk: opens the environment, gives the lines, and closes it.
-pub fn run_plan<D: Disk>(alloc: Global, disk: D, plan: RunPlan) -> Attempt<D>
+pub fn run_plan<D: Disk>(alloc: Global, disk: D, file_max: u32, plan: RunPlan) -> Attempt<D>
+    requires file_max { file_max ≤ 2 ^ 30 }
     ensures runs { RunsIf result.cause result.opened }
     ensures after_reading { is_before_disk result.cause ≡ false }
-    ensures run { result.opened ≡ true → (st : Standing) × HasRun D.tells (now (D.history disk)).reads result.opening result.journal.items st }
+    ensures run { result.opened ≡ true → (st : Standing) × HasRun file_max D.tells (now (D.history disk)).reads result.opening result.journal.items st }
     ensures unopened { result.opened ≡ false → (result.opening ≡ no_databases) × (result.journal.items ≡ []) }
-    ensures no_meaning { result.cause ≡ Why.Log → D.tells ≡ true → HasNoMeaning (now (D.history disk)).reads }
+    ensures unreadable { (finding : Found) → result.cause ≡ Why.Unreadable finding → D.tells ≡ true → HasFinding (now (D.history disk)).reads finding }
     ensures lines { result.opened ≡ true → result.cause ≢ Why.Memory → lines_of result.journal.items ≡ plan.lines }
     ensures front { result.opened ≡ true → (session : ℕ) → IsFront (of_session session (lines_of result.journal.items)) (of_session session plan.lines) }
     ensures ends { result.opened ≡ true → result.cause ≢ Why.Memory → EndsBy result.journal.items result.cause }
@@ -133,7 +143,7 @@ pub fn run_plan<D: Disk>(alloc: Global, disk: D, plan: RunPlan) -> Attempt<D>
     ensures totals { result.opened ≡ true → result.totals ≡ totals_of (final_store result.opening result.journal.items) }
     ensures files { result.cause ≡ Why.Done → D.tells ≡ true → MeanStore (now (D.history result.disk)).reads (final_store result.opening result.journal.items) }
 {
-    match open(alloc, disk) {
+    match open(alloc, disk, file_max) {
         Ok(opened) => {
             let Opened {
                 environment,
@@ -154,29 +164,29 @@ pub fn work<D: Disk, S: Source>(
     disk: D,
     input: &mut S,
 ) -> Attempt<D>
-    ensures usage { result.cause ≡ Why.Usage → are_run_words (map string_bytes words.now) ≡ false }
-    ensures wrong { are_run_words (map string_bytes words.now) ≡ false → (result.cause ≡ Why.Usage) ⊎ (result.cause ≡ Why.Memory) }
+    ensures usage { result.cause ≡ Why.Usage → is_taken (map string_bytes words.now) ≡ false }
+    ensures wrong { is_taken (map string_bytes words.now) ≡ false → (result.cause ≡ Why.Usage) ⊎ (result.cause ≡ Why.Memory) }
     ensures stopped { IsStopped (S.left input.old) (S.faults input.old) (S.faults input.new) result.cause }
     ensures script { is_before_disk result.cause ≡ false → result.cause ≢ Why.Memory → (plan : RunPlan) × ReadsPlan (S.left input.old) (S.left input.new) plan }
     ensures given { result.opened ≡ true → (plan : RunPlan) × IsGivenTo (S.left input.old) (S.left input.new) result.journal.items result.cause plan }
     ensures untouched { is_before_disk result.cause ≡ true → result.disk ≡ disk }
     ensures runs { RunsIf result.cause result.opened }
-    ensures run { result.opened ≡ true → (st : Standing) × HasRun D.tells (now (D.history disk)).reads result.opening result.journal.items st }
+    ensures run { result.opened ≡ true → (file_max : ℕ) × (st : Standing) × (file_max_in (map string_bytes words.now) ≡ Some file_max) × HasRun file_max D.tells (now (D.history disk)).reads result.opening result.journal.items st }
     ensures unopened { result.opened ≡ false → (result.opening ≡ no_databases) × (result.journal.items ≡ []) }
-    ensures no_meaning { result.cause ≡ Why.Log → D.tells ≡ true → HasNoMeaning (now (D.history disk)).reads }
+    ensures unreadable { (finding : Found) → result.cause ≡ Why.Unreadable finding → D.tells ≡ true → HasFinding (now (D.history disk)).reads finding }
     ensures ends { result.opened ≡ true → result.cause ≢ Why.Memory → EndsBy result.journal.items result.cause }
     ensures caused { ClosesRun (D.faults disk) (D.faults result.disk) result.journal.items result.cause }
     ensures totals { result.opened ≡ true → result.totals ≡ totals_of (final_store result.opening result.journal.items) }
     ensures files { result.cause ≡ Why.Done → D.tells ≡ true → MeanStore (now (D.history result.disk)).reads (final_store result.opening result.journal.items) }
     ensures source { S.faults input.old ≤ S.faults input.new }
 {
-    match are_right(alloc, words) {
-        Ok(true) => {}
-        Ok(false) => return unopened(alloc, Cause::Usage, disk),
+    let options = match parse(alloc, words) {
+        Ok(Some(options)) => options,
+        Ok(None) => return unopened(alloc, Cause::Usage, disk),
         Err(_) => return unopened(alloc, Cause::Memory, disk),
-    }
+    };
     match read_script(alloc, input) {
-        Ok(plan) => run_plan(alloc, disk, plan),
+        Ok(plan) => run_plan(alloc, disk, options.file_max, plan),
         Err(cause) => unopened(alloc, cause, disk),
     }
 }

@@ -2,6 +2,8 @@
 ghost use Rattle.std.specs.Prelude.{◌≡◌};
 ghost use Rattle.je_program.specs.Run.{status_of, unwritten_status_of};
 
+use log_replay::Finding;
+
 /// Why a program ended as it did, before its output was written. Each has a status and a fault line of
 /// its own (docs/ANSWERS.md).
 #[derive(Clone, Copy, Debug, PartialEq, Eq)]
@@ -14,8 +16,8 @@ pub enum Cause {
     BadScript { line: u32 },
     /// The disk failed: 4.
     Disk,
-    /// The files at entry have no meaning: 5.
-    Log,
+    /// The files at entry cannot be opened; this is the first finding in the order of reading: 5.
+    Unreadable(Finding),
     /// Want of memory: 6.
     Memory,
     /// The input failed: 7.
@@ -30,15 +32,15 @@ pub enum Cause {
 
 impl Cause {
     /// The status that a process ends with.
-    pub fn status(self) -> u8
-        ensures { result ≡ status_of self }
+    pub fn status(&self) -> u8
+        ensures { result ≡ status_of self.now }
     {
         match self {
             Cause::Done => 0,
             Cause::Usage => 2,
             Cause::BadScript { .. } => 3,
             Cause::Disk => 4,
-            Cause::Log => 5,
+            Cause::Unreadable(_) => 5,
             Cause::Memory => 6,
             Cause::Input => 7,
             Cause::InputTooLong => 11,
@@ -47,8 +49,8 @@ impl Cause {
     }
 
     /// The status that a process ends with whose output could not be written.
-    pub fn unwritten_status(self) -> u8
-        ensures { result ≡ unwritten_status_of self }
+    pub fn unwritten_status(&self) -> u8
+        ensures { result ≡ unwritten_status_of self.now }
     {
         match self {
             Cause::Memory => 6,

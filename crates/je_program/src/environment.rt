@@ -1,42 +1,41 @@
 // An open environment.
-ghost use Rattle.std.specs.Prelude.{◌≡◌, ◌≤◌, ◌<◌, ◌+◌, ◌-◌, ◌^◌, ◌∷◌, [], None};
+ghost use Rattle.std.specs.Prelude.{◌≡◌, ◌≤◌, ◌<◌, ◌+◌, ◌-◌, ◌^◌, ◌∷◌, [], ℕ, None, Some, is_some, false, IfSome, IsNone, if◌then◌else◌};
 ghost use Rattle.je_disk.specs.Causes.{Rose};
 ghost use Rattle.je_disk.specs.Moments.{now};
 ghost use Rattle.je_model.specs.Answers.{Standing};
+ghost use Rattle.log_buffer.specs.Buffer.{disk_of, has_failed};
 ghost use Rattle.log_entry.specs.Body.{IsEntry};
-ghost use Rattle.log_replay.specs.Logging.{entry_of as entry_of_change, logged_bytes};
-ghost use Rattle.je_program.specs.Environment.{IsAt};
-ghost use Rattle.je_program.specs.Steps.{CanGoOn, GoesOn, LogsChange, EndsSync, HasCause};
-ghost use Rattle.je_program.specs.declared.kept.TheConstants.{LOG_LIMIT};
-ghost use Rattle.je_model.specs.declared.answer.Answer.{Answer};
+ghost use Rattle.log_replay.specs.Logging.{entry_of as entry_of_change};
+ghost use Rattle.je_program.specs.Environment.{IsAt, IsAtEnd};
+ghost use Rattle.je_program.specs.Planning.{end_behind};
+ghost use Rattle.je_program.specs.declared.kept.TheConstants.{LAST_FILE};
+ghost use Rattle.je_program.specs.Steps.{BeginsSync, CanGoOn, GoesOn, LogsChange, EndsSync, HasCause};
 
-use crate::kept::Kept;
-use crate::logging::{change_rows, entry_of, transaction};
-use crate::planning::{Planned, plan};
-use je_disk::Disk;
-use je_lsn::FileNo;
+use crate::kept::{COMMIT_SIZE, Kept};
+use crate::logging::{append_both, change_rows, entry_of};
+use crate::planning::{Planned, end_of_transaction, plan};
+use je_disk::{Disk, SyncJob};
 use je_model::{Answer, Call, Change, Fault, LAST_TXN, Totals};
-use log_entry::size;
+use je_order::TxnId;
+use log_buffer::LogBuffer;
+use log_entry::{Entry, size};
 use std::alloc::{AllocError, Global};
 
-// How many bytes a Commit entry has.
-const COMMIT_BYTES: u64 = 22;
-
-/// An open environment: its disk, and what is kept of it in memory.
+/// An open environment: its log over its disk, and what is kept of it in memory.
 pub struct Environment<D> {
-    pub disk: D,
+    pub log: LogBuffer<D>,
     pub kept: Kept,
 }
 
 impl<D: Disk> Environment<D> {
     /// Answers a call, and logs what it changes. Want of memory leaves the environment as it was.
     pub fn step(&mut self, alloc: Global, call: &Call) -> Result<Answer, AllocError>
-        requires here { (st : Standing) × IsAt D.tells (now (D.history self.old.disk)) self.old.kept st }
+        requires here { (most : ℕ) × (st : Standing) × IsAt most D.tells (now (D.history (disk_of self.old.log))) self.old.log self.old.kept st }
         requires bounds { CanGoOn self.old.kept }
-        ensures goes_on { (st : Standing) → IsAt D.tells (now (D.history self.old.disk)) self.old.kept st
-            → GoesOn D.tells (now (D.history self.new.disk)) self.new.kept st call.now result }
+        ensures goes_on { (most : ℕ) (st : Standing) → IsAt most D.tells (now (D.history (disk_of self.old.log))) self.old.log self.old.kept st
+            → GoesOn most D.tells (now (D.history (disk_of self.new.log))) self.new.log self.new.kept st call.now result }
         ensures bounds { CanGoOn self.new.kept }
-        ensures cause { HasCause (D.faults self.old.disk) (D.faults self.new.disk) result }
+        ensures cause { HasCause (D.faults (disk_of self.old.log)) (D.faults (disk_of self.new.log)) result }
     {
         if let Some(first) = self.kept.fault {
             return Ok(Answer::Invalid { first });
@@ -67,26 +66,30 @@ impl<D: Disk> Environment<D> {
         totals: Totals,
     ) -> Result<Answer, AllocError>
         requires bounds { CanGoOn self.old.kept }
+        requires works { IsAtEnd self.old.log self.old.kept }
         requires numbers { self.old.kept.last_txn < 2 ^ 63 - 1 }
         requires entry { IsEntry (entry_of_change (self.old.kept.last_txn + 1) number change) }
-        requires room { self.old.kept.log_bytes + logged_bytes (change ∷ []) ≤ LOG_LIMIT }
-        ensures logs { LogsChange D.tells (now (D.history self.old.disk)) (now (D.history self.new.disk)) self.old.kept self.new.kept number change totals result }
+        requires room { (end_behind self.old.kept change).file ≤ LAST_FILE }
+        ensures logs { LogsChange D.tells (now (D.history (disk_of self.old.log))) (now (D.history (disk_of self.new.log))) self.old.log self.new.log self.old.kept self.new.kept number change totals result }
         ensures bounds { CanGoOn self.new.kept }
-        ensures cause { HasCause (D.faults self.old.disk) (D.faults self.new.disk) result }
+        ensures cause { HasCause (D.faults (disk_of self.old.log)) (D.faults (disk_of self.new.log)) result }
     {
         let txn = self.kept.last_txn + 1;
         let entry = entry_of(alloc, txn, number, change)?;
-        let bytes = transaction(alloc, &self.kept, txn, &entry)?;
-        let size = u64::from(size(&entry));
-        change_rows(&mut self.kept.rows, alloc, entry)?;
+        let commit = Entry::Commit { txn: TxnId(txn) };
+        let size = size(&entry);
+        let end = end_of_transaction(self.kept.end, self.kept.file_max, size).unwrap();
+        if self.log.reserve(&[size, COMMIT_SIZE]).is_err() {
+            return Err(AllocError);
+        }
+        change_rows(&mut self.kept.rows, alloc, &entry)?;
         self.kept.last_txn = txn;
-        match self.disk.append(FileNo(0), &bytes) {
+        match append_both(&mut self.log, &entry, &commit) {
             Ok(()) => {
                 self.kept.commits += 1;
                 self.kept.totals = totals;
                 self.kept.last_db = self.kept.last_db.max(number);
-                self.kept.last_offset = (self.kept.log_bytes + size) as u32;
-                self.kept.log_bytes += size + COMMIT_BYTES;
+                self.kept.end = end;
                 Ok(Answer::Logged {
                     commit: self.kept.commits,
                 })
@@ -98,15 +101,36 @@ impl<D: Disk> Environment<D> {
         }
     }
 
-    /// A whole sync: makes the commits so far durable, or meets a fault of the disk. It takes no memory.
-    pub fn sync(&mut self) -> Answer
-        ensures ends { (st : Standing) → IsAt D.tells (now (D.history self.old.disk)) self.old.kept st
-            → EndsSync D.tells (now (D.history self.new.disk)) self.new.kept st result }
+    /// Begins a sync of the commits so far: the log is written out, and the job is to be run. None where
+    /// the disk failed. It takes no memory.
+    pub fn begin_sync(&mut self) -> Option<D::Job>
+        ensures begins { (most : ℕ) (st : Standing) → IsAt most D.tells (now (D.history (disk_of self.old.log))) self.old.log self.old.kept st → st.fault ≡ None
+            → BeginsSync most D.tells (now (D.history (disk_of self.new.log))) self.new.log self.new.kept st (if is_some result then Answer.Done else Answer.DiskFault) }
+        ensures out { IfSome result (λ job. D.sync_out (disk_of self.new.log) ≡ Some (D.Job.job_number job)) }
         ensures bounds { CanGoOn self.old.kept → CanGoOn self.new.kept }
-        ensures never_falls { D.faults self.old.disk ≤ D.faults self.new.disk }
-        ensures cause { result ≡ Answer.DiskFault → Rose (D.faults self.old.disk) (D.faults self.new.disk) }
+        ensures never_falls { D.faults (disk_of self.old.log) ≤ D.faults (disk_of self.new.log) }
+        ensures cause { has_failed self.old.log ≡ false → IsNone result → Rose (D.faults (disk_of self.old.log)) (D.faults (disk_of self.new.log)) }
     {
-        match self.disk.sync_now() {
+        match self.log.sync_begin() {
+            Ok(job) => Some(job),
+            Err(_) => {
+                self.kept.fault = Some(Fault::Disk);
+                None
+            }
+        }
+    }
+
+    /// Ends the sync that is out: the commits before its beginning are durable, or the disk failed. It
+    /// takes no memory.
+    pub fn end_sync(&mut self, done: <D::Job as SyncJob>::Done) -> Answer
+        requires { D.sync_out (disk_of self.old.log) ≡ Some (D.Job.Done.done_number done) }
+        ensures ends { (most : ℕ) (st : Standing) → IsAt most D.tells (now (D.history (disk_of self.old.log))) self.old.log self.old.kept st → st.fault ≡ None
+            → EndsSync most D.tells (now (D.history (disk_of self.new.log))) self.new.log self.new.kept st result }
+        ensures bounds { CanGoOn self.old.kept → CanGoOn self.new.kept }
+        ensures never_falls { D.faults (disk_of self.old.log) ≤ D.faults (disk_of self.new.log) }
+        ensures cause { has_failed self.old.log ≡ false → result ≡ Answer.DiskFault → Rose (D.faults (disk_of self.old.log)) (D.faults (disk_of self.new.log)) }
+    {
+        match self.log.sync_end(done) {
             Ok(()) => Answer::Durable {
                 commit: self.kept.commits,
             },

@@ -1,6 +1,7 @@
 // One line of a script.
 ghost use Rattle.std.specs.Prelude.{◌≡◌, ◌≤◌, ◌<◌, ◌+◌, ◌++◌, ◌∷◌, [], ℕ, vec_len, vec_capacity, OnOk, OnErr};
 ghost use Rattle.je_disk.specs.Moments.{now};
+ghost use Rattle.log_buffer.specs.Buffer.{disk_of};
 ghost use Rattle.je_model.specs.Answers.{Standing};
 ghost use Rattle.je_model.specs.Journal.{is_logged, lines_of};
 ghost use Rattle.je_model.specs.declared.plan.Given.TheVariants.{Session};
@@ -8,7 +9,7 @@ ghost use Rattle.je_program.specs.Run.{IsRunning, IsCaused};
 ghost use Rattle.je_program.specs.Steps.{CanGoOn};
 
 use crate::environment::Environment;
-use je_disk::Disk;
+use je_disk::{Disk, SyncJob};
 use je_model::{Answer, Call, Event};
 use std::alloc::{AllocError, Global};
 
@@ -29,12 +30,12 @@ pub fn give<D: Disk>(
     line: u32,
     call: Call,
 ) -> Result<(), AllocError>
-    requires running { (st : Standing) × IsRunning D.tells (now (D.history environment.old.disk)) environment.old.kept journal.old.items st }
+    requires running { (most : ℕ) × (st : Standing) × IsRunning most D.tells (now (D.history (disk_of environment.old.log))) environment.old.log environment.old.kept journal.old.items st }
     requires bounds { CanGoOn environment.old.kept }
-    ensures runs { (st : Standing) → IsRunning D.tells (now (D.history environment.old.disk)) environment.old.kept journal.old.items st
-        → IsRunning D.tells (now (D.history environment.new.disk)) environment.new.kept journal.new.items st }
+    ensures runs { (most : ℕ) (st : Standing) → IsRunning most D.tells (now (D.history (disk_of environment.old.log))) environment.old.log environment.old.kept journal.old.items st
+        → IsRunning most D.tells (now (D.history (disk_of environment.new.log))) environment.new.log environment.new.kept journal.new.items st }
     ensures bounds { CanGoOn environment.new.kept }
-    ensures caused { (before : ℕ) → IsCaused before (D.faults environment.old.disk) journal.old.items → IsCaused before (D.faults environment.new.disk) journal.new.items }
+    ensures caused { (before : ℕ) → IsCaused before (D.faults (disk_of environment.old.log)) journal.old.items → IsCaused before (D.faults (disk_of environment.new.log)) journal.new.items }
     ensures line { OnOk result (lines_of journal.new.items ≡ lines_of journal.old.items ++ Session session line call ∷ []) }
     ensures err { OnErr result (journal.new.items ≡ journal.old.items) }
 {
@@ -48,14 +49,17 @@ pub fn give<D: Disk>(
         answer,
     };
     journal.push(event).unwrap();
-    if logged {
-        journal
-            .push(Event::SyncBegin {
-                answer: Answer::Done,
-            })
-            .unwrap();
-        let answer = environment.sync();
-        journal.push(Event::SyncEnd { answer }).unwrap();
+    if !logged {
+        return Ok(());
     }
+    let Some(job) = environment.begin_sync() else {
+        let answer = Answer::DiskFault;
+        journal.push(Event::SyncBegin { answer }).unwrap();
+        return Ok(());
+    };
+    let answer = Answer::Done;
+    journal.push(Event::SyncBegin { answer }).unwrap();
+    let answer = environment.end_sync(job.run());
+    journal.push(Event::SyncEnd { answer }).unwrap();
     Ok(())
 }

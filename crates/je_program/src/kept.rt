@@ -1,11 +1,15 @@
 // What an open environment keeps in memory.
 use je_model::{Fault, Totals};
+use log_buffer::Place;
 use log_replay::Rows;
 
-/// The most bytes that a log in one file may have: 1 GiB.
-pub const LOG_LIMIT: u64 = 1_073_741_824;
+/// The last file that a log may have: the greatest number that names a file.
+pub const LAST_FILE: u32 = 0xffff_fffe;
 
-/// What an open environment keeps in memory beside its disk.
+/// How many bytes a Commit entry has.
+pub const COMMIT_SIZE: u32 = 22;
+
+/// What an open environment keeps in memory beside its log.
 #[derive(Drop)]
 pub struct Kept {
     /// The records of each database, the catalog's too.
@@ -16,10 +20,10 @@ pub struct Kept {
     pub last_txn: u64,
     /// The database number drawn last.
     pub last_db: u32,
-    /// The log's length in bytes.
-    pub log_bytes: u64,
-    /// The offset of the log's last entry, which the next one names.
-    pub last_offset: u32,
+    /// Where the log ends.
+    pub end: Place,
+    /// The greatest size in bytes of a file that holds more than one entry behind its header.
+    pub file_max: u32,
     /// How many transactions were committed since opening.
     pub commits: u64,
     /// The first fault, after which each call is Invalid.

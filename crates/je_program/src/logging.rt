@@ -1,19 +1,27 @@
 // What a change is logged as, and what is kept then.
-ghost use Rattle.std.specs.Prelude.{◌≡◌, ◌≤◌, ◌<◌, ◌+◌, ◌^◌, ◌∷◌, [], ℕ, IfOk, OnOk, OnErr};
+ghost use Rattle.std.specs.Prelude.{◌≡◌, ◌≤◌, ◌∷◌, [], ℕ, true, false, IfOk, OnOk, OnErr};
+ghost use Rattle.je_disk.specs.Causes.{Rose};
+ghost use Rattle.je_disk.specs.Moments.{now};
 ghost use Rattle.je_model.specs.declared.change.Change.TheVariants.{Make};
+ghost use Rattle.log_buffer.specs.Buffer.{disk_of, end_of, file_max_of, has_failed, HasRoom};
+ghost use Rattle.log_buffer.specs.Flip.{end_after_all};
 ghost use Rattle.log_entry.specs.Body.{IsEntry};
 ghost use Rattle.log_entry.specs.Spelling.{size_of};
+ghost use Rattle.log_file.specs.Scan.{may_follow};
 ghost use Rattle.log_replay.specs.Rows.{rows_in};
-ghost use Rattle.log_replay.specs.Logging.{entry_of as entry_of_change, logged_bytes};
-ghost use Rattle.je_program.specs.Logging.{rows_after, transaction_bytes, HasLogged, IsSame};
+ghost use Rattle.log_replay.specs.Logging.{entry_of as entry_of_change};
+ghost use Rattle.je_program.specs.Logging.{rows_after};
+ghost use Rattle.je_program.specs.Steps.{GainsEntries};
+ghost use Rattle.je_program.specs.declared.kept.TheConstants.{LAST_FILE};
 
-use crate::kept::Kept;
 use crate::planning::plain_name;
 use db_catalog::{DbKind, DbRecord};
-use je_model::{Change, Kind, Totals};
-use je_order::{Octets, TxnId, Word};
-use log_entry::{Entry, encode_onto};
-use log_replay::Rows;
+use je_disk::Disk;
+use je_model::{Change, Kind};
+use je_order::{Octets, TxnId, Word, copy_of};
+use log_buffer::{LogBuffer, LogErr};
+use log_entry::Entry;
+use log_replay::{Rows, SortKey};
 use std::alloc::{AllocError, Global};
 
 // The catalog record of a database that is made.
@@ -58,27 +66,33 @@ pub fn entry_of(alloc: Global, txn: u64, number: u32, change: Change) -> Result<
     }
 }
 
-/// The bytes of a transaction of one entry and its commit, at the end of the log.
-pub fn transaction(
-    alloc: Global,
-    kept: &Kept,
-    txn: u64,
+/// Puts an entry and the commit of its transaction at the log's end, where room was reserved for both.
+/// The one error is a fault of the disk.
+pub fn append_both<D: Disk>(
+    log: &mut LogBuffer<D>,
     entry: &Entry,
-) -> Result<Vec<u8>, AllocError>
-    requires entry { IsEntry entry.now }
-    requires room { kept.now.log_bytes < 2 ^ 32 }
-    ensures { IfOk result (λ bytes. bytes.items ≡ transaction_bytes kept.now txn entry.now) }
+    commit: &Entry,
+) -> Result<(), LogErr>
+    requires entries { IsEntry entry.now × IsEntry commit.now }
+    requires follow { (may_follow entry.now ≡ true) × (may_follow commit.now ≡ true) }
+    requires works { has_failed log.old ≡ false }
+    requires room { HasRoom log.old (size_of entry.now ∷ size_of commit.now ∷ []) }
+    requires fits { (end_after_all (file_max_of log.old) (end_of log.old) (size_of entry.now ∷ size_of commit.now ∷ [])).file ≤ LAST_FILE }
+    ensures end { OnOk result (end_of log.new ≡ end_after_all (file_max_of log.old) (end_of log.old) (size_of entry.now ∷ size_of commit.now ∷ [])) }
+    ensures file_max { OnOk result (file_max_of log.new ≡ file_max_of log.old) }
+    ensures works { OnOk result (has_failed log.new ≡ false) }
+    ensures gains { OnOk result (GainsEntries D.tells (now (D.history (disk_of log.old))) (now (D.history (disk_of log.new))) log.old log.new (entry.now ∷ commit.now ∷ [])) }
+    ensures never_falls { D.faults (disk_of log.old) ≤ D.faults (disk_of log.new) }
+    ensures fault { OnErr result (Rose (D.faults (disk_of log.old)) (D.faults (disk_of log.new))) }
 {
-    let mut bytes = Vec::new(alloc);
-    encode_onto(entry, kept.last_offset, &mut bytes)?;
-    let commit = Entry::Commit { txn: TxnId(txn) };
-    encode_onto(&commit, kept.log_bytes as u32, &mut bytes)?;
-    Ok(bytes)
+    log.append(entry)?;
+    log.append(commit)?;
+    Ok(())
 }
 
 /// The records after an entry of a committed transaction. Want of memory changes no record.
-pub fn change_rows(rows: &mut Rows, alloc: Global, entry: Entry) -> Result<(), AllocError>
-    ensures ok { OnOk result ((d : ℕ) → rows_in rows.new d ≡ rows_after entry (rows_in rows.old) d) }
+pub fn change_rows(rows: &mut Rows, alloc: Global, entry: &Entry) -> Result<(), AllocError>
+    ensures ok { OnOk result ((d : ℕ) → rows_in rows.new d ≡ rows_after entry.now (rows_in rows.old) d) }
     ensures err { OnErr result ((d : ℕ) → rows_in rows.new d ≡ rows_in rows.old d) }
 {
     match entry {
@@ -87,9 +101,9 @@ pub fn change_rows(rows: &mut Rows, alloc: Global, entry: Entry) -> Result<(), A
             name,
             value,
             ..
-        } => rows.set(alloc, db, name, value),
+        } => rows.set(alloc, *db, copy_of(name)?, copy_of(value)?),
         Entry::Delete { db, name, .. } => {
-            rows.unset(db, &name);
+            rows.unset(*db, &SortKey::new(copy_of(name)?));
             Ok(())
         }
         Entry::FileHeader { .. } | Entry::Commit { .. } => Ok(()),

@@ -1,20 +1,23 @@
 // Opening an environment over a disk.
-ghost use Rattle.std.specs.Prelude.{◌≡◌, ◌≤◌, ◌<◌, ◌^◌, true, None, length, vec_len, IfSome, IfOk, IfErr, OnOk, option_map};
+ghost use Rattle.std.specs.Prelude.{◌≡◌, ◌≤◌, true, false, None, ℕ, IfSome, IfOk, IfErr, OnOk};
+ghost use Rattle.je_disk.specs.Causes.{HasFault};
 ghost use Rattle.je_disk.specs.Moments.{now};
-ghost use Rattle.je_disk.specs.States.{content};
-ghost use Rattle.je_program.specs.Files.{IsFirstAlone, IsFirstOnly};
-ghost use Rattle.je_program.specs.Opening.{IsListedAs, kept_at_start, AreFound, StopsBy, StopsByLength, IsOpened};
+ghost use Rattle.je_disk.specs.States.{Files as Reads};
+ghost use Rattle.log_buffer.specs.Buffer.{disk_of, end_of, file_max_of, has_failed};
+ghost use Rattle.log_buffer.specs.Log.{HasLog};
+ghost use Rattle.log_file.specs.Log.{Log};
+ghost use Rattle.je_program.specs.Opening.{IsOpened, IsSettled, StartsLog, StopsBy, WasRead, kept_at_start, start_of};
 ghost use Rattle.je_program.specs.Steps.{CanGoOn};
-ghost use Rattle.log_replay.specs.Kept.{header_bytes};
+ghost use Rattle.je_program.specs.declared.kept.TheConstants.{LAST_FILE};
 
 use crate::cause::Cause;
 use crate::environment::Environment;
 use crate::kept::Kept;
 use je_disk::{Disk, DiskErr};
-use je_lsn::FileNo;
+use je_lsn::{FileNo, Lsn};
 use je_model::Store;
-use log_entry::{Entry, encode};
-use log_replay::{Replayed, new_environment, replay};
+use log_buffer::{HEADER_SIZE, LogBuffer, Place};
+use log_replay::{LastFile, LogRead, ReadLog, Replayed, read_log};
 use std::alloc::{AllocError, Global};
 
 /// An open environment, and the store that it held at entry.
@@ -54,178 +57,161 @@ impl From<AllocError> for Cause {
     }
 }
 
-// A log past this length is none, since offsets have four bytes.
-const LONGEST_LOG: u64 = 0xffff_ffff;
-
-// How many bytes the header of file 0 has.
-const HEADER_BYTES: u64 = 26;
-
-// The bytes of file 0.
-fn read_log<D: Disk>(alloc: Global, disk: &mut D) -> Result<Vec<u8>, Cause>
+// Mounts the disk and reads the log that it has.
+fn read_disk<D: Disk>(alloc: Global, disk: &mut D) -> Result<ReadLog, Cause>
     ensures same { D.tells ≡ true → now (D.history disk.new) ≡ now (D.history disk.old) }
-    ensures short { IfOk result (λ bytes. vec_len bytes < 2 ^ 32) }
-    ensures bytes { D.tells ≡ true → IfOk result (λ bytes. bytes.items ≡ content (now (D.history disk.old)).reads 0) }
-    ensures stops { IfErr result (λ cause. StopsByLength D.tells (content (now (D.history disk.old)).reads 0) (D.faults disk.old) (D.faults disk.new) cause) }
-    ensures never_falls { D.faults disk.old ≤ D.faults disk.new }
-{
-    let len = disk.len(FileNo(0))?;
-    if LONGEST_LOG < len {
-        return Err(Cause::Log);
-    }
-    let mut bytes = vec![in alloc; 0u8; len as usize]?;
-    let count = disk.read(FileNo(0), 0, &mut bytes)?;
-    bytes.truncate(count);
-    Ok(bytes)
-}
-
-// Which files there are.
-enum Listing {
-    Nothing,
-    FirstAlone,
-    Others,
-}
-
-fn listed(files: &[FileNo]) -> Listing
-    ensures { IsListedAs files.now result }
-{
-    match files {
-        [] => Listing::Nothing,
-        [only] if only.0 == 0 => Listing::FirstAlone,
-        _ => Listing::Others,
-    }
-}
-
-// The bytes of file 0 where it is there, and it alone.
-fn find_log<D: Disk>(alloc: Global, disk: &mut D) -> Result<Option<Vec<u8>>, Cause>
-    ensures same { D.tells ≡ true → now (D.history disk.new) ≡ now (D.history disk.old) }
-    ensures short { IfOk result (λ found. IfSome found (λ bytes. vec_len bytes < 2 ^ 32)) }
-    ensures found { D.tells ≡ true → IfOk result (λ found. AreFound (now (D.history disk.old)).reads (option_map (λ bytes. bytes.items) found)) }
+    ensures read { IfOk result (WasRead D.tells (now (D.history disk.old)).reads) }
+    ensures none_out { OnOk result (D.sync_out disk.new ≡ None) }
     ensures stops { IfErr result (λ cause. StopsBy D.tells (now (D.history disk.old)).reads (D.faults disk.old) (D.faults disk.new) cause) }
     ensures never_falls { D.faults disk.old ≤ D.faults disk.new }
 {
     disk.mount()?;
     let files = disk.list(alloc)?;
-    match listed(&files) {
-        Listing::Nothing => Ok(None),
-        Listing::FirstAlone => {
-            let bytes = read_log(alloc, disk)?;
-            Ok(Some(bytes))
-        }
-        Listing::Others => Err(Cause::Log),
+    match read_log(alloc, disk, &files)? {
+        LogRead::Read(read) => Ok(read),
+        LogRead::Found(finding) => Err(Cause::Unreadable(finding)),
     }
 }
 
-// Makes file 0, with its header.
-fn write_header<D: Disk>(alloc: Global, disk: &mut D) -> Result<(), Cause>
-    ensures made { D.tells ≡ true → IsFirstOnly (now (D.history disk.old)).reads → (now (D.history disk.old)).reads 0 ≡ None → OnOk result (IsFirstAlone (now (D.history disk.new)).reads header_bytes) }
-    ensures stops { IfErr result (λ cause. StopsBy D.tells (now (D.history disk.old)).reads (D.faults disk.old) (D.faults disk.new) cause) }
-    ensures never_falls { D.faults disk.old ≤ D.faults disk.new }
+// Cuts off what follows the run of the last file, and syncs.
+fn settle<D: Disk>(disk: &mut D, tail: Option<LastFile>) -> Result<(), DiskErr>
+    requires { D.sync_out disk.old ≡ None }
+    ensures settled { D.tells ≡ true → OnOk result (IsSettled (now (D.history disk.old)).reads (now (D.history disk.new)).reads tail) }
+    ensures cause { HasFault (D.faults disk.old) (D.faults disk.new) result }
 {
-    let header = Entry::FileHeader {
-        version: 1,
-        file: 0,
-    };
-    let bytes = encode(alloc, &header, 0)?;
-    disk.sync_now()?;
-    disk.create(FileNo(0))?;
-    disk.append(FileNo(0), &bytes)?;
-    Ok(())
+    if let Some(last) = tail {
+        if u64::from(last.end) < last.len {
+            disk.cut(last.file, u64::from(last.end))?;
+        }
+    }
+    disk.sync_now()
 }
 
-// An environment that was just opened, over its disk.
-fn begin<D>(disk: D, replayed: Replayed, log_bytes: u64) -> Opened<D>
-    ensures disk { result.environment.disk ≡ disk }
-    ensures opening { result.opening ≡ replayed.opening }
-    ensures kept { result.environment.kept ≡ kept_at_start replayed log_bytes }
+// The log buffer over a log that ends in this file. Where there is none, or it has no header, the header
+// goes into the buffer's tail; want of memory for that hands the disk back.
+fn begin_log<D: Disk>(
+    alloc: Global,
+    disk: D,
+    tail: Option<LastFile>,
+    file_max: u32,
+) -> Result<LogBuffer<D>, D>
+    requires file { IfSome tail (λ last. last.file.0 ≤ LAST_FILE) }
+    requires file_max { file_max ≤ 1073741824 }
+    ensures log { (log : Log) → StartsLog D.tells (now (D.history disk)).reads tail log → IfOk result (λ buffer. HasLog D.tells (now (D.history disk)) buffer log) }
+    ensures disk { IfOk result (λ buffer. disk_of buffer ≡ disk) }
+    ensures end { IfOk result (λ buffer. end_of buffer ≡ start_of tail) }
+    ensures file_max { IfOk result (λ buffer. file_max_of buffer ≡ file_max) }
+    ensures works { IfOk result (λ buffer. has_failed buffer ≡ false) }
+    ensures handed_back { IfErr result (λ given. given ≡ disk) }
 {
+    let Some(last) = tail else {
+        return LogBuffer::create(alloc, disk, FileNo(0), file_max);
+    };
+    if last.end == 0 {
+        return LogBuffer::create(alloc, disk, last.file, file_max);
+    }
+    let end = Lsn::new(last.file, last.end);
+    Ok(LogBuffer::resume(alloc, disk, end, last.last, file_max))
+}
+
+// Where a log begins to grow that ends in this file.
+fn start(tail: Option<LastFile>) -> Place
+    ensures { result ≡ start_of tail }
+{
+    let Some(last) = tail else {
+        return Place {
+            file: 0,
+            offset: HEADER_SIZE,
+        };
+    };
+    let offset = if last.end == 0 {
+        HEADER_SIZE
+    } else {
+        u64::from(last.end)
+    };
+    Place {
+        file: last.file.0,
+        offset,
+    }
+}
+
+// An environment that was just opened, over its log.
+fn begin<D>(log: LogBuffer<D>, read: ReadLog, file_max: u32) -> Opened<D>
+    ensures log { result.environment.log ≡ log }
+    ensures opening { result.opening ≡ read.replayed.opening }
+    ensures kept { result.environment.kept ≡ kept_at_start read.replayed (start_of read.tail) file_max }
+{
+    let end = start(read.tail);
     let Replayed {
         rows,
         opening,
         totals,
         last_txn,
         last_db,
-        last_offset,
-    } = replayed;
+    } = read.replayed;
     let kept = Kept {
         rows,
         totals,
         last_txn,
         last_db,
-        log_bytes,
-        last_offset,
+        end,
+        file_max,
         commits: 0,
         fault: None,
     };
     Opened {
-        environment: Environment { disk, kept },
+        environment: Environment { log, kept },
         opening,
     }
 }
 
-// Opens an environment whose log has these bytes.
-fn go_on<D: Disk>(alloc: Global, disk: D, bytes: &[u8]) -> Result<Opened<D>, Stopped<D>>
-    requires found { D.tells ≡ true → IsFirstAlone (now (D.history disk)).reads bytes.now }
-    requires short { length bytes.now < 2 ^ 32 }
-    ensures opened { IfOk result (λ opened. IsOpened D.tells (now (D.history disk)).reads (now (D.history opened.environment.disk)) opened.opening opened.environment.kept) }
+// Opens the environment whose log was read.
+fn go_on<D: Disk>(
+    alloc: Global,
+    disk: D,
+    read: ReadLog,
+    file_max: u32,
+) -> Result<Opened<D>, Stopped<D>>
+    requires none_out { D.sync_out disk ≡ None }
+    requires small { IfSome read.tail (λ last. last.file.0 ≤ LAST_FILE) }
+    requires file_max { file_max ≤ 1073741824 }
+    ensures opened { (reads : Reads) → WasRead D.tells reads read → (D.tells ≡ true → (now (D.history disk)).reads ≡ reads)
+        → IfOk result (λ opened. IsOpened file_max D.tells reads (now (D.history (disk_of opened.environment.log))) opened.environment.log opened.opening opened.environment.kept) }
     ensures bounds { IfOk result (λ opened. CanGoOn opened.environment.kept) }
-    ensures faults { IfOk result (λ opened. D.faults disk ≤ D.faults opened.environment.disk) }
-    ensures stopped { IfErr result (λ stopped. StopsBy D.tells (now (D.history disk)).reads (D.faults disk) (D.faults stopped.disk) stopped.cause) }
+    ensures faults { IfOk result (λ opened. D.faults disk ≤ D.faults (disk_of opened.environment.log)) }
+    ensures stopped { (reads : Reads) → IfErr result (λ stopped. StopsBy D.tells reads (D.faults disk) (D.faults stopped.disk) stopped.cause) }
     ensures stopped_faults { IfErr result (λ stopped. D.faults disk ≤ D.faults stopped.disk) }
 {
     let mut disk = disk;
-    let replayed = match replay(alloc, bytes) {
-        Ok(Some(replayed)) => replayed,
-        Ok(None) => {
-            return Err(Stopped {
-                cause: Cause::Log,
-                disk,
-            });
-        }
-        Err(_) => {
-            return Err(Stopped {
-                cause: Cause::Memory,
-                disk,
-            });
-        }
-    };
-    match disk.sync_now() {
-        Ok(()) => Ok(begin(disk, replayed, bytes.len() as u64)),
-        Err(_) => Err(Stopped {
+    if settle(&mut disk, read.tail).is_err() {
+        return Err(Stopped {
             cause: Cause::Disk,
+            disk,
+        });
+    }
+    match begin_log(alloc, disk, read.tail, file_max) {
+        Ok(log) => Ok(begin(log, read, file_max)),
+        Err(disk) => Err(Stopped {
+            cause: Cause::Memory,
             disk,
         }),
     }
 }
 
-// Makes a new environment.
-fn begin_new<D: Disk>(alloc: Global, disk: D) -> Result<Opened<D>, Stopped<D>>
-    requires none { D.tells ≡ true → IsFirstOnly (now (D.history disk)).reads × ((now (D.history disk)).reads 0 ≡ None) }
-    ensures opened { IfOk result (λ opened. IsOpened D.tells (now (D.history disk)).reads (now (D.history opened.environment.disk)) opened.opening opened.environment.kept) }
+/// Opens the environment that a disk has: reads its log, cuts off what follows the run of the last file,
+/// and syncs. Where there is no file, or the last one has no header, the header is written with the first
+/// sync. A log that cannot be opened is left as it is.
+pub fn open<D: Disk>(alloc: Global, disk: D, file_max: u32) -> Result<Opened<D>, Stopped<D>>
+    requires file_max { file_max ≤ 1073741824 }
+    ensures opened { IfOk result (λ opened. IsOpened file_max D.tells (now (D.history disk)).reads (now (D.history (disk_of opened.environment.log))) opened.environment.log opened.opening opened.environment.kept) }
     ensures bounds { IfOk result (λ opened. CanGoOn opened.environment.kept) }
-    ensures faults { IfOk result (λ opened. D.faults disk ≤ D.faults opened.environment.disk) }
+    ensures faults { IfOk result (λ opened. D.faults disk ≤ D.faults (disk_of opened.environment.log)) }
     ensures stopped { IfErr result (λ stopped. StopsBy D.tells (now (D.history disk)).reads (D.faults disk) (D.faults stopped.disk) stopped.cause) }
     ensures stopped_faults { IfErr result (λ stopped. D.faults disk ≤ D.faults stopped.disk) }
 {
     let mut disk = disk;
-    match write_header(alloc, &mut disk) {
-        Ok(()) => Ok(begin(disk, new_environment(alloc), HEADER_BYTES)),
-        Err(cause) => Err(Stopped { cause, disk }),
-    }
-}
-
-/// Opens the environment that a disk has: reads its one file whole, replays it, syncs, and makes file 0
-/// with its header where there is none. Each file is left as it is.
-pub fn open<D: Disk>(alloc: Global, disk: D) -> Result<Opened<D>, Stopped<D>>
-    ensures opened { IfOk result (λ opened. IsOpened D.tells (now (D.history disk)).reads (now (D.history opened.environment.disk)) opened.opening opened.environment.kept) }
-    ensures bounds { IfOk result (λ opened. CanGoOn opened.environment.kept) }
-    ensures faults { IfOk result (λ opened. D.faults disk ≤ D.faults opened.environment.disk) }
-    ensures stopped { IfErr result (λ stopped. StopsBy D.tells (now (D.history disk)).reads (D.faults disk) (D.faults stopped.disk) stopped.cause) }
-    ensures stopped_faults { IfErr result (λ stopped. D.faults disk ≤ D.faults stopped.disk) }
-{
-    let mut disk = disk;
-    match find_log(alloc, &mut disk) {
-        Ok(Some(bytes)) => go_on(alloc, disk, &bytes),
-        Ok(None) => begin_new(alloc, disk),
+    match read_disk(alloc, &mut disk) {
+        Ok(read) => go_on(alloc, disk, read, file_max),
         Err(cause) => Err(Stopped { cause, disk }),
     }
 }

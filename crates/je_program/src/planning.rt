@@ -1,16 +1,21 @@
 // What a call comes to.
-ghost use Rattle.std.specs.Prelude.{option_copied, ◌≡◌, ◌≤◌, ◌<◌, ◌+◌, ◌^◌, ◌∷◌, length, IsTrue, Some, [], IfOk, option_map};
+ghost use Rattle.std.specs.Prelude.{option_copied, nat_lt, if◌then◌else◌, None, ◌≡◌, ◌≤◌, ◌<◌, ◌+◌, ◌^◌, ◌∷◌, length, IsTrue, Some, [], IfOk, option_map};
 ghost use Rattle.je_model.specs.Evaluation.{plain_name as name_of_key, database_named};
 ghost use Rattle.je_model.specs.Answers.{or_refusal, too_long, made_by};
 ghost use Rattle.je_order.specs.Words.{is_word};
 ghost use Rattle.log_replay.specs.Rows.{rows_in, number_in};
-ghost use Rattle.log_replay.specs.Logging.{logged_bytes};
-ghost use Rattle.je_program.specs.Planning.{number_named, logs_with_room, planned_create, planned_put, planned_get, planned_delete, planned_of, records_with};
+ghost use Rattle.log_buffer.specs.Flip.{end_after_all};
+ghost use Rattle.log_entry.specs.Spelling.{size_of};
+ghost use Rattle.log_replay.specs.Logging.{entry_of};
+ghost use Rattle.je_program.specs.declared.kept.TheConstants.{COMMIT_SIZE, LAST_FILE};
+ghost use Rattle.je_program.specs.Planning.{IsPlace, number_named, logs_with_room, planned_create, planned_put, planned_get, planned_delete, planned_of, records_with};
 
-use crate::kept::{Kept, LOG_LIMIT};
+use crate::kept::{COMMIT_SIZE, Kept, LAST_FILE};
 use db_catalog::DbRecord;
 use je_model::{Answer, Call, Change, KEY_LIMIT, Kind, MOST_DATABASES, Totals, VALUE_LIMIT};
 use je_order::{Name, Octets, Word, copy_of};
+use log_buffer::Place;
+use log_replay::SortKey;
 use std::alloc::{AllocError, Global};
 
 /// What a call of a valid environment comes to, before anything is changed.
@@ -37,18 +42,36 @@ pub fn plain_name(alloc: Global, key: &[u8]) -> Result<Name, AllocError>
     })
 }
 
-// How many bytes of log a transaction with this change takes.
-fn bytes_logged(change: &Change) -> u64
-    requires { logged_bytes (change.now ∷ []) < 2 ^ 32 }
-    ensures { result ≡ logged_bytes (change.now ∷ []) }
+// How many bytes the entry has that logs this change.
+fn entry_size(change: &Change) -> u32
+    requires { size_of (entry_of 0 0 change.now) < 2 ^ 32 }
+    ensures { result ≡ size_of (entry_of 0 0 change.now) }
 {
     match change {
         Change::Set { at, value, .. } => {
-            52 + at.key.len() as u64 + at.dup.len() as u64 + value.len() as u64
+            30 + at.key.len() as u32 + at.dup.len() as u32 + value.len() as u32
         }
-        Change::Unset { at, .. } => 52 + at.key.len() as u64 + at.dup.len() as u64,
-        Change::Make { db, .. } => 57 + db.len() as u64,
+        Change::Unset { at, .. } => 30 + at.key.len() as u32 + at.dup.len() as u32,
+        Change::Make { db, .. } => 35 + db.len() as u32,
     }
+}
+
+/// Where a log that ends here ends behind an entry of so many bytes and a commit, and None where they
+/// would pass the last file.
+pub fn end_of_transaction(end: Place, file_max: u32, size: u32) -> Option<Place>
+    requires file { end.file ≤ LAST_FILE }
+    requires offset { end.offset < 2 ^ 32 }
+    ensures { result ≡ (if nat_lt LAST_FILE (end_after_all file_max end (size ∷ COMMIT_SIZE ∷ [])).file then None else Some (end_after_all file_max end (size ∷ COMMIT_SIZE ∷ []))) }
+{
+    let first = end.placed(file_max, size).behind(size);
+    if LAST_FILE < first.file {
+        return None;
+    }
+    let last = first.placed(file_max, COMMIT_SIZE).behind(COMMIT_SIZE);
+    if LAST_FILE < last.file {
+        return None;
+    }
+    Some(last)
 }
 
 // The number of a catalog record, 0 where the data is none.
@@ -66,7 +89,7 @@ fn number_of(kept: &Kept, alloc: Global, db: &Word) -> Result<Option<u32>, Alloc
     ensures word { IsTrue (is_word db.now) }
     ensures number { IfOk result (λ number. number ≡ number_named (rows_in kept.now.rows) db.now) }
 {
-    let name = plain_name(alloc, db.as_slice())?;
+    let name = SortKey::new(plain_name(alloc, db.as_slice())?);
     match kept.rows.get(0, &name) {
         Some(found) => Ok(Some(number_or_0(found))),
         None => Ok(None),
@@ -75,13 +98,13 @@ fn number_of(kept: &Kept, alloc: Global, db: &Word) -> Result<Option<u32>, Alloc
 
 // A change of a database that is there is logged where there is room for it.
 fn log_with_room(kept: &Kept, number: u32, change: Change, totals: Totals) -> Planned
-    requires small { logged_bytes (change ∷ []) < 2 ^ 32 }
-    requires room { kept.now.log_bytes < 2 ^ 33 }
+    requires small { size_of (entry_of 0 0 change) < 2 ^ 32 }
+    requires place { IsPlace kept.now.end }
     requires none_made { made_by (change ∷ []) ≡ 0 }
     ensures { result ≡ logs_with_room kept.now number change totals }
 {
     let _no_number_is_drawn = kept.last_db;
-    if LOG_LIMIT < kept.log_bytes + bytes_logged(&change) {
+    if end_of_transaction(kept.end, kept.file_max, entry_size(&change)).is_none() {
         return Planned::Answered(Answer::LogFull);
     }
     Planned::Logs {
@@ -93,12 +116,12 @@ fn log_with_room(kept: &Kept, number: u32, change: Change, totals: Totals) -> Pl
 
 // A database is made where there is room for its record, and then a number for it.
 fn log_creation(kept: &Kept, change: Change, totals: Totals) -> Planned
-    requires small { logged_bytes (change ∷ []) < 2 ^ 32 }
-    requires room { kept.now.log_bytes < 2 ^ 33 }
+    requires small { size_of (entry_of 0 0 change) < 2 ^ 32 }
+    requires place { IsPlace kept.now.end }
     requires one_made { made_by (change ∷ []) ≡ 1 }
     ensures { result ≡ logs_with_room kept.now (kept.now.last_db + 1) change totals }
 {
-    if LOG_LIMIT < kept.log_bytes + bytes_logged(&change) {
+    if end_of_transaction(kept.end, kept.file_max, entry_size(&change)).is_none() {
         return Planned::Answered(Answer::LogFull);
     }
     match kept.last_db.checked_add(1) {
@@ -131,12 +154,12 @@ fn plan_get(kept: &Kept, alloc: Global, number: u32, key: &Octets) -> Result<Pla
     if let Some(refusal) = long_key(key) {
         return Ok(Planned::Answered(refusal));
     }
-    let name = plain_name(alloc, key.as_slice())?;
+    let name = SortKey::new(plain_name(alloc, key.as_slice())?);
     match kept.rows.get(number, &name) {
         None => Ok(Planned::Answered(Answer::NotFound)),
         Some(value) => {
             let value = copy_of(value)?;
-            let Name { key, dup: _ } = name;
+            let Name { key, dup: _ } = name.into_name();
             Ok(Planned::Answered(Answer::Rec { key, value }))
         }
     }
@@ -175,17 +198,17 @@ fn plan_put(
     key: &Octets,
     value: &Octets,
 ) -> Result<Planned, AllocError>
-    requires room { kept.now.log_bytes < 2 ^ 33 }
+    requires place { IsPlace kept.now.end }
     ensures { IfOk result (λ planned. planned ≡ planned_put kept.now db.now key.now value.now (Some number)) }
 {
     if let Some(refusal) = long_record(key, value) {
         return Ok(Planned::Answered(refusal));
     }
-    let at = plain_name(alloc, key.as_slice())?;
+    let at = SortKey::new(plain_name(alloc, key.as_slice())?);
     let records = count_with(kept.totals.records, kept.rows.get(number, &at))?;
     let change = Change::Set {
         db: copy_of(db)?,
-        at,
+        at: at.into_name(),
         value: copy_of(value)?,
     };
     let totals = Totals {
@@ -202,13 +225,13 @@ fn plan_delete(
     db: &Word,
     key: &Octets,
 ) -> Result<Planned, AllocError>
-    requires room { kept.now.log_bytes < 2 ^ 33 }
+    requires place { IsPlace kept.now.end }
     ensures { IfOk result (λ planned. planned ≡ planned_delete kept.now db.now key.now (Some number)) }
 {
     if let Some(refusal) = long_key(key) {
         return Ok(Planned::Answered(refusal));
     }
-    let at = plain_name(alloc, key.as_slice())?;
+    let at = SortKey::new(plain_name(alloc, key.as_slice())?);
     if kept.rows.get(number, &at).is_none() {
         return Ok(Planned::Answered(Answer::NotFound));
     }
@@ -217,11 +240,19 @@ fn plan_delete(
         databases: kept.totals.databases,
         records: kept.totals.records.saturating_sub(1),
     };
-    Ok(log_with_room(kept, number, Change::Unset { db, at }, totals))
+    Ok(log_with_room(
+        kept,
+        number,
+        Change::Unset {
+            db,
+            at: at.into_name(),
+        },
+        totals,
+    ))
 }
 
 fn plan_create(kept: &Kept, alloc: Global, db: &Word, kind: &Kind) -> Result<Planned, AllocError>
-    requires room { kept.now.log_bytes < 2 ^ 33 }
+    requires place { IsPlace kept.now.end }
     ensures { IfOk result (λ planned. planned ≡ planned_create kept.now db.now kind.now None) }
 {
     if MOST_DATABASES as usize <= kept.rows.count(0) {
@@ -242,7 +273,7 @@ fn plan_create(kept: &Kept, alloc: Global, db: &Word, kind: &Kind) -> Result<Pla
 
 /// What a call of a valid environment comes to. The one error is want of memory.
 pub fn plan(kept: &Kept, alloc: Global, call: &Call) -> Result<Planned, AllocError>
-    requires room { kept.now.log_bytes < 2 ^ 33 }
+    requires place { IsPlace kept.now.end }
     ensures word { IsTrue (is_word (database_named call.now)) }
     ensures planned { IfOk result (λ planned. planned ≡ planned_of kept.now call.now) }
 {

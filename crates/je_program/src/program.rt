@@ -8,13 +8,14 @@ ghost use Rattle.je_model.specs.Answers.{Standing};
 ghost use Rattle.je_model.specs.Journal.{AllAcknowledged, has_answer, is_disk_fault};
 ghost use Rattle.je_model.specs.Store.{no_databases};
 ghost use Rattle.log_replay.specs.Meaning.{Meaning};
+ghost use Rattle.log_replay.specs.declared.finding.Finding.{Finding as Found};
 ghost use Rattle.script_text.specs.Grammar.{plan_of};
 ghost use Rattle.je_program.specs.declared.cause.Cause.{Cause as Why};
 ghost use Rattle.je_program.specs.declared.reading.TheConstants.{MOST_INPUT};
-ghost use Rattle.je_program.specs.Files.{HasNoMeaning, Means};
+ghost use Rattle.je_program.specs.Files.{HasFinding, Means};
 ghost use Rattle.je_program.specs.Program.{EndsBy, IsGivenTo, IsWritten, MeanStore, ReadsPlan, RunsIf, final_store, is_before_disk, output_text};
 ghost use Rattle.je_program.specs.Run.{HasRun, cause_of_room};
-ghost use Rattle.je_program.specs.Words.{are_run_words};
+ghost use Rattle.command_line.specs.Words.{file_max_in, is_taken};
 
 use crate::attempt::{Attempt, work};
 use crate::cause::Cause;
@@ -22,11 +23,14 @@ use crate::output::write_output;
 use je_disk::Disk;
 use je_io::{Sink, Source};
 use je_model::{Event, Store};
+use log_replay::Rows;
 use std::alloc::Global;
 
 /// How a program ended: the status for the process; the cause behind it, which a failing output does
 /// not change; whether the environment was opened and the script run; the disk; the journal, and the
 /// store that the files at entry meant. Where nothing was opened, the journal and the store are empty.
+/// The records that were kept in memory are handed out too: a process that ends now need not give them
+/// back one by one.
 pub struct Ended<D> {
     pub status: u8,
     pub cause: Cause,
@@ -34,6 +38,7 @@ pub struct Ended<D> {
     pub disk: D,
     pub journal: Vec<Event>,
     pub opening: Store,
+    pub rows: Rows,
 }
 
 /// Runs the program: reads the script from the input, opens the environment over the disk, gives the
@@ -46,31 +51,31 @@ pub fn run_je<D: Disk, S: Source, K: Sink>(
     output: &mut K,
 ) -> Ended<D>
     // The words are the cause of the end only where they are wrong, and then always, unless memory ran out.
-    ensures usage { result.cause ≡ Why.Usage → are_run_words (map string_bytes words.now) ≡ false }
-    ensures usage_found { are_run_words (map string_bytes words.now) ≡ false → (result.cause ≡ Why.Usage) ⊎ (result.cause ≡ Why.Memory) }
+    ensures usage { result.cause ≡ Why.Usage → is_taken (map string_bytes words.now) ≡ false }
+    ensures usage_found { is_taken (map string_bytes words.now) ≡ false → (result.cause ≡ Why.Usage) ⊎ (result.cause ≡ Why.Memory) }
 
     // The input failed only where its count of faults rose; it is too long, or has a first bad line.
     ensures input_failed { result.cause ≡ Why.Input → Failing (S.faults input.old) (S.faults input.new) }
     ensures input_too_long { result.cause ≡ Why.InputTooLong → IfSome (S.left input.old) (λ bytes. MOST_INPUT < length bytes) }
     ensures bad_script { (line : ℕ) → result.cause ≡ Why.BadScript line → IfSome (S.left input.old) (λ bytes. (length bytes ≤ MOST_INPUT) × (plan_of bytes ≡ Err line)) }
-    ensures too_long_found { (bytes : List ℕ) → are_run_words (map string_bytes words.now) ≡ true → S.left input.old ≡ Some bytes → MOST_INPUT < length bytes
+    ensures too_long_found { (bytes : List ℕ) → is_taken (map string_bytes words.now) ≡ true → S.left input.old ≡ Some bytes → MOST_INPUT < length bytes
         → (result.cause ≡ Why.InputTooLong) ⊎ (result.cause ≡ Why.Memory) ⊎ Failing (S.faults input.old) (S.faults input.new) }
-    ensures bad_line_found { (bytes : List ℕ) (line : ℕ) → are_run_words (map string_bytes words.now) ≡ true → S.left input.old ≡ Some bytes → length bytes ≤ MOST_INPUT → plan_of bytes ≡ Err line
+    ensures bad_line_found { (bytes : List ℕ) (line : ℕ) → is_taken (map string_bytes words.now) ≡ true → S.left input.old ≡ Some bytes → length bytes ≤ MOST_INPUT → plan_of bytes ≡ Err line
         → (result.cause ≡ Why.BadScript line) ⊎ (result.cause ≡ Why.Memory) ⊎ Failing (S.faults input.old) (S.faults input.new) }
 
     // Before the script was read, no call was made on the disk. Otherwise it was read to its end.
     ensures untouched { is_before_disk result.cause ≡ true → result.disk ≡ disk }
     ensures read_whole { is_before_disk result.cause ≡ false → result.cause ≢ Why.Memory → (plan : RunPlan) × ReadsPlan (S.left input.old) (S.left input.new) plan }
 
-    // The disk failed only where its count of faults rose; the files at entry have no meaning exactly
-    // where that is the cause of the end.
+    // The disk failed only where its count of faults rose; the files at entry cannot be opened, with this
+    // finding first, exactly where that is the cause of the end.
     ensures disk_failed { result.cause ≡ Why.Disk → Rose (D.faults disk) (D.faults result.disk) }
-    ensures no_meaning { result.cause ≡ Why.Log → D.tells ≡ true → HasNoMeaning (now (D.history disk)).reads }
+    ensures unreadable { (finding : Found) → result.cause ≡ Why.Unreadable finding → D.tells ≡ true → HasFinding (now (D.history disk)).reads finding }
 
     // A run: its journal holds the script's lines, and each answer is the model's on the opening store.
     ensures runs { RunsIf result.cause result.opened }
     ensures given { result.opened ≡ true → (plan : RunPlan) × IsGivenTo (S.left input.old) (S.left input.new) result.journal.items result.cause plan }
-    ensures run { result.opened ≡ true → (st : Standing) × HasRun D.tells (now (D.history disk)).reads result.opening result.journal.items st }
+    ensures run { result.opened ≡ true → (file_max : ℕ) × (st : Standing) × (file_max_in (map string_bytes words.now) ≡ Some file_max) × HasRun file_max D.tells (now (D.history disk)).reads result.opening result.journal.items st }
     ensures unopened { result.opened ≡ false → (result.opening ≡ no_databases) × (result.journal.items ≡ []) }
     ensures ends { result.opened ≡ true → result.cause ≢ Why.Memory → EndsBy result.journal.items result.cause }
     ensures faults { has_answer is_disk_fault result.journal.items ≡ true → Rose (D.faults disk) (D.faults result.disk) }
@@ -81,13 +86,13 @@ pub fn run_je<D: Disk, S: Source, K: Sink>(
     ensures files { result.cause ≡ Why.Done → D.tells ≡ true → MeanStore (now (D.history result.disk)).reads (final_store result.opening result.journal.items) }
 
     // Right words, a script and files with a meaning end in a run, unless memory ran out or a count rose.
-    ensures complete { (bytes : List ℕ) (plan : RunPlan) (meaning : Meaning) → are_run_words (map string_bytes words.now) ≡ true → S.left input.old ≡ Some bytes
+    ensures complete { (bytes : List ℕ) (plan : RunPlan) (meaning : Meaning) → is_taken (map string_bytes words.now) ≡ true → S.left input.old ≡ Some bytes
         → length bytes ≤ MOST_INPUT → plan_of bytes ≡ Ok plan → D.tells ≡ true → Means (now (D.history disk)).reads meaning
         → (result.cause ≡ cause_of_room result.journal.items) ⊎ (result.cause ≡ Why.Memory)
         ⊎ Failing (S.faults input.old) (S.faults input.new) ⊎ Rose (D.faults disk) (D.faults result.disk) }
-    ensures no_meaning_found { (bytes : List ℕ) (plan : RunPlan) → are_run_words (map string_bytes words.now) ≡ true → S.left input.old ≡ Some bytes
-        → length bytes ≤ MOST_INPUT → plan_of bytes ≡ Ok plan → D.tells ≡ true → HasNoMeaning (now (D.history disk)).reads
-        → (result.cause ≡ Why.Log) ⊎ (result.cause ≡ Why.Memory)
+    ensures unreadable_found { (bytes : List ℕ) (plan : RunPlan) (finding : Found) → is_taken (map string_bytes words.now) ≡ true → S.left input.old ≡ Some bytes
+        → length bytes ≤ MOST_INPUT → plan_of bytes ≡ Ok plan → D.tells ≡ true → HasFinding (now (D.history disk)).reads finding
+        → (result.cause ≡ Why.Unreadable finding) ⊎ (result.cause ≡ Why.Memory)
         ⊎ Failing (S.faults input.old) (S.faults input.new) ⊎ Rose (D.faults disk) (D.faults result.disk) }
 
     // What was written, and the status: the cause's, unless the output failed.
@@ -107,8 +112,9 @@ pub fn run_je<D: Disk, S: Source, K: Sink>(
         journal,
         opening,
         totals,
+        rows,
     } = attempt;
-    let status = write_output(cause, opened, &journal, &totals, output);
+    let status = write_output(&cause, opened, &journal, &totals, output);
     Ended {
         status,
         cause,
@@ -116,5 +122,6 @@ pub fn run_je<D: Disk, S: Source, K: Sink>(
         disk,
         journal,
         opening,
+        rows,
     }
 }

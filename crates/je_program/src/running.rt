@@ -1,6 +1,7 @@
 // A run of a script's lines.
 ghost use Rattle.std.specs.Prelude.{◌≡◌, ◌≤◌, ◌<◌, ◌++◌, ◌∷◌, [], ℕ, List, length, false, slice_index_or};
 ghost use Rattle.je_disk.specs.Moments.{now};
+ghost use Rattle.log_buffer.specs.Buffer.{disk_of};
 ghost use Rattle.je_model.specs.Answers.{Standing};
 ghost use Rattle.je_model.specs.declared.plan.Given.{Given as Line};
 ghost use Rattle.je_model.specs.declared.plan.Given.TheVariants.{Session};
@@ -33,15 +34,15 @@ fn none_stopped() -> [bool; 256]
 
 // Gives a line, unless its session was ended. A call that finds no memory ends its session.
 fn give_line<D: Disk>(running: &mut Running<D>, alloc: Global, session: u8, line: u32, call: Call)
-    requires running { (st : Standing) × IsRunning D.tells (now (D.history running.old.environment.disk)) running.old.environment.kept running.old.journal.items st }
+    requires running { (most : ℕ) × (st : Standing) × IsRunning most D.tells (now (D.history (disk_of running.old.environment.log))) running.old.environment.log running.old.environment.kept running.old.journal.items st }
     requires bounds { CanGoOn running.old.environment.kept }
     requires sessions { length running.old.stopped ≡ 256 }
-    ensures runs { (st : Standing) → IsRunning D.tells (now (D.history running.old.environment.disk)) running.old.environment.kept running.old.journal.items st
-        → IsRunning D.tells (now (D.history running.new.environment.disk)) running.new.environment.kept running.new.journal.items st }
+    ensures runs { (most : ℕ) (st : Standing) → IsRunning most D.tells (now (D.history (disk_of running.old.environment.log))) running.old.environment.log running.old.environment.kept running.old.journal.items st
+        → IsRunning most D.tells (now (D.history (disk_of running.new.environment.log))) running.new.environment.log running.new.environment.kept running.new.journal.items st }
     ensures bounds { CanGoOn running.new.environment.kept }
     ensures sessions { length running.new.stopped ≡ 256 }
-    ensures caused { (before : ℕ) → IsCaused before (D.faults running.old.environment.disk) running.old.journal.items
-        → IsCaused before (D.faults running.new.environment.disk) running.new.journal.items }
+    ensures caused { (before : ℕ) → IsCaused before (D.faults (disk_of running.old.environment.log)) running.old.journal.items
+        → IsCaused before (D.faults (disk_of running.new.environment.log)) running.new.journal.items }
     ensures given { (lines : List Line) → HasGiven running.old.journal.items running.old.memory_ended running.old.stopped lines
         → HasGiven running.new.journal.items running.new.memory_ended running.new.stopped (lines ++ Session session line call ∷ []) }
 {
@@ -66,15 +67,15 @@ fn give_line<D: Disk>(running: &mut Running<D>, alloc: Global, session: u8, line
 
 // Gives the next line.
 fn give_next<D: Disk>(running: &mut Running<D>, alloc: Global, given: Given)
-    requires running { (st : Standing) × IsRunning D.tells (now (D.history running.old.environment.disk)) running.old.environment.kept running.old.journal.items st }
+    requires running { (most : ℕ) × (st : Standing) × IsRunning most D.tells (now (D.history (disk_of running.old.environment.log))) running.old.environment.log running.old.environment.kept running.old.journal.items st }
     requires bounds { CanGoOn running.old.environment.kept }
     requires sessions { length running.old.stopped ≡ 256 }
-    ensures runs { (st : Standing) → IsRunning D.tells (now (D.history running.old.environment.disk)) running.old.environment.kept running.old.journal.items st
-        → IsRunning D.tells (now (D.history running.new.environment.disk)) running.new.environment.kept running.new.journal.items st }
+    ensures runs { (most : ℕ) (st : Standing) → IsRunning most D.tells (now (D.history (disk_of running.old.environment.log))) running.old.environment.log running.old.environment.kept running.old.journal.items st
+        → IsRunning most D.tells (now (D.history (disk_of running.new.environment.log))) running.new.environment.log running.new.environment.kept running.new.journal.items st }
     ensures bounds { CanGoOn running.new.environment.kept }
     ensures sessions { length running.new.stopped ≡ 256 }
-    ensures caused { (before : ℕ) → IsCaused before (D.faults running.old.environment.disk) running.old.journal.items
-        → IsCaused before (D.faults running.new.environment.disk) running.new.journal.items }
+    ensures caused { (before : ℕ) → IsCaused before (D.faults (disk_of running.old.environment.log)) running.old.journal.items
+        → IsCaused before (D.faults (disk_of running.new.environment.log)) running.new.journal.items }
     ensures given { (lines : List Line) → HasGiven running.old.journal.items running.old.memory_ended running.old.stopped lines
         → HasGiven running.new.journal.items running.new.memory_ended running.new.stopped (lines ++ given ∷ []) }
 {
@@ -90,11 +91,11 @@ fn give_next<D: Disk>(running: &mut Running<D>, alloc: Global, given: Given)
 /// Gives the lines in order. A call that finds no memory is not in the journal, and ends its session,
 /// which gives no further line; the others go on.
 pub fn run<D: Disk>(alloc: Global, environment: Environment<D>, lines: Vec<Given>) -> Running<D>
-    requires start { (st : Standing) × IsAt D.tells (now (D.history environment.disk)) environment.kept st }
+    requires start { (most : ℕ) × (st : Standing) × IsAt most D.tells (now (D.history (disk_of environment.log))) environment.log environment.kept st }
     requires bounds { CanGoOn environment.kept }
-    ensures runs { (st : Standing) → IsAt D.tells (now (D.history environment.disk)) environment.kept st
-        → IsRunning D.tells (now (D.history result.environment.disk)) result.environment.kept result.journal.items st }
-    ensures caused { IsCaused (D.faults environment.disk) (D.faults result.environment.disk) result.journal.items }
+    ensures runs { (most : ℕ) (st : Standing) → IsAt most D.tells (now (D.history (disk_of environment.log))) environment.log environment.kept st
+        → IsRunning most D.tells (now (D.history (disk_of result.environment.log))) result.environment.log result.environment.kept result.journal.items st }
+    ensures caused { IsCaused (D.faults (disk_of environment.log)) (D.faults (disk_of result.environment.log)) result.journal.items }
     ensures given { HasGiven result.journal.items result.memory_ended result.stopped lines.items }
     ensures bounds { CanGoOn result.environment.kept }
 {

@@ -9,6 +9,7 @@ use je_program::{Cause, Ended, home, run_je};
 use std::alloc::AllocError;
 use std::fs::OpenOptions;
 use std::io::ErrorKind;
+use std::mem::forget;
 use std::process::ExitCode;
 use std::rt::{Files, Runtime};
 use std::{env, io};
@@ -55,7 +56,10 @@ fn placeholders<R: Files>(rt: &R) -> HeldFiles<R::File> {
 }
 
 // Runs the program, and gives its status. Want of memory before the top call is the one error.
-fn run<R: Runtime + AllocGlobal>(rt: &R) -> Result<u8, AllocError> {
+fn run<R: Runtime + AllocGlobal>(rt: &R) -> Result<u8, AllocError>
+where
+    R::File: Send,
+{
     let held = placeholders(rt);
     let words = words_of(rt)?;
     let disk = disk_of(rt, &words)?;
@@ -67,10 +71,15 @@ fn run<R: Runtime + AllocGlobal>(rt: &R) -> Result<u8, AllocError> {
         cause: _,
         opened: _,
         disk: _,
-        journal: _,
-        opening: _,
+        journal,
+        opening,
+        rows,
     } = ended;
     drop(held);
+    // The process ends here, and its memory with it: nothing is given back value by value.
+    forget(journal);
+    forget(opening);
+    forget(rows);
     Ok(status)
 }
 

@@ -1,5 +1,5 @@
 // Entries as they are written.
-ghost use Rattle.std.specs.Prelude.{◌≡◌, ◌≤◌, ◌+◌, ◌++◌, ℕ, length, take, drop, IfOk, OnOk, OnErr};
+ghost use Rattle.std.specs.Prelude.{◌≡◌, ◌≤◌, ◌+◌, ◌++◌, ℕ, length, vec_capacity, take, drop, IsOk, IfOk, OnOk, OnErr};
 ghost use Rattle.std.specs.Int.{w32, to_be_bytes};
 ghost use Rattle.je_bytes.specs.Adler.{adler32_of};
 ghost use Rattle.log_entry.specs.Body.{IsEntry};
@@ -25,6 +25,8 @@ pub fn size(entry: &Entry) -> u32
 fn put_head(out: &mut Vec<u8>, kind: u8, prev: u32, len: u32) -> Result<(), AllocError>
     ensures ok { OnOk result (out.new.items ≡ out.old.items ++ head kind prev len) }
     ensures err { OnErr result (KeepsFront out.old.items out.new.items) }
+    ensures fits { length out.old.items + (10) ≤ vec_capacity out.old → IsOk result }
+    ensures capacity { vec_capacity out.old ≤ vec_capacity out.new }
 {
     out.push(kind)?;
     out.push(0)?;
@@ -37,6 +39,8 @@ fn put_unsigned(out: &mut Vec<u8>, entry: &Entry, prev: u32) -> Result<(), Alloc
     requires { IsEntry entry.now }
     ensures ok { OnOk result (out.new.items ≡ out.old.items ++ (to_be_bytes w32 0 ++ summed entry.now prev)) }
     ensures err { OnErr result (KeepsFront out.old.items out.new.items) }
+    ensures fits { length out.old.items + (size_of entry.now) ≤ vec_capacity out.old → IsOk result }
+    ensures capacity { vec_capacity out.old ≤ vec_capacity out.new }
 {
     put_u32(out, 0)?;
     put_head(out, kind(entry), prev, body_size(entry))?;
@@ -52,11 +56,14 @@ fn sign(bytes: &mut [u8], start: usize)
     BigEndian::write_u32(&mut bytes[start..], sum);
 }
 
-/// Puts the entry's spelling at the end, in the time of the entry alone. Want of memory changes nothing.
+/// Puts the entry's spelling at the end, in the time of the entry alone. Want of memory changes nothing,
+/// and does not come where the vector has room for the spelling.
 pub fn encode_onto(entry: &Entry, prev: u32, onto: &mut Vec<u8>) -> Result<(), AllocError>
     requires { IsEntry entry.now }
     ensures ok { OnOk result (onto.new.items ≡ onto.old.items ++ spelling entry.now prev) }
     ensures err { OnErr result (onto.new.items ≡ onto.old.items) }
+    ensures fits { length onto.old.items + size_of entry.now ≤ vec_capacity onto.old → IsOk result }
+    ensures capacity { vec_capacity onto.old ≤ vec_capacity onto.new }
 {
     let start = onto.len();
     onto.reserve(size(entry) as usize)?;

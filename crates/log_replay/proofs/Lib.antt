@@ -6,7 +6,14 @@ pub mod StoreLaws
 pub mod TotalLaws
 pub mod LogLaws
 pub mod LoggedLaws
-pub mod Distinct
-pub mod Opening
 pub mod Changes
-pub mod UnderWay
+pub mod Opening
+pub mod ReplayLaws
+pub mod WrongLaws
+pub mod GapLaws
+pub mod FilesLaws
+pub mod ListedLaws
+pub mod ReadingLaws
+pub mod PlacingLaws
+pub mod AgainLaws
+pub mod HeadLaws

@@ -1,20 +1,23 @@
 -- What a log means, and what one more transaction in it leaves.
-use Rattle.std.proofs.Common.{◌≡◌, ℕ, ◌<◌, ◌≤◌, max, List, [], ◌∷◌, Bool, true, false, cond, not, ◌&&◌, ◌==◌, Option, None, Some, filter, refl, sym, ◌∙◌, subst, ⊎_elim, arith}
+use Rattle.std.proofs.Common.{◌≡◌, ℕ, ◌<◌, ◌≤◌, max, List, [], ◌∷◌, true, false, cond, not, ◌==◌, Option, None, Some, filter, refl, ap, sym, ◌∙◌, subst, ⊎_elim, arith, Ok}
 use Rattle.std.specs.List.{AllByRecursion}
-use Rattle.std.proofs.lemmas.Bool.{and_parts, and_from, cases_Bool, cond_both, cond-true, cond-false, eqb-true, eq-eqb}
-use Rattle.std.proofs.lemmas.Option.{cond_some}
+use Rattle.std.proofs.lemmas.Bool.{cases_Bool, cond_both, cond-true, cond-false, eqb-true, eq-eqb}
 use Rattle.je_order.specs.declared.name.Name.{Name}
 use Rattle.je_order.specs.Order.{name_cmp}
 use Rattle.std.specs.Ordering.{is_eq, is_lt, is_gt}
 use Rattle.log_entry.specs.declared.entry.Entry.{Entry}
 use Rattle.log_entry.specs.declared.entry.Entry.TheVariants.{FileHeader, Put, Delete, Commit}
-use Rattle.log_entry.specs.Run.{run_of}
-use Rattle.log_replay.specs.Rows.{Row, Rows, RowChange, row_changed, rows_changed, rows_with, number_in, is_environment, IsRising, store_of}
+use Rattle.log_file.specs.Log.{Log, entries_of}
+use Rattle.log_replay.specs.declared.replayed.Replayed.{Replayed}
+use Rattle.log_replay.specs.Rows.{Row, Rows, RowChange, rows_in, row_changed, rows_changed, rows_with, number_in, store_of}
 use Rattle.log_replay.specs.Replay.{Replay, nothing_replayed, changes_of, replayed_entry, replayed, txn_in, db_in, greatest}
-use Rattle.log_replay.specs.Meaning.{Meaning, is_log, is_whole, meaning_of, meaning_of_entries}
+use Rattle.log_replay.specs.Meaning.{Meaning, meaning_of}
+use Rattle.log_replay.specs.Reading.{judged, judged_by}
+use Rattle.log_replay.specs.Answer.{IsReplayed}
 use Rattle.log_replay.specs.Kept.{IsOfBefore, IsKept}
 use Rattle.log_replay.proofs.ListLaws.{all_weaker, all_append, all_filter, all_to_map}
 use Rattle.log_replay.proofs.StoreLaws.{number_of_row, store_of-same, is_environment-same, row_changed-there}
+use Rattle.log_replay.proofs.WrongLaws.{none_is_environment, environment_is_none}
 
 -- ---- a replay stays within the numbers of its entries
 
@@ -115,65 +118,48 @@ at_most_greatest number (entry ∷ entries) =
       all_weaker (λ (e : Entry). number e ≤ most) (λ e. number e ≤ max (number entry) most) (λ e h. omega arith) entries (at_most_greatest number entries),
     )
 
--- ---- the meaning of a log
+-- ---- what is kept of a log
 
--- a choice with nothing on the other side is made
-if_some : {A : Type 0} (b : Bool) (o : Option A) (x : A) → cond b o None ≡ Some x → (b ≡ true) × (o ≡ Some x)
-if_some true o x h = (refl, h)
-if_some false o x h = cc
-
--- what the environment keeps, once its log was replayed
-pub kept_opened : (bytes : List ℕ) (m : Meaning) (rows : Rows) → meaning_of bytes ≡ Some m →
-    ((db : ℕ) → rows db ≡ (replayed (run_of bytes) nothing_replayed).rows db) → ((db : ℕ) → IsRising (rows db)) → IsKept bytes rows m.last_txn m.last_db
-kept_opened bytes m rows means same rising =
-    let entries : List Entry = run_of bytes in
+-- once its entries were replayed
+pub kept_opened : (entries : List Entry) (found : Replayed) → IsReplayed entries found → IsKept entries (rows_in found.rows) found.last_txn found.last_db
+kept_opened entries found is =
     let replay : Replay = replayed entries nothing_replayed in
-    let last_txn : ℕ = greatest txn_in entries in
-    let last_db : ℕ = greatest db_in entries in
-    let meaning : Meaning = record { store = store_of replay.rows; last_txn = last_txn; last_db = last_db } in
-    let outer = if_some (is_whole bytes && is_log entries) (meaning_of_entries entries) m means in
-    let log = and_parts (is_whole bytes) (is_log entries) outer.0 in
-    let inner = cond_some (is_environment replay.rows) meaning m outer.1 in
-    let within : IsReplayWithin last_txn last_db replay =
-    within-replayed last_txn last_db entries nothing_replayed (at_most_greatest txn_in entries) (at_most_greatest db_in entries)
+    let rows : Rows = rows_in found.rows in
+    let last_txn : greatest txn_in entries ≡ found.last_txn = ap (λ (m : Meaning). m.last_txn) is.meaning in
+    let last_db : greatest db_in entries ≡ found.last_db = ap (λ (m : Meaning). m.last_db) is.meaning in
+    let within : IsReplayWithin (greatest txn_in entries) (greatest db_in entries) replay =
+    within-replayed (greatest txn_in entries) (greatest db_in entries) entries nothing_replayed (at_most_greatest txn_in entries) (at_most_greatest db_in entries)
     (record { pending = tt; rows = record { unused = λ db h. refl; numbers = tt } }) in
-    subst (λ (x : Meaning). IsKept bytes rows x.last_txn x.last_db) inner.1 (record {
-      whole = log.0;
-      log = log.1;
-      same = λ db. sym (same db);
-      environment = is_environment-same rows replay.rows same ∙ inner.0;
-      rising = rising;
-      pending = all_weaker (IsWithin last_txn last_db) (IsOfBefore last_txn last_db) (λ c h. record { txn = h.txn; db = h.db }) replay.pending within.pending;
-      unused = λ db above. same db ∙ within.rows.unused db above;
-      numbers = all_to_map number_of_row (λ n. n ≤ last_db) (rows 0)
-          (subst (λ l. AllByRecursion (λ (r : Row). number_in r.1 ≤ last_db) l) (sym (same 0)) within.rows.numbers);
-    })
+    subst (λ (t : ℕ). IsKept entries rows t found.last_db) last_txn
+    (subst (λ (d : ℕ). IsKept entries rows (greatest txn_in entries) d) last_db (record {
+      same = λ db. sym (is.rows db);
+      environment = is_environment-same rows replay.rows is.rows ∙ none_is_environment replay.rows is.none;
+      rising = is.rising;
+      pending = all_weaker (IsWithin (greatest txn_in entries) (greatest db_in entries)) (IsOfBefore (greatest txn_in entries) (greatest db_in entries))
+          (λ c h. record { txn = h.txn; db = h.db }) replay.pending within.pending;
+      unused = λ db above. is.rows db ∙ within.rows.unused db above;
+      numbers = all_to_map number_of_row (λ n. n ≤ greatest db_in entries) (rows 0)
+          (subst (λ l. AllByRecursion (λ (r : Row). number_in r.1 ≤ greatest db_in entries) l) (sym (is.rows 0)) within.rows.numbers);
+    }))
 
--- a log that is kept has a meaning, and its store is that of the records
-pub kept_means : (bytes : List ℕ) (rows : Rows) (last_txn last_db : ℕ) → IsKept bytes rows last_txn last_db →
-    (m : Meaning) × (meaning_of bytes ≡ Some m) × (m.store ≡ store_of rows)
-kept_means bytes rows last_txn last_db kept =
-    let entries : List Entry = run_of bytes in
-    let replay : Replay = replayed entries nothing_replayed in
-    let meaning : Meaning = record { store = store_of replay.rows; last_txn = greatest txn_in entries; last_db = greatest db_in entries } in
-    let nothing : Option Meaning = None in
-    let environment : is_environment replay.rows ≡ true = is_environment-same replay.rows rows kept.same ∙ kept.environment in (
-      meaning,
-      cond-true (is_whole bytes && is_log entries) (meaning_of_entries entries) nothing (and_from (is_whole bytes) (is_log entries) kept.whole kept.log)
-          ∙ cond-true (is_environment replay.rows) (Some meaning) nothing environment,
-      store_of-same replay.rows rows kept.same,
-    )
+-- a log that is kept has a meaning
+pub kept_judged : (log : Log) (rows : Rows) (last_txn last_db : ℕ) → IsKept (entries_of log) rows last_txn last_db → judged log ≡ Ok (meaning_of (entries_of log))
+kept_judged log rows last_txn last_db kept =
+    let replay : Replay = replayed (entries_of log) nothing_replayed in
+    ap (judged_by log) (environment_is_none replay.rows (is_environment-same replay.rows rows kept.same ∙ kept.environment))
+
+-- and its store is that of the records
+pub kept_store : (entries : List Entry) (rows : Rows) (last_txn last_db : ℕ) → IsKept entries rows last_txn last_db → (meaning_of entries).store ≡ store_of rows
+kept_store entries rows last_txn last_db kept = store_of-same (replayed entries nothing_replayed).rows rows kept.same
 
 -- a transaction that logs nothing only draws its number
-pub kept_later : (bytes : List ℕ) (rows : Rows) (last_txn txn last_db : ℕ) → IsKept bytes rows last_txn last_db → last_txn ≤ txn → IsKept bytes rows txn last_db
-kept_later bytes rows last_txn txn last_db kept later = record {
-  whole = kept.whole;
-  log = kept.log;
+pub kept_later : (entries : List Entry) (rows : Rows) (last_txn txn last_db : ℕ) → IsKept entries rows last_txn last_db → last_txn ≤ txn → IsKept entries rows txn last_db
+kept_later entries rows last_txn txn last_db kept later = record {
   same = kept.same;
   environment = kept.environment;
   rising = kept.rising;
   pending = all_weaker (IsOfBefore last_txn last_db) (IsOfBefore txn last_db)
-      (λ c h. record { txn = let before : c.txn ≤ last_txn = h.txn in omega arith; db = h.db }) (replayed (run_of bytes) nothing_replayed).pending kept.pending;
+      (λ c h. record { txn = let before : c.txn ≤ last_txn = h.txn in omega arith; db = h.db }) (replayed entries nothing_replayed).pending kept.pending;
   unused = kept.unused;
   numbers = kept.numbers;
 }

@@ -1,9 +1,8 @@
 -- What an environment keeps of its log while it runs: the records in memory, and the numbers drawn last.
-use Rattle.std.specs.Prelude.{ℕ, ◌≡◌, ◌≤◌, ◌<◌, ◌^◌, ◌+◌, ◌++◌, [], List, None, Some, true, IsTrue, length}
+use Rattle.std.specs.Prelude.{ℕ, ◌≡◌, ◌≤◌, ◌<◌, ◌^◌, ◌+◌, ◌++◌, ◌∷◌, [], List, None, Some, true, IsTrue, length}
 use Rattle.std.specs.List.{AllByRecursion}
-use Rattle.log_entry.specs.declared.entry.Entry.TheVariants.{FileHeader, Commit}
-use Rattle.log_entry.specs.Spelling.{spelling}
-use Rattle.log_entry.specs.Run.{run_of, last_offset_of}
+use Rattle.log_entry.specs.declared.entry.Entry.{Entry}
+use Rattle.log_entry.specs.declared.entry.Entry.TheVariants.{Commit}
 use Rattle.je_order.specs.Words.{is_word}
 use Rattle.je_model.specs.declared.change.Change.{Change}
 use Rattle.je_model.specs.declared.change.Change.TheVariants.{Set, Unset, Make}
@@ -12,7 +11,6 @@ use Rattle.je_model.specs.Evaluation.{plain_name}
 use Rattle.db_catalog.specs.Catalog.{record_bytes}
 use Rattle.log_replay.specs.Rows.{Rows, RowChange, data_at, number_in, numbers_of, is_environment, IsRising}
 use Rattle.log_replay.specs.Replay.{replayed, nothing_replayed}
-use Rattle.log_replay.specs.Meaning.{is_whole, is_log}
 use Rattle.log_replay.specs.Logging.{entry_of, kind_in_catalog}
 
 -- a pending change whose transaction and database numbers are at most these
@@ -20,20 +18,14 @@ pub record IsOfBefore (last_txn last_db : ℕ) (change : RowChange) : Type 0 whe
   pub txn : change.txn ≤ last_txn
   pub db : change.db ≤ last_db
 
--- the records are what replaying the log's bytes leaves, and no later number than these was drawn
-pub record IsKept (bytes : List ℕ) (rows : Rows) (last_txn last_db : ℕ) : Type 0 where
-  pub whole : is_whole bytes ≡ true
-  pub log : is_log (run_of bytes) ≡ true
-  pub same : (db : ℕ) → (replayed (run_of bytes) nothing_replayed).rows db ≡ rows db
+-- the records are what replaying the log's entries leaves, and no later number than these was drawn
+pub record IsKept (entries : List Entry) (rows : Rows) (last_txn last_db : ℕ) : Type 0 where
+  pub same : (db : ℕ) → (replayed entries nothing_replayed).rows db ≡ rows db
   pub environment : is_environment rows ≡ true
   pub rising : (db : ℕ) → IsRising (rows db)
-  pub pending : AllByRecursion (IsOfBefore last_txn last_db) (replayed (run_of bytes) nothing_replayed).pending
+  pub pending : AllByRecursion (IsOfBefore last_txn last_db) (replayed entries nothing_replayed).pending
   pub unused : (db : ℕ) → last_db < db → rows db ≡ []
   pub numbers : AllByRecursion (λ n. n ≤ last_db) (numbers_of rows)
-
--- the header of file 0
-abbrev pub header_bytes : List ℕ
-header_bytes = spelling (FileHeader 1 0) 0
 
 -- a change of records that logs a change of the store, by a transaction, in the database of that number
 abbrev pub row_change_of : ℕ → ℕ → Change → RowChange
@@ -60,7 +52,6 @@ last_db_after last_db number (Set db at value) = last_db
 last_db_after last_db number (Unset db at) = last_db
 last_db_after last_db number (Make db kind) = number
 
--- the bytes of a log after a transaction with one change was logged in it
-abbrev pub log_with : List ℕ → ℕ → ℕ → Change → List ℕ
-log_with bytes txn number change =
-    bytes ++ spelling (entry_of txn number change) (last_offset_of bytes) ++ spelling (Commit (record { 0 = txn })) (length bytes)
+-- the entries of a log after a transaction with one change was logged in it
+abbrev pub entries_with : List Entry → ℕ → ℕ → Change → List Entry
+entries_with entries txn number change = entries ++ entry_of txn number change ∷ Commit (record { 0 = txn }) ∷ []

@@ -5,4 +5,9 @@ pub mod Logging
 pub mod Kept
 pub mod Pending
 pub mod Opening
+pub mod Wrong
+pub mod Reading
 pub mod UnderWay
+pub mod Answer
+pub mod Laws
+pub mod Heads

@@ -1,67 +1,93 @@
--- A replay of a file that is under way, told by what it will come to.
-use Rattle.std.specs.Prelude.{ℕ, ◌≡◌, ◌≤◌, ◌+◌, ◌==◌, ◌&&◌, List, Bool, true, false, not, max, length, drop}
-use Rattle.std.specs.List.{list_any}
+-- A replay that is under way, and a reading of files that is.
+use Rattle.std.specs.Prelude.{ℕ, ◌≡◌, ◌∷◌, ◌++◌, [], List, Option, None, Some, Bool, true, map, length}
+use Rattle.std.specs.List.{AllByRecursion}
+use Rattle.je_bytes.specs.Reading.{AreBytes}
+use Rattle.je_disk.specs.States.{Files, content}
+use Rattle.je_lsn.specs.declared.file_no.FileNo.{FileNo}
 use Rattle.log_entry.specs.declared.entry.Entry.{Entry}
-use Rattle.log_entry.specs.Run.{Run, run_from, run_on, run_of, last_offset_of}
+use Rattle.log_file.specs.declared.found.Found.TheVariants.{Run}
+use Rattle.log_file.specs.Scan.{found_in}
+use Rattle.log_file.specs.Log.{entries_of, entries_found, log_in}
+use Rattle.log_replay.specs.declared.finding.Finding.{Finding}
 use Rattle.log_replay.specs.declared.replaying.Replaying.{Replaying}
-use Rattle.log_replay.specs.Rows.{rows_in}
-use Rattle.log_replay.specs.Replay.{Replay, replayed, nothing_replayed, txn_in, db_in, greatest}
-use Rattle.log_replay.specs.Meaning.{is_header, is_first_header, is_log, is_whole}
+use Rattle.log_replay.specs.declared.last_file.LastFile.{LastFile}
+use Rattle.log_replay.specs.declared.reading.FileRead.{FileRead}
+use Rattle.log_replay.specs.declared.reading.FileRead.TheVariants.{GoesOn, Stops}
+use Rattle.log_replay.specs.declared.reading.FilesRead.{FilesRead}
+use Rattle.log_replay.specs.declared.reading.FilesRead.TheVariants.{All as AllRead, Stopped}
+use Rattle.log_replay.specs.Replay.{replayed, nothing_replayed, txn_in, db_in, greatest}
 use Rattle.log_replay.specs.Pending.{StandsFor}
+use Rattle.log_replay.specs.Reading.{finding_at, finding_in}
 
--- what a replay comes to when a run of entries is read to its end
-pub record Ending : Type 0 where
-  pub log : Bool  -- whether the entries are those of a log
-  pub replay : Replay
-  pub last_txn : ℕ
-  pub last_db : ℕ
-  pub offset : ℕ  -- of the last entry
-  pub rest : List ℕ  -- the bytes behind the run
+-- entries were replayed, and nothing else
+pub record IsReplayOf (entries : List Entry) (going : Replaying) : Type 0 where
+  pub stands : StandsFor going.rows going.pending (replayed entries nothing_replayed)
+  pub txn : going.last_txn ≡ greatest txn_in entries
+  pub db : going.last_db ≡ greatest db_in entries
 
--- whether an entry may stand where it does: the file's header first, and no other header
-abbrev pub is_in_place : Bool → Entry → Bool
-is_in_place true entry = is_first_header entry
-is_in_place false entry = not (is_header entry)
+-- more entries were replayed behind whichever were
+abbrev pub HasTaken : List Entry → Replaying → Replaying → Type 0
+HasTaken entries old new = (before : List Entry) → IsReplayOf before old → IsReplayOf (before ++ entries) new
 
--- whether entries are those of a log, or those behind its header
-abbrev pub is_log_from : Bool → List Entry → Bool
-is_log_from true entries = is_log entries
-is_log_from false entries = not (list_any is_header entries)
+-- ---- one file
 
--- what comes of a replay and the greatest numbers so far, with a run that is still to be read
-abbrev pub ending : Bool → Replay → ℕ → ℕ → Run → Ending
-ending first replay last_txn last_db run =
-    record {
-      log = is_log_from first run.entries;
-      replay = replayed run.entries replay;
-      last_txn = max last_txn (greatest txn_in run.entries);
-      last_db = max last_db (greatest db_in run.entries);
-      offset = run.last;
-      rest = run.rest;
-    }
+-- a file of these bytes may stand where it does, and its entries were replayed
+pub record HasGoneOn (last : Bool) (f : ℕ) (bytes : List ℕ) (old new : Replaying) (file : LastFile) : Type 0 where
+  pub none : finding_at last f (length bytes) (found_in f bytes) ≡ None
+  pub found : found_in f bytes ≡ Run (record { entries = entries_found (found_in f bytes); last = file.last; end = file.end })
+  pub number : file.file ≡ record { 0 = f }
+  pub len : file.len ≡ length bytes
+  pub taken : HasTaken (entries_found (found_in f bytes)) old new
 
--- what comes of a file's bytes
-abbrev pub ending_of : List ℕ → Ending
-ending_of bytes = ending true nothing_replayed 0 0 (run_on 0 0 bytes)
+-- what was read of a file of these bytes
+abbrev pub IsReadOf : Bool → ℕ → List ℕ → Replaying → Replaying → FileRead → Type 0
+IsReadOf last f bytes old new (Stops finding) = finding_at last f (length bytes) (found_in f bytes) ≡ Some finding
+IsReadOf last f bytes old new (GoesOn file) = HasGoneOn last f bytes old new file
 
--- the entries up to the offset were read, and the others will make of it what comes of the file's bytes
-pub record IsUnderWay (bytes : List ℕ) (going : Replaying) : Type 0 where
-  pub most : ℕ
-  pub replay : Replay
-  pub within : going.at ≤ length bytes
-  pub enough : length bytes ≤ going.at + most
-  pub stands : StandsFor going.rows going.pending replay
-  pub ends :
-      ending (going.at == 0) replay going.last_txn going.last_db (run_from most going.last_offset going.at (drop going.at bytes)) ≡ ending_of bytes
+-- what was read of a file of a disk
+pub record IsFileRead (tells : Bool) (reads : Files) (last : Bool) (f : ℕ) (old new : Replaying) (read : FileRead) : Type 0 where
+  pub bytes : List ℕ
+  pub are : AreBytes bytes
+  pub told : tells ≡ true → bytes ≡ content reads f
+  pub is : IsReadOf last f bytes old new read
 
--- the bytes are whole entries, and those of a log
-abbrev pub is_whole_log : List ℕ → Bool
-is_whole_log bytes = is_whole bytes && is_log (run_of bytes)
+-- ---- several files
 
--- all entries were read, and they are those of a log
-pub record IsOver (bytes : List ℕ) (over : Replaying) : Type 0 where
-  pub whole : is_whole_log bytes ≡ true
-  pub records : (db : ℕ) → rows_in over.rows db ≡ (replayed (run_of bytes) nothing_replayed).rows db
-  pub txn : over.last_txn ≡ greatest txn_in (run_of bytes)
-  pub db : over.last_db ≡ greatest db_in (run_of bytes)
-  pub offset : over.last_offset ≡ last_offset_of bytes
+-- the last of the files: its number, its run and its length
+pub record IsLastOf (held : List (ℕ × List ℕ)) (file : LastFile) : Type 0 where
+  pub before : List (ℕ × List ℕ)
+  pub bytes : List ℕ
+  pub parts : held ≡ before ++ (file.file.0, bytes) ∷ []
+  pub found : found_in file.file.0 bytes ≡ Run (record { entries = entries_found (found_in file.file.0 bytes); last = file.last; end = file.end })
+  pub len : file.len ≡ length bytes
+
+abbrev pub IsTailOf : List (ℕ × List ℕ) → Option LastFile → Type 0
+IsTailOf held None = held ≡ []
+IsTailOf held (Some file) = IsLastOf held file
+
+-- files are those of these numbers, with the bytes that a disk reads where it tells
+pub record AreOf (tells : Bool) (reads : Files) (files : List FileNo) (held : List (ℕ × List ℕ)) : Type 0 where
+  pub numbers : map (λ file. file.0) held ≡ map (λ f. f.0) files
+  pub told : tells ≡ true → AllByRecursion (λ file. file.1 ≡ content reads file.0) held
+
+-- some of the files were read, without a finding, and these are left
+pub record IsReading (tells : Bool) (reads : Files) (files left : List FileNo) (going : Replaying) (tail : Option LastFile) : Type 0 where
+  pub done : List FileNo
+  pub parts : files ≡ done ++ left
+  pub held : List (ℕ × List ℕ)
+  pub are_of : AreOf tells reads done held
+  pub bytes : AllByRecursion (λ file. AreBytes file.1) held
+  pub none : (more : List (ℕ × List ℕ)) → length more ≡ length left → finding_in (held ++ more) ≡ finding_in more
+  pub replay : IsReplayOf (entries_of (log_in held)) going
+  pub last : IsTailOf held tail
+
+-- the files of these numbers have this finding
+pub record HaveFinding (tells : Bool) (reads : Files) (files : List FileNo) (finding : Finding) : Type 0 where
+  pub held : List (ℕ × List ℕ)
+  pub are_of : AreOf tells reads files held
+  pub found : finding_in held ≡ Some finding
+
+-- what was read of files
+abbrev pub AreRead : Bool → Files → List FileNo → FilesRead → Type 0
+AreRead tells reads files (Stopped finding) = HaveFinding tells reads files finding
+AreRead tells reads files (AllRead going tail) = IsReading tells reads files [] going tail

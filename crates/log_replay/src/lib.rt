@@ -1,18 +1,36 @@
 //! What a log without checkpoints means: the store that replaying its entries leaves, with the numbers
-//! that were drawn last. It stands on the log's entries, the catalog and the model; the program opens
-//! its files with it, and keeps the records that a replay left in memory. Upward it promises that
-//! `replay` finds the store, the numbers and the records that the definitions say, or that there are
-//! none, and that `Rows` changes its records as they say.
+//! that were drawn last, or what is wrong with its files. It stands on the files of logs, the catalog
+//! and the model; the program opens its files with it, and keeps the records that a replay left in
+//! memory. Upward it promises that `read_log` finds the store, the numbers and the records that the
+//! definitions say, or the first finding in the order of reading, and that `Rows` changes its records
+//! as they say.
 #![tactic(auto)]
 
+pub mod finding;
+pub mod last_file;
+pub mod laws;
+pub mod log_read;
 mod named;
 mod numbers;
 mod pending;
 mod pending_change;
+mod place;
+mod placing;
+pub mod reading;
 pub mod replayed;
 mod replaying;
 pub mod rows;
+pub mod sort_key;
 mod table;
 
-pub use replayed::{Replayed, new_environment, replay};
+pub use finding::Finding;
+pub use last_file::LastFile;
+pub use laws::logs_are_read;
+pub use log_read::{LogRead, ReadLog};
+pub use reading::read_log;
+pub use replayed::{Replayed, new_environment};
 pub use rows::Rows;
+pub use sort_key::SortKey;
+
+#[cfg(test)]
+mod tests;

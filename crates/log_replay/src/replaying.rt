@@ -1,36 +1,32 @@
 // A replay under way.
-ghost use Rattle.std.specs.Prelude.{◌≡◌, ℕ, ◌^◌, ◌<◌, List as Items, false, map, max, length, IfOk, OnOk, MatchOption};
-ghost use Rattle.std.specs.Bool.{MatchBool};
+ghost use Rattle.std.specs.Prelude.{◌≡◌, ℕ, List as Items, [], ◌∷◌, map, max, OnOk};
+ghost use Rattle.log_entry.specs.declared.entry.Entry.{Entry as AnyEntry};
 ghost use Rattle.log_replay.specs.Rows.{rows_in, row_changed, rows_changed};
 ghost use Rattle.log_replay.specs.Replay.{Replay, replayed_entry, txn_in, db_in};
 ghost use Rattle.log_replay.specs.Pending.{as_change, StandsFor};
-ghost use Rattle.log_replay.specs.UnderWay.{is_in_place, is_whole_log, IsUnderWay, IsOver};
+ghost use Rattle.log_replay.specs.UnderWay.{IsReplayOf, HasTaken};
 
 use crate::numbers::number_of;
 use crate::pending::Pending;
 use crate::pending_change::PendingChange;
 use crate::rows::Rows;
+use crate::sort_key::SortKey;
 use je_order::List;
-use log_entry::{Decoded, Entry, decode_at};
+use log_entry::Entry;
 use std::alloc::{AllocError, Global};
 
-/// What a replay of a file has when some of its entries are read.
+/// What a replay of entries has so far.
 #[derive(Drop)]
 pub(crate) struct Replaying {
-    /// The records so far.
+    /// The records.
     pub(crate) rows: Rows,
     /// The changes that wait for their transactions' commits.
     pub(crate) pending: Pending,
-    /// The greatest transaction number so far, 0 where there was none.
+    /// The greatest transaction number, 0 where there was none.
     pub(crate) last_txn: u64,
-    /// The greatest database number so far, 0 where there was none.
+    /// The greatest database number, 0 where there was none.
     pub(crate) last_db: u32,
-    /// The offset of the next entry.
-    pub(crate) at: usize,
-    /// The offset of the last entry, 0 where there was none.
-    pub(crate) last_offset: u32,
 }
-
 // Makes the change of one record.
 fn change_row(rows: &mut Rows, alloc: Global, change: PendingChange) -> Result<(), AllocError>
     ensures { OnOk result ((txn d : ℕ) → rows_in rows.new d ≡ row_changed (as_change txn change) (rows_in rows.old) d) }
@@ -39,7 +35,7 @@ fn change_row(rows: &mut Rows, alloc: Global, change: PendingChange) -> Result<(
     match value {
         Some(value) => rows.set(alloc, db, name, value),
         None => {
-            rows.unset(db, &name);
+            rows.unset(db, &SortKey::new(name));
             Ok(())
         }
     }
@@ -125,70 +121,36 @@ fn take_entry(
     }
 }
 
-// Whether an entry may stand where it does: first the file's header, and behind it no other header.
-fn may_stand(entry: &Entry, first: bool) -> bool
-    ensures { result ≡ is_in_place first entry.now }
-{
-    match entry {
-        Entry::FileHeader { version, file } => first && *version == 1 && *file == 0,
-        _ => !first,
-    }
-}
-
 impl Replaying {
     /// A replay that begins. It takes no memory.
     pub(crate) fn new(alloc: Global) -> Replaying
-        ensures { (bytes : Items ℕ) → IsUnderWay bytes result }
+        ensures { IsReplayOf [] result }
     {
         Replaying {
             rows: Rows::new(alloc),
             pending: Pending::new(alloc),
             last_txn: 0,
             last_db: 0,
-            at: 0,
-            last_offset: 0,
         }
     }
 
-    /// Reads the next entry of the file's bytes, in the time of this entry alone: false where there
-    /// is none that a log may have there.
-    pub(crate) fn step(&mut self, alloc: Global, bytes: &[u8]) -> Result<bool, AllocError>
-        requires more { self.old.at < length bytes.now }
-        requires small { length bytes.now < 2 ^ 32 }
-        ensures { IsUnderWay bytes.now self.old → IfOk result (λ more. MatchBool more (IsUnderWay bytes.now self.new × (self.old.at < self.new.at)) (is_whole_log bytes.now ≡ false)) }
+    /// Takes the next entry, in the time of this entry alone, and a commit in that of the changes that
+    /// waited for it.
+    fn take(&mut self, alloc: Global, entry: Entry) -> Result<(), AllocError>
+        ensures { OnOk result (HasTaken (entry ∷ []) self.old self.new) }
     {
-        let Decoded::Whole { entry, prev, len } = decode_at(alloc, bytes, self.at)? else {
-            return Ok(false);
-        };
-        if prev != self.last_offset {
-            return Ok(false);
-        }
-        if !may_stand(&entry, self.at == 0) {
-            return Ok(false);
-        }
         self.last_txn = self.last_txn.max(txn_number(&entry));
         self.last_db = self.last_db.max(db_number(&entry));
-        self.last_offset = self.at as u32;
-        self.at += len;
-        take_entry(&mut self.rows, &mut self.pending, alloc, entry)?;
-        Ok(true)
+        take_entry(&mut self.rows, &mut self.pending, alloc, entry)
     }
-}
 
-/// The replay of all entries of a file, and None where its bytes are not whole entries to their end or
-/// are not those of a log.
-pub(crate) fn replay_entries(alloc: Global, bytes: &[u8]) -> Result<Option<Replaying>, AllocError>
-    requires { length bytes.now < 2 ^ 32 }
-    ensures { IfOk result (λ found. MatchOption found (is_whole_log bytes.now ≡ false) (IsOver bytes.now)) }
-{
-    let mut replaying = Replaying::new(alloc);
-    while replaying.at < bytes.len() {
-        if !replaying.step(alloc, bytes)? {
-            return Ok(None);
+    /// Takes the next entries, in order.
+    pub(crate) fn take_all(&mut self, alloc: Global, entries: List<Entry>) -> Result<(), AllocError>
+        ensures { OnOk result (HasTaken entries self.old self.new) }
+    {
+        for entry in entries.into_vec() {
+            self.take(alloc, entry)?;
         }
+        Ok(())
     }
-    if bytes.is_empty() {
-        return Ok(None);
-    }
-    Ok(Some(replaying))
 }

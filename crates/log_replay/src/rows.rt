@@ -1,14 +1,16 @@
 // The records of an environment.
-ghost use Rattle.std.specs.Prelude.{◌≡◌, ℕ, [], length, Option, None, Some, IfOk, OnOk, OnErr, option_copied, map, if◌then◌else◌};
+ghost use Rattle.std.specs.Prelude.{◌≡◌, true, ℕ, [], length, Option, None, Some, IfOk, OnOk, OnErr, option_copied, map, filter, not};
 ghost use Rattle.std.specs.List.{list_all};
-ghost use Rattle.log_replay.specs.Rows.{IsRising, RowChange, rows_in, row_changed, data_at, are_plain, pair_of, is_environment, store_of};
-ghost use Rattle.log_replay.specs.Opening.{catalog_of, database_named, are_right};
+ghost use Rattle.log_replay.specs.Rows.{IsRising, RowChange, rows_in, row_changed, data_at, are_plain, pair_of, is_catalog_row, numbers_of, store_of};
+ghost use Rattle.log_replay.specs.Wrong.{least, lesser as lesser_of, wrong_in_catalog, wrong_in_plain, wrong_under, wrong_database, wrong_record};
+ghost use Rattle.log_replay.specs.Opening.{named_by, database_named};
 
 use crate::named::Named;
-use crate::numbers::have_distinct_numbers;
+use crate::place::Place;
+use crate::sort_key::SortKey;
 use crate::table::Table;
-use je_model::{Database, Kind, MOST_DATABASES, Store};
-use je_order::{List, Name, Octets};
+use je_model::{Database, Kind, Store};
+use je_order::{List, Name, Octets, copy_of};
 use std::alloc::{AllocError, Global};
 use std::collections::BTreeMap;
 use std::marker::Model;
@@ -35,6 +37,16 @@ impl Model for Rows {
     ghost invariant = { λ a. (d : ℕ) → IsRising (rows_in a.databases.entries d) };
 }
 
+// The lesser of a number and another one, if there is one.
+fn lesser(number: u32, other: Option<u32>) -> u32
+    ensures { Some result ≡ lesser_of number other }
+{
+    match other {
+        Some(other) => number.min(other),
+        None => number,
+    }
+}
+
 impl Rows {
     /// No records. It takes no memory.
     pub fn new(alloc: Global) -> Rows
@@ -47,7 +59,7 @@ impl Rows {
     }
 
     /// The data of the name in the database of that number, and None where there is no such record.
-    pub fn get(&self, db: u32, name: &Name) -> Option<&Octets>
+    pub fn get(&self, db: u32, name: &SortKey) -> Option<&Octets>
         ensures value { option_copied result ≡ data_at name.now (rows_in self.now db) }
         ensures rising { (d : ℕ) → IsRising (rows_in self.now d) }
     {
@@ -93,7 +105,7 @@ impl Rows {
     }
 
     /// Takes the name out of the database of that number, where it is there. It takes no memory.
-    pub fn unset(&mut self, db: u32, name: &Name)
+    pub fn unset(&mut self, db: u32, name: &SortKey)
         ensures value { (d : ℕ) → rows_in self.new d ≡ row_changed (record { txn = 0; db = db; name = name.now; value = None }) (rows_in self.old) d }
         ensures rising { (d : ℕ) → IsRising (rows_in self.new d) }
     {
@@ -103,13 +115,14 @@ impl Rows {
         table.unset(name);
     }
 
-    /// The databases that the catalog names, in order, and None where one of its records is not right.
-    fn catalog(&self, alloc: Global) -> Result<Option<List<Named>>, AllocError>
-        ensures { IfOk result (λ catalog. catalog ≡ catalog_of (rows_in self.now 0)) }
+    /// The databases that the catalog names, where it is right, in order.
+    fn catalog(&self, alloc: Global) -> Result<List<Named>, AllocError>
+        requires { list_all is_catalog_row (rows_in self.now 0) ≡ true }
+        ensures { IfOk result (λ catalog. catalog ≡ map named_by (rows_in self.now 0)) }
     {
         match self.databases.get(&CATALOG) {
             Some(table) => table.catalog(alloc),
-            None => Ok(Some(List::new(alloc))),
+            None => Ok(List::new(alloc)),
         }
     }
 
@@ -123,27 +136,74 @@ impl Rows {
         }
     }
 
-    /// Whether this is so of each of these databases.
-    fn are_plain(&self, databases: &[Named]) -> bool
-        ensures { result ≡ list_all (λ n. are_plain (rows_in self.now n)) (map (λ d. d.number) databases.now) }
+    /// The numbers in the catalog's records, in order.
+    fn numbers(&self, alloc: Global) -> Result<List<u32>, AllocError>
+        ensures { IfOk result (λ numbers. numbers ≡ numbers_of (rows_in self.now)) }
     {
-        for database in databases {
-            if !self.is_plain(database.number) {
-                return false;
-            }
+        match self.databases.get(&CATALOG) {
+            Some(table) => table.numbers(alloc),
+            None => Ok(List::new(alloc)),
         }
-        true
     }
 
-    /// Whether these databases, which the catalog names, are right together: there are no more than
-    /// there may be, each has a number of its own, and each has records that are right.
-    fn is_right(&self, alloc: Global, databases: &[Named]) -> Result<bool, AllocError>
-        ensures { IfOk result (λ right. right ≡ are_right (rows_in self.now) databases.now) }
+    /// The least of these databases that has a record that is wrong in a plain one.
+    fn least_wrong(&self, numbers: &[u32]) -> Option<u32>
+        ensures { result ≡ least (filter (λ n. not (are_plain (rows_in self.now n))) numbers.now) }
     {
-        if databases.len() > MOST_DATABASES as usize || !self.are_plain(databases) {
-            return Ok(false);
+        let mut found = None;
+        for number in numbers {
+            if !self.is_plain(*number) {
+                found = Some(lesser(*number, found));
+            }
         }
-        have_distinct_numbers(alloc, databases)
+        found
+    }
+
+    /// The name of the first record that is wrong in the catalog.
+    fn wrong_in_catalog(&self, alloc: Global) -> Result<Option<Name>, AllocError>
+        ensures { IfOk result (λ wrong. wrong ≡ wrong_in_catalog [] (rows_in self.now 0)) }
+    {
+        match self.databases.get(&CATALOG) {
+            Some(table) => table.wrong_in_catalog(alloc),
+            None => Ok(None),
+        }
+    }
+
+    /// The name of the first record of the database that is wrong in a plain one.
+    fn wrong_in_plain(&self, db: u32) -> Option<&Name>
+        ensures { option_copied result ≡ wrong_in_plain (rows_in self.now db) }
+    {
+        match self.databases.get(&db) {
+            Some(table) => table.wrong_in_plain(),
+            None => None,
+        }
+    }
+
+    /// The place of the first record of the databases that is wrong, where the catalog is right.
+    fn wrong_in_databases(&self, alloc: Global) -> Result<Option<Place>, AllocError>
+        ensures { IfOk result (λ wrong. wrong ≡ wrong_under (rows_in self.now) (wrong_database (rows_in self.now))) }
+    {
+        let numbers = self.numbers(alloc)?;
+        let Some(db) = self.least_wrong(numbers.as_slice()) else {
+            return Ok(None);
+        };
+        let Some(name) = self.wrong_in_plain(db) else {
+            return Ok(None);
+        };
+        Ok(Some(Place {
+            db,
+            name: copy_of(name)?,
+        }))
+    }
+
+    /// The place of the first record that breaks a rule of environments.
+    pub(crate) fn wrong_record(&self, alloc: Global) -> Result<Option<Place>, AllocError>
+        ensures { IfOk result (λ wrong. wrong ≡ wrong_record (rows_in self.now)) }
+    {
+        match self.wrong_in_catalog(alloc)? {
+            Some(name) => Ok(Some(Place { db: CATALOG, name })),
+            None => self.wrong_in_databases(alloc),
+        }
     }
 
     /// Copies of the keys and data of a database, in order.
@@ -176,18 +236,13 @@ impl Rows {
         Ok(List::from_vec(databases))
     }
 
-    /// The store that the records make, of copies of them, and None where they are not those of an
-    /// environment.
-    pub(crate) fn store(&self, alloc: Global) -> Result<Option<Store>, AllocError>
-        ensures { IfOk result (λ store. store ≡ (if is_environment (rows_in self.now) then Some (store_of (rows_in self.now)) else None)) }
+    /// The store that the records make, of copies of them, where the catalog's records are right.
+    pub(crate) fn store(&self, alloc: Global) -> Result<Store, AllocError>
+        requires { list_all is_catalog_row (rows_in self.now 0) ≡ true }
+        ensures { IfOk result (λ store. store ≡ store_of (rows_in self.now)) }
     {
-        let Some(catalog) = self.catalog(alloc)? else {
-            return Ok(None);
-        };
-        if !self.is_right(alloc, catalog.as_slice())? {
-            return Ok(None);
-        }
+        let catalog = self.catalog(alloc)?;
         let databases = self.databases_named(alloc, catalog)?;
-        Ok(Some(Store { databases }))
+        Ok(Store { databases })
     }
 }

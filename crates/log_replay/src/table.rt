@@ -1,10 +1,14 @@
 // The records of one database.
-ghost use Rattle.std.specs.Prelude.{◌≡◌, [], length, Option, None, Some, IfOk, OnOk, OnErr, option_copied, map};
-ghost use Rattle.log_replay.specs.Rows.{IsRising, rows_with, data_at, are_plain, pair_of};
-ghost use Rattle.log_replay.specs.Opening.{catalog_of};
+ghost use Rattle.std.specs.Prelude.{◌≡◌, true, ℕ, List as Items, [], length, Option, None, Some, IfOk, OnOk, OnErr, option_copied, map};
+ghost use Rattle.log_replay.specs.Rows.{IsRising, rows_with, data_at, are_plain, pair_of, is_catalog_row, number_in};
+ghost use Rattle.log_replay.specs.Wrong.{is_right_behind, wrong_in_catalog as wrong_in_catalog_rows, wrong_in_plain as wrong_in_plain_rows};
+ghost use Rattle.log_replay.specs.Opening.{named_by};
+ghost use Rattle.std.specs.List.{list_all};
 
 use crate::named::Named;
 use crate::numbers::number_of;
+use crate::sort_key::SortKey;
+use je_model::MOST_DATABASES;
 use je_order::{List, Name, Octets, Word};
 use std::alloc::{AllocError, Global};
 use std::collections::BTreeMap;
@@ -13,7 +17,7 @@ use std::marker::Model;
 /// The records of one database in name order, seen as the list of their names and data.
 #[derive(Drop)]
 pub(crate) struct Table {
-    records: BTreeMap<Name, Octets>,
+    records: BTreeMap<SortKey, Octets>,
 }
 
 impl Model for Table {
@@ -25,6 +29,18 @@ impl Model for Table {
     ghost view = { λ a. a.records.entries };
 
     ghost invariant = { λ a. IsRising a.records.entries };
+}
+
+// Whether a catalog record of this name and number is right behind records of other numbers. There are
+// at most as many of these as there may be databases.
+fn is_right(name: &Name, number: u32, before: &[u32]) -> bool
+    ensures { (data_ : Items ℕ) → number_in data_ ≡ number → result ≡ is_right_behind before.now (name.now, data_) }
+{
+    Word::is_word(name.key.as_slice())
+        && name.dup.is_empty()
+        && number != 0
+        && !before.contains(&number)
+        && before.len() < MOST_DATABASES as usize
 }
 
 impl Table {
@@ -45,7 +61,7 @@ impl Table {
     }
 
     /// The data of the name, and None where there is no such record.
-    pub(crate) fn get(&self, name: &Name) -> Option<&Octets>
+    pub(crate) fn get(&self, name: &SortKey) -> Option<&Octets>
         ensures { option_copied result ≡ data_at name.now self.now }
     {
         self.records.get(name)
@@ -57,12 +73,12 @@ impl Table {
         ensures err { OnErr result (self.new ≡ self.old) }
         ensures rising { IsRising self.new }
     {
-        self.records.insert(name, value)?;
+        self.records.insert(SortKey::new(name), value)?;
         Ok(())
     }
 
     /// Takes the name out, where it is there. It takes no memory.
-    pub(crate) fn unset(&mut self, name: &Name)
+    pub(crate) fn unset(&mut self, name: &SortKey)
         ensures value { self.new ≡ rows_with name.now None self.old }
         ensures rising { IsRising self.new }
     {
@@ -73,12 +89,52 @@ impl Table {
     pub(crate) fn is_plain(&self) -> bool
         ensures { result ≡ are_plain self.now }
     {
-        for (name, _data) in &self.records {
-            if !name.dup.is_empty() {
+        for (key, _data) in &self.records {
+            if !key.name().dup.is_empty() {
                 return false;
             }
         }
         true
+    }
+
+    /// The name of the first record that is wrong in a catalog, behind which no other is looked at.
+    pub(crate) fn wrong_in_catalog(&self, alloc: Global) -> Result<Option<Name>, AllocError>
+        ensures { IfOk result (λ wrong. wrong ≡ wrong_in_catalog_rows [] self.now) }
+    {
+        let mut before = Vec::new(alloc);
+        for (key, data) in &self.records {
+            let name = key.name();
+            let number = number_of(data.as_slice());
+            if !is_right(name, number, &before) {
+                return Ok(Some(name.clone()?));
+            }
+            before.push(number)?;
+        }
+        Ok(None)
+    }
+
+    /// The name of the first record that is wrong in a plain database.
+    pub(crate) fn wrong_in_plain(&self) -> Option<&Name>
+        ensures { option_copied result ≡ wrong_in_plain_rows self.now }
+    {
+        for (key, _data) in &self.records {
+            let name = key.name();
+            if !name.dup.is_empty() {
+                return Some(name);
+            }
+        }
+        None
+    }
+
+    /// The numbers in the records of a catalog, in order.
+    pub(crate) fn numbers(&self, alloc: Global) -> Result<List<u32>, AllocError>
+        ensures { IfOk result (λ numbers. numbers ≡ map (λ r. number_in r.1) self.now) }
+    {
+        let mut numbers = Vec::new(alloc);
+        for (_key, data) in &self.records {
+            numbers.push(number_of(data.as_slice()))?;
+        }
+        Ok(List::from_vec(numbers))
     }
 
     /// Copies of the keys and data, in order.
@@ -86,29 +142,25 @@ impl Table {
         ensures { IfOk result (λ pairs. pairs ≡ map pair_of self.now) }
     {
         let mut pairs = Vec::new(alloc);
-        for (name, data) in &self.records {
+        for (key, data) in &self.records {
+            let name = key.name();
             pairs.push((name.key.clone()?, data.clone()?))?;
         }
         Ok(List::from_vec(pairs))
     }
 
-    /// The databases that the records name as those of a catalog, in order, and None where one of the
-    /// records is not right.
-    pub(crate) fn catalog(&self, alloc: Global) -> Result<Option<List<Named>>, AllocError>
-        ensures { IfOk result (λ catalog. catalog ≡ catalog_of self.now) }
+    /// The databases that the records name, which are those of a right catalog, in order.
+    pub(crate) fn catalog(&self, alloc: Global) -> Result<List<Named>, AllocError>
+        requires { list_all is_catalog_row self.now ≡ true }
+        ensures { IfOk result (λ catalog. catalog ≡ map named_by self.now) }
     {
         let mut catalog = Vec::new(alloc);
-        for (name, data) in &self.records {
-            let key = name.key.as_slice();
-            let number = number_of(data.as_slice());
-            if !Word::is_word(key) || !name.dup.is_empty() || number == 0 {
-                return Ok(None);
-            }
+        for (key, data) in &self.records {
             catalog.push(Named {
-                name: Word::from_slice(alloc, key)?,
-                number,
+                name: Word::from_slice(alloc, key.name().key.as_slice())?,
+                number: number_of(data.as_slice()),
             })?;
         }
-        Ok(Some(List::from_vec(catalog)))
+        Ok(List::from_vec(catalog))
     }
 }

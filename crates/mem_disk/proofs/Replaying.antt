@@ -16,6 +16,7 @@ use Rattle.std.proofs.lemmas.Map.Views.{btree_map_contains_key_iff}
 use Rattle.std.proofs.lemmas.Map.Lookups.{exact_unsigned}
 use Rattle.je_disk.specs.States.{IsRising, IsListing, State, Files, nothing, put_at, content, created, created_by, appended, appended_by, synced}
 use Rattle.je_disk.specs.Moments.{now, Passes}
+use Rattle.je_disk.proofs.Effects.{put_at-same}
 use Rattle.mem_disk.specs.declared.change.Change.{Change}
 use Rattle.mem_disk.specs.declared.change.Change.TheVariants.{Append, Sync}
 use Rattle.std.proofs.Common.{get_or, drop-cons, add-one, suc, is_some, nat_eq, ◌||◌, cond}
@@ -71,10 +72,6 @@ appended-reads f g bytes given s is =
     by_file None is = rw is refl
     by_file (Some b) is = rw is refl
 
--- what is put where it was already changes nothing
-put_at-same : {T : Type 0} (values : ℕ → T) (f g : ℕ) (x : T) → values f ≡ x → put_at values f x g ≡ values g
-put_at-same values f g x is = grind (arith, nat_tests)
-
 -- a file's bytes after an empty one was made where there was none
 pub created-reads : (f g : ℕ) (s : State) → (created f s).reads g ≡ put_at s.reads f (Some (content s.reads f ++ [])) g
 created-reads f g s = by_file (s.reads f) refl where
@@ -99,12 +96,22 @@ written_agrees (Ok _) old new before after f bytes change grown is _ _ agrees do
 written_agrees (Err _) old new before after f bytes change _ _ same is agrees does g =
     same g ∙ agrees g ∙ ap (λ (cs : List Change). (replay cs).reads g) (sym is)
 
--- files that a record of changes makes, after a sync
-pub synced_agrees : (ok : Bool) (files : Files) (before after : List Change) → after ≡ (if ok then before ++ Sync ∷ [] else before) →
-    ((g : ℕ) → files g ≡ (replay before).reads g) → (g : ℕ) → files g ≡ (replay after).reads g
-synced_agrees true files before after is agrees g =
-    agrees g ∙ ap (λ (s : State). s.reads g) (sym (replay-push before Sync)) ∙ ap (λ (cs : List Change). (replay cs).reads g) (sym is)
-synced_agrees false files before after is agrees g = agrees g ∙ ap (λ (cs : List Change). (replay cs).reads g) (sym is)
+-- files that a record of changes makes, after a change that the files do not show
+pub noted_agrees : (ok : Bool) (files : Files) (before after : List Change) (change : Change) → after ≡ (if ok then before ++ change ∷ [] else before) →
+    ((g : ℕ) → files g ≡ (replay before).reads g) → ((g : ℕ) → (changed change (replay before)).reads g ≡ (replay before).reads g) → (g : ℕ) → files g ≡ (replay after).reads g
+noted_agrees true files before after change is agrees unseen g =
+    agrees g ∙ sym (unseen g) ∙ ap (λ (s : State). s.reads g) (sym (replay-push before change)) ∙ ap (λ (cs : List Change). (replay cs).reads g) (sym is)
+noted_agrees false files before after change is agrees unseen g = agrees g ∙ ap (λ (cs : List Change). (replay cs).reads g) (sym is)
+
+-- files that a record of changes makes, after a change of one file
+pub changed_agrees : (old new : Files) (before after : List Change) (change : Change) (f : ℕ) (file : Option (List ℕ) → Option (List ℕ)) → after ≡ before ++ change ∷ [] →
+    ((g : ℕ) → new g ≡ put_at old f (file (old f)) g) → ((g : ℕ) → old g ≡ (replay before).reads g) →
+    ((g : ℕ) → (changed change (replay before)).reads g ≡ put_at (replay before).reads f (file ((replay before).reads f)) g) → (g : ℕ) → new g ≡ (replay after).reads g
+changed_agrees old new before after change f file is made agrees does g =
+    made g ∙ alike ∙ sym (does g) ∙ ap (λ (s : State). s.reads g) (sym (replay-push before change)) ∙ ap (λ (cs : List Change). (replay cs).reads g) (sym is)
+  where
+    alike : put_at old f (file (old f)) g ≡ put_at (replay before).reads f (file ((replay before).reads f)) g
+    alike = rw (agrees f, agrees g) refl
 
 -- the numbers of numbered files
 numbers-back : (xs : List ℕ) → map {B = ℕ} (λ (n : FileNo). n.0) (map {B = FileNo} (λ (n : ℕ). record { 0 = n }) xs) ≡ xs

@@ -1,5 +1,5 @@
 -- What a disk in memory tells.
-use Rattle.std.specs.Prelude.{◌≡◌, ◌+◌, ◌-◌, ◌^◌, ℕ, List, Contains, min}
+use Rattle.std.specs.Prelude.{◌≡◌, ◌+◌, ◌-◌, ◌^◌, ℕ, Option, List, Contains, min}
 use Rattle.je_disk.specs.Moments.{History}
 use Rattle.mem_disk.specs.Replay.{history_of}
 use Rattle.mem_disk.specs.declared.memory.MemDisk.{MemDisk}
@@ -15,6 +15,22 @@ faults_of disk = disk.meter.faults
 -- how many calls it has counted
 abbrev pub calls_of : MemDisk → ℕ
 calls_of disk = disk.meter.made
+
+-- the number of the sync job that is out
+abbrev pub sync_of : MemDisk → Option ℕ
+sync_of disk = disk.jobs.sync
+
+-- the number of the read job that is out
+abbrev pub reading_of : MemDisk → Option ℕ
+reading_of disk = disk.jobs.reading
+
+-- the file that it reads
+abbrev pub file_of : MemDisk → ℕ
+file_of disk = disk.jobs.file.0
+
+-- the number that was drawn last for a job
+abbrev pub drawn_of : MemDisk → ℕ
+drawn_of disk = disk.jobs.drawn
 
 -- the numbers of the calls that are to fail
 abbrev pub fails_of : MemDisk → List ℕ

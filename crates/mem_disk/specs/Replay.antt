@@ -5,16 +5,20 @@ use Rattle.std.specs.Option.{option_map}
 use Rattle.std.specs.Ordering.{nat_cmp}
 use Rattle.std.specs.BTreeMap.{BTreeMap, get}
 use Rattle.je_lsn.specs.declared.file_no.FileNo.{FileNo}
-use Rattle.je_disk.specs.States.{State, Files, content, nothing, created, appended, synced}
+use Rattle.je_disk.specs.States.{State, Files, content, nothing, created, appended, cut, removed, synced, job_begun, job_ended}
 use Rattle.je_disk.specs.Moments.{History}
 use Rattle.mem_disk.specs.declared.change.Change.{Change}
-use Rattle.mem_disk.specs.declared.change.Change.TheVariants.{Create, Append, Sync}
+use Rattle.mem_disk.specs.declared.change.Change.TheVariants.{Create, Append, Cut, Remove, Sync, BeginSync, EndSync}
 
 -- the state after one change
 abbrev pub changed : Change → State → State
 changed (Create f) s = created f.0 s
 changed (Append f bytes) s = appended f.0 bytes s
+changed (Cut f len) s = cut f.0 len s
+changed (Remove f) s = removed f.0 s
 changed Sync s = synced s
+changed BeginSync s = job_begun s
+changed EndSync s = job_ended s
 
 -- the state after some changes
 abbrev pub replay_from : State → List Change → State

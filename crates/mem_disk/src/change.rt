@@ -7,5 +7,9 @@ use je_order::Octets;
 pub enum Change {
     Create(FileNo),
     Append(FileNo, Octets),
+    Cut(FileNo, u64),
+    Remove(FileNo),
     Sync,
+    BeginSync,
+    EndSync,
 }

@@ -1,5 +1,6 @@
 // The files and the record of changes.
-ghost use Rattle.std.specs.Prelude.{◌≡◌, ◌++◌, ◌∷◌, [], ℕ, Some, length, take, drop, map, min, is_some, nat_eq, OnOk, OnErr, IfOk};
+ghost use Rattle.std.specs.Prelude.{◌≡◌, ◌++◌, ◌∷◌, [], ℕ, Some, None, length, take, drop, map, min, is_some, nat_eq, OnOk, OnErr, IfOk};
+ghost use Rattle.std.specs.Option.{option_map};
 ghost use Rattle.std.specs.BTreeMap.{keys, get, IsOrdered};
 ghost use Rattle.std.specs.Ordering.{nat_cmp, eq_by_cmp};
 ghost use Rattle.std.specs.List.Sorted.{IsStrictlyIncreasing};
@@ -7,7 +8,7 @@ ghost use Rattle.std.specs.Map.{lookup};
 ghost use Rattle.std.specs.Set.{is_member};
 ghost use Rattle.mem_disk.specs.Replay.{read_at, replay, listed, held, files_at};
 ghost use Rattle.je_disk.specs.States.{content, put_at, synced, IsRising, IsListing};
-ghost use Rattle.mem_disk.specs.declared.change.Change.TheVariants.{Create as Created, Append as Appended, Sync as Synced};
+ghost use Rattle.mem_disk.specs.declared.change.Change.TheVariants.{Create as Created, Append as Appended, Cut as Shortened, Remove as Removed, Sync as Synced, BeginSync as Begun, EndSync as Ended};
 
 use crate::Change;
 use je_lsn::FileNo;
@@ -98,6 +99,20 @@ fn write(
     Ok(())
 }
 
+fn shorten(files: &mut BTreeMap<u32, Vec<u8>>, f: u32, len: u64)
+    ensures { (g : ℕ) → read_at files.new g ≡ put_at (read_at files.old) f (option_map (take len) (read_at files.old f)) g }
+{
+    if let Some(file) = files.get_mut(&f) {
+        file.truncate(len as usize);
+    }
+}
+
+fn take_away(files: &mut BTreeMap<u32, Vec<u8>>, f: u32)
+    ensures { (g : ℕ) → read_at files.new g ≡ put_at (read_at files.old) f None g }
+{
+    files.remove(&f);
+}
+
 fn copy_from(bytes: &[u8], at: u64, into: &mut [u8]) -> usize
     ensures count { result ≡ min (length into.old) (length (drop at bytes.now)) }
     ensures moved { into.new ≡ take result (drop at bytes.now) ++ drop result into.old }
@@ -167,6 +182,13 @@ impl Shelf {
         copy_from(bytes_at(&self.files, f.0), at, into)
     }
 
+    /// A copy of a file's bytes.
+    pub fn bytes(&self, alloc: Global, f: FileNo) -> Result<Vec<u8>, AllocError>
+        ensures { IfOk result (λ bytes. bytes.items ≡ content (replay self.now.changes.items).reads f.0) }
+    {
+        Vec::from_slice(alloc, bytes_at(&self.files, f.0))
+    }
+
     /// Makes an empty file where there is none. Want of memory changes nothing.
     pub fn create(&mut self, f: FileNo) -> Result<(), AllocError>
         ensures ok { OnOk result (self.new.changes.items ≡ self.old.changes.items ++ Created f ∷ []) }
@@ -200,12 +222,50 @@ impl Shelf {
         )
     }
 
+    /// Cuts a file to a length. Want of memory changes nothing.
+    pub fn cut(&mut self, f: FileNo, len: u64) -> Result<(), AllocError>
+        ensures ok { OnOk result (self.new.changes.items ≡ self.old.changes.items ++ Shortened f len ∷ []) }
+        ensures err { OnErr result (self.new.changes.items ≡ self.old.changes.items) }
+    {
+        self.changes.push(Change::Cut(f, len))?;
+        shorten(&mut self.files, f.0, len);
+        Ok(())
+    }
+
+    /// Takes a file away. Want of memory changes nothing.
+    pub fn remove(&mut self, f: FileNo) -> Result<(), AllocError>
+        ensures ok { OnOk result (self.new.changes.items ≡ self.old.changes.items ++ Removed f ∷ []) }
+        ensures err { OnErr result (self.new.changes.items ≡ self.old.changes.items) }
+    {
+        self.changes.push(Change::Remove(f))?;
+        take_away(&mut self.files, f.0);
+        Ok(())
+    }
+
     /// Notes a sync. Want of memory changes nothing.
     pub fn sync(&mut self) -> Result<(), AllocError>
         ensures ok { OnOk result (self.new.changes.items ≡ self.old.changes.items ++ Synced ∷ []) }
         ensures err { OnErr result (self.new.changes.items ≡ self.old.changes.items) }
     {
         self.changes.push(Change::Sync)?;
+        Ok(())
+    }
+
+    /// Notes the beginning of a sync job. Want of memory changes nothing.
+    pub fn begin_sync(&mut self) -> Result<(), AllocError>
+        ensures ok { OnOk result (self.new.changes.items ≡ self.old.changes.items ++ Begun ∷ []) }
+        ensures err { OnErr result (self.new.changes.items ≡ self.old.changes.items) }
+    {
+        self.changes.push(Change::BeginSync)?;
+        Ok(())
+    }
+
+    /// Notes the end of a sync job. Want of memory changes nothing.
+    pub fn end_sync(&mut self) -> Result<(), AllocError>
+        ensures ok { OnOk result (self.new.changes.items ≡ self.old.changes.items ++ Ended ∷ []) }
+        ensures err { OnErr result (self.new.changes.items ≡ self.old.changes.items) }
+    {
+        self.changes.push(Change::EndSync)?;
         Ok(())
     }
 }

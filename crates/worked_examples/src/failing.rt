@@ -27,10 +27,8 @@ fn failing_disk(rt: HostRuntime) -> Result<(), Fail> {
     let alloc = rt.alloc();
     let rows = [
         ("fault disk\n", "1 s1 nodatabase\n"),
-        // the file was made, and has no header
-        ("fault disk\n", "fault log\n"),
         (
-            "1 s1 diskfault\n2 s1 invalid\n3 s2 invalid\nend commits 0 databases 0 records 0\nfault disk\n",
+            "1 s1 diskfault\n2 s1 invalid\n3 s2 invalid\nend commits 1 databases 1 records 0\nfault disk\n",
             "1 s1 nodatabase\n",
         ),
         (
@@ -38,7 +36,7 @@ fn failing_disk(rt: HostRuntime) -> Result<(), Fail> {
             "1 s1 notfound\n",
         ),
         (
-            "1 s1 ok\n2 s1 diskfault\n3 s2 invalid\nend commits 1 databases 1 records 0\nfault disk\n",
+            "1 s1 ok\n2 s1 diskfault\n3 s2 invalid\nend commits 2 databases 1 records 1\nfault disk\n",
             "1 s1 notfound\n",
         ),
         (

@@ -1,21 +1,12 @@
 // What scripts write, and which bytes they leave.
 use crate::fixture::{
-    FIRST, FIRST_TEXT, HEADER, RUN, assert_ran, disk_with, first_disk, holds, is_bare, run_script,
+    FIRST, FIRST_LOG, FIRST_TEXT, HEADER, RUN, assert_ran, first_disk, holds, is_bare, run_script,
     run_words,
 };
 use je_io::{MemSink, MemSource};
 use mem_disk::MemDisk;
 use std::alloc::{AllocError, Global};
 use std::test::Fail;
-
-// The log that the first example leaves: the header, the database's record in the catalog with its
-// commit, and the key's record with its commit.
-const FIRST_LOG: &[u8] =
-    b"\x0c\xb3\x01\x31\x01\x00\x00\x00\x00\x00\x00\x00\x00\x0cJELG\x00\x00\x00\x01\x00\x00\x00\x00\
-\x06\x14\x00\x90\x02\x00\x00\x00\x00\x00\x00\x00\x00\x16\x00\x00\x00\x00\x00\x00\x00\x01\x00\x00\x00\x00\x00\x01t\x00\x00\x00\x00\x00\x01\x00\
-\x02\x07\x00\x29\x05\x00\x00\x00\x00\x1a\x00\x00\x00\x08\x00\x00\x00\x00\x00\x00\x00\x01\
-\x09\x13\x00\xe9\x02\x00\x00\x00\x00\x3e\x00\x00\x00\x12\x00\x00\x00\x00\x00\x00\x00\x02\x00\x00\x00\x01\x00\x01a\x00\x001\
-\x04\xfa\x00\x64\x05\x00\x00\x00\x00\x54\x00\x00\x00\x08\x00\x00\x00\x00\x00\x00\x00\x02";
 
 #[test]
 fn empty_folder(rt: HostRuntime) -> Result<(), Fail> {
@@ -51,28 +42,29 @@ fn create_put_get(rt: HostRuntime) -> Result<(), Fail> {
     Ok(())
 }
 
-// A log that was cut within an entry has no meaning, and is left as it is.
-#[test]
-fn cut_log(rt: HostRuntime) -> Result<(), Fail> {
-    let alloc = rt.alloc();
-    let (cut, _) = FIRST_LOG.split_at(137);
-    let ran = run_script(alloc, disk_with(alloc, cut)?, b"s1 get t 61\n")?;
-    assert_ran(&rt, &ran, 5, "fault log\n");
-    assert!(rt; holds(alloc, &ran.disk, cut)?);
-    Ok(())
-}
-
 // Wrong words and scripts outside the grammar: nothing is done to the disk.
 #[test]
 fn words_and_scripts(rt: HostRuntime) -> Result<(), Fail> {
     let alloc = rt.alloc();
     let right: &[&str] = &RUN;
-    let rows: [(&[&str], &[u8], u8, &str); 8] = [
+    let rows: [(&[&str], &[u8], u8, &str); 10] = [
         (&[], FIRST, 2, "fault usage\n"),
         (&["run"], FIRST, 2, "fault usage\n"),
         (&["run", "--home"], FIRST, 2, "fault usage\n"),
         (&["run", "--hom", "store"], FIRST, 2, "fault usage\n"),
         (&["run", "--home", "store", "x"], FIRST, 2, "fault usage\n"),
+        (
+            &["run", "--home", "store", "--file-max", "4095"],
+            FIRST,
+            2,
+            "fault usage\n",
+        ),
+        (
+            &["run", "--home", "store", "--file-max", "x"],
+            FIRST,
+            2,
+            "fault usage\n",
+        ),
         (right, b"s1 put t 6 31\n", 3, "fault script line 1\n"),
         (
             right,

@@ -1,6 +1,7 @@
-use Rattle.std.proofs.Common.{◌≡◌, ◌∙◌, sym, ap}
 use Rattle.je_disk.specs.Moments.{now}
 use Rattle.je_model.specs.Answers.{after_events}
+use Rattle.log_buffer.specs.Buffer.{file_of, offset_of, last_of}
+use Rattle.log_replay.specs.Rows.{rows_in}
 use Rattle.je_program.specs.Environment.{log_rule}
 use Rattle.je_program.proofs.FinishLaws.{closes_run, done_without_fault, valid_afterwards, files_mean}
 use Rattle.je_program.proofs.attempt.finish.Goals as goal
@@ -8,14 +9,18 @@ use Rattle.je_program.proofs.attempt.finish.Goals as goal
 pub returns-clause-caused : goal.returns-clause-caused
 returns-clause-caused g c = λ before caused.
     let r = c.args.running in
-    closes_run before (g.D.Disk.faults r.environment.disk) (g.D.Disk.faults c.close-disk.result.0) r.journal.items r.memory_ended c.end_cause-cause.result c.close-disk.result.1
+    closes_run before (g.D.Disk.faults r.environment.log.disk) (g.D.Disk.faults c.close-disk.result.0) r.journal.items r.memory_ended c.end_cause-cause.result c.close-disk.result.1
     caused c.close-disk.ensures.cause c.close-disk.ensures.never_falls c.end_cause-cause.ensures.memory (rw c.deref.ensures.value at c.end_cause-cause.ensures.journal)
 
 pub returns-clause-files : goal.returns-clause-files
-returns-clause-files g c = λ st running none done told.
+returns-clause-files g c = λ most st running none done told.
     let r = c.args.running in
     let journal = r.journal.items in
-    let no_fault = done_without_fault (g.D.Disk.faults r.environment.disk) (g.D.Disk.faults c.close-disk.result.0) journal r.memory_ended c.end_cause-cause.result c.close-disk.result.1
+    let buffer = r.environment.log in
+    let kept = r.environment.kept in
+    let no_fault = done_without_fault (g.D.Disk.faults buffer.disk) (g.D.Disk.faults c.close-disk.result.0) journal r.memory_ended c.end_cause-cause.result c.close-disk.result.1
     c.close-disk.ensures.cause c.end_cause-cause.ensures.memory (rw c.deref.ensures.value at c.end_cause-cause.ensures.journal) done in
-    files_mean g.D.Disk.tells (now (g.D.Disk.history r.environment.disk)) (now (g.D.Disk.history c.close-disk.result.0)).reads r.environment.kept (after_events log_rule st journal).store
-    (running.here.valid (valid_afterwards st journal none no_fault)) told (c.close-disk.ensures.same told)
+    let valid = running.here.valid (valid_afterwards most st journal none no_fault) in
+    files_mean (now (g.D.Disk.history c.close-disk.result.0)).reads valid.log (file_of buffer) (offset_of buffer) (last_of buffer) (rows_in kept.rows) kept.last_txn kept.last_db
+    (after_events (log_rule most) st journal).store valid.has.is_log valid.has.ends buffer.last_file valid.whole valid.records valid.made
+    (c.close-disk.ensures.written valid.log valid.has valid.at_end.works done told)

@@ -1,12 +1,12 @@
-use Rattle.std.proofs.Common.{◌≡◌, ◌∙◌, List, sym, ap, subst}
+use Rattle.std.proofs.Common.{◌∙◌, List, sym, ap, subst}
 use Rattle.je_disk.specs.Moments.{now}
 use Rattle.je_model.specs.declared.event.Event.{Event}
 use Rattle.je_model.specs.declared.plan.Given.{Given}
 use Rattle.je_model.specs.declared.store.Store.{Store}
 use Rattle.je_model.specs.Journal.{lines_of}
 use Rattle.je_program.specs.Program.{totals_of, final_store, MeanStore, EndsBy, ClosesRun}
-use Rattle.je_program.specs.Run.{HasRun, IsCaused, IsFront, of_session}
-use Rattle.je_program.proofs.FinishLaws.{ran_cause, runs_if, ran_after_reading, ran_not_log, ends_by, final_is, caused_earlier}
+use Rattle.je_program.specs.Run.{HasRun, IsFront, of_session}
+use Rattle.je_program.proofs.FinishLaws.{ran_cause, runs_if, ran_after_reading, ran_not_unreadable, ends_by, final_is, caused_earlier}
 use Rattle.je_program.proofs.attempt.run_plan.Goals as goal
 
 pub returns-in-Ok-clause-runs : goal.returns-in-Ok-clause-runs
@@ -23,18 +23,18 @@ pub returns-in-Ok-clause-run : goal.returns-in-Ok-clause-run
 returns-in-Ok-clause-run g c = λ opened.
     let st = c.in-Ok.ensures.opened.0 in
     let at = c.in-Ok.ensures.opened.1 in
-    let running = c.run-running.ensures.runs st at.here in
+    let running = c.run-running.ensures.runs c.args.file_max st at.here in
     let files = (now (g.D.Disk.history c.args.disk)).reads in
-    let run : HasRun g.D.Disk.tells files c.in-Ok.opened.opening c.run-running.result.journal.items st = record { starts = at.starts; answers = running.answers; settled = running.settled } in (
+    let run : HasRun c.args.file_max g.D.Disk.tells files c.in-Ok.opened.opening c.run-running.result.journal.items st = record { starts = at.starts; answers = running.answers; settled = running.settled } in (
       st,
-      subst (λ (s : Store). HasRun g.D.Disk.tells files s c.finish.result.journal.items st) (sym c.finish.ensures.opening)
-          (subst (λ (j : List Event). HasRun g.D.Disk.tells files c.in-Ok.opened.opening j st) (sym c.finish.ensures.journal) run),
+      subst (λ (s : Store). HasRun c.args.file_max g.D.Disk.tells files s c.finish.result.journal.items st) (sym c.finish.ensures.opening)
+          (subst (λ (j : List Event). HasRun c.args.file_max g.D.Disk.tells files c.in-Ok.opened.opening j st) (sym c.finish.ensures.journal) run),
     )
 
-pub returns-in-Ok-clause-no_meaning : goal.returns-in-Ok-clause-no_meaning
-returns-in-Ok-clause-no_meaning g c = λ is told.
+pub returns-in-Ok-clause-unreadable : goal.returns-in-Ok-clause-unreadable
+returns-in-Ok-clause-unreadable g c = λ finding is told.
     let f = c.finish in
-    absurd (ran_not_log f.result.cause (ran_cause c.run-running.result.journal.items c.run-running.result.memory_ended f.result.cause f.ensures.memory f.ensures.ends) is)
+    absurd (ran_not_unreadable f.result.cause finding (ran_cause c.run-running.result.journal.items c.run-running.result.memory_ended f.result.cause f.ensures.memory f.ensures.ends) is)
 
 pub returns-in-Ok-clause-front : goal.returns-in-Ok-clause-front
 returns-in-Ok-clause-front g c = λ opened session.
@@ -55,16 +55,16 @@ returns-in-Ok-clause-caused g c =
     let faults = g.D.Disk.faults in
     subst (λ (l : List Event). ClosesRun (faults c.args.disk) (faults f.result.disk) l f.result.cause) (sym f.ensures.journal)
     (f.ensures.caused (faults c.args.disk)
-    (caused_earlier (faults c.args.disk) (faults c.in-Ok.opened.environment.disk) (faults c.run-running.result.environment.disk) j c.in-Ok.ensures.faults c.run-running.ensures.caused))
+    (caused_earlier (faults c.args.disk) (faults c.in-Ok.opened.environment.log.disk) (faults c.run-running.result.environment.log.disk) j c.in-Ok.ensures.faults c.run-running.ensures.caused))
 
 pub returns-in-Ok-clause-totals : goal.returns-in-Ok-clause-totals
 returns-in-Ok-clause-totals g c = λ opened.
     let f = c.finish in
     let st = c.in-Ok.ensures.opened.0 in
     let at = c.in-Ok.ensures.opened.1 in
-    let running = c.run-running.ensures.runs st at.here in
+    let running = c.run-running.ensures.runs c.args.file_max st at.here in
     let j = c.run-running.result.journal.items in
-    f.ensures.totals st running ∙ ap totals_of (final_is st c.in-Ok.opened.opening j at.starts.store
+    f.ensures.totals c.args.file_max st running ∙ ap totals_of (final_is c.args.file_max st c.in-Ok.opened.opening j at.starts.store
     ∙ ap (λ (s : Store). final_store s j) (sym f.ensures.opening) ∙ ap (λ (l : List Event). final_store f.result.opening l) (sym f.ensures.journal))
 
 pub returns-in-Ok-clause-files : goal.returns-in-Ok-clause-files
@@ -72,8 +72,8 @@ returns-in-Ok-clause-files g c = λ done told.
     let f = c.finish in
     let st = c.in-Ok.ensures.opened.0 in
     let at = c.in-Ok.ensures.opened.1 in
-    let running = c.run-running.ensures.runs st at.here in
+    let running = c.run-running.ensures.runs c.args.file_max st at.here in
     let j = c.run-running.result.journal.items in
-    let same = final_is st c.in-Ok.opened.opening j at.starts.store
+    let same = final_is c.args.file_max st c.in-Ok.opened.opening j at.starts.store
     ∙ ap (λ (s : Store). final_store s j) (sym f.ensures.opening) ∙ ap (λ (l : List Event). final_store f.result.opening l) (sym f.ensures.journal) in
-    subst (λ (s : Store). MeanStore (now (g.D.Disk.history f.result.disk)).reads s) same (f.ensures.files st running at.starts.fault done told)
+    subst (λ (s : Store). MeanStore (now (g.D.Disk.history f.result.disk)).reads s) same (f.ensures.files c.args.file_max st running at.starts.fault done told)

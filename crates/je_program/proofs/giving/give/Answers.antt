@@ -1,40 +1,112 @@
-use Rattle.std.proofs.Common.{◌≡◌, List, [], ◌∷◌, ◌++◌, sym, ◌∙◌, ap, subst}
+use Rattle.std.proofs.Common.{◌≡◌, List, [], ◌∷◌, ◌++◌, sym, ◌∙◌, ap, subst, refl, false}
 use Rattle.je_disk.specs.Moments.{now}
+use Rattle.je_disk.specs.States.{State}
+use Rattle.log_buffer.specs.Buffer.{disk_of, has_failed}
 use Rattle.je_model.specs.declared.event.Event.{Event}
 use Rattle.je_model.specs.declared.event.Event.TheVariants.{Call as Called, SyncBegin, SyncEnd}
-use Rattle.je_model.specs.declared.answer.Answer.TheVariants.{Done}
-use Rattle.je_model.specs.Answers.{after_events}
+use Rattle.je_model.specs.declared.answer.Answer.TheVariants.{Done, DiskFault}
+use Rattle.je_model.specs.Answers.{after_begin, after_events}
 use Rattle.je_program.specs.Environment.{log_rule}
-use Rattle.je_program.specs.Run.{IsRunning}
-use Rattle.je_program.proofs.RunLaws.{runs_plain, runs_logged}
+use Rattle.je_program.specs.Run.{IsCaused, IsRunning}
+use Rattle.je_program.proofs.RunLaws.{caused_synced, caused_unsynced, logged_at_work, runs_logged, runs_plain, runs_same, runs_unsynced}
 use Rattle.je_program.proofs.giving.give.Goals as goal
 
-pub returns-then-logged-clause-runs : goal.returns-then-logged-clause-runs
-returns-then-logged-clause-runs g c = λ st running.
-    let tells = g.D.Disk.tells in
-    let history = g.D.Disk.history in
-    let old = c.args.journal.now.items in
-    let call : Event = Called c.args.session c.args.line c.args.call c.in_ok-answer.answer in
-    let first : c.push.new.self.items ≡ c.reserve.new.self.items ++ call ∷ [] = rw c.unwrap.ensures at c.push.ensures.items in
-    let second : c.push-then-logged.new.self.items ≡ c.push.new.self.items ++ SyncBegin Done ∷ [] = rw c.unwrap-then-logged.ensures at c.push-then-logged.ensures.items in
-    let third : c.push-then-logged-2.new.self.items ≡ c.push-then-logged.new.self.items ++ SyncEnd c.sync-answer.result ∷ [] =
-    rw c.unwrap-then-logged-2.ensures at c.push-then-logged-2.ensures.items in
-    let all = third ∙ ap (λ (l : List Event). l ++ SyncEnd c.sync-answer.result ∷ []) (second
-    ∙ ap (λ (l : List Event). l ++ SyncBegin Done ∷ []) (first ∙ ap (λ (l : List Event). l ++ call ∷ []) c.reserve.ensures.items)) in
-    subst (λ (l : List Event). IsRunning tells (now (history c.sync-answer.new.self.disk)) c.sync-answer.new.self.kept l st) (sym all)
-    (runs_logged tells (now (history c.args.environment.now.disk)) (now (history c.step.new.self.disk)) (now (history c.sync-answer.new.self.disk))
-    c.args.environment.now.kept c.step.new.self.kept c.sync-answer.new.self.kept old c.args.session c.args.line c.args.call c.in_ok-answer.answer c.sync-answer.result st running
-    (c.in_ok-answer.ensures.goes_on (after_events log_rule st old) running.here) (sym c.waits_for_sync-logged.ensures ∙ c.if-logged.true) c.sync-answer.ensures.ends)
+pub returns-in_err-answer-clause-runs : goal.returns-in_err-answer-clause-runs
+returns-in_err-answer-clause-runs g c = λ most st running.
+    let state : g.row.D.Denot → State = λ d. now (g.D.Disk.history d) in
+    let old = c.args.environment.now in
+    let new = c.step.new.self in
+    subst (λ (l : List Event). IsRunning most g.D.Disk.tells (state (disk_of new.log)) new.log new.kept l st) (sym c.reserve.ensures.items)
+    (runs_same most g.D.Disk.tells (state (disk_of old.log)) (state (disk_of new.log)) old.log new.log old.kept new.kept c.args.journal.now.items st running
+    (c.in_err-answer.ensures.goes_on most (after_events (log_rule most) st c.args.journal.now.items) running.here))
 
-pub returns-else-logged-clause-runs : goal.returns-else-logged-clause-runs
-returns-else-logged-clause-runs g c = λ st running.
-    let tells = g.D.Disk.tells in
-    let history = g.D.Disk.history in
-    let old = c.args.journal.now.items in
+pub returns-then-not-logged-clause-runs : goal.returns-then-not-logged-clause-runs
+returns-then-not-logged-clause-runs g c = λ most st running.
+    let state : g.row.D.Denot → State = λ d. now (g.D.Disk.history d) in
+    let old = c.args.environment.now in
+    let new = c.step.new.self in
+    let journal = c.args.journal.now.items in
     let call : Event = Called c.args.session c.args.line c.args.call c.in_ok-answer.answer in
     let first : c.push.new.self.items ≡ c.reserve.new.self.items ++ call ∷ [] = rw c.unwrap.ensures at c.push.ensures.items in
     let all = first ∙ ap (λ (l : List Event). l ++ call ∷ []) c.reserve.ensures.items in
-    subst (λ (l : List Event). IsRunning tells (now (history c.step.new.self.disk)) c.step.new.self.kept l st) (sym all)
-    (runs_plain tells (now (history c.args.environment.now.disk)) (now (history c.step.new.self.disk))
-    c.args.environment.now.kept c.step.new.self.kept old c.args.session c.args.line c.args.call c.in_ok-answer.answer st running
-    (c.in_ok-answer.ensures.goes_on (after_events log_rule st old) running.here) (sym c.waits_for_sync-logged.ensures ∙ c.if-logged.false))
+    subst (λ (l : List Event). IsRunning most g.D.Disk.tells (state (disk_of new.log)) new.log new.kept l st) (sym all)
+    (runs_plain most g.D.Disk.tells (state (disk_of old.log)) (state (disk_of new.log)) old.log new.log old.kept new.kept journal c.args.session c.args.line c.args.call c.in_ok-answer.answer st running
+    (c.in_ok-answer.ensures.goes_on most (after_events (log_rule most) st journal) running.here) (sym c.waits_for_sync-logged.ensures ∙ c.if-not-logged.true))
+
+pub returns-in_default-clause-runs : goal.returns-in_default-clause-runs
+returns-in_default-clause-runs g c = λ most st running.
+    let state : g.row.D.Denot → State = λ d. now (g.D.Disk.history d) in
+    let old = c.args.environment.now in
+    let middle = c.step.new.self in
+    let new = c.begin_sync.new.self in
+    let journal = c.args.journal.now.items in
+    let call : Event = Called c.args.session c.args.line c.args.call c.in_ok-answer.answer in
+    let first : c.push.new.self.items ≡ c.reserve.new.self.items ++ call ∷ [] = rw c.unwrap.ensures at c.push.ensures.items in
+    let second : c.push-in_default.new.self.items ≡ c.push.new.self.items ++ SyncBegin DiskFault ∷ [] = rw c.unwrap-in_default.ensures at c.push-in_default.ensures.items in
+    let all = second ∙ ap (λ (l : List Event). l ++ SyncBegin DiskFault ∷ []) (first ∙ ap (λ (l : List Event). l ++ call ∷ []) c.reserve.ensures.items) in
+    subst (λ (l : List Event). IsRunning most g.D.Disk.tells (state (disk_of new.log)) new.log new.kept l st) (sym all)
+    (runs_unsynced most g.D.Disk.tells (state (disk_of old.log)) (state (disk_of middle.log)) (state (disk_of new.log)) old.log middle.log new.log old.kept middle.kept new.kept
+    journal c.args.session c.args.line c.args.call c.in_ok-answer.answer st running
+    (c.in_ok-answer.ensures.goes_on most (after_events (log_rule most) st journal) running.here) (sym c.waits_for_sync-logged.ensures ∙ c.if-not-logged.false)
+    (λ s here none. (c.in_default.ensures.begins most s here none).1))
+
+pub returns-in_default-clause-caused : goal.returns-in_default-clause-caused
+returns-in_default-clause-caused g c = λ before caused.
+    let state : g.row.D.Denot → State = λ d. now (g.D.Disk.history d) in
+    let faults = g.D.Disk.faults in
+    let middle = c.step.new.self in
+    let journal = c.args.journal.now.items in
+    let most = c.requires.running.0 in
+    let st = c.requires.running.1 in
+    let running = c.requires.running.2 in
+    let at_work = logged_at_work most g.D.Disk.tells (state (disk_of middle.log)) middle.log middle.kept (after_events (log_rule most) st journal) c.args.call c.in_ok-answer.answer
+    (c.in_ok-answer.ensures.goes_on most (after_events (log_rule most) st journal) running.here) (sym c.waits_for_sync-logged.ensures ∙ c.if-not-logged.false) in
+    caused_unsynced before (faults (disk_of c.args.environment.now.log)) (faults (disk_of middle.log)) (faults (disk_of c.begin_sync.new.self.log)) journal c.push-in_default.new.self.items caused
+    c.in_ok-answer.ensures.cause.never_falls (c.in_default.ensures.cause at_work.2 refl) c.begin_sync.ensures.never_falls
+
+pub returns-clause-runs : goal.returns-clause-runs
+returns-clause-runs g c = λ most st running.
+    let state : g.row.D.Denot → State = λ d. now (g.D.Disk.history d) in
+    let old = c.args.environment.now in
+    let middle = c.step.new.self in
+    let new = c.end_sync-answer.new.self in
+    let journal = c.args.journal.now.items in
+    let ending = c.end_sync-answer.result in
+    let call : Event = Called c.args.session c.args.line c.args.call c.in_ok-answer.answer in
+    let first : c.push.new.self.items ≡ c.reserve.new.self.items ++ call ∷ [] = rw c.unwrap.ensures at c.push.ensures.items in
+    let second : c.push-2.new.self.items ≡ c.push.new.self.items ++ SyncBegin Done ∷ [] = rw c.unwrap-2.ensures at c.push-2.ensures.items in
+    let third : c.push-3.new.self.items ≡ c.push-2.new.self.items ++ SyncEnd ending ∷ [] = rw c.unwrap-3.ensures at c.push-3.ensures.items in
+    let all = third ∙ ap (λ (l : List Event). l ++ SyncEnd ending ∷ []) (second
+    ∙ ap (λ (l : List Event). l ++ SyncBegin Done ∷ []) (first ∙ ap (λ (l : List Event). l ++ call ∷ []) c.reserve.ensures.items)) in
+    subst (λ (l : List Event). IsRunning most g.D.Disk.tells (state (disk_of new.log)) new.log new.kept l st) (sym all)
+    (runs_logged most g.D.Disk.tells (state (disk_of old.log)) (state (disk_of middle.log)) (state (disk_of new.log)) old.log middle.log new.log old.kept middle.kept new.kept
+    journal c.args.session c.args.line c.args.call c.in_ok-answer.answer ending st running
+    (c.in_ok-answer.ensures.goes_on most (after_events (log_rule most) st journal) running.here) (sym c.waits_for_sync-logged.ensures ∙ c.if-not-logged.false)
+    (λ s here none. c.end_sync-answer.ensures.ends most (after_begin s Done) (c.in-Some.ensures.begins most s here none).1 none))
+
+pub returns-clause-caused : goal.returns-clause-caused
+returns-clause-caused g c = λ before caused.
+    let state : g.row.D.Denot → State = λ d. now (g.D.Disk.history d) in
+    let faults = g.D.Disk.faults in
+    let middle = c.step.new.self in
+    let begun = c.begin_sync.new.self in
+    let journal = c.args.journal.now.items in
+    let ending = c.end_sync-answer.result in
+    let most = c.requires.running.0 in
+    let st = c.requires.running.1 in
+    let running = c.requires.running.2 in
+    let logged = sym c.waits_for_sync-logged.ensures ∙ c.if-not-logged.false in
+    let at_work = logged_at_work most g.D.Disk.tells (state (disk_of middle.log)) middle.log middle.kept (after_events (log_rule most) st journal) c.args.call c.in_ok-answer.answer
+    (c.in_ok-answer.ensures.goes_on most (after_events (log_rule most) st journal) running.here) logged in
+    let here = (c.in-Some.ensures.begins most at_work.0 at_work.1.0 at_work.1.1).1 in
+    let works : has_failed begun.log ≡ false = (here.valid at_work.1.1).at_end.works in
+    let call : Event = Called c.args.session c.args.line c.args.call c.in_ok-answer.answer in
+    let first : c.push.new.self.items ≡ c.reserve.new.self.items ++ call ∷ [] = rw c.unwrap.ensures at c.push.ensures.items in
+    let second : c.push-2.new.self.items ≡ c.push.new.self.items ++ SyncBegin Done ∷ [] = rw c.unwrap-2.ensures at c.push-2.ensures.items in
+    let third : c.push-3.new.self.items ≡ c.push-2.new.self.items ++ SyncEnd ending ∷ [] = rw c.unwrap-3.ensures at c.push-3.ensures.items in
+    let all = third ∙ ap (λ (l : List Event). l ++ SyncEnd ending ∷ []) (second
+    ∙ ap (λ (l : List Event). l ++ SyncBegin Done ∷ []) (first ∙ ap (λ (l : List Event). l ++ call ∷ []) c.reserve.ensures.items)) in
+    let after = faults (disk_of c.end_sync-answer.new.self.log) in
+    subst (λ (l : List Event). IsCaused before after l) (sym all)
+    (caused_synced before (faults (disk_of c.args.environment.now.log)) (faults (disk_of middle.log)) (faults (disk_of begun.log)) after journal c.args.session c.args.line c.args.call
+    c.in_ok-answer.answer ending caused c.in_ok-answer.ensures.cause.never_falls c.begin_sync.ensures.never_falls c.end_sync-answer.ensures.never_falls logged (c.end_sync-answer.ensures.cause works))

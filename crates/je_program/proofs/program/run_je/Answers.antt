@@ -1,3 +1,5 @@
+use Rattle.je_disk.specs.Moments.{now}
+use Rattle.je_program.proofs.EndLaws.{completes, finds}
 use Rattle.je_program.proofs.FinishLaws.{done_acknowledged, done_is_no_memory, done_opened}
 use Rattle.je_program.proofs.program.run_je.Goals as goal
 
@@ -6,4 +8,24 @@ returns-clause-acknowledged g c = λ done.
     let a = c.work-attempt in
     let opened = done_opened a.result.cause a.result.opened done a.ensures.runs in
     let run = a.ensures.run opened in
-    done_acknowledged a.result.journal.items a.result.cause done (a.ensures.ends opened (done_is_no_memory a.result.cause done)) run.1.settled
+    done_acknowledged a.result.journal.items a.result.cause done (a.ensures.ends opened (done_is_no_memory a.result.cause done)) run.3.settled
+
+pub returns-clause-complete : goal.returns-clause-complete
+returns-clause-complete g c = λ bytes plan meaning taken left short plans told means.
+    let a = c.work-attempt in
+    let faults = g.S.Source.faults in
+    completes (now (g.D.Disk.history c.args.disk)).reads (g.S.Source.left c.args.input.now) (faults c.args.input.now) (faults a.new.input) (g.D.Disk.faults c.args.disk) (g.D.Disk.faults a.result.disk)
+    a.result.cause a.result.opened a.result.journal.items bytes plan meaning left short plans means
+    (λ usage. (let wrong = a.ensures.usage usage in cc)) a.ensures.stopped a.ensures.runs
+    (λ finding is. a.ensures.unreadable finding is told) a.ensures.ends a.ensures.caused.failed
+
+pub returns-clause-unreadable_found : goal.returns-clause-unreadable_found
+returns-clause-unreadable_found g c = λ bytes plan finding taken left short plans told has.
+    let a = c.work-attempt in
+    let faults = g.S.Source.faults in
+    finds (now (g.D.Disk.history c.args.disk)).reads (g.S.Source.left c.args.input.now) (faults c.args.input.now) (faults a.new.input) (g.D.Disk.faults c.args.disk) (g.D.Disk.faults a.result.disk)
+    a.result.cause a.result.opened bytes plan finding left short plans has
+    (λ usage. (let wrong = a.ensures.usage usage in cc)) a.ensures.stopped a.ensures.runs
+    (λ f is. a.ensures.unreadable f is told)
+    (λ opened. (let starts = (a.ensures.run opened).3.starts in (_, record { held = starts.held; are = starts.told told; reads = starts.means })))
+    a.ensures.caused.failed

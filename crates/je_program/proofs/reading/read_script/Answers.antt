@@ -1,4 +1,4 @@
-use Rattle.std.proofs.Common.{◌≤◌, ◌<◌, length, sym, ◌∙◌, ap, subst, List, arith}
+use Rattle.std.proofs.Common.{◌≤◌, length, arith}
 use Rattle.je_program.specs.declared.reading.TheConstants.{MOST_INPUT}
 use Rattle.je_program.proofs.ReadingLaws.{long_input, reads_plan, bad_line}
 use Rattle.je_program.proofs.reading.read_script.Goals as goal

@@ -1,5 +1,6 @@
 use Rattle.std.proofs.Common.{sym, subst, List, [], false}
 use Rattle.je_disk.specs.Moments.{now}
+use Rattle.log_buffer.specs.Buffer.{disk_of}
 use Rattle.je_model.specs.declared.event.Event.{Event}
 use Rattle.je_program.specs.Run.{IsRunning, IsCaused, HasGiven}
 use Rattle.je_program.proofs.RunLaws.{runs_none, caused_none}
@@ -10,11 +11,12 @@ pub loop-given-init : goal.loop-given-init
 loop-given-init g c =
     let empty = sym c.new.ensures.items in
     let env = c.args.environment in
+    let faults = g.D.Disk.faults (disk_of env.log) in
     record {
-      runs = λ st here. subst (λ (l : List Event). IsRunning g.D.Disk.tells (now (g.D.Disk.history env.disk)) env.kept l st) empty (runs_none _ _ _ st here);
+      runs = λ most st here. subst (λ (l : List Event). IsRunning most g.D.Disk.tells (now (g.D.Disk.history (disk_of env.log))) env.log env.kept l st) empty (runs_none _ _ _ _ _ st here);
       bounds = c.requires.bounds;
       sessions = c.none_stopped.ensures.len;
-      caused = subst (λ (l : List Event). IsCaused (g.D.Disk.faults env.disk) (g.D.Disk.faults env.disk) l) empty (caused_none _);
+      caused = subst (λ (l : List Event). IsCaused faults faults l) empty (caused_none _);
       given = subst (λ (l : List Event). HasGiven l false c.none_stopped.result []) empty (given_none c.none_stopped.result c.none_stopped.ensures.none);
     }
 
@@ -23,9 +25,14 @@ loop-given-preserved g c =
     let inv = c.loop-given.invariant in
     let step = c.give_next.ensures in
     record {
-      runs = λ st here. step.runs st (inv.runs st here);
+      runs = λ most st here. step.runs most st (inv.runs most st here);
       bounds = step.bounds;
       sessions = step.sessions;
-      caused = step.caused (g.D.Disk.faults c.args.environment.disk) inv.caused;
+      caused = step.caused (g.D.Disk.faults (disk_of c.args.environment.log)) inv.caused;
       given = step.given c.loop-given.yielded inv.given;
     }
+
+pub give_next-requires-clause-running : goal.give_next-requires-clause-running
+give_next-requires-clause-running g c κs within =
+    let start = c.requires.start in
+    (start.0, start.1, c.loop-given.invariant.runs start.0 start.1 start.2)

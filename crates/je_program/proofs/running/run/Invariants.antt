@@ -1,5 +1,6 @@
-use Rattle.std.proofs.Common.{◌≡◌, length}
+use Rattle.std.proofs.Common.{◌≡◌, ℕ, length}
 use Rattle.je_disk.specs.Moments.{now}
+use Rattle.log_buffer.specs.Buffer.{disk_of}
 use Rattle.je_model.specs.Answers.{Standing}
 use Rattle.je_program.specs.Environment.{IsAt}
 use Rattle.je_program.specs.Run.{IsRunning, IsCaused, HasGiven}
@@ -11,10 +12,10 @@ abbrev pub invariant-loop-given : goal.invariant-loop-given
 invariant-loop-given g l =
     let history = g.D.Disk.history in
     record {
-      runs : (st : Standing) → IsAt g.D.Disk.tells (now (history l.initial.running.environment.disk)) l.initial.running.environment.kept st
-          → IsRunning g.D.Disk.tells (now (history l.running.environment.disk)) l.running.environment.kept l.running.journal.items st;
+      runs : (most : ℕ) (st : Standing) → IsAt most g.D.Disk.tells (now (history (disk_of l.initial.running.environment.log))) l.initial.running.environment.log l.initial.running.environment.kept st
+          → IsRunning most g.D.Disk.tells (now (history (disk_of l.running.environment.log))) l.running.environment.log l.running.environment.kept l.running.journal.items st;
       bounds : CanGoOn l.running.environment.kept;
       sessions : length l.running.stopped ≡ 256;
-      caused : IsCaused (g.D.Disk.faults l.initial.running.environment.disk) (g.D.Disk.faults l.running.environment.disk) l.running.journal.items;
+      caused : IsCaused (g.D.Disk.faults (disk_of l.initial.running.environment.log)) (g.D.Disk.faults (disk_of l.running.environment.log)) l.running.journal.items;
       given : HasGiven l.running.journal.items l.running.memory_ended l.running.stopped l.yielded;
     }

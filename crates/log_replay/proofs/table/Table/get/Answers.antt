@@ -4,4 +4,5 @@ use Rattle.log_replay.proofs.Entries.{lookup_is_data}
 use Rattle.log_replay.proofs.table.Table.get.Goals as goal
 
 pub returns : goal.returns
-returns c = c.get.ensures.value ∙ lookup_is_data c.args.name.now c.self.inside.records.entries ∙ ap (data_at c.args.name.now) c.self.view_is
+returns c =
+    c.get.ensures.value ∙ lookup_is_data c.args.name.now c.self.inside.records.entries ∙ ap (data_at c.args.name.now) c.self.view_is

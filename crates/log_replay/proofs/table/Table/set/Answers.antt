@@ -1,11 +1,14 @@
 use Rattle.std.proofs.Common.{◌∙◌, ap, List, Some}
+use Rattle.std.specs.BTreeMap.{insert_entry}
+use Rattle.je_order.specs.Order.{name_cmp}
 use Rattle.log_replay.specs.Rows.{Row, rows_with}
 use Rattle.log_replay.proofs.Entries.{insert_is_set, rising_from_keys}
 use Rattle.log_replay.proofs.table.Table.set.Goals as goal
 
 pub returns-clause-ok : goal.returns-clause-ok
 returns-clause-ok c =
-    c.in_ok-insert.ensures.entries ∙ insert_is_set c.args.name c.args.value _ c.self.invariant
+    c.in_ok-insert.ensures.entries ∙ ap (λ n. insert_entry name_cmp c.self.inside.records.entries n c.args.value) c.new.ensures
+    ∙ insert_is_set c.args.name c.args.value _ c.self.invariant
     ∙ ap (λ (rows : List Row). rows_with c.args.name (Some c.args.value) rows) c.self.view_is
 
 pub invariant_of-self-2 : goal.invariant_of-self-2

@@ -1,7 +1,10 @@
-use Rattle.std.proofs.Common.{is_ok}
+use Rattle.std.proofs.Common.{is_ok, refl}
 use Rattle.mem_disk.specs.Replay.{read_at}
-use Rattle.mem_disk.proofs.Replaying.{synced_agrees}
+use Rattle.mem_disk.specs.declared.change.Change.TheVariants.{Sync}
+use Rattle.mem_disk.proofs.Replaying.{noted_agrees}
 use Rattle.mem_disk.proofs.shelf.Shelf.sync.Goals as goal
 
 pub invariant_of-self : goal.invariant_of-self
-invariant_of-self c = record { agrees = synced_agrees (is_ok c.push.result) (read_at c.args.self.now.files) c.args.self.now.changes.items c.push.new.self.items c.push.ensures.items c.args.self.now.agrees }
+invariant_of-self c = record {
+  agrees = noted_agrees (is_ok c.push.result) (read_at c.args.self.now.files) c.args.self.now.changes.items c.push.new.self.items Sync c.push.ensures.items c.args.self.now.agrees (λ g. refl);
+}

@@ -1,0 +1,137 @@
+-- Each row that a walk over the words of `run` makes has a value, and that of `--file-max` one in its bounds.
+use Rattle.std.proofs.Common.{◌≡◌, ◌∙◌, ◌++◌, ◌||◌, Bool, true, false, ap, refl, sym, subst, codes, List, [], ◌∷◌, Option, Some, None, is_some, cond, pos}
+use Rattle.std.specs.Prelude.{find, option_map, option_and_then, slice_get, unwrap_or}
+use Rattle.std.specs.List.{AllByRecursion}
+use Rattle.std.specs.Str.{bytes_eq}
+use Rattle.clap.specs.ValueTests.{accepts}
+use Rattle.clap.specs.Values.{read_as}
+use Rattle.clap.specs.Walk.{Row, Rule, Text, at_row, default_rows, first_of, has_row, more_values, one_of, row_text, used_as, with_default, with_values, without, reading_by}
+use Rattle.clap.specs.Lexer.{without_minus}
+use Rattle.clap.specs.declared.builder.action.ArgAction.TheVariants.{Set}
+use Rattle.clap.specs.declared.builder.value_parser.Reading.{Reading}
+use Rattle.clap.specs.declared.builder.value_parser.Reading.TheVariants.{WithoutMinus}
+use Rattle.clap.specs.declared.builder.value_parser.ValueParser.TheVariants as parser
+use Rattle.clap.specs.declared.parser.matches.ValueSource.{ValueSource}
+
+-- the parser of `--file-max` takes the value
+abbrev pub IsFileMax : Text → Type 0
+IsFileMax text = accepts false (parser.Signed (pos 4096) (pos 1073741824)) text ≡ true
+
+-- values of an option: there is a first one, and one of `--file-max` is in its bounds
+abbrev pub AreValues : Text → Reading → List Text → Type 0
+AreValues id how [] = ⊥
+AreValues id how (v ∷ vs) = bytes_eq id (codes "file-max") ≡ true → (how ≡ WithoutMinus) × IsFileMax v
+
+abbrev pub IsFilled : Row → Type 0
+IsFilled r = AreValues r.id r.reading r.values
+
+abbrev pub AreFilled : List Row → Type 0
+AreFilled = AllByRecursion IsFilled
+
+joined : (xs ys : List Row) → AreFilled xs → AreFilled ys → AreFilled (xs ++ ys)
+joined [] ys front back = back
+joined (x ∷ xs) ys front back = (front.0, joined xs ys front.1 back)
+
+at_row_filled : (id : Text) (change : Row → List Row) (missing rows : List Row) → ((r : Row) → IsFilled r → AreFilled (change r)) → AreFilled missing → AreFilled rows
+    → AreFilled (at_row id change missing rows)
+at_row_filled id change missing [] changed new held = new
+at_row_filled id change missing (r ∷ rs) changed new held = go (bytes_eq r.id id) (at_row_filled id change missing rs changed new held.1)
+  where
+    go : (b : Bool) → AreFilled (at_row id change missing rs) → AreFilled (cond b (change r ++ rs) (r ∷ at_row id change missing rs))
+    go true rest = joined (change r) rs (changed r held.0) held.1
+    go false rest = (held.0, rest)
+
+more : (id : Text) (how : Reading) (xs ys : List Text) → AreValues id how xs → AreValues id how (xs ++ ys)
+more id how [] ys are = absurd are
+more id how (x ∷ xs) ys are = are
+
+with_values_filled : (id : Text) (how : Reading) (s : ValueSource) (values : List Text) (rows : List Row) → AreValues id how values → AreFilled rows → AreFilled (with_values id how s values rows)
+with_values_filled id how s values rows are held =
+    at_row_filled id (more_values s values) _ rows (λ r filled. (more r.id r.reading r.values values filled, tt)) (are, tt) held
+
+pub set_filled : (id : Text) (how : Reading) (values : List Text) (rows : List Row) → AreValues id how values → AreFilled rows → AreFilled (used_as Set id how values rows)
+set_filled id how values rows are held =
+    with_values_filled id how _ values (without id rows) are (at_row_filled id (λ _. []) [] rows (λ r filled. tt) tt held)
+
+-- ---- defaults
+
+pub default_filled : (a : Rule) (rows : List Row) → AreValues a.id (reading_by a) a.defaults → AreFilled rows → AreFilled (with_default rows a)
+default_filled a rows are held = go (has_row a.id rows)
+  where
+    given : (values : List Text) → AreValues a.id (reading_by a) values → AreFilled (default_rows a.id (reading_by a) values rows)
+    given [] are = absurd are
+    given (v ∷ vs) are = with_values_filled a.id (reading_by a) _ (v ∷ vs) rows are held
+
+    go : (b : Bool) → AreFilled (cond b rows (default_rows a.id (reading_by a) a.defaults rows))
+    go true = held
+    go false = given a.defaults are
+
+values_there : (id : Text) (how : Reading) (s : ValueSource) (values : List Text) (rows : List Row) → bytes_eq id id ≡ true → has_row id (with_values id how s values rows) ≡ true
+values_there id how s values [] same = ap (λ b. b || false) same
+values_there id how s values (r ∷ rs) same = go (values_there id how s values rs same) (bytes_eq r.id id) refl
+  where
+    go : has_row id (with_values id how s values rs) ≡ true → (b : Bool) → bytes_eq r.id id ≡ b → has_row id (cond b (more_values s values r ++ rs) (r ∷ with_values id how s values rs)) ≡ true
+    go rest true is = ap (λ b. b || has_row id rs) is
+    go rest false is = ap (λ b. b || has_row id (with_values id how s values rs)) is ∙ rest
+
+-- an option with a default has a row
+pub default_there : (a : Rule) (v : Text) (vs : List Text) (rows : List Row) → a.defaults ≡ v ∷ vs → bytes_eq a.id a.id ≡ true → has_row a.id (with_default rows a) ≡ true
+default_there a v vs rows has same = go (has_row a.id rows) refl
+  where
+    go : (b : Bool) → has_row a.id rows ≡ b → has_row a.id (cond b rows (default_rows a.id (reading_by a) a.defaults rows)) ≡ true
+    go true is = is
+    go false is = subst (λ values. has_row a.id (default_rows a.id (reading_by a) values rows) ≡ true) (sym has) (values_there a.id (reading_by a) _ (v ∷ vs) rows same)
+
+pub no_default : (a : Rule) (rows : List Row) → a.defaults ≡ [] → with_default rows a ≡ rows
+no_default a rows none = go (has_row a.id rows)
+  where
+    go : (b : Bool) → cond b rows (default_rows a.id (reading_by a) a.defaults rows) ≡ rows
+    go true = refl
+    go false = ap (λ values. default_rows a.id (reading_by a) values rows) none
+
+-- ---- what is read of filled rows
+
+pub found_filled : (id : Text) (rows : List Row) (r : Row) → AreFilled rows → find (λ x. bytes_eq x.id id) rows ≡ Some r → (bytes_eq r.id id ≡ true) × IsFilled r
+found_filled id [] r held found = cc
+found_filled id (x ∷ xs) r held found = go (found_filled id xs r held.1) (bytes_eq x.id id) refl found
+  where
+    go : (find (λ y. bytes_eq y.id id) xs ≡ Some r → (bytes_eq r.id id ≡ true) × IsFilled r) → (b : Bool) → bytes_eq x.id id ≡ b → cond b (Some x) (find (λ y. bytes_eq y.id id) xs) ≡ Some r → (bytes_eq r.id id ≡ true) × IsFilled r
+    go rest true is same =
+        let are : x ≡ r = ap (λ o. unwrap_or o r) same in
+        (subst (λ y. bytes_eq y.id id ≡ true) are is, subst IsFilled are held.0)
+    go rest false is same = rest same
+
+pub row_there : (id : Text) (rows : List Row) → has_row id rows ≡ true → is_some (find (λ r. bytes_eq r.id id) rows) ≡ true
+row_there id [] has = has
+row_there id (r ∷ rs) has = go (row_there id rs) (bytes_eq r.id id) has
+  where
+    go : (has_row id rs ≡ true → is_some (find (λ x. bytes_eq x.id id) rs) ≡ true) → (b : Bool) → (b || has_row id rs) ≡ true → is_some (cond b (Some r) (find (λ x. bytes_eq x.id id) rs)) ≡ true
+    go rest true has = refl
+    go rest false has = rest has
+
+-- a row that is there gives its first value
+pub first_there : (id : Text) (rows : List Row) → AreFilled rows → is_some (find (λ r. bytes_eq r.id id) rows) ≡ true → (v : Text) × (first_of id rows ≡ Some v)
+first_there id rows held there = go (find (λ r. bytes_eq r.id id) rows) refl there
+  where
+    read : (r : Row) (values : List Text) → AreValues r.id r.reading values → (v : Text) × (slice_get values 0 ≡ Some v)
+    read r [] are = absurd are
+    read r (v ∷ vs) are = (v, refl)
+
+    go : (o : Option Row) → find (λ r. bytes_eq r.id id) rows ≡ o → is_some o ≡ true → (v : Text) × (option_and_then (λ r. slice_get r.values 0) o ≡ Some v)
+    go None is some = cc
+    go (Some r) is some = read r r.values (found_filled id rows r held is).1
+
+-- the row of `--file-max` gives a value in its bounds
+pub file_max_there : (rows : List Row) → AreFilled rows → has_row (codes "file-max") rows ≡ true → (v : Text) × (one_of (codes "file-max") rows ≡ Some (without_minus v)) × IsFileMax v
+file_max_there rows held has = go (find (λ r. bytes_eq r.id (codes "file-max")) rows) refl (row_there (codes "file-max") rows has)
+  where
+    read : (r : Row) (values : List Text) (how : Reading) → bytes_eq r.id (codes "file-max") ≡ true → AreValues r.id how values
+        → (v : Text) × (option_map (read_as how) (slice_get values 0) ≡ Some (without_minus v)) × IsFileMax v
+    read r [] how is are = absurd are
+    read r (v ∷ vs) how is are = (v, ap (λ h. Some (read_as h v)) (are is).0, (are is).1)
+
+    go : (o : Option Row) → find (λ r. bytes_eq r.id (codes "file-max")) rows ≡ o → is_some o ≡ true → (v : Text) × (option_and_then row_text o ≡ Some (without_minus v)) × IsFileMax v
+    go None is some = cc
+    go (Some r) is some =
+        let at = found_filled (codes "file-max") rows r held is in
+        read r r.values r.reading at.0 at.1

@@ -1,0 +1,12 @@
+// Laws of the command line.
+ghost use Rattle.std.specs.Prelude.{◌≡◌, ◌≤◌, List, IfSome, is_some};
+ghost use Rattle.clap.specs.Words.{Text};
+ghost use Rattle.command_line.specs.Words.{file_max_in, home_in, is_taken};
+
+/// Right words, and no others, name a folder and give a number of bytes, and the number is one that a log
+/// file may have.
+pub fn right_words_give_values()
+    ensures home { (words : List Text) → is_some (home_in words) ≡ is_taken words }
+    ensures file_max { (words : List Text) → is_some (file_max_in words) ≡ is_taken words }
+    ensures range { (words : List Text) → IfSome (file_max_in words) (λ n. (4096 ≤ n) × (n ≤ 1073741824)) }
+{}

@@ -1,0 +1,191 @@
+// From words to options.
+ghost use Rattle.std.specs.Prelude.{◌≡◌, ◌≤◌, ◌<◌, ◌^◌, ℕ, List, Some, IfOk, IfSome, IsSomeAnd, is_some, map, option_map, string_bytes};
+ghost use Rattle.std.specs.Str.Parse.{IsNumeral, without_leading_plus};
+ghost use Rattle.clap.specs.Words.{app_of, subcommand_of, subcommand_rows_of};
+ghost use Rattle.command_line.specs.Words.{file_max_in, file_max_text_of, home_in, home_of, is_taken, jedb, number_of};
+
+use crate::run_options::RunOptions;
+use clap::error::ErrorKind;
+use clap::{Arg, ArgMatches, Command, value_parser};
+use std::alloc::{AllocError, Global};
+
+// The command line that the program has.
+fn command<'a>(alloc: Global) -> Result<Command<'a>, AllocError>
+    ensures { IfOk result (λ command. app_of command ≡ jedb) }
+{
+    let home = Arg::new(alloc, "home").long("home").required(true);
+    let file_max = Arg::new(alloc, "file-max")
+        .long("file-max")
+        .value_parser(value_parser!(u32).range(4_096..=1_073_741_824))
+        .default_value("10000000");
+    let run = Command::new(alloc, "run").arg(home)?.arg(file_max)?;
+    let jedb = Command::new(alloc, "jedb")
+        .no_binary_name(true)
+        .subcommand_required(true);
+    jedb.subcommand(run)
+}
+
+// What a parse of the words finds, and None where it refuses them.
+fn found_in<'a>(alloc: Global, words: &'a [String]) -> Result<Option<ArgMatches<'a>>, AllocError>
+    ensures taken { IfOk result (λ found. is_some found ≡ is_taken (map string_bytes words.now)) }
+    ensures found { IfOk result (λ found. IfSome found (λ m. subcommand_rows_of m ≡ subcommand_of jedb (map string_bytes words.now))) }
+{
+    match command(alloc)?.try_get_matches_from(words) {
+        Ok(found) => Ok(Some(found)),
+        Err(error) => match error.kind() {
+            ErrorKind::OutOfMemory => Err(AllocError),
+            _ => Ok(None),
+        },
+    }
+}
+
+// The value of `--home`, in what a parse found.
+fn home_given<'a>(found: &ArgMatches<'a>) -> Option<&'a str>
+    ensures { option_map (λ home. home.now) result ≡ home_of (subcommand_rows_of found.now) }
+{
+    let (_, run) = found.subcommand()?;
+    run.get_str("home")
+}
+
+// The number of `--file-max`, in what a parse found.
+fn file_max_given<'a>(found: &ArgMatches<'a>) -> Option<u32>
+    ensures { (text : List ℕ) → file_max_text_of (subcommand_rows_of found.now) ≡ Some text → IsNumeral 10 (without_leading_plus text)
+        → number_of text < 2 ^ 32 → result ≡ Some (number_of text) }
+{
+    let (_, run) = found.subcommand()?;
+    run.get_one::<u32>("file-max")
+}
+
+// The options, in what a parse found.
+fn options_given<'a>(
+    alloc: Global,
+    found: &ArgMatches<'a>,
+) -> Result<Option<RunOptions>, AllocError>
+    ensures { (home text : List ℕ) → home_of (subcommand_rows_of found.now) ≡ Some home
+        → file_max_text_of (subcommand_rows_of found.now) ≡ Some text → IsNumeral 10 (without_leading_plus text) → number_of text < 2 ^ 32
+        → IfOk result (λ options. IsSomeAnd options (λ o. (string_bytes o.home ≡ home) × (o.file_max ≡ number_of text))) }
+{
+    match (home_given(found), file_max_given(found)) {
+        (Some(home), Some(file_max)) => Ok(Some(RunOptions {
+            home: String::from_str(alloc, home)?,
+            file_max,
+        })),
+        _ => Ok(None),
+    }
+}
+
+/// The options that the words after the program's name give, and None where these are no right command
+/// line. Right are `run --home DIR` and `run --home DIR --file-max N`, the options in either order, with
+/// `--name=VALUE` for `--name VALUE`, and `--` may end the words. A value that begins with `-` and is not `-`
+/// itself needs the `=`. N is a decimal number from 4,096 to 1,073,741,824, with `+` or zeros before it or
+/// not; where it is not given it is 10,000,000. Other words, an option given twice and a request for help
+/// are wrong. The one error is want of memory.
+pub fn parse(alloc: Global, words: &[String]) -> Result<Option<RunOptions>, AllocError>
+    ensures right { IfOk result (λ options. is_some options ≡ is_taken (map string_bytes words.now)) }
+    ensures home { IfOk result (λ options. option_map (λ o. string_bytes o.home) options ≡ home_in (map string_bytes words.now)) }
+    ensures file_max { IfOk result (λ options. option_map (λ o. o.file_max) options ≡ file_max_in (map string_bytes words.now)) }
+    ensures range { IfOk result (λ options. IfSome options (λ o. (4096 ≤ o.file_max) × (o.file_max ≤ 1073741824))) }
+{
+    match found_in(alloc, words)? {
+        Some(found) => options_given(alloc, &found),
+        None => Ok(None),
+    }
+}
+
+#[cfg(test)]
+mod tests {
+    use super::*;
+    use std::test::Fail;
+
+    // The words of a line, which single blanks part.
+    fn split(alloc: Global, line: &str) -> Result<Vec<String>, AllocError> {
+        let mut words = Vec::new(alloc);
+        for word in line.split(' ') {
+            words.push(String::from_str(alloc, word)?)?;
+        }
+        Ok(words)
+    }
+
+    #[test]
+    fn right_words_give_the_options(rt: HostRuntime) -> Result<(), Fail> {
+        let alloc = rt.alloc();
+        let rows = [
+            ("run --home d", "d", 10_000_000),
+            ("run --home=d", "d", 10_000_000),
+            ("run --home=", "", 10_000_000),
+            ("run --home=-d", "-d", 10_000_000),
+            ("run --home -", "-", 10_000_000),
+            ("run --home d --", "d", 10_000_000),
+            ("run --home run", "run", 10_000_000),
+            ("run --home=--file-max", "--file-max", 10_000_000),
+            ("run --home d --file-max 4096", "d", 4_096),
+            ("run --home d --file-max=8192", "d", 8_192),
+            ("run --file-max 1073741824 --home d", "d", 1_073_741_824),
+            ("run --file-max=9999999 --home=d", "d", 9_999_999),
+            ("run --home d --file-max +4096", "d", 4_096),
+            ("run --home d --file-max=004096", "d", 4_096),
+        ];
+        for (line, home, file_max) in rows {
+            let words = split(alloc, line)?;
+            match parse(alloc, words.as_slice())? {
+                Some(options) => {
+                    assert_eq!(rt; options.home.as_str(), home, "{line}");
+                    assert_eq!(rt; options.file_max, file_max, "{line}");
+                }
+                None => assert!(rt; false, "{line}"),
+            }
+        }
+        Ok(())
+    }
+
+    #[test]
+    fn other_words_are_wrong(rt: HostRuntime) -> Result<(), Fail> {
+        let alloc = rt.alloc();
+        let none: [String; 0] = [];
+        assert!(rt; parse(alloc, none.as_slice())?.is_none());
+        let rows = [
+            "run",
+            "run --home",
+            "--home d",
+            "run --home d --home e",
+            "run --home d extra",
+            "run --home d -- --",
+            "help",
+            "run --help",
+            "Run --home d",
+            "",
+            "ru --home d",
+            "run --hom d",
+            "run -h",
+            "help run",
+            "--help",
+            "run --home -d",
+            "run d",
+            "run -- --home d",
+            "-- run --home d",
+            "--home d run",
+            "jedb run --home d",
+            "run --file-max 8192",
+            "run --home d --file-max",
+            "run --home d --file-max=",
+            "run --home d --file-max 4095",
+            "run --home d --file-max 1073741825",
+            "run --home d --file-max 4294971392",
+            "run --home d --file-max -1",
+            "run --home d --file-max=-1",
+            "run --home d --file-max=-4096",
+            "run --home d --file-max 5k",
+            "run --home d --file-max ++4096",
+            "run --home d --file-max 0x1000",
+            "run --home d --file-max 8192 --file-max 8192",
+            "run --home d --file-max 8192 16384",
+            "run --home d --file_max 8192",
+            "--file-max 8192 run --home d",
+        ];
+        for line in rows {
+            let words = split(alloc, line)?;
+            assert!(rt; parse(alloc, words.as_slice())?.is_none(), "{line}");
+        }
+        Ok(())
+    }
+}

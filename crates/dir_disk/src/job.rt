@@ -1,0 +1,147 @@
+// The jobs of a folder.
+use je_disk::{ReadDone, ReadJob, SyncDone, SyncJob};
+use std::alloc::Global;
+use std::fs::OpenFile;
+use std::io;
+use std::io::Read;
+use std::sync::Arc;
+use std::sync::atomic::AtomicBool;
+use std::sync::atomic::Ordering::SeqCst;
+
+/// Whether a sync of the system has failed. The system may have let go what it could not write, and
+/// may say of a later sync that it worked: so no later one is trusted.
+pub type Lost = Arc<AtomicBool, Global>;
+
+/// A sync that was begun: handles of its own of the files, and of the folders, that are to be synced.
+pub struct DirJob<F> {
+    pub(crate) number: u64,
+    pub(crate) files: Vec<F>,
+    pub(crate) lost: Lost,
+}
+
+/// A sync that has run, and whether it worked.
+pub struct DirDone {
+    number: u64,
+    worked: bool,
+}
+
+/// The reading of a file that was begun: a handle of its own, none where the file was not there.
+pub struct DirReadJob<F> {
+    pub(crate) number: u64,
+    pub(crate) alloc: Global,
+    pub(crate) file: Option<F>,
+}
+
+/// The reading of a file that has run: its bytes, or why there are none.
+pub struct DirReadDone {
+    number: u64,
+    bytes: io::Result<Vec<u8>>,
+}
+
+/// Syncs a file, and notes a failure.
+pub fn sync_file<F: OpenFile>(file: &F, lost: &Lost) -> io::Result<()> {
+    let answer = file.sync_all();
+    if answer.is_err() {
+        lost.store(true, SeqCst);
+    }
+    answer
+}
+
+/// Syncs files in their order, and notes a failure, after which it syncs no more.
+pub fn sync_all<F: OpenFile>(files: &[F], lost: &Lost) -> io::Result<()> {
+    for file in files {
+        sync_file(file, lost)?;
+    }
+    Ok(())
+}
+
+/// The bytes of a file that is read from its beginning; none where there is no file.
+pub fn whole<F: Read + Drop>(alloc: Global, file: Option<F>) -> io::Result<Vec<u8>> {
+    let mut bytes = Vec::new(alloc);
+    if let Some(mut file) = file {
+        file.read_to_end(&mut bytes)?;
+    }
+    Ok(bytes)
+}
+
+impl<F: OpenFile + Drop + Send> SyncJob for DirJob<F> {
+    type Done = DirDone;
+
+    ghost job_number = { λ job. job.number };
+
+    fn number(&self) -> u64 {
+        self.number
+    }
+
+    fn run(self) -> DirDone {
+        let DirJob {
+            number,
+            files,
+            lost,
+        } = self;
+        let worked = sync_all(files.as_slice(), &lost).is_ok();
+        DirDone { number, worked }
+    }
+}
+
+impl DirDone {
+    /// Spends it, and says whether the sync worked.
+    pub(crate) fn worked(self) -> bool {
+        let DirDone { number: _, worked } = self;
+        worked
+    }
+}
+
+impl SyncDone for DirDone {
+    ghost done_number = { λ done. done.number };
+
+    fn number(&self) -> u64 {
+        self.number
+    }
+
+    fn give_up(self) {
+        self.worked();
+    }
+}
+
+impl<F: Read + Drop + Send> ReadJob for DirReadJob<F> {
+    type Done = DirReadDone;
+
+    ghost job_number = { λ job. job.number };
+
+    fn number(&self) -> u64 {
+        self.number
+    }
+
+    fn run(self) -> DirReadDone {
+        let DirReadJob {
+            number,
+            alloc,
+            file,
+        } = self;
+        DirReadDone {
+            number,
+            bytes: whole(alloc, file),
+        }
+    }
+}
+
+impl DirReadDone {
+    /// Spends it, and hands out the bytes.
+    pub(crate) fn bytes(self) -> io::Result<Vec<u8>> {
+        let DirReadDone { number: _, bytes } = self;
+        bytes
+    }
+}
+
+impl ReadDone for DirReadDone {
+    ghost done_number = { λ done. done.number };
+
+    fn number(&self) -> u64 {
+        self.number
+    }
+
+    fn give_up(self) {
+        drop(self.bytes());
+    }
+}

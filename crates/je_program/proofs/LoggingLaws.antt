@@ -1,0 +1,148 @@
+-- What the calls come to that log a change.
+use Rattle.std.proofs.Common.{◌≡◌, ℕ, ◌+◌, ◌<◌, ◌≤◌, ◌^◌, ◌↔◌, nat_lt, cond, if◌then◌else◌, max, Bool, true, false, List, [], ◌∷◌, ◌++◌, Option, Some, None, Result, Ok, Err, IsErr, IsErrOf, OnErr, OnOk, is_err, refl, ap, sym, ◌∙◌, subst, arith, append_assoc}
+use Rattle.std.specs.Prelude.{unwrap_or, ◌⊎◌}
+use Rattle.std.specs.declared.alloc.AllocError.{AllocError}
+use Rattle.je_disk.specs.States.{State}
+use Rattle.je_lsn.specs.Naming.{last_file}
+use Rattle.je_model.specs.declared.answer.Answer.{Answer}
+use Rattle.je_model.specs.declared.change.Change.{Change}
+use Rattle.je_model.specs.declared.change.Change.TheVariants.{Set, Unset, Make}
+use Rattle.je_model.specs.declared.totals.Totals.{Totals}
+use Rattle.log_entry.specs.declared.entry.Entry.{Entry}
+use Rattle.log_entry.specs.declared.entry.Entry.TheVariants.{Commit}
+use Rattle.log_entry.specs.Spelling.{size_of}
+use Rattle.log_file.specs.Log.{Log, entries_of}
+use Rattle.log_buffer.specs.declared.buffer.LogBuffer.{LogBuffer}
+use Rattle.log_buffer.specs.declared.error.LogErr.{LogErr}
+use Rattle.log_buffer.specs.declared.error.LogErr.TheVariants.{Full, Fault, Damaged, Memory}
+use Rattle.log_buffer.specs.declared.place.Place.{Place}
+use Rattle.log_buffer.specs.Buffer.{disk_of, file_of, offset_of, last_of, IsUnchanged}
+use Rattle.log_buffer.specs.Flip.{end_after, end_after_all, lsn_of, placed_at}
+use Rattle.log_buffer.specs.Log.{HasLog, log_with}
+use Rattle.log_buffer.proofs.Keeping.{log_kept}
+use Rattle.log_replay.specs.Rows.{Rows, row_changed}
+use Rattle.log_replay.specs.Kept.{row_change_of}
+use Rattle.log_replay.specs.Logging.{entry_of}
+use Rattle.log_replay.proofs.LoggedLaws.{size_of-entry_of}
+use Rattle.je_program.specs.declared.kept.Kept.{Kept}
+use Rattle.je_program.specs.declared.kept.TheConstants.{LAST_FILE}
+use Rattle.je_program.specs.Environment.{logged_sizes}
+use Rattle.je_program.specs.Logging.{IsSame, rows_after}
+use Rattle.je_program.specs.Planning.{end_behind}
+use Rattle.je_program.specs.Steps.{CanGoOn, GainsEntries, KeepsLog, LogsChange}
+use Rattle.je_program.proofs.AppendLaws.{grows}
+use Rattle.je_program.proofs.FlipLaws.{end_after_bound, end_rises, file_rises}
+
+-- ---- results
+
+pub on_err : {T E : Type 0} (r : Result T E) (P : Type 0) → P → OnErr r P
+on_err (Ok x) P h = tt
+on_err (Err e) P h = h
+
+pub on_ok_not_err : {T E : Type 0} (r : Result T E) (P : Type 0) → is_err r ≡ false → OnOk r P → P
+on_ok_not_err (Ok x) P works h = h
+on_ok_not_err (Err e) P works h = cc
+
+-- ---- appends
+
+-- an append with room for its entry, in a log with files left, can only meet a fault
+pub only_fault : {T : Type 0} (r : Result T LogErr) (e : LogErr) → r ≡ Err e → (IsErrOf r Full → ⊥) → (IsErrOf r Memory → ⊥) → (IsErrOf r Damaged → ⊥) → IsErrOf r Fault
+only_fault r Full is full memory damaged = absurd (full is)
+only_fault r Fault is full memory damaged = is
+only_fault r Damaged is full memory damaged = absurd (damaged is)
+only_fault r Memory is full memory damaged = absurd (memory is)
+
+-- a buffer works on after an append that met none
+pub works_on : {T : Type 0} (r : Result T LogErr) (x : T) (failed : Bool) → r ≡ Ok x → (failed ≡ true ↔ IsErrOf r Fault) → failed ≡ false
+works_on r x true is h = (let e : Ok x ≡ Err Fault = sym is ∙ h.0 refl in cc)
+works_on r x false is h = refl
+
+pub first_fits : (most : ℕ) (end : Place) (a b : ℕ) → (end_after_all most end (a ∷ b ∷ [])).file ≤ LAST_FILE → last_file < (placed_at most end a).file → ⊥
+first_fits most end a b fits past =
+    let rises : (placed_at most end a).file ≤ (end_after_all most end (a ∷ b ∷ [])).file = file_rises most (end_after most end a) b in
+    omega (arith, fits, past, rises)
+
+pub second_fits : (most m : ℕ) (end e : Place) (a b : ℕ) → m ≡ most → e ≡ end_after most end a → (end_after_all most end (a ∷ b ∷ [])).file ≤ LAST_FILE → last_file < (placed_at m e b).file → ⊥
+second_fits most m end e a b max at fits past =
+    let there : last_file < (placed_at most (end_after most end a) b).file =
+    subst (λ (p : Place). last_file < (placed_at most p b).file) at (subst (λ (k : ℕ). last_file < (placed_at k e b).file) max past) in
+    omega (arith, fits, there)
+
+pub end_along : (a b : ℕ) (p q : Place) (s t : List ℕ) → a ≡ b → p ≡ q → s ≡ t → end_after_all a p s ≡ end_after_all b q t
+end_along a b p q s t max end sizes = ap (λ n. end_after_all n p s) max ∙ ap (λ e. end_after_all b e s) end ∙ ap (λ l. end_after_all b q l) sizes
+
+module _ {D : Type 0} where
+  -- a log gains what two appends put at its end, each in the last file or the next one
+  pub gains_both : (tells : Bool) (s0 s1 s2 : State) (b0 b1 b2 : LogBuffer D) (first second : Entry) (f g : ℕ) →
+      ((log : Log) → HasLog tells s0 b0 log → HasLog tells s1 b1 (log_with f first log)) → ((log : Log) → HasLog tells s1 b1 log → HasLog tells s2 b2 (log_with g second log)) →
+      (f ≡ file_of b0) ⊎ (f ≡ file_of b0 + 1) → (g ≡ file_of b1) ⊎ (g ≡ file_of b1 + 1) → GainsEntries tells s0 s2 b0 b2 (first ∷ second ∷ [])
+  gains_both tells s0 s1 s2 b0 b1 b2 first second f g appends follows at behind = record {
+    logs = λ log has whole.
+        let middle = log_with f first log in
+        let grown = grows log (file_of b0) (offset_of b0) (last_of b0) f first has.is_log has.ends whole at in
+        let has_first = appends log has in
+        let again = grows middle (file_of b1) (offset_of b1) (last_of b1) g second has_first.is_log has_first.ends grown.whole behind in (
+          log_with g second middle,
+          follows middle has_first,
+          again.whole,
+          again.entries ∙ ap (λ (l : List Entry). l ++ second ∷ []) grown.entries ∙ append_assoc (entries_of log) (first ∷ []) (second ∷ []),
+        );
+  }
+
+  -- a buffer that is unchanged keeps its log
+  pub keeps_unchanged : (tells : Bool) (state_of : D → State) (old new : LogBuffer D) → IsUnchanged old new → KeepsLog tells (state_of (disk_of old)) (state_of (disk_of new)) old new
+  keeps_unchanged tells state_of old new same = record {
+    end = same.kept.end;
+    file_max = same.kept.max;
+    works = same.failed;
+    logs = λ log has. subst (λ (d : D). HasLog tells (state_of d) new log) (sym same.disk) (log_kept tells (state_of (disk_of old)) old new log same.kept has);
+  }
+
+  -- a log that was kept first gains the same
+  pub gains_along : (tells : Bool) (s0 s1 s2 : State) (b0 b1 b2 : LogBuffer D) (gained entries : List Entry) → KeepsLog tells s0 s1 b0 b1 → gained ≡ entries →
+      GainsEntries tells s1 s2 b1 b2 gained → GainsEntries tells s0 s2 b0 b2 entries
+  gains_along tells s0 s1 s2 b0 b1 b2 gained entries keeps is gains = subst (λ (l : List Entry). GainsEntries tells s0 s2 b0 b2 l) is (record {
+    logs = λ log has whole. gains.logs log (keeps.logs log has) whole;
+  })
+
+  -- where there was no memory, nothing was logged
+  pub logs_nothing : (tells : Bool) (before after : State) (buffer longer : LogBuffer D) (old new : Kept) (number : ℕ) (change : Change) (totals : Totals) (result : Result Answer AllocError) →
+      IsErr result → IsSame old new → KeepsLog tells before after buffer longer → LogsChange tells before after buffer longer old new number change totals result
+  logs_nothing tells before after buffer longer old new number change totals (Ok answer) is same keeps = cc
+  logs_nothing tells before after buffer longer old new number change totals (Err error) is same keeps = (same, keeps)
+
+-- ---- a transaction with one change
+
+-- the rows after its entry
+pub rows_after_is : (txn number : ℕ) (change : Change) (rows : Rows) (d : ℕ) → rows_after (entry_of txn number change) rows d ≡ row_changed (row_change_of txn number change) rows d
+rows_after_is txn number (Set db at value) rows d = refl
+rows_after_is txn number (Unset db at) rows d = refl
+rows_after_is txn number (Make db kind) rows d = refl
+
+-- the sizes of its entries
+pub sizes_are : (txn number : ℕ) (change : Change) → size_of (entry_of txn number change) ∷ size_of (Commit (record { 0 = txn })) ∷ [] ≡ logged_sizes (change ∷ [])
+sizes_are txn number change = ap (λ (n : ℕ). n ∷ 22 ∷ []) (size_of-entry_of txn number change)
+
+-- the end of the log behind it, where there is one
+pub end_found : (end here : Place) → Some here ≡ (if nat_lt LAST_FILE end.file then None else Some end) → here ≡ end
+end_found end here is = by_case (nat_lt LAST_FILE end.file) is
+  where
+    by_case : (b : Bool) → (let o : Option Place = Some here in o) ≡ cond b None (Some end) → here ≡ end
+    by_case true is = cc
+    by_case false is = ap (λ (o : Option Place). unwrap_or o end) is
+
+-- the numbers leave room for another step after it
+pub can_go_on : (old new : Kept) (number : ℕ) (change : Change) → CanGoOn old → (end_behind old change).file ≤ LAST_FILE → number < 2 ^ 32 → new.end ≡ end_behind old change →
+    new.file_max ≡ old.file_max → new.commits ≡ old.commits + 1 → new.last_db ≡ max old.last_db number → CanGoOn new
+can_go_on old new number change can room small end max commits last = record {
+  file = subst (λ (p : Place). p.file ≤ LAST_FILE) (sym end) room;
+  offset = subst (λ (p : Place). p.offset < 2 ^ 32) (sym end)
+      (end_after_bound old.file_max (end_after old.file_max old.end (size_of (entry_of 0 0 change))) 22 can.file_max (omega arith));
+  file_max = let bound = can.file_max in omega (arith, bound, max);
+  commits =
+      let few = can.commits in
+      let rises = end_rises old.file_max old.end change can.offset in
+      let enough : old.commits + 1 ≤ lsn_of (end_behind old change) = omega (arith, few, rises) in
+      subst (λ (p : Place). new.commits ≤ lsn_of p) (sym end) (subst (λ (n : ℕ). n ≤ lsn_of (end_behind old change)) (sym commits) enough);
+  last_db = let few = can.last_db in omega (arith, few, small, last);
+}

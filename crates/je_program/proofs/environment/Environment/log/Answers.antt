@@ -1,0 +1,90 @@
+use Rattle.std.proofs.Common.{◌≡◌, ◌∷◌, [], ◌+◌, ℕ, refl, ap, sym, ◌∙◌, arith}
+use Rattle.je_disk.specs.Moments.{now}
+use Rattle.je_disk.specs.States.{State}
+use Rattle.log_buffer.specs.Buffer.{disk_of, end_of, file_max_of}
+use Rattle.log_buffer.specs.Flip.{end_after_all}
+use Rattle.log_entry.specs.declared.entry.Entry.{Entry}
+use Rattle.log_entry.specs.declared.entry.Entry.TheVariants.{Commit}
+use Rattle.log_entry.specs.Spelling.{size_of}
+use Rattle.log_replay.specs.Logging.{entry_of}
+use Rattle.log_replay.specs.Rows.{rows_in}
+use Rattle.je_program.specs.Environment.{logged_sizes}
+use Rattle.je_program.specs.Logging.{rows_after}
+use Rattle.je_program.specs.Planning.{end_behind}
+use Rattle.je_program.proofs.LoggingLaws.{can_go_on, end_along, end_found, gains_along, keeps_unchanged, logs_nothing, rows_after_is, sizes_are}
+use Rattle.je_program.proofs.environment.Environment.log.Goals as goal
+
+pub returns-then-is_err-clause-logs : goal.returns-then-is_err-clause-logs
+returns-then-is_err-clause-logs g c = (
+  record { rows = λ d. refl; totals = refl; last_txn = refl; last_db = refl; end = refl; file_max = refl; commits = refl; fault = refl },
+  keeps_unchanged g.D.Disk.tells (λ d. now (g.D.Disk.history d)) c.args.self.now.log c.reserve.new.self c.reserve.ensures.unchanged,
+)
+
+pub returns-in_err-change_rows-clause-logs : goal.returns-in_err-change_rows-clause-logs
+returns-in_err-change_rows-clause-logs g c =
+    let state : g.row.D.Denot → State = λ d. now (g.D.Disk.history d) in
+    let old = c.args.self.now in
+    logs_nothing g.D.Disk.tells (state (disk_of old.log)) (state (disk_of c.reserve.new.self)) old.log c.reserve.new.self old.kept (record old.kept { rows = c.change_rows.new.rows })
+    c.args.number c.args.change c.args.totals c.from_residual-in_err-change_rows.result c.from_residual-in_err-change_rows.ensures.0
+    (record { rows = c.in_err-change_rows.ensures.err; totals = refl; last_txn = refl; last_db = refl; end = refl; file_max = refl; commits = refl; fault = refl })
+    (keeps_unchanged g.D.Disk.tells state old.log c.reserve.new.self c.reserve.ensures.unchanged)
+
+pub returns-in-Ok-clause-logs : goal.returns-in-Ok-clause-logs
+returns-in-Ok-clause-logs g c =
+    let state : g.row.D.Denot → State = λ d. now (g.D.Disk.history d) in
+    let old = c.args.self.now in
+    let reserved = c.reserve.new.self in
+    let same = c.reserve.ensures.unchanged in
+    let txn = old.kept.last_txn + 1 in
+    let entry : c.in_ok-entry.entry ≡ entry_of txn c.args.number c.args.change = c.in_ok-entry.ensures in
+    let sizes : size_of c.in_ok-entry.entry ∷ 22 ∷ [] ≡ logged_sizes (c.args.change ∷ []) = ap (λ (e : Entry). size_of e ∷ 22 ∷ []) entry ∙ sizes_are txn c.args.number c.args.change in
+    let end : c.unwrap-end.result ≡ end_behind old.kept c.args.change =
+    end_found (end_after_all old.kept.file_max old.kept.end (c.size-size.result ∷ 22 ∷ [])) c.unwrap-end.result (sym c.unwrap-end.ensures ∙ c.end_of_transaction.ensures)
+    ∙ end_along old.kept.file_max old.kept.file_max old.kept.end old.kept.end (c.size-size.result ∷ 22 ∷ []) (logged_sizes (c.args.change ∷ [])) refl refl
+    (ap (λ (n : ℕ). n ∷ 22 ∷ []) c.size-size.ensures.value ∙ sizes) in
+    let gains = c.in-Ok.ensures.gains in (
+      refl,
+      record {
+        rows = λ d. c.in_ok-change_rows.ensures.ok d ∙ ap (λ (e : Entry). rows_after e (rows_in old.kept.rows) d) entry
+            ∙ rows_after_is txn c.args.number c.args.change (rows_in old.kept.rows) d;
+        counts = refl;
+        last_txn = refl;
+        last_db = c.max-self.ensures;
+        end = end;
+        file_max = refl;
+        commits = refl;
+        fault = refl;
+      },
+      record {
+        end = c.in-Ok.ensures.end
+            ∙ end_along (file_max_of reserved) old.kept.file_max (end_of reserved) old.kept.end (size_of c.in_ok-entry.entry ∷ 22 ∷ []) (logged_sizes (c.args.change ∷ []))
+            (same.kept.max ∙ c.requires.works.file_max) (same.kept.end ∙ c.requires.works.end) sizes
+            ∙ sym end;
+        file_max = c.in-Ok.ensures.file_max ∙ same.kept.max ∙ c.requires.works.file_max;
+        works = c.in-Ok.ensures.works;
+      },
+      gains_along g.D.Disk.tells (state (disk_of old.log)) (state (disk_of reserved)) (state (disk_of c.append_both.new.log)) old.log reserved c.append_both.new.log
+          (c.in_ok-entry.entry ∷ Commit (record { 0 = txn }) ∷ []) (entry_of txn c.args.number c.args.change ∷ Commit (record { 0 = txn }) ∷ [])
+          (keeps_unchanged g.D.Disk.tells state old.log reserved same) (ap (λ (e : Entry). e ∷ Commit (record { 0 = txn }) ∷ []) entry) gains,
+    )
+
+pub returns-in-Ok-clause-bounds : goal.returns-in-Ok-clause-bounds
+returns-in-Ok-clause-bounds g c =
+    let old = c.args.self.now in
+    let txn = old.kept.last_txn + 1 in
+    let entry : c.in_ok-entry.entry ≡ entry_of txn c.args.number c.args.change = c.in_ok-entry.ensures in
+    let sizes : size_of c.in_ok-entry.entry ∷ 22 ∷ [] ≡ logged_sizes (c.args.change ∷ []) = ap (λ (e : Entry). size_of e ∷ 22 ∷ []) entry ∙ sizes_are txn c.args.number c.args.change in
+    let end : c.unwrap-end.result ≡ end_behind old.kept c.args.change =
+    end_found (end_after_all old.kept.file_max old.kept.end (c.size-size.result ∷ 22 ∷ [])) c.unwrap-end.result (sym c.unwrap-end.ensures ∙ c.end_of_transaction.ensures)
+    ∙ end_along old.kept.file_max old.kept.file_max old.kept.end old.kept.end (c.size-size.result ∷ 22 ∷ []) (logged_sizes (c.args.change ∷ [])) refl refl
+    (ap (λ (n : ℕ). n ∷ 22 ∷ []) c.size-size.ensures.value ∙ sizes) in
+    can_go_on old.kept (record {
+      rows = c.change_rows.new.rows;
+      totals = c.args.totals;
+      last_txn = txn;
+      last_db = c.max-self.result;
+      end = c.unwrap-end.result;
+      file_max = old.kept.file_max;
+      commits = old.kept.commits + 1;
+      fault = old.kept.fault;
+    }) c.args.number c.args.change c.requires.bounds c.requires.room (omega (arith, c.ranges.number.fits)) end refl refl c.max-self.ensures

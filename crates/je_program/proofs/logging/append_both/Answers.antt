@@ -1,0 +1,44 @@
+use Rattle.std.proofs.Common.{◌≡◌, ◌∷◌, [], false}
+use Rattle.je_disk.specs.Moments.{now}
+use Rattle.je_disk.specs.States.{State}
+use Rattle.log_buffer.specs.Buffer.{disk_of, end_of, file_max_of, has_failed, HasRoom}
+use Rattle.log_buffer.specs.Flip.{placed_at}
+use Rattle.log_entry.specs.Spelling.{size_of}
+use Rattle.je_program.proofs.FinishLaws.{rose_earlier}
+use Rattle.je_program.proofs.FlipLaws.{placed_in}
+use Rattle.je_program.proofs.LoggingLaws.{first_fits, gains_both, on_err, only_fault, second_fits, works_on}
+use Rattle.je_program.proofs.logging.append_both.Goals as goal
+
+pub returns-in_err-append-clause-fault : goal.returns-in_err-append-clause-fault
+returns-in_err-append-clause-fault g c =
+    let old = c.args.log.now in
+    let full = c.append.ensures.full c.requires.works in
+    on_err c.from_residual.result _ (c.append.ensures.cause.fault c.requires.works (only_fault c.append.result c.in_err-append.field-0.0 c.in_err-append.was
+    (λ e. first_fits (file_max_of old) (end_of old) (size_of c.args.entry.now) (size_of c.args.commit.now) c.requires.fits (full.0 e))
+    (c.append.ensures.has_room (size_of c.args.commit.now ∷ []) c.requires.room) c.append.ensures.not_damaged))
+
+pub returns-in_err-append-2-clause-fault : goal.returns-in_err-append-2-clause-fault
+returns-in_err-append-2-clause-fault g c =
+    let faults = g.D.Disk.faults in
+    let old = c.args.log.now in
+    let middle = c.append.new.self in
+    let works : has_failed middle ≡ false = works_on c.append.result c.in_ok-append.field-0 (has_failed middle) c.in_ok-append.was c.append.ensures.cause.failed in
+    let full = c.append-2.ensures.full works in
+    let room : HasRoom middle (size_of c.args.commit.now ∷ []) = c.in_ok-append.ensures.room (size_of c.args.commit.now ∷ []) c.requires.room in
+    on_err c.from_residual-in_err-append-2.result _ (rose_earlier (faults (disk_of old)) (faults (disk_of middle)) (faults (disk_of c.append-2.new.self)) c.append.ensures.cause.never_falls
+    (c.append-2.ensures.cause.fault works (only_fault c.append-2.result c.in_err-append-2.field-0.0 c.in_err-append-2.was
+    (λ e. second_fits (file_max_of old) (file_max_of middle) (end_of old) (end_of middle) (size_of c.args.entry.now) (size_of c.args.commit.now)
+    c.append.ensures.file_max c.in_ok-append.ensures.end c.requires.fits (full.0 e))
+    (c.append-2.ensures.has_room [] room) c.append-2.ensures.not_damaged))
+    c.append-2.ensures.cause.never_falls)
+
+pub returns-clause-gains : goal.returns-clause-gains
+returns-clause-gains g c =
+    let state : g.row.D.Denot → State = λ d. now (g.D.Disk.history d) in
+    let old = c.args.log.now in
+    let middle = c.append.new.self in
+    let new = c.append-2.new.self in
+    gains_both g.D.Disk.tells (state (disk_of old)) (state (disk_of middle)) (state (disk_of new)) old middle new c.args.entry.now c.args.commit.now
+    (placed_at (file_max_of old) (end_of old) (size_of c.args.entry.now)).file (placed_at (file_max_of middle) (end_of middle) (size_of c.args.commit.now)).file
+    c.in_ok-append.ensures.log c.in_ok-append-2.ensures.log
+    (placed_in (file_max_of old) (end_of old) (size_of c.args.entry.now)) (placed_in (file_max_of middle) (end_of middle) (size_of c.args.commit.now))

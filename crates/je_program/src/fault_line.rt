@@ -1,0 +1,130 @@
+// The line that tells why a program ended.
+ghost use Rattle.std.specs.Prelude.{◌≡◌, ◌+◌, ◌++◌, ◌≤◌, codes, decimal, length, false};
+ghost use Rattle.std.specs.Fmt.{digits};
+ghost use Rattle.arrayvec.specs.ArrayVec.{array_vec_len};
+ghost use Rattle.je_program.specs.Program.{fault_text, finding_text, lsn_text};
+
+use crate::cause::Cause;
+use crate::hexadecimal::write_hexadecimal;
+use arrayvec::ArrayVec;
+use itoa::Buffer;
+use je_lsn::{FileNo, Lsn, file_name};
+use log_replay::Finding;
+
+// Puts bytes at the end of a line that has room for them.
+fn put(line: &mut ArrayVec<u8, 64>, bytes: &[u8])
+    requires room { array_vec_len line.old + length bytes.now ≤ 64 }
+    ensures items { line.new.items ≡ line.old.items ++ bytes.now }
+    ensures len { array_vec_len line.new ≡ array_vec_len line.old + length bytes.now }
+{
+    line.try_extend_from_slice(bytes).unwrap();
+}
+
+// Puts a number in decimal digits.
+fn put_decimal(line: &mut ArrayVec<u8, 64>, number: u32)
+    requires room { array_vec_len line.old + 10 ≤ 64 }
+    ensures items { line.new.items ≡ line.old.items ++ decimal number }
+    ensures len { array_vec_len line.new ≤ array_vec_len line.old + 10 }
+{
+    let mut digits = Buffer::new();
+    put(line, digits.format(number).as_bytes());
+}
+
+// Puts a number in hexadecimal digits.
+fn put_hexadecimal(line: &mut ArrayVec<u8, 64>, number: u32)
+    requires room { array_vec_len line.old + 8 ≤ 64 }
+    ensures items { line.new.items ≡ line.old.items ++ digits 16 false number }
+    ensures len { array_vec_len line.new ≤ array_vec_len line.old + 8 }
+{
+    let mut piece = [0u8; 8];
+    let start = write_hexadecimal(number, &mut piece);
+    put(line, &piece[start..]);
+}
+
+// Puts an LSN.
+fn put_lsn(line: &mut ArrayVec<u8, 64>, at: Lsn)
+    requires room { array_vec_len line.old + 21 ≤ 64 }
+    ensures items { line.new.items ≡ line.old.items ++ lsn_text at }
+    ensures len { array_vec_len line.new ≤ array_vec_len line.old + 21 }
+{
+    put(line, b"0x");
+    put_hexadecimal(line, at.file().0);
+    put(line, b"/0x");
+    put_hexadecimal(line, at.offset());
+}
+
+// A line of a text, an LSN and the line's end.
+fn line_with_lsn(text: &[u8], at: Lsn) -> ArrayVec<u8, 64>
+    requires { length text.now ≤ 32 }
+    ensures { result.items ≡ text.now ++ lsn_text at ++ codes "\n" }
+{
+    let mut line = ArrayVec::new();
+    put(&mut line, text);
+    put_lsn(&mut line, at);
+    put(&mut line, b"\n");
+    line
+}
+
+// The line of a version that is not known.
+fn line_of_version(file: FileNo, version: u32) -> ArrayVec<u8, 64>
+    ensures { result.items ≡ finding_text (Finding.VersionUnknown file version) }
+{
+    let mut line = ArrayVec::new();
+    put(&mut line, b"fault version ");
+    put(&mut line, file_name(file).as_slice());
+    put(&mut line, b" ");
+    put_decimal(&mut line, version);
+    put(&mut line, b"\n");
+    line
+}
+
+// The line of files that cannot be opened.
+fn line_of_finding(finding: &Finding) -> ArrayVec<u8, 64>
+    ensures { result.items ≡ finding_text finding.now }
+{
+    match finding {
+        Finding::Damaged(at) => line_with_lsn(b"fault damaged ", *at),
+        Finding::Missing(at) => line_with_lsn(b"fault missing ", *at),
+        Finding::Tree(at) => line_with_lsn(b"fault tree ", *at),
+        Finding::VersionUnknown { file, version } => line_of_version(*file, *version),
+    }
+}
+
+// The line of a script's bad line.
+fn line_of_bad_line(number: u32) -> ArrayVec<u8, 64>
+    ensures { result.items ≡ fault_text (Cause.BadScript number) }
+{
+    let mut line = ArrayVec::new();
+    put(&mut line, b"fault script line ");
+    put_decimal(&mut line, number);
+    put(&mut line, b"\n");
+    line
+}
+
+// A line that is this text.
+fn plain_line(text: &[u8]) -> ArrayVec<u8, 64>
+    requires { length text.now ≤ 64 }
+    ensures { result.items ≡ text.now }
+{
+    let mut line = ArrayVec::new();
+    put(&mut line, text);
+    line
+}
+
+/// The line that tells why a program ended, and nothing where all was done. It takes no memory.
+pub fn fault_line(cause: &Cause) -> ArrayVec<u8, 64>
+    ensures { result.items ≡ fault_text cause.now }
+{
+    match cause {
+        Cause::Done => plain_line(b""),
+        Cause::Usage => plain_line(b"fault usage\n"),
+        Cause::BadScript { line } => line_of_bad_line(*line),
+        Cause::Disk => plain_line(b"fault disk\n"),
+        Cause::Unreadable(finding) => line_of_finding(finding),
+        Cause::Memory => plain_line(b"fault memory\n"),
+        Cause::Input => plain_line(b"fault input\n"),
+        Cause::InputTooLong => plain_line(b"fault input too long\n"),
+        Cause::LogFull => plain_line(b"fault log full\n"),
+        Cause::IdsEnded => plain_line(b"fault ids ended\n"),
+    }
+}

@@ -1,0 +1,11 @@
+pub mod Pieces
+pub mod Tails
+pub mod Logs
+pub mod Growing
+pub mod Rooms
+pub mod Written
+pub mod Ending
+pub mod Places
+pub mod Fetched
+pub mod Lasting
+pub mod Keeping

@@ -1,0 +1,58 @@
+-- The room for entries, and the tail's bytes by file, as the fields change.
+use Rattle.std.proofs.Common.{◌≡◌, ◌≢◌, ℕ, ◌+◌, ◌≤◌, List, [], ◌∷◌, ◌++◌, length, refl, sym, ap, ap₂, ◌∙◌, arith}
+use Rattle.std.specs.List.{AllByRecursion}
+use Rattle.std.specs.Prelude.{Result, Ok, Err, OnErr}
+use Rattle.std.proofs.Common.{length-append}
+use Rattle.log_entry.specs.declared.entry.Entry.{Entry}
+use Rattle.log_entry.specs.declared.entry.Entry.TheVariants.{FileHeader}
+use Rattle.log_entry.specs.Spelling.{spelling, size_of}
+use Rattle.log_entry.proofs.ReadingLaws.{length-spelling}
+use Rattle.log_buffer.specs.Flip.{header_size}
+use Rattle.log_buffer.specs.Tail.{bytes_for, first_for}
+use Rattle.log_buffer.proofs.Pieces.{IsCut}
+use Rattle.log_buffer.proofs.Tails.{push_last, push_other, begin_next, begin_other}
+
+pub each_more : (a b : ℕ) (sizes : List ℕ) → a ≤ b → AllByRecursion (λ size. header_size + size ≤ a) sizes → AllByRecursion (λ size. header_size + size ≤ b) sizes
+each_more a b [] le all = tt
+each_more a b (size ∷ sizes) le all = (let first = all.0 in omega arith, each_more a b sizes le all.1)
+
+-- the same places and bytes are the same for each file
+pub same_for : (bytes starts bytes' starts' : List ℕ) (last f : ℕ) → bytes' ≡ bytes → starts' ≡ starts → bytes_for bytes' starts' last f ≡ bytes_for bytes starts last f
+same_for bytes starts bytes' starts' last f p q = ap₂ (λ (b s : List ℕ). bytes_for b s last f) p q
+
+pub pushed_last : (bytes starts bytes' starts' more : List ℕ) (last : ℕ) → length starts ≤ last → IsCut (length bytes) starts → bytes' ≡ bytes ++ more → starts' ≡ starts
+    → bytes_for bytes' starts' last last ≡ bytes_for bytes starts last last ++ more
+pushed_last bytes starts bytes' starts' more last le cut p q = same_for (bytes ++ more) starts bytes' starts' last last p q ∙ push_last bytes more starts last le cut
+
+pub pushed_other : (bytes starts bytes' starts' more : List ℕ) (last f : ℕ) → length starts ≤ last → IsCut (length bytes) starts → bytes' ≡ bytes ++ more → starts' ≡ starts → f ≢ last
+    → bytes_for bytes' starts' last f ≡ bytes_for bytes starts last f
+pushed_other bytes starts bytes' starts' more last f le cut p q apart = same_for (bytes ++ more) starts bytes' starts' last f p q ∙ push_other bytes more starts last f le cut apart
+
+pub begun_next : (bytes starts bytes' starts' more : List ℕ) (last : ℕ) → length starts ≤ last → bytes' ≡ bytes ++ more → starts' ≡ starts ++ length bytes ∷ []
+    → bytes_for bytes' starts' (last + 1) (last + 1) ≡ more
+begun_next bytes starts bytes' starts' more last le p q =
+    same_for (bytes ++ more) (starts ++ length bytes ∷ []) bytes' starts' (last + 1) (last + 1) p q ∙ begin_next bytes more starts last (last + 1) le refl
+
+pub begun_other : (bytes starts bytes' starts' more : List ℕ) (last f : ℕ) → length starts ≤ last → IsCut (length bytes) starts → bytes' ≡ bytes ++ more → starts' ≡ starts ++ length bytes ∷ [] → f ≢ last + 1
+    → bytes_for bytes' starts' (last + 1) f ≡ bytes_for bytes starts last f
+begun_other bytes starts bytes' starts' more last f le cut p q apart =
+    same_for (bytes ++ more) (starts ++ length bytes ∷ []) bytes' starts' (last + 1) f p q ∙ begin_other bytes more starts last (last + 1) f le refl cut apart
+
+-- a header and an entry behind it
+pub spelled_size : (bytes : List ℕ) (f : ℕ) (e : Entry) → bytes ≡ spelling (FileHeader 1 f) 0 ++ spelling e 0 → length bytes ≡ header_size + size_of e
+spelled_size bytes f e is =
+    ap length is ∙ length-append (spelling (FileHeader 1 f) 0) (spelling e 0) ∙ ap₂ (λ (a b : ℕ). a + b) (length-spelling (FileHeader 1 f) 0) (length-spelling e 0)
+
+pub on_err : {T E : Type 0} (r : Result T E) (P : Type 0) → P → OnErr r P
+on_err (Ok v) P p = tt
+on_err (Err e) P p = p
+
+-- where the first byte is for the first file, it was so before a next file began
+pub first_before : (starts starts' : List ℕ) (at first first' : ℕ) → starts' ≡ starts ++ at ∷ [] → first' ≡ first → first_for starts' first' ≡ first' → first_for starts first ≡ first
+first_before starts starts' at first first' begun same is = by_cases starts (sym (ap₂ (λ (s : List ℕ) (n : ℕ). first_for s n) begun same) ∙ is ∙ same) where
+  by_cases : (s : List ℕ) → first_for (s ++ at ∷ []) first ≡ first → first_for s first ≡ first
+  by_cases [] e = refl
+  by_cases (x ∷ s) e = e
+
+pub first_same : (starts starts' : List ℕ) (first first' : ℕ) → starts' ≡ starts → first' ≡ first → first_for starts' first' ≡ first' → first_for starts first ≡ first
+first_same starts starts' first first' same number is = sym (ap₂ (λ (s : List ℕ) (n : ℕ). first_for s n) same number) ∙ is ∙ number

@@ -1,0 +1,18 @@
+use Rattle.std.proofs.Common.{◌-◌, ap, sym, ◌∙◌, length, arith}
+use Rattle.log_buffer.specs.Tail.{bytes_for}
+use Rattle.log_buffer.proofs.Tails.{bytes_for_from}
+use Rattle.log_buffer.proofs.Fetched.{spells_in}
+use Rattle.log_buffer.proofs.buffer.LogBuffer.find.Goals as goal
+
+pub returns-then-at-bytes : goal.returns-then-at-bytes
+returns-then-at-bytes g c =
+    λ entry within spells.
+    let old = c.args.self.now in
+    let le = old.files in
+    let low = c.requires in
+    let count = c.files.ensures in
+    let same = bytes_for_from old.tail.bytes.items old.tail.starts.items old.file.0 c.args.f.0 (c.args.f.0 - (old.file.0 - c.files.result)) le (omega (arith, count)) in
+    let len = ap length (same ∙ sym c.piece-bytes.ensures) in
+    let lt = spells_in (bytes_for old.tail.bytes.items old.tail.starts.items old.file.0 c.args.f.0) c.args.at entry spells in
+    let past = c.if-at-bytes.true in
+    absurd (omega (arith, len))

@@ -1,0 +1,23 @@
+use Rattle.std.proofs.Common.{ℕ, sym, subst, drop}
+use Rattle.je_disk.specs.Moments.{now}
+use Rattle.log_buffer.specs.Buffer.{tail_of}
+use Rattle.log_buffer.specs.Log.{Spells}
+use Rattle.log_buffer.proofs.Fetched.{standing, on_disk, in_the_tail}
+use Rattle.log_buffer.proofs.buffer.LogBuffer.look.Goals as goal
+
+pub returns-then-is_on_disk-clause-found : goal.returns-then-is_on_disk-clause-found
+returns-then-is_on_disk-clause-found g c =
+    let old = c.args.self.now in
+    let state = now (g.D.Disk.history old.disk) in
+    λ log entry told has stands.
+    let is = standing g.D.Disk.tells state old log c.args.at c.file-file.result.0 c.offset-offset.result entry c.file-file.ensures c.offset-offset.ensures told has stands in
+    c.fetch.ensures.found entry told (on_disk g.D.Disk.tells state old c.file-file.result.0 c.offset-offset.result entry is (c.is_on_disk.ensures.0 c.if-is_on_disk.true))
+
+pub returns-clause-found : goal.returns-clause-found
+returns-clause-found g c =
+    let old = c.args.self.now in
+    let state = now (g.D.Disk.history old.disk) in
+    λ log entry told has stands.
+    let is = standing g.D.Disk.tells state old log c.args.at c.file-file.result.0 c.offset-offset.result entry c.file-file.ensures c.offset-offset.ensures told has stands in
+    let spells = in_the_tail g.D.Disk.tells state old c.file-file.result.0 c.offset-offset.result entry is (λ there. let t = c.is_on_disk.ensures.1 there in let f = c.if-is_on_disk.false in absurd cc) in
+    c.in_ok-found.ensures entry is.within (subst (λ (n : ℕ). Spells (drop n (tail_of old c.file-file.result.0)) entry) (sym c.within_tail-within.ensures) spells)

@@ -1,0 +1,76 @@
+use Rattle.std.proofs.Common.{ℕ, ◌+◌, ◌-◌, List, [], ◌∷◌, length, refl, ap, ◌∙◌, arith, length-append}
+use Rattle.log_buffer.proofs.Pieces.{IsCut}
+use Rattle.log_buffer.proofs.Tails.{bytes_for_above}
+use Rattle.log_buffer.proofs.Growing.{log_next}
+use Rattle.log_buffer.proofs.Rooms.{each_more, same_for, begun_next, begun_other, spelled_size, on_err, first_before}
+use Rattle.log_entry.proofs.BodyLaws.{body_small}
+use Rattle.log_buffer.specs.Tail.{first_for}
+use Rattle.log_buffer.proofs.buffer.LogBuffer.put_next.Goals as goal
+
+pub begin-requires : goal.begin-requires
+begin-requires g c =
+    let len = spelled_size c.as_slice.result.now (c.args.self.now.file.0 + 1) c.args.entry.now (c.as_slice.ensures.value ∙ c.in_ok-spell_first.ensures.ok) in
+    omega (arith, len)
+
+pub returns-in_err-begin-clause-unchanged : goal.returns-in_err-begin-clause-unchanged
+returns-in_err-begin-clause-unchanged g c =
+    let old = c.args.self.now in
+    let starts = c.in_err-begin.ensures.kept in
+    on_err c.from_residual-in_err-begin.result _ (record {
+      kept = record {
+        end = refl;
+        last = refl;
+        first = ap (λ (s : List ℕ). old.file.0 - length s) starts;
+        written = ap (λ (s : List ℕ). first_for s (old.file.0 - length s)) starts;
+        base = refl;
+        max = refl;
+        tail = λ f. same_for old.tail.bytes.items old.tail.starts.items c.begin.new.self.bytes.items c.begin.new.self.starts.items old.file.0 f c.in_err-begin.ensures.err starts;
+        room = λ sizes room. record {
+          bytes = let bytes = room.bytes in let unused = c.in_err-begin.ensures.unused in omega arith;
+          files = let files = room.files in let places = c.begin.ensures.capacity in omega (arith, ap length starts);
+          each = each_more _ _ sizes c.spell_first.ensures.capacity room.each;
+        };
+      };
+      disk = refl;
+      failed = refl;
+    })
+
+pub returns-in_err-begin-clause-fits : goal.returns-in_err-begin-clause-fits
+returns-in_err-begin-clause-fits g c =
+    let len = spelled_size c.as_slice.result.now (c.args.self.now.file.0 + 1) c.args.entry.now (c.as_slice.ensures.value ∙ c.in_ok-spell_first.ensures.ok) in
+    λ sizes room. let bytes = room.bytes in let files = room.files in let ok = c.in_err-begin.ensures.fits (omega arith) (omega (arith, len)) in absurd cc
+
+pub returns-clause-log : goal.returns-clause-log
+returns-clause-log g c =
+    let old = c.args.self.now in
+    let cut : IsCut (length old.tail.bytes.items) old.tail.starts.items = record { within = old.tail.within; apart = old.tail.apart } in
+    let len = length-append old.tail.starts.items (length old.tail.bytes.items ∷ []) in
+    let small = old.last_file in
+    let size = body_small c.args.entry.now c.requires.entry in
+    λ tells state log has.
+    log_next tells state old _ log c.args.entry.now c.requires.entry c.requires.follows (omega arith) (omega arith)
+    (record {
+      file = refl;
+      offset = ap (λ (n : ℕ). 26 + n) c.requires.size;
+      last = refl;
+      first = let begun = ap length c.in_ok-begin.ensures.begun in omega (arith, len, begun);
+      base = refl;
+      written = first_before old.tail.starts.items c.begin.new.self.starts.items (length old.tail.bytes.items) _ _ c.in_ok-begin.ensures.begun (let begun = ap length c.in_ok-begin.ensures.begun in omega (arith, len, begun));
+      none = bytes_for_above old.tail.bytes.items old.tail.starts.items old.file.0 (old.file.0 + 1) old.files (omega arith);
+      tail = begun_next old.tail.bytes.items old.tail.starts.items c.begin.new.self.bytes.items c.begin.new.self.starts.items c.as_slice.result.now old.file.0 old.files c.in_ok-begin.ensures.ok c.in_ok-begin.ensures.begun
+          ∙ c.as_slice.ensures.value ∙ c.in_ok-spell_first.ensures.ok;
+      others = λ f apart. begun_other old.tail.bytes.items old.tail.starts.items c.begin.new.self.bytes.items c.begin.new.self.starts.items c.as_slice.result.now old.file.0 f old.files cut c.in_ok-begin.ensures.ok c.in_ok-begin.ensures.begun apart;
+    })
+    has
+
+pub returns-clause-room : goal.returns-clause-room
+returns-clause-room g c =
+    let len = spelled_size c.as_slice.result.now (c.args.self.now.file.0 + 1) c.args.entry.now (c.as_slice.ensures.value ∙ c.in_ok-spell_first.ensures.ok) in
+    let used = c.in_ok-begin.ensures.used in
+    let places = c.begin.ensures.capacity in
+    let more = length-append c.args.self.now.tail.starts.items (length c.args.self.now.tail.bytes.items ∷ []) in
+    λ sizes room. record {
+      bytes = let bytes = room.bytes in omega (arith, len);
+      files = let files = room.files in let begun = ap length c.in_ok-begin.ensures.begun in omega (arith, more, begun);
+      each = each_more _ _ sizes c.spell_first.ensures.capacity room.each.1;
+    }

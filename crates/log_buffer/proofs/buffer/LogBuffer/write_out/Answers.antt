@@ -1,0 +1,18 @@
+use Rattle.std.proofs.Common.{[], length, refl, ap, ◌∙◌, arith}
+use Rattle.je_disk.specs.Moments.{now}
+use Rattle.log_buffer.proofs.Tails.{bytes_for_none}
+use Rattle.log_buffer.proofs.Rooms.{same_for}
+use Rattle.log_buffer.proofs.Ending.{log_written}
+use Rattle.log_buffer.proofs.buffer.LogBuffer.write_out.Goals as goal
+
+pub returns-in-Ok-clause-log : goal.returns-in-Ok-clause-log
+returns-in-Ok-clause-log g c =
+    let old = c.args.self.now in
+    λ log has.
+    log_written g.D.Disk.tells (now (g.D.Disk.history old.disk)) (now (g.D.Disk.history c.write_tail.new.disk)) old _ log
+    (record {
+      empty = λ f. same_for [] [] c.clear.new.self.bytes.items c.clear.new.self.starts.items old.file.0 f c.clear.ensures.bytes c.clear.ensures.starts ∙ bytes_for_none old.file.0 f;
+      first = let starts = ap length c.clear.ensures.starts in omega (arith, starts);
+      base = refl;
+    })
+    refl refl refl c.in-Ok.ensures.done has

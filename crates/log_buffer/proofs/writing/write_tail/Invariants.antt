@@ -1,0 +1,15 @@
+use Rattle.std.proofs.Common.{◌≡◌, ◌≤◌, ◌+◌, true, length}
+use Rattle.je_disk.specs.Moments.{now}
+use Rattle.log_buffer.proofs.Written.{WrittenUpTo}
+use Rattle.log_buffer.proofs.writing.write_tail.Given as goal
+
+abbrev pub invariant-loop-i : goal.invariant-loop-i
+invariant-loop-i g l = record {
+  first_is : l.first + length l.tail.starts.items ≡ l.last;
+  count_is : l.count ≡ length l.tail.starts.items;
+  written : g.D.Disk.tells ≡ true → WrittenUpTo l.tail.bytes.items l.tail.starts.items l.last (now (g.D.Disk.history l.fn.disk)).reads (now (g.D.Disk.history l.disk)).reads (l.first + l.i);
+  never_falls : g.D.Disk.faults l.fn.disk ≤ g.D.Disk.faults l.disk;
+  sync_out : g.D.Disk.sync_out l.disk ≡ g.D.Disk.sync_out l.fn.disk;
+  read_out : g.D.Disk.read_out l.disk ≡ g.D.Disk.read_out l.fn.disk;
+  read_of : g.D.Disk.read_of l.disk ≡ g.D.Disk.read_of l.fn.disk;
+}

@@ -1,0 +1,15 @@
+// What holds of all logs that entries are appended to.
+ghost use Rattle.log_buffer.specs.Laws.{AppendedIsLast, AreBounded, NeverFalls, AppendsJoin};
+
+/// An entry that is appended is the log's last one, and stands where it was placed.
+pub fn entries_go_last()
+    ensures { AppendedIsLast }
+{}
+
+/// A file is longer than the greatest size only where it holds one entry behind its header; the last
+/// file's number never falls; and appends of some entries and then of others are appends of all.
+pub fn files_are_bounded()
+    ensures bounded { AreBounded }
+    ensures rises { NeverFalls }
+    ensures joins { AppendsJoin }
+{}

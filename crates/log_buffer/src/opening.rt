@@ -1,0 +1,109 @@
+// Buffers that begin and end.
+ghost use Rattle.std.specs.Prelude.{◌≡◌, ◌≤◌, ◌<◌, ◌/◌, ◌%◌, ◌^◌, ◌*◌, ◌++◌, ◌∷◌, [], true, false, IfOk, IfErr};
+ghost use Rattle.je_disk.specs.Moments.{now};
+ghost use Rattle.je_lsn.specs.Naming.{last_file};
+ghost use Rattle.log_entry.specs.Spelling.{spelling};
+ghost use Rattle.log_entry.specs.declared.entry.Entry.TheVariants.{FileHeader};
+ghost use Rattle.log_file.specs.Log.{Log, IsLog};
+ghost use Rattle.log_buffer.specs.Buffer.{disk_of, end_of, last_of, file_max_of, has_failed, tail_of, IsWritten};
+ghost use Rattle.log_buffer.specs.Log.{HasLog, EndsAt, ReadAs, ReadAsBut};
+ghost use Rattle.log_buffer.specs.Flip.{lsn_of, header_size};
+
+use crate::LogBuffer;
+use crate::spelling::spell_header;
+use crate::tail::Tail;
+use je_disk::Disk;
+use je_lsn::{FileNo, Lsn};
+use std::alloc::{AllocError, Global};
+
+impl<D: Disk> LogBuffer<D> {
+    /// A buffer with nothing to write over a log that stands on the disk. The log ends at the LSN `at`;
+    /// `last` is the offset of that file's last entry, 0 where it holds its header alone. A file is
+    /// longer than `file_max` bytes only where it holds one entry behind its header. It takes no memory.
+    pub fn resume(alloc: Global, disk: D, at: Lsn, last: u32, file_max: u32) -> LogBuffer<D>
+        requires file { at / 2 ^ 32 ≤ last_file }
+        requires file_max { file_max ≤ 2 ^ 30 }
+        ensures disk { disk_of result ≡ disk }
+        ensures end { lsn_of (end_of result) ≡ at }
+        ensures last { last_of result ≡ last }
+        ensures file_max { file_max_of result ≡ file_max }
+        ensures not_failed { has_failed result ≡ false }
+        ensures written { IsWritten result }
+        ensures log { (log : Log) → IsLog log → EndsAt log (at / 2 ^ 32) (at % 2 ^ 32) last → ReadAs D.tells (now (D.history disk)).reads log
+            → HasLog D.tells (now (D.history disk)) result log }
+    {
+        let file = at.file();
+        let offset = at.offset();
+        LogBuffer {
+            disk,
+            tail: Tail::new(alloc),
+            piece: Vec::new(alloc),
+            file,
+            offset,
+            last,
+            base: offset,
+            file_max,
+            failed: false,
+        }
+    }
+
+    /// The same where the last file has no header yet, as it is not there or is empty: the header goes
+    /// into the tail. Where memory runs out the disk is handed back.
+    pub fn create(alloc: Global, disk: D, file: FileNo, file_max: u32) -> Result<LogBuffer<D>, D>
+        requires file { file.0 ≤ last_file }
+        requires file_max { file_max ≤ 2 ^ 30 }
+        ensures disk { IfOk result (λ buffer. disk_of buffer ≡ disk) }
+        ensures end { IfOk result (λ buffer. end_of buffer ≡ record { file = file.0; offset = header_size }) }
+        ensures last { IfOk result (λ buffer. last_of buffer ≡ 0) }
+        ensures file_max { IfOk result (λ buffer. file_max_of buffer ≡ file_max) }
+        ensures not_failed { IfOk result (λ buffer. has_failed buffer ≡ false) }
+        ensures log { (before : Log) → IsLog (before ++ (file.0, []) ∷ []) → ReadAsBut D.tells file.0 (now (D.history disk)).reads before
+            → IfOk result (λ buffer. HasLog D.tells (now (D.history disk)) buffer (before ++ (file.0, []) ∷ [])) }
+        ensures handed_back { IfErr result (λ given. given ≡ disk) }
+    {
+        match header_tail(alloc, file) {
+            Ok(tail) => Ok(LogBuffer {
+                disk,
+                tail,
+                piece: Vec::new(alloc),
+                file,
+                offset: 26,
+                last: 0,
+                base: 0,
+                file_max,
+                failed: false,
+            }),
+            Err(_) => Err(disk),
+        }
+    }
+
+    /// The disk, with the tail let go.
+    pub fn into_disk(self) -> D
+        ensures { result ≡ disk_of self }
+    {
+        let LogBuffer {
+            disk,
+            tail: _,
+            piece: _,
+            file: _,
+            offset: _,
+            last: _,
+            base: _,
+            file_max: _,
+            failed: _,
+        } = self;
+        disk
+    }
+}
+
+// A tail that holds a file's header.
+fn header_tail(alloc: Global, file: FileNo) -> Result<Tail, AllocError>
+    ensures bytes { IfOk result (λ tail. tail.bytes.items ≡ spelling (FileHeader 1 file.0) 0) }
+    ensures starts { IfOk result (λ tail. tail.starts.items ≡ []) }
+{
+    let mut piece = Vec::new(alloc);
+    spell_header(&mut piece, file)?;
+    let mut tail = Tail::new(alloc);
+    tail.push(piece.as_slice())?;
+    Ok(tail)
+}

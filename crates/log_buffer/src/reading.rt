@@ -1,0 +1,244 @@
+// What is read of the log, and files that go.
+ghost use Rattle.std.specs.Prelude.{◌≡◌, ◌≤◌, ◌<◌, ◌+◌, ◌*◌, ◌^◌, ◌-◌, ◌==◌, ◌↔◌, ◌⊎◌, ℕ, [], true, false, Some, None, drop, if◌then◌else◌, IsTrue, OnOk, OnErr, IfOk, IsErrOf};
+ghost use Rattle.je_disk.specs.Moments.{now};
+ghost use Rattle.je_disk.specs.States.{content};
+ghost use Rattle.log_entry.specs.declared.entry.Entry.{Entry as Found};
+ghost use Rattle.log_file.specs.Log.{Log};
+ghost use Rattle.log_buffer.specs.Buffer.{disk_of, end_of, file_of, first_of, base_of, has_failed, tail_of, written_of, KeepsTail};
+ghost use Rattle.log_buffer.specs.Flip.{lsn_of};
+ghost use Rattle.log_buffer.specs.Log.{HasLog, Spells, StandsAt, log_without};
+ghost use Rattle.log_buffer.specs.Causes.{HasCause, FailsByFault};
+
+use crate::fetching::{entry_at, entry_in};
+use crate::{LogBuffer, LogErr};
+use je_disk::{Disk, DiskErr, ReadDone, ReadJob};
+use je_lsn::{FileNo, Lsn};
+use log_entry::Entry;
+use std::alloc::{AllocError, Global};
+
+impl<D: Disk> LogBuffer<D> {
+    /// The entry at a place of the log. Of a file it reads 14 bytes, and then the entry.
+    /// At a place where no entry of the log stands it answers Damaged, or what entry can be read there.
+    pub fn read(&mut self, alloc: Global, at: Lsn) -> Result<Entry, LogErr>
+        ensures found { (log : Log) (entry : Found) → D.tells ≡ true → HasLog D.tells (now (D.history (disk_of self.old))) self.old log → StandsAt log at entry
+            → IfOk result (λ found. found ≡ entry) }
+        ensures undamaged { (log : Log) (entry : Found) → D.tells ≡ true → HasLog D.tells (now (D.history (disk_of self.old))) self.old log → StandsAt log at entry
+            → IsErrOf result LogErr.Damaged → ⊥ }
+        ensures log { (log : Log) → HasLog D.tells (now (D.history (disk_of self.old))) self.old log → HasLog D.tells (now (D.history (disk_of self.new))) self.new log }
+        ensures kept { KeepsTail self.old self.new }
+        ensures not_full { IsErrOf result LogErr.Full → ⊥ }
+        ensures cause { HasCause (has_failed self.old) (has_failed self.new) (D.faults (disk_of self.old)) (D.faults (disk_of self.new)) result }
+        ensures still { has_failed self.old ≡ true → disk_of self.new ≡ disk_of self.old }
+        ensures sync_out { D.sync_out (disk_of self.new) ≡ D.sync_out (disk_of self.old) }
+        ensures read_out { D.read_out (disk_of self.new) ≡ D.read_out (disk_of self.old) }
+        ensures read_of { D.read_of (disk_of self.new) ≡ D.read_of (disk_of self.old) }
+    {
+        match self.look(alloc, at)? {
+            Some(entry) => Ok(entry),
+            None => Err(LogErr::Damaged),
+        }
+    }
+
+    // The entry at a place of the log, where one can be read there.
+    fn look(&mut self, alloc: Global, at: Lsn) -> Result<Option<Entry>, LogErr>
+        ensures found { (log : Log) (entry : Found) → D.tells ≡ true → HasLog D.tells (now (D.history (disk_of self.old))) self.old log → StandsAt log at entry
+            → IfOk result (λ found. found ≡ Some entry) }
+        ensures log { (log : Log) → HasLog D.tells (now (D.history (disk_of self.old))) self.old log → HasLog D.tells (now (D.history (disk_of self.new))) self.new log }
+        ensures kept { KeepsTail self.old self.new }
+        ensures not_full { IsErrOf result LogErr.Full → ⊥ }
+        ensures not_damaged { IsErrOf result LogErr.Damaged → ⊥ }
+        ensures cause { HasCause (has_failed self.old) (has_failed self.new) (D.faults (disk_of self.old)) (D.faults (disk_of self.new)) result }
+        ensures still { has_failed self.old ≡ true → disk_of self.new ≡ disk_of self.old }
+        ensures sync_out { D.sync_out (disk_of self.new) ≡ D.sync_out (disk_of self.old) }
+        ensures read_out { D.read_out (disk_of self.new) ≡ D.read_out (disk_of self.old) }
+        ensures read_of { D.read_of (disk_of self.new) ≡ D.read_of (disk_of self.old) }
+    {
+        if self.failed {
+            return Err(LogErr::Fault);
+        }
+        let file = at.file();
+        let offset = at.offset();
+        if self.is_on_disk(file, offset) {
+            return self.fetch(alloc, file, offset);
+        }
+        let within = self.within_tail(file, offset);
+        let found = self.find(alloc, file, within)?;
+        Ok(found)
+    }
+
+    // Whether a place of the log is on the disk; else it is in the tail.
+    fn is_on_disk(&self, f: FileNo, offset: u32) -> bool
+        ensures { IsTrue result ↔ (f.0 < written_of self.now) ⊎ ((f.0 ≡ first_of self.now) × (offset < base_of self.now)) }
+    {
+        f.0 < self.written().0
+            || (f.0 == self.file.0 - self.tail.files() as u32 && offset < self.base)
+    }
+
+    // The entry at a place of a file.
+    fn fetch(&mut self, alloc: Global, f: FileNo, offset: u32) -> Result<Option<Entry>, LogErr>
+        requires { has_failed self.old ≡ false }
+        ensures found { (entry : Found) → D.tells ≡ true → Spells (drop offset (content (now (D.history (disk_of self.old))).reads f.0)) entry → IfOk result (λ found. found ≡ Some entry) }
+        ensures log { (log : Log) → HasLog D.tells (now (D.history (disk_of self.old))) self.old log → HasLog D.tells (now (D.history (disk_of self.new))) self.new log }
+        ensures kept { KeepsTail self.old self.new }
+        ensures not_full { IsErrOf result LogErr.Full → ⊥ }
+        ensures not_damaged { IsErrOf result LogErr.Damaged → ⊥ }
+        ensures cause { HasCause (has_failed self.old) (has_failed self.new) (D.faults (disk_of self.old)) (D.faults (disk_of self.new)) result }
+        ensures sync_out { D.sync_out (disk_of self.new) ≡ D.sync_out (disk_of self.old) }
+        ensures read_out { D.read_out (disk_of self.new) ≡ D.read_out (disk_of self.old) }
+        ensures read_of { D.read_of (disk_of self.new) ≡ D.read_of (disk_of self.old) }
+    {
+        match entry_at(alloc, &mut self.disk, f, offset) {
+            Ok(found) => Ok(found),
+            Err(DiskErr::Memory) => Err(LogErr::Memory),
+            Err(DiskErr::Failed) => {
+                self.failed = true;
+                Err(LogErr::Fault)
+            }
+        }
+    }
+
+    // How far into the tail's bytes for a file an offset of the file is.
+    fn within_tail(&self, f: FileNo, offset: u32) -> u32
+        ensures { result ≡ (if f.0 == first_of self.now then offset - base_of self.now else offset) }
+    {
+        if f.0 == self.file.0 - self.tail.files() as u32 {
+            offset.saturating_sub(self.base)
+        } else {
+            offset
+        }
+    }
+
+    // The entry at a place of the tail's bytes for a file.
+    fn find(&self, alloc: Global, f: FileNo, at: u32) -> Result<Option<Entry>, AllocError>
+        requires { first_of self.now ≤ f.0 }
+        ensures { (entry : Found) → f.0 ≤ file_of self.now → Spells (drop at (tail_of self.now f.0)) entry → IfOk result (λ found. found ≡ Some entry) }
+    {
+        if f.0 > self.file.0 {
+            return Ok(None);
+        }
+        let first = self.file.0 - self.tail.files() as u32;
+        let bytes = self.tail.piece((f.0 - first) as usize);
+        if at as usize > bytes.len() {
+            return Ok(None);
+        }
+        entry_in(alloc, bytes, at as usize)
+    }
+
+    /// Begins to read a whole file as it is on the disk. A read job that is out is given up.
+    pub fn read_begin(&mut self, f: FileNo) -> Result<D::ReadJob, LogErr>
+        ensures begun { IfOk result (λ job. D.read_out (disk_of self.new) ≡ Some (D.ReadJob.job_number job)) }
+        ensures read_of { OnOk result (D.read_of (disk_of self.new) ≡ f.0) }
+        ensures none_out { has_failed self.old ≡ false → OnErr result (D.read_out (disk_of self.new) ≡ None) }
+        ensures log { (log : Log) → HasLog D.tells (now (D.history (disk_of self.old))) self.old log → HasLog D.tells (now (D.history (disk_of self.new))) self.new log }
+        ensures kept { KeepsTail self.old self.new }
+        ensures by_fault { FailsByFault result }
+        ensures cause { HasCause (has_failed self.old) (has_failed self.new) (D.faults (disk_of self.old)) (D.faults (disk_of self.new)) result }
+        ensures still { has_failed self.old ≡ true → disk_of self.new ≡ disk_of self.old }
+        ensures sync_out { D.sync_out (disk_of self.new) ≡ D.sync_out (disk_of self.old) }
+    {
+        if self.failed {
+            return Err(LogErr::Fault);
+        }
+        self.failed = true;
+        match self.disk.read_job(f) {
+            Ok(job) => {
+                self.failed = false;
+                Ok(job)
+            }
+            Err(_) => Err(LogErr::Fault),
+        }
+    }
+
+    /// Ends the reading that is out, with the bytes of its file as they are on the disk now. A buffer that
+    /// has failed gives the job up.
+    pub fn read_end(
+        &mut self,
+        alloc: Global,
+        done: <D::ReadJob as ReadJob>::Done,
+    ) -> Result<Vec<u8>, LogErr>
+        requires { D.read_out (disk_of self.old) ≡ Some (D.ReadJob.Done.done_number done) }
+        ensures bytes { D.tells ≡ true → IfOk result (λ bytes. bytes.items ≡ content (now (D.history (disk_of self.old))).reads (D.read_of (disk_of self.old))) }
+        ensures none_out { has_failed self.old ≡ false → D.read_out (disk_of self.new) ≡ None }
+        ensures log { (log : Log) → HasLog D.tells (now (D.history (disk_of self.old))) self.old log → HasLog D.tells (now (D.history (disk_of self.new))) self.new log }
+        ensures kept { KeepsTail self.old self.new }
+        ensures not_full { IsErrOf result LogErr.Full → ⊥ }
+        ensures not_damaged { IsErrOf result LogErr.Damaged → ⊥ }
+        ensures cause { HasCause (has_failed self.old) (has_failed self.new) (D.faults (disk_of self.old)) (D.faults (disk_of self.new)) result }
+        ensures still { has_failed self.old ≡ true → disk_of self.new ≡ disk_of self.old }
+        ensures sync_out { D.sync_out (disk_of self.new) ≡ D.sync_out (disk_of self.old) }
+    {
+        if self.failed {
+            done.give_up();
+            return Err(LogErr::Fault);
+        }
+        match self.disk.end_read(alloc, done) {
+            Ok(bytes) => Ok(bytes),
+            Err(DiskErr::Memory) => Err(LogErr::Memory),
+            Err(DiskErr::Failed) => {
+                self.failed = true;
+                Err(LogErr::Fault)
+            }
+        }
+    }
+
+    /// Takes a file that is written whole out of the log, and off the disk.
+    pub fn remove(&mut self, f: FileNo) -> Result<(), LogErr>
+        requires { f.0 < written_of self.old }
+        ensures log { (log : Log) → HasLog D.tells (now (D.history (disk_of self.old))) self.old log → OnOk result (HasLog D.tells (now (D.history (disk_of self.new))) self.new (log_without f.0 log)) }
+        ensures kept { KeepsTail self.old self.new }
+        ensures by_fault { FailsByFault result }
+        ensures cause { HasCause (has_failed self.old) (has_failed self.new) (D.faults (disk_of self.old)) (D.faults (disk_of self.new)) result }
+        ensures still { has_failed self.old ≡ true → disk_of self.new ≡ disk_of self.old }
+        ensures sync_out { D.sync_out (disk_of self.new) ≡ D.sync_out (disk_of self.old) }
+        ensures read_out { D.read_out (disk_of self.new) ≡ D.read_out (disk_of self.old) }
+        ensures read_of { D.read_of (disk_of self.new) ≡ D.read_of (disk_of self.old) }
+    {
+        if self.failed {
+            return Err(LogErr::Fault);
+        }
+        self.failed = true;
+        match self.disk.remove(f) {
+            Ok(()) => {
+                self.failed = false;
+                Ok(())
+            }
+            Err(_) => Err(LogErr::Fault),
+        }
+    }
+
+    /// Where the next entry goes, if it goes into the last file.
+    pub fn end(&self) -> Lsn
+        ensures { result ≡ lsn_of (end_of self.now) }
+    {
+        Lsn::new(self.file, self.offset)
+    }
+
+    /// The file of the tail's first byte, with an empty tail the last file. The files below it are
+    /// written whole.
+    pub fn written(&self) -> FileNo
+        ensures value { result.0 ≡ written_of self.now }
+        ensures below { (f : ℕ) → f < result.0 → tail_of self.now f ≡ [] }
+        ensures only { tail_of self.now result.0 ≡ [] → result.0 ≡ file_of self.now }
+    {
+        let first = self.file.0 - self.tail.files() as u32;
+        if self.tail.begins_first() {
+            FileNo(first + 1)
+        } else {
+            FileNo(first)
+        }
+    }
+
+    /// The disk below, as it is without the tail.
+    pub fn disk(&self) -> &D
+        ensures { result.now ≡ disk_of self.now }
+    {
+        &self.disk
+    }
+
+    /// Whether a call met a fault of the disk.
+    pub fn has_failed(&self) -> bool
+        ensures { result ≡ has_failed self.now }
+    {
+        self.failed
+    }
+}

@@ -1,0 +1,94 @@
+// Syncs, and the end of a buffer.
+ghost use Rattle.std.specs.Prelude.{◌≡◌, ◌≤◌, ℕ, true, false, Some, None, OnOk, OnErr, IfOk, IsErrOf};
+ghost use Rattle.je_disk.specs.Causes.{Rose};
+ghost use Rattle.je_disk.specs.Moments.{now};
+ghost use Rattle.je_disk.specs.States.{synced_marks};
+ghost use Rattle.log_file.specs.Log.{Log};
+ghost use Rattle.log_buffer.specs.Buffer.{disk_of, end_of, last_of, file_max_of, has_failed, IsWritten, KeepsTail};
+ghost use Rattle.log_buffer.specs.Log.{HasLog, ReadAs};
+ghost use Rattle.log_buffer.specs.Causes.{HasCause, FailsByFault};
+
+use crate::{LogBuffer, LogErr};
+use je_disk::{Disk, SyncDone, SyncJob};
+
+impl<D: Disk> LogBuffer<D> {
+    /// Writes the tail out and begins a sync, which makes stable all that was appended before. A sync
+    /// job that is out is given up.
+    pub fn sync_begin(&mut self) -> Result<D::Job, LogErr>
+        ensures begun { IfOk result (λ job. D.sync_out (disk_of self.new) ≡ Some (D.Job.job_number job)) }
+        ensures written { OnOk result (IsWritten self.new) }
+        ensures log { (log : Log) → HasLog D.tells (now (D.history (disk_of self.old))) self.old log → OnOk result (HasLog D.tells (now (D.history (disk_of self.new))) self.new log) }
+        ensures whole { (log : Log) → HasLog D.tells (now (D.history (disk_of self.old))) self.old log → OnOk result (ReadAs D.tells (now (D.history (disk_of self.new))).reads log) }
+        ensures end { end_of self.new ≡ end_of self.old }
+        ensures last { last_of self.new ≡ last_of self.old }
+        ensures file_max { file_max_of self.new ≡ file_max_of self.old }
+        ensures by_fault { FailsByFault result }
+        ensures cause { HasCause (has_failed self.old) (has_failed self.new) (D.faults (disk_of self.old)) (D.faults (disk_of self.new)) result }
+        ensures still { has_failed self.old ≡ true → disk_of self.new ≡ disk_of self.old }
+        ensures read_out { D.read_out (disk_of self.new) ≡ D.read_out (disk_of self.old) }
+        ensures read_of { D.read_of (disk_of self.new) ≡ D.read_of (disk_of self.old) }
+    {
+        self.write_out()?;
+        self.failed = true;
+        match self.disk.begin_sync() {
+            Ok(job) => {
+                self.failed = false;
+                Ok(job)
+            }
+            Err(_) => Err(LogErr::Fault),
+        }
+    }
+
+    /// Ends the sync that is out. Entries may have been appended since it began. A buffer that has failed
+    /// gives the job up.
+    pub fn sync_end(&mut self, done: <D::Job as SyncJob>::Done) -> Result<(), LogErr>
+        requires { D.sync_out (disk_of self.old) ≡ Some (D.Job.Done.done_number done) }
+        ensures none_out { has_failed self.old ≡ false → D.sync_out (disk_of self.new) ≡ None }
+        ensures log { (log : Log) → HasLog D.tells (now (D.history (disk_of self.old))) self.old log → OnOk result (HasLog D.tells (now (D.history (disk_of self.new))) self.new log) }
+        ensures kept { KeepsTail self.old self.new }
+        ensures by_fault { FailsByFault result }
+        ensures cause { HasCause (has_failed self.old) (has_failed self.new) (D.faults (disk_of self.old)) (D.faults (disk_of self.new)) result }
+        ensures still { has_failed self.old ≡ true → disk_of self.new ≡ disk_of self.old }
+        ensures read_out { D.read_out (disk_of self.new) ≡ D.read_out (disk_of self.old) }
+        ensures read_of { D.read_of (disk_of self.new) ≡ D.read_of (disk_of self.old) }
+    {
+        if self.failed {
+            done.give_up();
+            return Err(LogErr::Fault);
+        }
+        self.failed = true;
+        match self.disk.end_sync(done) {
+            Ok(()) => {
+                self.failed = false;
+                Ok(())
+            }
+            Err(_) => Err(LogErr::Fault),
+        }
+    }
+
+    /// Writes the tail out and syncs, and gives the disk back, which a buffer that has failed does not
+    /// touch.
+    pub fn close(self) -> (D, Result<(), LogErr>)
+        ensures whole { (log : Log) → HasLog D.tells (now (D.history (disk_of self))) self log → OnOk result.1 (ReadAs D.tells (now (D.history result.0)).reads log) }
+        ensures stable { D.tells ≡ true → OnOk result.1 ((now (D.history result.0)).marks ≡ synced_marks (now (D.history result.0)).reads) }
+        ensures by_fault { FailsByFault result.1 }
+        ensures never_falls { D.faults (disk_of self) ≤ D.faults result.0 }
+        ensures fault { has_failed self ≡ false → OnErr result.1 (Rose (D.faults (disk_of self)) (D.faults result.0)) }
+        ensures failed { has_failed self ≡ true → IsErrOf result.1 LogErr.Fault }
+        ensures still { has_failed self ≡ true → result.0 ≡ disk_of self }
+        ensures sync_out { D.sync_out result.0 ≡ D.sync_out (disk_of self) }
+        ensures read_out { D.read_out result.0 ≡ D.read_out (disk_of self) }
+        ensures read_of { D.read_of result.0 ≡ D.read_of (disk_of self) }
+    {
+        let mut buffer = self;
+        let written = buffer.write_out();
+        let mut disk = buffer.into_disk();
+        if written.is_err() {
+            return (disk, written);
+        }
+        match disk.sync_now() {
+            Ok(()) => (disk, Ok(())),
+            Err(_) => (disk, Err(LogErr::Fault)),
+        }
+    }
+}

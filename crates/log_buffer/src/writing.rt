@@ -1,0 +1,96 @@
+// The tail as it is written out.
+ghost use Rattle.std.specs.Prelude.{◌≡◌, ◌<◌, ◌≤◌, ℕ, List, true, false, length, OnOk, IfOk};
+ghost use Rattle.je_disk.specs.Causes.{HasFault};
+ghost use Rattle.je_disk.specs.Moments.{now};
+ghost use Rattle.je_disk.specs.States.{put_at};
+ghost use Rattle.log_file.specs.Log.{Log};
+ghost use Rattle.log_buffer.specs.Buffer.{disk_of, end_of, last_of, file_max_of, has_failed, joined, HasRoom, IsWritten};
+ghost use Rattle.log_buffer.specs.Tail.{bytes_for};
+ghost use Rattle.log_buffer.specs.Log.{HasLog, ReadAs};
+ghost use Rattle.log_buffer.specs.Causes.{HasCause, FailsByFault};
+
+use crate::tail::Tail;
+use crate::{LogBuffer, LogErr};
+use je_disk::{Disk, DiskErr};
+use je_lsn::FileNo;
+
+// Writes bytes behind a file's; where there are none the disk is not touched.
+fn write_behind<D: Disk>(disk: &mut D, f: FileNo, bytes: &[u8]) -> Result<(), DiskErr>
+    ensures done { D.tells ≡ true → OnOk result ((g : ℕ) → (now (D.history disk.new)).reads g ≡ put_at (now (D.history disk.old)).reads f.0 (joined ((now (D.history disk.old)).reads f.0) bytes.now) g) }
+    ensures cause { HasFault (D.faults disk.old) (D.faults disk.new) result }
+    ensures sync_out { D.sync_out disk.new ≡ D.sync_out disk.old }
+    ensures read_out { D.read_out disk.new ≡ D.read_out disk.old }
+    ensures read_of { D.read_of disk.new ≡ D.read_of disk.old }
+{
+    if bytes.is_empty() {
+        return Ok(());
+    }
+    disk.append(f, bytes)
+}
+
+// Writes a file that begins in the tail: it is made only after a sync of what was written before.
+fn write_file<D: Disk>(disk: &mut D, f: FileNo, bytes: &[u8]) -> Result<(), DiskErr>
+    requires { 0 < length bytes.now }
+    ensures done { D.tells ≡ true → OnOk result ((g : ℕ) → (now (D.history disk.new)).reads g ≡ put_at (now (D.history disk.old)).reads f.0 (joined ((now (D.history disk.old)).reads f.0) bytes.now) g) }
+    ensures cause { HasFault (D.faults disk.old) (D.faults disk.new) result }
+    ensures sync_out { D.sync_out disk.new ≡ D.sync_out disk.old }
+    ensures read_out { D.read_out disk.new ≡ D.read_out disk.old }
+    ensures read_of { D.read_of disk.new ≡ D.read_of disk.old }
+{
+    disk.sync_now()?;
+    disk.create(f)?;
+    disk.append(f, bytes)
+}
+
+// Writes the tail, whose last piece belongs to the file `last`.
+fn write_tail<D: Disk>(disk: &mut D, tail: &Tail, last: u32) -> Result<(), DiskErr>
+    requires { length tail.now.starts.items ≤ last }
+    ensures done { D.tells ≡ true → OnOk result ((f : ℕ) → (now (D.history disk.new)).reads f ≡ joined ((now (D.history disk.old)).reads f) (bytes_for tail.now.bytes.items tail.now.starts.items last f)) }
+    ensures cause { HasFault (D.faults disk.old) (D.faults disk.new) result }
+    ensures sync_out { D.sync_out disk.new ≡ D.sync_out disk.old }
+    ensures read_out { D.read_out disk.new ≡ D.read_out disk.old }
+    ensures read_of { D.read_of disk.new ≡ D.read_of disk.old }
+{
+    let count = tail.files() as u32;
+    let first = last - count;
+    write_behind(disk, FileNo(first), tail.piece(0))?;
+    for i in 0..count {
+        let piece = i + 1;
+        write_file(disk, FileNo(first + piece), tail.piece(piece as usize))?;
+    }
+    Ok(())
+}
+
+impl<D: Disk> LogBuffer<D> {
+    /// Writes the tail out: then it is empty, and each file is whole on the disk. A file that begins in
+    /// the tail is made only after the one before it was written whole and a sync of it has finished.
+    pub fn write_out(&mut self) -> Result<(), LogErr>
+        ensures written { OnOk result (IsWritten self.new) }
+        ensures log { (log : Log) → HasLog D.tells (now (D.history (disk_of self.old))) self.old log → OnOk result (HasLog D.tells (now (D.history (disk_of self.new))) self.new log) }
+        ensures whole { (log : Log) → HasLog D.tells (now (D.history (disk_of self.old))) self.old log → OnOk result (ReadAs D.tells (now (D.history (disk_of self.new))).reads log) }
+        ensures end { end_of self.new ≡ end_of self.old }
+        ensures last { last_of self.new ≡ last_of self.old }
+        ensures room { (sizes : List ℕ) → HasRoom self.old sizes → OnOk result (HasRoom self.new sizes) }
+        ensures file_max { file_max_of self.new ≡ file_max_of self.old }
+        ensures by_fault { FailsByFault result }
+        ensures cause { HasCause (has_failed self.old) (has_failed self.new) (D.faults (disk_of self.old)) (D.faults (disk_of self.new)) result }
+        ensures still { has_failed self.old ≡ true → disk_of self.new ≡ disk_of self.old }
+        ensures sync_out { D.sync_out (disk_of self.new) ≡ D.sync_out (disk_of self.old) }
+        ensures read_out { D.read_out (disk_of self.new) ≡ D.read_out (disk_of self.old) }
+        ensures read_of { D.read_of (disk_of self.new) ≡ D.read_of (disk_of self.old) }
+    {
+        if self.failed {
+            return Err(LogErr::Fault);
+        }
+        self.failed = true;
+        match write_tail(&mut self.disk, &self.tail, self.file.0) {
+            Ok(()) => {
+                self.tail.clear();
+                self.base = self.offset;
+                self.failed = false;
+                Ok(())
+            }
+            Err(_) => Err(LogErr::Fault),
+        }
+    }
+}

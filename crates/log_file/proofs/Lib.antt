@@ -1,0 +1,4 @@
+pub mod SpelledLaws
+pub mod ScanLaws
+pub mod FoundLaws
+pub mod FilesLaws

@@ -1,0 +1,75 @@
+-- A scan that is under way, from entry to entry.
+use Rattle.std.proofs.Common.{◌≡◌, ℕ, ◌+◌, ◌<◌, ◌≤◌, ◌^◌, ◌==◌, ◌&&◌, true, false, cond, List, [], ◌∷◌, ◌++◌, length, drop, refl, sym, ap, subst, ◌∙◌, append_assoc, arith, nat_lt, length-drop}
+use Rattle.std.proofs.lemmas.Bool.Decides.{nat_tests}
+use Rattle.std.proofs.lemmas.List.{append-nil, drop-drop}
+use Rattle.log_entry.specs.declared.entry.Entry.{Entry}
+use Rattle.log_entry.specs.declared.decoder.Decoded.TheVariants.{Whole, Torn as NotWhole}
+use Rattle.log_entry.specs.declared.decoder.Torn.{Torn}
+use Rattle.log_entry.specs.Spelling.{size_of}
+use Rattle.log_entry.specs.declared.decoder.Decoded.{Decoded}
+use Rattle.log_entry.specs.Reading.{decoded, IsFound}
+use Rattle.log_entry.specs.Run.{Run, run_on}
+use Rattle.log_entry.proofs.ReadingLaws.{decoded-long}
+use Rattle.log_entry.proofs.RunLaws.{run_on-whole, run_on-torn, run_on-other}
+use Rattle.log_file.specs.declared.scanning.Next.{Next}
+use Rattle.log_file.specs.Scan.{may_follow, front, entries_behind}
+use Rattle.log_file.specs.Scanning.{run_at, IsNext, IsLast, IsScanned}
+use Rattle.log_file.proofs.SpelledLaws.{sizes-append, last-append}
+
+-- ---- what comes next in a run
+
+-- no whole entry
+pub torn_ends : (bytes : List ℕ) (at last : ℕ) (torn : Torn) → decoded (drop at bytes) ≡ NotWhole torn → IsLast bytes at last
+torn_ends bytes at last torn is = ap (λ (r : Run). front at r.entries) (run_on-torn last at (drop at bytes) torn is)
+
+-- an entry that names another one before it
+pub parted_ends : (bytes : List ℕ) (at last : ℕ) (entry : Entry) (prev len : ℕ) → decoded (drop at bytes) ≡ Whole entry prev len → (prev == last) ≡ false → IsLast bytes at last
+parted_ends bytes at last entry prev len is other = ap (λ (r : Run). front at r.entries) (run_on-other last at (drop at bytes) entry prev len is other)
+
+-- the entries from a whole entry on
+pub whole_at : (bytes : List ℕ) (at last : ℕ) (entry : Entry) (len : ℕ) → decoded (drop at bytes) ≡ Whole entry last len → len ≡ size_of entry →
+    run_at bytes at last ≡ cond (may_follow entry && nat_lt (at + size_of entry) (2 ^ 32)) (entry ∷ run_at bytes (at + size_of entry) at) []
+whole_at bytes at last entry len is size =
+    let far : drop len (drop at bytes) ≡ drop (at + size_of entry) bytes = drop-drop len at bytes ∙ ap (λ (n : ℕ). drop (at + n) bytes) size in
+    ap (λ (r : Run). front at r.entries) (run_on-whole last at (drop at bytes) entry len is)
+    ∙ ap (λ (n : ℕ). front at (entry ∷ (run_on at (at + n) (drop len (drop at bytes))).entries)) size
+    ∙ ap (λ (x : List ℕ). front at (entry ∷ (run_on at (at + size_of entry) x).entries)) far
+
+-- an entry that may not follow, or that ends past the limit
+pub unfit_ends : (bytes : List ℕ) (at last : ℕ) (entry : Entry) (len : ℕ) → decoded (drop at bytes) ≡ Whole entry last len → len ≡ size_of entry →
+    (may_follow entry && nat_lt (at + size_of entry) (2 ^ 32)) ≡ false → IsLast bytes at last
+unfit_ends bytes at last entry len is size unfit = whole_at bytes at last entry len is size ∙ rw unfit refl
+
+-- an entry that fits
+pub fit_goes_on : (bytes : List ℕ) (at last : ℕ) (entry : Entry) (len : ℕ) → at ≤ length bytes → decoded (drop at bytes) ≡ Whole entry last len → len ≡ size_of entry →
+    may_follow entry ≡ true → at + size_of entry < 2 ^ 32 → IsNext bytes at last (record { entry = entry; end = at + size_of entry })
+fit_goes_on bytes at last entry len inside is size follows fits =
+    let fit : nat_lt (at + size_of entry) (2 ^ 32) ≡ true = grind (arith, nat_tests) in
+    let long = decoded-long (drop at bytes) entry last len is in
+    record {
+      goes_on = whole_at bytes at last entry len is size ∙ rw (follows, fit) refl;
+      end = refl;
+      after = omega arith;
+      within = omega (arith, long.1, size, length-drop at bytes, inside);
+    }
+
+-- ---- the entries read so far
+
+pub begins : (bytes : List ℕ) → 26 ≤ length bytes → IsScanned bytes [] 26 0
+begins bytes long = record { run = refl; last_is = refl; at_is = refl; within = long }
+
+pub reads_on : (bytes : List ℕ) (entries : List Entry) (at last : ℕ) (next : Next) → IsScanned bytes entries at last → IsNext bytes at last next →
+    IsScanned bytes (entries ++ next.entry ∷ []) next.end at
+reads_on bytes entries at last next so_far is = record {
+  run = append_assoc entries (next.entry ∷ []) (run_at bytes next.end at) ∙ ap (λ (l : List Entry). entries ++ l) (sym is.goes_on) ∙ so_far.run;
+  last_is = so_far.at_is ∙ sym (last-append 0 26 entries next.entry);
+  at_is = is.end ∙ ap (λ (n : ℕ). n + size_of next.entry) so_far.at_is ∙ omega (arith, sizes-append entries (next.entry ∷ []));
+  within = is.within;
+}
+
+pub all_read : (bytes : List ℕ) (entries : List Entry) (at last : ℕ) → IsScanned bytes entries at last → IsLast bytes at last → entries ≡ entries_behind bytes
+all_read bytes entries at last so_far is = sym (append-nil entries) ∙ ap (λ (l : List Entry). entries ++ l) (sym is) ∙ so_far.run
+
+-- what a whole entry that was found says of its bytes
+pub whole_size : (bytes : List ℕ) (d : Decoded) (entry : Entry) (prev len : ℕ) → IsFound bytes d → d ≡ Whole entry prev len → len ≡ size_of entry
+whole_size bytes d entry prev len found is = (subst (IsFound bytes) is found).2

@@ -1,0 +1,15 @@
+use Rattle.std.proofs.Common.{sym, subst, List, Option}
+use Rattle.std.specs.Prelude.{MatchOption}
+use Rattle.log_entry.specs.declared.entry.Entry.{Entry}
+use Rattle.log_file.specs.declared.scanning.Next.{Next}
+use Rattle.log_file.specs.Scanning.{IsNext, IsLast, IsScanned}
+use Rattle.log_file.proofs.ScanLaws.{reads_on}
+use Rattle.log_file.proofs.scanning.scan_behind.Goals as goal
+
+pub loop-entries-preserved : goal.loop-entries-preserved
+loop-entries-preserved c =
+    let is : IsNext c.args.bytes.now c.loop-entries.at c.loop-entries.last c.in-Some.field-0 =
+    subst (λ (o : Option Next). MatchOption o (IsLast c.args.bytes.now c.loop-entries.at c.loop-entries.last) (IsNext c.args.bytes.now c.loop-entries.at c.loop-entries.last))
+    c.in-Some.is c.in_ok-entry.ensures in
+    subst (λ (l : List Entry). IsScanned c.args.bytes.now l c.in-Some.field-0.end c.loop-entries.at) (sym c.in_ok-push.ensures.items)
+    (reads_on c.args.bytes.now c.loop-entries.entries.items c.loop-entries.at c.loop-entries.last c.in-Some.field-0 c.loop-entries.invariant is)

@@ -1,0 +1,14 @@
+// A file's run.
+use je_order::List;
+use log_entry::Entry;
+
+/// The run of a file: the whole entries from its beginning, of which the first is the header.
+#[derive(Debug, Drop, PartialEq, Eq)]
+pub struct FileRun {
+    /// The entries behind the header, in order.
+    pub entries: List<Entry>,
+    /// The offset of the last entry, 0 where that is the header or there is none.
+    pub last: u32,
+    /// The offset where the run ends and the rest begins, 0 where there is no whole header.
+    pub end: u32,
+}

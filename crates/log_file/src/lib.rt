@@ -1,0 +1,20 @@
+//! Log files: what the bytes of one file are, and the log as its files. It stands on `log_entry` for
+//! entries and on `je_disk` for files. A file begins with its header, and its run are the whole entries
+//! behind it, up to where they end; what follows is the rest. Upward it promises that `scan` finds the
+//! run, or what is wrong with the header, and that what was appended entry by entry is found again.
+#![tactic(auto)]
+
+pub mod file_run;
+pub mod found;
+pub mod laws;
+pub mod reading;
+pub mod scanning;
+
+pub use file_run::FileRun;
+pub use found::Found;
+pub use laws::{files_are_found, files_are_one_list};
+pub use reading::{Scanned, scan};
+pub use scanning::scan_bytes;
+
+#[cfg(test)]
+mod tests;

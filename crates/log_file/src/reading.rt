@@ -1,0 +1,40 @@
+// Scanning a file of a disk.
+ghost use Rattle.std.specs.Prelude.{◌≡◌, true, IfOk};
+ghost use Rattle.je_disk.specs.Moments.{now, Passes};
+ghost use Rattle.je_disk.specs.Causes.{HasCause};
+ghost use Rattle.log_file.specs.Reading.{IsScanOf};
+
+use crate::{Found, scan_bytes};
+use je_disk::{Disk, DiskErr};
+use je_lsn::FileNo;
+use std::alloc::Global;
+
+/// What a scan of a file found.
+#[derive(Debug, Drop, PartialEq, Eq)]
+pub struct Scanned {
+    /// What the file's bytes are.
+    pub found: Found,
+    /// How many bytes the file has: those behind the run's end are its rest.
+    pub len: u64,
+}
+
+/// What a file of the disk is, and its length; a file that is not there has no bytes. The file is read
+/// once, whole, into memory that is free again afterwards. `Failed` comes only where the disk counted a
+/// fault; Memory is free. The disk's state stays the same, and so do the jobs that are out.
+pub fn scan<D: Disk>(alloc: Global, disk: &mut D, f: FileNo) -> Result<Scanned, DiskErr>
+    ensures scanned { IfOk result (λ scanned. IsScanOf D.tells (now (D.history disk.old)).reads f.0 scanned) }
+    ensures same { D.tells ≡ true → now (D.history disk.new) ≡ now (D.history disk.old) }
+    ensures moments { D.tells ≡ true → Passes (D.history disk.old) (D.history disk.new) (λ s. s ≡ now (D.history disk.old)) }
+    ensures jobs { (D.sync_out disk.new ≡ D.sync_out disk.old) × (D.read_out disk.new ≡ D.read_out disk.old) × (D.read_of disk.new ≡ D.read_of disk.old) × (D.drawn disk.new ≡ D.drawn disk.old) }
+    ensures cause { HasCause (D.faults disk.old) (D.faults disk.new) result }
+{
+    let len = disk.len(f)?;
+    let mut bytes = vec![in alloc; 0u8; len as usize]?;
+    let count = disk.read(f, 0, &mut bytes)?;
+    bytes.truncate(count);
+    let found = scan_bytes(alloc, &bytes, f)?;
+    Ok(Scanned {
+        found,
+        len: bytes.len() as u64,
+    })
+}

@@ -1,0 +1,113 @@
+// Scanning the bytes of a file.
+ghost use Rattle.std.specs.Prelude.{◌≡◌, ◌≤◌, ◌<◌, ◌^◌, length, IfOk, MatchOption};
+ghost use Rattle.log_entry.specs.Spelling.{size_of};
+ghost use Rattle.log_file.specs.Scan.{may_follow as may_follow_header, run_with, entries_behind, found_in, found_first};
+ghost use Rattle.log_file.specs.Scanning.{IsNext, IsLast};
+
+use crate::{FileRun, Found};
+use je_lsn::FileNo;
+use je_order::List;
+use log_entry::{Decoded, Entry, decode, decode_at, size};
+use std::alloc::{AllocError, Global};
+
+// The version of the format that this project writes.
+const VERSION: u32 = 1;
+
+// How many bytes a file's header has.
+const HEADER_BYTES: u32 = 26;
+
+// Whether an entry may stand behind a file's header.
+fn may_follow(entry: &Entry) -> bool
+    ensures { result ≡ may_follow_header entry.now }
+{
+    !matches!(entry, Entry::FileHeader { .. })
+}
+
+// The next entry of a run, and where it ends.
+#[derive(Drop)]
+struct Next {
+    entry: Entry,
+    end: u32,
+}
+
+// The next entry of a run that goes on at an offset behind an entry at the offset `last`, in the time
+// of that entry; None where the run ends.
+fn next_entry(alloc: Global, bytes: &[u8], at: u32, last: u32) -> Result<Option<Next>, AllocError>
+    requires { at ≤ length bytes.now }
+    ensures { IfOk result (λ next. MatchOption next (IsLast bytes.now at last) (IsNext bytes.now at last)) }
+{
+    let Decoded::Whole { entry, prev, .. } = decode_at(alloc, bytes, at as usize)? else {
+        return Ok(None);
+    };
+    if prev != last {
+        return Ok(None);
+    }
+    if !may_follow(&entry) {
+        return Ok(None);
+    }
+    match at.checked_add(size(&entry)) {
+        Some(end) => Ok(Some(Next { entry, end })),
+        None => Ok(None),
+    }
+}
+
+// The run of bytes that begin with the file's header.
+fn scan_behind(alloc: Global, bytes: &[u8]) -> Result<FileRun, AllocError>
+    requires { 26 ≤ length bytes.now }
+    ensures { IfOk result (λ run. run ≡ run_with (entries_behind bytes.now)) }
+{
+    let mut entries = Vec::new(alloc);
+    let mut last = 0;
+    let mut at = HEADER_BYTES;
+    while let Some(Next { entry, end }) = next_entry(alloc, bytes, at, last)? {
+        entries.push(entry)?;
+        last = at;
+        at = end;
+    }
+    Ok(FileRun {
+        entries: List::from_vec(entries),
+        last,
+        end: at,
+    })
+}
+
+// What bytes are whose first entry is this one, with this prev field.
+fn found_behind(
+    alloc: Global,
+    bytes: &[u8],
+    f: FileNo,
+    first: &Entry,
+    prev: u32,
+) -> Result<Found, AllocError>
+    requires { size_of first.now ≤ length bytes.now }
+    ensures { IfOk result (λ found. found ≡ found_first f.0 bytes.now prev first.now) }
+{
+    let Entry::FileHeader { version, file } = first else {
+        return Ok(Found::Damaged);
+    };
+    if prev != 0 {
+        return Ok(Found::Damaged);
+    }
+    if *version != VERSION {
+        return Ok(Found::VersionUnknown { version: *version });
+    }
+    if *file != f.0 {
+        return Ok(Found::Damaged);
+    }
+    Ok(Found::Run(scan_behind(alloc, bytes)?))
+}
+
+/// What the bytes of the file of this number are. Each entry is decoded once, at its place. The one
+/// error is want of memory.
+pub fn scan_bytes(alloc: Global, bytes: &[u8], f: FileNo) -> Result<Found, AllocError>
+    ensures { IfOk result (λ found. found ≡ found_in f.0 bytes.now) }
+{
+    match decode(alloc, bytes)? {
+        Decoded::Whole { entry, prev, .. } => found_behind(alloc, bytes, f, &entry, prev),
+        Decoded::Torn(_) => Ok(Found::Run(FileRun {
+            entries: List::new(alloc),
+            last: 0,
+            end: 0,
+        })),
+    }
+}

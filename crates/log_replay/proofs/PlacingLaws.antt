@@ -1,0 +1,52 @@
+-- The second replay, in which each put has its LSN for its data.
+use Rattle.std.proofs.Common.{◌≡◌, ℕ, List, [], ◌∷◌, ◌++◌, Option, refl, sym, ap, subst, ◌∙◌, append_assoc}
+use Rattle.std.proofs.lemmas.List.{append-nil}
+use Rattle.je_disk.specs.States.{Files, content}
+use Rattle.je_lsn.specs.declared.file_no.FileNo.{FileNo}
+use Rattle.log_entry.specs.declared.entry.Entry.{Entry}
+use Rattle.log_file.specs.Scan.{found_in}
+use Rattle.log_file.specs.Log.{entries_found, log_in}
+use Rattle.log_replay.specs.declared.replaying.Replaying.{Replaying}
+use Rattle.log_replay.specs.Reading.{marked, marked_log, files_read, lsn_in, lsn_of}
+use Rattle.log_replay.specs.declared.place.Place.{Place}
+use Rattle.log_replay.specs.Rows.{rows_in, data_at}
+use Rattle.log_replay.specs.UnderWay.{IsReplayOf, HasTaken}
+
+-- the entries of some files were replayed with their LSNs, and these files are left
+pub record IsMarking (reads : Files) (files left : List FileNo) (going : Replaying) : Type 0 where
+  pub done : List Entry
+  pub parts : done ++ marked_log (log_in (files_read reads left)) ≡ marked_log (log_in (files_read reads files))
+  pub replay : IsReplayOf done going
+
+pub marking_begins : (reads : Files) (files : List FileNo) (going : Replaying) → IsReplayOf [] going → IsMarking reads files files going
+marking_begins reads files going is = record { done = []; parts = refl; replay = is }
+
+-- one file more, of these bytes
+pub marking_goes_on : (reads : Files) (files left rest : List FileNo) (f : FileNo) (bytes : List ℕ) (entries : List Entry) (old new : Replaying) → IsMarking reads files left old →
+    left ≡ f ∷ rest → bytes ≡ content reads f.0 → entries ≡ marked f.0 26 (entries_found (found_in f.0 bytes)) → HasTaken entries old new → IsMarking reads files rest new
+marking_goes_on reads files left rest f bytes entries old new so_far is told marked_are taken = record {
+  done = so_far.done ++ entries;
+  parts =
+      append_assoc so_far.done entries (marked_log (log_in (files_read reads rest)))
+      ∙ ap (λ (l : List Entry). so_far.done ++ (l ++ marked_log (log_in (files_read reads rest)))) (marked_are ∙ ap (λ (b : List ℕ). marked f.0 26 (entries_found (found_in f.0 b))) told)
+      ∙ ap (λ (l : List FileNo). so_far.done ++ marked_log (log_in (files_read reads l))) (sym is)
+      ∙ so_far.parts;
+  replay = taken so_far.done so_far.replay;
+}
+
+-- a file without a run, which has no entries
+pub marking_passes : (reads : Files) (files left rest : List FileNo) (f : FileNo) (bytes : List ℕ) (going : Replaying) → IsMarking reads files left going →
+    left ≡ f ∷ rest → bytes ≡ content reads f.0 → entries_found (found_in f.0 bytes) ≡ [] → IsMarking reads files rest going
+marking_passes reads files left rest f bytes going so_far is told none =
+    marking_goes_on reads files left rest f bytes [] going going so_far is told (sym (ap (marked f.0 26) none)) (λ before h. subst (λ (l : List Entry). IsReplayOf l going) (sym (append-nil before)) h)
+
+pub marking_ends : (reads : Files) (files left : List FileNo) (going : Replaying) → IsMarking reads files left going → left ≡ [] → IsReplayOf (marked_log (log_in (files_read reads files))) going
+marking_ends reads files left going so_far is =
+    subst (λ (l : List Entry). IsReplayOf l going)
+    (sym (append-nil so_far.done) ∙ ap (λ (l : List FileNo). so_far.done ++ marked_log (log_in (files_read reads l))) (sym is) ∙ so_far.parts) so_far.replay
+
+-- the LSN that the second replay has for a place
+pub lsn_answer : (reads : Files) (files : List FileNo) (going : Replaying) (place : Place) (value : Option (List ℕ)) (lsn : ℕ) → IsReplayOf (marked_log (log_in (files_read reads files))) going →
+    lsn ≡ lsn_in value → value ≡ data_at place.name (rows_in going.rows place.db) → lsn ≡ lsn_of (log_in (files_read reads files)) place
+lsn_answer reads files going place value lsn is lsn_is value_is =
+    lsn_is ∙ ap lsn_in (value_is ∙ ap (data_at place.name) (is.stands.rows place.db))

@@ -1,0 +1,224 @@
+-- No record is wrong exactly where the records are those of an environment.
+use Rattle.std.proofs.Common.{◌≡◌, ℕ, suc, ◌+◌, ◌<◌, ◌≤◌, List, [], ◌∷◌, ◌++◌, ◌==◌, ◌&&◌, ◌||◌, Bool, true, false, not, cond, refl, ap, sym, ◌∙◌, map, length, Option, Some, None, nat_le, nat_lt, arith, filter, option_map, min, ◌⊎◌, inl, inr}
+use Rattle.std.specs.Prelude.{find}
+use Rattle.std.proofs.lemmas.Bool.Decides.{nat_tests}
+use Rattle.std.proofs.lemmas.Bool.{cases_order}
+use Rattle.std.proofs.lemmas.List.Folds.{list_any-append}
+use Rattle.std.proofs.lemmas.List.{length-append}
+use Rattle.std.specs.List.{list_all, list_any}
+use Rattle.je_order.specs.declared.name.Name.{Name}
+use Rattle.je_model.specs.declared.store.TheConstants.{MOST_DATABASES}
+use Rattle.log_replay.specs.declared.place.Place.{Place}
+use Rattle.log_replay.specs.Rows.{Row, Rows, is_catalog_row, number_in, are_distinct, are_plain, numbers_of, is_environment}
+use Rattle.log_replay.specs.Wrong.{or_else, is_right_behind, wrong_in_catalog, wrong_in_plain, lesser, least, wrong_database, wrong_under, wrong_record}
+
+is_none : {A : Type 0} → Option A → Bool
+is_none None = true
+is_none (Some x) = false
+
+-- none of these numbers is one of those
+abbrev are_others : List ℕ → List ℕ → Bool
+are_others before ns = list_all (λ n. not (list_any (λ m. m == n) before)) ns
+
+-- the test of a whole catalog behind records of these numbers
+abbrev is_catalog_behind : List ℕ → List Row → Bool
+is_catalog_behind before rows =
+    list_all is_catalog_row rows && are_others before (map (λ r. number_in r.1) rows) && are_distinct (map (λ r. number_in r.1) rows)
+    && nat_le (length before + length rows) MOST_DATABASES
+
+others_more : (before ns : List ℕ) (n : ℕ) → are_others (before ++ n ∷ []) ns ≡ (are_others before ns && not (list_any (λ m. m == n) ns))
+others_more before [] n = refl
+others_more before (k ∷ ns) n =
+    rw (list_any-append (λ m. m == k) before (n ∷ []), others_more before ns n, turned n k)
+    (by_case (list_any (λ m. m == k) before) (k == n) (are_others before ns) (list_any (λ m. m == n) ns))
+  where
+    turned : (a b : ℕ) → (a == b) ≡ (b == a)
+    turned a b = grind (arith, nat_tests)
+
+    by_case : (a b c d : Bool) → (not (a || (b || false)) && (c && not d)) ≡ ((not a && c) && not (b || d))
+    by_case true b c d = refl
+    by_case false true true d = refl
+    by_case false true false d = refl
+    by_case false false c d = refl
+
+-- one row more, by the tests of the row and of those behind it
+row_more : (a b c l o x d q rest : Bool) → ((a && b && c) ≡ true → rest ≡ (l && (o && x) && d && q)) → (c ≡ false → q ≡ false) →
+    cond (a && b && c) rest false ≡ ((a && l) && (b && o) && (x && d) && q)
+row_more false b c l o x d q rest right full = refl
+row_more true false c false o x d q rest right full = refl
+row_more true false c true o x d q rest right full = refl
+row_more true true false l o x d true rest right full = let not = full refl in absurd cc
+row_more true true false false o x d false rest right full = refl
+row_more true true false true false x d false rest right full = refl
+row_more true true false true true false d false rest right full = refl
+row_more true true false true true true false false rest right full = refl
+row_more true true false true true true true false rest right full = refl
+row_more true true true l o x d q rest right full = right refl ∙ same l o x d q
+  where
+    same : (l o x d q : Bool) → (l && (o && x) && d && q) ≡ ((true && l) && (true && o) && (x && d) && q)
+    same false o x d q = refl
+    same true false x d q = refl
+    same true true false d q = refl
+    same true true true d q = refl
+
+none_of : {A : Type 0} (t : Bool) (o : Option A) (x : A) → is_none (cond t o (Some x)) ≡ cond t (is_none o) false
+unfolding is_none
+none_of true o x = refl
+none_of false o x = refl
+
+none_is : {A : Type 0} (o : Option A) → is_none o ≡ true → o ≡ None
+unfolding is_none
+none_is None h = refl
+none_is (Some x) h = cc
+
+all_parts_true : (a b c : Bool) → (a && b && c) ≡ true → (a ≡ true) × (b ≡ true) × (c ≡ true)
+all_parts_true true true true h = (refl, refl, refl)
+all_parts_true true true false h = cc
+all_parts_true true false c h = cc
+all_parts_true false b c h = cc
+
+-- no record of a catalog is wrong exactly where the whole catalog is right
+catalog_none : (before : List ℕ) (rows : List Row) → length before ≤ MOST_DATABASES → is_none (wrong_in_catalog before rows) ≡ is_catalog_behind before rows
+unfolding is_none
+catalog_none before [] few =
+    let fits : nat_le (length before + 0) MOST_DATABASES ≡ true = grind (arith, nat_tests) in rw fits refl
+catalog_none before (r ∷ rows) few =
+    let n = number_in r.1 in
+    let ns = map (λ (x : Row). number_in x.1) rows in
+    let longer : length (before ++ n ∷ []) ≡ length before + 1 = length-append before (n ∷ []) in
+    let behind : nat_lt (length before) MOST_DATABASES ≡ true → is_none (wrong_in_catalog (before ++ n ∷ []) rows) ≡ is_catalog_behind (before ++ n ∷ []) rows =
+    λ room. catalog_none (before ++ n ∷ []) rows (let lt : length before < MOST_DATABASES = grind (arith, nat_tests) in omega (arith, longer, lt)) in
+    let ends : nat_le (length (before ++ n ∷ []) + length rows) MOST_DATABASES ≡ nat_le (length before + suc (length rows)) MOST_DATABASES =
+    ap (λ k. nat_le k MOST_DATABASES) (omega (arith, longer)) in
+    none_of (is_right_behind before r) (wrong_in_catalog (before ++ n ∷ []) rows) r.0
+    ∙ row_more (is_catalog_row r) (not (list_any (λ m. m == n) before)) (nat_lt (length before) MOST_DATABASES) (list_all is_catalog_row rows) (are_others before ns)
+    (not (list_any (λ m. m == n) ns)) (are_distinct ns) (nat_le (length before + suc (length rows)) MOST_DATABASES) (is_none (wrong_in_catalog (before ++ n ∷ []) rows))
+    (λ right. behind (all_parts_true (is_catalog_row r) (not (list_any (λ m. m == n) before)) (nat_lt (length before) MOST_DATABASES) right).2
+    ∙ rw (others_more before ns n, ends) refl)
+    (λ full. grind (arith, nat_tests, full))
+
+-- ---- the databases
+
+lesser_is : (k n : ℕ) (o : Option ℕ) → lesser k o ≡ Some n → (n ≡ k) ⊎ (o ≡ Some n)
+lesser_is k n None h = let is : k ≡ n = cc in inl (sym is)
+lesser_is k n (Some m) h =
+    let is : min k m ≡ n = cc in
+    elim (cases_order k m) [
+      | inl same ↦ inl (omega (arith, same))
+      | inr other ↦ elim other [
+        | inl less ↦ inl (omega (arith, less))
+        | inr more ↦ let there : m ≡ n = omega (arith, more) in inr (ap (λ (x : ℕ). Some x) there)
+      ]
+    ]
+
+lesser_some : (k : ℕ) (o : Option ℕ) → lesser k o ≡ None → ⊥
+lesser_some k None h = cc
+lesser_some k (Some m) h = cc
+
+-- the least of those that pass passes
+least_passes : (p : ℕ → Bool) (ns : List ℕ) (n : ℕ) → least (filter p ns) ≡ Some n → p n ≡ true
+least_passes p [] n h = cc
+least_passes p (k ∷ ns) n h = by_case (p k) refl h (least_passes p ns n)
+  where
+    by_case : (b : Bool) → p k ≡ b → least (cond b (k ∷ filter p ns) (filter p ns)) ≡ Some n → (least (filter p ns) ≡ Some n → p n ≡ true) → p n ≡ true
+    by_case true is found behind = elim (lesser_is k n (least (filter p ns)) found) [ inl same ↦ ap p same ∙ is | inr there ↦ behind there ]
+    by_case false is found behind = behind found
+
+least_none : (q : ℕ → Bool) (ns : List ℕ) → least (filter (λ n. not (q n)) ns) ≡ None → list_all q ns ≡ true
+least_none q [] h = refl
+least_none q (k ∷ ns) h = by_case (q k) refl h (least_none q ns)
+  where
+    by_case : (b : Bool) → q k ≡ b → least (cond (not b) (k ∷ filter (λ n. not (q n)) ns) (filter (λ n. not (q n)) ns)) ≡ None →
+        (least (filter (λ n. not (q n)) ns) ≡ None → list_all q ns ≡ true) → (b && list_all q ns) ≡ true
+    by_case true is none behind = behind none
+    by_case false is none behind = absurd (lesser_some k (least (filter (λ n. not (q n)) ns)) none)
+
+least_of_none : (q : ℕ → Bool) (ns : List ℕ) → list_all q ns ≡ true → least (filter (λ n. not (q n)) ns) ≡ None
+least_of_none q [] h = refl
+least_of_none q (k ∷ ns) h = by_case (q k) h (least_of_none q ns)
+  where
+    by_case : (b : Bool) → (b && list_all q ns) ≡ true → (list_all q ns ≡ true → least (filter (λ n. not (q n)) ns) ≡ None) →
+        least (cond (not b) (k ∷ filter (λ n. not (q n)) ns) (filter (λ n. not (q n)) ns)) ≡ None
+    by_case true all behind = behind all
+    by_case false all behind = cc
+
+plain_none : (rows : List Row) → wrong_in_plain rows ≡ None → are_plain rows ≡ true
+plain_none [] h = refl
+plain_none (r ∷ rows) h = by_case (length r.0.dup == 0) h (plain_none rows)
+  where
+    by_case : (b : Bool) → option_map (λ (x : Row). x.0) (cond (not b) (Some r) (find (λ x. not (length x.0.dup == 0)) rows)) ≡ None →
+        (wrong_in_plain rows ≡ None → are_plain rows ≡ true) → (b && are_plain rows) ≡ true
+    by_case true none behind = behind none
+    by_case false none behind = cc
+
+mapped_none : {A B : Type 0} (f : A → B) (o : Option A) → option_map f o ≡ None → o ≡ None
+mapped_none f None h = refl
+mapped_none f (Some x) h = cc
+
+under_none : (rows : Rows) (o : Option ℕ) → wrong_database rows ≡ o → wrong_under rows o ≡ None → list_all (λ n. are_plain (rows n)) (numbers_of rows) ≡ true
+under_none rows None is h = least_none (λ n. are_plain (rows n)) (numbers_of rows) is
+under_none rows (Some db) is h =
+    let bad : not (are_plain (rows db)) ≡ true = least_passes (λ n. not (are_plain (rows n))) (numbers_of rows) db is in
+    let good : are_plain (rows db) ≡ true = plain_none (rows db) (mapped_none (λ (name : Name). let p : Place = record { db = db; name = name } in p) (wrong_in_plain (rows db)) h) in
+    let never : not true ≡ true = ap not (sym good) ∙ bad in absurd cc
+
+neither : {A : Type 0} (a b : Option A) → or_else a b ≡ None → (a ≡ None) × (b ≡ None)
+neither None b h = (refl, h)
+neither (Some x) b h = cc
+
+no_others : (ns : List ℕ) → are_others [] ns ≡ true
+no_others [] = refl
+no_others (n ∷ ns) = no_others ns
+
+of_four : (a b c d : Bool) → a ≡ true → b ≡ true → c ≡ true → d ≡ true → (a && b && c && d) ≡ true
+of_four a b c d ha hb hc hd = rw (ha, hb, hc, hd) refl
+
+four_of : (a b c d : Bool) → (a && b && c && d) ≡ true → (a ≡ true) × (b ≡ true) × (c ≡ true) × (d ≡ true)
+four_of true true true true h = (refl, refl, refl, refl)
+four_of true true true false h = cc
+four_of true true false d h = cc
+four_of true false c d h = cc
+four_of false b c d h = cc
+
+-- where no record is wrong, the records are those of an environment
+pub none_is_environment : (rows : Rows) → wrong_record rows ≡ None → is_environment rows ≡ true
+unfolding is_none
+none_is_environment rows h =
+    let both = neither (option_map (λ (name : Name). let p : Place = record { db = 0; name = name } in p) (wrong_in_catalog [] (rows 0))) (wrong_under rows (wrong_database rows)) h in
+    let none : wrong_in_catalog [] (rows 0) ≡ None = mapped_none (λ (name : Name). let p : Place = record { db = 0; name = name } in p) (wrong_in_catalog [] (rows 0)) both.0 in
+    let catalog : is_catalog_behind [] (rows 0) ≡ true = sym (catalog_none [] (rows 0) (omega arith)) ∙ ap is_none none in
+    let parts = four_of (list_all is_catalog_row (rows 0)) (are_others [] (numbers_of rows)) (are_distinct (numbers_of rows)) (nat_le (0 + length (rows 0)) MOST_DATABASES) catalog in
+    let few : nat_le (length (rows 0)) MOST_DATABASES ≡ true = ap (λ n. nat_le n MOST_DATABASES) (omega arith) ∙ parts.3 in
+    of_four (list_all is_catalog_row (rows 0)) (are_distinct (numbers_of rows)) (list_all (λ n. are_plain (rows n)) (numbers_of rows)) (nat_le (length (rows 0)) MOST_DATABASES)
+    parts.0 parts.2 (under_none rows (wrong_database rows) refl both.1) few
+
+-- and the other way round
+pub environment_is_none : (rows : Rows) → is_environment rows ≡ true → wrong_record rows ≡ None
+unfolding is_none
+environment_is_none rows h =
+    let parts = four_of (list_all is_catalog_row (rows 0)) (are_distinct (numbers_of rows)) (list_all (λ n. are_plain (rows n)) (numbers_of rows)) (nat_le (length (rows 0)) MOST_DATABASES) h in
+    let few : nat_le (0 + length (rows 0)) MOST_DATABASES ≡ true = ap (λ n. nat_le n MOST_DATABASES) (omega arith) ∙ parts.3 in
+    let catalog : is_catalog_behind [] (rows 0) ≡ true =
+    of_four (list_all is_catalog_row (rows 0)) (are_others [] (numbers_of rows)) (are_distinct (numbers_of rows)) (nat_le (0 + length (rows 0)) MOST_DATABASES)
+    parts.0 (no_others (numbers_of rows)) parts.1 few in
+    let none : wrong_in_catalog [] (rows 0) ≡ None = none_is (wrong_in_catalog [] (rows 0)) (catalog_none [] (rows 0) (omega arith) ∙ catalog) in
+    let databases : wrong_database rows ≡ None = least_of_none (λ n. are_plain (rows n)) (numbers_of rows) parts.2 in
+    rw (none, databases) refl
+
+-- where no record is wrong, the catalog's are right
+pub none_is_catalog : (rows : Rows) → wrong_record rows ≡ None → list_all is_catalog_row (rows 0) ≡ true
+none_is_catalog rows h =
+    (four_of (list_all is_catalog_row (rows 0)) (are_distinct (numbers_of rows)) (list_all (λ n. are_plain (rows n)) (numbers_of rows)) (nat_le (length (rows 0)) MOST_DATABASES)
+    (none_is_environment rows h)).0
+
+-- ---- the search for the least
+
+-- the least of what was found and of what is left
+abbrev pub lesser_of_both : Option ℕ → Option ℕ → Option ℕ
+lesser_of_both None other = other
+lesser_of_both (Some n) other = lesser n other
+
+pub lesser_more : (found rest : Option ℕ) (n m : ℕ) → Some m ≡ lesser n found → lesser_of_both (Some m) rest ≡ lesser_of_both found (lesser n rest)
+lesser_more None rest n m is = let e : m ≡ n = cc in ap (λ (k : ℕ). lesser k rest) e
+lesser_more (Some k) None n m is = let e : m ≡ min n k = cc in ap (λ (x : ℕ). Some x) (omega (arith, e))
+lesser_more (Some k) (Some l) n m is = let e : m ≡ min n k = cc in ap (λ (x : ℕ). Some x) (omega (arith, e))

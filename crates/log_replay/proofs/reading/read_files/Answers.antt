@@ -1,0 +1,62 @@
+use Rattle.std.proofs.Common.{◌≡◌, ◌∙◌, ap, sym, subst, refl, ℕ, arith, get_or, drop, length, ◌+◌, ◌-◌, ◌==◌}
+use Rattle.je_disk.specs.Moments.{now}
+use Rattle.je_disk.specs.States.{State}
+use Rattle.je_disk.proofs.Moments.{passes_none, passes_then, passes_weaken}
+use Rattle.log_replay.specs.UnderWay.{IsFileRead}
+use Rattle.log_replay.proofs.GapLaws.{item_at}
+use Rattle.log_replay.proofs.ReadingLaws.{reading_begins, reading_goes_on, reading_stops, read_along}
+use Rattle.log_replay.proofs.reading.read_files.Goals as goal
+
+pub loop-f-init : goal.loop-f-init
+loop-f-init g c =
+    let start = g.D.Disk.history c.args.disk.now in
+    record {
+      reading = reading_begins g.D.Disk.tells (now start).reads c.args.files.now c.new-replaying.result c.new-replaying.ensures;
+      left = refl;
+      same = λ t. refl;
+      moments = λ t. passes_none start (λ s. s ≡ now start);
+      jobs = (refl, refl, refl, refl);
+      never_falls = omega arith;
+    }
+
+pub returns-in-Stops-clause-read : goal.returns-in-Stops-clause-read
+returns-in-Stops-clause-read g c =
+    let history = g.D.Disk.history in
+    let tells = g.D.Disk.tells in
+    let before = c.loop-f.invariant in
+    let reads = (now (history c.args.disk.now)).reads in
+    let f = get_or c.args.files.now c.loop-f.f-index (record { 0 = 0 }) in
+    let last = c.loop-f.left - 1 == 0 in
+    let at = item_at c.args.files.now c.loop-f.f-index c.loop-f-test.true in
+    let left : length (drop (c.loop-f.f-index + 1) c.args.files.now) ≡ c.loop-f.left - 1 = omega (arith, ap length at, before.left) in
+    reading_stops tells reads c.args.files.now (drop c.loop-f.f-index c.args.files.now) (drop (c.loop-f.f-index + 1) c.args.files.now) f c.loop-f.replaying c.read_file.new.replaying
+    c.loop-f.tail c.in-Stops.finding last before.reading at (ap (λ (n : ℕ). n == 0) left)
+    (read_along tells reads (now (history c.loop-f.disk)).reads last f.0 c.loop-f.replaying c.read_file.new.replaying _ (λ t. ap (λ (s : State). s.reads) (before.same t))
+    (subst (IsFileRead tells (now (history c.loop-f.disk)).reads last f.0 c.loop-f.replaying c.read_file.new.replaying) c.in-Stops.is c.in_ok-finding.ensures.read))
+
+pub loop-f-preserved : goal.loop-f-preserved
+loop-f-preserved g c =
+    let history = g.D.Disk.history in
+    let tells = g.D.Disk.tells in
+    let before = c.loop-f.invariant in
+    let start = history c.args.disk.now in
+    let reads = (now start).reads in
+    let f = get_or c.args.files.now c.loop-f.f-index (record { 0 = 0 }) in
+    let last = c.loop-f.left - 1 == 0 in
+    let at = item_at c.args.files.now c.loop-f.f-index c.loop-f-test.true in
+    let left : length (drop (c.loop-f.f-index + 1) c.args.files.now) ≡ c.loop-f.left - 1 = omega (arith, ap length at, before.left) in
+    let read = c.in_ok-finding.ensures in
+    record {
+      reading =
+          reading_goes_on tells reads c.args.files.now (drop c.loop-f.f-index c.args.files.now) (drop (c.loop-f.f-index + 1) c.args.files.now) f c.loop-f.replaying c.read_file.new.replaying
+          c.loop-f.tail c.in-GoesOn.file last before.reading at (ap (λ (n : ℕ). n == 0) left)
+          (read_along tells reads (now (history c.loop-f.disk)).reads last f.0 c.loop-f.replaying c.read_file.new.replaying _ (λ t. ap (λ (s : State). s.reads) (before.same t))
+          (subst (IsFileRead tells (now (history c.loop-f.disk)).reads last f.0 c.loop-f.replaying c.read_file.new.replaying) c.in-GoesOn.is read.read));
+      left = sym left;
+      same = λ t. read.same t ∙ before.same t;
+      moments = λ t.
+          passes_then start (history c.loop-f.disk) (history c.read_file.new.disk) (λ s. s ≡ now start) (before.moments t)
+          (passes_weaken (history c.loop-f.disk) (history c.read_file.new.disk) (λ s. s ≡ now (history c.loop-f.disk)) (λ s. s ≡ now start) (λ s e. e ∙ before.same t) (read.moments t));
+      jobs = (read.jobs.0 ∙ before.jobs.0, read.jobs.1 ∙ before.jobs.1, read.jobs.2 ∙ before.jobs.2, read.jobs.3 ∙ before.jobs.3);
+      never_falls = omega (arith, before.never_falls, read.cause.never_falls);
+    }

@@ -1,0 +1,17 @@
+use Rattle.std.proofs.Common.{◌≡◌, ◌≤◌, true, drop, length}
+use Rattle.je_disk.specs.Moments.{now, Passes}
+use Rattle.log_replay.specs.UnderWay.{IsReading}
+use Rattle.log_replay.proofs.reading.read_files.Given as goal
+
+abbrev pub invariant-loop-f : goal.invariant-loop-f
+invariant-loop-f g l =
+    let history = g.D.Disk.history in
+    record {
+      reading : IsReading g.D.Disk.tells (now (history l.initial.disk)).reads l.files (drop l.f-index l.files) l.replaying l.tail;
+      left : l.left ≡ length (drop l.f-index l.files);
+      same : g.D.Disk.tells ≡ true → now (history l.disk) ≡ now (history l.initial.disk);
+      moments : g.D.Disk.tells ≡ true → Passes (history l.initial.disk) (history l.disk) (λ s. s ≡ now (history l.initial.disk));
+      jobs : (g.D.Disk.sync_out l.disk ≡ g.D.Disk.sync_out l.initial.disk) × (g.D.Disk.read_out l.disk ≡ g.D.Disk.read_out l.initial.disk)
+          × (g.D.Disk.read_of l.disk ≡ g.D.Disk.read_of l.initial.disk) × (g.D.Disk.drawn l.disk ≡ g.D.Disk.drawn l.initial.disk);
+      never_falls : g.D.Disk.faults l.initial.disk ≤ g.D.Disk.faults l.disk;
+    }

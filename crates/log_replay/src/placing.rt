@@ -1,0 +1,105 @@
+// The place in the log of the entry that gave a record.
+ghost use Rattle.std.specs.Prelude.{◌≡◌, ◌+◌, ◌<◌, ◌^◌, true, Some, IfOk};
+ghost use Rattle.je_disk.specs.Moments.{now, Passes};
+ghost use Rattle.je_disk.specs.Causes.{HasCause};
+ghost use Rattle.log_entry.specs.Body.{IsEntry};
+ghost use Rattle.log_file.specs.Log.{AreFileEntries, entries_found, log_in};
+ghost use Rattle.log_replay.specs.Reading.{files_read, lsn_in, lsn_of as lsn_of_place, marked, marked_entry};
+
+use crate::place::Place;
+use crate::replaying::Replaying;
+use crate::sort_key::SortKey;
+use je_bytes::{Reader, put_u64};
+use je_disk::{Disk, DiskErr};
+use je_lsn::{FileNo, Lsn};
+use je_order::{List, Octets, copy_of};
+use log_entry::{Entry, size};
+use log_file::{Found, Scanned, scan};
+use std::alloc::{AllocError, Global};
+
+// How many bytes a file's header has.
+const HEADER_BYTES: u32 = 26;
+
+// An entry with its LSN for its data.
+fn mark_entry(alloc: Global, entry: Entry, lsn: Lsn) -> Result<Entry, AllocError>
+    ensures { IfOk result (λ marked. marked ≡ marked_entry lsn entry) }
+{
+    match entry {
+        Entry::Put { txn, db, name, .. } => {
+            let mut value = Vec::new(alloc);
+            put_u64(&mut value, lsn.as_u64())?;
+            Ok(Entry::Put {
+                txn,
+                db,
+                name,
+                value: Octets::from_vec(value),
+            })
+        }
+        other => Ok(other),
+    }
+}
+
+// The entries of a file, each with its LSN for its data.
+fn mark(alloc: Global, f: FileNo, entries: List<Entry>) -> Result<List<Entry>, AllocError>
+    requires { AreFileEntries entries }
+    ensures { IfOk result (λ out. out ≡ marked f.0 26 entries) }
+{
+    let mut out = Vec::new(alloc);
+    let mut at = HEADER_BYTES;
+    for entry in entries.into_vec() {
+        let len = size(&entry);
+        out.push(mark_entry(alloc, entry, Lsn::new(f, at))?)?;
+        at += len;
+    }
+    Ok(List::from_vec(out))
+}
+
+// The entries of what was scanned; none where there is no run.
+fn entries_of(alloc: Global, scanned: Scanned) -> List<Entry>
+    ensures { result ≡ entries_found scanned.found }
+{
+    match scanned.found {
+        Found::Run(run) => run.entries,
+        _ => List::new(alloc),
+    }
+}
+
+// The LSN that a marked put has for its data, 0 where there are fewer bytes.
+fn lsn_from(bytes: &[u8]) -> Lsn
+    ensures { result ≡ lsn_in (Some bytes.now) }
+{
+    match Reader::new(bytes).u64() {
+        Ok(number) => Lsn::new(
+            FileNo((number / 0x1_0000_0000) as u32),
+            (number % 0x1_0000_0000) as u32,
+        ),
+        Err(_) => Lsn::new(FileNo(0), 0),
+    }
+}
+
+/// The LSN of the put that gave the record of a place, found by a second replay of the files, in which
+/// each put has its LSN for its data.
+pub(crate) fn lsn_of<D: Disk>(
+    alloc: Global,
+    disk: &mut D,
+    files: &[FileNo],
+    place: &Place,
+) -> Result<Lsn, DiskErr>
+    ensures lsn { D.tells ≡ true → IfOk result (λ lsn. lsn ≡ lsn_of_place (log_in (files_read (now (D.history disk.old)).reads files.now)) place.now) }
+    ensures same { D.tells ≡ true → now (D.history disk.new) ≡ now (D.history disk.old) }
+    ensures moments { D.tells ≡ true → Passes (D.history disk.old) (D.history disk.new) (λ s. s ≡ now (D.history disk.old)) }
+    ensures jobs { (D.sync_out disk.new ≡ D.sync_out disk.old) × (D.read_out disk.new ≡ D.read_out disk.old) × (D.read_of disk.new ≡ D.read_of disk.old) × (D.drawn disk.new ≡ D.drawn disk.old) }
+    ensures cause { HasCause (D.faults disk.old) (D.faults disk.new) result }
+{
+    let mut replaying = Replaying::new(alloc);
+    for f in files {
+        let scanned = scan(alloc, disk, *f)?;
+        let entries = mark(alloc, *f, entries_of(alloc, scanned))?;
+        replaying.take_all(alloc, entries)?;
+    }
+    let name = SortKey::new(copy_of(&place.name)?);
+    match replaying.rows.get(place.db, &name) {
+        Some(octets) => Ok(lsn_from(octets.as_slice())),
+        None => Ok(Lsn::new(FileNo(0), 0)),
+    }
+}

@@ -1,0 +1,229 @@
+// Logs of several files, torn ones, and files that cannot be opened.
+use crate::fixture::{
+    FIRST_LOG, HEADER, assert_ran, disk_with, holds, holds_files, run_script, run_small,
+};
+use mem_disk::MemDisk;
+use std::alloc::{AllocError, Global};
+use std::process::Abort;
+use std::test::Fail;
+
+// The header of file 1.
+const HEADER_1: &[u8] =
+    b"\x0c\xb4\x01\x32\x01\x00\x00\x00\x00\x00\x00\x00\x00\x0cJELG\x00\x00\x00\x01\x00\x00\x00\x01";
+
+// The header of the last file that there may be, 0xfffffffe.
+const HEADER_LAST: &[u8] =
+    b"\x16\xa8\x05\x2c\x01\x00\x00\x00\x00\x00\x00\x00\x00\x0cJELG\x00\x00\x00\x01\xff\xff\xff\xfe";
+
+// The header of file 0 in version 9 of the format.
+const HEADER_9: &[u8] =
+    b"\x0c\xdb\x01\x39\x01\x00\x00\x00\x00\x00\x00\x00\x00\x0cJELG\x00\x00\x00\x09\x00\x00\x00\x00";
+
+// A log whose transaction 1 puts the database t into the catalog with number 0, which is none.
+const NO_NUMBER: &[u8] =
+    b"\x0c\xb3\x01\x31\x01\x00\x00\x00\x00\x00\x00\x00\x00\x0cJELG\x00\x00\x00\x01\x00\x00\x00\x00\
+\x06\x12\x00\x8f\x02\x00\x00\x00\x00\x00\x00\x00\x00\x16\x00\x00\x00\x00\x00\x00\x00\x01\x00\x00\x00\x00\x00\x01t\x00\x00\x00\x00\x00\x00\x00\
+\x02\x07\x00\x29\x05\x00\x00\x00\x00\x1a\x00\x00\x00\x08\x00\x00\x00\x00\x00\x00\x00\x01";
+
+// A log whose transaction 2 puts a record with a dup into the plain database t.
+const WITH_DUP: &[u8] =
+    b"\x0c\xb3\x01\x31\x01\x00\x00\x00\x00\x00\x00\x00\x00\x0cJELG\x00\x00\x00\x01\x00\x00\x00\x00\
+\x06\x14\x00\x90\x02\x00\x00\x00\x00\x00\x00\x00\x00\x16\x00\x00\x00\x00\x00\x00\x00\x01\x00\x00\x00\x00\x00\x01t\x00\x00\x00\x00\x00\x01\x00\
+\x02\x07\x00\x29\x05\x00\x00\x00\x00\x1a\x00\x00\x00\x08\x00\x00\x00\x00\x00\x00\x00\x01\
+\x0a\xaa\x01\x4f\x02\x00\x00\x00\x00\x3e\x00\x00\x00\x13\x00\x00\x00\x00\x00\x00\x00\x02\x00\x00\x00\x01\x00\x01a\x00\x01d1\
+\x04\xfa\x00\x64\x05\x00\x00\x00\x00\x54\x00\x00\x00\x08\x00\x00\x00\x00\x00\x00\x00\x02";
+
+// The log of the first example cut to each length: what it means, and what opening leaves of it, a
+// header at least. From each of these lengths on that many bytes are left.
+#[test]
+fn torn_tail(rt: HostRuntime) -> Result<(), Fail> {
+    let alloc = rt.alloc();
+    let mut left = HEADER;
+    for len in 0..139usize {
+        let (cut, _) = FIRST_LOG.split_at(len);
+        if [62, 84, 116, 138].contains(&len) {
+            left = cut;
+        }
+        let ran = run_script(alloc, disk_with(alloc, &[(0, cut)])?, b"")?;
+        let text = match left.len() {
+            26 | 62 => "end commits 0 databases 0 records 0\n",
+            84 | 116 => "end commits 0 databases 1 records 0\n",
+            _ => "end commits 0 databases 1 records 1\n",
+        };
+        assert_ran(&rt, &ran, 0, text);
+        assert!(rt; holds(alloc, &ran.disk, left)?, "cut to {len}");
+    }
+    Ok(())
+}
+
+// Zeros behind the log of one database are a torn entry, and are cut off.
+#[test]
+fn zeros_at_the_end(rt: HostRuntime) -> Result<(), Fail> {
+    let alloc = rt.alloc();
+    let (front, _) = FIRST_LOG.split_at(84);
+    let mut log = Vec::from_slice(alloc, front)?;
+    for _ in 0..54 {
+        log.push(0)?;
+    }
+    let ran = run_script(alloc, disk_with(alloc, &[(0, &log)])?, b"s1 get t 61\n")?;
+    let text = "1 s1 notfound\nend commits 0 databases 1 records 0\n";
+    assert_ran(&rt, &ran, 0, text);
+    assert!(rt; holds(alloc, &ran.disk, front)?);
+    Ok(())
+}
+
+// Files that cannot be opened are left as they are, and the line says why.
+fn are_refused(
+    rt: &impl Abort,
+    alloc: Global,
+    files: &[(u32, &[u8])],
+    text: &str,
+) -> Result<(), Fail> {
+    let ran = run_script(alloc, disk_with(alloc, files)?, b"s1 get t 61\n")?;
+    assert_ran(rt, &ran, 5, text);
+    assert!(rt; holds_files(alloc, &ran.disk, files)?, "{text}");
+    Ok(())
+}
+
+#[test]
+fn unreadable_files(rt: HostRuntime) -> Result<(), Fail> {
+    let alloc = rt.alloc();
+    let mut damaged = Vec::from_slice(alloc, FIRST_LOG)?;
+    if let Some(byte) = damaged.get_mut(30) {
+        *byte ^= 1;
+    }
+    let (cut, _) = FIRST_LOG.split_at(137);
+    let next = (1, HEADER_1);
+    are_refused(
+        &rt,
+        alloc,
+        &[(0, &damaged), next],
+        "fault damaged 0x0/0x1a\n",
+    )?;
+    are_refused(&rt, alloc, &[(0, cut), next], "fault damaged 0x0/0x74\n")?;
+    are_refused(&rt, alloc, &[(0, b""), next], "fault damaged 0x0/0x0\n")?;
+    are_refused(&rt, alloc, &[(0, HEADER_1)], "fault damaged 0x0/0x0\n")?;
+    are_refused(
+        &rt,
+        alloc,
+        &[(0, HEADER_9)],
+        "fault version 00000000.jdb 9\n",
+    )?;
+    let first = (0, FIRST_LOG);
+    are_refused(
+        &rt,
+        alloc,
+        &[first, (2, HEADER_1)],
+        "fault damaged 0x2/0x0\n",
+    )?;
+    are_refused(&rt, alloc, &[first, (2, b"")], "fault missing 0x1/0x0\n")?;
+    are_refused(&rt, alloc, &[(0, NO_NUMBER)], "fault tree 0x0/0x1a\n")?;
+    are_refused(&rt, alloc, &[(0, WITH_DUP)], "fault tree 0x0/0x54\n")?;
+    Ok(())
+}
+
+// A last file without a whole header gets one, and nothing else is lost.
+#[test]
+fn headless_last_file(rt: HostRuntime) -> Result<(), Fail> {
+    let alloc = rt.alloc();
+    let (part, _) = HEADER_1.split_at(10);
+    for torn in [b"".as_slice(), part, HEADER_1] {
+        let disk = disk_with(alloc, &[(0, FIRST_LOG), (1, torn)])?;
+        let ran = run_script(alloc, disk, b"s1 get t 61\n")?;
+        let text = "1 s1 ok 61 31\nend commits 0 databases 1 records 1\n";
+        assert_ran(&rt, &ran, 0, text);
+        assert!(rt; holds_files(alloc, &ran.disk, &[(0, FIRST_LOG), (1, HEADER_1)])?);
+    }
+    Ok(())
+}
+
+// A put of the key with this digit's code, and of so many bytes `1` of data.
+fn put_line(alloc: Global, script: &mut Vec<u8>, key: &[u8], len: usize) -> Result<(), AllocError> {
+    script.extend_from_slice(b"s1 put t ")?;
+    script.extend_from_slice(key)?;
+    script.push(b' ')?;
+    let bytes = vec![in alloc; [b'3', b'1']; len]?;
+    for digits in &bytes {
+        script.extend_from_slice(digits.as_slice())?;
+    }
+    script.push(b'\n')?;
+    Ok(())
+}
+
+// A script that makes t, and puts data of these lengths under 61, 62 and so on.
+fn puts(alloc: Global, lens: &[(&[u8], usize)]) -> Result<Vec<u8>, AllocError> {
+    let mut script = Vec::from_slice(alloc, b"s1 create t plain\n")?;
+    for (key, len) in lens {
+        put_line(alloc, &mut script, key, *len)?;
+    }
+    Ok(script)
+}
+
+// How long the disk's files are, in order.
+fn lengths(alloc: Global, disk: &MemDisk) -> Result<Vec<usize>, AllocError> {
+    let mut lengths = Vec::new(alloc);
+    for (_, bytes) in &disk.files(alloc)? {
+        lengths.push(bytes.len())?;
+    }
+    Ok(lengths)
+}
+
+// Files of 4,096 bytes: one that is filled to the last byte, one more entry, and an entry that is longer
+// than a file, whose commit stands in the file behind it.
+#[test]
+fn small_files(rt: HostRuntime) -> Result<(), Fail> {
+    let alloc = rt.alloc();
+    let rows: [(&[(&[u8], usize)], &[usize], &str); 4] = [
+        (
+            &[(b"61", 3_959)],
+            &[4_096],
+            "end commits 2 databases 1 records 1\n",
+        ),
+        (
+            &[(b"61", 3_960)],
+            &[4_075, 48],
+            "end commits 2 databases 1 records 1\n",
+        ),
+        (
+            &[(b"61", 3_959), (b"62", 1)],
+            &[4_096, 80],
+            "end commits 3 databases 1 records 2\n",
+        ),
+        (
+            &[(b"61", 3_959), (b"62", 5_000)],
+            &[4_096, 5_057, 48],
+            "end commits 3 databases 1 records 2\n",
+        ),
+    ];
+    for (lens, wanted, text) in rows {
+        let ran = run_small(alloc, MemDisk::new(alloc), &puts(alloc, lens)?)?;
+        assert!(rt; ran.text.as_str().ends_with(text));
+        assert!(rt; lengths(alloc, &ran.disk)?.as_slice() == wanted, "{text}");
+        let again = run_script(alloc, ran.disk, b"s1 delete t 61\n")?;
+        assert!(rt;
+            again
+                .text
+                .as_str()
+                .starts_with("1 s1 ok\nend commits 1 databases 1 ")
+        );
+    }
+    Ok(())
+}
+
+// The last file that there may be: what would begin a file behind it finds no room.
+#[test]
+fn last_file(rt: HostRuntime) -> Result<(), Fail> {
+    let alloc = rt.alloc();
+    let disk = disk_with(alloc, &[(0xffff_fffe, HEADER_LAST)])?;
+    let ran = run_small(alloc, disk, &puts(alloc, &[(b"61", 5_000)])?)?;
+    let text = "1 s1 ok\n2 s1 logfull\nend commits 1 databases 1 records 0\nfault log full\n";
+    assert_ran(&rt, &ran, 12, text);
+    let again = run_script(alloc, ran.disk, b"s1 put t 61 31\n")?;
+    assert_ran(
+        &rt,
+        &again,
+        0,
+        "1 s1 ok\nend commits 1 databases 1 records 1\n",
+    );
+    Ok(())
+}
