@@ -1,20 +1,84 @@
 -- The data of a catalog record (this project's own format).
-use Rattle.std.specs.Prelude.{ℕ, ◌++◌, ◌∷◌, [], ◌==◌, ◌&&◌, List, length, slice_index, take, Option, None, Some, if◌then◌else◌}
-use Rattle.std.specs.Int.{w32, to_be_bytes, from_be_bytes}
+use Rattle.std.specs.Prelude.{ℕ, ◌≤◌, ◌<◌, ◌^◌, ◌++◌, ◌∷◌, [], ◌==◌, ◌&&◌, nat_le, nat_lt, Bool, List, length, Option, None, Some, if◌then◌else◌}
+use Rattle.std.specs.Int.{w32, to_be_bytes}
+use Rattle.je_bytes.specs.Reading.{byte_in, number_in}
 use Rattle.db_catalog.specs.declared.db_record.DbRecord.{DbRecord}
-use Rattle.db_catalog.specs.declared.db_record.DbKind.{DbKind}
-use Rattle.db_catalog.specs.declared.db_record.DbKind.TheVariants.{Plain}
+use Rattle.db_catalog.specs.declared.db_kind.DbKind.{DbKind}
+use Rattle.db_catalog.specs.declared.db_kind.DbKind.TheVariants.{Plain, Dup, SliceIndex, FieldIndex}
 
--- the byte of a kind
-abbrev pub kind_byte : DbKind → ℕ
-kind_byte Plain = 0
+-- ---- what a record may hold
 
--- a record's bytes: the number in four bytes, the highest first, and the kind in one
+-- the limits of a slice: its offset is at most 65,535, and it has 1 to 4,096 bytes
+abbrev pub IsSlice : ℕ → ℕ → Type 0
+IsSlice offset len = (offset ≤ 65535) × (1 ≤ len) × (len ≤ 4096)
+
+-- numbers within their widths, and a slice within its limits
+abbrev pub IsKind : DbKind → Type 0
+IsKind Plain = Unit {0}
+IsKind Dup = Unit {0}
+IsKind (SliceIndex primary offset len) = (primary < 2 ^ 32) × IsSlice offset len
+IsKind (FieldIndex primary number separator) = (primary < 2 ^ 32) × (number < 2 ^ 32) × (separator < 2 ^ 8)
+
+abbrev pub IsRecord : DbRecord → Type 0
+IsRecord r = (r.number < 2 ^ 32) × IsKind r.kind
+
+-- ---- as it is written
+
+-- a kind's byte, and the fields of an index behind it, each number in four bytes, the highest first
+abbrev pub kind_bytes : DbKind → List ℕ
+kind_bytes Plain = 0 ∷ []
+kind_bytes Dup = 1 ∷ []
+kind_bytes (SliceIndex primary offset len) = 2 ∷ (to_be_bytes w32 primary ++ (to_be_bytes w32 offset ++ to_be_bytes w32 len))
+kind_bytes (FieldIndex primary number separator) = 3 ∷ (to_be_bytes w32 primary ++ (to_be_bytes w32 number ++ separator ∷ []))
+
+-- a record's bytes: its number in four bytes, and its kind
 abbrev pub record_bytes : DbRecord → List ℕ
-record_bytes r = to_be_bytes w32 r.number ++ kind_byte r.kind ∷ []
+record_bytes r = to_be_bytes w32 r.number ++ kind_bytes r.kind
+
+-- ---- as it is read
+
+-- one field, and then what is read after it
+infixl 10 ◌>>=◌
+abbrev pub ◌>>=◌ : {A B : Type 0} → Option A → (A → Option B) → Option B
+(Some x) >>= f = f x
+None >>= f = None
+
+-- whether a slice is within its limits
+abbrev pub is_slice : ℕ → ℕ → Bool
+is_slice offset len = nat_le offset 65535 && nat_lt 0 len && nat_le len 4096
+
+-- a kind, where nothing is left behind it
+abbrev pub ended : DbKind → List ℕ → Option DbKind
+ended kind rest = if length rest == 0 then Some kind else None
+
+-- the fields of a slice index
+unfoldable pub slice_in : List ℕ → Option DbKind
+slice_in bytes = do
+  primary ← number_in w32 bytes
+  offset ← number_in w32 primary.1
+  len ← number_in w32 offset.1
+  if is_slice offset.0 len.0 then ended (SliceIndex primary.0 offset.0 len.0) len.1 else None
+
+-- the fields of a field index
+unfoldable pub field_in : List ℕ → Option DbKind
+field_in bytes = do
+  primary ← number_in w32 bytes
+  number ← number_in w32 primary.1
+  separator ← byte_in number.1
+  ended (FieldIndex primary.0 number.0 separator.0) separator.1
+
+-- the kind of a byte, with the fields that are all of the bytes behind it
+unfoldable pub kind_in : ℕ → List ℕ → Option DbKind
+kind_in kind bytes =
+    if kind == 0 then ended Plain bytes else
+    if kind == 1 then ended Dup bytes else
+    if kind == 2 then slice_in bytes else
+    if kind == 3 then field_in bytes else None
 
 -- the record that bytes are, if they are one
-abbrev pub record_in : List ℕ → Option DbRecord
-record_in bytes =
-    if (length bytes == 5) && (slice_index bytes 4 == 0) then Some (record { number = from_be_bytes w32 (take 4 bytes); kind = Plain })
-    else None
+unfoldable pub record_in : List ℕ → Option DbRecord
+record_in bytes = do
+  number ← number_in w32 bytes
+  first ← byte_in number.1
+  kind ← kind_in first.0 first.1
+  Some (record { number = number.0; kind = kind })

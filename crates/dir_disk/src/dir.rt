@@ -63,7 +63,8 @@ impl<R: Files + AllocGlobal + Clone + Drop> Disk for DirDisk<R>
 where
     R::File: Send,
 {
-    ghost use Rattle.std.specs.Prelude.{false};
+    ghost use Rattle.std.specs.Prelude.{◌≡◌, false, None, IsErr};
+    ghost use Rattle.je_disk.specs.Causes.{HasFault};
     ghost use Rattle.je_disk.specs.Moments.{History};
     ghost use Rattle.je_disk.specs.States.{nothing};
 
@@ -165,7 +166,14 @@ where
         }
     }
 
-    fn end_sync(&mut self, done: DirDone) -> Result<(), DiskErr> {
+    fn end_sync(&mut self, done: DirDone) -> Result<(), DiskErr>
+        ensures none_out { self.new.jobs.sync ≡ None }
+        ensures read_out { self.new.jobs.reading ≡ self.old.jobs.reading }
+        ensures read_of { self.new.jobs.file.0 ≡ self.old.jobs.file.0 }
+        ensures drawn { self.new.jobs.drawn ≡ self.old.jobs.drawn }
+        ensures failed { done.worked ≡ false → IsErr result }
+        ensures cause { HasFault self.old.faults self.new.faults result }
+    {
         self.jobs.give_up_sync();
         match self.folder.end_sync(done.worked()) {
             Ok(()) => Ok(()),

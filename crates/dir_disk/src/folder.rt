@@ -1,5 +1,5 @@
 // The folder and its open files.
-ghost use Rattle.std.specs.Prelude.{◌≡◌, ◌≤◌, length, IfOk};
+ghost use Rattle.std.specs.Prelude.{◌≡◌, ◌≤◌, false, length, IfOk, IsErr};
 ghost use Rattle.je_disk.specs.States.{IsRising};
 
 use crate::job::{DirJob, DirReadJob, Lost, sync_all, sync_file, whole};
@@ -252,7 +252,9 @@ impl<R: Files + AllocGlobal + Clone + Drop> Folder<R> {
     }
 
     /// Ends a sync job that has worked or failed. What was done since it began is due still.
-    pub fn end_sync(&mut self, worked: bool) -> io::Result<()> {
+    pub fn end_sync(&mut self, worked: bool) -> io::Result<()>
+        ensures failed { worked ≡ false → IsErr result }
+    {
         self.end_pending(worked);
         self.finish(if worked { Ok(()) } else { Err(lost_data()) })
     }
@@ -262,7 +264,9 @@ impl<R: Files + AllocGlobal + Clone + Drop> Folder<R> {
         self.end_pending(false);
     }
 
-    fn finish(&self, answer: io::Result<()>) -> io::Result<()> {
+    fn finish(&self, answer: io::Result<()>) -> io::Result<()>
+        ensures failed { IsErr answer → IsErr result }
+    {
         answer?;
         if self.lost.load(SeqCst) {
             return Err(lost_data());

@@ -1,4 +1,6 @@
 // The jobs of a folder.
+ghost use Rattle.std.specs.Prelude.{◌≡◌, [], IsNone, IfSome, IfOk};
+
 use je_disk::{ReadDone, ReadJob, SyncDone, SyncJob};
 use std::alloc::Global;
 use std::fs::OpenFile;
@@ -56,7 +58,10 @@ pub fn sync_all<F: OpenFile>(files: &[F], lost: &Lost) -> io::Result<()> {
 }
 
 /// The bytes of a file that is read from its beginning; none where there is no file.
-pub fn whole<F: Read + Drop>(alloc: Global, file: Option<F>) -> io::Result<Vec<u8>> {
+pub fn whole<F: Read + Drop>(alloc: Global, file: Option<F>) -> io::Result<Vec<u8>>
+    ensures none { IsNone file → IfOk result (λ bytes. bytes.items ≡ []) }
+    ensures all { IfSome file (λ file. IfSome (F.remaining file) (λ left. IfOk result (λ bytes. bytes.items ≡ left))) }
+{
     let mut bytes = Vec::new(alloc);
     if let Some(mut file) = file {
         file.read_to_end(&mut bytes)?;
@@ -86,7 +91,9 @@ impl<F: OpenFile + Drop + Send> SyncJob for DirJob<F> {
 
 impl DirDone {
     /// Spends it, and says whether the sync worked.
-    pub(crate) fn worked(self) -> bool {
+    pub(crate) fn worked(self) -> bool
+        ensures { result ≡ self.worked }
+    {
         let DirDone { number: _, worked } = self;
         worked
     }
@@ -128,7 +135,9 @@ impl<F: Read + Drop + Send> ReadJob for DirReadJob<F> {
 
 impl DirReadDone {
     /// Spends it, and hands out the bytes.
-    pub(crate) fn bytes(self) -> io::Result<Vec<u8>> {
+    pub(crate) fn bytes(self) -> io::Result<Vec<u8>>
+        ensures { result ≡ self.bytes }
+    {
         let DirReadDone { number: _, bytes } = self;
         bytes
     }

@@ -1,8 +1,8 @@
 //! A disk that is a folder. It stands on `je_disk`, over std's files. It tells nothing, since no
-//! contract can say what a file holds: proved are its safety, the causes of its errors, and which jobs
-//! are out; the rest is for its readers and its tests. A sync job has handles of its own of what is to
-//! be synced, and a read job has one of its file. The folder is this process's own while the disk is in
-//! use.
+//! contract can say what a file holds: proved are its safety, the causes of its errors, which jobs are
+//! out, and that the end of a sync job that noted a failure is a fault; the rest is for its readers and
+//! its tests. A sync job has handles of its own of what is to be synced, and a read job has one of its
+//! file. The folder is this process's own while the disk is in use.
 #![tactic(auto)]
 
 pub mod dir;

@@ -39,9 +39,10 @@ fn numbered(alloc: Global, numbers: &[u32]) -> Result<Vec<FileNo>, AllocError>
     numbers.iter().map(|f| FileNo(*f)).collect(alloc)
 }
 
-/// The numbers of files, rising.
+/// The numbers of files, rising: all of them.
 pub fn in_order(alloc: Global, numbers: &BTreeSet<u32>) -> Result<Vec<FileNo>, AllocError>
-    ensures { IfOk result (λ files. IsRising files.items) }
+    ensures rising { IfOk result (λ files. IsRising files.items) }
+    ensures all { IfOk result (λ files. files.items ≡ map (λ n. record { 0 = n }) numbers.now.keys) }
 {
     let sorted = sorted(alloc, numbers)?;
     numbered(alloc, sorted.as_slice())

@@ -1,3 +1,4 @@
 pub mod Causes
+pub mod Images
 pub mod Moments
 pub mod States

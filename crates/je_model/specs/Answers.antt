@@ -4,9 +4,9 @@ use Rattle.std.specs.Prelude.{ℕ, ◌+◌, ◌≡◌, ◌⊎◌, ◌∷◌, [],
 use Rattle.je_model.specs.declared.store.TheConstants.{MOST_DATABASES, LAST_TXN, LAST_DATABASE, KEY_LIMIT, VALUE_LIMIT}
 use Rattle.je_model.specs.declared.store.Store.{Store}
 use Rattle.je_model.specs.declared.call.Call.{Call}
-use Rattle.je_model.specs.declared.call.Call.TheVariants.{Create, Put, Get, Delete}
+use Rattle.je_model.specs.declared.call.Call.TheVariants.{Create, List as Lists, Remove as Removes, Rename as Renames, Truncate, Put, PutNo, Get, Delete}
 use Rattle.je_model.specs.declared.change.Change.{Change}
-use Rattle.je_model.specs.declared.change.Change.TheVariants.{Set, Unset, Make}
+use Rattle.je_model.specs.declared.change.Change.TheVariants.{Set, Unset, Make, Remove, Rename, Empty}
 use Rattle.je_model.specs.declared.answer.Fault.{Fault}
 use Rattle.je_model.specs.declared.answer.Fault.TheVariants.{Disk}
 use Rattle.je_model.specs.declared.answer.Answer.{Answer}
@@ -39,12 +39,21 @@ pub record Standing : Type 0 where
 abbrev pub next_txn : ℕ → ℕ
 next_txn last = if nat_lt last LAST_TXN then last + 1 else last
 
--- how many databases changes make
+-- how many database numbers changes draw: one for each database that is made, and one for each that is emptied, which
+-- goes on under a new number
 abbrev pub made_by : List Change → ℕ
 made_by [] = 0
 made_by (Set db at value ∷ changes) = made_by changes
 made_by (Unset db at ∷ changes) = made_by changes
 made_by (Make db kind ∷ changes) = made_by changes + 1
+made_by (Remove db ∷ changes) = made_by changes
+made_by (Rename db to ∷ changes) = made_by changes
+made_by (Empty db ∷ changes) = made_by changes + 1
+
+-- the first of two refusals
+abbrev pub or_refusal : Option Answer → Option Answer → Option Answer
+or_refusal None second = second
+or_refusal (Some refusal) second = Some refusal
 
 -- the refusals that the catalog gives, before evaluation
 abbrev pub creation_refusal : Bool → ℕ → Option Answer
@@ -54,9 +63,18 @@ creation_refusal taken count =
 abbrev pub access_refusal : Bool → Option Answer
 access_refusal there = if there then None else Some NoDatabase
 
+abbrev pub taken_refusal : Bool → Option Answer
+taken_refusal taken = if taken then Some NameTaken else None
+
 abbrev pub catalog_refusal : Call → Store → Option Answer
 catalog_refusal (Create db kind) store = creation_refusal (is_some (database_of db store)) (length store.databases)
+catalog_refusal Lists store = None
+catalog_refusal (Removes db) store = access_refusal (is_some (database_of db store))
+catalog_refusal (Renames db to) store =
+    or_refusal (access_refusal (is_some (database_of db store))) (taken_refusal (is_some (database_of to store)))
+catalog_refusal (Truncate db) store = access_refusal (is_some (database_of db store))
 catalog_refusal (Put db key value) store = access_refusal (is_some (database_of db store))
+catalog_refusal (PutNo db key value) store = access_refusal (is_some (database_of db store))
 catalog_refusal (Get db key rmw) store = access_refusal (is_some (database_of db store))
 catalog_refusal (Delete db key) store = access_refusal (is_some (database_of db store))
 
@@ -64,13 +82,14 @@ catalog_refusal (Delete db key) store = access_refusal (is_some (database_of db 
 abbrev pub too_long : ℕ → List ℕ → Option Answer
 too_long limit bytes = if nat_lt limit (length bytes) then Some (TooLong (length bytes)) else None
 
-abbrev pub or_refusal : Option Answer → Option Answer → Option Answer
-or_refusal None second = second
-or_refusal (Some refusal) second = Some refusal
-
 abbrev pub length_refusal : Call → Option Answer
 length_refusal (Create db kind) = None
+length_refusal Lists = None
+length_refusal (Removes db) = None
+length_refusal (Renames db to) = None
+length_refusal (Truncate db) = None
 length_refusal (Put db key value) = or_refusal (too_long KEY_LIMIT key) (too_long VALUE_LIMIT value)
+length_refusal (PutNo db key value) = or_refusal (too_long KEY_LIMIT key) (too_long VALUE_LIMIT value)
 length_refusal (Get db key rmw) = too_long KEY_LIMIT key
 length_refusal (Delete db key) = too_long KEY_LIMIT key
 

@@ -1,6 +1,8 @@
 -- A store (Getting Started Guide, "Databases" and "Database Records"), and how it changes.
-use Rattle.std.specs.Prelude.{ℕ, ◌++◌, ◌∷◌, [], List, Option, Bool, not, filter, map, find, sum_by, length, if◌then◌else◌}
-use Rattle.std.specs.Ordering.{is_eq, is_lt, is_gt}
+use Rattle.std.specs.Prelude.{ℕ, ◌++◌, ◌∷◌, [], List, Option, None, Some, Bool, not, filter, map, find, sum_by, length, if◌then◌else◌}
+use Rattle.std.specs.List.{AllByRecursion}
+use Rattle.std.specs.List.Sorted.{IsStrictlySortedBy}
+use Rattle.std.specs.Ordering.{is_eq, is_lt, is_gt, on}
 use Rattle.je_order.specs.Order.{bytes_cmp}
 use Rattle.je_order.specs.declared.name.Name.{Name}
 use Rattle.je_model.specs.declared.store.Store.{Store}
@@ -8,7 +10,7 @@ use Rattle.je_model.specs.declared.store.Database.{Database}
 use Rattle.je_model.specs.declared.store.Kind.{Kind}
 use Rattle.je_model.specs.declared.store.Kind.TheVariants.{Plain}
 use Rattle.je_model.specs.declared.change.Change.{Change}
-use Rattle.je_model.specs.declared.change.Change.TheVariants.{Set, Unset, Make}
+use Rattle.je_model.specs.declared.change.Change.TheVariants.{Set, Unset, Make, Remove, Rename, Empty}
 
 -- whether two byte strings are the same
 abbrev pub is_same : List ℕ → List ℕ → Bool
@@ -17,6 +19,15 @@ is_same a b = is_eq (bytes_cmp a b)
 -- the store of a new environment
 abbrev pub no_databases : Store
 no_databases = record { databases = [] }
+
+-- whether keys rise: the records stand in byte order of their keys, and no key stands twice
+abbrev pub HasRisingKeys : List (List ℕ × List ℕ) → Type 0
+HasRisingKeys pairs = IsStrictlySortedBy (on (λ (p : List ℕ × List ℕ). p.0) bytes_cmp) pairs
+
+-- a right store: its databases stand in byte order of their names, no name stands twice, and keys rise in each
+pub record IsStore (store : Store) : Type 0 where
+  pub names : IsStrictlySortedBy (on (λ (d : Database). d.name) bytes_cmp) store.databases
+  pub keys : AllByRecursion (λ d. HasRisingKeys d.pairs) store.databases
 
 -- the database of that name
 abbrev pub database_of : List ℕ → Store → Option Database
@@ -39,6 +50,10 @@ pairs_without Plain at pairs = filter (λ p. not (is_same p.0 at.key)) pairs
 abbrev pub with_pairs : Database → List (List ℕ × List ℕ) → Database
 with_pairs d pairs = record { name = d.name; kind = d.kind; pairs = pairs }
 
+-- a database under another name
+abbrev pub with_name : Database → List ℕ → Database
+with_name d name = record { name = name; kind = d.kind; pairs = d.pairs }
+
 -- the databases, with the one of that name changed
 abbrev pub in_database : List ℕ → (Database → Database) → List Database → List Database
 in_database name change databases = map (λ d. if is_same d.name name then change d else d) databases
@@ -48,11 +63,27 @@ abbrev pub databases_with : Database → List Database → List Database
 databases_with new databases =
     filter (λ d. is_lt (bytes_cmp d.name new.name)) databases ++ new ∷ filter (λ d. is_gt (bytes_cmp d.name new.name)) databases
 
+-- the databases without the one of that name
+abbrev pub databases_without : List ℕ → List Database → List Database
+databases_without name databases = filter (λ d. not (is_same d.name name)) databases
+
+-- the databases with one of them, if it is there, under another name
+abbrev pub databases_renamed : Option Database → List ℕ → List Database → List Database
+databases_renamed None to databases = databases
+databases_renamed (Some d) to databases = databases_with (with_name d to) (databases_without d.name databases)
+
+-- the names of a store's databases, in order
+abbrev pub names_of : Store → List (List ℕ)
+names_of store = map (λ d. d.name) store.databases
+
 -- the store after a change
 abbrev pub changed : Change → Store → Store
 changed (Set db at value) store = record { databases = in_database db (λ d. with_pairs d (pairs_with d.kind at value d.pairs)) store.databases }
 changed (Unset db at) store = record { databases = in_database db (λ d. with_pairs d (pairs_without d.kind at d.pairs)) store.databases }
 changed (Make db kind) store = record { databases = databases_with (record { name = db; kind = kind; pairs = [] }) store.databases }
+changed (Remove db) store = record { databases = databases_without db store.databases }
+changed (Rename db to) store = record { databases = databases_renamed (database_of db store) to store.databases }
+changed (Empty db) store = record { databases = in_database db (λ d. with_pairs d []) store.databases }
 
 -- the store after several changes, in order
 abbrev pub all_changed : List Change → Store → Store
@@ -67,3 +98,7 @@ store_after base (changes ∷ transactions) = store_after (all_changed changes b
 -- how many records a store has
 abbrev pub record_count : Store → ℕ
 record_count store = sum_by (λ d. length d.pairs) store.databases
+
+-- a new environment has a right store, and every change leaves a right one right
+abbrev pub StoresStayRight : Type 0
+StoresStayRight = IsStore no_databases × ((change : Change) (store : Store) → IsStore store → IsStore (changed change store))

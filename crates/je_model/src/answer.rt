@@ -1,5 +1,5 @@
 // What an event answers.
-use je_order::Octets;
+use je_order::{List, Octets, Word};
 
 /// Why an environment is invalid.
 #[derive(Clone, Copy, Debug, PartialEq, Eq)]
@@ -20,8 +20,12 @@ pub enum Answer {
     Durable { commit: u64 },
     /// The record.
     Rec { key: Octets, value: Octets },
+    /// The names of all databases, in byte order.
+    Names { names: List<Word> },
     /// There is no such record.
     NotFound,
+    /// The key has a record already.
+    KeyExist,
     /// There is no database of that name.
     NoDatabase,
     /// A database of that name is there.

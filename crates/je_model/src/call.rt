@@ -10,8 +10,29 @@ pub enum Call {
         db: Word,
         kind: Kind,
     },
+    /// The names of all databases.
+    List,
+    /// Takes a database out, with its records.
+    Remove {
+        db: Word,
+    },
+    /// Gives a database another name; its records stay.
+    Rename {
+        db: Word,
+        to: Word,
+    },
+    /// Takes all records of a database out.
+    Truncate {
+        db: Word,
+    },
     /// Sets a key's data.
     Put {
+        db: Word,
+        key: Octets,
+        value: Octets,
+    },
+    /// Sets a key's data where the key has no record yet.
+    PutNo {
         db: Word,
         key: Octets,
         value: Octets,

@@ -11,4 +11,10 @@ pub enum Change {
     Unset { db: Word, at: Name },
     /// Makes an empty database.
     Make { db: Word, kind: Kind },
+    /// Takes a database out.
+    Remove { db: Word },
+    /// Gives a database another name.
+    Rename { db: Word, to: Word },
+    /// Takes all records of a database out.
+    Empty { db: Word },
 }

@@ -1,6 +1,7 @@
 // A store after changes, as a copy.
-ghost use Rattle.std.specs.Prelude.{◌≡◌, IfOk, if◌then◌else◌};
-ghost use Rattle.je_model.specs.Store.{is_same as is_same_text, pairs_with, pairs_without, with_pairs, in_database, databases_with, changed, all_changed};
+ghost use Rattle.std.specs.Prelude.{◌≡◌, [], IfOk, map, if◌then◌else◌};
+ghost use Rattle.std.specs.Option.{option_copied};
+ghost use Rattle.je_model.specs.Store.{is_same as is_same_text, database_of, pairs_with, pairs_without, with_pairs, with_name, in_database, databases_with, databases_without, databases_renamed, changed, all_changed};
 
 use crate::filtering::{copies_where, with_item};
 use crate::{Change, Database, Kind, Store};
@@ -12,6 +13,17 @@ pub fn same_bytes(a: &[u8], b: &[u8]) -> bool
     ensures { result ≡ is_same_text a.now b.now }
 {
     cmp_bytes(a, b).is_eq()
+}
+
+/// The database of that name.
+pub fn find_database<'a>(store: &'a Store, name: &Word) -> Option<&'a Database>
+    ensures { option_copied result ≡ database_of name.now store.now }
+{
+    store
+        .databases
+        .as_slice()
+        .iter()
+        .find(|d| same_bytes(d.name.as_slice(), name.as_slice()))
 }
 
 fn new_pair(key: &Octets, value: &Octets) -> Result<(Octets, Octets), AllocError>
@@ -141,6 +153,71 @@ fn unset_in_each(
     Ok(List::from_vec(copies))
 }
 
+/// A copy of the database, without its records if it is the database of that name.
+fn emptied(alloc: Global, d: &Database, db: &Word) -> Result<Database, AllocError>
+    ensures { IfOk result (λ copy. copy ≡ (if is_same_text d.now.name db.now then with_pairs d.now [] else d.now)) }
+{
+    if same_bytes(d.name.as_slice(), db.as_slice()) {
+        copy_with(d, List::new(alloc))
+    } else {
+        copy_of(d)
+    }
+}
+
+fn empty_in_each(
+    alloc: Global,
+    databases: &[Database],
+    db: &Word,
+) -> Result<List<Database>, AllocError>
+    ensures { IfOk result (λ list. list ≡ in_database db.now (λ d. with_pairs d []) databases.now) }
+{
+    let mut copies = Vec::new(alloc);
+    for d in databases {
+        copies.push(emptied(alloc, d, db)?)?;
+    }
+    Ok(List::from_vec(copies))
+}
+
+/// The databases without the one of that name.
+fn remove_database(
+    alloc: Global,
+    databases: &[Database],
+    db: &[u8],
+) -> Result<Vec<Database>, AllocError>
+    ensures { IfOk result (λ kept. kept.items ≡ databases_without db.now databases.now) }
+{
+    copies_where(alloc, databases, |d: &Database| {
+        !same_bytes(d.name.as_slice(), db)
+    })
+}
+
+/// A copy of the database under another name.
+fn copy_named(d: &Database, to: &Word) -> Result<Database, AllocError>
+    ensures { IfOk result (λ copy. copy ≡ with_name d.now to.now) }
+{
+    let name = copy_of(to)?;
+    let kind = copy_of(&d.kind)?;
+    let pairs = copy_of(&d.pairs)?;
+    Ok(Database { name, kind, pairs })
+}
+
+/// The databases with one of them, if it is there, under another name.
+fn rename_database(
+    alloc: Global,
+    found: Option<&Database>,
+    to: &Word,
+    databases: &List<Database>,
+) -> Result<List<Database>, AllocError>
+    ensures { IfOk result (λ list. list ≡ databases_renamed (option_copied found.entry) to.now databases.now) }
+{
+    let Some(d) = found else {
+        return copy_of(databases);
+    };
+    let new = copy_named(d, to)?;
+    let others = remove_database(alloc, databases.as_slice(), d.name.as_slice())?;
+    add_database(alloc, new, &others)
+}
+
 /// The databases and one more, in order of the names.
 fn add_database(
     alloc: Global,
@@ -181,6 +258,15 @@ fn after_change(alloc: Global, store: &Store, change: &Change) -> Result<Store, 
                 databases: add_database(alloc, new, databases)?,
             })
         }
+        Change::Remove { db } => Ok(Store {
+            databases: List::from_vec(remove_database(alloc, databases, db.as_slice())?),
+        }),
+        Change::Rename { db, to } => Ok(Store {
+            databases: rename_database(alloc, find_database(store, db), to, &store.databases)?,
+        }),
+        Change::Empty { db } => Ok(Store {
+            databases: empty_in_each(alloc, databases, db)?,
+        }),
     }
 }
 

@@ -1,11 +1,11 @@
 // Evaluation as a plain program.
 ghost use Rattle.std.specs.Prelude.{◌≡◌, ◌∷◌, [], IfOk};
 ghost use Rattle.std.specs.Option.{option_copied};
-ghost use Rattle.je_model.specs.Store.{database_of, pair_at, all_changed};
-ghost use Rattle.je_model.specs.Evaluation.{Outcome, evaluation, reading, deleting, plain_name};
+ghost use Rattle.je_model.specs.Store.{names_of, pair_at, all_changed};
+ghost use Rattle.je_model.specs.Evaluation.{Outcome, evaluation, reading, putting_new, deleting, plain_name};
 
-use crate::changing::{after_changes, same_bytes};
-use crate::{Answer, Call, Change, Database, Store};
+use crate::changing::{after_changes, find_database, same_bytes};
+use crate::{Answer, Call, Change, Store};
 use je_order::{List, Name, Octets, Word, copy_of};
 use std::alloc::{AllocError, Global};
 
@@ -37,6 +37,40 @@ fn outcome_of(
                 kind: copy_of(kind)?,
             };
             Ok((Answer::Done, one_change(alloc, change)?))
+        }
+        Call::List => {
+            let names = names_in(alloc, store)?;
+            Ok((Answer::Names { names }, List::new(alloc)))
+        }
+        Call::Remove { db } => {
+            let Some(_) = find_database(store, db) else {
+                return Ok((Answer::NoDatabase, List::new(alloc)));
+            };
+            let change = Change::Remove { db: copy_of(db)? };
+            Ok((Answer::Done, one_change(alloc, change)?))
+        }
+        Call::Rename { db, to } => {
+            let Some(_) = find_database(store, db) else {
+                return Ok((Answer::NoDatabase, List::new(alloc)));
+            };
+            let change = Change::Rename {
+                db: copy_of(db)?,
+                to: copy_of(to)?,
+            };
+            Ok((Answer::Done, one_change(alloc, change)?))
+        }
+        Call::Truncate { db } => {
+            let Some(_) = find_database(store, db) else {
+                return Ok((Answer::NoDatabase, List::new(alloc)));
+            };
+            let change = Change::Empty { db: copy_of(db)? };
+            Ok((Answer::Done, one_change(alloc, change)?))
+        }
+        Call::PutNo { db, key, value } => {
+            let Some(d) = find_database(store, db) else {
+                return Ok((Answer::NoDatabase, List::new(alloc)));
+            };
+            put_new(alloc, db, key, value, find_pair(d.pairs.as_slice(), key))
         }
         Call::Put { db, key, value } => {
             let Some(_) = find_database(store, db) else {
@@ -81,6 +115,27 @@ fn read(
     Ok((answer, List::new(alloc)))
 }
 
+/// The answer and the change of a put of a new key that found that record.
+fn put_new(
+    alloc: Global,
+    db: &Word,
+    key: &Octets,
+    value: &Octets,
+    found: Option<&(Octets, Octets)>,
+) -> Result<(Answer, List<Change>), AllocError>
+    ensures { IfOk result (λ r. record { answer = r.0; changes = r.1 } ≡ putting_new db.now key.now value.now (option_copied found.entry)) }
+{
+    let None = found else {
+        return Ok((Answer::KeyExist, List::new(alloc)));
+    };
+    let change = Change::Set {
+        db: copy_of(db)?,
+        at: name_of(alloc, key)?,
+        value: copy_of(value)?,
+    };
+    Ok((Answer::Done, one_change(alloc, change)?))
+}
+
 /// The answer and the change of a delete that found that record.
 fn delete(
     alloc: Global,
@@ -100,14 +155,15 @@ fn delete(
     Ok((Answer::Done, one_change(alloc, change)?))
 }
 
-fn find_database<'a>(store: &'a Store, name: &Word) -> Option<&'a Database>
-    ensures { option_copied result ≡ database_of name.now store.now }
+/// The names of a store's databases, in order.
+fn names_in(alloc: Global, store: &Store) -> Result<List<Word>, AllocError>
+    ensures { IfOk result (λ names. names ≡ names_of store.now) }
 {
-    store
-        .databases
-        .as_slice()
-        .iter()
-        .find(|d| same_bytes(d.name.as_slice(), name.as_slice()))
+    let mut names = Vec::new(alloc);
+    for d in store.databases.as_slice() {
+        names.push(copy_of(&d.name)?)?;
+    }
+    Ok(List::from_vec(names))
 }
 
 fn find_pair<'a>(pairs: &'a [(Octets, Octets)], key: &Octets) -> Option<&'a (Octets, Octets)>

@@ -12,6 +12,7 @@ mod changing;
 pub mod evaluating;
 pub mod event;
 mod filtering;
+pub mod laws;
 pub mod plan;
 pub mod store;
 #[cfg(test)]
@@ -23,6 +24,7 @@ pub use call::Call;
 pub use change::Change;
 pub use evaluating::eval;
 pub use event::Event;
+pub use laws::stores_stay_right;
 pub use plan::{Given, RunPlan};
 pub use store::{
     Database, KEY_LIMIT, Kind, LAST_DATABASE, LAST_TXN, MOST_DATABASES, Store, VALUE_LIMIT,

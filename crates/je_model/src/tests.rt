@@ -33,6 +33,36 @@ fn delete(alloc: Global, db: &Word, key: &[u8]) -> Result<Call, AllocError> {
     })
 }
 
+fn put_no(alloc: Global, db: &Word, key: &[u8], value: &[u8]) -> Result<Call, AllocError> {
+    Ok(Call::PutNo {
+        db: copy_of(db)?,
+        key: Octets::from_slice(alloc, key)?,
+        value: Octets::from_slice(alloc, value)?,
+    })
+}
+
+fn remove(db: &Word) -> Result<Call, AllocError> {
+    Ok(Call::Remove { db: copy_of(db)? })
+}
+
+fn rename(db: &Word, to: &Word) -> Result<Call, AllocError> {
+    Ok(Call::Rename {
+        db: copy_of(db)?,
+        to: copy_of(to)?,
+    })
+}
+
+fn truncate(db: &Word) -> Result<Call, AllocError> {
+    Ok(Call::Truncate { db: copy_of(db)? })
+}
+
+fn names(alloc: Global, first: &Word, second: &Word) -> Result<Answer, AllocError> {
+    let mut names = List::new(alloc);
+    names.push(copy_of(first)?)?;
+    names.push(copy_of(second)?)?;
+    Ok(Answer::Names { names })
+}
+
 fn rec(alloc: Global, key: &[u8], value: &[u8]) -> Result<Answer, AllocError> {
     Ok(Answer::Rec {
         key: Octets::from_slice(alloc, key)?,
@@ -104,6 +134,54 @@ fn evaluates_calls(rt: HostRuntime) -> Result<(), Fail> {
             Ok(Answer::Done),
             b"s a=5;t a=9 b=2;",
         ),
+    ];
+    let mut store = Store::new(alloc);
+    for (call, want, after) in rows {
+        let (answer, next) = eval(alloc, &store, &call?)?;
+        assert_eq!(rt; answer, want?);
+        assert_eq!(rt; text_of(alloc, &next)?.as_slice(), after);
+        store = next;
+    }
+    Ok(())
+}
+
+// The calls on databases, and a put that overwrites nothing.
+#[test]
+fn evaluates_calls_on_databases(rt: HostRuntime) -> Result<(), Fail> {
+    let alloc = rt.alloc();
+    let (s, t) = (b"s".as_slice(), b"t".as_slice());
+    assert!(rt; Word::is_word(s) && Word::is_word(t));
+    let s = Word::from_slice(alloc, s)?;
+    let t = Word::from_slice(alloc, t)?;
+    let none = Answer::Names {
+        names: List::new(alloc),
+    };
+    let rows: [(_, _, &[u8]); 17] = [
+        (Ok(Call::List), Ok(none), b""),
+        (remove(&t), Ok(Answer::NoDatabase), b""),
+        (rename(&t, &s), Ok(Answer::NoDatabase), b""),
+        (truncate(&t), Ok(Answer::NoDatabase), b""),
+        (put_no(alloc, &t, b"a", b"1"), Ok(Answer::NoDatabase), b""),
+        (create(&t), Ok(Answer::Done), b"t;"),
+        (put_no(alloc, &t, b"a", b"1"), Ok(Answer::Done), b"t a=1;"),
+        (
+            put_no(alloc, &t, b"a", b"2"),
+            Ok(Answer::KeyExist),
+            b"t a=1;",
+        ),
+        (rename(&t, &s), Ok(Answer::Done), b"s a=1;"),
+        (create(&t), Ok(Answer::Done), b"s a=1;t;"),
+        (Ok(Call::List), names(alloc, &s, &t), b"s a=1;t;"),
+        (
+            put(alloc, &t, b"b", b"2"),
+            Ok(Answer::Done),
+            b"s a=1;t b=2;",
+        ),
+        (truncate(&s), Ok(Answer::Done), b"s;t b=2;"),
+        (get(alloc, &s, b"a"), Ok(Answer::NotFound), b"s;t b=2;"),
+        (remove(&s), Ok(Answer::Done), b"t b=2;"),
+        (rename(&t, &s), Ok(Answer::Done), b"s b=2;"),
+        (remove(&s), Ok(Answer::Done), b""),
     ];
     let mut store = Store::new(alloc);
     for (call, want, after) in rows {

@@ -108,16 +108,17 @@ first_by false false true n es run found =
     run_in found = no_run
 first_by false false false n es run found = cc
 
+-- the offset of the last entry of a run, 0 where there is none
+abbrev last_found : Found → ℕ
+last_found (Run r) = r.last
+last_found found = 0
+
 -- a run without a header has no entries
 headless_by : (f : ℕ) (bytes : List ℕ) (d : Decoded) (run : FileRun) → found_by f bytes d ≡ Run run → run.end ≡ 0 → (run.entries ≡ []) × (run.last ≡ 0)
 headless_by f bytes (NotWhole torn) run found none = (ap entries_found (sym found), ap last_found (sym found))
-  where
-    last_found : Found → ℕ
-    last_found (Run r) = r.last
-    last_found found = 0
 headless_by f bytes (Whole (FileHeader version file) prev len) run found none =
     let some = first_by (not (prev == 0)) (not (version == 1)) (file == f) version (entries_behind bytes) run found in absurd (omega (arith, some, none))
-headless_by f bytes (Whole entry prev len) run found none = cc
+headless_by f bytes (Whole entry prev len) run found none = (ap entries_found (sym found), ap last_found (sym found))
 
 pub headless : (f : ℕ) (bytes : List ℕ) (run : FileRun) → found_in f bytes ≡ Run run → run.end ≡ 0 → (run.entries ≡ []) × (run.last ≡ 0)
 headless f bytes run found none = headless_by f bytes (decoded bytes) run found none

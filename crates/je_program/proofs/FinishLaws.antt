@@ -247,7 +247,7 @@ below_all n [] small below = tt
 below_all n (file ∷ log) small below = (let less : file.0 < n = below.0 in omega (arith, less, small), below_all n log small below.1)
 
 -- a log that ends in a file has no file above it
-small_files : (log : Log) (file offset last : ℕ) → IsLog log → EndsAt log file offset last → file ≤ last_file → AllByRecursion (λ file. file.0 ≤ last_file) log
+pub small_files : (log : Log) (file offset last : ℕ) → IsLog log → EndsAt log file offset last → file ≤ last_file → AllByRecursion (λ file. file.0 ≤ last_file) log
 small_files log file offset last is ends small =
     let end : ℕ × List Entry = (file, ends.entries) in
     let parts : IsLog (ends.before ++ end ∷ []) = subst IsLog ends.log_is is in

@@ -2,13 +2,19 @@
 use Rattle.std.proofs.Common.{◌≡◌, ℕ, zero, suc, replicate, ◌<◌, ◌==◌, Bool, true, false, List, [], ◌∷◌, ◌++◌, length, set, get_or, refl, ap, sym, ◌∙◌, subst, ⊎_elim, append_assoc, get_or-set_same, get_or-set_other}
 use Rattle.std.proofs.lemmas.List.{append-nil}
 use Rattle.std.proofs.lemmas.List.Elements.{filter-append}
-use Rattle.std.proofs.lemmas.Bool.{cases_Bool, cond-false, eqb-true, eqb-false, ne_eqb, true≢false}
+use Rattle.std.specs.List.{list_all}
+use Rattle.std.proofs.lemmas.Bool.{and_parts, cases_Bool, cond-false, eqb-true, eqb-false, ne_eqb, true≢false}
 use Rattle.je_model.specs.declared.call.Call.{Call}
 use Rattle.je_model.specs.declared.event.Event.{Event}
 use Rattle.je_model.specs.declared.plan.Given.{Given}
 use Rattle.je_model.specs.declared.plan.Given.TheVariants.{Session}
 use Rattle.je_model.specs.Journal.{lines_of}
+use Rattle.script_text.specs.Grammar.{is_line}
 use Rattle.je_program.specs.Run.{HasGiven, IsFront, of_session, is_of_session}
+
+-- the first of lines that the grammar has, and those behind it
+pub first_line : (given : Given) (rest all : List Given) → all ≡ given ∷ rest → list_all is_line all ≡ true → (is_line given ≡ true) × (list_all is_line rest ≡ true)
+first_line given rest all is h = and_parts (is_line given) (list_all is_line rest) (sym (ap (list_all is_line) is) ∙ h)
 
 -- one line more of a session's lines
 of_session-push : (session : ℕ) (lines : List Given) (given : Given) → of_session session (lines ++ given ∷ []) ≡ of_session session lines ++ of_session session (given ∷ [])

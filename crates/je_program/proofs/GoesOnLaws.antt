@@ -1,5 +1,5 @@
 -- A step of an environment goes on as the model does.
-use Rattle.std.proofs.Common.{◌≡◌, ℕ, ◌+◌, ◌<◌, ◌^◌, Bool, Option, Some, None, Result, Ok, Err, IsTrue, refl, ap, sym, ◌∙◌, subst, inl, inr, arith}
+use Rattle.std.proofs.Common.{◌≡◌, ℕ, ◌+◌, ◌<◌, ◌^◌, Bool, true, Option, Some, None, Result, Ok, Err, IsTrue, refl, ap, sym, ◌∙◌, subst, inl, inr, arith}
 use Rattle.std.proofs.lemmas.Bool.Decides.{nat_tests}
 use Rattle.std.specs.declared.alloc.AllocError.{AllocError}
 use Rattle.je_disk.specs.States.{State}
@@ -13,6 +13,7 @@ use Rattle.je_model.specs.declared.answer.Answer.{Answer}
 use Rattle.je_model.specs.declared.answer.Answer.TheVariants.{Logged, DiskFault}
 use Rattle.je_model.specs.declared.answer.Fault.{Fault}
 use Rattle.je_model.specs.Evaluation.{database_named}
+use Rattle.script_text.specs.Grammar.{has_line}
 use Rattle.je_model.specs.Answers.{Standing, MayAnswer, answer_to, answer_after, valid_answer}
 use Rattle.je_program.specs.declared.kept.Kept.{Kept}
 use Rattle.je_program.specs.declared.planning.Planned.{Planned}
@@ -39,9 +40,9 @@ numbered_plain answer commits plain = tt
 module _ {D : Type 0} where
   -- what a call comes to, where the environment is valid
   pub plan_of : (most : ℕ) (tells : Bool) (state : State) (buffer : LogBuffer D) (kept : Kept) (st : Standing) (call : Call) (planned : Planned) → IsAt most tells state buffer kept st → kept.fault ≡ None →
-      kept.last_db < 2 ^ 32 → IsTrue (is_word (database_named call)) → planned ≡ planned_of kept call → IsPlanned kept st call planned
-  plan_of most tells state buffer kept st call planned here valid few word is =
-      subst (λ (p : Planned). IsPlanned kept st call p) (sym is) (planned_right kept st call (fits_at most tells state buffer kept st here (sym here.fault ∙ valid) few) word)
+      kept.last_db < 2 ^ 32 → IsTrue (is_word (database_named call)) → has_line call ≡ true → planned ≡ planned_of kept call → IsPlanned kept st call planned
+  plan_of most tells state buffer kept st call planned here valid few word line is =
+      subst (λ (p : Planned). IsPlanned kept st call p) (sym is) (planned_right kept st call (fits_at most tells state buffer kept st here (sym here.fault ∙ valid) few) word line)
 
   pub answered_goes_on : (most : ℕ) (tells : Bool) (state : State) (buffer : LogBuffer D) (kept : Kept) (st : Standing) (call : Call) (answer : Answer) → IsAt most tells state buffer kept st → kept.fault ≡ None →
       kept.last_txn < LAST_TXN → IsPlanned kept st call (Answered answer) → GoesOn most tells state buffer (record kept { last_txn = kept.last_txn + 1 }) st call (Ok answer)

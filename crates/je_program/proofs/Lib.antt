@@ -13,3 +13,12 @@ pub mod AppendLaws
 pub mod FileLaws
 pub mod LoggingLaws
 pub mod EndLaws
+pub mod SafeLaws
+pub mod GrownLaws
+pub mod GuardLaws
+pub mod CallLaws
+pub mod SyncLaws
+pub mod BothLaws
+pub mod ClosedLaws
+pub mod OpenedLaws
+pub mod EntryLaws

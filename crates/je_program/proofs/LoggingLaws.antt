@@ -6,7 +6,7 @@ use Rattle.je_disk.specs.States.{State}
 use Rattle.je_lsn.specs.Naming.{last_file}
 use Rattle.je_model.specs.declared.answer.Answer.{Answer}
 use Rattle.je_model.specs.declared.change.Change.{Change}
-use Rattle.je_model.specs.declared.change.Change.TheVariants.{Set, Unset, Make}
+use Rattle.je_model.specs.declared.change.Change.TheVariants.{Set, Unset, Make, Remove, Rename, Empty}
 use Rattle.je_model.specs.declared.totals.Totals.{Totals}
 use Rattle.log_entry.specs.declared.entry.Entry.{Entry}
 use Rattle.log_entry.specs.declared.entry.Entry.TheVariants.{Commit}
@@ -118,6 +118,9 @@ pub rows_after_is : (txn number : ℕ) (change : Change) (rows : Rows) (d : ℕ)
 rows_after_is txn number (Set db at value) rows d = refl
 rows_after_is txn number (Unset db at) rows d = refl
 rows_after_is txn number (Make db kind) rows d = refl
+rows_after_is txn number (Remove db) rows d = refl
+rows_after_is txn number (Rename db to) rows d = refl
+rows_after_is txn number (Empty db) rows d = refl
 
 -- the sizes of its entries
 pub sizes_are : (txn number : ℕ) (change : Change) → size_of (entry_of txn number change) ∷ size_of (Commit (record { 0 = txn })) ∷ [] ≡ logged_sizes (change ∷ [])

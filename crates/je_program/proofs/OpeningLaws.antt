@@ -52,10 +52,10 @@ use Rattle.je_program.proofs.FinishLaws.{rose_earlier}
 use Rattle.je_program.proofs.FileLaws.{AreFull, IsFile, IsFull, NoneIs, front_reads, headless, is_log, log_is, lookup-last, numbers_of-log_in, reads_as}
 
 -- a file that was read: its number and its bytes
-abbrev File : Type 0
+abbrev pub File : Type 0
 File = ℕ × List ℕ
 
-abbrev numbers : List File → List ℕ
+abbrev pub numbers : List File → List ℕ
 numbers held = map (λ (file : File). file.0) held
 
 -- ---- no finding
@@ -73,7 +73,7 @@ no_finding_by : (log : Log) (o : Option Finding) (m : Meaning) → reading_by lo
 no_finding_by log None m h = refl
 no_finding_by log (Some finding) m h = cc
 
-no_finding : (held : List File) (m : Meaning) → reading_of held ≡ Ok m → (finding_in held ≡ None) × (gap_in (numbers held) ≡ None)
+pub no_finding : (held : List File) (m : Meaning) → reading_of held ≡ Ok m → (finding_in held ≡ None) × (gap_in (numbers held) ≡ None)
 no_finding held m h =
     let parts = or_parts (finding_in held) _ (no_finding_by (log_in held) _ m h) in
     (parts.0, map_none _ (gap_in (numbers held)) parts.1)
@@ -99,7 +99,7 @@ full_by file (Run run) false is e h =
     tested false h = cc
 
 -- all files but the last are full
-full_front : (front : List File) (last : File) → finding_in (front ++ last ∷ []) ≡ None → AreFull front
+pub full_front : (front : List File) (last : File) → finding_in (front ++ last ∷ []) ≡ None → AreFull front
 full_front [] last h = tt
 full_front (file ∷ front) last h =
     let parts = or_parts (finding_at (length (front ++ last ∷ []) == 0) file.0 (length file.1) (found_in file.0 file.1)) (finding_in (front ++ last ∷ [])) h in
@@ -120,14 +120,14 @@ unfolding IsStrictlySortedBy
 below_from [] last sorted = tt
 below_from (file ∷ front) last sorted = (last_above file.0 front last sorted.0, below_from front last sorted.1)
 
-below_last : (front : List File) (last : File) → IsStrictlyIncreasing (numbers (front ++ last ∷ [])) → AllByRecursion (λ (file : File). file.0 < last.0) front
+pub below_last : (front : List File) (last : File) → IsStrictlyIncreasing (numbers (front ++ last ∷ [])) → AllByRecursion (λ (file : File). file.0 < last.0) front
 below_last front last rising = below_from front last (sorted_from_strictly_increasing _ rising)
 
-none_is : (front : List File) (last : File) → AllByRecursion (λ (file : File). file.0 < last.0) front → NoneIs last.0 front
+pub none_is : (front : List File) (last : File) → AllByRecursion (λ (file : File). file.0 < last.0) front → NoneIs last.0 front
 none_is [] last all = tt
 none_is (file ∷ front) last all = ((λ e. let below : file.0 < last.0 = all.0 in absurd (omega (arith, e, below))), none_is front last all.1)
 
-are_files : (front : List File) (last : File) → AllByRecursion (λ (file : File). AreBytes file.1) (front ++ last ∷ []) → AllByRecursion (λ (file : File). file.0 < last.0) front → last.0 < 2 ^ 32 →
+pub are_files : (front : List File) (last : File) → AllByRecursion (λ (file : File). AreBytes file.1) (front ++ last ∷ []) → AllByRecursion (λ (file : File). file.0 < last.0) front → last.0 < 2 ^ 32 →
     AllByRecursion IsFile (front ++ last ∷ [])
 are_files [] last bytes below small = (record { bytes = bytes.0; number = small }, tt)
 are_files (file ∷ front) last bytes below small =
@@ -141,7 +141,7 @@ log_from None held = (0, []) ∷ []
 log_from (Some last) held = log_in held
 
 -- the settled last file
-settled_last : (before after : Files) (last : LastFile) (bytes : List ℕ) → IsSettled before after (Some last) → before last.file.0 ≡ Some bytes → last.len ≡ length bytes → last.end ≤ length bytes →
+pub settled_last : (before after : Files) (last : LastFile) (bytes : List ℕ) → IsSettled before after (Some last) → before last.file.0 ≡ Some bytes → last.len ≡ length bytes → last.end ≤ length bytes →
     after last.file.0 ≡ Some (take last.end bytes)
 settled_last before after last bytes settled there len within = by_case (nat_lt last.end last.len) refl
   where
@@ -157,7 +157,7 @@ settled_last before after last bytes settled there len within = by_case (nat_lt 
         let long : last.len ≤ last.end = grind (arith, nat_tests) in
         at ∙ cond-false (nat_lt last.end last.len) _ _ e ∙ there ∙ ap (λ (x : List ℕ). Some x) (sym (take_all last.end bytes (omega (arith, long, len))))
 
-settled_other : (before after : Files) (last : LastFile) (g : ℕ) → IsSettled before after (Some last) → g ≢ last.file.0 → after g ≡ before g
+pub settled_other : (before after : Files) (last : LastFile) (g : ℕ) → IsSettled before after (Some last) → g ≢ last.file.0 → after g ≡ before g
 settled_other before after last g settled other = by_case (nat_lt last.end last.len) refl
   where
     at : after g ≡ cond (nat_lt last.end last.len) (put_at before last.file.0 (option_map (take last.end) (before last.file.0)) g) (before g)
@@ -204,7 +204,7 @@ ends_at front bytes last run is are found = record {
       let spelled = are_spelled_back last.file.0 bytes run are found some in
       sym offset ∙ ap (λ (r : FileRun). r.last) spelled.run_is
 
-all_last : {A : Type 0} (P : A → Type 0) (xs : List A) (x : A) → AllByRecursion P (xs ++ x ∷ []) → P x
+pub all_last : {A : Type 0} (P : A → Type 0) (xs : List A) (x : A) → AllByRecursion P (xs ++ x ∷ []) → P x
 all_last P [] x all = all.0
 all_last P (y ∷ xs) x all = all_last P xs x all.1
 
@@ -269,7 +269,7 @@ starts_none tells reads after held empty told settled = (
 abbrev pub held_of : (tells : Bool) (reads : Files) (r : ReadLog) → WasRead tells reads r → List File
 held_of tells reads r w = w.reading.held
 
-rising_of : (tells : Bool) (reads : Files) (r : ReadLog) (w : WasRead tells reads r) → IsStrictlyIncreasing (numbers w.reading.held)
+pub rising_of : (tells : Bool) (reads : Files) (r : ReadLog) (w : WasRead tells reads r) → IsStrictlyIncreasing (numbers w.reading.held)
 rising_of tells reads r w = subst (λ ns. IsStrictlyIncreasing ns) (sym w.reading.numbers) w.rising
 
 -- the log that is gone on from
@@ -377,12 +377,12 @@ starts_at_end held (Some last) is =
     sym (ap end_in is.parts ∙ end_in-last is.before (last.file.0, is.bytes) ∙ ap (opened_end last.file.0) is.found)
 
 -- no file is missing in the log that is gone on from
-whole_from : (held : List File) (tail : Option LastFile) → gap_in (numbers held) ≡ None → IsWhole (log_from tail held)
+pub whole_from : (held : List File) (tail : Option LastFile) → gap_in (numbers held) ≡ None → IsWhole (log_from tail held)
 whole_from held None none = refl
 whole_from held (Some last) none = ap gap_in (numbers_of-log_in held) ∙ none
 
 -- its entries are those of the files
-entries_from : (held : List File) (tail : Option LastFile) → IsTailOf held tail → entries_of (log_from tail held) ≡ entries_of (log_in held)
+pub entries_from : (held : List File) (tail : Option LastFile) → IsTailOf held tail → entries_of (log_from tail held) ≡ entries_of (log_in held)
 entries_from held None is = ap (λ (h : List File). entries_of (log_in h)) (sym is)
 entries_from held (Some last) is = refl
 

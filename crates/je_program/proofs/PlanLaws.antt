@@ -1,7 +1,7 @@
 -- What a call of a valid environment comes to is what the model answers.
 use Rattle.std.proofs.Common.{◌≡◌, ℕ, ◌+◌, ◌-◌, ◌<◌, ◌≤◌, ◌^◌, List, [], ◌∷◌, Bool, true, false, cond, not, ◌&&◌, ◌==◌, nat_lt, nat_le, is_some, IsTrue, Option, None, Some, map, length, option_map, refl, ap, ap₂, sym, ◌∙◌, subst, arith, is_eq}
 use Rattle.std.specs.List.{AllByRecursion, list_all}
-use Rattle.std.proofs.lemmas.Bool.{and_parts, leb-true, leb-false, ltb-false}
+use Rattle.std.proofs.lemmas.Bool.{and_parts, leb-true, leb-false, ltb-false, true≢false}
 use Rattle.std.proofs.lemmas.Option.{none-some}
 use Rattle.je_order.specs.Order.{name_cmp}
 use Rattle.je_order.specs.Words.{is_word, is_word_character}
@@ -13,7 +13,7 @@ use Rattle.je_model.specs.declared.store.Database.{Database}
 use Rattle.je_model.specs.declared.store.Kind.{Kind}
 use Rattle.je_model.specs.declared.store.Kind.TheVariants.{Plain}
 use Rattle.je_model.specs.declared.call.Call.{Call}
-use Rattle.je_model.specs.declared.call.Call.TheVariants.{Create, Put, Get, Delete}
+use Rattle.je_model.specs.declared.call.Call.TheVariants.{Create, List as Lists, Remove as Removes, Rename as Renames, Truncate, Put, PutNo, Get, Delete}
 use Rattle.je_model.specs.declared.change.Change.{Change}
 use Rattle.je_model.specs.declared.change.Change.TheVariants.{Set, Unset, Make}
 use Rattle.je_model.specs.declared.answer.Answer.{Answer}
@@ -23,6 +23,7 @@ use Rattle.je_model.specs.Store.{database_of, record_count, all_changed}
 use Rattle.je_model.specs.Evaluation.{Outcome, evaluation, evaluation_in, database_named, deleting, plain_name, reading}
 use Rattle.je_model.specs.Answers.{LogEnd, Standing, access_refusal, answer_unless, creation_refusal, evaluated_answer, length_refusal, logging_answer, made_by, or_refusal, too_long, valid_answer}
 use Rattle.log_entry.specs.Body.{IsEntry}
+use Rattle.script_text.specs.Grammar.{has_line}
 use Rattle.log_replay.specs.Rows.{Row, Rows, rows_in, row_at, row_changed, data_at, number_in, numbers_of, is_environment, IsRising, are_plain, pair_of, store_of}
 use Rattle.log_replay.specs.Kept.{row_change_of, HasNumber, MayBeLogged}
 use Rattle.log_replay.specs.Logging.{entry_of}
@@ -131,7 +132,7 @@ number_at_most rows last_db number name known has =
 
 -- the answer to a call on the records of its database, if it is there
 abbrev accessed : ℕ → Standing → Call → Option Database → Answer
-accessed most st call d = answer_unless (or_refusal (access_refusal (is_some d)) (length_refusal call)) (evaluated_answer (log_rule most) st (evaluation_in call d))
+accessed most st call d = answer_unless (or_refusal (access_refusal (is_some d)) (length_refusal call)) (evaluated_answer (log_rule most) st (evaluation_in call st.store d))
 
 -- the database of a number
 abbrev database_at : Rows → List ℕ → ℕ → Database
@@ -191,7 +192,7 @@ put_planned kept st db key value (Some bytes) fits e =
     let fit = no_refusal (too_long KEY_LIMIT key) (too_long VALUE_LIMIT value) none in
     room_planned kept st call number change
     (record { databases = kept.totals.databases; records = records_with kept.totals.records (data_at (plain_name key) (rows number)) }) answer
-    (ap (λ (d : Option Database). (evaluation_in call d).changes) there)
+    (ap (λ (d : Option Database). (evaluation_in call (store_of rows) d).changes) there)
     (λ ended. set_logged kept st db key value number fits has (within_limit KEY_LIMIT key fit.0) (within_limit VALUE_LIMIT value fit.1)))
 
 -- ---- Get
@@ -279,7 +280,7 @@ delete_planned kept st db key (Some bytes) fits e =
     let pairs = pair_at-rows (rows number) key (has_number-plain rows db number fits.environment has) in
     let there : database_of db (store_of rows) ≡ Some (database_at rows db number) = database_of-numbered rows db number fits.environment has in
     let outcome : evaluation call (store_of rows) ≡ deleting db key (option_map pair_of (row_at (plain_name key) (rows number))) =
-    ap (evaluation_in call) there ∙ ap (deleting db key) pairs in
+    ap (evaluation_in call (store_of rows)) there ∙ ap (deleting db key) pairs in
     let by : Outcome → Answer = λ x. answer_unless (too_long KEY_LIMIT key) (evaluated_answer (log_rule kept.file_max) (standing_of kept st) x) in
     unless_planned kept (standing_of kept st) call (too_long KEY_LIMIT key)
     (evaluated_answer (log_rule kept.file_max) (standing_of kept st) (deleting db key (option_map pair_of (row_at (plain_name key) (rows number)))))
@@ -352,12 +353,17 @@ create_planned kept st db kind None fits word e =
 -- ---- each call
 
 -- what a call comes to is what the model answers, where the model stands as what is kept says
-planned_here : (kept : Kept) (st : Standing) (call : Call) → Fits kept (standing_of kept st) → IsTrue (is_word (database_named call)) →
+planned_here : (kept : Kept) (st : Standing) (call : Call) → Fits kept (standing_of kept st) → IsTrue (is_word (database_named call)) → has_line call ≡ true →
     IsPlanned kept (standing_of kept st) call (planned_of kept call)
-planned_here kept st (Create db kind) fits word = create_planned kept st db kind (data_at (plain_name db) (rows_in kept.rows 0)) fits word refl
-planned_here kept st (Put db key value) fits word = put_planned kept st db key value (data_at (plain_name db) (rows_in kept.rows 0)) fits refl
-planned_here kept st (Get db key rmw) fits word = get_planned kept st db key rmw (data_at (plain_name db) (rows_in kept.rows 0)) fits refl
-planned_here kept st (Delete db key) fits word = delete_planned kept st db key (data_at (plain_name db) (rows_in kept.rows 0)) fits refl
+planned_here kept st (Create db kind) fits word line = create_planned kept st db kind (data_at (plain_name db) (rows_in kept.rows 0)) fits word refl
+planned_here kept st (Put db key value) fits word line = put_planned kept st db key value (data_at (plain_name db) (rows_in kept.rows 0)) fits refl
+planned_here kept st (Get db key rmw) fits word line = get_planned kept st db key rmw (data_at (plain_name db) (rows_in kept.rows 0)) fits refl
+planned_here kept st (Delete db key) fits word line = delete_planned kept st db key (data_at (plain_name db) (rows_in kept.rows 0)) fits refl
+planned_here kept st Lists fits word line = absurd (true≢false (sym line))
+planned_here kept st (Removes db) fits word line = absurd (true≢false (sym line))
+planned_here kept st (Renames db to) fits word line = absurd (true≢false (sym line))
+planned_here kept st (Truncate db) fits word line = absurd (true≢false (sym line))
+planned_here kept st (PutNo db key value) fits word line = absurd (true≢false (sym line))
 
 -- the model stands as what is kept says
 stands : (kept : Kept) (st : Standing) → Fits kept st → standing_of kept st ≡ st
@@ -366,11 +372,11 @@ stands kept st fits =
     ap (λ (s : Store). make s kept.last_db (log_end_of kept.end)) fits.made ∙ ap₂ (make st.store) fits.last_db fits.log_end
 
 -- what a call comes to is what the model answers
-pub planned_right : (kept : Kept) (st : Standing) (call : Call) → Fits kept st → IsTrue (is_word (database_named call)) → IsPlanned kept st call (planned_of kept call)
-planned_right kept st call fits word =
+pub planned_right : (kept : Kept) (st : Standing) (call : Call) → Fits kept st → IsTrue (is_word (database_named call)) → has_line call ≡ true → IsPlanned kept st call (planned_of kept call)
+planned_right kept st call fits word line =
     let same = stands kept st fits in
     subst (λ (s : Standing). IsPlanned kept s call (planned_of kept call)) same
-    (planned_here kept st call (subst (λ (s : Standing). Fits kept s) (sym same) fits) word)
+    (planned_here kept st call (subst (λ (s : Standing). Fits kept s) (sym same) fits) word line)
 
 -- ---- a valid environment
 

@@ -28,7 +28,7 @@ not_waiting session line call (Logged commit) h = cc
 not_waiting session line call answer h = (tt, tt)
 
 -- a call of an environment that is not valid is not answered Logged
-logged_valid : (most : ℕ) (fault : Option Fault) (st : Standing) (call : Call) (commit : ℕ) → MayAnswer (answer_after fault (log_rule most) st call) (Logged commit) → fault ≡ None
+pub logged_valid : (most : ℕ) (fault : Option Fault) (st : Standing) (call : Call) (commit : ℕ) → MayAnswer (answer_after fault (log_rule most) st call) (Logged commit) → fault ≡ None
 logged_valid most None st call commit may = refl
 logged_valid most (Some fault) st call commit may = cc
 

@@ -6,7 +6,7 @@ use mathlib.Core.Path.{fun_ext}
 use Rattle.je_disk.specs.States.{State}
 use Rattle.je_model.specs.declared.call.Call.{Call}
 use Rattle.je_model.specs.declared.change.Change.{Change}
-use Rattle.je_model.specs.declared.change.Change.TheVariants.{Set, Unset, Make}
+use Rattle.je_model.specs.declared.change.Change.TheVariants.{Set, Unset, Make, Remove, Rename, Empty}
 use Rattle.je_model.specs.declared.store.Store.{Store}
 use Rattle.je_model.specs.declared.totals.Totals.{Totals}
 use Rattle.je_model.specs.declared.store.TheConstants.{LAST_TXN}
@@ -126,6 +126,9 @@ last_db_is rows last number (Set db at value) all may =
 last_db_is rows last number (Unset db at) all may =
     let below : number ≤ last = number_below rows db number last all may.0 in (omega arith, omega arith)
 last_db_is rows last number (Make db kind) all may = let is : number ≡ last + 1 = may.3 in (omega arith, omega arith)
+last_db_is rows last number (Remove db) all may = absurd may
+last_db_is rows last number (Rename db to) all may = absurd may
+last_db_is rows last number (Empty db) all may = absurd may
 
 module _ {D : Type 0} where
   -- a logged change leaves a valid environment valid

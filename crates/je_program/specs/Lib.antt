@@ -7,3 +7,4 @@ pub mod Run
 pub mod Opening
 pub mod Program
 pub mod Reading
+pub mod Crash

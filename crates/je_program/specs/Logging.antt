@@ -1,7 +1,7 @@
 -- What logging a change does to what is kept.
 use Rattle.std.specs.Prelude.{ℕ, ◌≡◌, ◌+◌, ◌∷◌, [], List, Some, None, max}
 use Rattle.log_entry.specs.declared.entry.Entry.{Entry}
-use Rattle.log_entry.specs.declared.entry.Entry.TheVariants.{FileHeader, Put, Delete, Commit}
+use Rattle.log_entry.specs.declared.entry.Entry.TheVariants.{Put, Delete, Commit}
 use Rattle.log_buffer.specs.Flip.{end_after_all}
 use Rattle.je_model.specs.declared.change.Change.{Change}
 use Rattle.je_model.specs.declared.totals.Totals.{Totals}
@@ -13,10 +13,9 @@ use Rattle.je_program.specs.Environment.{logged_sizes}
 
 -- the records after an entry of a committed transaction
 abbrev pub rows_after : Entry → Rows → Rows
-rows_after (FileHeader version file) rows = rows
 rows_after (Put txn db name value) rows = row_changed (record { txn = 0; db = db; name = name; value = Some value }) rows
 rows_after (Delete txn db name) rows = row_changed (record { txn = 0; db = db; name = name; value = None }) rows
-rows_after (Commit txn) rows = rows
+rows_after entry rows = rows
 
 -- the entries of a transaction with one change, its commit last
 abbrev pub entries_logged : ℕ → ℕ → Change → List Entry

@@ -1,9 +1,9 @@
 -- Opening an environment.
-use Rattle.std.specs.Prelude.{ℕ, ◌≡◌, ◌≤◌, ◌<◌, ◌==◌, nat_lt, ◌∷◌, [], ◌++◌, take, Bool, true, Option, None, Some, IfSome, option_map, List, if◌then◌else◌}
+use Rattle.std.specs.Prelude.{ℕ, ◌≡◌, ◌≤◌, ◌<◌, ◌⊎◌, ◌==◌, nat_lt, ◌∷◌, [], ◌++◌, take, Bool, true, Option, None, Some, IfSome, option_map, List, if◌then◌else◌}
 use Rattle.je_disk.specs.declared.error.DiskErr.{DiskErr}
 use Rattle.je_disk.specs.declared.error.DiskErr.TheVariants.{Failed, Memory as NoMemory}
 use Rattle.je_disk.specs.Causes.{Rose}
-use Rattle.je_disk.specs.States.{State, Files, IsListing, IsRising, put_at}
+use Rattle.je_disk.specs.States.{State, Files, IsEither, IsListing, IsRising, cut, put_at, synced}
 use Rattle.je_lsn.specs.declared.file_no.FileNo.{FileNo}
 use Rattle.je_model.specs.declared.store.Store.{Store}
 use Rattle.je_model.specs.Answers.{Standing}
@@ -50,6 +50,15 @@ abbrev pub IsSettled : Files → Files → Option LastFile → Type 0
 IsSettled before after None = (g : ℕ) → after g ≡ before g
 IsSettled before after (Some last) =
     (g : ℕ) → after g ≡ (if nat_lt last.end last.len then put_at before last.file.0 (option_map (take last.end) (before last.file.0)) g else before g)
+
+-- the rest of the last file cut off
+abbrev pub cut_off : Option LastFile → State → State
+cut_off None s = s
+cut_off (Some last) s = if nat_lt last.end last.len then cut last.file.0 last.end s else s
+
+-- while a log is settled: nothing was done, what follows the last file's run was cut off, or all of that is stable
+abbrev pub IsSettling : Option LastFile → State → State → Type 0
+IsSettling tail before s = IsEither before (cut_off tail before) s ⊎ (s ≡ synced (cut_off tail before))
 
 -- where a log begins to grow that ends in this file: behind its run, or behind the header that it gets
 abbrev pub start_of : Option LastFile → Place

@@ -92,6 +92,7 @@ planned_of kept (Create db kind) = planned_create kept db kind (number_named (ro
 planned_of kept (Put db key value) = planned_put kept db key value (number_named (rows_in kept.rows) db)
 planned_of kept (Get db key rmw) = planned_get kept db key (number_named (rows_in kept.rows) db)
 planned_of kept (Delete db key) = planned_delete kept db key (number_named (rows_in kept.rows) db)
+planned_of kept call = Answered NotFound  -- the calls that no script has a line for are never planned
 
 -- the records in memory make the model's store, and the numbers beside them are the model's
 pub record Fits (kept : Kept) (st : Standing) : Type 0 where

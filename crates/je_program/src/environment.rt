@@ -1,12 +1,18 @@
 // An open environment.
-ghost use Rattle.std.specs.Prelude.{◌≡◌, ◌≤◌, ◌<◌, ◌+◌, ◌-◌, ◌^◌, ◌∷◌, [], ℕ, None, Some, is_some, false, IfSome, IsNone, if◌then◌else◌};
+ghost use Rattle.script_text.specs.Grammar.{has_line};
+ghost use Rattle.std.specs.Prelude.{◌≡◌, ◌≤◌, ◌<◌, ◌+◌, ◌-◌, ◌^◌, ◌∷◌, [], ℕ, None, Some, is_some, true, false, IfSome, IsNone, if◌then◌else◌, ◌++◌, List, length};
 ghost use Rattle.je_disk.specs.Causes.{Rose};
-ghost use Rattle.je_disk.specs.Moments.{now};
-ghost use Rattle.je_model.specs.Answers.{Standing};
+ghost use Rattle.je_disk.specs.Moments.{History, now};
+ghost use Rattle.je_model.specs.Answers.{Standing, after_events};
+ghost use Rattle.je_model.specs.declared.event.Event.{Event};
+ghost use Rattle.je_model.specs.declared.event.Event.TheVariants.{SyncEnd};
 ghost use Rattle.log_buffer.specs.Buffer.{disk_of, has_failed};
 ghost use Rattle.log_entry.specs.Body.{IsEntry};
+ghost use Rattle.log_file.specs.Log.{Log, entries_of};
 ghost use Rattle.log_replay.specs.Logging.{entry_of as entry_of_change};
-ghost use Rattle.je_program.specs.Environment.{IsAt, IsAtEnd};
+ghost use Rattle.je_program.specs.Crash.{BeginsSafely, GoesOnSafely, IsGuarded, IsKeeping, LogsSafely, log_after, log_with_all};
+ghost use Rattle.je_program.specs.Environment.{IsAt, IsAtEnd, log_rule};
+ghost use Rattle.je_program.specs.Logging.{entries_logged};
 ghost use Rattle.je_program.specs.Planning.{end_behind};
 ghost use Rattle.je_program.specs.declared.kept.TheConstants.{LAST_FILE};
 ghost use Rattle.je_program.specs.Steps.{BeginsSync, CanGoOn, GoesOn, LogsChange, EndsSync, HasCause};
@@ -32,9 +38,14 @@ impl<D: Disk> Environment<D> {
     pub fn step(&mut self, alloc: Global, call: &Call) -> Result<Answer, AllocError>
         requires here { (most : ℕ) × (st : Standing) × IsAt most D.tells (now (D.history (disk_of self.old.log))) self.old.log self.old.kept st }
         requires bounds { CanGoOn self.old.kept }
+        requires line { has_line call.now ≡ true }
         ensures goes_on { (most : ℕ) (st : Standing) → IsAt most D.tells (now (D.history (disk_of self.old.log))) self.old.log self.old.kept st
             → GoesOn most D.tells (now (D.history (disk_of self.new.log))) self.new.log self.new.kept st call.now result }
         ensures bounds { CanGoOn self.new.kept }
+        ensures crash { D.tells ≡ true → (most : ℕ) (st : Standing) (log : Log) (start : History) (session line : ℕ) (journal : List Event)
+            → IsAt most D.tells (now (D.history (disk_of self.old.log))) self.old.log self.old.kept (after_events (log_rule most) st journal)
+            → IsGuarded most st log start (D.history (disk_of self.old.log)) self.old.log journal None
+            → GoesOnSafely most st log start (D.history (disk_of self.new.log)) self.new.log journal session line call.now result }
         ensures cause { HasCause (D.faults (disk_of self.old.log)) (D.faults (disk_of self.new.log)) result }
     {
         if let Some(first) = self.kept.fault {
@@ -72,6 +83,8 @@ impl<D: Disk> Environment<D> {
         requires room { (end_behind self.old.kept change).file ≤ LAST_FILE }
         ensures logs { LogsChange D.tells (now (D.history (disk_of self.old.log))) (now (D.history (disk_of self.new.log))) self.old.log self.new.log self.old.kept self.new.kept number change totals result }
         ensures bounds { CanGoOn self.new.kept }
+        ensures crash { D.tells ≡ true → (held : Log) (least : ℕ) → IsKeeping (now (D.history (disk_of self.old.log))) self.old.log held least None
+            → LogsSafely (D.history (disk_of self.old.log)) (D.history (disk_of self.new.log)) self.new.log held (log_with_all self.old.kept.file_max self.old.kept.end (entries_logged (self.old.kept.last_txn + 1) number change) held) least result }
         ensures cause { HasCause (D.faults (disk_of self.old.log)) (D.faults (disk_of self.new.log)) result }
     {
         let txn = self.kept.last_txn + 1;
@@ -106,6 +119,9 @@ impl<D: Disk> Environment<D> {
     pub fn begin_sync(&mut self) -> Option<D::Job>
         ensures begins { (most : ℕ) (st : Standing) → IsAt most D.tells (now (D.history (disk_of self.old.log))) self.old.log self.old.kept st → st.fault ≡ None
             → BeginsSync most D.tells (now (D.history (disk_of self.new.log))) self.new.log self.new.kept st (if is_some result then Answer.Done else Answer.DiskFault) }
+        ensures crash { D.tells ≡ true → (most : ℕ) (st : Standing) (log : Log) (start : History) (journal : List Event)
+            → (after_events (log_rule most) st journal).fault ≡ None → IsGuarded most st log start (D.history (disk_of self.old.log)) self.old.log journal None
+            → BeginsSafely most st log start (D.history (disk_of self.new.log)) self.new.log journal (is_some result) }
         ensures out { IfSome result (λ job. D.sync_out (disk_of self.new.log) ≡ Some (D.Job.job_number job)) }
         ensures bounds { CanGoOn self.old.kept → CanGoOn self.new.kept }
         ensures never_falls { D.faults (disk_of self.old.log) ≤ D.faults (disk_of self.new.log) }
@@ -126,6 +142,10 @@ impl<D: Disk> Environment<D> {
         requires { D.sync_out (disk_of self.old.log) ≡ Some (D.Job.Done.done_number done) }
         ensures ends { (most : ℕ) (st : Standing) → IsAt most D.tells (now (D.history (disk_of self.old.log))) self.old.log self.old.kept st → st.fault ≡ None
             → EndsSync most D.tells (now (D.history (disk_of self.new.log))) self.new.log self.new.kept st result }
+        ensures crash { D.tells ≡ true → (most : ℕ) (st : Standing) (log : Log) (start : History) (journal : List Event)
+            → IsAt most D.tells (now (D.history (disk_of self.old.log))) self.old.log self.old.kept (after_events (log_rule most) st journal) → (after_events (log_rule most) st journal).fault ≡ None
+            → IsGuarded most st log start (D.history (disk_of self.old.log)) self.old.log journal (Some (length (entries_of (log_after most st journal log))))
+            → IsGuarded most st log start (D.history (disk_of self.new.log)) self.new.log (journal ++ SyncEnd result ∷ []) None }
         ensures bounds { CanGoOn self.old.kept → CanGoOn self.new.kept }
         ensures never_falls { D.faults (disk_of self.old.log) ≤ D.faults (disk_of self.new.log) }
         ensures cause { has_failed self.old.log ≡ false → result ≡ Answer.DiskFault → Rose (D.faults (disk_of self.old.log)) (D.faults (disk_of self.new.log)) }

@@ -1,10 +1,13 @@
 // One line of a script.
-ghost use Rattle.std.specs.Prelude.{◌≡◌, ◌≤◌, ◌<◌, ◌+◌, ◌++◌, ◌∷◌, [], ℕ, vec_len, vec_capacity, OnOk, OnErr};
-ghost use Rattle.je_disk.specs.Moments.{now};
+ghost use Rattle.std.specs.Prelude.{◌≡◌, ◌≤◌, ◌<◌, ◌+◌, ◌++◌, ◌∷◌, [], ℕ, true, vec_len, vec_capacity, OnOk, OnErr, None};
+ghost use Rattle.script_text.specs.Grammar.{has_line};
+ghost use Rattle.je_disk.specs.Moments.{History, now};
 ghost use Rattle.log_buffer.specs.Buffer.{disk_of};
+ghost use Rattle.log_file.specs.Log.{Log};
 ghost use Rattle.je_model.specs.Answers.{Standing};
 ghost use Rattle.je_model.specs.Journal.{is_logged, lines_of};
 ghost use Rattle.je_model.specs.declared.plan.Given.TheVariants.{Session};
+ghost use Rattle.je_program.specs.Crash.{IsGuarded};
 ghost use Rattle.je_program.specs.Run.{IsRunning, IsCaused};
 ghost use Rattle.je_program.specs.Steps.{CanGoOn};
 
@@ -32,10 +35,14 @@ pub fn give<D: Disk>(
 ) -> Result<(), AllocError>
     requires running { (most : ℕ) × (st : Standing) × IsRunning most D.tells (now (D.history (disk_of environment.old.log))) environment.old.log environment.old.kept journal.old.items st }
     requires bounds { CanGoOn environment.old.kept }
+    requires has_line { has_line call ≡ true }
     ensures runs { (most : ℕ) (st : Standing) → IsRunning most D.tells (now (D.history (disk_of environment.old.log))) environment.old.log environment.old.kept journal.old.items st
         → IsRunning most D.tells (now (D.history (disk_of environment.new.log))) environment.new.log environment.new.kept journal.new.items st }
     ensures bounds { CanGoOn environment.new.kept }
     ensures caused { (before : ℕ) → IsCaused before (D.faults (disk_of environment.old.log)) journal.old.items → IsCaused before (D.faults (disk_of environment.new.log)) journal.new.items }
+    ensures crash { D.tells ≡ true → (most : ℕ) (st : Standing) (log : Log) (start : History) → IsRunning most D.tells (now (D.history (disk_of environment.old.log))) environment.old.log environment.old.kept journal.old.items st
+        → IsGuarded most st log start (D.history (disk_of environment.old.log)) environment.old.log journal.old.items None
+        → IsGuarded most st log start (D.history (disk_of environment.new.log)) environment.new.log journal.new.items None }
     ensures line { OnOk result (lines_of journal.new.items ≡ lines_of journal.old.items ++ Session session line call ∷ []) }
     ensures err { OnErr result (journal.new.items ≡ journal.old.items) }
 {

@@ -1,15 +1,18 @@
 // What a change is logged as, and what is kept then.
-ghost use Rattle.std.specs.Prelude.{◌≡◌, ◌≤◌, ◌∷◌, [], ℕ, true, false, IfOk, OnOk, OnErr};
+ghost use Rattle.std.specs.Prelude.{◌≡◌, ◌≤◌, ◌∷◌, [], ℕ, None, true, false, IfOk, OnOk, OnErr};
 ghost use Rattle.je_disk.specs.Causes.{Rose};
 ghost use Rattle.je_disk.specs.Moments.{now};
 ghost use Rattle.je_model.specs.declared.change.Change.TheVariants.{Make};
 ghost use Rattle.log_buffer.specs.Buffer.{disk_of, end_of, file_max_of, has_failed, HasRoom};
+ghost use Rattle.log_buffer.specs.Crash.{KeptThrough};
 ghost use Rattle.log_buffer.specs.Flip.{end_after_all};
 ghost use Rattle.log_entry.specs.Body.{IsEntry};
 ghost use Rattle.log_entry.specs.Spelling.{size_of};
+ghost use Rattle.log_file.specs.Log.{Log};
 ghost use Rattle.log_file.specs.Scan.{may_follow};
 ghost use Rattle.log_replay.specs.Rows.{rows_in};
 ghost use Rattle.log_replay.specs.Logging.{entry_of as entry_of_change};
+ghost use Rattle.je_program.specs.Crash.{IsKeeping, log_with_all};
 ghost use Rattle.je_program.specs.Logging.{rows_after};
 ghost use Rattle.je_program.specs.Steps.{GainsEntries};
 ghost use Rattle.je_program.specs.declared.kept.TheConstants.{LAST_FILE};
@@ -63,6 +66,13 @@ pub fn entry_of(alloc: Global, txn: u64, number: u32, change: Change) -> Result<
             name: at,
         }),
         Change::Make { db, kind } => creation(alloc, txn, number, &db, &kind),
+        Change::Remove { db } => Ok(Entry::Delete {
+            txn: TxnId(txn),
+            db: 0,
+            name: plain_name(alloc, db.as_slice())?,
+        }),
+        Change::Rename { to, .. } => creation(alloc, txn, number, &to, &Kind::Plain),
+        Change::Empty { db } => creation(alloc, txn, number, &db, &Kind::Plain),
     }
 }
 
@@ -82,6 +92,11 @@ pub fn append_both<D: Disk>(
     ensures file_max { OnOk result (file_max_of log.new ≡ file_max_of log.old) }
     ensures works { OnOk result (has_failed log.new ≡ false) }
     ensures gains { OnOk result (GainsEntries D.tells (now (D.history (disk_of log.old))) (now (D.history (disk_of log.new))) log.old log.new (entry.now ∷ commit.now ∷ [])) }
+    ensures crash { D.tells ≡ true → (held : Log) (least : ℕ) → IsKeeping (now (D.history (disk_of log.old))) log.old held least None
+        → KeptThrough (D.history (disk_of log.old)) (D.history (disk_of log.new)) (log_with_all (file_max_of log.old) (end_of log.old) (entry.now ∷ commit.now ∷ []) held) [] least }
+    ensures keeps { D.tells ≡ true → (held : Log) (least : ℕ) → IsKeeping (now (D.history (disk_of log.old))) log.old held least None
+        → OnOk result (IsKeeping (now (D.history (disk_of log.new))) log.new (log_with_all (file_max_of log.old) (end_of log.old) (entry.now ∷ commit.now ∷ []) held) least None) }
+    ensures failed { OnErr result (has_failed log.new ≡ true) }
     ensures never_falls { D.faults (disk_of log.old) ≤ D.faults (disk_of log.new) }
     ensures fault { OnErr result (Rose (D.faults (disk_of log.old)) (D.faults (disk_of log.new))) }
 {
@@ -106,6 +121,6 @@ pub fn change_rows(rows: &mut Rows, alloc: Global, entry: &Entry) -> Result<(), 
             rows.unset(*db, &SortKey::new(copy_of(name)?));
             Ok(())
         }
-        Entry::FileHeader { .. } | Entry::Commit { .. } => Ok(()),
+        _ => Ok(()),
     }
 }

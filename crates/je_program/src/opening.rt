@@ -1,12 +1,14 @@
 // Opening an environment over a disk.
-ghost use Rattle.std.specs.Prelude.{◌≡◌, ◌≤◌, true, false, None, ℕ, IfSome, IfOk, IfErr, OnOk};
+ghost use Rattle.std.specs.Prelude.{◌≡◌, ◌≤◌, [], true, false, None, ℕ, length, IfSome, IfOk, IfErr, OnOk};
 ghost use Rattle.je_disk.specs.Causes.{HasFault};
-ghost use Rattle.je_disk.specs.Moments.{now};
-ghost use Rattle.je_disk.specs.States.{Files as Reads};
-ghost use Rattle.log_buffer.specs.Buffer.{disk_of, end_of, file_max_of, has_failed};
+ghost use Rattle.je_disk.specs.Moments.{Passes, now};
+ghost use Rattle.je_disk.specs.States.{Files as Reads, IsEither, synced_marks};
+ghost use Rattle.log_buffer.specs.Buffer.{disk_of, end_of, file_max_of, first_of, has_failed};
+ghost use Rattle.log_buffer.specs.Crash.{Holds};
 ghost use Rattle.log_buffer.specs.Log.{HasLog};
-ghost use Rattle.log_file.specs.Log.{Log};
-ghost use Rattle.je_program.specs.Opening.{IsOpened, IsSettled, StartsLog, StopsBy, WasRead, kept_at_start, start_of};
+ghost use Rattle.log_file.specs.Log.{Log, entries_of};
+ghost use Rattle.je_program.specs.Crash.{IsOpenedSafely, KeepsEntry};
+ghost use Rattle.je_program.specs.Opening.{IsOpened, IsSettled, IsSettling, StartsLog, StopsBy, WasRead, cut_off, kept_at_start, start_of};
 ghost use Rattle.je_program.specs.Steps.{CanGoOn};
 ghost use Rattle.je_program.specs.declared.kept.TheConstants.{LAST_FILE};
 
@@ -60,6 +62,7 @@ impl From<AllocError> for Cause {
 // Mounts the disk and reads the log that it has.
 fn read_disk<D: Disk>(alloc: Global, disk: &mut D) -> Result<ReadLog, Cause>
     ensures same { D.tells ≡ true → now (D.history disk.new) ≡ now (D.history disk.old) }
+    ensures moments { D.tells ≡ true → Passes (D.history disk.old) (D.history disk.new) (λ s. s ≡ now (D.history disk.old)) }
     ensures read { IfOk result (WasRead D.tells (now (D.history disk.old)).reads) }
     ensures none_out { OnOk result (D.sync_out disk.new ≡ None) }
     ensures stops { IfErr result (λ cause. StopsBy D.tells (now (D.history disk.old)).reads (D.faults disk.old) (D.faults disk.new) cause) }
@@ -73,17 +76,33 @@ fn read_disk<D: Disk>(alloc: Global, disk: &mut D) -> Result<ReadLog, Cause>
     }
 }
 
+// Cuts off what follows the run of the last file.
+fn cut_rest<D: Disk>(disk: &mut D, tail: Option<LastFile>) -> Result<(), DiskErr>
+    requires { D.sync_out disk.old ≡ None }
+    ensures done { D.tells ≡ true → OnOk result (now (D.history disk.new) ≡ cut_off tail (now (D.history disk.old))) }
+    ensures moments { D.tells ≡ true → Passes (D.history disk.old) (D.history disk.new) (IsEither (now (D.history disk.old)) (cut_off tail (now (D.history disk.old)))) }
+    ensures cause { HasFault (D.faults disk.old) (D.faults disk.new) result }
+{
+    let Some(last) = tail else {
+        return Ok(());
+    };
+    let end = u64::from(last.end);
+    if end < last.len {
+        disk.cut(last.file, end)
+    } else {
+        Ok(())
+    }
+}
+
 // Cuts off what follows the run of the last file, and syncs.
 fn settle<D: Disk>(disk: &mut D, tail: Option<LastFile>) -> Result<(), DiskErr>
     requires { D.sync_out disk.old ≡ None }
     ensures settled { D.tells ≡ true → OnOk result (IsSettled (now (D.history disk.old)).reads (now (D.history disk.new)).reads tail) }
+    ensures stable { D.tells ≡ true → OnOk result ((now (D.history disk.new)).marks ≡ synced_marks (now (D.history disk.new)).reads) }
+    ensures moments { D.tells ≡ true → Passes (D.history disk.old) (D.history disk.new) (IsSettling tail (now (D.history disk.old))) }
     ensures cause { HasFault (D.faults disk.old) (D.faults disk.new) result }
 {
-    if let Some(last) = tail {
-        if u64::from(last.end) < last.len {
-            disk.cut(last.file, u64::from(last.end))?;
-        }
-    }
+    cut_rest(disk, tail)?;
     disk.sync_now()
 }
 
@@ -98,6 +117,8 @@ fn begin_log<D: Disk>(
     requires file { IfSome tail (λ last. last.file.0 ≤ LAST_FILE) }
     requires file_max { file_max ≤ 1073741824 }
     ensures log { (log : Log) → StartsLog D.tells (now (D.history disk)).reads tail log → IfOk result (λ buffer. HasLog D.tells (now (D.history disk)) buffer log) }
+    ensures holds { D.tells ≡ true → (log : Log) → StartsLog D.tells (now (D.history disk)).reads tail log → (now (D.history disk)).marks ≡ synced_marks (now (D.history disk)).reads
+        → IfOk result (λ buffer. Holds log [] (length (entries_of log)) None (first_of buffer) (now (D.history disk))) }
     ensures disk { IfOk result (λ buffer. disk_of buffer ≡ disk) }
     ensures end { IfOk result (λ buffer. end_of buffer ≡ start_of tail) }
     ensures file_max { IfOk result (λ buffer. file_max_of buffer ≡ file_max) }
@@ -177,8 +198,14 @@ fn go_on<D: Disk>(
     requires file_max { file_max ≤ 1073741824 }
     ensures opened { (reads : Reads) → WasRead D.tells reads read → (D.tells ≡ true → (now (D.history disk)).reads ≡ reads)
         → IfOk result (λ opened. IsOpened file_max D.tells reads (now (D.history (disk_of opened.environment.log))) opened.environment.log opened.opening opened.environment.kept) }
+    ensures crash { D.tells ≡ true → (reads : Reads) → WasRead D.tells reads read → (now (D.history disk)).reads ≡ reads
+        → IfOk result (λ opened. IsOpenedSafely file_max reads opened.opening (D.history (disk_of opened.environment.log)) opened.environment.log opened.environment.kept) }
+    ensures entry { D.tells ≡ true → (reads : Reads) → WasRead D.tells reads read → (now (D.history disk)).reads ≡ reads
+        → IfOk result (λ opened. KeepsEntry (D.history disk) (D.history (disk_of opened.environment.log))) }
     ensures bounds { IfOk result (λ opened. CanGoOn opened.environment.kept) }
     ensures faults { IfOk result (λ opened. D.faults disk ≤ D.faults (disk_of opened.environment.log)) }
+    ensures stopped_entry { D.tells ≡ true → (reads : Reads) → WasRead D.tells reads read → (now (D.history disk)).reads ≡ reads
+        → IfErr result (λ stopped. KeepsEntry (D.history disk) (D.history stopped.disk)) }
     ensures stopped { (reads : Reads) → IfErr result (λ stopped. StopsBy D.tells reads (D.faults disk) (D.faults stopped.disk) stopped.cause) }
     ensures stopped_faults { IfErr result (λ stopped. D.faults disk ≤ D.faults stopped.disk) }
 {
@@ -204,8 +231,11 @@ fn go_on<D: Disk>(
 pub fn open<D: Disk>(alloc: Global, disk: D, file_max: u32) -> Result<Opened<D>, Stopped<D>>
     requires file_max { file_max ≤ 1073741824 }
     ensures opened { IfOk result (λ opened. IsOpened file_max D.tells (now (D.history disk)).reads (now (D.history (disk_of opened.environment.log))) opened.environment.log opened.opening opened.environment.kept) }
+    ensures crash { D.tells ≡ true → IfOk result (λ opened. IsOpenedSafely file_max (now (D.history disk)).reads opened.opening (D.history (disk_of opened.environment.log)) opened.environment.log opened.environment.kept) }
+    ensures entry { D.tells ≡ true → IfOk result (λ opened. KeepsEntry (D.history disk) (D.history (disk_of opened.environment.log))) }
     ensures bounds { IfOk result (λ opened. CanGoOn opened.environment.kept) }
     ensures faults { IfOk result (λ opened. D.faults disk ≤ D.faults (disk_of opened.environment.log)) }
+    ensures stopped_entry { D.tells ≡ true → IfErr result (λ stopped. KeepsEntry (D.history disk) (D.history stopped.disk)) }
     ensures stopped { IfErr result (λ stopped. StopsBy D.tells (now (D.history disk)).reads (D.faults disk) (D.faults stopped.disk) stopped.cause) }
     ensures stopped_faults { IfErr result (λ stopped. D.faults disk ≤ D.faults stopped.disk) }
 {

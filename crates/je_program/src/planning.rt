@@ -1,9 +1,10 @@
 // What a call comes to.
-ghost use Rattle.std.specs.Prelude.{option_copied, nat_lt, if◌then◌else◌, None, ◌≡◌, ◌≤◌, ◌<◌, ◌+◌, ◌^◌, ◌∷◌, length, IsTrue, Some, [], IfOk, option_map};
+ghost use Rattle.std.specs.Prelude.{option_copied, nat_lt, if◌then◌else◌, None, true, ◌≡◌, ◌≤◌, ◌<◌, ◌+◌, ◌^◌, ◌∷◌, length, IsTrue, Some, [], IfOk, option_map};
 ghost use Rattle.je_model.specs.Evaluation.{plain_name as name_of_key, database_named};
 ghost use Rattle.je_model.specs.Answers.{or_refusal, too_long, made_by};
 ghost use Rattle.je_order.specs.Words.{is_word};
-ghost use Rattle.log_replay.specs.Rows.{rows_in, number_in};
+ghost use Rattle.log_replay.specs.Rows.{rows_in};
+ghost use Rattle.script_text.specs.Grammar.{has_line};
 ghost use Rattle.log_buffer.specs.Flip.{end_after_all};
 ghost use Rattle.log_entry.specs.Spelling.{size_of};
 ghost use Rattle.log_replay.specs.Logging.{entry_of};
@@ -11,11 +12,10 @@ ghost use Rattle.je_program.specs.declared.kept.TheConstants.{COMMIT_SIZE, LAST_
 ghost use Rattle.je_program.specs.Planning.{IsPlace, number_named, logs_with_room, planned_create, planned_put, planned_get, planned_delete, planned_of, records_with};
 
 use crate::kept::{COMMIT_SIZE, Kept, LAST_FILE};
-use db_catalog::DbRecord;
 use je_model::{Answer, Call, Change, KEY_LIMIT, Kind, MOST_DATABASES, Totals, VALUE_LIMIT};
 use je_order::{Name, Octets, Word, copy_of};
 use log_buffer::Place;
-use log_replay::SortKey;
+use log_replay::{SortKey, number_of as number_in_record};
 use std::alloc::{AllocError, Global};
 
 /// What a call of a valid environment comes to, before anything is changed.
@@ -52,7 +52,9 @@ fn entry_size(change: &Change) -> u32
             30 + at.key.len() as u32 + at.dup.len() as u32 + value.len() as u32
         }
         Change::Unset { at, .. } => 30 + at.key.len() as u32 + at.dup.len() as u32,
-        Change::Make { db, .. } => 35 + db.len() as u32,
+        Change::Make { db, .. } | Change::Empty { db } => 35 + db.len() as u32,
+        Change::Remove { db } => 30 + db.len() as u32,
+        Change::Rename { to, .. } => 35 + to.len() as u32,
     }
 }
 
@@ -74,16 +76,6 @@ pub fn end_of_transaction(end: Place, file_max: u32, size: u32) -> Option<Place>
     Some(last)
 }
 
-// The number of a catalog record, 0 where the data is none.
-fn number_or_0(data_bytes: &Octets) -> u32
-    ensures { result ≡ number_in data_bytes.now }
-{
-    match DbRecord::from_bytes(data_bytes.as_slice()) {
-        Some(found) => found.number,
-        None => 0,
-    }
-}
-
 // The number of the database of that name.
 fn number_of(kept: &Kept, alloc: Global, db: &Word) -> Result<Option<u32>, AllocError>
     ensures word { IsTrue (is_word db.now) }
@@ -91,7 +83,7 @@ fn number_of(kept: &Kept, alloc: Global, db: &Word) -> Result<Option<u32>, Alloc
 {
     let name = SortKey::new(plain_name(alloc, db.as_slice())?);
     match kept.rows.get(0, &name) {
-        Some(found) => Ok(Some(number_or_0(found))),
+        Some(found) => Ok(Some(number_in_record(found.as_slice()))),
         None => Ok(None),
     }
 }
@@ -271,9 +263,11 @@ fn plan_create(kept: &Kept, alloc: Global, db: &Word, kind: &Kind) -> Result<Pla
     Ok(log_creation(kept, change, totals))
 }
 
-/// What a call of a valid environment comes to. The one error is want of memory.
+/// What a call of a valid environment comes to, of those that scripts have lines for. The one error is
+/// want of memory.
 pub fn plan(kept: &Kept, alloc: Global, call: &Call) -> Result<Planned, AllocError>
     requires place { IsPlace kept.now.end }
+    requires line { has_line call.now ≡ true }
     ensures word { IsTrue (is_word (database_named call.now)) }
     ensures planned { IfOk result (λ planned. planned ≡ planned_of kept.now call.now) }
 {
@@ -294,5 +288,10 @@ pub fn plan(kept: &Kept, alloc: Global, call: &Call) -> Result<Planned, AllocErr
             Some(number) => plan_delete(kept, alloc, number, db, key),
             None => Ok(Planned::Answered(Answer::NoDatabase)),
         },
+        Call::List
+        | Call::Remove { .. }
+        | Call::Rename { .. }
+        | Call::Truncate { .. }
+        | Call::PutNo { .. } => unreachable!(),
     }
 }

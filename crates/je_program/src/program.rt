@@ -12,6 +12,7 @@ ghost use Rattle.log_replay.specs.declared.finding.Finding.{Finding as Found};
 ghost use Rattle.script_text.specs.Grammar.{plan_of};
 ghost use Rattle.je_program.specs.declared.cause.Cause.{Cause as Why};
 ghost use Rattle.je_program.specs.declared.reading.TheConstants.{MOST_INPUT};
+ghost use Rattle.je_program.specs.Crash.{IsSafeProgram, KeepsEntry};
 ghost use Rattle.je_program.specs.Files.{HasFinding, Means};
 ghost use Rattle.je_program.specs.Program.{EndsBy, IsGivenTo, IsWritten, MeanStore, ReadsPlan, RunsIf, final_store, is_before_disk, output_text};
 ghost use Rattle.je_program.specs.Run.{HasRun, cause_of_room};
@@ -84,6 +85,16 @@ pub fn run_je<D: Disk, S: Source, K: Sink>(
     // the commits in order.
     ensures acknowledged { result.cause ≡ Why.Done → AllAcknowledged result.journal.items }
     ensures files { result.cause ≡ Why.Done → D.tells ≡ true → MeanStore (now (D.history result.disk)).reads (final_store result.opening result.journal.items) }
+
+    // At each moment from the end of the opening's own sync on, each image of the disk in which no torn entry's
+    // checksum matches by chance means the opening store changed by the first of the attempted commits, at least
+    // the synced ones; where all was done, each image at the end means the final store. Where nothing was
+    // pending at entry, each image from entry until then means the opening store. Where nothing was opened,
+    // each image means what the files at entry mean, if they mean something: at each moment where nothing was
+    // pending at entry, and at the end where nothing is pending then.
+    ensures crash { D.tells ≡ true → result.opened ≡ true → (file_max : ℕ) × (file_max_in (map string_bytes words.now) ≡ Some file_max)
+        × IsSafeProgram file_max (D.history disk) (D.history result.disk) result.opening result.journal.items result.cause }
+    ensures crash_unopened { D.tells ≡ true → result.opened ≡ false → KeepsEntry (D.history disk) (D.history result.disk) }
 
     // Right words, a script and files with a meaning end in a run, unless memory ran out or a count rose.
     ensures complete { (bytes : List ℕ) (plan : RunPlan) (meaning : Meaning) → is_taken (map string_bytes words.now) ≡ true → S.left input.old ≡ Some bytes

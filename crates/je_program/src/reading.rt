@@ -1,5 +1,7 @@
 // Reading a script.
-ghost use Rattle.std.specs.Prelude.{◌≡◌, ◌≤◌, IfOk, IfErr};
+ghost use Rattle.std.specs.Prelude.{◌≡◌, ◌≤◌, true, IfOk, IfErr};
+ghost use Rattle.std.specs.List.{list_all};
+ghost use Rattle.script_text.specs.Grammar.{is_line};
 ghost use Rattle.je_program.specs.Program.{ReadsPlan, StopsReading};
 
 use crate::cause::Cause;
@@ -29,6 +31,7 @@ impl From<ReadErr> for Cause {
 /// one byte past the limit.
 pub fn read_script<S: Source>(alloc: Global, input: &mut S) -> Result<RunPlan, Cause>
     ensures read { IfOk result (λ plan. ReadsPlan (S.left input.old) (S.left input.new) plan) }
+    ensures lines { IfOk result (λ plan. list_all is_line plan.lines ≡ true) }
     ensures stopped { IfErr result (λ cause. StopsReading (S.left input.old) (S.faults input.old) (S.faults input.new) cause) }
     ensures never_falls { S.faults input.old ≤ S.faults input.new }
 {

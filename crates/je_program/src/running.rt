@@ -1,10 +1,14 @@
 // A run of a script's lines.
-ghost use Rattle.std.specs.Prelude.{◌≡◌, ◌≤◌, ◌<◌, ◌++◌, ◌∷◌, [], ℕ, List, length, false, slice_index_or};
-ghost use Rattle.je_disk.specs.Moments.{now};
+ghost use Rattle.std.specs.Prelude.{◌≡◌, ◌≤◌, ◌<◌, ◌++◌, ◌∷◌, [], ℕ, List, length, true, false, slice_index_or, None};
+ghost use Rattle.std.specs.List.{list_all};
+ghost use Rattle.script_text.specs.Grammar.{has_line, is_line};
+ghost use Rattle.je_disk.specs.Moments.{History, now};
 ghost use Rattle.log_buffer.specs.Buffer.{disk_of};
+ghost use Rattle.log_file.specs.Log.{Log};
 ghost use Rattle.je_model.specs.Answers.{Standing};
 ghost use Rattle.je_model.specs.declared.plan.Given.{Given as Line};
 ghost use Rattle.je_model.specs.declared.plan.Given.TheVariants.{Session};
+ghost use Rattle.je_program.specs.Crash.{IsGuarded};
 ghost use Rattle.je_program.specs.Environment.{IsAt};
 ghost use Rattle.je_program.specs.Run.{IsRunning, IsCaused, HasGiven};
 ghost use Rattle.je_program.specs.Steps.{CanGoOn};
@@ -37,12 +41,16 @@ fn give_line<D: Disk>(running: &mut Running<D>, alloc: Global, session: u8, line
     requires running { (most : ℕ) × (st : Standing) × IsRunning most D.tells (now (D.history (disk_of running.old.environment.log))) running.old.environment.log running.old.environment.kept running.old.journal.items st }
     requires bounds { CanGoOn running.old.environment.kept }
     requires sessions { length running.old.stopped ≡ 256 }
+    requires has_line { has_line call ≡ true }
     ensures runs { (most : ℕ) (st : Standing) → IsRunning most D.tells (now (D.history (disk_of running.old.environment.log))) running.old.environment.log running.old.environment.kept running.old.journal.items st
         → IsRunning most D.tells (now (D.history (disk_of running.new.environment.log))) running.new.environment.log running.new.environment.kept running.new.journal.items st }
     ensures bounds { CanGoOn running.new.environment.kept }
     ensures sessions { length running.new.stopped ≡ 256 }
     ensures caused { (before : ℕ) → IsCaused before (D.faults (disk_of running.old.environment.log)) running.old.journal.items
         → IsCaused before (D.faults (disk_of running.new.environment.log)) running.new.journal.items }
+    ensures crash { D.tells ≡ true → (most : ℕ) (st : Standing) (log : Log) (start : History) → IsRunning most D.tells (now (D.history (disk_of running.old.environment.log))) running.old.environment.log running.old.environment.kept running.old.journal.items st
+        → IsGuarded most st log start (D.history (disk_of running.old.environment.log)) running.old.environment.log running.old.journal.items None
+        → IsGuarded most st log start (D.history (disk_of running.new.environment.log)) running.new.environment.log running.new.journal.items None }
     ensures given { (lines : List Line) → HasGiven running.old.journal.items running.old.memory_ended running.old.stopped lines
         → HasGiven running.new.journal.items running.new.memory_ended running.new.stopped (lines ++ Session session line call ∷ []) }
 {
@@ -70,12 +78,16 @@ fn give_next<D: Disk>(running: &mut Running<D>, alloc: Global, given: Given)
     requires running { (most : ℕ) × (st : Standing) × IsRunning most D.tells (now (D.history (disk_of running.old.environment.log))) running.old.environment.log running.old.environment.kept running.old.journal.items st }
     requires bounds { CanGoOn running.old.environment.kept }
     requires sessions { length running.old.stopped ≡ 256 }
+    requires line { is_line given ≡ true }
     ensures runs { (most : ℕ) (st : Standing) → IsRunning most D.tells (now (D.history (disk_of running.old.environment.log))) running.old.environment.log running.old.environment.kept running.old.journal.items st
         → IsRunning most D.tells (now (D.history (disk_of running.new.environment.log))) running.new.environment.log running.new.environment.kept running.new.journal.items st }
     ensures bounds { CanGoOn running.new.environment.kept }
     ensures sessions { length running.new.stopped ≡ 256 }
     ensures caused { (before : ℕ) → IsCaused before (D.faults (disk_of running.old.environment.log)) running.old.journal.items
         → IsCaused before (D.faults (disk_of running.new.environment.log)) running.new.journal.items }
+    ensures crash { D.tells ≡ true → (most : ℕ) (st : Standing) (log : Log) (start : History) → IsRunning most D.tells (now (D.history (disk_of running.old.environment.log))) running.old.environment.log running.old.environment.kept running.old.journal.items st
+        → IsGuarded most st log start (D.history (disk_of running.old.environment.log)) running.old.environment.log running.old.journal.items None
+        → IsGuarded most st log start (D.history (disk_of running.new.environment.log)) running.new.environment.log running.new.journal.items None }
     ensures given { (lines : List Line) → HasGiven running.old.journal.items running.old.memory_ended running.old.stopped lines
         → HasGiven running.new.journal.items running.new.memory_ended running.new.stopped (lines ++ given ∷ []) }
 {
@@ -93,9 +105,13 @@ fn give_next<D: Disk>(running: &mut Running<D>, alloc: Global, given: Given)
 pub fn run<D: Disk>(alloc: Global, environment: Environment<D>, lines: Vec<Given>) -> Running<D>
     requires start { (most : ℕ) × (st : Standing) × IsAt most D.tells (now (D.history (disk_of environment.log))) environment.log environment.kept st }
     requires bounds { CanGoOn environment.kept }
+    requires lines { list_all is_line lines.items ≡ true }
     ensures runs { (most : ℕ) (st : Standing) → IsAt most D.tells (now (D.history (disk_of environment.log))) environment.log environment.kept st
         → IsRunning most D.tells (now (D.history (disk_of result.environment.log))) result.environment.log result.environment.kept result.journal.items st }
     ensures caused { IsCaused (D.faults (disk_of environment.log)) (D.faults (disk_of result.environment.log)) result.journal.items }
+    ensures crash { D.tells ≡ true → (most : ℕ) (st : Standing) (log : Log) (start : History) → IsAt most D.tells (now (D.history (disk_of environment.log))) environment.log environment.kept st
+        → IsGuarded most st log start (D.history (disk_of environment.log)) environment.log [] None
+        → IsGuarded most st log start (D.history (disk_of result.environment.log)) result.environment.log result.journal.items None }
     ensures given { HasGiven result.journal.items result.memory_ended result.stopped lines.items }
     ensures bounds { CanGoOn result.environment.kept }
 {

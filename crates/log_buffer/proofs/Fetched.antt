@@ -12,7 +12,7 @@ use Rattle.std.specs.List.{AllByRecursion}
 use Rattle.std.specs.Map.{lookup}
 use Rattle.je_disk.specs.States.{State, content}
 use Rattle.log_entry.specs.declared.entry.Entry.{Entry}
-use Rattle.log_entry.specs.declared.entry.Entry.TheVariants.{FileHeader, Put, Delete, Commit}
+use Rattle.log_entry.specs.declared.entry.Entry.TheVariants.{FileHeader}
 use Rattle.log_entry.specs.declared.decoder.Decoded.{Decoded}
 use Rattle.log_entry.specs.declared.decoder.Decoded.TheVariants.{Whole, Torn as NotWhole}
 use Rattle.log_entry.specs.declared.decoder.Torn.{Torn}
@@ -111,12 +111,6 @@ head_part bytes = ap (take 4) (drop-take 10 4 bytes) ∙ take-take 4 4 (drop 10 
 
 pub head_len : (bytes head : List ℕ) (e : Entry) → head ≡ take 14 bytes → Spells bytes e → number_at w32 10 head ≡ body_size_of e
 head_len bytes head e is s = ap (number_at w32 10) is ∙ ap (from_be_bytes w32) (head_part bytes) ∙ spells_len bytes e s
-
-pub body_within : (e : Entry) → IsEntry e → body_size_of e ≤ 73744
-body_within (FileHeader version file) is = omega arith
-body_within (Put txn db name value) is = omega (arith, is.2.0, is.2.1, is.3)
-body_within (Delete txn db name) is = omega (arith, is.2.0, is.2.1)
-body_within (Commit txn) is = omega arith
 
 pub not_whole : (whole : Bool) (n m : ℕ) → (IsTrue whole ↔ n ≤ m) → whole ≡ false → n ≤ m → ⊥
 not_whole true n m both is le = absurd cc

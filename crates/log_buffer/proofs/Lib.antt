@@ -9,3 +9,13 @@ pub mod Places
 pub mod Fetched
 pub mod Lasting
 pub mod Keeping
+pub mod Splits
+pub mod Kept
+pub mod KeptWriting
+pub mod KeptSyncs
+pub mod KeptGrowing
+pub mod KeptRemoved
+pub mod Chances
+pub mod Left
+pub mod Passing
+pub mod KeptOpening

@@ -4,3 +4,6 @@ pub mod Buffer
 pub mod Log
 pub mod Causes
 pub mod Laws
+pub mod Crash
+pub mod Chance
+pub mod Writing

@@ -1,5 +1,5 @@
 -- The log of a buffer: what its disk's files and its tail are together.
-use Rattle.std.specs.Prelude.{◌≡◌, ◌≢◌, ℕ, ◌+◌, ◌*◌, ◌<◌, ◌^◌, ◌==◌, ◌⊎◌, not, if◌then◌else◌, Bool, true, Some, None, List, [], ◌∷◌, ◌++◌, length}
+use Rattle.std.specs.Prelude.{◌≡◌, ◌≢◌, ℕ, ◌+◌, ◌*◌, ◌<◌, ◌^◌, ◌==◌, ◌⊎◌, not, nat_le, if◌then◌else◌, Bool, true, Some, None, List, [], ◌∷◌, ◌++◌, length}
 use Rattle.std.specs.Map.{lookup}
 use Rattle.std.specs.List.{filter}
 use Rattle.je_disk.specs.States.{State, Files, content}
@@ -21,6 +21,14 @@ log_with f entry (file ∷ log) = if file.0 == f then (f, file.1 ++ entry ∷ []
 -- a log without a file
 abbrev pub log_without : ℕ → Log → Log
 log_without f log = filter (λ file. not (file.0 == f)) log
+
+-- a file of a log alone
+abbrev pub log_of : ℕ → Log → Log
+log_of f log = filter (λ file. file.0 == f) log
+
+-- a log up to a file, with it
+abbrev pub log_upto : ℕ → Log → Log
+log_upto f log = filter (λ file. nat_le file.0 f) log
 
 -- the log's last file is this one; it ends at the offset, and its last entry begins at `last`
 pub record EndsAt (log : Log) (file offset last : ℕ) : Type 0 where

@@ -1,5 +1,5 @@
 // Entries that go into the tail.
-ghost use Rattle.std.specs.Prelude.{◌≡◌, ◌≤◌, ◌<◌, ◌∷◌, [], ◌++◌, ℕ, List, Bool, true, false, ◌↔◌, ◌+◌, ◌^◌, IfOk, OnOk, OnErr, IsOk, IsErrOf};
+ghost use Rattle.std.specs.Prelude.{◌≡◌, ◌≤◌, ◌<◌, ◌∷◌, [], ◌++◌, ℕ, List, Bool, true, false, Option, ◌↔◌, ◌+◌, ◌^◌, IfOk, OnOk, OnErr, IsOk, IsErrOf};
 ghost use Rattle.je_disk.specs.Moments.{now};
 ghost use Rattle.je_disk.specs.States.{State};
 ghost use Rattle.je_lsn.specs.Naming.{last_file};
@@ -7,8 +7,9 @@ ghost use Rattle.log_entry.specs.Body.{IsEntry};
 ghost use Rattle.log_entry.specs.Spelling.{size_of};
 ghost use Rattle.log_file.specs.Scan.{may_follow};
 ghost use Rattle.log_file.specs.Log.{Log};
-ghost use Rattle.log_buffer.specs.Buffer.{disk_of, end_of, file_of, offset_of, last_of, file_max_of, has_failed, HasRoom, IsUnchanged};
+ghost use Rattle.log_buffer.specs.Buffer.{disk_of, first_of, end_of, file_of, offset_of, last_of, file_max_of, has_failed, HasRoom, IsUnchanged};
 ghost use Rattle.log_buffer.specs.Log.{HasLog, log_with};
+ghost use Rattle.log_buffer.specs.Crash.{Holds, KeptThrough};
 ghost use Rattle.log_buffer.specs.Flip.{header_size, placed_at, next_file, behind, end_after, lsn_of};
 ghost use Rattle.log_buffer.specs.Causes.{HasCause, FailsByFault};
 
@@ -34,6 +35,10 @@ impl<D: Disk> LogBuffer<D> {
         ensures last { OnOk result (last_of self.new ≡ (placed_at (file_max_of self.old) (end_of self.old) (size_of entry.now)).offset) }
         ensures log { (log : Log) → HasLog D.tells (now (D.history (disk_of self.old))) self.old log
             → OnOk result (HasLog D.tells (now (D.history (disk_of self.new))) self.new (log_with (placed_at (file_max_of self.old) (end_of self.old) (size_of entry.now)).file entry.now log)) }
+        ensures crash { D.tells ≡ true → (log removed : Log) (least : ℕ) (begun : Option ℕ) → HasLog D.tells (now (D.history (disk_of self.old))) self.old log → Holds log removed least begun (first_of self.old) (now (D.history (disk_of self.old)))
+            → KeptThrough (D.history (disk_of self.old)) (D.history (disk_of self.new)) (log_with (placed_at (file_max_of self.old) (end_of self.old) (size_of entry.now)).file entry.now log) removed least }
+        ensures holds { D.tells ≡ true → (log removed : Log) (least : ℕ) (begun : Option ℕ) → HasLog D.tells (now (D.history (disk_of self.old))) self.old log → Holds log removed least begun (first_of self.old) (now (D.history (disk_of self.old)))
+            → OnOk result (Holds (log_with (placed_at (file_max_of self.old) (end_of self.old) (size_of entry.now)).file entry.now log) removed least begun (first_of self.new) (now (D.history (disk_of self.new)))) }
         ensures full { has_failed self.old ≡ false → (IsErrOf result LogErr.Full ↔ last_file < (placed_at (file_max_of self.old) (end_of self.old) (size_of entry.now)).file) }
         ensures full_unchanged { IsErrOf result LogErr.Full → IsUnchanged self.old self.new }
         ensures memory_unchanged { IsErrOf result LogErr.Memory → IsUnchanged self.old self.new }
@@ -74,6 +79,10 @@ impl<D: Disk> LogBuffer<D> {
     // Writes a long tail out.
     fn write_long(&mut self) -> Result<(), LogErr>
         ensures log { (log : Log) → HasLog D.tells (now (D.history (disk_of self.old))) self.old log → OnOk result (HasLog D.tells (now (D.history (disk_of self.new))) self.new log) }
+        ensures crash { D.tells ≡ true → (log removed : Log) (least : ℕ) (begun : Option ℕ) → HasLog D.tells (now (D.history (disk_of self.old))) self.old log → Holds log removed least begun (first_of self.old) (now (D.history (disk_of self.old)))
+            → KeptThrough (D.history (disk_of self.old)) (D.history (disk_of self.new)) log removed least }
+        ensures holds { D.tells ≡ true → (log removed : Log) (least : ℕ) (begun : Option ℕ) → HasLog D.tells (now (D.history (disk_of self.old))) self.old log → Holds log removed least begun (first_of self.old) (now (D.history (disk_of self.old)))
+            → OnOk result (Holds log removed least begun (first_of self.new) (now (D.history (disk_of self.new)))) }
         ensures end { end_of self.new ≡ end_of self.old }
         ensures last { last_of self.new ≡ last_of self.old }
         ensures room { (sizes : List ℕ) → HasRoom self.old sizes → OnOk result (HasRoom self.new sizes) }
@@ -98,6 +107,8 @@ impl<D: Disk> LogBuffer<D> {
         requires place { place ≡ placed_at (file_max_of self.old) (end_of self.old) (size_of entry.now) }
         requires file { place.file ≤ last_file }
         ensures log { (tells : Bool) (state : State) (log : Log) → HasLog tells state self.old log → OnOk result (HasLog tells state self.new (log_with place.file entry.now log)) }
+        ensures holds { (tells : Bool) (state : State) (log removed : Log) (least : ℕ) (begun : Option ℕ) → HasLog tells state self.old log → Holds log removed least begun (first_of self.old) state
+            → OnOk result (Holds (log_with place.file entry.now log) removed least begun (first_of self.new) state) }
         ensures end { OnOk result (end_of self.new ≡ behind place (size_of entry.now)) }
         ensures last { OnOk result (last_of self.new ≡ place.offset) }
         ensures unchanged { OnErr result (IsUnchanged self.old self.new) }
@@ -121,6 +132,8 @@ impl<D: Disk> LogBuffer<D> {
         requires size { size ≡ size_of entry.now }
         requires fits { offset_of self.old + size_of entry.now < 2 ^ 32 }
         ensures log { (tells : Bool) (state : State) (log : Log) → HasLog tells state self.old log → OnOk result (HasLog tells state self.new (log_with (file_of self.old) entry.now log)) }
+        ensures holds { (tells : Bool) (state : State) (log removed : Log) (least : ℕ) (begun : Option ℕ) → HasLog tells state self.old log → Holds log removed least begun (first_of self.old) state
+            → OnOk result (Holds (log_with (file_of self.old) entry.now log) removed least begun (first_of self.new) state) }
         ensures end { OnOk result (end_of self.new ≡ behind (end_of self.old) (size_of entry.now)) }
         ensures last { OnOk result (last_of self.new ≡ offset_of self.old) }
         ensures unchanged { OnErr result (IsUnchanged self.old self.new) }
@@ -144,6 +157,8 @@ impl<D: Disk> LogBuffer<D> {
         requires size { size ≡ size_of entry.now }
         requires file { file_of self.old < last_file }
         ensures log { (tells : Bool) (state : State) (log : Log) → HasLog tells state self.old log → OnOk result (HasLog tells state self.new (log_with (file_of self.old + 1) entry.now log)) }
+        ensures holds { (tells : Bool) (state : State) (log removed : Log) (least : ℕ) (begun : Option ℕ) → HasLog tells state self.old log → Holds log removed least begun (first_of self.old) state
+            → OnOk result (Holds (log_with (file_of self.old + 1) entry.now log) removed least begun (first_of self.new) state) }
         ensures end { OnOk result (end_of self.new ≡ behind (next_file (end_of self.old)) (size_of entry.now)) }
         ensures last { OnOk result (last_of self.new ≡ header_size) }
         ensures unchanged { OnErr result (IsUnchanged self.old self.new) }

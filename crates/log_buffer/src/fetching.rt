@@ -1,7 +1,7 @@
 // Entries as they are read back.
 ghost use Rattle.std.specs.Prelude.{◌≡◌, ◌≤◌, ◌↔◌, true, Some, length, take, drop, IsTrue, IfOk};
 ghost use Rattle.je_disk.specs.Causes.{HasFault, HasCause};
-ghost use Rattle.je_disk.specs.Moments.{now};
+ghost use Rattle.je_disk.specs.Moments.{now, Passes};
 ghost use Rattle.je_disk.specs.States.{content};
 ghost use Rattle.log_entry.specs.declared.entry.Entry.{Entry as Found};
 ghost use Rattle.log_entry.specs.Reading.{number_at};
@@ -19,7 +19,7 @@ use std::alloc::{AllocError, Global};
 const HEAD: usize = 14;
 
 /// The greatest length of an entry's body, in bytes.
-const BODY_MAX: u32 = 73_744;
+const BODY_MAX: u32 = 20_000_004;
 
 // The entry that stands at a place of these bytes.
 pub(crate) fn entry_in(alloc: Global, bytes: &[u8], at: usize) -> Result<Option<Entry>, AllocError>
@@ -37,6 +37,7 @@ fn fill<D: Disk>(disk: &mut D, f: FileNo, at: u32, into: &mut [u8]) -> Result<bo
     ensures whole { D.tells ≡ true → IfOk result (λ whole. IsTrue whole ↔ length into.old ≤ length (drop at (content (now (D.history disk.old)).reads f.0))) }
     ensures bytes { D.tells ≡ true → IfOk result (λ whole. whole ≡ true → into.new ≡ take (length into.old) (drop at (content (now (D.history disk.old)).reads f.0))) }
     ensures same { D.tells ≡ true → now (D.history disk.new) ≡ now (D.history disk.old) }
+    ensures moments { D.tells ≡ true → Passes (D.history disk.old) (D.history disk.new) (λ s. s ≡ now (D.history disk.old)) }
     ensures cause { HasFault (D.faults disk.old) (D.faults disk.new) result }
     ensures sync_out { D.sync_out disk.new ≡ D.sync_out disk.old }
     ensures read_out { D.read_out disk.new ≡ D.read_out disk.old }
@@ -59,6 +60,7 @@ fn body_len(head: &[u8]) -> u32
 fn size_at<D: Disk>(disk: &mut D, f: FileNo, at: u32) -> Result<Option<usize>, DiskErr>
     ensures found { (entry : Found) → D.tells ≡ true → Spells (drop at (content (now (D.history disk.old)).reads f.0)) entry → IfOk result (λ size. size ≡ Some (size_of entry)) }
     ensures same { D.tells ≡ true → now (D.history disk.new) ≡ now (D.history disk.old) }
+    ensures moments { D.tells ≡ true → Passes (D.history disk.old) (D.history disk.new) (λ s. s ≡ now (D.history disk.old)) }
     ensures cause { HasFault (D.faults disk.old) (D.faults disk.new) result }
     ensures sync_out { D.sync_out disk.new ≡ D.sync_out disk.old }
     ensures read_out { D.read_out disk.new ≡ D.read_out disk.old }
@@ -85,6 +87,7 @@ fn entry_of<D: Disk>(
 ) -> Result<Option<Entry>, DiskErr>
     ensures found { (entry : Found) → D.tells ≡ true → size ≡ size_of entry → Spells (drop at (content (now (D.history disk.old)).reads f.0)) entry → IfOk result (λ found. found ≡ Some entry) }
     ensures same { D.tells ≡ true → now (D.history disk.new) ≡ now (D.history disk.old) }
+    ensures moments { D.tells ≡ true → Passes (D.history disk.old) (D.history disk.new) (λ s. s ≡ now (D.history disk.old)) }
     ensures cause { HasCause (D.faults disk.old) (D.faults disk.new) result }
     ensures sync_out { D.sync_out disk.new ≡ D.sync_out disk.old }
     ensures read_out { D.read_out disk.new ≡ D.read_out disk.old }
@@ -108,6 +111,7 @@ pub(crate) fn entry_at<D: Disk>(
 ) -> Result<Option<Entry>, DiskErr>
     ensures found { (entry : Found) → D.tells ≡ true → Spells (drop at (content (now (D.history disk.old)).reads f.0)) entry → IfOk result (λ found. found ≡ Some entry) }
     ensures same { D.tells ≡ true → now (D.history disk.new) ≡ now (D.history disk.old) }
+    ensures moments { D.tells ≡ true → Passes (D.history disk.old) (D.history disk.new) (λ s. s ≡ now (D.history disk.old)) }
     ensures cause { HasCause (D.faults disk.old) (D.faults disk.new) result }
     ensures sync_out { D.sync_out disk.new ≡ D.sync_out disk.old }
     ensures read_out { D.read_out disk.new ≡ D.read_out disk.old }

@@ -1,4 +1,5 @@
 // What holds of all logs that entries are appended to.
+ghost use Rattle.log_buffer.specs.Chance.{KeptIsLeft, CutsHaveNoChance, CutsKeep};
 ghost use Rattle.log_buffer.specs.Laws.{AppendedIsLast, AreBounded, NeverFalls, AppendsJoin};
 
 /// An entry that is appended is the log's last one, and stands where it was placed.
@@ -12,4 +13,13 @@ pub fn files_are_bounded()
     ensures bounded { AreBounded }
     ensures rises { NeverFalls }
     ensures joins { AppendsJoin }
+{}
+
+/// What a crash keeps of a log is in each image of the disk where no torn entry's checksum matches by
+/// chance; in files that were only cut short none does. A log whose last file has a torn end is kept
+/// whole, before the end is cut off and afterwards.
+pub fn kept_is_left()
+    ensures left { KeptIsLeft }
+    ensures cuts { CutsHaveNoChance }
+    ensures opening { CutsKeep }
 {}

@@ -1,12 +1,14 @@
 // Buffers that begin and end.
-ghost use Rattle.std.specs.Prelude.{◌≡◌, ◌≤◌, ◌<◌, ◌/◌, ◌%◌, ◌^◌, ◌*◌, ◌++◌, ◌∷◌, [], true, false, IfOk, IfErr};
+ghost use Rattle.std.specs.Prelude.{◌≡◌, ◌≤◌, ◌<◌, ◌/◌, ◌%◌, ◌^◌, ◌*◌, ◌++◌, ◌∷◌, [], true, false, None, length, IfOk, IfErr};
 ghost use Rattle.je_disk.specs.Moments.{now};
+ghost use Rattle.je_disk.specs.States.{synced_marks};
 ghost use Rattle.je_lsn.specs.Naming.{last_file};
 ghost use Rattle.log_entry.specs.Spelling.{spelling};
 ghost use Rattle.log_entry.specs.declared.entry.Entry.TheVariants.{FileHeader};
-ghost use Rattle.log_file.specs.Log.{Log, IsLog};
-ghost use Rattle.log_buffer.specs.Buffer.{disk_of, end_of, last_of, file_max_of, has_failed, tail_of, IsWritten};
+ghost use Rattle.log_file.specs.Log.{Log, IsLog, entries_of};
+ghost use Rattle.log_buffer.specs.Buffer.{disk_of, first_of, end_of, last_of, file_max_of, has_failed, tail_of, IsWritten};
 ghost use Rattle.log_buffer.specs.Log.{HasLog, EndsAt, ReadAs, ReadAsBut};
+ghost use Rattle.log_buffer.specs.Crash.{Holds};
 ghost use Rattle.log_buffer.specs.Flip.{lsn_of, header_size};
 
 use crate::LogBuffer;
@@ -31,6 +33,8 @@ impl<D: Disk> LogBuffer<D> {
         ensures written { IsWritten result }
         ensures log { (log : Log) → IsLog log → EndsAt log (at / 2 ^ 32) (at % 2 ^ 32) last → ReadAs D.tells (now (D.history disk)).reads log
             → HasLog D.tells (now (D.history disk)) result log }
+        ensures holds { D.tells ≡ true → (log : Log) → IsLog log → EndsAt log (at / 2 ^ 32) (at % 2 ^ 32) last → ReadAs D.tells (now (D.history disk)).reads log
+            → (now (D.history disk)).marks ≡ synced_marks (now (D.history disk)).reads → Holds log [] (length (entries_of log)) None (first_of result) (now (D.history disk)) }
     {
         let file = at.file();
         let offset = at.offset();
@@ -59,6 +63,8 @@ impl<D: Disk> LogBuffer<D> {
         ensures not_failed { IfOk result (λ buffer. has_failed buffer ≡ false) }
         ensures log { (before : Log) → IsLog (before ++ (file.0, []) ∷ []) → ReadAsBut D.tells file.0 (now (D.history disk)).reads before
             → IfOk result (λ buffer. HasLog D.tells (now (D.history disk)) buffer (before ++ (file.0, []) ∷ [])) }
+        ensures holds { D.tells ≡ true → (before : Log) → IsLog (before ++ (file.0, []) ∷ []) → ReadAsBut D.tells file.0 (now (D.history disk)).reads before → (now (D.history disk)).marks ≡ synced_marks (now (D.history disk)).reads
+            → IfOk result (λ buffer. Holds (before ++ (file.0, []) ∷ []) [] (length (entries_of before)) None (first_of buffer) (now (D.history disk))) }
         ensures handed_back { IfErr result (λ given. given ≡ disk) }
     {
         match header_tail(alloc, file) {

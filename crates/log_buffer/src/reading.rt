@@ -1,12 +1,13 @@
 // What is read of the log, and files that go.
-ghost use Rattle.std.specs.Prelude.{◌≡◌, ◌≤◌, ◌<◌, ◌+◌, ◌*◌, ◌^◌, ◌-◌, ◌==◌, ◌↔◌, ◌⊎◌, ℕ, [], true, false, Some, None, drop, if◌then◌else◌, IsTrue, OnOk, OnErr, IfOk, IsErrOf};
-ghost use Rattle.je_disk.specs.Moments.{now};
+ghost use Rattle.std.specs.Prelude.{◌≡◌, ◌≤◌, ◌<◌, ◌+◌, ◌*◌, ◌^◌, ◌-◌, ◌==◌, ◌↔◌, ◌⊎◌, ℕ, [], true, false, Option, Some, None, drop, length, option_map, ◌++◌, if◌then◌else◌, IsTrue, OnOk, OnErr, IfOk, IsErrOf};
+ghost use Rattle.je_disk.specs.Moments.{now, Passes};
 ghost use Rattle.je_disk.specs.States.{content};
 ghost use Rattle.log_entry.specs.declared.entry.Entry.{Entry as Found};
-ghost use Rattle.log_file.specs.Log.{Log};
+ghost use Rattle.log_file.specs.Log.{Log, entries_of};
 ghost use Rattle.log_buffer.specs.Buffer.{disk_of, end_of, file_of, first_of, base_of, has_failed, tail_of, written_of, KeepsTail};
 ghost use Rattle.log_buffer.specs.Flip.{lsn_of};
-ghost use Rattle.log_buffer.specs.Log.{HasLog, Spells, StandsAt, log_without};
+ghost use Rattle.log_buffer.specs.Log.{HasLog, Spells, StandsAt, log_without, log_of, log_upto};
+ghost use Rattle.log_buffer.specs.Crash.{Holds, KeptThrough};
 ghost use Rattle.log_buffer.specs.Causes.{HasCause, FailsByFault};
 
 use crate::fetching::{entry_at, entry_in};
@@ -25,6 +26,12 @@ impl<D: Disk> LogBuffer<D> {
         ensures undamaged { (log : Log) (entry : Found) → D.tells ≡ true → HasLog D.tells (now (D.history (disk_of self.old))) self.old log → StandsAt log at entry
             → IsErrOf result LogErr.Damaged → ⊥ }
         ensures log { (log : Log) → HasLog D.tells (now (D.history (disk_of self.old))) self.old log → HasLog D.tells (now (D.history (disk_of self.new))) self.new log }
+        ensures same { D.tells ≡ true → now (D.history (disk_of self.new)) ≡ now (D.history (disk_of self.old)) }
+        ensures moments { D.tells ≡ true → Passes (D.history (disk_of self.old)) (D.history (disk_of self.new)) (λ s. s ≡ now (D.history (disk_of self.old))) }
+        ensures crash { D.tells ≡ true → (log removed : Log) (least : ℕ) (begun : Option ℕ) → HasLog D.tells (now (D.history (disk_of self.old))) self.old log → Holds log removed least begun (first_of self.old) (now (D.history (disk_of self.old)))
+            → KeptThrough (D.history (disk_of self.old)) (D.history (disk_of self.new)) log removed least }
+        ensures holds { D.tells ≡ true → (log removed : Log) (least : ℕ) (begun : Option ℕ) → HasLog D.tells (now (D.history (disk_of self.old))) self.old log → Holds log removed least begun (first_of self.old) (now (D.history (disk_of self.old)))
+            → Holds log removed least begun (first_of self.new) (now (D.history (disk_of self.new))) }
         ensures kept { KeepsTail self.old self.new }
         ensures not_full { IsErrOf result LogErr.Full → ⊥ }
         ensures cause { HasCause (has_failed self.old) (has_failed self.new) (D.faults (disk_of self.old)) (D.faults (disk_of self.new)) result }
@@ -44,6 +51,8 @@ impl<D: Disk> LogBuffer<D> {
         ensures found { (log : Log) (entry : Found) → D.tells ≡ true → HasLog D.tells (now (D.history (disk_of self.old))) self.old log → StandsAt log at entry
             → IfOk result (λ found. found ≡ Some entry) }
         ensures log { (log : Log) → HasLog D.tells (now (D.history (disk_of self.old))) self.old log → HasLog D.tells (now (D.history (disk_of self.new))) self.new log }
+        ensures same { D.tells ≡ true → now (D.history (disk_of self.new)) ≡ now (D.history (disk_of self.old)) }
+        ensures moments { D.tells ≡ true → Passes (D.history (disk_of self.old)) (D.history (disk_of self.new)) (λ s. s ≡ now (D.history (disk_of self.old))) }
         ensures kept { KeepsTail self.old self.new }
         ensures not_full { IsErrOf result LogErr.Full → ⊥ }
         ensures not_damaged { IsErrOf result LogErr.Damaged → ⊥ }
@@ -79,6 +88,8 @@ impl<D: Disk> LogBuffer<D> {
         requires { has_failed self.old ≡ false }
         ensures found { (entry : Found) → D.tells ≡ true → Spells (drop offset (content (now (D.history (disk_of self.old))).reads f.0)) entry → IfOk result (λ found. found ≡ Some entry) }
         ensures log { (log : Log) → HasLog D.tells (now (D.history (disk_of self.old))) self.old log → HasLog D.tells (now (D.history (disk_of self.new))) self.new log }
+        ensures same { D.tells ≡ true → now (D.history (disk_of self.new)) ≡ now (D.history (disk_of self.old)) }
+        ensures moments { D.tells ≡ true → Passes (D.history (disk_of self.old)) (D.history (disk_of self.new)) (λ s. s ≡ now (D.history (disk_of self.old))) }
         ensures kept { KeepsTail self.old self.new }
         ensures not_full { IsErrOf result LogErr.Full → ⊥ }
         ensures not_damaged { IsErrOf result LogErr.Damaged → ⊥ }
@@ -130,6 +141,12 @@ impl<D: Disk> LogBuffer<D> {
         ensures read_of { OnOk result (D.read_of (disk_of self.new) ≡ f.0) }
         ensures none_out { has_failed self.old ≡ false → OnErr result (D.read_out (disk_of self.new) ≡ None) }
         ensures log { (log : Log) → HasLog D.tells (now (D.history (disk_of self.old))) self.old log → HasLog D.tells (now (D.history (disk_of self.new))) self.new log }
+        ensures same { D.tells ≡ true → now (D.history (disk_of self.new)) ≡ now (D.history (disk_of self.old)) }
+        ensures moments { D.tells ≡ true → Passes (D.history (disk_of self.old)) (D.history (disk_of self.new)) (λ s. s ≡ now (D.history (disk_of self.old))) }
+        ensures crash { D.tells ≡ true → (log removed : Log) (least : ℕ) (begun : Option ℕ) → HasLog D.tells (now (D.history (disk_of self.old))) self.old log → Holds log removed least begun (first_of self.old) (now (D.history (disk_of self.old)))
+            → KeptThrough (D.history (disk_of self.old)) (D.history (disk_of self.new)) log removed least }
+        ensures holds { D.tells ≡ true → (log removed : Log) (least : ℕ) (begun : Option ℕ) → HasLog D.tells (now (D.history (disk_of self.old))) self.old log → Holds log removed least begun (first_of self.old) (now (D.history (disk_of self.old)))
+            → Holds log removed least begun (first_of self.new) (now (D.history (disk_of self.new))) }
         ensures kept { KeepsTail self.old self.new }
         ensures by_fault { FailsByFault result }
         ensures cause { HasCause (has_failed self.old) (has_failed self.new) (D.faults (disk_of self.old)) (D.faults (disk_of self.new)) result }
@@ -160,6 +177,12 @@ impl<D: Disk> LogBuffer<D> {
         ensures bytes { D.tells ≡ true → IfOk result (λ bytes. bytes.items ≡ content (now (D.history (disk_of self.old))).reads (D.read_of (disk_of self.old))) }
         ensures none_out { has_failed self.old ≡ false → D.read_out (disk_of self.new) ≡ None }
         ensures log { (log : Log) → HasLog D.tells (now (D.history (disk_of self.old))) self.old log → HasLog D.tells (now (D.history (disk_of self.new))) self.new log }
+        ensures same { D.tells ≡ true → now (D.history (disk_of self.new)) ≡ now (D.history (disk_of self.old)) }
+        ensures moments { D.tells ≡ true → Passes (D.history (disk_of self.old)) (D.history (disk_of self.new)) (λ s. s ≡ now (D.history (disk_of self.old))) }
+        ensures crash { D.tells ≡ true → (log removed : Log) (least : ℕ) (begun : Option ℕ) → HasLog D.tells (now (D.history (disk_of self.old))) self.old log → Holds log removed least begun (first_of self.old) (now (D.history (disk_of self.old)))
+            → KeptThrough (D.history (disk_of self.old)) (D.history (disk_of self.new)) log removed least }
+        ensures holds { D.tells ≡ true → (log removed : Log) (least : ℕ) (begun : Option ℕ) → HasLog D.tells (now (D.history (disk_of self.old))) self.old log → Holds log removed least begun (first_of self.old) (now (D.history (disk_of self.old)))
+            → Holds log removed least begun (first_of self.new) (now (D.history (disk_of self.new))) }
         ensures kept { KeepsTail self.old self.new }
         ensures not_full { IsErrOf result LogErr.Full → ⊥ }
         ensures not_damaged { IsErrOf result LogErr.Damaged → ⊥ }
@@ -185,6 +208,12 @@ impl<D: Disk> LogBuffer<D> {
     pub fn remove(&mut self, f: FileNo) -> Result<(), LogErr>
         requires { f.0 < written_of self.old }
         ensures log { (log : Log) → HasLog D.tells (now (D.history (disk_of self.old))) self.old log → OnOk result (HasLog D.tells (now (D.history (disk_of self.new))) self.new (log_without f.0 log)) }
+        ensures crash { D.tells ≡ true → (log removed : Log) (least : ℕ) (begun : Option ℕ) → HasLog D.tells (now (D.history (disk_of self.old))) self.old log → Holds log removed least begun (first_of self.old) (now (D.history (disk_of self.old)))
+            → length (entries_of (log_upto f.0 log)) < least
+            → KeptThrough (D.history (disk_of self.old)) (D.history (disk_of self.new)) (log_without f.0 log) (log_of f.0 log ++ removed) (least - length (entries_of (log_of f.0 log))) }
+        ensures holds { D.tells ≡ true → (log removed : Log) (least : ℕ) (begun : Option ℕ) → HasLog D.tells (now (D.history (disk_of self.old))) self.old log → Holds log removed least begun (first_of self.old) (now (D.history (disk_of self.old)))
+            → length (entries_of (log_upto f.0 log)) < least
+            → OnOk result (Holds (log_without f.0 log) (log_of f.0 log ++ removed) (least - length (entries_of (log_of f.0 log))) (option_map (λ n. n - length (entries_of (log_of f.0 log))) begun) (first_of self.new) (now (D.history (disk_of self.new)))) }
         ensures kept { KeepsTail self.old self.new }
         ensures by_fault { FailsByFault result }
         ensures cause { HasCause (has_failed self.old) (has_failed self.new) (D.faults (disk_of self.old)) (D.faults (disk_of self.new)) result }

@@ -1,11 +1,12 @@
 // Syncs, and the end of a buffer.
-ghost use Rattle.std.specs.Prelude.{◌≡◌, ◌≤◌, ℕ, true, false, Some, None, OnOk, OnErr, IfOk, IsErrOf};
+ghost use Rattle.std.specs.Prelude.{◌≡◌, ◌≤◌, [], ℕ, true, false, Option, Some, None, length, OnOk, OnErr, IfOk, IsErrOf};
 ghost use Rattle.je_disk.specs.Causes.{Rose};
 ghost use Rattle.je_disk.specs.Moments.{now};
 ghost use Rattle.je_disk.specs.States.{synced_marks};
-ghost use Rattle.log_file.specs.Log.{Log};
-ghost use Rattle.log_buffer.specs.Buffer.{disk_of, end_of, last_of, file_max_of, has_failed, IsWritten, KeepsTail};
+ghost use Rattle.log_file.specs.Log.{Log, entries_of};
+ghost use Rattle.log_buffer.specs.Buffer.{disk_of, first_of, end_of, last_of, file_max_of, has_failed, IsWritten, KeepsTail};
 ghost use Rattle.log_buffer.specs.Log.{HasLog, ReadAs};
+ghost use Rattle.log_buffer.specs.Crash.{KeepsLog, Holds, KeptThrough};
 ghost use Rattle.log_buffer.specs.Causes.{HasCause, FailsByFault};
 
 use crate::{LogBuffer, LogErr};
@@ -19,6 +20,10 @@ impl<D: Disk> LogBuffer<D> {
         ensures written { OnOk result (IsWritten self.new) }
         ensures log { (log : Log) → HasLog D.tells (now (D.history (disk_of self.old))) self.old log → OnOk result (HasLog D.tells (now (D.history (disk_of self.new))) self.new log) }
         ensures whole { (log : Log) → HasLog D.tells (now (D.history (disk_of self.old))) self.old log → OnOk result (ReadAs D.tells (now (D.history (disk_of self.new))).reads log) }
+        ensures crash { D.tells ≡ true → (log removed : Log) (least : ℕ) (begun : Option ℕ) → HasLog D.tells (now (D.history (disk_of self.old))) self.old log → Holds log removed least begun (first_of self.old) (now (D.history (disk_of self.old)))
+            → KeptThrough (D.history (disk_of self.old)) (D.history (disk_of self.new)) log removed least }
+        ensures holds { D.tells ≡ true → (log removed : Log) (least : ℕ) (begun : Option ℕ) → HasLog D.tells (now (D.history (disk_of self.old))) self.old log → Holds log removed least begun (first_of self.old) (now (D.history (disk_of self.old)))
+            → OnOk result (Holds log removed least (Some (length (entries_of log))) (first_of self.new) (now (D.history (disk_of self.new)))) }
         ensures end { end_of self.new ≡ end_of self.old }
         ensures last { last_of self.new ≡ last_of self.old }
         ensures file_max { file_max_of self.new ≡ file_max_of self.old }
@@ -45,6 +50,10 @@ impl<D: Disk> LogBuffer<D> {
         requires { D.sync_out (disk_of self.old) ≡ Some (D.Job.Done.done_number done) }
         ensures none_out { has_failed self.old ≡ false → D.sync_out (disk_of self.new) ≡ None }
         ensures log { (log : Log) → HasLog D.tells (now (D.history (disk_of self.old))) self.old log → OnOk result (HasLog D.tells (now (D.history (disk_of self.new))) self.new log) }
+        ensures crash { D.tells ≡ true → (log removed : Log) (least : ℕ) (begun : ℕ) → HasLog D.tells (now (D.history (disk_of self.old))) self.old log → Holds log removed least (Some begun) (first_of self.old) (now (D.history (disk_of self.old)))
+            → KeptThrough (D.history (disk_of self.old)) (D.history (disk_of self.new)) log removed least }
+        ensures holds { D.tells ≡ true → (log removed : Log) (least : ℕ) (begun : ℕ) → HasLog D.tells (now (D.history (disk_of self.old))) self.old log → Holds log removed least (Some begun) (first_of self.old) (now (D.history (disk_of self.old)))
+            → OnOk result (Holds log removed begun None (first_of self.new) (now (D.history (disk_of self.new)))) }
         ensures kept { KeepsTail self.old self.new }
         ensures by_fault { FailsByFault result }
         ensures cause { HasCause (has_failed self.old) (has_failed self.new) (D.faults (disk_of self.old)) (D.faults (disk_of self.new)) result }
@@ -71,6 +80,9 @@ impl<D: Disk> LogBuffer<D> {
     pub fn close(self) -> (D, Result<(), LogErr>)
         ensures whole { (log : Log) → HasLog D.tells (now (D.history (disk_of self))) self log → OnOk result.1 (ReadAs D.tells (now (D.history result.0)).reads log) }
         ensures stable { D.tells ≡ true → OnOk result.1 ((now (D.history result.0)).marks ≡ synced_marks (now (D.history result.0)).reads) }
+        ensures crash { D.tells ≡ true → (log removed : Log) (least : ℕ) (begun : Option ℕ) → HasLog D.tells (now (D.history (disk_of self))) self log → Holds log removed least begun (first_of self) (now (D.history (disk_of self)))
+            → KeptThrough (D.history (disk_of self)) (D.history result.0) log removed least }
+        ensures kept { D.tells ≡ true → (log : Log) → HasLog D.tells (now (D.history (disk_of self))) self log → OnOk result.1 (KeepsLog log [] (length (entries_of log)) (now (D.history result.0)).marks) }
         ensures by_fault { FailsByFault result.1 }
         ensures never_falls { D.faults (disk_of self) ≤ D.faults result.0 }
         ensures fault { has_failed self ≡ false → OnErr result.1 (Rose (D.faults (disk_of self)) (D.faults result.0)) }

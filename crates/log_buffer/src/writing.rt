@@ -1,12 +1,14 @@
 // The tail as it is written out.
-ghost use Rattle.std.specs.Prelude.{◌≡◌, ◌<◌, ◌≤◌, ℕ, List, true, false, length, OnOk, IfOk};
+ghost use Rattle.std.specs.Prelude.{◌≡◌, ◌<◌, ◌≤◌, ℕ, List, true, false, length, ◌-◌, Option, OnOk, IfOk};
 ghost use Rattle.je_disk.specs.Causes.{HasFault};
-ghost use Rattle.je_disk.specs.Moments.{now};
-ghost use Rattle.je_disk.specs.States.{put_at};
+ghost use Rattle.je_disk.specs.Moments.{now, Passes};
+ghost use Rattle.je_disk.specs.States.{put_at, created, synced, appended};
 ghost use Rattle.log_file.specs.Log.{Log};
-ghost use Rattle.log_buffer.specs.Buffer.{disk_of, end_of, last_of, file_max_of, has_failed, joined, HasRoom, IsWritten};
+ghost use Rattle.log_buffer.specs.Buffer.{disk_of, first_of, end_of, last_of, file_max_of, has_failed, joined, HasRoom, IsWritten};
 ghost use Rattle.log_buffer.specs.Tail.{bytes_for};
 ghost use Rattle.log_buffer.specs.Log.{HasLog, ReadAs};
+ghost use Rattle.log_buffer.specs.Crash.{Holds, KeptThrough};
+ghost use Rattle.log_buffer.specs.Writing.{IsTailOf, IsPutBehind, IsPutNext, put_behind};
 ghost use Rattle.log_buffer.specs.Causes.{HasCause, FailsByFault};
 
 use crate::tail::Tail;
@@ -17,6 +19,8 @@ use je_lsn::FileNo;
 // Writes bytes behind a file's; where there are none the disk is not touched.
 fn write_behind<D: Disk>(disk: &mut D, f: FileNo, bytes: &[u8]) -> Result<(), DiskErr>
     ensures done { D.tells ≡ true → OnOk result ((g : ℕ) → (now (D.history disk.new)).reads g ≡ put_at (now (D.history disk.old)).reads f.0 (joined ((now (D.history disk.old)).reads f.0) bytes.now) g) }
+    ensures state { D.tells ≡ true → OnOk result (now (D.history disk.new) ≡ put_behind f.0 bytes.now (now (D.history disk.old))) }
+    ensures moments { D.tells ≡ true → Passes (D.history disk.old) (D.history disk.new) (IsPutBehind f.0 bytes.now (now (D.history disk.old))) }
     ensures cause { HasFault (D.faults disk.old) (D.faults disk.new) result }
     ensures sync_out { D.sync_out disk.new ≡ D.sync_out disk.old }
     ensures read_out { D.read_out disk.new ≡ D.read_out disk.old }
@@ -32,6 +36,8 @@ fn write_behind<D: Disk>(disk: &mut D, f: FileNo, bytes: &[u8]) -> Result<(), Di
 fn write_file<D: Disk>(disk: &mut D, f: FileNo, bytes: &[u8]) -> Result<(), DiskErr>
     requires { 0 < length bytes.now }
     ensures done { D.tells ≡ true → OnOk result ((g : ℕ) → (now (D.history disk.new)).reads g ≡ put_at (now (D.history disk.old)).reads f.0 (joined ((now (D.history disk.old)).reads f.0) bytes.now) g) }
+    ensures state { D.tells ≡ true → OnOk result (now (D.history disk.new) ≡ appended f.0 bytes.now (created f.0 (synced (now (D.history disk.old))))) }
+    ensures moments { D.tells ≡ true → Passes (D.history disk.old) (D.history disk.new) (IsPutNext f.0 bytes.now (now (D.history disk.old))) }
     ensures cause { HasFault (D.faults disk.old) (D.faults disk.new) result }
     ensures sync_out { D.sync_out disk.new ≡ D.sync_out disk.old }
     ensures read_out { D.read_out disk.new ≡ D.read_out disk.old }
@@ -46,6 +52,10 @@ fn write_file<D: Disk>(disk: &mut D, f: FileNo, bytes: &[u8]) -> Result<(), Disk
 fn write_tail<D: Disk>(disk: &mut D, tail: &Tail, last: u32) -> Result<(), DiskErr>
     requires { length tail.now.starts.items ≤ last }
     ensures done { D.tells ≡ true → OnOk result ((f : ℕ) → (now (D.history disk.new)).reads f ≡ joined ((now (D.history disk.old)).reads f) (bytes_for tail.now.bytes.items tail.now.starts.items last f)) }
+    ensures crash { D.tells ≡ true → (log removed : Log) (least : ℕ) (begun : Option ℕ) → IsTailOf log (now (D.history disk.old)).reads (bytes_for tail.now.bytes.items tail.now.starts.items last) (last - length tail.now.starts.items) → Holds log removed least begun (last - length tail.now.starts.items) (now (D.history disk.old))
+        → KeptThrough (D.history disk.old) (D.history disk.new) log removed least }
+    ensures holds { D.tells ≡ true → (log removed : Log) (least : ℕ) (begun : Option ℕ) → IsTailOf log (now (D.history disk.old)).reads (bytes_for tail.now.bytes.items tail.now.starts.items last) (last - length tail.now.starts.items) → Holds log removed least begun (last - length tail.now.starts.items) (now (D.history disk.old))
+        → OnOk result (Holds log removed least begun last (now (D.history disk.new))) }
     ensures cause { HasFault (D.faults disk.old) (D.faults disk.new) result }
     ensures sync_out { D.sync_out disk.new ≡ D.sync_out disk.old }
     ensures read_out { D.read_out disk.new ≡ D.read_out disk.old }
@@ -68,6 +78,10 @@ impl<D: Disk> LogBuffer<D> {
         ensures written { OnOk result (IsWritten self.new) }
         ensures log { (log : Log) → HasLog D.tells (now (D.history (disk_of self.old))) self.old log → OnOk result (HasLog D.tells (now (D.history (disk_of self.new))) self.new log) }
         ensures whole { (log : Log) → HasLog D.tells (now (D.history (disk_of self.old))) self.old log → OnOk result (ReadAs D.tells (now (D.history (disk_of self.new))).reads log) }
+        ensures crash { D.tells ≡ true → (log removed : Log) (least : ℕ) (begun : Option ℕ) → HasLog D.tells (now (D.history (disk_of self.old))) self.old log → Holds log removed least begun (first_of self.old) (now (D.history (disk_of self.old)))
+            → KeptThrough (D.history (disk_of self.old)) (D.history (disk_of self.new)) log removed least }
+        ensures holds { D.tells ≡ true → (log removed : Log) (least : ℕ) (begun : Option ℕ) → HasLog D.tells (now (D.history (disk_of self.old))) self.old log → Holds log removed least begun (first_of self.old) (now (D.history (disk_of self.old)))
+            → OnOk result (Holds log removed least begun (first_of self.new) (now (D.history (disk_of self.new)))) }
         ensures end { end_of self.new ≡ end_of self.old }
         ensures last { last_of self.new ≡ last_of self.old }
         ensures room { (sizes : List ℕ) → HasRoom self.old sizes → OnOk result (HasRoom self.new sizes) }

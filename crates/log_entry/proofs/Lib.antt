@@ -1,3 +1,5 @@
+pub mod FieldLaws
+pub mod ItemLaws
 pub mod BodyLaws
 pub mod ReadingLaws
 pub mod WritingLaws

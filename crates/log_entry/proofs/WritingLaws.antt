@@ -25,6 +25,25 @@ keeps_then old x mid new is keeps =
     let len : length mid ≡ length old + length x = ap length is ∙ length-append old x in
     sym (take_less (length old) (length x) new) ∙ ap (λ (n : ℕ). take (length old) (take n new)) (sym len) ∙ ap (take (length old)) keeps ∙ keeps_front old x mid is
 
+-- what holds where a call failed
+pub on_err : {A E : Type 0} (r : Result A E) (P : Type 0) → P → OnErr r P
+on_err (Ok v) P h = tt
+on_err (Err e) P h = h
+
+-- three and four puts, one after another
+pub three_ok : {A E : Type 0} (r : Result A E) (old a b c d first second new : List ℕ) → first ≡ old ++ (a ++ b) → second ≡ first ++ c → OnOk r (new ≡ second ++ d) → OnOk r (new ≡ old ++ (a ++ (b ++ (c ++ d))))
+three_ok (Ok v) old a b c d first second new x y z =
+    let group : ((old ++ (a ++ b)) ++ c) ++ d ≡ old ++ (a ++ (b ++ (c ++ d))) = simp append_assoc in
+    z ∙ ap (λ (l : List ℕ). l ++ d) (y ∙ ap (λ (l : List ℕ). l ++ c) x) ∙ group
+three_ok (Err v) old a b c d first second new x y z = tt
+
+pub four_ok : {A E : Type 0} (r : Result A E) (old a b c d e f g h first second third new : List ℕ) → first ≡ old ++ (a ++ (b ++ c)) → second ≡ first ++ (d ++ (e ++ f)) → third ≡ second ++ g
+    → OnOk r (new ≡ third ++ h) → OnOk r (new ≡ old ++ (a ++ (b ++ (c ++ (d ++ (e ++ (f ++ (g ++ h))))))))
+four_ok (Ok v) old a b c d e f g h first second third new x y z is =
+    let group : (((old ++ (a ++ (b ++ c))) ++ (d ++ (e ++ f))) ++ g) ++ h ≡ old ++ (a ++ (b ++ (c ++ (d ++ (e ++ (f ++ (g ++ h))))))) = simp append_assoc in
+    is ∙ ap (λ (l : List ℕ). l ++ h) (z ∙ ap (λ (l : List ℕ). l ++ g) (y ∙ ap (λ (l : List ℕ). l ++ (d ++ (e ++ f))) x)) ∙ group
+four_ok (Err v) old a b c d e f g h first second third new x y z is = tt
+
 -- the parts of an entry before it is signed
 pub unsigned_ok : {A E : Type 0} (r : Result A E) (old first second new : List ℕ) (e : Entry) (prev k n : ℕ) → first ≡ old ++ to_be_bytes w32 0 → second ≡ first ++ head k prev n → k ≡ kind_of e → n ≡ body_size_of e
     → OnOk r (new ≡ second ++ body_of e) → OnOk r (new ≡ old ++ (to_be_bytes w32 0 ++ summed e prev))
@@ -42,6 +61,11 @@ pub unsigned_err : {A E : Type 0} (r : Result A E) (old first second new more : 
 unsigned_err (Ok v) old first second new more a text b keeps = tt
 unsigned_err (Err v) old first second new more a text b keeps =
     keeps_then old more first new a (keeps_then first text second new b keeps)
+
+pub fourth_err : {A E : Type 0} (r : Result A E) (old first second third new more text last : List ℕ) → first ≡ old ++ more → second ≡ first ++ text → third ≡ second ++ last → OnErr r (KeepsFront third new) → OnErr r (KeepsFront old new)
+fourth_err (Ok v) old first second third new more text last a b c keeps = tt
+fourth_err (Err v) old first second third new more text last a b c keeps =
+    keeps_then old more first new a (keeps_then first text second new b (keeps_then second last third new c keeps))
 
 -- an entry that is signed is spelled
 pub signed : (old mid new : List ℕ) (e : Entry) (prev : ℕ) → mid ≡ old ++ (to_be_bytes w32 0 ++ summed e prev)

@@ -1,3 +1,5 @@
+pub mod Fields
+pub mod Items
 pub mod Body
 pub mod Spelling
 pub mod Writing

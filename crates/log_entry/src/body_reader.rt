@@ -1,47 +1,28 @@
 // Bodies as they are read.
 ghost use Rattle.std.specs.Prelude.{◌≡◌, IfOk, MatchOption, Some, None};
-ghost use Rattle.log_entry.specs.Body.{string_in, name_in, file_header_in, put_in, delete_in, commit_in, entry_in};
+ghost use Rattle.log_entry.specs.Body.{file_header_in, put_in, delete_in, migrated_in, commit_in, internal_in, bin_in, delta_in, ckpt_start_in, ckpt_end_in, file_summary_in, entry_in};
 
 use crate::Entry;
+use crate::fields::{lsn_of, read_name, read_optional};
+use crate::items::{read_counted, read_rising};
 use je_bytes::Reader;
-use je_order::{Name, Octets, TxnId};
+use je_order::{Octets, TxnId};
 use std::alloc::{AllocError, Global};
-
-/// The greatest length of a key and of a dup, in bytes.
-const MAX_NAME: usize = 4_096;
 
 /// The greatest length of a value, in bytes.
 const MAX_VALUE: usize = 65_536;
 
+/// The most slots that a node has.
+const MOST_SLOTS: u32 = 128;
+
+/// The most roots that a checkpoint's end has.
+const MOST_ROOTS: u32 = 65_535;
+
+/// The most files that a summary has.
+const MOST_FILES: u32 = 1_000_000;
+
 /// The number that begins a file's header.
 pub(crate) const MAGIC: u32 = 0x4a45_4c47;
-
-#[tactic(auto, unfolding(crate::specs::Body::string_in))]
-fn read_string<'a>(reader: &mut Reader<'a>) -> Option<&'a [u8]>
-    ensures { MatchOption result (string_in reader.old ≡ None) (λ bytes. string_in reader.old ≡ Some (bytes.now, reader.new)) }
-{
-    let len = reader.u16().ok()? as usize;
-    if len > MAX_NAME {
-        return None;
-    }
-    reader.take(len).ok()
-}
-
-#[tactic(auto, unfolding(crate::specs::Body::name_in))]
-fn read_name(alloc: Global, reader: &mut Reader<'_>) -> Result<Option<Name>, AllocError>
-    ensures { IfOk result (λ found. MatchOption found (name_in reader.old ≡ None) (λ name. name_in reader.old ≡ Some (name, reader.new))) }
-{
-    let Some(key) = read_string(reader) else {
-        return Ok(None);
-    };
-    let Some(dup) = read_string(reader) else {
-        return Ok(None);
-    };
-    Ok(Some(Name {
-        key: Octets::from_slice(alloc, key)?,
-        dup: Octets::from_slice(alloc, dup)?,
-    }))
-}
 
 #[tactic(auto, unfolding(crate::specs::Body::file_header_in))]
 fn read_file_header(bytes: &[u8]) -> Option<Entry>
@@ -119,6 +100,177 @@ fn read_commit(bytes: &[u8]) -> Option<Entry>
     Some(Entry::Commit { txn: TxnId(txn) })
 }
 
+#[tactic(auto, unfolding(crate::specs::Body::migrated_in))]
+fn read_migrated(alloc: Global, bytes: &[u8]) -> Result<Option<Entry>, AllocError>
+    ensures { IfOk result (λ found. found ≡ migrated_in bytes.now) }
+{
+    let mut reader = Reader::new(bytes);
+    let Ok(db) = reader.u32() else {
+        return Ok(None);
+    };
+    let Some(name) = read_name(alloc, &mut reader)? else {
+        return Ok(None);
+    };
+    let value = reader.rest();
+    if value.len() > MAX_VALUE {
+        return Ok(None);
+    }
+    Ok(Some(Entry::Migrated {
+        db,
+        name,
+        value: Octets::from_slice(alloc, value)?,
+    }))
+}
+
+#[tactic(auto, unfolding(crate::specs::Body::internal_in))]
+fn read_internal(alloc: Global, bytes: &[u8]) -> Result<Option<Entry>, AllocError>
+    ensures { IfOk result (λ found. found ≡ internal_in bytes.now) }
+{
+    let mut reader = Reader::new(bytes);
+    let Ok(db) = reader.u32() else {
+        return Ok(None);
+    };
+    let Ok(node) = reader.u64() else {
+        return Ok(None);
+    };
+    let Ok(level) = reader.u8() else {
+        return Ok(None);
+    };
+    let Some(slots) = read_counted(alloc, &mut reader, MOST_SLOTS)? else {
+        return Ok(None);
+    };
+    if level < 2 || level > 64 || slots.is_empty() || !reader.rest().is_empty() {
+        return Ok(None);
+    }
+    Ok(Some(Entry::In {
+        db,
+        node,
+        level,
+        slots,
+    }))
+}
+
+#[tactic(auto, unfolding(crate::specs::Body::bin_in))]
+fn read_bin(alloc: Global, bytes: &[u8]) -> Result<Option<Entry>, AllocError>
+    ensures { IfOk result (λ found. found ≡ bin_in bytes.now) }
+{
+    let mut reader = Reader::new(bytes);
+    let Ok(db) = reader.u32() else {
+        return Ok(None);
+    };
+    let Ok(node) = reader.u64() else {
+        return Ok(None);
+    };
+    let Some(slots) = read_counted(alloc, &mut reader, MOST_SLOTS)? else {
+        return Ok(None);
+    };
+    if !reader.rest().is_empty() {
+        return Ok(None);
+    }
+    Ok(Some(Entry::Bin { db, node, slots }))
+}
+
+#[tactic(auto, unfolding(crate::specs::Body::delta_in))]
+fn read_delta(alloc: Global, bytes: &[u8]) -> Result<Option<Entry>, AllocError>
+    ensures { IfOk result (λ found. found ≡ delta_in bytes.now) }
+{
+    let mut reader = Reader::new(bytes);
+    let Ok(db) = reader.u32() else {
+        return Ok(None);
+    };
+    let Ok(node) = reader.u64() else {
+        return Ok(None);
+    };
+    let Ok(full) = reader.u64() else {
+        return Ok(None);
+    };
+    let Some(slots) = read_counted(alloc, &mut reader, MOST_SLOTS)? else {
+        return Ok(None);
+    };
+    if !reader.rest().is_empty() {
+        return Ok(None);
+    }
+    Ok(Some(Entry::BinDelta {
+        db,
+        node,
+        full: lsn_of(full),
+        slots,
+    }))
+}
+
+#[tactic(auto, unfolding(crate::specs::Body::ckpt_start_in))]
+fn read_ckpt_start(bytes: &[u8]) -> Option<Entry>
+    ensures { result ≡ ckpt_start_in bytes.now }
+{
+    let mut reader = Reader::new(bytes);
+    let number = reader.u64().ok()?;
+    if !reader.rest().is_empty() {
+        return None;
+    }
+    Some(Entry::CkptStart { number })
+}
+
+#[tactic(auto, unfolding(crate::specs::Body::ckpt_end_in))]
+fn read_ckpt_end(alloc: Global, bytes: &[u8]) -> Result<Option<Entry>, AllocError>
+    ensures { IfOk result (λ found. found ≡ ckpt_end_in bytes.now) }
+{
+    let mut reader = Reader::new(bytes);
+    let Ok(number) = reader.u64() else {
+        return Ok(None);
+    };
+    let Ok(start) = reader.u64() else {
+        return Ok(None);
+    };
+    let Ok(redo) = reader.u64() else {
+        return Ok(None);
+    };
+    let Ok(last_txn) = reader.u64() else {
+        return Ok(None);
+    };
+    let Ok(last_node) = reader.u64() else {
+        return Ok(None);
+    };
+    let Ok(last_db) = reader.u32() else {
+        return Ok(None);
+    };
+    let Some(summary) = read_optional(&mut reader) else {
+        return Ok(None);
+    };
+    let Some(roots) = read_counted(alloc, &mut reader, MOST_ROOTS)? else {
+        return Ok(None);
+    };
+    if !reader.rest().is_empty() {
+        return Ok(None);
+    }
+    Ok(Some(Entry::CkptEnd {
+        number,
+        start: lsn_of(start),
+        redo: lsn_of(redo),
+        last_txn: TxnId(last_txn),
+        last_node,
+        last_db,
+        summary,
+        roots,
+    }))
+}
+
+#[tactic(auto, unfolding(crate::specs::Body::file_summary_in, crate::specs::Items::counted_in))]
+fn read_file_summary(alloc: Global, bytes: &[u8]) -> Result<Option<Entry>, AllocError>
+    ensures { IfOk result (λ found. found ≡ file_summary_in bytes.now) }
+{
+    let mut reader = Reader::new(bytes);
+    let Ok(count) = reader.u32() else {
+        return Ok(None);
+    };
+    let Some(files) = read_rising(alloc, &mut reader, MOST_FILES, count)? else {
+        return Ok(None);
+    };
+    if !reader.rest().is_empty() {
+        return Ok(None);
+    }
+    Ok(Some(Entry::FileSummary { files }))
+}
+
 // The entry of a kind whose body is these bytes, all of them.
 #[tactic(auto, unfolding(crate::specs::Body::entry_in))]
 pub(crate) fn read_body(alloc: Global, kind: u8, bytes: &[u8]) -> Result<Option<Entry>, AllocError>
@@ -128,7 +280,14 @@ pub(crate) fn read_body(alloc: Global, kind: u8, bytes: &[u8]) -> Result<Option<
         1 => Ok(read_file_header(bytes)),
         2 => read_put(alloc, bytes),
         3 => read_delete(alloc, bytes),
+        4 => read_migrated(alloc, bytes),
         5 => Ok(read_commit(bytes)),
+        7 => read_internal(alloc, bytes),
+        8 => read_bin(alloc, bytes),
+        9 => read_delta(alloc, bytes),
+        10 => Ok(read_ckpt_start(bytes)),
+        11 => read_ckpt_end(alloc, bytes),
+        12 => read_file_summary(alloc, bytes),
         _ => Ok(None),
     }
 }

@@ -1,20 +1,33 @@
 //! Log entries: what the log keeps, and the one spelling of each as bytes. It stands on `je_bytes` for
-//! numbers and the checksum, and on `je_order` for names. Upward it promises that `encode` writes an
+//! numbers and the checksum, on `je_order` for names, and on `je_lsn`. Upward it promises that `encode` writes an
 //! entry's spelling and `decode` finds exactly what was written, whatever follows it; that no spelling
 //! begins another; and, of a file, what its run of entries is and how an append makes it longer.
 #![tactic(auto)]
 
 pub mod body_reader;
 pub mod body_writer;
+pub mod child_slot;
 pub mod decoder;
 pub mod encoder;
 pub mod entry;
+pub mod fields;
+pub mod file_usage;
+pub mod item;
+pub mod items;
 pub mod laws;
+pub mod record_slot;
+pub mod root;
 
+pub use child_slot::ChildSlot;
 pub use decoder::{Decoded, Torn, decode, decode_at};
 pub use encoder::{encode, encode_onto, size};
 pub use entry::Entry;
+pub use file_usage::FileUsage;
 pub use laws::{one_spelling, runs_are_spellings};
+pub use record_slot::RecordSlot;
+pub use root::Root;
 
 #[cfg(test)]
 mod tests;
+#[cfg(test)]
+mod vectors;

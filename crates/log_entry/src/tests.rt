@@ -2,8 +2,7 @@ ghost use Rattle.std.specs.Prelude.{◌≤◌, length, IfOk};
 ghost use Rattle.log_entry.specs.Body.{IsEntry};
 
 use crate::{
-    Decoded, Entry, Torn, decode, decode_at, encode, encode_onto, one_spelling, runs_are_spellings,
-    size,
+    Decoded, Entry, Torn, decode, decode_at, encode_onto, one_spelling, runs_are_spellings, size,
 };
 use byteorder::{BigEndian, ByteOrder};
 use je_bytes::adler32;
@@ -37,82 +36,66 @@ fn put(alloc: Global, txn: u64, db: u32, key: &[u8], value: &[u8]) -> Result<Ent
     })
 }
 
+// Whether this entry stands at an offset of the file, with this prev field and this length.
+fn stands_at(
+    alloc: Global,
+    at: usize,
+    entry: Entry,
+    prev: u32,
+    len: usize,
+) -> Result<bool, AllocError>
+    requires { at ≤ 138 }
+{
+    Ok(decode_at(alloc, file(), at)? == Decoded::Whole { entry, prev, len })
+}
+
 #[test]
 fn decodes_a_file(rt: HostRuntime) -> Result<(), Fail> {
     let alloc = rt.alloc();
-    let rows = [
-        (
-            0,
-            Entry::FileHeader {
-                version: 1,
-                file: 0,
-            },
-            0,
-            26,
-        ),
-        (26, put(alloc, 1, 0, b"t", b"\x00\x00\x00\x01\x00")?, 0, 36),
-        (62, Entry::Commit { txn: TxnId(1) }, 26, 22),
-        (84, put(alloc, 2, 1, b"a", b"1")?, 62, 32),
-        (116, Entry::Commit { txn: TxnId(2) }, 84, 22),
-    ];
-    let bytes = file();
-    for (at, entry, prev, len) in rows {
-        assert!(rt; at <= 138);
-        assert_eq!(rt;
-            decode_at(alloc, bytes, at)?,
-            Decoded::Whole { entry, prev, len }
-        );
-    }
+    let header = Entry::FileHeader {
+        version: 1,
+        file: 0,
+    };
+    assert!(rt; stands_at(alloc, 0, header, 0, 26)?);
+    let made = put(alloc, 1, 0, b"t", b"\x00\x00\x00\x01\x00")?;
+    assert!(rt; stands_at(alloc, 26, made, 0, 36)?);
+    let commit = Entry::Commit { txn: TxnId(1) };
+    assert_eq!(rt; size(&commit), 22);
+    assert!(rt; stands_at(alloc, 62, commit, 26, 22)?);
+    let pair = put(alloc, 2, 1, b"a", b"1")?;
+    assert!(rt; stands_at(alloc, 84, pair, 62, 32)?);
+    let commit = Entry::Commit { txn: TxnId(2) };
+    assert!(rt; stands_at(alloc, 116, commit, 84, 22)?);
     Ok(())
+}
+
+// Puts a copy of the entry at the end.
+fn put_onto(bytes: &mut Vec<u8>, entry: Entry, prev: u32) -> Result<(), AllocError>
+    requires { IsEntry entry }
+{
+    encode_onto(&copy_of(&entry)?, prev, bytes)
 }
 
 #[test]
 fn encodes_a_file(rt: HostRuntime) -> Result<(), Fail> {
     let alloc = rt.alloc();
-    let mut bytes = encode(
-        alloc,
-        &Entry::FileHeader {
-            version: 1,
-            file: 0,
-        },
+    let mut bytes = Vec::new(alloc);
+    let header = Entry::FileHeader {
+        version: 1,
+        file: 0,
+    };
+    put_onto(&mut bytes, header, 0)?;
+    put_onto(
+        &mut bytes,
+        put(alloc, 1, 0, b"t", b"\x00\x00\x00\x01\x00")?,
         0,
     )?;
-    let catalog = put(alloc, 1, 0, b"t", b"\x00\x00\x00\x01\x00")?;
-    assert_eq!(rt; size(&catalog), 36);
-    encode_onto(&catalog, 0, &mut bytes)?;
-    encode_onto(&Entry::Commit { txn: TxnId(1) }, 26, &mut bytes)?;
-    let record = put(alloc, 2, 1, b"a", b"1")?;
-    encode_onto(&copy_of(&record)?, 62, &mut bytes)?;
-    encode_onto(&Entry::Commit { txn: TxnId(2) }, 84, &mut bytes)?;
+    put_onto(&mut bytes, Entry::Commit { txn: TxnId(1) }, 26)?;
+    put_onto(&mut bytes, put(alloc, 2, 1, b"a", b"1")?, 62)?;
+    put_onto(&mut bytes, Entry::Commit { txn: TxnId(2) }, 84)?;
     assert_eq!(rt; bytes.as_slice(), file().as_slice());
     one_spelling();
     runs_are_spellings();
-    Ok(())
-}
-
-#[test]
-fn finds_a_delete_again(rt: HostRuntime) -> Result<(), Fail> {
-    let alloc = rt.alloc();
-    let name = Name {
-        key: Octets::from_slice(alloc, b"k")?,
-        dup: Octets::from_slice(alloc, b"dd")?,
-    };
-    let entry = Entry::Delete {
-        txn: TxnId(7),
-        db: 3,
-        name,
-    };
-    let mut bytes = encode(alloc, &entry, 5)?;
-    assert_eq!(rt; size(&entry), 33);
-    bytes.extend_from_slice(b"what follows")?;
-    assert_eq!(rt;
-        decode(alloc, &bytes)?,
-        Decoded::Whole {
-            entry,
-            prev: 5,
-            len: 33
-        }
-    );
     Ok(())
 }
 

@@ -7,7 +7,7 @@ use Rattle.std.specs.List.{AllByRecursion}
 use Rattle.je_bytes.specs.Reading.{AreBytes}
 use Rattle.je_bytes.proofs.Fields.{AreBytes-drop}
 use Rattle.log_entry.specs.declared.entry.Entry.{Entry}
-use Rattle.log_entry.specs.declared.entry.Entry.TheVariants.{FileHeader, Put, Delete, Commit}
+use Rattle.log_entry.specs.declared.entry.Entry.TheVariants.{FileHeader}
 use Rattle.log_entry.specs.declared.decoder.Decoded.{Decoded}
 use Rattle.log_entry.specs.declared.decoder.Decoded.TheVariants.{Whole, Torn as NotWhole}
 use Rattle.log_entry.specs.Body.{IsEntry}
@@ -19,7 +19,7 @@ use Rattle.log_entry.proofs.RunLaws.{run_on-is, run_on-spelled, run_on-torn}
 use Rattle.log_file.specs.declared.file_run.FileRun.{FileRun}
 use Rattle.log_file.specs.declared.found.Found.{Found}
 use Rattle.log_file.specs.declared.found.Found.TheVariants.{Run, VersionUnknown, Damaged}
-use Rattle.log_file.specs.Scan.{may_follow, sizes_of, front, entries_behind, run_with, found_first, found_by, found_in}
+use Rattle.log_file.specs.Scan.{may_follow, no_run, sizes_of, front, entries_behind, run_with, found_first, found_by, found_in}
 use Rattle.log_file.specs.Log.{file_bytes, AreFileEntries}
 use Rattle.log_file.specs.Laws.{AreFoundAgain, IsSpelledBack, AreSpelledBack, AreLongest}
 use Rattle.log_file.specs.Scanning.{run_at}
@@ -96,13 +96,15 @@ headed_by f bytes run version file prev len first is = by_prev (prev == 0) (vers
       run_is = sym (same_run _ _ h);
     }
 
+headless : (follows : Bool) (run : FileRun) → cond follows Damaged (Run no_run) ≡ Run run → 0 < run.end → ⊥
+headless true run is some = absurd cc
+headless false run is some = let none : 0 ≡ run.end = ap (λ (r : FileRun). r.end) (same_run no_run run is) in absurd (omega arith)
+
 headed_at : (f : ℕ) (bytes : List ℕ) (run : FileRun) (d : Decoded) → decoded bytes ≡ d → found_by f bytes d ≡ Run run → 0 < run.end → IsHeaded f bytes run
 headed_at f bytes run (NotWhole torn) first is some =
     let none : 0 ≡ run.end = ap (λ (r : FileRun). r.end) (same_run _ _ is) in absurd (omega arith)
 headed_at f bytes run (Whole (FileHeader version file) prev len) first is some = headed_by f bytes run version file prev len first is
-headed_at f bytes run (Whole (Put txn db name value) prev len) first is some = absurd cc
-headed_at f bytes run (Whole (Delete txn db name) prev len) first is some = absurd cc
-headed_at f bytes run (Whole (Commit txn) prev len) first is some = absurd cc
+headed_at f bytes run (Whole entry prev len) first is some = absurd (headless (may_follow entry) run is some)
 
 pub headed : (f : ℕ) (bytes : List ℕ) (run : FileRun) → found_in f bytes ≡ Run run → 0 < run.end → IsHeaded f bytes run
 headed f bytes run is some = headed_at f bytes run (decoded bytes) refl is some

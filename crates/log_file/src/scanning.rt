@@ -1,7 +1,7 @@
 // Scanning the bytes of a file.
 ghost use Rattle.std.specs.Prelude.{◌≡◌, ◌≤◌, ◌<◌, ◌^◌, length, IfOk, MatchOption};
 ghost use Rattle.log_entry.specs.Spelling.{size_of};
-ghost use Rattle.log_file.specs.Scan.{may_follow as may_follow_header, run_with, entries_behind, found_in, found_first};
+ghost use Rattle.log_file.specs.Scan.{may_follow as may_follow_header, no_run as nothing_run, run_with, entries_behind, found_in, found_headless as headless, found_first};
 ghost use Rattle.log_file.specs.Scanning.{IsNext, IsLast};
 
 use crate::{FileRun, Found};
@@ -16,11 +16,14 @@ const VERSION: u32 = 1;
 // How many bytes a file's header has.
 const HEADER_BYTES: u32 = 26;
 
-// Whether an entry may stand behind a file's header.
+// Whether an entry may stand behind a file's header. Entries of kinds that have no meaning yet may not.
 fn may_follow(entry: &Entry) -> bool
     ensures { result ≡ may_follow_header entry.now }
 {
-    !matches!(entry, Entry::FileHeader { .. })
+    matches!(
+        entry,
+        Entry::Put { .. } | Entry::Delete { .. } | Entry::Commit { .. }
+    )
 }
 
 // The next entry of a run, and where it ends.
@@ -71,6 +74,28 @@ fn scan_behind(alloc: Global, bytes: &[u8]) -> Result<FileRun, AllocError>
     })
 }
 
+// A file without a run.
+fn no_run(alloc: Global) -> FileRun
+    ensures { result ≡ nothing_run }
+{
+    FileRun {
+        entries: List::new(alloc),
+        last: 0,
+        end: 0,
+    }
+}
+
+// What bytes are whose first entry is this one, which is no header.
+fn found_headless(alloc: Global, first: &Entry) -> Found
+    ensures { result ≡ headless first.now }
+{
+    if may_follow(first) {
+        Found::Damaged
+    } else {
+        Found::Run(no_run(alloc))
+    }
+}
+
 // What bytes are whose first entry is this one, with this prev field.
 fn found_behind(
     alloc: Global,
@@ -83,7 +108,7 @@ fn found_behind(
     ensures { IfOk result (λ found. found ≡ found_first f.0 bytes.now prev first.now) }
 {
     let Entry::FileHeader { version, file } = first else {
-        return Ok(Found::Damaged);
+        return Ok(found_headless(alloc, first));
     };
     if prev != 0 {
         return Ok(Found::Damaged);
@@ -104,10 +129,6 @@ pub fn scan_bytes(alloc: Global, bytes: &[u8], f: FileNo) -> Result<Found, Alloc
 {
     match decode(alloc, bytes)? {
         Decoded::Whole { entry, prev, .. } => found_behind(alloc, bytes, f, &entry, prev),
-        Decoded::Torn(_) => Ok(Found::Run(FileRun {
-            entries: List::new(alloc),
-            last: 0,
-            end: 0,
-        })),
+        Decoded::Torn(_) => Ok(Found::Run(no_run(alloc))),
     }
 }

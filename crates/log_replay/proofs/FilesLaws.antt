@@ -4,7 +4,7 @@ use Rattle.std.proofs.lemmas.List.{append-nil}
 use Rattle.std.specs.List.{AllByRecursion}
 use Rattle.je_bytes.specs.Reading.{AreBytes}
 use Rattle.log_entry.specs.declared.entry.Entry.{Entry}
-use Rattle.log_entry.specs.declared.entry.Entry.TheVariants.{FileHeader, Put, Delete, Commit}
+use Rattle.log_entry.specs.declared.entry.Entry.TheVariants.{FileHeader}
 use Rattle.log_entry.specs.declared.decoder.Decoded.{Decoded}
 use Rattle.log_entry.specs.declared.decoder.Decoded.TheVariants.{Whole, Torn as NotWhole}
 use Rattle.log_entry.specs.Reading.{decoded}
@@ -37,9 +37,7 @@ entries_found-are f bytes are = by_first (decoded bytes) refl
     by_first : (d : Decoded) → decoded bytes ≡ d → AreFileEntries (entries_found (found_by f bytes d))
     by_first (NotWhole torn) is = no_entries
     by_first (Whole (FileHeader version file) prev len) is = entries_of-first f bytes version file prev len are is
-    by_first (Whole (Put txn db name value) prev len) is = no_entries
-    by_first (Whole (Delete txn db name) prev len) is = no_entries
-    by_first (Whole (Commit txn) prev len) is = no_entries
+    by_first (Whole entry prev len) is = no_entries
 
 -- ---- several files
 

@@ -6,7 +6,7 @@ use Rattle.je_order.specs.declared.name.Name.{Name}
 use Rattle.je_order.specs.Order.{name_cmp}
 use Rattle.std.specs.Ordering.{is_eq, is_lt, is_gt}
 use Rattle.log_entry.specs.declared.entry.Entry.{Entry}
-use Rattle.log_entry.specs.declared.entry.Entry.TheVariants.{FileHeader, Put, Delete, Commit}
+use Rattle.log_entry.specs.declared.entry.Entry.TheVariants.{Put, Delete, Commit}
 use Rattle.log_file.specs.Log.{Log, entries_of}
 use Rattle.log_replay.specs.declared.replayed.Replayed.{Replayed}
 use Rattle.log_replay.specs.Rows.{Row, Rows, RowChange, rows_in, row_changed, rows_changed, rows_with, number_in, store_of}
@@ -82,7 +82,6 @@ put_within last_db db value h = (
 -- an entry within the numbers keeps a replay within them
 within-entry : (last_txn last_db : ℕ) (entry : Entry) (replay : Replay) → txn_in entry ≤ last_txn → db_in entry ≤ last_db →
     IsReplayWithin last_txn last_db replay → IsReplayWithin last_txn last_db (replayed_entry entry replay)
-within-entry last_txn last_db (FileHeader version file) replay txn_fits db_fits all = all
 within-entry last_txn last_db (Put txn db name value) replay txn_fits db_fits all =
     let fits = put_within last_db db value db_fits in
     record {
@@ -100,6 +99,7 @@ within-entry last_txn last_db (Commit txn) replay txn_fits db_fits all = record 
   rows = within-all_changed last_txn last_db (changes_of txn.0 replay.pending) replay.rows
       (all_filter (IsWithin last_txn last_db) (λ c. c.txn == txn.0) replay.pending all.pending) all.rows;
 }
+within-entry last_txn last_db entry replay txn_fits db_fits all = all
 
 -- and so do several entries
 within-replayed : (last_txn last_db : ℕ) (entries : List Entry) (replay : Replay) →

@@ -11,11 +11,10 @@ use Rattle.log_entry.specs.declared.entry.Entry.TheVariants.{Commit}
 use Rattle.log_entry.specs.Spelling.{size_of}
 use Rattle.log_file.specs.Scan.{may_follow}
 use Rattle.je_model.specs.declared.change.Change.{Change}
-use Rattle.je_model.specs.declared.change.Change.TheVariants.{Set, Unset, Make}
+use Rattle.je_model.specs.declared.change.Change.TheVariants.{Set, Unset, Make, Remove, Rename, Empty}
 use Rattle.je_model.specs.declared.store.Kind.TheVariants.{Plain}
 use Rattle.je_model.specs.Store.{changed}
 use Rattle.je_model.specs.Evaluation.{plain_name}
-use Rattle.db_catalog.specs.declared.db_record.DbKind.TheVariants.{Plain as PlainRecord}
 use Rattle.log_replay.specs.Rows.{Row, Rows, no_rows, RowChange, row_changed, rows_changed, number_in, numbers_of, is_environment, IsRising, store_of}
 use Rattle.log_replay.specs.Replay.{Replay, nothing_replayed, changes_of, changes_of_others, replayed_entry, replayed}
 use Rattle.log_replay.specs.Logging.{entry_of, logged_bytes}
@@ -33,6 +32,9 @@ pub size_of-entry_of : (txn number : ℕ) (change : Change) → size_of (entry_o
 size_of-entry_of txn number (Set db at value) = refl
 size_of-entry_of txn number (Unset db at) = refl
 size_of-entry_of txn number (Make db Plain) = refl
+size_of-entry_of txn number (Remove db) = refl
+size_of-entry_of txn number (Rename db to) = refl
+size_of-entry_of txn number (Empty db) = refl
 
 -- how many bytes a transaction of one change takes
 pub size-logged : (txn number : ℕ) (change : Change) → size_of (entry_of txn number change) + size_of (Commit (record { 0 = txn })) ≡ logged_bytes (change ∷ [])
@@ -43,6 +45,9 @@ pub follows-entry_of : (txn number : ℕ) (change : Change) → may_follow (entr
 follows-entry_of txn number (Set db at value) = refl
 follows-entry_of txn number (Unset db at) = refl
 follows-entry_of txn number (Make db kind) = refl
+follows-entry_of txn number (Remove db) = refl
+follows-entry_of txn number (Rename db to) = refl
+follows-entry_of txn number (Empty db) = refl
 
 -- ---- entries behind a log
 
@@ -52,12 +57,18 @@ replayed-entry_of : (txn number : ℕ) (change : Change) (replay : Replay) →
 replayed-entry_of txn number (Set db at value) replay = refl
 replayed-entry_of txn number (Unset db at) replay = refl
 replayed-entry_of txn number (Make db kind) replay = refl
+replayed-entry_of txn number (Remove db) replay = refl
+replayed-entry_of txn number (Rename db to) replay = refl
+replayed-entry_of txn number (Empty db) replay = refl
 
 -- a change is logged by its transaction
 row_change_of-txn : (txn number : ℕ) (change : Change) → (row_change_of txn number change).txn ≡ txn
 row_change_of-txn txn number (Set db at value) = refl
 row_change_of-txn txn number (Unset db at) = refl
 row_change_of-txn txn number (Make db kind) = refl
+row_change_of-txn txn number (Remove db) = refl
+row_change_of-txn txn number (Rename db to) = refl
+row_change_of-txn txn number (Empty db) = refl
 
 -- a transaction of one change, later than the pending ones, does this change and leaves them
 replayed-transaction : (last_txn last_db txn : ℕ) (c : RowChange) (replay : Replay) → AllByRecursion (IsOfBefore last_txn last_db) replay.pending →
@@ -110,14 +121,20 @@ within-row_change_of rows last_db txn number (Unset db at) env numbers may = rec
 within-row_change_of rows last_db txn number (Make db Plain) env numbers may = record {
   txn = omega arith;
   db = omega arith;
-  number = λ e. subst (λ n. n ≤ number) (sym (number_in-record number PlainRecord may.4)) (omega arith);
+  number = λ e. subst (λ n. n ≤ number) (sym (number_in-record number may.4)) (omega arith);
 }
+within-row_change_of rows last_db txn number (Remove db) env numbers may = absurd may
+within-row_change_of rows last_db txn number (Rename db to) env numbers may = absurd may
+within-row_change_of rows last_db txn number (Empty db) env numbers may = absurd may
 
 -- no change takes a number back
 last_db-grows : (rows : Rows) (last_db number : ℕ) (change : Change) → MayBeLogged rows last_db number change → last_db ≤ last_db_after last_db number change
 last_db-grows rows last_db number (Set db at value) may = omega arith
 last_db-grows rows last_db number (Unset db at) may = omega arith
 last_db-grows rows last_db number (Make db kind) may = omega (arith, may.3)
+last_db-grows rows last_db number (Remove db) may = absurd may
+last_db-grows rows last_db number (Rename db to) may = absurd may
+last_db-grows rows last_db number (Empty db) may = absurd may
 
 -- ---- a transaction in the log
 

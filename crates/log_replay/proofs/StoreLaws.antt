@@ -5,7 +5,6 @@ use mathlib.Core.Path.{fun_ext}
 use Rattle.std.proofs.lemmas.Bool.{and_parts, and_from, cases_Bool, cond_both, cond-true, cond-false, true≢false, eqb-true, eqb-false, eq-eqb, ne_eqb, not-true, not_from_false, le-leb, leb-true}
 use Rattle.std.proofs.lemmas.Option.{same_Some}
 use Rattle.std.proofs.lemmas.List.{map-append, length-map, nil_from_length}
-use Rattle.std.proofs.lemmas.Nat.{from_be_bytes-to_be_bytes_4}
 use Rattle.je_order.specs.Order.{bytes_cmp, name_cmp}
 use Rattle.je_order.specs.Words.{is_word}
 use Rattle.je_order.specs.declared.name.Name.{Name}
@@ -14,14 +13,14 @@ use Rattle.je_model.specs.declared.store.Database.{Database}
 use Rattle.je_model.specs.declared.store.Kind.TheVariants.{Plain}
 use Rattle.je_model.specs.declared.store.TheConstants.{MOST_DATABASES}
 use Rattle.je_model.specs.declared.change.Change.{Change}
-use Rattle.je_model.specs.declared.change.Change.TheVariants.{Set, Unset, Make}
+use Rattle.je_model.specs.declared.change.Change.TheVariants.{Set, Unset, Make, Remove, Rename, Empty}
 use Rattle.je_model.specs.Store.{is_same, database_of, with_pairs, in_database, databases_with, pairs_with, pairs_without, changed}
 use Rattle.je_model.specs.Evaluation.{plain_name}
-use Rattle.db_catalog.specs.declared.db_record.DbKind.{DbKind}
-use Rattle.db_catalog.specs.declared.db_record.DbKind.TheVariants.{Plain as PlainRecord}
+use Rattle.db_catalog.specs.declared.db_kind.DbKind.TheVariants.{Plain as PlainRecord}
 use Rattle.db_catalog.specs.Catalog.{record_bytes}
-use Rattle.log_replay.specs.Rows.{Row, Rows, RowChange, row_changed, rows_with, row_at, data_at, number_in, is_catalog_row, are_distinct, are_plain, numbers_of, is_environment, IsRising, pair_of, database_in, store_of}
-use Rattle.log_replay.specs.Logging.{kind_in_catalog}
+use Rattle.log_replay.specs.Rows.{Row, Rows, RowChange, row_changed, rows_with, row_at, data_at, number_or_0, number_in, is_catalog_row, are_distinct, are_plain, numbers_of, is_environment, IsRising, pair_of, database_in, store_of}
+use Rattle.db_catalog.specs.Planning.{kind_in_catalog}
+use Rattle.db_catalog.proofs.CatalogLaws.{record_in-again}
 use Rattle.log_replay.specs.Kept.{row_change_of, HasNumber, MayBeLogged}
 use Rattle.log_replay.proofs.ListLaws.{all_true, all_from_true, none_true, none_from_false, all_weaker, all_both, all_append, all_parts, all_filter, all_of_map, all_to_map, map_same, find-map, filter-map, found, any_found, list_any-map}
 use Rattle.log_replay.proofs.RowLaws.{name_cmp-plain, name_exact, pairs_with-rows, pairs_without-rows, plain-changed, rising-changed, rising_tail, split_where_none, others_after, row_of_data, no_row_of_data, equal_from_test}
@@ -287,8 +286,8 @@ store_of-unset rows last_db number txn name at env up may =
 -- ---- a new database
 
 -- the number that a catalog record's bytes have
-pub number_in-record : (number : ℕ) (kind : DbKind) → number < 2 ^ 32 → number_in (record_bytes (record { number = number; kind = kind })) ≡ number
-number_in-record number PlainRecord fits = from_be_bytes-to_be_bytes_4 number fits
+pub number_in-record : (number : ℕ) → number < 2 ^ 32 → number_in (record_bytes (record { number = number; kind = PlainRecord })) ≡ number
+number_in-record number fits = ap number_or_0 (record_in-again (record { number = number; kind = PlainRecord }) (fits, tt))
 
 -- one number more, in the middle
 distinct_with : (lower higher : List Row) (row : Row) → are_distinct (map number_of_row (lower ++ higher)) ≡ true →
@@ -386,4 +385,7 @@ store_of-changed rows last_db number txn (Set name at value) env up unused known
 store_of-changed rows last_db number txn (Unset name at) env up unused known may = store_of-unset rows last_db number txn name at env (up 0) may
 store_of-changed rows last_db number txn (Make name Plain) env up unused known may =
     made rows last_db number txn name (record_bytes (record { number = number; kind = kind_in_catalog Plain })) env (up 0) unused known may.0 may.1 may.2 may.3
-    (number_in-record number PlainRecord may.4)
+    (number_in-record number may.4)
+store_of-changed rows last_db number txn (Remove name) env up unused known may = absurd may
+store_of-changed rows last_db number txn (Rename name to) env up unused known may = absurd may
+store_of-changed rows last_db number txn (Empty name) env up unused known may = absurd may

@@ -12,10 +12,9 @@ use Rattle.je_model.specs.declared.store.Kind.TheVariants.{Plain}
 use Rattle.je_model.specs.declared.change.Change.TheVariants.{Set, Unset, Make}
 use Rattle.je_model.specs.Store.{record_count}
 use Rattle.je_model.specs.Evaluation.{plain_name}
-use Rattle.db_catalog.specs.declared.db_record.DbKind.TheVariants.{Plain as PlainRecord}
 use Rattle.db_catalog.specs.Catalog.{record_bytes}
 use Rattle.log_replay.specs.Rows.{Row, Rows, RowChange, row_changed, rows_with, data_at, number_in, are_distinct, is_environment, IsRising, database_in, store_of, pair_of}
-use Rattle.log_replay.specs.Logging.{kind_in_catalog}
+use Rattle.db_catalog.specs.Planning.{kind_in_catalog}
 use Rattle.log_replay.specs.Kept.{row_change_of, HasNumber, MayBeLogged}
 use Rattle.log_replay.proofs.ListLaws.{none_true, all_weaker, all_of_map}
 use Rattle.log_replay.proofs.RowLaws.{split_where_none, length-set_new, length-set_again, length-unset, row_of_data, no_row_of_data}
@@ -164,7 +163,7 @@ pub record_count-make : (rows : Rows) (last_db number txn : ℕ) (name : List �
     record_count (store_of (row_changed (row_change_of txn number (Make name kind)) rows)) ≡ record_count (store_of rows)
 record_count-make rows last_db number txn name Plain env up unused may =
     (made_totals rows last_db number txn name (record_bytes (record { number = number; kind = kind_in_catalog Plain })) env (up 0) unused may.1 may.3
-    (number_in-record number PlainRecord may.4)).0
+    (number_in-record number may.4)).0
 
 -- and is one more
 pub databases-make : (rows : Rows) (last_db number txn : ℕ) (name : List ℕ) (kind : Kind) →
@@ -172,4 +171,4 @@ pub databases-make : (rows : Rows) (last_db number txn : ℕ) (name : List ℕ) 
     length (store_of (row_changed (row_change_of txn number (Make name kind)) rows)).databases ≡ length (store_of rows).databases + 1
 databases-make rows last_db number txn name Plain env up unused may =
     (made_totals rows last_db number txn name (record_bytes (record { number = number; kind = kind_in_catalog Plain })) env (up 0) unused may.1 may.3
-    (number_in-record number PlainRecord may.4)).1
+    (number_in-record number may.4)).1

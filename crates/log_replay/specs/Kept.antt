@@ -5,13 +5,15 @@ use Rattle.log_entry.specs.declared.entry.Entry.{Entry}
 use Rattle.log_entry.specs.declared.entry.Entry.TheVariants.{Commit}
 use Rattle.je_order.specs.Words.{is_word}
 use Rattle.je_model.specs.declared.change.Change.{Change}
-use Rattle.je_model.specs.declared.change.Change.TheVariants.{Set, Unset, Make}
+use Rattle.je_model.specs.declared.change.Change.TheVariants.{Set, Unset, Make, Remove, Rename, Empty}
 use Rattle.je_model.specs.declared.store.TheConstants.{MOST_DATABASES}
 use Rattle.je_model.specs.Evaluation.{plain_name}
+use Rattle.db_catalog.specs.declared.db_kind.DbKind.TheVariants.{Plain as PlainRecord}
 use Rattle.db_catalog.specs.Catalog.{record_bytes}
+use Rattle.db_catalog.specs.Planning.{kind_in_catalog}
 use Rattle.log_replay.specs.Rows.{Rows, RowChange, data_at, number_in, numbers_of, is_environment, IsRising}
 use Rattle.log_replay.specs.Replay.{replayed, nothing_replayed}
-use Rattle.log_replay.specs.Logging.{entry_of, kind_in_catalog}
+use Rattle.log_replay.specs.Logging.{entry_of}
 
 -- a pending change whose transaction and database numbers are at most these
 pub record IsOfBefore (last_txn last_db : ℕ) (change : RowChange) : Type 0 where
@@ -33,24 +35,36 @@ row_change_of txn number (Set db at value) = record { txn = txn; db = number; na
 row_change_of txn number (Unset db at) = record { txn = txn; db = number; name = at; value = None }
 row_change_of txn number (Make db kind) =
     record { txn = txn; db = 0; name = plain_name db; value = Some (record_bytes (record { number = number; kind = kind_in_catalog kind })) }
+row_change_of txn number (Remove db) = record { txn = txn; db = 0; name = plain_name db; value = None }
+row_change_of txn number (Rename db to) =
+    record { txn = txn; db = 0; name = plain_name to; value = Some (record_bytes (record { number = number; kind = PlainRecord })) }
+row_change_of txn number (Empty db) =
+    record { txn = txn; db = 0; name = plain_name db; value = Some (record_bytes (record { number = number; kind = PlainRecord })) }
 
 -- the database of that name has the number
 abbrev pub HasNumber : Rows → List ℕ → ℕ → Type 0
 HasNumber rows name number = (bytes : List ℕ) × (data_at (plain_name name) (rows 0) ≡ Some bytes) × (number_in bytes ≡ number)
 
 -- a change may be logged in the database of that number: it is the number of the database that the change names, or
--- the change makes a database whose name and number are new, where one more may be there
+-- the change makes a database whose name and number are new, where one more may be there. No transaction removes,
+-- renames or empties a database yet
 abbrev pub MayBeLogged : Rows → ℕ → ℕ → Change → Type 0
 MayBeLogged rows last_db number (Set db at value) = HasNumber rows db number × (at.dup ≡ [])
 MayBeLogged rows last_db number (Unset db at) = HasNumber rows db number × (at.dup ≡ [])
 MayBeLogged rows last_db number (Make db kind) =
     IsTrue (is_word db) × (data_at (plain_name db) (rows 0) ≡ None) × (length (rows 0) < MOST_DATABASES) × (number ≡ last_db + 1) × (number < 2 ^ 32)
+MayBeLogged rows last_db number (Remove db) = ⊥
+MayBeLogged rows last_db number (Rename db to) = ⊥
+MayBeLogged rows last_db number (Empty db) = ⊥
 
 -- the last database number after a change
 abbrev pub last_db_after : ℕ → ℕ → Change → ℕ
 last_db_after last_db number (Set db at value) = last_db
 last_db_after last_db number (Unset db at) = last_db
 last_db_after last_db number (Make db kind) = number
+last_db_after last_db number (Remove db) = last_db
+last_db_after last_db number (Rename db to) = last_db
+last_db_after last_db number (Empty db) = number
 
 -- the entries of a log after a transaction with one change was logged in it
 abbrev pub entries_with : List Entry → ℕ → ℕ → Change → List Entry

@@ -13,6 +13,8 @@ use Rattle.je_model.specs.declared.store.Store.{Store}
 use Rattle.je_model.specs.declared.store.Database.{Database}
 use Rattle.je_model.specs.declared.store.Kind.TheVariants.{Plain}
 use Rattle.db_catalog.specs.declared.db_record.DbRecord.{DbRecord}
+use Rattle.db_catalog.specs.declared.db_kind.DbKind.{DbKind}
+use Rattle.db_catalog.specs.declared.db_kind.DbKind.TheVariants.{Plain as PlainRecord}
 use Rattle.db_catalog.specs.Catalog.{record_in}
 
 -- a record: its name and its data
@@ -65,10 +67,15 @@ data_at name rows = option_map (λ r. r.1) (row_at name rows)
 abbrev pub IsRising : List Row → Type 0
 IsRising rows = IsStrictlySortedBy (on (λ (r : Row). r.0) name_cmp) rows
 
--- the number in a catalog record's data; 0, which is no database's number, where the data is no record
+-- the number of a plain database; 0, which is no database's number, for the other kinds, which no environment has yet
+abbrev pub plain_number : DbKind → ℕ → ℕ
+plain_number PlainRecord number = number
+plain_number kind number = 0
+
+-- the number in a catalog record's data; 0 where the data is no record
 abbrev pub number_or_0 : Option DbRecord → ℕ
 number_or_0 None = 0
-number_or_0 (Some record_) = record_.number
+number_or_0 (Some record_) = plain_number record_.kind record_.number
 
 abbrev pub number_in : List ℕ → ℕ
 number_in bytes = number_or_0 (record_in bytes)

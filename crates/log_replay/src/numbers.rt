@@ -1,15 +1,26 @@
 // The numbers of databases.
 ghost use Rattle.std.specs.Prelude.{◌≡◌};
-ghost use Rattle.log_replay.specs.Rows.{number_in};
+ghost use Rattle.log_replay.specs.Rows.{number_in, plain_number as number_of_plain};
 
-use db_catalog::DbRecord;
+use db_catalog::{DbKind, DbRecord};
 
-/// The number in a catalog record's data, and 0, which is no database's, where the data is no record.
-pub(crate) fn number_of(bytes: &[u8]) -> u32
+// The number of a plain database, 0 for the other kinds.
+fn plain_number(kind: DbKind, number: u32) -> u32
+    ensures { result ≡ number_of_plain kind number }
+{
+    match kind {
+        DbKind::Plain => number,
+        DbKind::Dup | DbKind::SliceIndex { .. } | DbKind::FieldIndex { .. } => 0,
+    }
+}
+
+/// The number in a plain database's catalog record, and 0, which is no database's, where the data is
+/// no such record.
+pub fn number_of(bytes: &[u8]) -> u32
     ensures { result ≡ number_in bytes.now }
 {
     match DbRecord::from_bytes(bytes) {
-        Some(record) => record.number,
+        Some(found) => plain_number(found.kind, found.number),
         None => 0,
     }
 }

@@ -60,8 +60,8 @@ fn txn_number(entry: &Entry) -> u64
     ensures { result ≡ txn_in entry.now }
 {
     match entry {
-        Entry::FileHeader { .. } => 0,
         Entry::Put { txn, .. } | Entry::Delete { txn, .. } | Entry::Commit { txn } => txn.0,
+        _ => 0,
     }
 }
 
@@ -70,7 +70,6 @@ fn db_number(entry: &Entry) -> u32
     ensures { result ≡ db_in entry.now }
 {
     match entry {
-        Entry::FileHeader { .. } | Entry::Commit { .. } => 0,
         Entry::Put { db, value, .. } => {
             if *db == 0 {
                 number_of(value.as_slice())
@@ -79,6 +78,7 @@ fn db_number(entry: &Entry) -> u32
             }
         }
         Entry::Delete { db, .. } => *db,
+        _ => 0,
     }
 }
 
@@ -92,7 +92,6 @@ fn take_entry(
     ensures { (replay : Replay) → StandsFor rows.old pending.old replay → OnOk result (StandsFor rows.new pending.new (replayed_entry entry replay)) }
 {
     match entry {
-        Entry::FileHeader { .. } => Ok(()),
         Entry::Put {
             txn,
             db,
@@ -118,6 +117,7 @@ fn take_entry(
             let changes = pending.take(alloc, txn.0);
             change_rows(rows, alloc, changes)
         }
+        _ => Ok(()),
     }
 }
 

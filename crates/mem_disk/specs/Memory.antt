@@ -1,5 +1,5 @@
 -- What a disk in memory tells.
-use Rattle.std.specs.Prelude.{◌≡◌, ◌+◌, ◌-◌, ◌^◌, ℕ, Option, List, Contains, min}
+use Rattle.std.specs.Prelude.{◌≡◌, ◌+◌, ◌-◌, ◌^◌, ◌<◌, ◌⊎◌, ℕ, Option, List, Contains, min}
 use Rattle.je_disk.specs.Moments.{History}
 use Rattle.mem_disk.specs.Replay.{history_of}
 use Rattle.mem_disk.specs.declared.memory.MemDisk.{MemDisk}
@@ -36,15 +36,20 @@ drawn_of disk = disk.jobs.drawn
 abbrev pub fails_of : MemDisk → List ℕ
 fails_of disk = disk.meter.fails.items
 
+-- each call behind the call of this number is to fail; 2 ^ 64 - 1 where there is no stop
+abbrev pub stop_of : MemDisk → ℕ
+stop_of disk = disk.meter.stop
+
 -- the number of the next call
 abbrev pub next_call : MemDisk → ℕ
 next_call disk = min (calls_of disk + 1) (2 ^ 64 - 1)
 
--- the next call is to fail
+-- the next call is to fail: it is listed, or behind the stop
 abbrev pub IsDue : MemDisk → Type 0
-IsDue disk = Contains (fails_of disk) (next_call disk)
+IsDue disk = Contains (fails_of disk) (next_call disk) ⊎ (stop_of disk < next_call disk)
 
 -- one call was counted, and the same calls are to fail
 pub record CountsCall (old new : MemDisk) : Type 0 where
   pub calls : calls_of new ≡ next_call old
   pub fails : fails_of new ≡ fails_of old
+  pub stop : stop_of new ≡ stop_of old

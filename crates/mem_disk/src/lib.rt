@@ -5,13 +5,16 @@
 #![tactic(auto)]
 
 pub mod change;
+pub mod file_state;
 pub mod job;
+pub mod mark;
 pub mod memory;
 pub mod meter;
 pub mod shelf;
 
 pub use change::Change;
 pub use job::{MemDone, MemJob, MemReadDone, MemReadJob};
+pub use mark::FileMark;
 pub use memory::MemDisk;
 
 #[cfg(test)]

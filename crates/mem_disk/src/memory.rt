@@ -1,13 +1,14 @@
 // The disk in memory.
 use crate::meter::Meter;
 use crate::shelf::Shelf;
-use crate::{MemDone, MemJob, MemReadDone, MemReadJob};
+use crate::{FileMark, MemDone, MemJob, MemReadDone, MemReadJob};
 use je_disk::{Disk, DiskErr, Jobs, ReadDone, SyncDone};
 use je_lsn::FileNo;
 use std::alloc::{AllocError, Global};
 
-/// A disk in memory. Calls are numbered from 1; those whose numbers are listed fail and change nothing,
-/// and so does a call that finds no memory and has no such answer.
+/// A disk in memory. Calls of the trait are numbered from 1; those whose numbers are listed and those
+/// behind the stop fail and change nothing, and so does a call that finds no memory and has no such
+/// answer.
 #[derive(Debug, Drop)]
 pub struct MemDisk {
     shelf: Shelf,
@@ -16,19 +17,22 @@ pub struct MemDisk {
 }
 
 impl MemDisk {
-    ghost use Rattle.std.specs.Prelude.{◌≡◌, ℕ, None, map, nat_eq, IfOk, OnOk, OnErr};
+    ghost use Rattle.std.specs.Prelude.{◌≡◌, ◌-◌, ◌^◌, ℕ, None, [], map, nat_eq, IfOk, OnOk, OnErr};
     ghost use Rattle.std.specs.List.Sorted.{IsStrictlyIncreasing};
     ghost use Rattle.std.specs.Map.{lookup};
     ghost use Rattle.je_disk.specs.Moments.{now};
     ghost use Rattle.je_disk.specs.States.{nothing, synced};
+    ghost use Rattle.mem_disk.specs.Marks.{mark_of};
     ghost use Rattle.mem_disk.specs.Replay.{listed, held};
-    ghost use Rattle.mem_disk.specs.Memory.{told_by, faults_of, calls_of, fails_of, sync_of, reading_of, drawn_of};
+    ghost use Rattle.mem_disk.specs.Memory.{told_by, faults_of, calls_of, fails_of, stop_of, sync_of, reading_of, drawn_of};
 
     /// An empty disk, on which no call is to fail. It takes no memory.
     pub fn new(alloc: Global) -> MemDisk
         ensures state { now (told_by result) ≡ nothing }
         ensures faults { faults_of result ≡ 0 }
         ensures calls { calls_of result ≡ 0 }
+        ensures fails { fails_of result ≡ [] }
+        ensures stop { stop_of result ≡ 2 ^ 64 - 1 }
         ensures sync_out { sync_of result ≡ None }
         ensures read_out { reading_of result ≡ None }
         ensures drawn { drawn_of result ≡ 0 }
@@ -46,6 +50,8 @@ impl MemDisk {
         ensures state { IfOk result (λ disk. now (told_by disk) ≡ synced (held (listed files.items))) }
         ensures faults { IfOk result (λ disk. faults_of disk ≡ 0) }
         ensures calls { IfOk result (λ disk. calls_of disk ≡ 0) }
+        ensures fails { IfOk result (λ disk. fails_of disk ≡ []) }
+        ensures stop { IfOk result (λ disk. stop_of disk ≡ 2 ^ 64 - 1) }
         ensures sync_out { IfOk result (λ disk. sync_of disk ≡ None) }
         ensures read_out { IfOk result (λ disk. reading_of disk ≡ None) }
         ensures drawn { IfOk result (λ disk. drawn_of disk ≡ 0) }
@@ -63,6 +69,7 @@ impl MemDisk {
         ensures told { told_by self.new ≡ told_by self.old }
         ensures faults { faults_of self.new ≡ faults_of self.old }
         ensures calls { calls_of self.new ≡ calls_of self.old }
+        ensures stop { stop_of self.new ≡ stop_of self.old }
         ensures jobs { self.new.jobs ≡ self.old.jobs }
         ensures ok { OnOk result (fails_of self.new ≡ numbers.now) }
         ensures err { OnErr result (fails_of self.new ≡ fails_of self.old) }
@@ -72,12 +79,32 @@ impl MemDisk {
         Ok(())
     }
 
+    /// Sets the stop, in place of the one set before: the calls up to the number `last` work as before,
+    /// and each call behind it fails, so that the disk holds still from then on. At 0 each call fails.
+    pub fn stop_after(&mut self, last: u64)
+        ensures told { told_by self.new ≡ told_by self.old }
+        ensures faults { faults_of self.new ≡ faults_of self.old }
+        ensures calls { calls_of self.new ≡ calls_of self.old }
+        ensures fails { fails_of self.new ≡ fails_of self.old }
+        ensures jobs { self.new.jobs ≡ self.old.jobs }
+        ensures stop { stop_of self.new ≡ last }
+    {
+        self.meter.stop_after(last);
+    }
+
     /// The files as they read, rising by their numbers.
     pub fn files(&self, alloc: Global) -> Result<Vec<(FileNo, Vec<u8>)>, AllocError>
         ensures rising { IfOk result (λ files. IsStrictlyIncreasing (map (λ p. p.0) (listed files.items))) }
         ensures read { IfOk result (λ files. (f : ℕ) → lookup (nat_eq f) (listed files.items) ≡ (now (told_by self.now)).reads f) }
     {
         self.shelf.files(alloc)
+    }
+
+    /// What a crash that comes now keeps of a file. It goes over all changes of the disk so far.
+    pub fn mark(&self, alloc: Global, f: FileNo) -> Result<FileMark, AllocError>
+        ensures { IfOk result (λ mark. mark_of mark ≡ (now (told_by self.now)).marks f.0) }
+    {
+        self.shelf.mark(alloc, f)
     }
 }
 

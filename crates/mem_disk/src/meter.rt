@@ -1,26 +1,31 @@
 // The count of calls and faults.
-ghost use Rattle.std.specs.Prelude.{◌≡◌, ◌≤◌, ◌+◌, ◌-◌, ◌^◌, ◌↔◌, min, Contains, IsErr, OnOk};
+ghost use Rattle.std.specs.Prelude.{◌≡◌, ◌≤◌, ◌+◌, ◌-◌, ◌^◌, ◌↔◌, ◌<◌, ◌⊎◌, min, Contains, IsErr, OnOk};
 ghost use Rattle.je_disk.specs.Causes.{HasFault, Rose};
 
 use je_disk::DiskErr;
 
-/// Counts the calls of a disk, and fails those whose numbers are listed.
+/// Counts the calls of a disk, and fails those whose numbers are listed and those behind a stop. Where
+/// there is no stop it stands at 2^64 - 1, the last number that is counted.
 #[derive(Debug, Drop)]
 pub struct Meter {
     fails: Vec<u64>,
+    stop: u64,
     made: u64,
     faults: u64,
 }
 
 impl Meter {
-    /// No call was made. The calls of these numbers are to fail; the first call is number 1.
+    /// No call was made. The calls of these numbers are to fail; the first call is number 1. There is no
+    /// stop.
     pub fn new(fails: Vec<u64>) -> Meter
         ensures fails { result.fails.items ≡ fails.items }
+        ensures stop { result.stop ≡ 2 ^ 64 - 1 }
         ensures made { result.made ≡ 0 }
         ensures faults { result.faults ≡ 0 }
     {
         Meter {
             fails,
+            stop: u64::MAX,
             made: 0,
             faults: 0,
         }
@@ -33,15 +38,27 @@ impl Meter {
         self.fails = fails;
     }
 
-    /// One more call. It fails exactly where its number is listed, and the count of faults rises then.
+    /// Each call behind the call of this number is to fail, in place of the stop set before.
+    pub fn stop_after(&mut self, number: u64)
+        ensures { self.new ≡ record self.old { stop = number } }
+    {
+        self.stop = number;
+    }
+
+    /// One more call. It fails exactly where its number is listed or is behind the stop, and the count of
+    /// faults rises then.
     pub fn call(&mut self) -> Result<(), DiskErr>
         ensures made { self.new.made ≡ min (self.old.made + 1) (2 ^ 64 - 1) }
-        ensures listed { IsErr result ↔ Contains self.old.fails.items self.new.made }
+        ensures due { IsErr result ↔ (Contains self.old.fails.items self.new.made ⊎ (self.old.stop < self.new.made)) }
         ensures steady { OnOk result (self.new.faults ≡ self.old.faults) }
         ensures fails { self.new.fails ≡ self.old.fails }
+        ensures stop { self.new.stop ≡ self.old.stop }
         ensures cause { HasFault self.old.faults self.new.faults result }
     {
         self.made = self.made.saturating_add(1);
+        if self.made > self.stop {
+            return Err(self.fault());
+        }
         if self.fails.contains(&self.made) {
             return Err(self.fault());
         }
@@ -54,6 +71,7 @@ impl Meter {
         ensures rose { Rose self.old.faults self.new.faults }
         ensures never_falls { self.old.faults ≤ self.new.faults }
         ensures fails { self.new.fails ≡ self.old.fails }
+        ensures stop { self.new.stop ≡ self.old.stop }
         ensures made { self.new.made ≡ self.old.made }
     {
         self.faults = self.faults.saturating_add(1);

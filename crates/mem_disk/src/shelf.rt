@@ -6,11 +6,13 @@ ghost use Rattle.std.specs.Ordering.{nat_cmp, eq_by_cmp};
 ghost use Rattle.std.specs.List.Sorted.{IsStrictlyIncreasing};
 ghost use Rattle.std.specs.Map.{lookup};
 ghost use Rattle.std.specs.Set.{is_member};
+ghost use Rattle.mem_disk.specs.Marks.{mark_of};
 ghost use Rattle.mem_disk.specs.Replay.{read_at, replay, listed, held, files_at};
 ghost use Rattle.je_disk.specs.States.{content, put_at, synced, IsRising, IsListing};
 ghost use Rattle.mem_disk.specs.declared.change.Change.TheVariants.{Create as Created, Append as Appended, Cut as Shortened, Remove as Removed, Sync as Synced, BeginSync as Begun, EndSync as Ended};
 
-use crate::Change;
+use crate::file_state::file_after;
+use crate::{Change, FileMark};
 use je_lsn::FileNo;
 use je_order::Octets;
 use std::alloc::{AllocError, Global};
@@ -180,6 +182,13 @@ impl Shelf {
         ensures moved { into.new ≡ take result (drop at (content (replay self.now.changes.items).reads f.0)) ++ drop result into.old }
     {
         copy_from(bytes_at(&self.files, f.0), at, into)
+    }
+
+    /// What a crash keeps of a file.
+    pub fn mark(&self, alloc: Global, f: FileNo) -> Result<FileMark, AllocError>
+        ensures { IfOk result (λ mark. mark_of mark ≡ (replay self.now.changes.items).marks f.0) }
+    {
+        Ok(file_after(alloc, self.changes.as_slice(), f)?.into_mark())
     }
 
     /// A copy of a file's bytes.

@@ -104,3 +104,29 @@ fn reads_by_jobs(rt: HostRuntime) -> Result<(), Fail> {
     assert!(rt; mounted.is_ok() && disk.read_out().is_none() && disk.sync_out().is_none());
     Ok(())
 }
+
+// Calls 1 to 5 work; the fifth appends bytes that no sync made stable.
+#[test]
+fn stops_and_tells_what_stays(rt: HostRuntime) -> Result<(), Fail> {
+    let alloc = rt.alloc();
+    let mut disk = MemDisk::new(alloc);
+    disk.stop_after(5);
+    disk.append(FileNo(1), b"abc")?;
+    disk.append(FileNo(2), b"wxyz")?;
+    disk.sync_now()?;
+    disk.cut(FileNo(2), 1)?;
+    disk.append(FileNo(1), b"de")?;
+    assert!(rt; disk.append(FileNo(1), b"f") == Err(DiskErr::Failed));
+    assert!(rt; disk.remove(FileNo(2)) == Err(DiskErr::Failed));
+    assert!(rt; disk.sync_now() == Err(DiskErr::Failed) && disk.faults() == 3);
+    let first = disk.mark(alloc, FileNo(1))?;
+    assert!(rt; first.stable.as_slice() == b"abc".as_slice() && first.reach == 5);
+    assert!(rt; first.must && first.may);
+    let second = disk.mark(alloc, FileNo(2))?;
+    assert!(rt; second.stable.as_slice() == b"w".as_slice() && second.reach == 4);
+    let third = disk.mark(alloc, FileNo(3))?;
+    assert!(rt; third.reach == 0 && !third.must && !third.may);
+    disk.stop_after(u64::MAX);
+    assert!(rt; disk.len(FileNo(1))? == 5 && disk.len(FileNo(2))? == 1);
+    Ok(())
+}

@@ -1,5 +1,6 @@
 mod Cuts
 mod Digits
 mod Reading
+mod Scripted
 mod Sending
 mod Waits

@@ -116,6 +116,17 @@ line_gives line text =
     else if is_skipped text then Ok None
     else good_or_bad line (given_of line (words_of text))
 
+-- whether the grammar has a line for a call; the others cannot be asked for by a script yet
+abbrev pub has_line : Call → Bool
+has_line (Create db kind) = true
+has_line (Put db key value) = true
+has_line (Get db key rmw) = true
+has_line (Delete db key) = true
+has_line call = false
+
+abbrev pub is_line : Given → Bool
+is_line (Session session line call) = has_line call
+
 -- what a line gives and then what the lines behind it give; the first bad line counts
 abbrev pub before_others : Option Given → Result (List Given) ℕ → Result (List Given) ℕ
 before_others given (Ok others) = Ok (option_to_list given ++ others)

@@ -3,7 +3,7 @@ use Rattle.std.specs.Prelude.{ℕ, ◌≡◌, ◌++◌, ◌∷◌, [], List, Boo
 use Rattle.std.specs.List.{list_any, flat_map}
 use Rattle.hex.specs.Hex.{encode_lower}
 use Rattle.je_model.specs.declared.answer.Answer.{Answer}
-use Rattle.je_model.specs.declared.answer.Answer.TheVariants.{Done, Logged, Durable, Rec, NotFound, NoDatabase, NameTaken, TooMany, TooLong, LogFull, IdsEnded, DiskFault, Invalid}
+use Rattle.je_model.specs.declared.answer.Answer.TheVariants.{Done, Logged, Durable, Rec, Names, NotFound, KeyExist, NoDatabase, NameTaken, TooMany, TooLong, LogFull, IdsEnded, DiskFault, Invalid}
 use Rattle.je_model.specs.declared.event.Event.{Event}
 use Rattle.je_model.specs.declared.event.Event.TheVariants.{Call as Called, SyncBegin, SyncEnd}
 use Rattle.je_model.specs.declared.totals.Totals.{Totals}
@@ -14,13 +14,19 @@ abbrev pub bytes_text : List ℕ → List ℕ
 bytes_text [] = codes "-"
 bytes_text (byte ∷ bytes) = encode_lower (byte ∷ bytes)
 
+-- a name in a list of them, behind a blank
+abbrev pub name_text : List ℕ → List ℕ
+name_text name = codes " " ++ name
+
 -- the text of an answer; Logged has none, since its call's line comes with the sync, and Durable has none of its own
 abbrev pub answer_text : Answer → Option (List ℕ)
 answer_text Done = Some (codes "ok")
 answer_text (Logged commit) = None
 answer_text (Durable commit) = None
 answer_text (Rec key value) = Some (codes "ok " ++ bytes_text key ++ codes " " ++ bytes_text value)
+answer_text (Names names) = Some (codes "ok" ++ flat_map name_text names)
 answer_text NotFound = Some (codes "notfound")
+answer_text KeyExist = Some (codes "keyexist")
 answer_text NoDatabase = Some (codes "nodatabase")
 answer_text NameTaken = Some (codes "nametaken")
 answer_text (TooMany count) = Some (codes "toomany " ++ decimal count)

@@ -1,7 +1,7 @@
 // Reading a script.
-ghost use Rattle.std.specs.Prelude.{◌≡◌, ◌≤◌, ◌++◌, nat_lt, option_to_list, IfOk, OnOk};
+ghost use Rattle.std.specs.Prelude.{◌≡◌, ◌≤◌, ◌++◌, nat_lt, option_to_list, true, IfOk, OnOk};
 ghost use Rattle.std.specs.List.{list_all};
-ghost use Rattle.script_text.specs.Grammar.{Gives, given_of, is_skipped, line_gives, plan_of};
+ghost use Rattle.script_text.specs.Grammar.{Gives, given_of, is_line, is_skipped, line_gives, plan_of};
 ghost use Rattle.script_text.specs.Words.{words_of};
 
 use crate::calls::call_of;
@@ -48,6 +48,14 @@ impl<T: Drop> From<AllocFailed<T>> for ParseErr {
 /// memory runs out. A plan's lines keep their order and their numbers; lines that are empty or begin
 /// with `#` are counted and give nothing.
 pub fn parse(alloc: Global, input: &[u8]) -> Result<RunPlan, ParseErr>
+    ensures answer { Gives result (plan_of input.now) }
+    ensures lines { IfOk result (λ plan. list_all is_line plan.lines ≡ true) }
+{
+    plan_of(alloc, input)
+}
+
+// The plan that a script asks for.
+fn plan_of(alloc: Global, input: &[u8]) -> Result<RunPlan, ParseErr>
     ensures { Gives result (plan_of input.now) }
 {
     let mut lines = Vec::new(alloc);
@@ -194,9 +202,13 @@ mod tests {
     #[test]
     fn names_the_first_bad_line(rt: HostRuntime) -> Result<(), Fail> {
         let alloc = rt.alloc();
-        let rows: [(&[u8], u32); 21] = [
+        let rows: [(&[u8], u32); 25] = [
             (b" ", 1),
             (b"\n\ns1 list", 3),
+            (b"s1 remove t", 1),
+            (b"s1 rename t u", 1),
+            (b"s1 truncate t", 1),
+            (b"s1 putno t 00 00", 1),
             (b"# \x80", 1),
             (b"s0 create t plain", 1),
             (b"s01 create t plain", 1),

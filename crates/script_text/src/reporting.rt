@@ -168,7 +168,7 @@ mod tests {
     use super::*;
     use je_io::MemSink;
     use je_model::{Call, Fault, Kind};
-    use je_order::{Octets, Word};
+    use je_order::{List, Octets, Word};
     use std::alloc::{AllocError, Global};
     use std::test::Fail;
 
@@ -179,11 +179,20 @@ mod tests {
         Begun,
         Durable(u64),
         Found,
+        Names,
+        KeyExist,
         NotFound,
         TooMany,
         TooLong,
         DiskFault,
         Invalid,
+    }
+
+    fn two_names(alloc: Global) -> Result<List<Word>, AllocError> {
+        let mut names = List::new(alloc);
+        names.push(Word::from_slice(alloc, b"s_1")?)?;
+        names.push(Word::from_slice(alloc, b"t")?)?;
+        Ok(names)
     }
 
     fn answer_of(alloc: Global, said: Said) -> Result<Answer, AllocError> {
@@ -195,6 +204,10 @@ mod tests {
                 key: Octets::from_slice(alloc, b"\x00\xff")?,
                 value: Octets::new(alloc),
             },
+            Said::Names => Answer::Names {
+                names: two_names(alloc)?,
+            },
+            Said::KeyExist => Answer::KeyExist,
             Said::NotFound => Answer::NotFound,
             Said::TooMany => Answer::TooMany { count: 1_000 },
             Said::TooLong => Answer::TooLong { length: 4_097 },
@@ -220,7 +233,7 @@ mod tests {
         }
     }
 
-    const JOURNAL: [(u8, u32, Said); 13] = [
+    const JOURNAL: [(u8, u32, Said); 15] = [
         (1, 1, Said::Logged(1)),
         (0, 0, Said::Begun),
         (0, 0, Said::Durable(1)),
@@ -232,6 +245,8 @@ mod tests {
         (0, 0, Said::Durable(2)),
         (1, 7, Said::TooMany),
         (4, 9, Said::TooLong),
+        (5, 10, Said::Names),
+        (5, 11, Said::KeyExist),
         (1, 8, Said::DiskFault),
         (64, 1_000_000, Said::Invalid),
     ];
@@ -245,7 +260,7 @@ mod tests {
     }
 
     const TEXT: &[u8] =
-        b"1 s1 ok\n3 s2 ok 00ff -\n6 s1 notfound\n4 s2 ok\n7 s1 toomany 1000\n9 s4 toolong 4097\n8 s1 diskfault\n5 s3 diskfault\n1000000 s64 invalid\nend commits 3 databases 1 records 2\n";
+        b"1 s1 ok\n3 s2 ok 00ff -\n6 s1 notfound\n4 s2 ok\n7 s1 toomany 1000\n9 s4 toolong 4097\n10 s5 ok s_1 t\n11 s5 keyexist\n8 s1 diskfault\n5 s3 diskfault\n1000000 s64 invalid\nend commits 3 databases 1 records 2\n";
 
     // A commit's line comes with the sync that covers it, or with the fault before it.
     #[test]

@@ -2,12 +2,14 @@
 ghost use Rattle.std.specs.Prelude.{◌≡◌, ◌++◌, ◌∷◌, [], codes, decimal, unwrap_or, is_some};
 ghost use Rattle.hex.specs.Hex.{encode_lower};
 ghost use Rattle.script_text.specs.Page.{Adds, point};
-ghost use Rattle.script_text.specs.Report.{answer_text, bytes_text, line_if_any, line_text};
+ghost use Rattle.std.specs.List.{flat_map};
+ghost use Rattle.script_text.specs.Report.{answer_text, bytes_text, line_if_any, line_text, name_text};
 
 use crate::page::Page;
 use itoa::Buffer;
 use je_io::Sink;
 use je_model::Answer;
+use je_order::Word;
 
 // Sends a number's decimal digits.
 pub fn put_number<K: Sink>(page: &mut Page, out: &mut K, number: u64)
@@ -62,6 +64,35 @@ fn put_record<K: Sink>(page: &mut Page, out: &mut K, key: &[u8], value: &[u8])
     put_bytes(page, out, value);
 }
 
+// Sends a name of a list, behind a blank.
+fn put_name<K: Sink>(page: &mut Page, out: &mut K, name: &Word)
+    ensures { Adds (point (K.written out.old) (K.faults out.old) page.old)
+        (point (K.written out.new) (K.faults out.new) page.new)
+        (name_text name.now) }
+{
+    page.put(out, b" ");
+    page.put(out, name.as_slice());
+}
+
+fn put_names<K: Sink>(page: &mut Page, out: &mut K, names: &[Word])
+    ensures { Adds (point (K.written out.old) (K.faults out.old) page.old)
+        (point (K.written out.new) (K.faults out.new) page.new)
+        (flat_map name_text names.now) }
+{
+    for k in 0..names.len() {
+        put_name(page, out, &names[k]);
+    }
+}
+
+fn put_list<K: Sink>(page: &mut Page, out: &mut K, names: &[Word])
+    ensures { Adds (point (K.written out.old) (K.faults out.old) page.old)
+        (point (K.written out.new) (K.faults out.new) page.new)
+        (codes "ok" ++ flat_map name_text names.now) }
+{
+    page.put(out, b"ok");
+    put_names(page, out, names);
+}
+
 fn put_with_number<K: Sink>(page: &mut Page, out: &mut K, text: &[u8], number: u64)
     ensures { Adds (point (K.written out.old) (K.faults out.old) page.old)
         (point (K.written out.new) (K.faults out.new) page.new)
@@ -81,7 +112,9 @@ fn put_answer<K: Sink>(page: &mut Page, out: &mut K, answer: &Answer)
         Answer::Logged { commit: _ } => page.put(out, b""),
         Answer::Durable { commit: _ } => page.put(out, b""),
         Answer::Rec { key, value } => put_record(page, out, key.as_slice(), value.as_slice()),
+        Answer::Names { names } => put_list(page, out, names.as_slice()),
         Answer::NotFound => page.put(out, b"notfound"),
+        Answer::KeyExist => page.put(out, b"keyexist"),
         Answer::NoDatabase => page.put(out, b"nodatabase"),
         Answer::NameTaken => page.put(out, b"nametaken"),
         Answer::TooMany { count } => put_with_number(page, out, b"toomany ", u64::from(*count)),

@@ -39,7 +39,7 @@ pub const FIRST_LOG: &[u8] =
 \x09\x13\x00\xe9\x02\x00\x00\x00\x00\x3e\x00\x00\x00\x12\x00\x00\x00\x00\x00\x00\x00\x02\x00\x00\x00\x01\x00\x01a\x00\x001\
 \x04\xfa\x00\x64\x05\x00\x00\x00\x00\x54\x00\x00\x00\x08\x00\x00\x00\x00\x00\x00\x00\x02";
 
-fn strings(alloc: Global, words: &[&str]) -> Result<Vec<String>, AllocError> {
+pub fn strings(alloc: Global, words: &[&str]) -> Result<Vec<String>, AllocError> {
     let mut strings = Vec::new(alloc);
     for word in words {
         strings.push(String::from_str(alloc, word)?)?;

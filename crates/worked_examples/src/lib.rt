@@ -1,14 +1,13 @@
 //! Worked examples: the whole program over a disk, an input and an output in memory, with the report,
 //! the status and the files that were worked out by hand, and runs in which the disk, the input or the
 //! output fails. There are tests alone here. They stand on `je_program` and on the crates that its
-//! parameters come from, and compare its answers with `je_model`'s plain program. The log buffer has
-//! examples of its own here, over the same disk.
+//! parameters come from, and compare its answers with `je_model`'s plain program.
 #![tactic(auto)]
 
 #[cfg(test)]
 mod agreeing;
 #[cfg(test)]
-mod buffer;
+mod crashes;
 #[cfg(test)]
 mod failing;
 #[cfg(test)]

@@ -1,9 +1,12 @@
-use Rattle.std.proofs.Common.{◌∙◌, List, sym, ap, subst}
+use Rattle.std.proofs.Common.{◌∙◌, Bool, List, sym, ap, subst}
 use Rattle.je_disk.specs.Moments.{now}
 use Rattle.je_model.specs.declared.event.Event.{Event}
 use Rattle.je_model.specs.declared.plan.Given.{Given}
 use Rattle.je_model.specs.declared.store.Store.{Store}
 use Rattle.je_model.specs.Journal.{lines_of}
+use Rattle.log_buffer.specs.Buffer.{disk_of}
+use Rattle.je_program.specs.Crash.{ImagesMean, IsSafeProgram, log_after, log_opened}
+use Rattle.je_program.specs.Environment.{IsAt}
 use Rattle.je_program.specs.Program.{totals_of, final_store, MeanStore, EndsBy, ClosesRun}
 use Rattle.je_program.specs.Run.{HasRun, IsFront, of_session}
 use Rattle.je_program.proofs.FinishLaws.{ran_cause, runs_if, ran_after_reading, ran_not_unreadable, ends_by, final_is, caused_earlier}
@@ -77,3 +80,29 @@ returns-in-Ok-clause-files g c = λ done told.
     let same = final_is c.args.file_max st c.in-Ok.opened.opening j at.starts.store
     ∙ ap (λ (s : Store). final_store s j) (sym f.ensures.opening) ∙ ap (λ (l : List Event). final_store f.result.opening l) (sym f.ensures.journal) in
     subst (λ (s : Store). MeanStore (now (g.D.Disk.history f.result.disk)).reads s) same (f.ensures.files c.args.file_max st running at.starts.fault done told)
+
+pub returns-in-Ok-clause-crash : goal.returns-in-Ok-clause-crash
+returns-in-Ok-clause-crash g c = λ told is_opened.
+    let f = c.finish in
+    let at = c.in-Ok.ensures.crash told in
+    let env = c.in-Ok.opened.environment in
+    let history = g.D.Disk.history in
+    let j = c.run-running.result.journal.items in
+    let held = log_opened at.starts.held in
+    let start = history (disk_of env.log) in
+    let here : IsAt c.args.file_max g.D.Disk.tells (now (history (disk_of env.log))) env.log env.kept at.st =
+    subst (λ (t : Bool). IsAt c.args.file_max t (now (history (disk_of env.log))) env.log env.kept at.st) (sym told) at.here in
+    let running = c.run-running.ensures.runs c.args.file_max at.st here in
+    let guarded = c.run-running.ensures.crash told c.args.file_max at.st held start here at.guarded in
+    let run : IsSafeProgram c.args.file_max (history c.args.disk) (history f.result.disk) c.in-Ok.opened.opening j f.result.cause = record {
+      st = at.st;
+      starts = at.starts;
+      start = start;
+      stable = at.stable;
+      before = c.in-Ok.ensures.entry told;
+      run = f.ensures.crash told c.args.file_max start at.st held running guarded;
+      ends = λ done. subst (λ (s : Store). ImagesMean (log_after c.args.file_max at.st j held) (now (history f.result.disk)) s) (final_is c.args.file_max at.st c.in-Ok.opened.opening j at.starts.store)
+          (f.ensures.crash_end told c.args.file_max start at.st held running guarded at.starts.fault done);
+    } in
+    subst (λ (s : Store). IsSafeProgram c.args.file_max (history c.args.disk) (history f.result.disk) s f.result.journal.items f.result.cause) (sym f.ensures.opening)
+    (subst (λ (l : List Event). IsSafeProgram c.args.file_max (history c.args.disk) (history f.result.disk) c.in-Ok.opened.opening l f.result.cause) (sym f.ensures.journal) run)

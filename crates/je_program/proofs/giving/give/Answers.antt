@@ -1,13 +1,18 @@
-use Rattle.std.proofs.Common.{◌≡◌, List, [], ◌∷◌, ◌++◌, sym, ◌∙◌, ap, subst, refl, false}
+use Rattle.std.proofs.Common.{◌≡◌, List, [], ◌∷◌, ◌++◌, Some, None, length, sym, ◌∙◌, ap, subst, refl, false}
 use Rattle.je_disk.specs.Moments.{now}
 use Rattle.je_disk.specs.States.{State}
 use Rattle.log_buffer.specs.Buffer.{disk_of, has_failed}
 use Rattle.je_model.specs.declared.event.Event.{Event}
 use Rattle.je_model.specs.declared.event.Event.TheVariants.{Call as Called, SyncBegin, SyncEnd}
 use Rattle.je_model.specs.declared.answer.Answer.TheVariants.{Done, DiskFault}
-use Rattle.je_model.specs.Answers.{after_begin, after_events}
-use Rattle.je_program.specs.Environment.{log_rule}
+use Rattle.je_model.specs.Answers.{Standing, after_begin, after_events}
+use Rattle.je_model.proofs.Journal.{after_events-append}
+use Rattle.log_file.specs.Log.{Log, entries_of}
+use Rattle.je_program.specs.Crash.{IsGuarded, log_after}
+use Rattle.je_program.specs.Environment.{IsAt, log_rule}
 use Rattle.je_program.specs.Run.{IsCaused, IsRunning}
+use Rattle.je_program.proofs.CallLaws.{logged_none}
+use Rattle.je_program.proofs.SafeLaws.{log_after-append}
 use Rattle.je_program.proofs.RunLaws.{caused_synced, caused_unsynced, logged_at_work, runs_logged, runs_plain, runs_same, runs_unsynced}
 use Rattle.je_program.proofs.giving.give.Goals as goal
 
@@ -110,3 +115,74 @@ returns-clause-caused g c = λ before caused.
     subst (λ (l : List Event). IsCaused before after l) (sym all)
     (caused_synced before (faults (disk_of c.args.environment.now.log)) (faults (disk_of middle.log)) (faults (disk_of begun.log)) after journal c.args.session c.args.line c.args.call
     c.in_ok-answer.answer ending caused c.in_ok-answer.ensures.cause.never_falls c.begin_sync.ensures.never_falls c.end_sync-answer.ensures.never_falls logged (c.end_sync-answer.ensures.cause works))
+
+pub returns-in_err-answer-clause-crash : goal.returns-in_err-answer-clause-crash
+returns-in_err-answer-clause-crash g c = λ told most st log start running guarded.
+    let new = c.step.new.self in
+    subst (λ (l : List Event). IsGuarded most st log start (g.D.Disk.history (disk_of new.log)) new.log l None) (sym c.reserve.ensures.items)
+    (c.in_err-answer.ensures.crash told most st log start c.args.session c.args.line c.args.journal.now.items running.here guarded)
+
+pub returns-then-not-logged-clause-crash : goal.returns-then-not-logged-clause-crash
+returns-then-not-logged-clause-crash g c = λ told most st log start running guarded.
+    let new = c.step.new.self in
+    let journal = c.args.journal.now.items in
+    let call : Event = Called c.args.session c.args.line c.args.call c.in_ok-answer.answer in
+    let first : c.push.new.self.items ≡ c.reserve.new.self.items ++ call ∷ [] = rw c.unwrap.ensures at c.push.ensures.items in
+    let all = first ∙ ap (λ (l : List Event). l ++ call ∷ []) c.reserve.ensures.items in
+    subst (λ (l : List Event). IsGuarded most st log start (g.D.Disk.history (disk_of new.log)) new.log l None) (sym all)
+    (c.in_ok-answer.ensures.crash told most st log start c.args.session c.args.line journal running.here guarded)
+
+pub returns-in_default-clause-crash : goal.returns-in_default-clause-crash
+returns-in_default-clause-crash g c = λ told most st log start running guarded.
+    let state : g.row.D.Denot → State = λ d. now (g.D.Disk.history d) in
+    let middle = c.step.new.self in
+    let new = c.begin_sync.new.self in
+    let journal = c.args.journal.now.items in
+    let standing = after_events (log_rule most) st journal in
+    let call : Event = Called c.args.session c.args.line c.args.call c.in_ok-answer.answer in
+    let first : c.push.new.self.items ≡ c.reserve.new.self.items ++ call ∷ [] = rw c.unwrap.ensures at c.push.ensures.items in
+    let second : c.push-in_default.new.self.items ≡ c.push.new.self.items ++ SyncBegin DiskFault ∷ [] = rw c.unwrap-in_default.ensures at c.push-in_default.ensures.items in
+    let all = second ∙ ap (λ (l : List Event). l ++ SyncBegin DiskFault ∷ []) (first ∙ ap (λ (l : List Event). l ++ call ∷ []) c.reserve.ensures.items) in
+    let goes = c.in_ok-answer.ensures.goes_on most standing running.here in
+    let stands = after_events-append (log_rule most) st journal (call ∷ []) in
+    let none : (after_events (log_rule most) st (journal ++ call ∷ [])).fault ≡ None =
+    subst (λ (s : Standing). s.fault ≡ None) (sym stands)
+    (logged_none most g.D.Disk.tells (state (disk_of middle.log)) middle.log middle.kept standing c.args.call c.in_ok-answer.answer goes (sym c.waits_for_sync-logged.ensures ∙ c.if-not-logged.false)) in
+    subst (λ (l : List Event). IsGuarded most st log start (g.D.Disk.history (disk_of new.log)) new.log l None) (sym all)
+    (c.in_default.ensures.crash told most st log start (journal ++ call ∷ []) none
+    (c.in_ok-answer.ensures.crash told most st log start c.args.session c.args.line journal running.here guarded))
+
+pub returns-clause-crash : goal.returns-clause-crash
+returns-clause-crash g c = λ told most st log start running guarded.
+    let state : g.row.D.Denot → State = λ d. now (g.D.Disk.history d) in
+    let middle = c.step.new.self in
+    let begun = c.begin_sync.new.self in
+    let new = c.end_sync-answer.new.self in
+    let journal = c.args.journal.now.items in
+    let standing = after_events (log_rule most) st journal in
+    let ending = c.end_sync-answer.result in
+    let call : Event = Called c.args.session c.args.line c.args.call c.in_ok-answer.answer in
+    let first : c.push.new.self.items ≡ c.reserve.new.self.items ++ call ∷ [] = rw c.unwrap.ensures at c.push.ensures.items in
+    let second : c.push-2.new.self.items ≡ c.push.new.self.items ++ SyncBegin Done ∷ [] = rw c.unwrap-2.ensures at c.push-2.ensures.items in
+    let third : c.push-3.new.self.items ≡ c.push-2.new.self.items ++ SyncEnd ending ∷ [] = rw c.unwrap-3.ensures at c.push-3.ensures.items in
+    let all = third ∙ ap (λ (l : List Event). l ++ SyncEnd ending ∷ []) (second
+    ∙ ap (λ (l : List Event). l ++ SyncBegin Done ∷ []) (first ∙ ap (λ (l : List Event). l ++ call ∷ []) c.reserve.ensures.items)) in
+    let called : List Event = journal ++ call ∷ [] in
+    let syncing : List Event = called ++ SyncBegin Done ∷ [] in
+    let goes = c.in_ok-answer.ensures.goes_on most standing running.here in
+    let stands = after_events-append (log_rule most) st journal (call ∷ []) in
+    let here : IsAt most g.D.Disk.tells (state (disk_of middle.log)) middle.log middle.kept (after_events (log_rule most) st called) =
+    subst (λ (s : Standing). IsAt most g.D.Disk.tells (state (disk_of middle.log)) middle.log middle.kept s) (sym stands) goes.1 in
+    let none : (after_events (log_rule most) st called).fault ≡ None =
+    subst (λ (s : Standing). s.fault ≡ None) (sym stands)
+    (logged_none most g.D.Disk.tells (state (disk_of middle.log)) middle.log middle.kept standing c.args.call c.in_ok-answer.answer goes (sym c.waits_for_sync-logged.ensures ∙ c.if-not-logged.false)) in
+    let begins = (c.in-Some.ensures.begins most (after_events (log_rule most) st called) here none).1 in
+    let stands_now = after_events-append (log_rule most) st called (SyncBegin Done ∷ []) in
+    let here_now : IsAt most g.D.Disk.tells (state (disk_of begun.log)) begun.log begun.kept (after_events (log_rule most) st syncing) =
+    subst (λ (s : Standing). IsAt most g.D.Disk.tells (state (disk_of begun.log)) begun.log begun.kept s) (sym stands_now) begins in
+    let none_now : (after_events (log_rule most) st syncing).fault ≡ None = subst (λ (s : Standing). s.fault ≡ None) (sym stands_now) none in
+    let guarded_begun = c.in-Some.ensures.crash told most st log start called none (c.in_ok-answer.ensures.crash told most st log start c.args.session c.args.line journal running.here guarded) in
+    let same : log_after most st syncing log ≡ log_after most st called log = log_after-append most st called (SyncBegin Done ∷ []) log in
+    subst (λ (l : List Event). IsGuarded most st log start (g.D.Disk.history (disk_of new.log)) new.log l None) (sym all)
+    (c.end_sync-answer.ensures.crash told most st log start syncing here_now none_now
+    (subst (λ (l : Log). IsGuarded most st log start (g.D.Disk.history (disk_of begun.log)) begun.log syncing (Some (length (entries_of l)))) (sym same) guarded_begun))

@@ -1,10 +1,13 @@
-use Rattle.std.proofs.Common.{rules, [], ◌<◌, ◌^◌, IfOk, sym, subst}
+use Rattle.std.proofs.Common.{rules, ℕ, [], ◌∷◌, ◌++◌, None, ◌<◌, ◌^◌, IfOk, length, ap, sym, subst}
 use Rattle.je_disk.specs.Moments.{now}
-use Rattle.log_file.specs.Log.{Log}
+use Rattle.log_file.specs.Log.{Log, IsLog, entries_of}
+use Rattle.log_buffer.specs.Buffer.{first_of}
+use Rattle.log_buffer.specs.Crash.{Holds}
 use Rattle.log_buffer.specs.Log.{HasLog}
 use Rattle.log_replay.specs.declared.last_file.LastFile.{LastFile}
 use Rattle.std.specs.declared.option.Option.{Option}
 use Rattle.je_program.specs.Opening.{StartsLog}
+use Rattle.je_program.proofs.OpenedLaws.{entries_begun}
 use Rattle.je_program.proofs.OpeningLaws.{first_log, resumes_at, some_end}
 use Rattle.je_program.proofs.opening.begin_log.Goals as goal
 
@@ -23,3 +26,30 @@ returns-clause-log g c = λ log starts.
     let some = some_end last.end c.if-last-eq0.false in
     let ends = resumes_at log last c.new-end.result c.new-end.ensures small some begins.1 in
     c.resume.ensures.log log begins.0 ends (begins.2 some)
+
+pub returns-in_default-clause-holds : goal.returns-in_default-clause-holds
+returns-in_default-clause-holds g c = λ told log starts marks.
+    let state = now (g.D.Disk.history c.args.disk) in
+    let begins = subst (λ (t : Option LastFile). StartsLog g.D.Disk.tells state.reads t log) c.in_default.is starts in
+    subst (λ (l : Log). IfOk c.create.result (λ buffer. Holds l [] (length (entries_of l)) None (first_of buffer) state)) (sym begins.0) (c.create.ensures.holds told [] first_log begins.1 marks)
+
+pub returns-then-last-eq0-clause-holds : goal.returns-then-last-eq0-clause-holds
+returns-then-last-eq0-clause-holds g c = λ told log starts marks.
+    let state = now (g.D.Disk.history c.args.disk) in
+    let last = c.in-Some.last in
+    let begins = subst (λ (t : Option LastFile). StartsLog g.D.Disk.tells state.reads t log) c.in-Some.is starts in
+    let begun = begins.3 c.if-last-eq0.true in
+    let is_log = subst (λ (l : Log). IsLog l) begun.1 begins.0 in
+    subst (λ (l : Log). IfOk c.create-then-last-eq0.result (λ buffer. Holds l [] (length (entries_of l)) None (first_of buffer) state)) (sym begun.1)
+    (subst (λ (n : ℕ). IfOk c.create-then-last-eq0.result (λ buffer. Holds (begun.0 ++ (last.file.0, []) ∷ []) [] n None (first_of buffer) state)) (sym (ap length (entries_begun begun.0 last.file.0)))
+    (c.create-then-last-eq0.ensures.holds told begun.0 is_log begun.2 marks))
+
+pub returns-clause-holds : goal.returns-clause-holds
+returns-clause-holds g c = λ told log starts marks.
+    let state = now (g.D.Disk.history c.args.disk) in
+    let last = c.in-Some.last in
+    let begins = subst (λ (t : Option LastFile). StartsLog g.D.Disk.tells state.reads t log) c.in-Some.is starts in
+    let small : last.end < 2 ^ 32 = search rules in
+    let some = some_end last.end c.if-last-eq0.false in
+    let ends = resumes_at log last c.new-end.result c.new-end.ensures small some begins.1 in
+    c.resume.ensures.holds told log begins.0 ends (begins.2 some) marks

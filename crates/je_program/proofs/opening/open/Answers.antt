@@ -1,8 +1,32 @@
-use Rattle.std.proofs.Common.{◌≤◌}
+use Rattle.std.proofs.Common.{◌≤◌, ap}
 use Rattle.je_disk.specs.Moments.{now}
 use Rattle.je_program.specs.Opening.{StopsBy}
 use Rattle.je_program.proofs.OpeningLaws.{if_err_both, stops_earlier}
+use Rattle.log_buffer.specs.Buffer.{disk_of}
+use Rattle.je_program.specs.Crash.{KeepsEntry}
+use Rattle.je_program.proofs.EntryLaws.{entry_later, entry_still}
+use Rattle.je_program.proofs.OpenedLaws.{if_ok_map, if_err_map}
 use Rattle.je_program.proofs.opening.open.Goals as goal
+
+pub returns-in-Ok-clause-entry : goal.returns-in-Ok-clause-entry
+returns-in-Ok-clause-entry g c = λ told.
+    let history = g.D.Disk.history in
+    let mounted = history c.read_disk.new.disk in
+    let later = c.go_on.ensures.entry told (now (history c.args.disk)).reads (c.in-Ok.ensures.read) (ap (λ s. s.reads) (c.read_disk.ensures.same told)) in
+    if_ok_map c.go_on.result (λ o. KeepsEntry mounted (history (disk_of o.environment.log))) (λ o. KeepsEntry (history c.args.disk) (history (disk_of o.environment.log)))
+    (λ o is. entry_later (history c.args.disk) mounted (history (disk_of o.environment.log)) (c.read_disk.ensures.moments told) (c.read_disk.ensures.same told) is) later
+
+pub returns-in-Ok-clause-stopped_entry : goal.returns-in-Ok-clause-stopped_entry
+returns-in-Ok-clause-stopped_entry g c = λ told.
+    let history = g.D.Disk.history in
+    let mounted = history c.read_disk.new.disk in
+    let later = c.go_on.ensures.stopped_entry told (now (history c.args.disk)).reads (c.in-Ok.ensures.read) (ap (λ s. s.reads) (c.read_disk.ensures.same told)) in
+    if_err_map c.go_on.result (λ s. KeepsEntry mounted (history s.disk)) (λ s. KeepsEntry (history c.args.disk) (history s.disk))
+    (λ s is. entry_later (history c.args.disk) mounted (history s.disk) (c.read_disk.ensures.moments told) (c.read_disk.ensures.same told) is) later
+
+pub returns-in-Err-clause-stopped_entry : goal.returns-in-Err-clause-stopped_entry
+returns-in-Err-clause-stopped_entry g c = λ told.
+    entry_still (g.D.Disk.history c.args.disk) (g.D.Disk.history c.read_disk.new.disk) (c.read_disk.ensures.moments told) (c.read_disk.ensures.same told)
 
 pub returns-in-Ok-clause-stopped : goal.returns-in-Ok-clause-stopped
 returns-in-Ok-clause-stopped g c =

@@ -11,11 +11,11 @@ pub returns-in-Ok-clause-read : goal.returns-in-Ok-clause-read
 returns-in-Ok-clause-read g c =
     let short : length c.in_ok-bytes.bytes.items ≤ MOST_INPUT = omega arith in
     reads_plan (g.S.Source.left c.args.input.now) (g.S.Source.left c.read_all.new.input) c.in_ok-bytes.bytes.items c.in-Ok.plan c.in_ok-bytes.ensures.told short
-    (rw c.deref.ensures.value at c.in-Ok.ensures)
+    (rw c.deref.ensures.value at c.in-Ok.ensures.answer)
 
 pub returns-in-Err-BadScript-clause-stopped : goal.returns-in-Err-BadScript-clause-stopped
 returns-in-Err-BadScript-clause-stopped g c =
     let short : length c.in_ok-bytes.bytes.items ≤ MOST_INPUT = omega arith in
-    let says = rw c.in-Err-BadScript.field-0-is at c.in-Err-BadScript.ensures in
+    let says = rw c.in-Err-BadScript.field-0-is at c.in-Err-BadScript.ensures.answer in
     bad_line (g.S.Source.left c.args.input.now) (g.S.Source.left c.read_all.new.input) c.in_ok-bytes.bytes.items c.in-Err-BadScript.line c.in_ok-bytes.ensures.told short
     (rw c.deref.ensures.value at says)

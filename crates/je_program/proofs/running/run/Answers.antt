@@ -1,10 +1,12 @@
-use Rattle.std.proofs.Common.{sym, subst, List, [], false}
+use Rattle.std.proofs.Common.{sym, subst, List, [], false, rules, None}
+use Rattle.std.specs.Vec.Iter.{into_iter_items}
 use Rattle.je_disk.specs.Moments.{now}
 use Rattle.log_buffer.specs.Buffer.{disk_of}
 use Rattle.je_model.specs.declared.event.Event.{Event}
+use Rattle.je_program.specs.Crash.{IsGuarded}
 use Rattle.je_program.specs.Run.{IsRunning, IsCaused, HasGiven}
 use Rattle.je_program.proofs.RunLaws.{runs_none, caused_none}
-use Rattle.je_program.proofs.GivenLaws.{given_none}
+use Rattle.je_program.proofs.GivenLaws.{given_none, first_line}
 use Rattle.je_program.proofs.running.run.Goals as goal
 
 pub loop-given-init : goal.loop-given-init
@@ -14,8 +16,10 @@ loop-given-init g c =
     let faults = g.D.Disk.faults (disk_of env.log) in
     record {
       runs = λ most st here. subst (λ (l : List Event). IsRunning most g.D.Disk.tells (now (g.D.Disk.history (disk_of env.log))) env.log env.kept l st) empty (runs_none _ _ _ _ _ st here);
+      crash = λ told most st log start here guarded. subst (λ (l : List Event). IsGuarded most st log start (g.D.Disk.history (disk_of env.log)) env.log l None) empty guarded;
       bounds = c.requires.bounds;
       sessions = c.none_stopped.ensures.len;
+      lines = search (rules, c.requires.lines);
       caused = subst (λ (l : List Event). IsCaused faults faults l) empty (caused_none _);
       given = subst (λ (l : List Event). HasGiven l false c.none_stopped.result []) empty (given_none c.none_stopped.result c.none_stopped.ensures.none);
     }
@@ -26,8 +30,10 @@ loop-given-preserved g c =
     let step = c.give_next.ensures in
     record {
       runs = λ most st here. step.runs most st (inv.runs most st here);
+      crash = λ told most st log start here guarded. step.crash told most st log start (inv.runs most st here) (inv.crash told most st log start here guarded);
       bounds = step.bounds;
       sessions = step.sessions;
+      lines = (first_line c.in-Some.given (into_iter_items c.next.new.self) (into_iter_items c.loop-given.given-iterator) c.in-Some.ensures.steps.0 inv.lines).1;
       caused = step.caused (g.D.Disk.faults (disk_of c.args.environment.log)) inv.caused;
       given = step.given c.loop-given.yielded inv.given;
     }
@@ -36,3 +42,7 @@ pub give_next-requires-clause-running : goal.give_next-requires-clause-running
 give_next-requires-clause-running g c κs within =
     let start = c.requires.start in
     (start.0, start.1, c.loop-given.invariant.runs start.0 start.1 start.2)
+
+pub give_next-requires-clause-line : goal.give_next-requires-clause-line
+give_next-requires-clause-line g c κs within =
+    (first_line c.in-Some.given (into_iter_items c.next.new.self) (into_iter_items c.loop-given.given-iterator) c.in-Some.ensures.steps.0 c.loop-given.invariant.lines).0

@@ -1,7 +1,12 @@
-use Rattle.std.proofs.Common.{◌≡◌, ℕ, length}
-use Rattle.je_disk.specs.Moments.{now}
+use Rattle.std.proofs.Common.{◌≡◌, ℕ, true, length, [], None}
+use Rattle.std.specs.List.{list_all}
+use Rattle.std.specs.Vec.Iter.{into_iter_items}
+use Rattle.je_disk.specs.Moments.{History, now}
 use Rattle.log_buffer.specs.Buffer.{disk_of}
 use Rattle.je_model.specs.Answers.{Standing}
+use Rattle.script_text.specs.Grammar.{is_line}
+use Rattle.log_file.specs.Log.{Log}
+use Rattle.je_program.specs.Crash.{IsGuarded}
 use Rattle.je_program.specs.Environment.{IsAt}
 use Rattle.je_program.specs.Run.{IsRunning, IsCaused, HasGiven}
 use Rattle.je_program.specs.Steps.{CanGoOn}
@@ -14,8 +19,12 @@ invariant-loop-given g l =
     record {
       runs : (most : ℕ) (st : Standing) → IsAt most g.D.Disk.tells (now (history (disk_of l.initial.running.environment.log))) l.initial.running.environment.log l.initial.running.environment.kept st
           → IsRunning most g.D.Disk.tells (now (history (disk_of l.running.environment.log))) l.running.environment.log l.running.environment.kept l.running.journal.items st;
+      crash : g.D.Disk.tells ≡ true → (most : ℕ) (st : Standing) (log : Log) (start : History) → IsAt most g.D.Disk.tells (now (history (disk_of l.initial.running.environment.log))) l.initial.running.environment.log l.initial.running.environment.kept st
+          → IsGuarded most st log start (history (disk_of l.initial.running.environment.log)) l.initial.running.environment.log [] None
+          → IsGuarded most st log start (history (disk_of l.running.environment.log)) l.running.environment.log l.running.journal.items None;
       bounds : CanGoOn l.running.environment.kept;
       sessions : length l.running.stopped ≡ 256;
+      lines : list_all is_line (into_iter_items l.given-iterator) ≡ true;
       caused : IsCaused (g.D.Disk.faults (disk_of l.initial.running.environment.log)) (g.D.Disk.faults (disk_of l.running.environment.log)) l.running.journal.items;
       given : HasGiven l.running.journal.items l.running.memory_ended l.running.stopped l.yielded;
     }

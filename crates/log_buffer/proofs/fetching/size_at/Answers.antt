@@ -1,7 +1,8 @@
 use Rattle.std.proofs.Common.{ℕ, ◌+◌, ap, Some, Option, drop, ◌∙◌, arith}
 use Rattle.je_disk.specs.Moments.{now}
 use Rattle.je_disk.specs.States.{content}
-use Rattle.log_buffer.proofs.Fetched.{spells_size, head_len, body_within, not_whole}
+use Rattle.log_entry.proofs.BodyLaws.{body_small}
+use Rattle.log_buffer.proofs.Fetched.{spells_size, head_len, not_whole}
 use Rattle.log_buffer.proofs.fetching.size_at.Goals as goal
 
 pub returns-then-not-branch-clause-found : goal.returns-then-not-branch-clause-found
@@ -14,7 +15,7 @@ pub returns-then-len-gt-BODY_MAX-clause-found : goal.returns-then-len-gt-BODY_MA
 returns-then-len-gt-BODY_MAX-clause-found g c =
     λ entry told spells.
     let len = head_len (drop c.args.at (content (now (g.D.Disk.history c.args.disk.now)).reads c.args.f.0)) c.fill.new.into entry (c.in_ok-fill.ensures.bytes told c.if-not-branch.false) spells in
-    let most = body_within entry spells.is_entry in
+    let most = body_small entry spells.is_entry in
     let past = c.if-len-gt-BODY_MAX.true in
     absurd (omega (arith, c.body_len-len.ensures ∙ len))
 

@@ -1,9 +1,38 @@
-use Rattle.std.proofs.Common.{◌+◌, ◌-◌, ℕ, ◌∙◌, arith}
+use Rattle.std.proofs.Common.{◌≡◌, ◌+◌, ◌-◌, ℕ, length, sym, ap, subst, ◌∙◌, arith}
 use Rattle.je_disk.specs.Moments.{now}
 use Rattle.je_disk.specs.States.{Files}
-use Rattle.log_buffer.specs.Tail.{piece_of}
-use Rattle.log_buffer.proofs.Written.{written_next, written_all, pieced}
+use Rattle.log_buffer.specs.Tail.{piece_of, bytes_for}
+use Rattle.log_buffer.specs.Crash.{Holds}
+use Rattle.log_buffer.specs.Writing.{IsTailOf}
+use Rattle.log_buffer.proofs.Pieces.{IsCut}
+use Rattle.log_buffer.proofs.Tails.{bytes_for_from}
+use Rattle.log_buffer.proofs.Written.{WrittenUpTo, written_first, written_next, written_all, pieced}
+use Rattle.log_buffer.proofs.KeptWriting.{GoesOn, through_first, goes_first, read_so_far, through_next, goes_next, tail_next, piece_some}
 use Rattle.log_buffer.proofs.writing.write_tail.Goals as goal
+
+pub loop-i-init : goal.loop-i-init
+loop-i-init g c =
+    let start : Files = (now (g.D.Disk.history c.args.disk.now)).reads in
+    let after : Files = (now (g.D.Disk.history c.write_behind.new.disk)).reads in
+    let first : ℕ = c.args.last - c.files-count.result in
+    let bytes = c.args.tail.now.bytes.items in
+    let starts = c.args.tail.now.starts.items in
+    let count = c.files-count.ensures in
+    let le = c.requires in
+    let here : first ≡ first + 0 = omega arith in
+    record {
+      first_is = omega (arith, count);
+      count_is = count;
+      written = λ told. subst (WrittenUpTo bytes starts c.args.last start after) here (written_first bytes starts c.args.last first start after c.requires (omega (arith, count))
+          (pieced start after first c.piece.result.now (piece_of bytes starts 0) c.piece.ensures (c.in_ok-write_behind.ensures.done told)));
+      never_falls = c.write_behind.ensures.cause.never_falls;
+      sync_out = c.write_behind.ensures.sync_out;
+      read_out = c.write_behind.ensures.read_out;
+      read_of = c.write_behind.ensures.read_of;
+      goes = λ told log removed least begun is h. subst (GoesOn log removed least begun (g.D.Disk.history c.args.disk.now) (g.D.Disk.history c.write_behind.new.disk)) here
+          (goes_first log removed least first begun (g.D.Disk.history c.args.disk.now) (g.D.Disk.history c.write_behind.new.disk) (bytes_for bytes starts c.args.last) c.piece.result.now
+          (c.piece.ensures ∙ sym (bytes_for_from bytes starts c.args.last first 0 c.requires (omega (arith, count)))) is h (c.write_behind.ensures.moments told) (c.in_ok-write_behind.ensures.state told));
+    }
 
 pub loop-i-preserved : goal.loop-i-preserved
 loop-i-preserved g c =
@@ -15,16 +44,25 @@ loop-i-preserved g c =
     let first : ℕ = c.args.last - c.files-count.result in
     let bytes = c.args.tail.now.bytes.items in
     let starts = c.args.tail.now.starts.items in
+    let cut : IsCut (length bytes) starts = record { within = c.args.tail.now.within; apart = c.args.tail.now.apart } in
+    let piece = c.piece-in-loop-i.result.now in
     record {
       first_is = before.first_is;
       count_is = before.count_is;
       written = λ told. written_next bytes starts c.args.last (first + c.loop-i.i) (first + (c.loop-i.i + 1)) (c.loop-i.i + 1) start after next
           c.requires (omega arith) (let f = before.first_is in omega arith) (before.written told)
-          (pieced after next (first + (c.loop-i.i + 1)) c.piece-in-loop-i.result.now (piece_of bytes starts (c.loop-i.i + 1)) c.piece-in-loop-i.ensures (c.in_ok-write_file.ensures.done told));
+          (pieced after next (first + (c.loop-i.i + 1)) piece (piece_of bytes starts (c.loop-i.i + 1)) c.piece-in-loop-i.ensures (c.in_ok-write_file.ensures.done told));
       never_falls = let a = before.never_falls in let b = cause.never_falls in omega arith;
       sync_out = c.write_file.ensures.sync_out ∙ before.sync_out;
       read_out = c.write_file.ensures.read_out ∙ before.read_out;
       read_of = c.write_file.ensures.read_of ∙ before.read_of;
+      goes = λ told log removed least begun is h.
+          goes_next log removed least (first + c.loop-i.i) (first + (c.loop-i.i + 1)) begun (g.D.Disk.history c.args.disk.now) (g.D.Disk.history c.loop-i.disk) piece is.is_log (omega arith)
+          (let lt = c.loop-i-test.true in let n = before.count_is in piece_some bytes starts piece cut c.loop-i.i (omega arith) c.piece-in-loop-i.ensures)
+          (let f = before.first_is in tail_next log start bytes starts piece c.args.last first (first + (c.loop-i.i + 1)) (c.loop-i.i + 1) is c.requires (omega arith) (omega arith) c.piece-in-loop-i.ensures)
+          (read_so_far log bytes starts c.args.last first (first + c.loop-i.i) start after is (omega arith) (before.written told))
+          (before.goes told log removed least begun is h)
+          (g.D.Disk.history c.write_file.new.disk) (c.write_file.ensures.moments told) (c.in_ok-write_file.ensures.state told);
     }
 
 pub returns-clause-done : goal.returns-clause-done
@@ -32,3 +70,57 @@ returns-clause-done g c =
     λ told. written_all c.args.tail.now.bytes.items c.args.tail.now.starts.items c.args.last (c.args.last - c.files-count.result + c.loop-i.i) (now (g.D.Disk.history c.args.disk.now)).reads (now (g.D.Disk.history c.loop-i.disk)).reads c.requires
     (let f = c.loop-i.invariant.first_is in let n = c.loop-i.invariant.count_is in let e = c.loop-i.auto.i-end in let t = c.loop-i-test.false in omega arith)
     (c.loop-i.invariant.written told)
+
+pub returns-in_err-write_behind-clause-crash : goal.returns-in_err-write_behind-clause-crash
+returns-in_err-write_behind-clause-crash g c =
+    let bytes = c.args.tail.now.bytes.items in
+    let starts = c.args.tail.now.starts.items in
+    let first : ℕ = c.args.last - c.files-count.result in
+    let le = c.requires in
+    let count = c.files-count.ensures in
+    let same : c.args.last - length starts ≡ first = ap (λ (n : ℕ). c.args.last - n) (sym c.files-count.ensures) in
+    λ told log removed least begun is h.
+    through_first log removed least first begun (g.D.Disk.history c.args.disk.now) (g.D.Disk.history c.write_behind.new.disk) (bytes_for bytes starts c.args.last) c.piece.result.now
+    (c.piece.ensures ∙ sym (bytes_for_from bytes starts c.args.last first 0 c.requires (omega (arith, count))))
+    (subst (IsTailOf log (now (g.D.Disk.history c.args.disk.now)).reads (bytes_for bytes starts c.args.last)) same is)
+    (subst (λ (n : ℕ). Holds log removed least begun n (now (g.D.Disk.history c.args.disk.now))) same h)
+    (c.write_behind.ensures.moments told)
+
+pub returns-in_err-write_file-clause-crash : goal.returns-in_err-write_file-clause-crash
+returns-in_err-write_file-clause-crash g c =
+    let before = c.loop-i.invariant in
+    let start : Files = (now (g.D.Disk.history c.args.disk.now)).reads in
+    let after : Files = (now (g.D.Disk.history c.loop-i.disk)).reads in
+    let bytes = c.args.tail.now.bytes.items in
+    let starts = c.args.tail.now.starts.items in
+    let first : ℕ = c.args.last - c.files-count.result in
+    let cut : IsCut (length bytes) starts = record { within = c.args.tail.now.within; apart = c.args.tail.now.apart } in
+    let piece = c.piece-in-loop-i.result.now in
+    let same : c.args.last - length starts ≡ first = ap (λ (n : ℕ). c.args.last - n) (sym c.files-count.ensures) in
+    λ told log removed least begun is h.
+    let tail = subst (IsTailOf log start (bytes_for bytes starts c.args.last)) same is in
+    through_next log removed least (first + c.loop-i.i) (first + (c.loop-i.i + 1)) begun (g.D.Disk.history c.args.disk.now) (g.D.Disk.history c.loop-i.disk) piece is.is_log (omega arith)
+    (let lt = c.loop-i-test.true in let n = before.count_is in piece_some bytes starts piece cut c.loop-i.i (omega arith) c.piece-in-loop-i.ensures)
+    (let f = before.first_is in tail_next log start bytes starts piece c.args.last first (first + (c.loop-i.i + 1)) (c.loop-i.i + 1) tail c.requires (omega arith) (omega arith) c.piece-in-loop-i.ensures)
+    (read_so_far log bytes starts c.args.last first (first + c.loop-i.i) start after tail (omega arith) (before.written told))
+    (before.goes told log removed least begun tail (subst (λ (n : ℕ). Holds log removed least begun n (now (g.D.Disk.history c.args.disk.now))) same h))
+    (g.D.Disk.history c.write_file.new.disk) (c.write_file.ensures.moments told)
+
+pub returns-clause-crash : goal.returns-clause-crash
+returns-clause-crash g c =
+    let same : c.args.last - length c.args.tail.now.starts.items ≡ c.args.last - c.files-count.result = ap (λ (n : ℕ). c.args.last - n) (sym c.files-count.ensures) in
+    λ told log removed least begun is h.
+    (c.loop-i.invariant.goes told log removed least begun
+    (subst (IsTailOf log (now (g.D.Disk.history c.args.disk.now)).reads (bytes_for c.args.tail.now.bytes.items c.args.tail.now.starts.items c.args.last)) same is)
+    (subst (λ (n : ℕ). Holds log removed least begun n (now (g.D.Disk.history c.args.disk.now))) same h)).through
+
+pub returns-clause-holds : goal.returns-clause-holds
+returns-clause-holds g c =
+    let same : c.args.last - length c.args.tail.now.starts.items ≡ c.args.last - c.files-count.result = ap (λ (n : ℕ). c.args.last - n) (sym c.files-count.ensures) in
+    let end : c.args.last - c.files-count.result + c.loop-i.i ≡ c.args.last =
+    let f = c.loop-i.invariant.first_is in let n = c.loop-i.invariant.count_is in let e = c.loop-i.auto.i-end in let t = c.loop-i-test.false in omega arith in
+    λ told log removed least begun is h.
+    subst (λ (n : ℕ). Holds log removed least begun n (now (g.D.Disk.history c.loop-i.disk))) end
+    (c.loop-i.invariant.goes told log removed least begun
+    (subst (IsTailOf log (now (g.D.Disk.history c.args.disk.now)).reads (bytes_for c.args.tail.now.bytes.items c.args.tail.now.starts.items c.args.last)) same is)
+    (subst (λ (n : ℕ). Holds log removed least begun n (now (g.D.Disk.history c.args.disk.now))) same h)).holds

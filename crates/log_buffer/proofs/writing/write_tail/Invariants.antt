@@ -1,6 +1,11 @@
-use Rattle.std.proofs.Common.{◌≡◌, ◌≤◌, ◌+◌, true, length}
+use Rattle.std.proofs.Common.{◌≡◌, ◌≤◌, ◌+◌, ℕ, Option, true, length}
 use Rattle.je_disk.specs.Moments.{now}
+use Rattle.log_file.specs.Log.{Log}
+use Rattle.log_buffer.specs.Tail.{bytes_for}
+use Rattle.log_buffer.specs.Crash.{Holds}
+use Rattle.log_buffer.specs.Writing.{IsTailOf}
 use Rattle.log_buffer.proofs.Written.{WrittenUpTo}
+use Rattle.log_buffer.proofs.KeptWriting.{GoesOn}
 use Rattle.log_buffer.proofs.writing.write_tail.Given as goal
 
 abbrev pub invariant-loop-i : goal.invariant-loop-i
@@ -12,4 +17,6 @@ invariant-loop-i g l = record {
   sync_out : g.D.Disk.sync_out l.disk ≡ g.D.Disk.sync_out l.fn.disk;
   read_out : g.D.Disk.read_out l.disk ≡ g.D.Disk.read_out l.fn.disk;
   read_of : g.D.Disk.read_of l.disk ≡ g.D.Disk.read_of l.fn.disk;
+  goes : g.D.Disk.tells ≡ true → (log removed : Log) (least : ℕ) (begun : Option ℕ) → IsTailOf log (now (g.D.Disk.history l.fn.disk)).reads (bytes_for l.tail.bytes.items l.tail.starts.items l.last) l.first
+      → Holds log removed least begun l.first (now (g.D.Disk.history l.fn.disk)) → GoesOn log removed least begun (g.D.Disk.history l.fn.disk) (g.D.Disk.history l.disk) (l.first + l.i);
 }

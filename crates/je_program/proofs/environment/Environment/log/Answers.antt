@@ -1,5 +1,6 @@
-use Rattle.std.proofs.Common.{◌≡◌, ◌∷◌, [], ◌+◌, ℕ, refl, ap, sym, ◌∙◌, arith}
-use Rattle.je_disk.specs.Moments.{now}
+use Rattle.std.proofs.Common.{◌≡◌, ◌∷◌, [], ◌+◌, ℕ, refl, ap, sym, subst, ◌∙◌, arith, None}
+use Rattle.je_disk.specs.Causes.{Rose}
+use Rattle.je_disk.specs.Moments.{now, History}
 use Rattle.je_disk.specs.States.{State}
 use Rattle.log_buffer.specs.Buffer.{disk_of, end_of, file_max_of}
 use Rattle.log_buffer.specs.Flip.{end_after_all}
@@ -11,6 +12,12 @@ use Rattle.log_replay.specs.Rows.{rows_in}
 use Rattle.je_program.specs.Environment.{logged_sizes}
 use Rattle.je_program.specs.Logging.{rows_after}
 use Rattle.je_program.specs.Planning.{end_behind}
+use Rattle.log_file.specs.Log.{Log}
+use Rattle.log_buffer.specs.Crash.{KeptThrough}
+use Rattle.log_buffer.specs.declared.place.Place.{Place}
+use Rattle.je_program.specs.Crash.{IsKeeping, log_with_all}
+use Rattle.je_program.specs.Logging.{entries_logged}
+use Rattle.je_program.proofs.GuardLaws.{keeping_unchanged, logs_nothing_safely}
 use Rattle.je_program.proofs.LoggingLaws.{can_go_on, end_along, end_found, gains_along, keeps_unchanged, logs_nothing, rows_after_is, sizes_are}
 use Rattle.je_program.proofs.environment.Environment.log.Goals as goal
 
@@ -88,3 +95,72 @@ returns-in-Ok-clause-bounds g c =
       commits = old.kept.commits + 1;
       fault = old.kept.fault;
     }) c.args.number c.args.change c.requires.bounds c.requires.room (omega (arith, c.ranges.number.fits)) end refl refl c.max-self.ensures
+
+pub returns-clause-cause : goal.returns-clause-cause
+returns-clause-cause g c =
+    let faults : g.row.D.Denot → ℕ = λ d. g.D.Disk.faults d in
+    let same : faults (disk_of c.reserve.new.self) ≡ faults (disk_of c.args.self.now.log) = ap faults c.reserve.ensures.unchanged.disk in
+    record {
+      never_falls = omega (arith, c.append_both.ensures.never_falls, same);
+      fault = λ is. subst (λ (n : ℕ). Rose n (faults (disk_of c.append_both.new.log))) same c.in-Err.ensures.fault;
+    }
+
+pub returns-then-is_err-clause-crash : goal.returns-then-is_err-clause-crash
+returns-then-is_err-clause-crash g c = λ told held least keeping.
+    let state : g.row.D.Denot → State = λ d. now (g.D.Disk.history d) in
+    let old = c.args.self.now in
+    let same = c.reserve.ensures.unchanged in
+    (ap (λ d. g.D.Disk.history d) same.disk, keeping_unchanged state old.log c.reserve.new.self held least None same keeping)
+
+pub returns-in_err-change_rows-clause-crash : goal.returns-in_err-change_rows-clause-crash
+returns-in_err-change_rows-clause-crash g c = λ told held least keeping.
+    let state : g.row.D.Denot → State = λ d. now (g.D.Disk.history d) in
+    let old = c.args.self.now in
+    let same = c.reserve.ensures.unchanged in
+    logs_nothing_safely (g.D.Disk.history (disk_of old.log)) (g.D.Disk.history (disk_of c.reserve.new.self)) c.reserve.new.self held
+    (log_with_all old.kept.file_max old.kept.end (entries_logged (old.kept.last_txn + 1) c.args.number c.args.change) held) least
+    c.from_residual-in_err-change_rows.result c.from_residual-in_err-change_rows.ensures.0 (ap (λ d. g.D.Disk.history d) same.disk) (keeping_unchanged state old.log c.reserve.new.self held least None same keeping)
+
+pub returns-in-Ok-clause-crash : goal.returns-in-Ok-clause-crash
+returns-in-Ok-clause-crash g c = λ told held least keeping.
+    let state : g.row.D.Denot → State = λ d. now (g.D.Disk.history d) in
+    let old = c.args.self.now in
+    let reserved = c.reserve.new.self in
+    let new = c.append_both.new.log in
+    let same = c.reserve.ensures.unchanged in
+    let keeps = keeping_unchanged state old.log reserved held least None same keeping in
+    let txn = old.kept.last_txn + 1 in
+    let log_is : log_with_all (file_max_of reserved) (end_of reserved) (c.in_ok-entry.entry ∷ Commit (record { 0 = txn }) ∷ []) held
+    ≡ log_with_all old.kept.file_max old.kept.end (entries_logged txn c.args.number c.args.change) held =
+    ap (λ (m : ℕ). log_with_all m (end_of reserved) (c.in_ok-entry.entry ∷ Commit (record { 0 = txn }) ∷ []) held) (same.kept.max ∙ c.requires.works.file_max)
+    ∙ ap (λ (p : Place). log_with_all old.kept.file_max p (c.in_ok-entry.entry ∷ Commit (record { 0 = txn }) ∷ []) held) (same.kept.end ∙ c.requires.works.end)
+    ∙ ap (λ (e : Entry). log_with_all old.kept.file_max old.kept.end (e ∷ Commit (record { 0 = txn }) ∷ []) held) c.in_ok-entry.ensures in
+    let through = c.append_both.ensures.crash told held least keeps in (
+      subst (λ (h : History). KeptThrough h (g.D.Disk.history (disk_of new)) (log_with_all old.kept.file_max old.kept.end (entries_logged txn c.args.number c.args.change) held) [] least)
+          (ap (λ d. g.D.Disk.history d) same.disk)
+          (subst (λ (l : Log). KeptThrough (g.D.Disk.history (disk_of reserved)) (g.D.Disk.history (disk_of new)) l [] least) log_is through),
+      λ ne. subst (λ (l : Log). IsKeeping (state (disk_of new)) new l least None) log_is (c.in-Ok.ensures.keeps told held least keeps),
+      λ ok e. cc,
+    )
+
+pub returns-clause-crash : goal.returns-clause-crash
+returns-clause-crash g c = λ told held least keeping.
+    let state : g.row.D.Denot → State = λ d. now (g.D.Disk.history d) in
+    let old = c.args.self.now in
+    let reserved = c.reserve.new.self in
+    let new = c.append_both.new.log in
+    let same = c.reserve.ensures.unchanged in
+    let keeps = keeping_unchanged state old.log reserved held least None same keeping in
+    let txn = old.kept.last_txn + 1 in
+    let log_is : log_with_all (file_max_of reserved) (end_of reserved) (c.in_ok-entry.entry ∷ Commit (record { 0 = txn }) ∷ []) held
+    ≡ log_with_all old.kept.file_max old.kept.end (entries_logged txn c.args.number c.args.change) held =
+    ap (λ (m : ℕ). log_with_all m (end_of reserved) (c.in_ok-entry.entry ∷ Commit (record { 0 = txn }) ∷ []) held) (same.kept.max ∙ c.requires.works.file_max)
+    ∙ ap (λ (p : Place). log_with_all old.kept.file_max p (c.in_ok-entry.entry ∷ Commit (record { 0 = txn }) ∷ []) held) (same.kept.end ∙ c.requires.works.end)
+    ∙ ap (λ (e : Entry). log_with_all old.kept.file_max old.kept.end (e ∷ Commit (record { 0 = txn }) ∷ []) held) c.in_ok-entry.ensures in
+    let through = c.append_both.ensures.crash told held least keeps in (
+      subst (λ (h : History). KeptThrough h (g.D.Disk.history (disk_of new)) (log_with_all old.kept.file_max old.kept.end (entries_logged txn c.args.number c.args.change) held) [] least)
+          (ap (λ d. g.D.Disk.history d) same.disk)
+          (subst (λ (l : Log). KeptThrough (g.D.Disk.history (disk_of reserved)) (g.D.Disk.history (disk_of new)) l [] least) log_is through),
+      λ ne. absurd (ne refl),
+      λ ok. let failed = c.in-Err.ensures.failed in absurd cc,
+    )

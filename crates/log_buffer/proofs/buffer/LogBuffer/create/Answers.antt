@@ -1,8 +1,9 @@
-use Rattle.std.proofs.Common.{[], length, refl, ap, ◌∙◌, arith}
+use Rattle.std.proofs.Common.{◌-◌, [], length, refl, ap, ◌∙◌, arith}
 use Rattle.je_disk.specs.Moments.{now}
 use Rattle.log_buffer.proofs.Tails.{alone_last, alone_other}
 use Rattle.log_buffer.proofs.Rooms.{same_for}
 use Rattle.log_buffer.proofs.Ending.{log_created}
+use Rattle.log_buffer.proofs.KeptOpening.{headless_holds}
 use Rattle.log_buffer.proofs.buffer.LogBuffer.create.Goals as goal
 
 pub returns-in-Ok-clause-log : goal.returns-in-Ok-clause-log
@@ -16,3 +17,9 @@ returns-in-Ok-clause-log g c =
     (same_for bytes [] bytes starts file file refl c.in-Ok.ensures.starts ∙ alone_last bytes file ∙ c.in-Ok.ensures.bytes)
     (λ f apart. same_for bytes [] bytes starts file f refl c.in-Ok.ensures.starts ∙ alone_other bytes file f apart)
     is read
+
+pub returns-in-Ok-clause-holds : goal.returns-in-Ok-clause-holds
+returns-in-Ok-clause-holds g c =
+    λ told before is read stable.
+    let but = read told in
+    headless_holds before c.args.file.0 (c.args.file.0 - length c.in-Ok.tail.starts.items) (now (g.D.Disk.history c.args.disk)) (omega arith) but.1 stable

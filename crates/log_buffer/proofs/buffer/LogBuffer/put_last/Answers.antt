@@ -6,6 +6,8 @@ use Rattle.log_buffer.proofs.Pieces.{IsCut}
 use Rattle.log_buffer.proofs.Growing.{log_last}
 use Rattle.log_buffer.proofs.Rooms.{each_more, same_for, on_err, first_same, pushed_last, pushed_other}
 use Rattle.log_buffer.specs.Tail.{first_for}
+use Rattle.log_buffer.specs.Buffer.{file_of, offset_of, last_of, first_of}
+use Rattle.log_buffer.proofs.KeptGrowing.{holds_with}
 use Rattle.log_buffer.proofs.buffer.LogBuffer.put_last.Goals as goal
 
 pub returns-in_err-push-clause-fits : goal.returns-in_err-push-clause-fits
@@ -67,3 +69,11 @@ returns-in_err-push-clause-unchanged g c =
       disk = refl;
       failed = refl;
     })
+
+pub returns-clause-holds : goal.returns-clause-holds
+returns-clause-holds g c =
+    let old = c.args.self.now in
+    let starts : c.push.new.self.starts.items ≡ old.tail.starts.items = ap (λ v. v.items) c.push.ensures.starts in
+    λ tells state log removed least begun has h.
+    holds_with log removed least begun (first_of old) (old.file.0 - length c.push.new.self.starts.items) (file_of old) (offset_of old) (last_of old) (file_of old) state c.args.entry.now has.is_log has.ends (omega arith)
+    (ap (λ (s : List ℕ). old.file.0 - length s) starts) h

@@ -5,6 +5,8 @@ use Rattle.log_buffer.proofs.Growing.{log_next}
 use Rattle.log_buffer.proofs.Rooms.{each_more, same_for, begun_next, begun_other, spelled_size, on_err, first_before}
 use Rattle.log_entry.proofs.BodyLaws.{body_small}
 use Rattle.log_buffer.specs.Tail.{first_for}
+use Rattle.log_buffer.specs.Buffer.{file_of, offset_of, last_of, first_of}
+use Rattle.log_buffer.proofs.KeptGrowing.{holds_with}
 use Rattle.log_buffer.proofs.buffer.LogBuffer.put_next.Goals as goal
 
 pub begin-requires : goal.begin-requires
@@ -74,3 +76,11 @@ returns-clause-room g c =
       files = let files = room.files in let begun = ap length c.in_ok-begin.ensures.begun in omega (arith, more, begun);
       each = each_more _ _ sizes c.spell_first.ensures.capacity room.each.1;
     }
+
+pub returns-clause-holds : goal.returns-clause-holds
+returns-clause-holds g c =
+    let old = c.args.self.now in
+    let len = length-append old.tail.starts.items (length old.tail.bytes.items ∷ []) in
+    λ tells state log removed least begun has h.
+    holds_with log removed least begun (first_of old) (old.file.0 + 1 - length c.begin.new.self.starts.items) (file_of old) (offset_of old) (last_of old) (file_of old + 1) state c.args.entry.now has.is_log has.ends (omega arith)
+    (let begun = ap length c.in_ok-begin.ensures.begun in omega (arith, len, begun)) h

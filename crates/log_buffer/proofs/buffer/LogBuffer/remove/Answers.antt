@@ -1,7 +1,12 @@
-use Rattle.std.proofs.Common.{◌-◌, length, refl, arith}
+use Rattle.std.proofs.Common.{ℕ, ◌-◌, ◌++◌, length, option_map, refl, sym, subst, arith}
 use Rattle.je_disk.specs.Moments.{now}
 use Rattle.log_buffer.proofs.Tails.{none_below, first_for_le, first_or_below}
 use Rattle.log_buffer.proofs.Ending.{log_removed}
+use Rattle.log_file.specs.Log.{entries_of}
+use Rattle.log_buffer.specs.Buffer.{first_of}
+use Rattle.log_buffer.specs.Log.{log_without, log_of}
+use Rattle.log_buffer.specs.Crash.{Holds}
+use Rattle.log_buffer.proofs.KeptRemoved.{holds_removed, removed_through}
 use Rattle.log_buffer.proofs.buffer.LogBuffer.remove.Goals as goal
 
 pub returns-in-Ok-clause-log : goal.returns-in-Ok-clause-log
@@ -14,3 +19,22 @@ returns-in-Ok-clause-log g c =
     (λ is. let le = first_for_le starts old.file.0 old.files in let below = c.requires in absurd (omega (arith, is)))
     (first_or_below starts (old.file.0 - length starts) c.args.f.0 c.requires)
     refl refl refl refl refl refl (λ f. refl) c.in-Ok.ensures.done has
+
+pub returns-in-Ok-clause-crash : goal.returns-in-Ok-clause-crash
+returns-in-Ok-clause-crash g c =
+    let old = c.args.self.now in
+    λ told log removed least begun has h less.
+    removed_through log removed least c.args.f.0 begun (first_of old) (g.D.Disk.history old.disk) (g.D.Disk.history c.remove.new.self) has.is_log less h (c.remove.ensures.moments told)
+
+pub returns-in-Ok-clause-holds : goal.returns-in-Ok-clause-holds
+returns-in-Ok-clause-holds g c =
+    let old = c.args.self.now in
+    λ told log removed least begun has h less.
+    subst (Holds (log_without c.args.f.0 log) (log_of c.args.f.0 log ++ removed) (least - length (entries_of (log_of c.args.f.0 log))) (option_map (λ (n : ℕ). n - length (entries_of (log_of c.args.f.0 log))) begun) (first_of old)) (sym (c.in-Ok.ensures.done told))
+    (holds_removed log removed least c.args.f.0 begun (first_of old) (first_of old) (now (g.D.Disk.history old.disk)) has.is_log less refl h)
+
+pub returns-in-Err-clause-crash : goal.returns-in-Err-clause-crash
+returns-in-Err-clause-crash g c =
+    let old = c.args.self.now in
+    λ told log removed least begun has h less.
+    removed_through log removed least c.args.f.0 begun (first_of old) (g.D.Disk.history old.disk) (g.D.Disk.history c.remove.new.self) has.is_log less h (c.remove.ensures.moments told)

@@ -1,9 +1,10 @@
-use Rattle.std.proofs.Common.{ℕ, ◌/◌, [], length, refl, ap, sym, subst, ◌∙◌, arith}
+use Rattle.std.proofs.Common.{ℕ, ◌/◌, ◌-◌, [], length, refl, ap, sym, subst, ◌∙◌, arith}
 use Rattle.je_disk.specs.Moments.{now}
 use Rattle.log_buffer.specs.Log.{EndsAt}
 use Rattle.log_buffer.proofs.Tails.{bytes_for_none}
 use Rattle.log_buffer.proofs.Rooms.{same_for}
 use Rattle.log_buffer.proofs.Ending.{log_at_end}
+use Rattle.log_buffer.proofs.KeptOpening.{synced_holds}
 use Rattle.log_buffer.proofs.buffer.LogBuffer.resume.Goals as goal
 
 pub returns-clause-log : goal.returns-clause-log
@@ -19,3 +20,11 @@ returns-clause-log g c =
     (subst (λ (k : ℕ). EndsAt log k c.offset-offset.result c.args.last) (sym c.file-file.ensures)
     (subst (λ (k : ℕ). EndsAt log (c.args.at / 4294967296) k c.args.last) (sym c.offset-offset.ensures) ends))
     read
+
+pub returns-clause-holds : goal.returns-clause-holds
+returns-clause-holds g c =
+    λ told log is ends read stable.
+    synced_holds log c.file-file.result.0 c.offset-offset.result c.args.last (c.file-file.result.0 - length c.new.result.starts.items) (now (g.D.Disk.history c.args.disk)) is
+    (subst (λ (k : ℕ). EndsAt log k c.offset-offset.result c.args.last) (sym c.file-file.ensures)
+    (subst (λ (k : ℕ). EndsAt log (c.args.at / 4294967296) k c.args.last) (sym c.offset-offset.ensures) ends))
+    (omega arith) (read told) stable

@@ -1,5 +1,7 @@
-use Rattle.std.proofs.Common.{[], length, refl, ap, ◌∙◌, arith}
+use Rattle.std.proofs.Common.{ℕ, [], length, refl, ap, subst, ◌∙◌, arith}
 use Rattle.je_disk.specs.Moments.{now}
+use Rattle.log_buffer.specs.Crash.{Holds}
+use Rattle.log_buffer.proofs.KeptWriting.{tail_is}
 use Rattle.log_buffer.proofs.Tails.{bytes_for_none}
 use Rattle.log_buffer.proofs.Rooms.{same_for}
 use Rattle.log_buffer.proofs.Ending.{log_written}
@@ -16,3 +18,10 @@ returns-in-Ok-clause-log g c =
       base = refl;
     })
     refl refl refl c.in-Ok.ensures.done has
+
+pub returns-in-Ok-clause-holds : goal.returns-in-Ok-clause-holds
+returns-in-Ok-clause-holds g c =
+    let old = c.args.self.now in
+    λ told log removed least begun has h.
+    subst (λ (n : ℕ). Holds log removed least begun n (now (g.D.Disk.history c.write_tail.new.disk))) (let starts = ap length c.clear.ensures.starts in omega (arith, starts))
+    (c.in-Ok.ensures.holds told log removed least begun (tail_is g.D.Disk.tells (now (g.D.Disk.history old.disk)) old log told has) h)

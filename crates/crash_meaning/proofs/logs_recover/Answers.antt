@@ -1,0 +1,5 @@
+use Rattle.crash_meaning.proofs.Recoveries.{logs_recover, longer_logs_recover}
+use Rattle.crash_meaning.proofs.logs_recover.Goals as goal
+
+pub returns : goal.returns
+returns c = record { starts = logs_recover; grows = longer_logs_recover }

@@ -1,0 +1,63 @@
+-- What a call on the catalog comes to, and the catalog's records that a change logs.
+use Rattle.std.specs.Prelude.{ℕ, ◌∷◌, [], List, Option, Some, None, Bool, true, false}
+use Rattle.je_model.specs.declared.store.Store.{Store}
+use Rattle.je_model.specs.declared.store.Kind.{Kind}
+use Rattle.je_model.specs.declared.store.Kind.TheVariants.{Plain}
+use Rattle.je_model.specs.declared.call.Call.{Call}
+use Rattle.je_model.specs.declared.call.Call.TheVariants.{Create, List as Lists, Remove as Removes, Rename as Renames, Truncate}
+use Rattle.je_model.specs.declared.change.Change.{Change}
+use Rattle.je_model.specs.declared.change.Change.TheVariants.{Set, Unset, Make, Remove, Rename, Empty}
+use Rattle.je_model.specs.declared.answer.Answer.{Answer}
+use Rattle.je_model.specs.Evaluation.{Outcome, answers, evaluation}
+use Rattle.je_model.specs.Answers.{or_refusal, catalog_refusal, length_refusal}
+use Rattle.db_catalog.specs.declared.db_record.DbRecord.{DbRecord}
+use Rattle.db_catalog.specs.declared.db_kind.DbKind.{DbKind}
+use Rattle.db_catalog.specs.declared.db_kind.DbKind.TheVariants.{Plain as PlainRecord}
+use Rattle.db_catalog.specs.declared.catalog_change.CatalogChange.{CatalogChange}
+use Rattle.db_catalog.specs.declared.catalog_change.CatalogChange.TheVariants.{Put, Delete}
+
+-- the calls that speak of databases alone, not of their records
+abbrev pub is_catalog_call : Call → Bool
+is_catalog_call (Create db kind) = true
+is_catalog_call Lists = true
+is_catalog_call (Removes db) = true
+is_catalog_call (Renames db to) = true
+is_catalog_call (Truncate db) = true
+is_catalog_call call = false
+
+-- a refusal is the answer, and nothing changes
+abbrev pub outcome_unless : Option Answer → Outcome → Outcome
+outcome_unless None outcome = outcome
+outcome_unless (Some refusal) outcome = answers refusal
+
+-- what a call comes to on a store: its refusal by the catalog or for a length, else what it evaluates to
+abbrev pub outcome_of : Call → Store → Outcome
+outcome_of call store = outcome_unless (or_refusal (catalog_refusal call store) (length_refusal call)) (evaluation call store)
+
+-- a kind as the catalog has it
+abbrev pub kind_in_catalog : Kind → DbKind
+kind_in_catalog Plain = PlainRecord
+
+-- a record with another number
+abbrev pub renumbered : ℕ → DbRecord → DbRecord
+renumbered number r = record { number = number; kind = r.kind }
+
+-- a renamed database's record stands under its new name
+abbrev pub moved : List ℕ → List ℕ → Option DbRecord → List CatalogChange
+moved db to None = []
+moved db to (Some r) = Delete db ∷ Put to r ∷ []
+
+-- an emptied database goes on under a new number
+abbrev pub renewed : List ℕ → ℕ → Option DbRecord → List CatalogChange
+renewed db number None = []
+renewed db number (Some r) = Put db (renumbered number r) ∷ []
+
+-- the changes of the catalog's records that log a change, in order; `record_of` is the record of a name, and a database that
+-- is made or emptied gets the number
+abbrev pub logged_as : (List ℕ → Option DbRecord) → ℕ → Change → List CatalogChange
+logged_as record_of number (Set db at value) = []
+logged_as record_of number (Unset db at) = []
+logged_as record_of number (Make db kind) = Put db (record { number = number; kind = kind_in_catalog kind }) ∷ []
+logged_as record_of number (Remove db) = Delete db ∷ []
+logged_as record_of number (Rename db to) = moved db to (record_of db)
+logged_as record_of number (Empty db) = renewed db number (record_of db)

@@ -1,0 +1,214 @@
+// What a call on the catalog comes to.
+ghost use Rattle.std.specs.Prelude.{◌≡◌, ◌∷◌, [], true, IfOk};
+ghost use Rattle.je_model.specs.Evaluation.{answers, changes_by};
+ghost use Rattle.je_model.specs.declared.call.Call.TheVariants.{Create, List as Lists, Remove as Removes, Rename as Renames, Truncate};
+ghost use Rattle.db_catalog.specs.Planning.{is_catalog_call, outcome_of, logged_as, kind_in_catalog, moved, renewed};
+
+use crate::{CatalogChange, CatalogView, DbKind, DbRecord};
+use je_model::{Answer, Call, Change, Kind, MOST_DATABASES};
+use je_order::{List, Word, copy_of};
+use std::alloc::{AllocError, Global};
+
+/// What a call comes to: its answer, and the changes that it makes, in order.
+#[derive(Debug, Drop)]
+pub struct CatalogPlan {
+    pub answer: Answer,
+    pub changes: List<Change>,
+}
+
+// An answer that changes nothing.
+fn answer_only(alloc: Global, answer: Answer) -> CatalogPlan
+    ensures { record { answer = result.answer; changes = result.changes } ≡ answers answer }
+{
+    CatalogPlan {
+        answer,
+        changes: List::new(alloc),
+    }
+}
+
+// A call that is done by one change.
+fn one_change(alloc: Global, change: Change) -> Result<CatalogPlan, AllocError>
+    ensures { IfOk result (λ plan. record { answer = plan.answer; changes = plan.changes } ≡ changes_by change) }
+{
+    let mut changes = List::new(alloc);
+    changes.push(change)?;
+    Ok(CatalogPlan {
+        answer: Answer::Done,
+        changes,
+    })
+}
+
+fn plan_create<V: CatalogView>(
+    alloc: Global,
+    view: &V,
+    db: &Word,
+    kind: &Kind,
+) -> Result<CatalogPlan, AllocError>
+    ensures { IfOk result (λ plan. record { answer = plan.answer; changes = plan.changes } ≡ outcome_of (Create db.now kind.now) (V.seen view.now)) }
+{
+    if view.has(alloc, db)? {
+        return Ok(answer_only(alloc, Answer::NameTaken));
+    }
+    if MOST_DATABASES as usize <= view.count() {
+        let count = MOST_DATABASES;
+        return Ok(answer_only(alloc, Answer::TooMany { count }));
+    }
+    let change = Change::Make {
+        db: copy_of(db)?,
+        kind: copy_of(kind)?,
+    };
+    one_change(alloc, change)
+}
+
+fn plan_list<V: CatalogView>(alloc: Global, view: &V) -> Result<CatalogPlan, AllocError>
+    ensures { IfOk result (λ plan. record { answer = plan.answer; changes = plan.changes } ≡ outcome_of Lists (V.seen view.now)) }
+{
+    let names = view.names(alloc)?;
+    Ok(answer_only(alloc, Answer::Names { names }))
+}
+
+fn plan_remove<V: CatalogView>(
+    alloc: Global,
+    view: &V,
+    db: &Word,
+) -> Result<CatalogPlan, AllocError>
+    ensures { IfOk result (λ plan. record { answer = plan.answer; changes = plan.changes } ≡ outcome_of (Removes db.now) (V.seen view.now)) }
+{
+    if !view.has(alloc, db)? {
+        return Ok(answer_only(alloc, Answer::NoDatabase));
+    }
+    let change = Change::Remove { db: copy_of(db)? };
+    one_change(alloc, change)
+}
+
+fn plan_rename<V: CatalogView>(
+    alloc: Global,
+    view: &V,
+    db: &Word,
+    to: &Word,
+) -> Result<CatalogPlan, AllocError>
+    ensures { IfOk result (λ plan. record { answer = plan.answer; changes = plan.changes } ≡ outcome_of (Renames db.now to.now) (V.seen view.now)) }
+{
+    if !view.has(alloc, db)? {
+        return Ok(answer_only(alloc, Answer::NoDatabase));
+    }
+    if view.has(alloc, to)? {
+        return Ok(answer_only(alloc, Answer::NameTaken));
+    }
+    let change = Change::Rename {
+        db: copy_of(db)?,
+        to: copy_of(to)?,
+    };
+    one_change(alloc, change)
+}
+
+fn plan_truncate<V: CatalogView>(
+    alloc: Global,
+    view: &V,
+    db: &Word,
+) -> Result<CatalogPlan, AllocError>
+    ensures { IfOk result (λ plan. record { answer = plan.answer; changes = plan.changes } ≡ outcome_of (Truncate db.now) (V.seen view.now)) }
+{
+    if !view.has(alloc, db)? {
+        return Ok(answer_only(alloc, Answer::NoDatabase));
+    }
+    let change = Change::Empty { db: copy_of(db)? };
+    one_change(alloc, change)
+}
+
+/// What a call on the catalog comes to: the model's answer and changes on the store that the view
+/// sees, refusals first. Room in the log and numbers are not asked here. The one error is want of
+/// memory.
+pub fn plan<V: CatalogView>(alloc: Global, view: &V, call: &Call) -> Result<CatalogPlan, AllocError>
+    requires { is_catalog_call call.now ≡ true }
+    ensures { IfOk result (λ plan. record { answer = plan.answer; changes = plan.changes } ≡ outcome_of call.now (V.seen view.now)) }
+{
+    match call {
+        Call::Create { db, kind } => plan_create(alloc, view, db, kind),
+        Call::List => plan_list(alloc, view),
+        Call::Remove { db } => plan_remove(alloc, view, db),
+        Call::Rename { db, to } => plan_rename(alloc, view, db, to),
+        Call::Truncate { db } => plan_truncate(alloc, view, db),
+        Call::Put { .. } | Call::PutNo { .. } | Call::Get { .. } | Call::Delete { .. } => {
+            unreachable!()
+        }
+    }
+}
+
+fn one_record(alloc: Global, change: CatalogChange) -> Result<List<CatalogChange>, AllocError>
+    ensures { IfOk result (λ logged. logged ≡ change ∷ []) }
+{
+    let mut logged = List::new(alloc);
+    logged.push(change)?;
+    Ok(logged)
+}
+
+// A kind as the catalog has it.
+fn catalog_kind(kind: &Kind) -> DbKind
+    ensures { result ≡ kind_in_catalog kind.now }
+{
+    match kind {
+        Kind::Plain => DbKind::Plain,
+    }
+}
+
+fn log_rename(
+    alloc: Global,
+    db: &Word,
+    to: &Word,
+    row: Option<DbRecord>,
+) -> Result<List<CatalogChange>, AllocError>
+    ensures { IfOk result (λ logged. logged ≡ moved db.now to.now row) }
+{
+    let Some(row) = row else {
+        return Ok(List::new(alloc));
+    };
+    let mut logged = one_record(alloc, CatalogChange::Delete { db: copy_of(db)? })?;
+    let db = copy_of(to)?;
+    logged.push(CatalogChange::Put { db, row })?;
+    Ok(logged)
+}
+
+fn log_truncation(
+    alloc: Global,
+    db: &Word,
+    number: u32,
+    row: Option<DbRecord>,
+) -> Result<List<CatalogChange>, AllocError>
+    ensures { IfOk result (λ logged. logged ≡ renewed db.now number row) }
+{
+    let Some(old) = row else {
+        return Ok(List::new(alloc));
+    };
+    let mut row = old;
+    row.number = number;
+    let db = copy_of(db)?;
+    one_record(alloc, CatalogChange::Put { db, row })
+}
+
+/// The changes of the catalog's records that log a change, in order; none where it changes records of
+/// another database. A database that is made or emptied gets the number, which is to be the next one;
+/// a renamed one keeps its own. The one error is want of memory.
+pub fn catalog_changes<V: CatalogView>(
+    alloc: Global,
+    view: &V,
+    number: u32,
+    change: &Change,
+) -> Result<List<CatalogChange>, AllocError>
+    ensures { IfOk result (λ logged. logged ≡ logged_as (V.record_of view.now) number change.now) }
+{
+    match change {
+        Change::Set { .. } | Change::Unset { .. } => Ok(List::new(alloc)),
+        Change::Make { db, kind } => {
+            let row = DbRecord {
+                number,
+                kind: catalog_kind(kind),
+            };
+            let db = copy_of(db)?;
+            one_record(alloc, CatalogChange::Put { db, row })
+        }
+        Change::Remove { db } => one_record(alloc, CatalogChange::Delete { db: copy_of(db)? }),
+        Change::Rename { db, to } => log_rename(alloc, db, to, view.row(alloc, db)?),
+        Change::Empty { db } => log_truncation(alloc, db, number, view.row(alloc, db)?),
+    }
+}

@@ -1,0 +1,413 @@
+-- What a crash leaves of an environment while it is opened.
+use Rattle.std.proofs.Common.{◌≡◌, ◌≢◌, ℕ, ◌<◌, ◌≤◌, ◌^◌, ◌==◌, nat_lt, cond, Bool, true, false, List, [], ◌∷◌, ◌++◌, Option, Some, None, IfSome, Result, Ok, Err, option_map, refl, ap, sym, ◌∙◌, subst, ◌⊎◌, inl, inr, arith, length, take, drop}
+use Rattle.std.specs.List.{AllByRecursion}
+use Rattle.std.specs.List.Sorted.{IsStrictlyIncreasing}
+use Rattle.std.specs.Map.{lookup}
+use Rattle.std.proofs.lemmas.Bool.{cases_lt, cases_order, eqb-true}
+use Rattle.std.proofs.lemmas.Bool.Decides.{nat_tests}
+use Rattle.std.proofs.lemmas.List.{append-nil, length-take-le, take-append-drop, take_all}
+use Rattle.je_bytes.specs.Reading.{AreBytes}
+use Rattle.je_disk.specs.States.{Files, IsEither, Mark, State, cut, cut_by, put_at, put_file, shortened, synced, synced_mark, synced_marks}
+use Rattle.je_disk.specs.Images.{IsFileImage}
+use Rattle.je_disk.specs.Moments.{History, Passes, now}
+use Rattle.je_disk.proofs.Moments.{passes_none, passes_then, passes_weaken}
+use Rattle.je_model.specs.declared.store.Store.{Store}
+use Rattle.log_entry.specs.declared.entry.Entry.{Entry}
+use Rattle.log_file.specs.declared.file_run.FileRun.{FileRun}
+use Rattle.log_file.specs.declared.found.Found.TheVariants.{Run}
+use Rattle.log_file.specs.Laws.{AreSpelledBack}
+use Rattle.log_file.specs.Log.{AreFiles, Log, entries_found, entries_of, file_bytes, files_of_log, log_in}
+use Rattle.log_file.specs.Scan.{found_in}
+use Rattle.log_file.proofs.FilesLaws.{are_one_list}
+use Rattle.log_file.proofs.FoundLaws.{are_spelled_back}
+use Rattle.log_buffer.specs.Chance.{IsKeptByCut, LastIsKept}
+use Rattle.log_buffer.specs.Crash.{KeepsLog}
+use Rattle.log_buffer.proofs.KeptOpening.{cuts_keep}
+use Rattle.log_buffer.proofs.Left.{kept_is_left}
+use Rattle.log_replay.specs.declared.finding.Finding.{Finding}
+use Rattle.log_replay.specs.declared.last_file.LastFile.{LastFile}
+use Rattle.log_replay.specs.declared.log_read.ReadLog.{ReadLog}
+use Rattle.log_replay.specs.Answer.{IsLogOf}
+use Rattle.log_replay.specs.Kept.{IsKept}
+use Rattle.log_replay.specs.Meaning.{Meaning}
+use Rattle.log_replay.specs.Reading.{finding_in, gap_in, reading_of}
+use Rattle.log_replay.specs.Rows.{rows_in}
+use Rattle.log_replay.specs.UnderWay.{IsLastOf, IsTailOf}
+use Rattle.log_replay.proofs.LogLaws.{kept_opened}
+use Rattle.crash_meaning.specs.Reading.{HasNoGap}
+use Rattle.crash_meaning.specs.Recovery.{Recovers, commits_in}
+use Rattle.crash_meaning.proofs.Recoveries.{images_recover, logs_recover}
+use Rattle.je_program.specs.declared.kept.TheConstants.{LAST_FILE}
+use Rattle.je_program.specs.Crash.{ImagesMean, KeepsEntry, NothingPending, log_opened}
+use Rattle.je_program.specs.Opening.{IsSettled, IsSettling, StartsLog, WasRead, cut_off, start_of}
+use Rattle.je_program.proofs.CallLaws.{passes_now}
+use Rattle.je_program.proofs.ClosedLaws.{all_recovered}
+use Rattle.je_program.proofs.FileLaws.{front_reads, headless, log_is, lookup-last}
+use Rattle.je_program.proofs.FinishLaws.{small_files}
+use Rattle.je_program.proofs.OpenedLaws.{log_from_is}
+use Rattle.je_program.proofs.OpeningLaws.{File, all_last, are_files, below_last, entries_from, first_log, full_front, log_from, no_finding, none_is, numbers, rising_of, settled_last, settled_other, starts_log, whole_from}
+
+-- ---- the rest that is cut off
+
+-- files with the rest of the last one cut off are settled
+pub settles : (tail : Option LastFile) (s : State) → IsSettled s.reads (cut_off tail s).reads tail
+settles None s = λ g. refl
+settles (Some last) s = λ g. by_test (nat_lt last.end last.len) g
+  where
+    at : ℕ
+    at = last.file.0
+
+    by_length : (there : List ℕ) (b : Bool) → nat_lt last.end (length there) ≡ b → s.reads at ≡ Some there → (g : ℕ) →
+        (cond b (put_file at (Some (take last.end there)) (shortened last.end) s) s).reads g ≡ put_at s.reads at (Some (take last.end there)) g
+    by_length there true test is g = refl
+    by_length there false test is g = by_file (g == at) refl
+      where
+        by_file : (b : Bool) → (g == at) ≡ b → s.reads g ≡ cond b (Some (take last.end there)) (s.reads g)
+        by_file true e =
+            let short : length there ≤ last.end = grind (arith, nat_tests) in
+            ap (λ n. s.reads n) (eqb-true g at e) ∙ is ∙ ap (λ (x : List ℕ). Some x) (sym (take_all last.end there short))
+        by_file false e = refl
+
+    by_there : (file : Option (List ℕ)) → s.reads at ≡ file → (g : ℕ) → (cut_by file at last.end s).reads g ≡ put_at s.reads at (option_map (take last.end) file) g
+    by_there None is g = by_file (g == at) refl
+      where
+        by_file : (b : Bool) → (g == at) ≡ b → s.reads g ≡ cond b None (s.reads g)
+        by_file true e = ap (λ n. s.reads n) (eqb-true g at e) ∙ is
+        by_file false e = refl
+    by_there (Some there) is g = by_length there (nat_lt last.end (length there)) refl is g
+
+    by_test : (b : Bool) → (g : ℕ) → (cond b (cut at last.end s) s).reads g ≡ cond b (put_at s.reads at (option_map (take last.end) (s.reads at)) g) (s.reads g)
+    by_test true g = by_there (s.reads at) refl g
+    by_test false g = refl
+
+-- a sync behind the cut
+pub settling_synced : (tail : Option LastFile) (before mid s : State) → mid ≡ cut_off tail before → IsEither mid (synced mid) s → IsSettling tail before s
+settling_synced tail before mid s done (inl same) = inl (inr (same ∙ done))
+settling_synced tail before mid s done (inr same) = inr (same ∙ ap synced done)
+
+-- ---- the log that is opened, in the files at entry
+
+-- a log's last file has a rest behind its run, and the files before it are the log's
+pub record HasRest (reads : Files) (last : LastFile) (log : Log) : Type 0 where
+  pub before : Log
+  pub entries : List Entry
+  pub log_is : log ≡ before ++ (last.file.0, entries) ∷ []
+  pub others : (g : ℕ) → g ≢ last.file.0 → reads g ≡ files_of_log before g
+  pub bytes : List ℕ
+  pub there : reads last.file.0 ≡ Some bytes
+  pub len : last.len ≡ length bytes
+  pub within : last.end ≤ length bytes
+  pub front : (entries ≡ []) ⊎ (take last.end bytes ≡ file_bytes last.file.0 entries)
+
+rest_parts : (reads : Files) (front : List File) (bytes : List ℕ) (last : LastFile) (run : FileRun) → run.end ≡ last.end →
+    AllByRecursion (λ (file : File). AreBytes file.1) (front ++ (last.file.0, bytes) ∷ []) → IsStrictlyIncreasing (numbers (front ++ (last.file.0, bytes) ∷ [])) → last.file.0 < 2 ^ 32 →
+    finding_in (front ++ (last.file.0, bytes) ∷ []) ≡ None → found_in last.file.0 bytes ≡ Run run → last.len ≡ length bytes →
+    AreFiles reads (front ++ (last.file.0, bytes) ∷ []) → HasRest reads last (log_in (front ++ (last.file.0, bytes) ∷ []))
+rest_parts reads front bytes last run end_is all rising small none found len told = record {
+  before = log_in front;
+  entries = run.entries;
+  log_is = log_is front f bytes run found;
+  others = λ g other. front_reads front f bytes reads back (are_files front (f, bytes) all below small) (full_front front (f, bytes) none) told.each g other;
+  bytes = bytes;
+  there = sym (told.each f) ∙ lookup-last front f bytes (none_is front (f, bytes) below);
+  len = len;
+  within = end_parts.0;
+  front = end_parts.1;
+} where
+  f : ℕ
+  f = last.file.0
+
+  back : AreSpelledBack
+  back = are_spelled_back
+
+  below : AllByRecursion (λ (file : File). file.0 < f) front
+  below = below_last front (f, bytes) rising
+
+  by_end : (0 < run.end) ⊎ (run.end ≤ 0) → (last.end ≤ length bytes) × ((run.entries ≡ []) ⊎ (take last.end bytes ≡ file_bytes f run.entries))
+  by_end (inl some) =
+      let spelled = back f bytes run (all_last (λ (file : File). AreBytes file.1) front (f, bytes) all) found some in
+      (subst (λ n. n ≤ length bytes) end_is spelled.within, inr (subst (λ n. take n bytes ≡ file_bytes f run.entries) end_is spelled.parts))
+  by_end (inr low) = (omega (arith, low, end_is), inl (headless f bytes run found (omega (arith, low))).0)
+
+  end_parts : (last.end ≤ length bytes) × ((run.entries ≡ []) ⊎ (take last.end bytes ≡ file_bytes f run.entries))
+  end_parts = by_end (cases_lt 0 run.end)
+
+rest_last : (reads : Files) (held : List File) (last : LastFile) → AllByRecursion (λ (file : File). AreBytes file.1) held → IsStrictlyIncreasing (numbers held) → last.file.0 < 2 ^ 32 →
+    finding_in held ≡ None → IsLastOf held last → AreFiles reads held → HasRest reads last (log_in held)
+rest_last reads held last all rising small none is told =
+    let whole : held ≡ is.before ++ (last.file.0, is.bytes) ∷ [] = is.parts in
+    subst (λ (h : List File). HasRest reads last (log_in h)) (sym whole)
+    (rest_parts reads is.before is.bytes last (record { entries = entries_found (found_in last.file.0 is.bytes); last = last.last; end = last.end }) refl
+    (subst (λ (h : List File). AllByRecursion (λ (file : File). AreBytes file.1) h) whole all) (subst (λ (h : List File). IsStrictlyIncreasing (numbers h)) whole rising) small
+    (subst (λ (h : List File). finding_in h ≡ None) whole none) is.found is.len (subst (λ (h : List File). AreFiles reads h) whole told))
+
+-- ---- what a crash keeps of it
+
+kept_by : (before : Log) (f : ℕ) (entries : List Entry) (s : State) → NothingPending s → ((g : ℕ) → g ≢ f → s.reads g ≡ files_of_log before g) →
+    (entries ≡ []) ⊎ ((rest : List ℕ) × (s.reads f ≡ Some (file_bytes f entries ++ rest))) → IsKeptByCut before f entries s
+kept_by before f entries s pending others front = cuts_keep before f entries s (λ g other. pending g ∙ ap synced_mark (others g other)) (last_kept front)
+  where
+    last_kept : (entries ≡ []) ⊎ ((rest : List ℕ) × (s.reads f ≡ Some (file_bytes f entries ++ rest))) → LastIsKept f entries s.marks
+    last_kept (inl none) = inl none
+    last_kept (inr is) =
+        let mark : s.marks f ≡ synced_mark (Some (file_bytes f entries ++ is.0)) = pending f ∙ ap synced_mark is.1 in
+        inr (record { there = ap (λ (m : Mark). m.must) mark; rest = is.0; stable = ap (λ (m : Mark). m.stable) mark })
+
+-- the last file as it was at entry, and as it is with its rest cut off
+rest_at_entry : (last : LastFile) (log : Log) (s : State) (rest : HasRest s.reads last log) (reads : Files) → reads last.file.0 ≡ s.reads last.file.0 →
+    (rest.entries ≡ []) ⊎ ((more : List ℕ) × (reads last.file.0 ≡ Some (file_bytes last.file.0 rest.entries ++ more)))
+rest_at_entry last log s rest reads same = by_front rest.front
+  where
+    by_front : (rest.entries ≡ []) ⊎ (take last.end rest.bytes ≡ file_bytes last.file.0 rest.entries) →
+        (rest.entries ≡ []) ⊎ ((more : List ℕ) × (reads last.file.0 ≡ Some (file_bytes last.file.0 rest.entries ++ more)))
+    by_front (inl none) = inl none
+    by_front (inr front) = inr (
+      drop last.end rest.bytes,
+      same ∙ rest.there ∙ ap (λ (x : List ℕ). Some x) (sym (take-append-drop last.end rest.bytes) ∙ ap (λ (x : List ℕ). x ++ drop last.end rest.bytes) front),
+    )
+
+rest_behind : (last : LastFile) (log : Log) (s : State) (rest : HasRest s.reads last log) (reads : Files) → reads last.file.0 ≡ (cut_off (Some last) s).reads last.file.0 →
+    (rest.entries ≡ []) ⊎ ((more : List ℕ) × (reads last.file.0 ≡ Some (file_bytes last.file.0 rest.entries ++ more)))
+rest_behind last log s rest reads same = by_front rest.front
+  where
+    here : (cut_off (Some last) s).reads last.file.0 ≡ Some (take last.end rest.bytes)
+    here = settled_last s.reads (cut_off (Some last) s).reads last rest.bytes (settles (Some last) s) rest.there rest.len rest.within
+
+    by_front : (rest.entries ≡ []) ⊎ (take last.end rest.bytes ≡ file_bytes last.file.0 rest.entries) →
+        (rest.entries ≡ []) ⊎ ((more : List ℕ) × (reads last.file.0 ≡ Some (file_bytes last.file.0 rest.entries ++ more)))
+    by_front (inl none) = inl none
+    by_front (inr front) = inr ([], same ∙ here ∙ ap (λ (x : List ℕ). Some x) (front ∙ sym (append-nil (file_bytes last.file.0 rest.entries))))
+
+-- a log whose last file has a rest, at each moment at which that is settled
+kept_last : (last : LastFile) (log : Log) (s x : State) → NothingPending s → HasRest s.reads last log → IsSettling (Some last) s x → KeepsLog log [] (length (entries_of log)) x.marks
+kept_last last log s x pending rest is = subst (λ (l : Log). KeepsLog l [] (length (entries_of l)) x.marks) (sym rest.log_is) (by_settling is)
+  where
+    f : ℕ
+    f = last.file.0
+
+    whole : Log
+    whole = rest.before ++ (f, rest.entries) ∷ []
+
+    after : State
+    after = cut_off (Some last) s
+
+    at : (rest.entries ≡ []) ⊎ (take last.end rest.bytes ≡ file_bytes f rest.entries) → (last.end ≡ length (file_bytes f rest.entries)) ⊎ (rest.entries ≡ [])
+    at (inl none) = inr none
+    at (inr front) = inl (sym (length-take-le last.end rest.bytes rest.within) ∙ ap length front)
+
+    entry : IsKeptByCut rest.before f rest.entries s
+    entry = kept_by rest.before f rest.entries s pending rest.others (rest_at_entry last log s rest s.reads refl)
+
+    by_test : (b : Bool) → KeepsLog whole [] (length (entries_of whole)) (cond b (cut f last.end s) s).marks
+    by_test true = entry.behind last.end (at rest.front)
+    by_test false = entry.found
+
+    settled : IsKeptByCut rest.before f rest.entries (synced after)
+    settled = kept_by rest.before f rest.entries (synced after) (λ g. refl) (λ g other. settled_other s.reads after.reads last g (settles (Some last) s) other ∙ rest.others g other) (rest_behind last log s rest after.reads refl)
+
+    by_settling : IsSettling (Some last) s x → KeepsLog whole [] (length (entries_of whole)) x.marks
+    by_settling (inl (inl same)) = subst (λ (y : State). KeepsLog whole [] (length (entries_of whole)) y.marks) (sym same) entry.found
+    by_settling (inl (inr same)) = subst (λ (y : State). KeepsLog whole [] (length (entries_of whole)) y.marks) (sym same) (by_test (nat_lt last.end last.len))
+    by_settling (inr same) = subst (λ (y : State). KeepsLog whole [] (length (entries_of whole)) y.marks) (sym same) settled.found
+
+-- the same at a moment where nothing is pending, whatever was pending before
+kept_now_last : (last : LastFile) (log : Log) (s x : State) → NothingPending x → HasRest s.reads last log → IsSettling (Some last) s x → KeepsLog log [] (length (entries_of log)) x.marks
+kept_now_last last log s x pending rest is = subst (λ (l : Log). KeepsLog l [] (length (entries_of l)) x.marks) (sym rest.log_is) (by_settling is)
+  where
+    whole : Log
+    whole = rest.before ++ (last.file.0, rest.entries) ∷ []
+
+    after : State
+    after = cut_off (Some last) s
+
+    behind : x.reads ≡ after.reads → KeepsLog whole [] (length (entries_of whole)) x.marks
+    behind same =
+        (kept_by rest.before last.file.0 rest.entries x pending
+        (λ g other. ap (λ (reads : Files). reads g) same ∙ settled_other s.reads after.reads last g (settles (Some last) s) other ∙ rest.others g other)
+        (rest_behind last log s rest x.reads (ap (λ (reads : Files). reads last.file.0) same))).found
+
+    by_settling : IsSettling (Some last) s x → KeepsLog whole [] (length (entries_of whole)) x.marks
+    by_settling (inl (inl same)) =
+        (kept_by rest.before last.file.0 rest.entries x pending (λ g other. ap (λ (y : State). y.reads g) same ∙ rest.others g other)
+        (rest_at_entry last log s rest x.reads (ap (λ (y : State). y.reads last.file.0) same))).found
+    by_settling (inl (inr same)) = behind (ap (λ (y : State). y.reads) same)
+    by_settling (inr same) = behind (ap (λ (y : State). y.reads) same)
+
+-- a log of which no file is there yet
+kept_none : (s x : State) → NothingPending s → ((g : ℕ) → s.reads g ≡ None) → IsSettling None s x → KeepsLog ((0, []) ∷ []) [] 0 x.marks
+kept_none s x pending none is = by_settling is
+  where
+    entry : IsKeptByCut [] 0 [] s
+    entry = kept_by [] 0 [] s pending (λ g other. none g) (inl refl)
+
+    settled : IsKeptByCut [] 0 [] (synced s)
+    settled = kept_by [] 0 [] (synced s) (λ g. refl) (λ g other. none g) (inl refl)
+
+    by_settling : IsSettling None s x → KeepsLog ((0, []) ∷ []) [] 0 x.marks
+    by_settling (inl (inl same)) = subst (λ (y : State). KeepsLog ((0, []) ∷ []) [] 0 y.marks) (sym same) entry.found
+    by_settling (inl (inr same)) = subst (λ (y : State). KeepsLog ((0, []) ∷ []) [] 0 y.marks) (sym same) entry.found
+    by_settling (inr same) = subst (λ (y : State). KeepsLog ((0, []) ∷ []) [] 0 y.marks) (sym same) settled.found
+
+kept_now_none : (s x : State) → NothingPending x → ((g : ℕ) → s.reads g ≡ None) → IsSettling None s x → KeepsLog ((0, []) ∷ []) [] 0 x.marks
+kept_now_none s x pending none is = (kept_by [] 0 [] x pending (λ g other. same is g ∙ none g) (inl refl)).found
+  where
+    same : IsSettling None s x → (g : ℕ) → x.reads g ≡ s.reads g
+    same (inl (inl is)) g = ap (λ (y : State). y.reads g) is
+    same (inl (inr is)) g = ap (λ (y : State). y.reads g) is
+    same (inr is) g = ap (λ (y : State). y.reads g) is
+
+-- the last file of a log that was read
+rest_read : (reads : Files) (r : ReadLog) (w : WasRead true reads r) (last : LastFile) → r.tail ≡ Some last → IsTailOf w.reading.held (Some last) → HasRest reads last (log_in w.reading.held)
+rest_read reads r w last e tail =
+    let held : List File = w.reading.held in
+    let low : last.file.0 ≤ LAST_FILE = subst (λ (o : Option LastFile). IfSome o (λ l. l.file.0 ≤ LAST_FILE)) e w.small in
+    rest_last reads held last w.reading.answer.bytes (rising_of true reads r w) (omega (arith, low)) (no_finding held _ w.reading.answer.meaning).0 tail (w.reading.listed refl (w.listed refl))
+
+-- the log that was read, at each moment at which it is settled: where nothing was pending before, or nothing is now
+kept_settling : (s x : State) (r : ReadLog) (w : WasRead true s.reads r) → NothingPending s ⊎ NothingPending x → IsSettling r.tail s x →
+    KeepsLog (log_from r.tail w.reading.held) [] (length (entries_of (log_from r.tail w.reading.held))) x.marks
+kept_settling s x r w pending is = by_tail r.tail refl w.reading.answer.tail pending is
+  where
+    held : List File
+    held = w.reading.held
+
+    told : AreFiles s.reads held
+    told = w.reading.listed refl (w.listed refl)
+
+    by_tail : (tail : Option LastFile) → r.tail ≡ tail → IsTailOf held tail → NothingPending s ⊎ NothingPending x → IsSettling tail s x →
+        KeepsLog (log_from tail held) [] (length (entries_of (log_from tail held))) x.marks
+    by_tail None e empty (inl before) is = kept_none s x before (λ g. sym (told.each g) ∙ ap (λ (h : List File). lookup (λ n. n == g) h) empty) is
+    by_tail None e empty (inr here) is = kept_now_none s x here (λ g. sym (told.each g) ∙ ap (λ (h : List File). lookup (λ n. n == g) h) empty) is
+    by_tail (Some last) e tail (inl before) is = kept_last last (log_in held) s x before (rest_read s.reads r w last e tail) is
+    by_tail (Some last) e tail (inr here) is = kept_now_last last (log_in held) s x here (rest_read s.reads r w last e tail) is
+
+-- ---- what its images mean
+
+-- a log that was read has no gap
+read_whole : (reads : Files) (r : ReadLog) (w : WasRead true reads r) → HasNoGap (log_from r.tail w.reading.held)
+read_whole reads r w = by_tail r.tail refl w.reading.answer.tail
+  where
+    held : List File
+    held = w.reading.held
+
+    none : (finding_in held ≡ None) × (gap_in (numbers held) ≡ None)
+    none = no_finding held _ w.reading.answer.meaning
+
+    by_tail : (tail : Option LastFile) → r.tail ≡ tail → IsTailOf held tail → HasNoGap (log_from tail held)
+    by_tail None e tail = record { is_log = first_log; small = (omega arith, tt); whole = refl }
+    by_tail (Some last) e tail =
+        let low : last.file.0 ≤ LAST_FILE = subst (λ (o : Option LastFile). IfSome o (λ l. l.file.0 ≤ LAST_FILE)) e w.small in
+        let state : State = record { reads = reads; marks = synced_marks reads; job = None } in
+        let starts : StartsLog true (cut_off r.tail state).reads r.tail (log_from r.tail held) = starts_log true reads (cut_off r.tail state).reads r w (λ t. settles r.tail state) in
+        let last_starts : StartsLog true (cut_off r.tail state).reads (Some last) (log_from (Some last) held) =
+        subst (λ (o : Option LastFile). StartsLog true (cut_off r.tail state).reads o (log_from o held)) e starts in
+        record {
+          is_log = last_starts.0;
+          small = small_files (log_in held) last.file.0 (start_of (Some last)).offset last.last last_starts.0 last_starts.1 low;
+          whole = whole_from held (Some last) none.1;
+        }
+
+-- images of a disk that keeps a whole log mean the store of its records
+images_mean : (log : Log) (store : Store) (s : State) → HasNoGap log → Recovers store (length (entries_of log)) [] (entries_of log) → KeepsLog log [] (length (entries_of log)) s.marks → ImagesMean log s store
+images_mean log store s gap recovers keeps = λ image is chance.
+    let all : ℕ = length (entries_of log) in
+    all_recovered store store (commits_in all all (entries_of log)) image [] (omega arith) refl
+    (images_recover store all all [] log image gap recovers (omega arith) (kept_is_left log [] all s image gap.is_log keeps is chance))
+
+read_means : (s x : State) (r : ReadLog) (w : WasRead true s.reads r) → NothingPending s ⊎ NothingPending x → IsSettling r.tail s x → ImagesMean (log_from r.tail w.reading.held) x r.replayed.opening
+read_means s x r w pending is =
+    let log : Log = log_from r.tail w.reading.held in
+    let answer : IsLogOf w.reading.held r = w.reading.answer in
+    let kept : IsKept (entries_of log) (rows_in r.replayed.rows) r.replayed.last_txn r.replayed.last_db =
+    subst (λ (es : List Entry). IsKept es (rows_in r.replayed.rows) r.replayed.last_txn r.replayed.last_db) (sym (entries_from w.reading.held r.tail answer.tail))
+    (kept_opened (entries_of (log_in w.reading.held)) r.replayed answer.replay) in
+    images_mean log r.replayed.opening x (read_whole s.reads r w)
+    (subst (λ (store : Store). Recovers store (length (entries_of log)) [] (entries_of log)) answer.replay.store (logs_recover (entries_of log) (rows_in r.replayed.rows) r.replayed.last_txn r.replayed.last_db kept))
+    (kept_settling s x r w pending is)
+
+store_of_meaning : (held : List File) (a b : Meaning) → reading_of held ≡ Ok a → reading_of held ≡ Ok b → a.store ≡ b.store
+store_of_meaning held a b first second = ap (store_in a.store) (sym first ∙ second)
+  where
+    store_in : Store → Result Meaning Finding → Store
+    store_in other (Ok meaning) = meaning.store
+    store_in other (Err finding) = other
+
+-- ---- moments
+
+-- a log that was read is settled
+pub entry_settled : (old new : History) (reads : Files) (r : ReadLog) → WasRead true reads r → (now old).reads ≡ reads → Passes old new (IsSettling r.tail (now old)) → KeepsEntry old new
+entry_settled old new reads r read same passes = record {
+  since = passes_weaken old new (IsSettling r.tail (now old)) (λ (s : State). Unit {0}) (λ s p. tt) passes;
+  images = λ pending held meaning are is k lo hi. at_state held meaning are is (new.state_at k) (inl pending) (by_order k lo hi (cases_order k old.moment));
+  at_end = λ pending held meaning are is. at_state held meaning are is (now new) (inr pending) (passes_now old new (IsSettling r.tail (now old)) passes (inl (inl refl)));
+} where
+  w : WasRead true (now old).reads r
+  w = subst (λ (f : Files). WasRead true f r) (sym same) read
+
+  one_list : (held : List File) → AreFiles (now old).reads held → w.reading.held ≡ held
+  one_list held are = are_one_list (now old).reads w.reading.held held (w.reading.listed refl (w.listed refl)) are
+
+  at_state : (held : List File) (meaning : Meaning) → AreFiles (now old).reads held → reading_of held ≡ Ok meaning → (x : State) → NothingPending (now old) ⊎ NothingPending x →
+      IsSettling r.tail (now old) x → ImagesMean (log_opened held) x meaning.store
+  at_state held meaning are is x pending settling =
+      subst (λ (l : Log). ImagesMean l x meaning.store) (log_from_is r.tail w.reading.held w.reading.answer.tail ∙ ap log_opened (one_list held are))
+      (subst (λ (store : Store). ImagesMean (log_from r.tail w.reading.held) x store)
+      (store_of_meaning held (record { store = r.replayed.opening; last_txn = r.replayed.last_txn; last_db = r.replayed.last_db }) meaning
+      (subst (λ (h : List File). reading_of h ≡ Ok (record { store = r.replayed.opening; last_txn = r.replayed.last_txn; last_db = r.replayed.last_db })) (one_list held are) w.reading.answer.meaning) is)
+      (read_means (now old) x r w pending settling))
+
+  by_order : (k : ℕ) → old.moment ≤ k → k ≤ new.moment → (k ≡ old.moment) ⊎ ((k < old.moment) ⊎ (old.moment < k)) → IsSettling r.tail (now old) (new.state_at k)
+  by_order k lo hi (inl at) = inl (inl (ap (λ n. new.state_at n) at ∙ passes.keeps old.moment (omega arith)))
+  by_order k lo hi (inr (inl before)) = absurd (omega (arith, lo, before))
+  by_order k lo hi (inr (inr behind)) = passes.each k behind hi
+
+-- an image of a disk where nothing is pending is what the files read as
+image_reads : (file image : Option (List ℕ)) → IsFileImage (synced_mark file) image → file ≡ image
+image_reads None None is = refl
+image_reads None (Some bytes) is = let allowed = is.allowed in cc
+image_reads (Some there) None is = cc
+image_reads (Some there) (Some bytes) is = ap (λ (x : List ℕ). Some x) (sym is.front ∙ take_all (length there) bytes is.within)
+
+pub still_means : (log : Log) (s : State) (held : List File) (meaning : Meaning) → NothingPending s → AreFiles s.reads held → reading_of held ≡ Ok meaning → ImagesMean log s meaning.store
+still_means log s held meaning pending are reads = λ image is chance. (
+  meaning,
+  record {
+    held = held;
+    are = record { rising = are.rising; each = λ f. are.each f ∙ image_reads (s.reads f) (image f) (subst (λ (m : Mark). IsFileImage m (image f)) (pending f) (is.files f)) };
+    reads = reads;
+  },
+  refl,
+)
+
+-- time went on, and nothing was done before
+pub entry_later : (a b c : History) → Passes a b (λ (s : State). s ≡ now a) → now b ≡ now a → KeepsEntry b c → KeepsEntry a c
+entry_later a b c passes same later = record {
+  since = passes_then a b c (λ (s : State). Unit {0}) (passes_weaken a b (λ (s : State). s ≡ now a) (λ (s : State). Unit {0}) (λ s p. tt) passes) later.since;
+  images = λ pending held meaning are is k lo hi. by_order pending held meaning are is k lo hi (cases_lt k b.moment);
+  at_end = λ pending held meaning are is. later.at_end pending held meaning (subst (λ (s : State). AreFiles s.reads held) (sym same) are) is;
+} where
+  still : (k : ℕ) → a.moment ≤ k → k < b.moment → (k ≡ a.moment) ⊎ ((k < a.moment) ⊎ (a.moment < k)) → c.state_at k ≡ now a
+  still k lo hi (inl at) = later.since.keeps k (omega (arith, hi)) ∙ ap (λ n. b.state_at n) at ∙ passes.keeps a.moment (omega arith)
+  still k lo hi (inr (inl before)) = absurd (omega (arith, lo, before))
+  still k lo hi (inr (inr behind)) = later.since.keeps k (omega (arith, hi)) ∙ passes.each k behind (omega (arith, hi))
+
+  by_order : NothingPending (now a) → (held : List File) (meaning : Meaning) → AreFiles (now a).reads held → reading_of held ≡ Ok meaning → (k : ℕ) → a.moment ≤ k → k ≤ c.moment →
+      (k < b.moment) ⊎ (b.moment ≤ k) → ImagesMean (log_opened held) (c.state_at k) meaning.store
+  by_order pending held meaning are is k lo hi (inl early) =
+      subst (λ (s : State). ImagesMean (log_opened held) s meaning.store) (sym (still k lo early (cases_order k a.moment))) (still_means (log_opened held) (now a) held meaning pending are is)
+  by_order pending held meaning are is k lo hi (inr late) =
+      later.images (subst NothingPending (sym same) pending) held meaning (subst (λ (s : State). AreFiles s.reads held) (sym same) are) is k late hi
+
+-- no time went by
+pub entry_none : (h : History) → KeepsEntry h h
+entry_none h = record {
+  since = passes_none h (λ (s : State). Unit {0});
+  images = λ pending held meaning are is k lo hi.
+      let at : k ≡ h.moment = omega (arith, lo, hi) in
+      subst (λ n. ImagesMean (log_opened held) (h.state_at n) meaning.store) (sym at) (still_means (log_opened held) (now h) held meaning pending are is);
+  at_end = λ pending held meaning are is. still_means (log_opened held) (now h) held meaning pending are is;
+}
+
+-- time went on, and nothing was done
+pub entry_still : (old new : History) → Passes old new (λ (s : State). s ≡ now old) → now new ≡ now old → KeepsEntry old new
+entry_still old new passes same = entry_later old new new passes same (entry_none new)

@@ -1,0 +1,168 @@
+-- A log with a transaction more, and what a crash keeps of it.
+use Rattle.std.proofs.Common.{◌≡◌, ℕ, ◌+◌, ◌<◌, ◌≤◌, ◌^◌, ◌==◌, cond, Bool, true, false, List, [], ◌∷◌, ◌++◌, refl, ap, ap₂, sym, ◌∙◌, subst, arith, append_assoc}
+use Rattle.std.proofs.lemmas.Bool.Decides.{nat_tests}
+use Rattle.std.proofs.lemmas.Bool.{eqb-true}
+use Rattle.je_disk.specs.States.{Mark}
+use Rattle.log_entry.specs.declared.entry.Entry.{Entry}
+use Rattle.log_entry.specs.Body.{IsEntry}
+use Rattle.log_entry.specs.Spelling.{size_of}
+use Rattle.log_entry.proofs.BodyLaws.{body_small}
+use Rattle.log_file.specs.Scan.{may_follow}
+use Rattle.log_file.specs.Log.{Log, IsLog, AreFileEntries, entries_of}
+use Rattle.log_file.proofs.SpelledLaws.{grow_by_append}
+use Rattle.log_buffer.specs.declared.place.Place.{Place}
+use Rattle.log_buffer.specs.Crash.{KeepsLog}
+use Rattle.log_buffer.specs.Flip.{behind, end_after, end_after_all, goes_in, header_size, next_file, placed_at}
+use Rattle.log_buffer.specs.Log.{EndsAt, log_with}
+use Rattle.log_buffer.proofs.Logs.{AreBelow, below_last, below_more, below_push, is_log_last, is_log_push, last_entries, with_last, with_next}
+use Rattle.log_buffer.proofs.Splits.{below_at}
+use Rattle.log_buffer.proofs.KeptGrowing.{last_is}
+use Rattle.crash_meaning.specs.Reading.{HasNoGap}
+use Rattle.je_program.specs.declared.kept.TheConstants.{LAST_FILE}
+use Rattle.je_program.specs.Crash.{log_with_all}
+use Rattle.je_program.specs.Environment.{IsWhole}
+use Rattle.je_program.proofs.AppendLaws.{Grows, grows}
+use Rattle.je_program.proofs.FinishLaws.{small_files}
+use Rattle.je_program.proofs.FlipLaws.{file_rises, placed_in}
+
+-- ---- an entry more
+
+-- the log with an entry in this file, which ends at the offset then
+pub record IsLonger (log : Log) (file offset : ℕ) (entry : Entry) : Type 0 where
+  pub is_log : IsLog (log_with file entry log)
+  pub last : ℕ
+  pub ends : EndsAt (log_with file entry log) file offset last
+
+longer_here : (log : Log) (file offset last : ℕ) (e : Entry) → IsLog log → EndsAt log file offset last → IsEntry e → may_follow e ≡ true → offset + size_of e < 2 ^ 32 → IsLonger log file (offset + size_of e) e
+longer_here log file offset last e is ends entry follows fits =
+    let es = ends.entries in
+    let o = ends.offset_is in
+    let is_log : IsLog (ends.before ++ (file, es) ∷ []) = subst IsLog ends.log_is is in
+    let below = below_last ends.before (file, es) is_log in
+    let grown = grow_by_append file es e (last_entries ends.before file es is_log) entry follows (omega arith) in
+    let s = grown.sizes in
+    let log_now : log_with file e log ≡ ends.before ++ (file, es ++ e ∷ []) ∷ [] = ap (log_with file e) ends.log_is ∙ with_last ends.before file es e below in
+    record {
+      is_log = subst IsLog (sym log_now) (is_log_last ends.before file es (es ++ e ∷ []) is_log grown.entries_are);
+      last = offset;
+      ends = record { before = ends.before; entries = es ++ e ∷ []; log_is = log_now; offset_is = omega (arith, o, s); last_is = o ∙ sym grown.last };
+    }
+
+longer_next : (log : Log) (file offset last : ℕ) (e : Entry) → IsLog log → EndsAt log file offset last → IsEntry e → may_follow e ≡ true → header_size + size_of e < 2 ^ 32 → file + 1 < 2 ^ 32 →
+    IsLonger log (file + 1) (header_size + size_of e) e
+longer_next log file offset last e is ends entry follows fits small =
+    let is_log : IsLog (ends.before ++ (file, ends.entries) ∷ []) = subst IsLog ends.log_is is in
+    let below_old = below_last ends.before (file, ends.entries) is_log in
+    let below : AreBelow (file + 1) log =
+    subst (AreBelow (file + 1)) (sym ends.log_is) (below_push (file + 1) ends.before (file, ends.entries) (below_more file (file + 1) ends.before (omega arith) below_old) (omega arith)) in
+    let are : AreFileEntries (e ∷ []) = record { entries = (entry, tt); follow = (follows, tt); ends = omega arith } in
+    let log_now : log_with (file + 1) e log ≡ log ++ (file + 1, e ∷ []) ∷ [] = with_next log (file + 1) e below in
+    record {
+      is_log = subst IsLog (sym log_now) (is_log_push log (file + 1, e ∷ []) is below small are);
+      last = header_size;
+      ends = record { before = log; entries = e ∷ []; log_is = log_now; offset_is = omega arith; last_is = refl };
+    }
+
+-- what goes into a file ends below 2^32
+fits_here : (most offset size : ℕ) → most ≤ 2 ^ 30 → size < 2 ^ 25 → goes_in most offset size ≡ true → offset + size < 2 ^ 32
+fits_here most offset size max small goes = grind (arith, nat_tests)
+
+-- an entry where the flip rule puts it
+pub longer_at : (most : ℕ) (end : Place) (last : ℕ) (log : Log) (e : Entry) → most ≤ 2 ^ 30 → IsLog log → EndsAt log end.file end.offset last → IsEntry e → may_follow e ≡ true →
+    (placed_at most end (size_of e)).file ≤ LAST_FILE → IsLonger log (placed_at most end (size_of e)).file (end_after most end (size_of e)).offset e
+longer_at most end last log e max is ends entry follows = by_case (goes_in most end.offset (size_of e)) refl
+  where
+    small : size_of e < 2 ^ 25
+    small = omega (arith, body_small e entry)
+
+    by_case : (b : Bool) → goes_in most end.offset (size_of e) ≡ b → (cond b end (next_file end)).file ≤ LAST_FILE →
+        IsLonger log (cond b end (next_file end)).file (behind (cond b end (next_file end)) (size_of e)).offset e
+    by_case true goes room = longer_here log end.file end.offset last e is ends entry follows (fits_here most end.offset (size_of e) max small goes)
+    by_case false goes room = longer_next log end.file end.offset last e is ends entry follows (omega (arith, small)) (omega (arith, room))
+
+-- ---- what a crash keeps of it
+
+other_below : (n m : ℕ) → n < m → (n == m) ≡ false
+other_below n m less = grind (arith, nat_tests)
+
+with_behind : (before rest : Log) (f : ℕ) (e : Entry) → AreBelow f before → log_with f e (before ++ rest) ≡ before ++ log_with f e rest
+with_behind [] rest f e below = refl
+with_behind (file ∷ before) rest f e below =
+    ap (λ (b : Bool). cond b ((f, file.1 ++ e ∷ []) ∷ (before ++ rest)) (file ∷ log_with f e (before ++ rest))) (other_below file.0 f below.0)
+    ∙ ap (λ (l : Log). file ∷ l) (with_behind before rest f e below.1)
+
+keeps_with : (log : Log) (least f : ℕ) (marks : ℕ → Mark) (e : Entry) → IsLog log → (k : KeepsLog log [] least marks) → k.at ≤ f → KeepsLog (log_with f e log) [] least marks
+keeps_with log least f marks e is k le = by_case (k.at == f) refl
+  where
+    below : AreBelow f k.before
+    below = below_more k.at f k.before le (below_at k.before (k.at, k.kept ++ k.more) k.after (subst IsLog k.log_is is))
+
+    grown : log_with f e log ≡ k.before ++ log_with f e ((k.at, k.kept ++ k.more) ∷ k.after)
+    grown = ap (log_with f e) k.log_is ∙ with_behind k.before ((k.at, k.kept ++ k.more) ∷ k.after) f e below
+
+    by_case : (b : Bool) → (k.at == f) ≡ b → KeepsLog (log_with f e log) [] least marks
+    by_case true same = record {
+      before = k.before;
+      at = k.at;
+      kept = k.kept;
+      more = k.more ++ e ∷ [];
+      after = k.after;
+      log_is = grown ∙ ap (λ (l : Log). k.before ++ l)
+          (ap (λ (b : Bool). cond b ((f, (k.kept ++ k.more) ++ e ∷ []) ∷ k.after) ((k.at, k.kept ++ k.more) ∷ log_with f e k.after)) same
+          ∙ ap₂ (λ (n : ℕ) (x : List Entry). (n, x) ∷ k.after) (sym (eqb-true _ _ same)) (append_assoc k.kept k.more (e ∷ [])));
+      front = k.front;
+      others = k.others;
+      at_least = k.at_least;
+    }
+    by_case false other = record {
+      before = k.before;
+      at = k.at;
+      kept = k.kept;
+      more = k.more;
+      after = log_with f e k.after;
+      log_is = grown ∙ ap (λ (b : Bool). k.before ++ cond b ((f, (k.kept ++ k.more) ++ e ∷ []) ∷ k.after) ((k.at, k.kept ++ k.more) ∷ log_with f e k.after)) other;
+      front = k.front;
+      others = k.others;
+      at_least = k.at_least;
+    }
+
+-- an entry more, in the last file or the next one
+pub keeps_longer : (log : Log) (least file offset last f : ℕ) (marks : ℕ → Mark) (e : Entry) → IsLog log → EndsAt log file offset last → file ≤ f → KeepsLog log [] least marks → KeepsLog (log_with f e log) [] least marks
+keeps_longer log least file offset last f marks e is ends le k =
+    let within : k.at ≤ file = last_is log file offset last k.before k.at (k.kept ++ k.more) k.after is ends k.log_is in
+    keeps_with log least f marks e is k (omega arith)
+
+-- the file never falls
+pub after_is : (most : ℕ) (end : Place) (size : ℕ) → end.file ≤ (placed_at most end size).file
+after_is most end size = file_rises most end size
+
+-- ---- two entries more
+
+-- the log with both
+pub record IsLongerByBoth (most : ℕ) (end : Place) (a b : Entry) (log : Log) : Type 0 where
+  pub gap : HasNoGap (log_with_all most end (a ∷ b ∷ []) log)
+  pub entries : entries_of (log_with_all most end (a ∷ b ∷ []) log) ≡ entries_of log ++ a ∷ b ∷ []
+  pub keeps_first : (least : ℕ) (marks : ℕ → Mark) → KeepsLog log [] least marks → KeepsLog (log_with (placed_at most end (size_of a)).file a log) [] least marks
+  pub keeps_second : (least : ℕ) (marks : ℕ → Mark) → KeepsLog (log_with (placed_at most end (size_of a)).file a log) [] least marks → KeepsLog (log_with_all most end (a ∷ b ∷ []) log) [] least marks
+
+pub longer_by_both : (most : ℕ) (end : Place) (last : ℕ) (a b : Entry) (log : Log) → most ≤ 2 ^ 30 → IsLog log → EndsAt log end.file end.offset last → IsWhole log →
+    IsEntry a × IsEntry b → (may_follow a ≡ true) × (may_follow b ≡ true) → (end_after_all most end (size_of a ∷ size_of b ∷ [])).file ≤ LAST_FILE → IsLongerByBoth most end a b log
+longer_by_both most end last a b log max is ends whole entries follow room =
+    let f = (placed_at most end (size_of a)).file in
+    let middle : Place = end_after most end (size_of a) in
+    let g = (placed_at most middle (size_of b)).file in
+    let rises : f ≤ g = file_rises most middle (size_of b) in
+    let one : IsLonger log f middle.offset a = longer_at most end last log a max is ends entries.0 follow.0 (omega (arith, room)) in
+    let two : IsLonger (log_with f a log) g (end_after most middle (size_of b)).offset b = longer_at most middle one.last (log_with f a log) b max one.is_log one.ends entries.1 follow.1 room in
+    let first : Grows log f a = grows log end.file end.offset last f a is ends whole (placed_in most end (size_of a)) in
+    let second : Grows (log_with f a log) g b = grows (log_with f a log) f middle.offset one.last g b one.is_log one.ends first.whole (placed_in most middle (size_of b)) in
+    record {
+      gap = record {
+        is_log = two.is_log;
+        small = small_files (log_with g b (log_with f a log)) g (end_after most middle (size_of b)).offset two.last two.is_log two.ends (omega (arith, room));
+        whole = second.whole;
+      };
+      entries = second.entries ∙ ap (λ (l : List Entry). l ++ b ∷ []) first.entries ∙ append_assoc (entries_of log) (a ∷ []) (b ∷ []);
+      keeps_first = λ least marks k. keeps_longer log least end.file end.offset last f marks a is ends (after_is most end (size_of a)) k;
+      keeps_second = λ least marks k. keeps_longer (log_with f a log) least f middle.offset one.last g marks b one.is_log one.ends rises k;
+    }

@@ -1,0 +1,22 @@
+use Rattle.std.proofs.Common.{[], None, sym, ◌∙◌}
+use Rattle.je_disk.specs.Moments.{now}
+use Rattle.je_program.proofs.BothLaws.{as_told}
+use Rattle.je_program.proofs.attempt.close.Goals as goal
+
+pub returns-in_default-Ok-clause-crash : goal.returns-in_default-Ok-clause-crash
+returns-in_default-Ok-clause-crash g c = λ told held least keeps.
+    let buffer = c.args.log in
+    let k = keeps (sym c.has_failed.ensures ∙ c.if-has_failed.false) in
+    c.close.ensures.crash told held [] least None (as_told g.D.Disk.tells (now (g.D.Disk.history buffer.disk)) buffer held told k.has) k.holds
+
+pub returns-in_default-Err-clause-crash : goal.returns-in_default-Err-clause-crash
+returns-in_default-Err-clause-crash g c = λ told held least keeps.
+    let buffer = c.args.log in
+    let k = keeps (sym c.has_failed.ensures ∙ c.if-has_failed.false) in
+    c.close.ensures.crash told held [] least None (as_told g.D.Disk.tells (now (g.D.Disk.history buffer.disk)) buffer held told k.has) k.holds
+
+pub returns-in_default-Err-2-clause-crash : goal.returns-in_default-Err-2-clause-crash
+returns-in_default-Err-2-clause-crash g c = λ told held least keeps.
+    let buffer = c.args.log in
+    let k = keeps (sym c.has_failed.ensures ∙ c.if-has_failed.false) in
+    c.close.ensures.crash told held [] least None (as_told g.D.Disk.tells (now (g.D.Disk.history buffer.disk)) buffer held told k.has) k.holds

@@ -1,0 +1,94 @@
+-- What a crash keeps of a log is kept of one with an entry more.
+use Rattle.std.proofs.Common.{◌≡◌, ℕ, ◌<◌, ◌≤◌, ◌==◌, Bool, true, false, cond, List, [], ◌∷◌, ◌++◌, Option, Some, None, refl, sym, ap, ap₂, subst, ◌∙◌, arith, append_assoc, ◌⊎◌, inl, inr}
+use Rattle.std.proofs.lemmas.Bool.Decides.{nat_tests}
+use Rattle.std.proofs.lemmas.Bool.{cases_order, eqb-true}
+use Rattle.std.specs.Map.{lookup}
+use Rattle.je_disk.specs.States.{State, Files, Mark}
+use Rattle.log_entry.specs.declared.entry.Entry.{Entry}
+use Rattle.log_file.specs.Log.{Log, IsLog}
+use Rattle.log_buffer.specs.Log.{EndsAt, log_with}
+use Rattle.log_buffer.specs.Crash.{KeepsFrom, KeepsJob, Holds}
+use Rattle.log_buffer.proofs.Logs.{AreBelow, below_more}
+use Rattle.log_buffer.proofs.Splits.{below_at, lookup_at, lookup_over}
+
+other_below : (n m : ℕ) → n < m → (n == m) ≡ false
+other_below n m less = grind (arith, nat_tests)
+
+-- an entry goes behind the files of lower numbers
+with_behind : (before rest : Log) (f : ℕ) (e : Entry) → AreBelow f before → log_with f e (before ++ rest) ≡ before ++ log_with f e rest
+with_behind [] rest f e below = refl
+with_behind (file ∷ before) rest f e below =
+    ap (λ (b : Bool). cond b ((f, file.1 ++ e ∷ []) ∷ (before ++ rest)) (file ∷ log_with f e (before ++ rest))) (other_below file.0 f below.0)
+    ∙ ap (λ (l : Log). file ∷ l) (with_behind before rest f e below.1)
+
+-- a file of a log is not behind its last one
+pub last_is : (log : Log) (file offset last : ℕ) (before : Log) (at : ℕ) (es : List Entry) (after : Log) → IsLog log → EndsAt log file offset last → log ≡ before ++ (at, es) ∷ after → at ≤ file
+last_is log file offset last before at es after is ends parts = by_order (cases_order at file) where
+  absent : file < at → ⊥
+  absent gt =
+      let here : lookup (λ n. n == at) log ≡ Some es = ap (λ (l : Log). lookup (λ n. n == at) l) parts ∙ lookup_at before (at, es) after (subst IsLog parts is) in
+      let gone : lookup (λ n. n == at) log ≡ None = ap (λ (l : Log). lookup (λ n. n == at) l) ends.log_is ∙ lookup_over ends.before (file, ends.entries) [] at (subst IsLog ends.log_is is) gt in
+      let both = sym here ∙ gone in cc
+
+  by_order : (at ≡ file) ⊎ ((at < file) ⊎ (file < at)) → at ≤ file
+  by_order (inl same) = omega arith
+  by_order (inr (inl lt)) = omega arith
+  by_order (inr (inr gt)) = absurd (absent gt)
+
+kept_with : (log removed : Log) (least first f : ℕ) (reads : Files) (marks : ℕ → Mark) (e : Entry) → IsLog log → (k : KeepsFrom log removed least first reads marks) → k.keeps.at ≤ f → KeepsFrom (log_with f e log) removed least first reads marks
+kept_with log removed least first f reads marks e is k le = by_case (k.keeps.at == f) refl where
+  below : AreBelow f k.keeps.before
+  below = below_more k.keeps.at f k.keeps.before le (below_at k.keeps.before (k.keeps.at, k.keeps.kept ++ k.keeps.more) k.keeps.after (subst IsLog k.keeps.log_is is))
+
+  grown : log_with f e log ≡ k.keeps.before ++ log_with f e ((k.keeps.at, k.keeps.kept ++ k.keeps.more) ∷ k.keeps.after)
+  grown = ap (log_with f e) k.keeps.log_is ∙ with_behind k.keeps.before ((k.keeps.at, k.keeps.kept ++ k.keeps.more) ∷ k.keeps.after) f e below
+
+  by_case : (b : Bool) → (k.keeps.at == f) ≡ b → KeepsFrom (log_with f e log) removed least first reads marks
+  by_case true same = record {
+    keeps = record {
+      before = k.keeps.before;
+      at = k.keeps.at;
+      kept = k.keeps.kept;
+      more = k.keeps.more ++ e ∷ [];
+      after = k.keeps.after;
+      log_is = grown ∙ ap (λ (l : Log). k.keeps.before ++ l)
+          (ap (λ (b : Bool). cond b ((f, (k.keeps.kept ++ k.keeps.more) ++ e ∷ []) ∷ k.keeps.after) ((k.keeps.at, k.keeps.kept ++ k.keeps.more) ∷ log_with f e k.keeps.after)) same
+          ∙ ap₂ (λ (n : ℕ) (x : List Entry). (n, x) ∷ k.keeps.after) (sym (eqb-true _ _ same)) (append_assoc k.keeps.kept k.keeps.more (e ∷ [])));
+      front = k.keeps.front;
+      others = k.keeps.others;
+      at_least = k.keeps.at_least;
+    };
+    first_is = k.first_is;
+    read = k.read;
+  }
+  by_case false other = record {
+    keeps = record {
+      before = k.keeps.before;
+      at = k.keeps.at;
+      kept = k.keeps.kept;
+      more = k.keeps.more;
+      after = log_with f e k.keeps.after;
+      log_is = grown ∙ ap (λ (b : Bool). k.keeps.before ++ cond b ((f, (k.keeps.kept ++ k.keeps.more) ++ e ∷ []) ∷ k.keeps.after) ((k.keeps.at, k.keeps.kept ++ k.keeps.more) ∷ log_with f e k.keeps.after)) other;
+      front = k.keeps.front;
+      others = k.keeps.others;
+      at_least = k.keeps.at_least;
+    };
+    first_is = k.first_is;
+    read = k.read;
+  }
+
+-- an entry more, at the end of the last file or of one behind it
+pub holds_with : (log removed : Log) (least : ℕ) (begun : Option ℕ) (old_first new_first file offset last f : ℕ) (state : State) (e : Entry) → IsLog log → EndsAt log file offset last → file ≤ f → new_first ≡ old_first
+    → Holds log removed least begun old_first state → Holds (log_with f e log) removed least begun new_first state
+holds_with log removed least begun old_first new_first file offset last f state e is ends le same h =
+    subst (λ (n : ℕ). Holds (log_with f e log) removed least begun n state) (sym same) (record {
+      kept = kept least state.marks h.kept;
+      job = by_job begun h.job;
+    }) where
+      kept : (n : ℕ) (marks : ℕ → Mark) → KeepsFrom log removed n old_first state.reads marks → KeepsFrom (log_with f e log) removed n old_first state.reads marks
+      kept n marks k = kept_with log removed n old_first f state.reads marks e is k
+          (let within = last_is log file offset last k.keeps.before k.keeps.at (k.keeps.kept ++ k.keeps.more) k.keeps.after is ends k.keeps.log_is in omega (arith, within))
+
+      by_job : (b : Option ℕ) → KeepsJob log removed least old_first state b → KeepsJob (log_with f e log) removed least old_first state b
+      by_job None job = tt
+      by_job (Some n) job = record { marks = job.marks; job_is = job.job_is; no_less = job.no_less; kept = kept n job.marks job.kept }

@@ -1,0 +1,126 @@
+-- What a crash keeps of a log that was written whole, and as a sync begins and ends.
+use Rattle.std.proofs.Common.{◌≡◌, ℕ, ◌+◌, ◌≤◌, Bool, true, false, List, [], ◌∷◌, ◌++◌, Option, Some, None, length, refl, sym, ap, subst, ◌∙◌, arith, option_map, length-append, inl, inr}
+use Rattle.std.specs.Prelude.{unwrap_or, Result, Ok, Err, OnOk}
+use Rattle.std.specs.Result.{is_err}
+use Rattle.std.proofs.lemmas.List.{append-nil}
+use Rattle.je_disk.specs.States.{State, Files, Mark, synced, synced_mark, synced_marks, job_begun, job_ended, IsEither}
+use Rattle.je_disk.specs.Moments.{History, Passes, now}
+use Rattle.je_disk.proofs.Images.{image_synced}
+use Rattle.je_disk.proofs.Moments.{passes_weaken, passes_then}
+use Rattle.log_entry.specs.declared.entry.Entry.{Entry}
+use Rattle.log_file.specs.Log.{Log, IsLog, entries_of, file_bytes, files_of_log}
+use Rattle.log_buffer.specs.Log.{EndsAt, HasLog, ReadAs}
+use Rattle.log_buffer.specs.declared.buffer.LogBuffer.{LogBuffer}
+use Rattle.log_buffer.specs.Buffer.{file_of, offset_of, last_of, first_of}
+use Rattle.log_buffer.specs.Crash.{KeepsFront, KeepsLog, KeepsFrom, WillKeep, Holds, KeptThrough}
+use Rattle.log_buffer.proofs.Logs.{below_last, lookup_last, lookup_push}
+use Rattle.log_buffer.proofs.Kept.{keeps_less, kept_stable}
+use Rattle.log_buffer.proofs.Splits.{count_part, entries-append}
+
+-- the count of a log's entries, by its last file
+pub count_last : (before : Log) (f : ℕ) (es : List Entry) → length (entries_of (before ++ (f, es) ∷ [])) ≤ length (entries_of before) + length es
+count_last before f es =
+    let all = ap length (entries-append before ((f, es) ∷ [])) in
+    let parts = length-append (entries_of before) (es ++ []) in
+    let last = ap length (append-nil es) in
+    omega (arith, all, parts, last)
+
+-- files that read as a log, all stable, keep all of it
+pub whole_kept : (log removed : Log) (file offset last first : ℕ) (reads : Files) → IsLog log → EndsAt log file offset last → first ≤ file → ((g : ℕ) → reads g ≡ files_of_log log g)
+    → KeepsFrom log removed (length (entries_of log)) first reads (synced_marks reads)
+whole_kept log removed file offset last first reads is ends le read =
+    kept_stable log removed (length (entries_of log)) first reads (synced_marks reads) ends.before file ends.entries [] []
+    (ends.log_is ∙ ap (λ (x : List Entry). ends.before ++ (file, x) ∷ []) (sym (append-nil ends.entries)))
+    (inr front)
+    (λ g apart. ap synced_mark (read g ∙ ap (λ (l : Log). files_of_log l g) ends.log_is ∙ ap (option_map (file_bytes g)) (lookup_push ends.before file g ends.entries apart)))
+    (let c = count_last ends.before file ends.entries in let l = ap (λ (x : Log). length (entries_of x)) ends.log_is in omega (arith, c, l))
+    le (λ g. image_synced (reads g)) where
+      there : reads file ≡ Some (file_bytes file ends.entries)
+      there = read file ∙ ap (λ (l : Log). files_of_log l file) ends.log_is ∙ ap (option_map (file_bytes file)) (lookup_last ends.before file ends.entries (below_last ends.before (file, ends.entries) (subst IsLog ends.log_is is)))
+
+      front : KeepsFront (file_bytes file ends.entries) (synced_marks reads file)
+      front = subst (λ (o : Option (List ℕ)). KeepsFront (file_bytes file ends.entries) (synced_mark o)) (sym there) (record { there = refl; rest = []; stable = sym (append-nil (file_bytes file ends.entries)) })
+
+pub count_kept : (log removed : Log) (least : ℕ) (marks : ℕ → Mark) → KeepsLog log removed least marks → least ≤ length (entries_of log)
+count_kept log removed least marks k = let c = count_part k.before k.at k.kept k.more k.after log k.log_is in let l = k.at_least in omega (arith, c, l)
+
+-- a log that was written whole is kept by the sync that begins
+pub holds_begun : (log removed : Log) (least file offset last first : ℕ) (begun : Option ℕ) (s : State) → IsLog log → EndsAt log file offset last → first ≤ file → ((g : ℕ) → s.reads g ≡ files_of_log log g)
+    → Holds log removed least begun first s → Holds log removed least (Some (length (entries_of log))) first (job_begun s)
+holds_begun log removed least file offset last first begun s is ends le read h = record {
+  kept = h.kept;
+  job = record {
+    marks = synced_marks s.reads;
+    job_is = refl;
+    no_less = count_kept log removed least s.marks h.kept.keeps;
+    kept = whole_kept log removed file offset last first s.reads is ends le read;
+  };
+}
+
+begun_keeps : (log removed : Log) (least : ℕ) (before s : State) → IsEither before (job_begun before) s → KeepsLog log removed least before.marks → KeepsLog log removed least s.marks
+begun_keeps log removed least before s (inl is) k = subst (λ (t : State). KeepsLog log removed least t.marks) (sym is) k
+begun_keeps log removed least before s (inr is) k = subst (λ (t : State). KeepsLog log removed least t.marks) (sym is) k
+
+pub begun_through : (log removed : Log) (least first : ℕ) (begun : Option ℕ) (h old new : History) → KeptThrough h old log removed least → Holds log removed least begun first (now old) → Passes old new (IsEither (now old) (job_begun (now old)))
+    → KeptThrough h new log removed least
+begun_through log removed least first begun h old new through holds passes =
+    passes_then h old new (λ s. KeepsLog log removed least s.marks) through
+    (passes_weaken old new (IsEither (now old) (job_begun (now old))) (λ s. KeepsLog log removed least s.marks) (λ s either. begun_keeps log removed least (now old) s either holds.kept.keeps) passes)
+
+-- ---- the end of a sync
+
+ended_marks : (log removed : Log) (least first n : ℕ) (s : State) (job : WillKeep log removed least first s.reads s.job n) → (job_ended s).marks ≡ job.marks
+ended_marks log removed least first n s job = ap (λ (o : Option (ℕ → Mark)). unwrap_or o s.marks) job.job_is
+
+pub holds_ended : (log removed : Log) (least first n : ℕ) (s : State) → Holds log removed least (Some n) first s → Holds log removed n None first (job_ended s)
+holds_ended log removed least first n s h = record {
+  kept = subst (λ (m : ℕ → Mark). KeepsFrom log removed n first s.reads m) (sym (ended_marks log removed least first n s h.job)) h.job.kept;
+  job = tt;
+}
+
+ended_keeps : (log removed : Log) (least first n : ℕ) (before s : State) → Holds log removed least (Some n) first before → IsEither before (job_ended before) s → KeepsLog log removed least s.marks
+ended_keeps log removed least first n before s h (inl is) = subst (λ (t : State). KeepsLog log removed least t.marks) (sym is) h.kept.keeps
+ended_keeps log removed least first n before s h (inr is) =
+    subst (λ (t : State). KeepsLog log removed least t.marks) (sym is)
+    (keeps_less log removed least n (job_ended before).marks h.job.no_less (holds_ended log removed least first n before h).kept.keeps)
+
+pub ended_through : (log removed : Log) (least first n : ℕ) (old new : History) → Holds log removed least (Some n) first (now old) → Passes old new (IsEither (now old) (job_ended (now old))) → KeptThrough old new log removed least
+ended_through log removed least first n old new h passes =
+    passes_weaken old new (IsEither (now old) (job_ended (now old))) (λ s. KeepsLog log removed least s.marks) (λ s either. ended_keeps log removed least first n (now old) s h either) passes
+
+-- ---- a sync at the end
+
+synced_keeps : (log removed : Log) (least file offset last first : ℕ) (begun : Option ℕ) (before s : State) → IsLog log → EndsAt log file offset last → first ≤ file → ((g : ℕ) → before.reads g ≡ files_of_log log g)
+    → Holds log removed least begun first before → IsEither before (synced before) s → KeepsLog log removed least s.marks
+synced_keeps log removed least file offset last first begun before s is ends le read h (inl same) = subst (λ (t : State). KeepsLog log removed least t.marks) (sym same) h.kept.keeps
+synced_keeps log removed least file offset last first begun before s is ends le read h (inr same) =
+    subst (λ (t : State). KeepsLog log removed least t.marks) (sym same)
+    (keeps_less log removed least (length (entries_of log)) (synced_marks before.reads) (count_kept log removed least before.marks h.kept.keeps) (whole_kept log removed file offset last first before.reads is ends le read).keeps)
+
+pub synced_through : (log removed : Log) (least file offset last first : ℕ) (begun : Option ℕ) (h old new : History) → IsLog log → EndsAt log file offset last → first ≤ file → ((g : ℕ) → (now old).reads g ≡ files_of_log log g)
+    → KeptThrough h old log removed least → Holds log removed least begun first (now old) → Passes old new (IsEither (now old) (synced (now old))) → KeptThrough h new log removed least
+synced_through log removed least file offset last first begun h old new is ends le read through holds passes =
+    passes_then h old new (λ s. KeepsLog log removed least s.marks) through
+    (passes_weaken old new (IsEither (now old) (synced (now old))) (λ s. KeepsLog log removed least s.marks) (λ s either. synced_keeps log removed least file offset last first begun (now old) s is ends le read holds either) passes)
+
+-- ---- calls that change nothing
+
+pub same_through : (log removed : Log) (least first : ℕ) (begun : Option ℕ) (old new : History) → Passes old new (λ s. s ≡ now old) → Holds log removed least begun first (now old) → KeptThrough old new log removed least
+same_through log removed least first begun old new passes h =
+    passes_weaken old new (λ s. s ≡ now old) (λ s. KeepsLog log removed least s.marks) (λ s is. subst (λ (t : State). KeepsLog log removed least t.marks) (sym is) h.kept.keeps) passes
+
+-- ---- a log that is closed
+
+-- a sync of a log that was written whole
+pub closed_through : {T E D : Type 0} (r : Result T E) (tells : Bool) (log removed : Log) (least : ℕ) (begun : Option ℕ) (h old new : History) (buffer : LogBuffer D) → is_err r ≡ false → tells ≡ true → OnOk r (HasLog tells (now old) buffer log)
+    → OnOk r (Holds log removed least begun (first_of buffer) (now old)) → OnOk r (ReadAs tells (now old).reads log) → KeptThrough h old log removed least → Passes old new (IsEither (now old) (synced (now old))) → KeptThrough h new log removed least
+closed_through (Ok v) tells log removed least begun h old new buffer ok told has holds read through passes =
+    synced_through log removed least (file_of buffer) (offset_of buffer) (last_of buffer) (first_of buffer) begun h old new has.is_log has.ends (omega arith) (read told) through holds passes
+closed_through (Err e) tells log removed least begun h old new buffer ok told has holds read through passes = absurd cc
+
+pub closed_keeps : {T E D : Type 0} (r : Result T E) (tells : Bool) (log : Log) (old new : History) (buffer : LogBuffer D) → is_err r ≡ false → tells ≡ true → OnOk r (HasLog tells (now old) buffer log) → OnOk r (ReadAs tells (now old).reads log)
+    → now new ≡ synced (now old) → KeepsLog log [] (length (entries_of log)) (now new).marks
+closed_keeps (Ok v) tells log old new buffer ok told has read done =
+    subst (λ (s : State). KeepsLog log [] (length (entries_of log)) s.marks) (sym done)
+    (whole_kept log [] (file_of buffer) (offset_of buffer) (last_of buffer) (file_of buffer) (now old).reads has.is_log has.ends (omega arith) (read told)).keeps
+closed_keeps (Err e) tells log old new buffer ok told has read done = absurd cc

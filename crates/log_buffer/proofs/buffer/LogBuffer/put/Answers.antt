@@ -1,0 +1,23 @@
+use Rattle.std.proofs.Common.{◌≡◌, ◌+◌, ℕ, OnOk, sym, ap, subst, ◌∙◌}
+use Rattle.log_entry.specs.Spelling.{size_of}
+use Rattle.log_buffer.specs.declared.place.Place.{Place}
+use Rattle.log_buffer.specs.Buffer.{end_of, file_of, first_of, file_max_of}
+use Rattle.log_buffer.specs.Log.{log_with}
+use Rattle.log_buffer.specs.Crash.{Holds}
+use Rattle.log_buffer.proofs.Places.{is_placed}
+use Rattle.log_buffer.proofs.buffer.LogBuffer.put.Goals as goal
+
+pub returns-then-place-self-clause-holds : goal.returns-then-place-self-clause-holds
+returns-then-place-self-clause-holds g c =
+    λ tells state log removed least begun has h.
+    subst (λ (n : ℕ). OnOk c.put_last.result (Holds (log_with n c.args.entry.now log) removed least begun (first_of c.put_last.new.self) state)) (sym c.if-place-self.true)
+    (c.put_last.ensures.holds tells state log removed least begun has h)
+
+pub returns-else-place-self-clause-holds : goal.returns-else-place-self-clause-holds
+returns-else-place-self-clause-holds g c =
+    let old = c.args.self.now in
+    let next : c.args.place.file ≡ file_of old + 1 =
+    ap (λ (p : Place). p.file) (c.requires.place ∙ (is_placed (file_max_of old) (end_of old) (size_of c.args.entry.now)).next (λ same. c.if-place-self.false (ap (λ (p : Place). p.file) c.requires.place ∙ same))) in
+    λ tells state log removed least begun has h.
+    subst (λ (n : ℕ). OnOk c.put_next.result (Holds (log_with n c.args.entry.now log) removed least begun (first_of c.put_next.new.self) state)) (sym next)
+    (c.put_next.ensures.holds tells state log removed least begun has h)

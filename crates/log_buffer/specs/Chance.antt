@@ -1,0 +1,108 @@
+-- What a crash leaves of a log, where no torn entry passes for a whole one.
+use Rattle.std.specs.Prelude.{◌≡◌, ◌≢◌, ◌⊎◌, ◌≤◌, ◌<◌, ◌+◌, ◌==◌, ℕ, Option, Some, None, List, [], ◌∷◌, ◌++◌, length, map, take, drop}
+use Rattle.std.specs.Map.{lookup}
+use Rattle.je_disk.specs.States.{Files, Mark, State, content, cut, synced_mark}
+use Rattle.je_disk.specs.Images.{IsImage}
+use Rattle.log_entry.specs.declared.entry.Entry.{Entry}
+use Rattle.log_entry.specs.declared.entry.Entry.TheVariants.{FileHeader}
+use Rattle.log_entry.specs.declared.decoder.Decoded.TheVariants.{Whole}
+use Rattle.log_entry.specs.Reading.{decoded}
+use Rattle.log_file.specs.declared.file_run.FileRun.{FileRun}
+use Rattle.log_file.specs.declared.found.Found.TheVariants.{Run}
+use Rattle.log_file.specs.Scan.{found_in}
+use Rattle.log_file.specs.Log.{Log, IsLog, AreFiles, file_bytes, files_of_log, entries_of, log_in}
+use Rattle.log_buffer.specs.Crash.{KeepsLog, KeepsFront}
+
+-- each whole entry of a file's bytes from an offset on is the one that was appended there, and none goes on behind the last of them
+abbrev pub AreAppended : ℕ → ℕ → List Entry → List ℕ → Type 0
+AreAppended prev at [] bytes = (found : Entry) (len : ℕ) → decoded bytes ≡ Whole found prev len → ⊥
+AreAppended prev at (entry ∷ entries) bytes =
+    (found : Entry) (field len : ℕ) → decoded bytes ≡ Whole found field len → (found ≡ entry) × (field ≡ prev) × AreAppended at (at + len) entries (drop len bytes)
+
+-- no checksum matches by chance: in each of the log's files, what reads as a whole entry was appended there
+abbrev pub NoChanceMatch : Log → Files → Type 0
+NoChanceMatch log image =
+    (f : ℕ) (entries : List Entry) → lookup (λ n. n == f) log ≡ Some entries → AreAppended 0 0 (FileHeader 1 f ∷ entries) (content image f)
+
+-- what is there of a file, if the log has it
+abbrev pub if_logged : {A B : Type 0} → Option A → Option B → Option B
+if_logged None there = None
+if_logged (Some _) there = there
+
+-- the files that are the log's
+abbrev pub among : Log → Files → Files
+among log image f = if_logged (lookup (λ n. n == f) log) (image f)
+
+-- files hold the log's first entries, at least so many, and are its first files
+pub record AreFirst (log : Log) (least : ℕ) (held : List (ℕ × List ℕ)) : Type 0 where
+  pub more : List Entry
+  pub entries : entries_of log ≡ entries_of (log_in held) ++ more
+  pub at_least : least ≤ length (entries_of (log_in held))
+  pub later : List ℕ
+  pub numbers : map (λ file. file.0) log ≡ map (λ file. file.0) held ++ later
+
+-- a file has a header, or ends within it, and no other damage
+pub record HasRun (file : ℕ × List ℕ) : Type 0 where
+  pub run : FileRun
+  pub found : found_in file.0 file.1 ≡ Run run
+
+-- a file is a header and entries, and nothing follows them
+pub record IsAllRun (file : ℕ × List ℕ) : Type 0 where
+  pub run : FileRun
+  pub found : found_in file.0 file.1 ≡ Run run
+  pub headed : 0 < run.end
+  pub ends : run.end ≡ length file.1
+
+-- the last file alone may have a torn end
+abbrev pub AreWholeButLast : List (ℕ × List ℕ) → Type 0
+AreWholeButLast [] = Unit {0}
+AreWholeButLast (file ∷ []) = HasRun file
+AreWholeButLast (file ∷ next ∷ files) = IsAllRun file × AreWholeButLast (next ∷ files)
+
+-- a file of this number, if there is one, was removed, and is as it was
+abbrev pub IsRemoved : Log → ℕ → Option (List ℕ) → Type 0
+IsRemoved removed f None = Unit {0}
+IsRemoved removed f (Some bytes) = (entries : List Entry) × (lookup (λ n. n == f) removed ≡ Some entries) × (bytes ≡ file_bytes f entries)
+
+-- a file of this number, if there is one, is not above all of the log's
+abbrev pub IsWithin : Log → ℕ → Option (List ℕ) → Type 0
+IsWithin log f None = Unit {0}
+IsWithin log f (Some bytes) = (g : ℕ) × (entries : List Entry) × (f ≤ g) × (lookup (λ n. n == g) log ≡ Some entries)
+
+-- what a crash leaves: of the log its first entries, at least so many, and besides only files that were removed, as they were
+pub record LeavesLog (log removed : Log) (least : ℕ) (image : Files) : Type 0 where
+  pub first : (held : List (ℕ × List ℕ)) → AreFiles (among log image) held → AreFirst log least held
+  pub whole : (held : List (ℕ × List ℕ)) → AreFiles image held → AreWholeButLast held
+  pub others : (f : ℕ) → lookup (λ n. n == f) log ≡ None → IsRemoved removed f (image f)
+  pub within : (f : ℕ) → IsWithin log f (image f)
+
+-- what a crash keeps of a log is in each image
+abbrev pub KeptIsLeft : Type 0
+KeptIsLeft = (log removed : Log) (least : ℕ) (state : State) (image : Files) → IsLog log → KeepsLog log removed least state.marks → IsImage state image → NoChanceMatch log image
+    → LeavesLog log removed least image
+
+-- files that were cut short and not changed otherwise
+abbrev pub AreCutShort : Log → Files → Type 0
+AreCutShort log image = (f : ℕ) (entries : List Entry) → lookup (λ n. n == f) log ≡ Some entries → (len : ℕ) × (content image f ≡ take len (file_bytes f entries))
+
+-- files that were only cut short have no entry that matches by chance
+abbrev pub CutsHaveNoChance : Type 0
+CutsHaveNoChance = (log : Log) (image : Files) → IsLog log → AreCutShort log image → NoChanceMatch log image
+
+-- ---- as a log is opened
+
+-- the files are this log's, all stable, but for its last one
+abbrev pub AreStableBut : ℕ → Log → (ℕ → Mark) → Type 0
+AreStableBut f before marks = (g : ℕ) → g ≢ f → marks g ≡ synced_mark (files_of_log before g)
+
+-- a log's last file is kept with all its entries, whatever follows them; one that is to be begun may have any bytes
+abbrev pub LastIsKept : ℕ → List Entry → (ℕ → Mark) → Type 0
+LastIsKept f entries marks = (entries ≡ []) ⊎ KeepsFront (file_bytes f entries) (marks f)
+
+-- a crash keeps all of a log whose last file has a torn end, before that is cut off and behind it
+pub record IsKeptByCut (before : Log) (f : ℕ) (entries : List Entry) (state : State) : Type 0 where
+  pub found : KeepsLog (before ++ (f, entries) ∷ []) [] (length (entries_of (before ++ (f, entries) ∷ []))) state.marks
+  pub behind : (len : ℕ) → (len ≡ length (file_bytes f entries)) ⊎ (entries ≡ []) → KeepsLog (before ++ (f, entries) ∷ []) [] (length (entries_of (before ++ (f, entries) ∷ []))) (cut f len state).marks
+
+abbrev pub CutsKeep : Type 0
+CutsKeep = (before : Log) (f : ℕ) (entries : List Entry) (state : State) → AreStableBut f before state.marks → LastIsKept f entries state.marks → IsKeptByCut before f entries state

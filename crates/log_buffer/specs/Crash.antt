@@ -1,0 +1,76 @@
+-- What a crash keeps of a log.
+use Rattle.std.specs.Prelude.{◌≡◌, ◌≢◌, ◌≤◌, ◌<◌, ◌+◌, ◌==◌, ◌⊎◌, ℕ, true, false, Option, Some, None, List, [], ◌∷◌, ◌++◌, length}
+use Rattle.std.specs.Map.{lookup}
+use Rattle.je_disk.specs.States.{Files, Mark, State}
+use Rattle.je_disk.specs.Moments.{History, Passes}
+use Rattle.je_disk.specs.Images.{AreFileImages}
+use Rattle.log_entry.specs.declared.entry.Entry.{Entry}
+use Rattle.log_file.specs.Log.{Log, AreFileEntries, file_bytes, files_of_log, entries_of}
+
+-- a crash keeps a file, and these bytes at its front
+pub record KeepsFront (bytes : List ℕ) (mark : Mark) : Type 0 where
+  pub there : mark.must ≡ true
+  pub rest : List ℕ
+  pub stable : mark.stable ≡ bytes ++ rest
+
+-- where a crash leaves a file at all, it leaves these bytes and no others
+pub record IsWhole (bytes : List ℕ) (mark : Mark) : Type 0 where
+  pub stable : mark.stable ≡ bytes
+  pub reach : mark.reach ≡ length bytes
+
+-- a crash keeps a file with these bytes and no others
+pub record KeepsWhole (bytes : List ℕ) (mark : Mark) : Type 0 where
+  pub there : mark.must ≡ true
+  pub whole : IsWhole bytes mark
+
+-- a file below `at` was removed, and where a crash brings it back it is as it was
+pub record WasRemoved (removed : Log) (at f : ℕ) (mark : Mark) : Type 0 where
+  pub below : f < at
+  pub entries : List Entry
+  pub among : lookup (λ n. n == f) removed ≡ Some entries
+  pub are_entries : AreFileEntries entries
+  pub whole : IsWhole (file_bytes f entries) mark
+
+-- what a crash keeps of a file that has these bytes, or of one that is not there
+abbrev pub KeepsFile : Log → ℕ → ℕ → Option (List ℕ) → Mark → Type 0
+KeepsFile removed at f (Some bytes) mark = KeepsWhole bytes mark
+KeepsFile removed at f None mark = (mark.may ≡ false) ⊎ WasRemoved removed at f mark
+
+-- A crash keeps at least so many of a log's entries, from its beginning on: the files before one of them are kept whole, of that
+-- one the first entries, and no later one is there yet. Files that were removed may be back, as they were.
+pub record KeepsLog (log removed : Log) (least : ℕ) (marks : ℕ → Mark) : Type 0 where
+  pub before : Log
+  pub at : ℕ
+  pub kept : List Entry
+  pub more : List Entry
+  pub after : Log
+  pub log_is : log ≡ before ++ (at, kept ++ more) ∷ after
+  pub front : (kept ≡ []) ⊎ KeepsFront (file_bytes at kept) (marks at)
+  pub others : (f : ℕ) → f ≢ at → KeepsFile removed at f (files_of_log before f) (marks f)
+  pub at_least : least ≤ length (entries_of before) + length kept
+
+-- at each moment since, a crash keeps at least so many of the log's entries
+abbrev pub KeptThrough : History → History → Log → Log → ℕ → Type 0
+KeptThrough old new log removed least = Passes old new (λ s. KeepsLog log removed least s.marks)
+
+-- the same of a disk that can go on from there: no file below `first` is being written, and what the files read as is one of the images
+pub record KeepsFrom (log removed : Log) (least first : ℕ) (reads : Files) (marks : ℕ → Mark) : Type 0 where
+  pub keeps : KeepsLog log removed least marks
+  pub first_is : first ≤ keeps.at
+  pub read : AreFileImages marks reads
+
+-- a sync is out, and when it has ended a crash keeps so many entries
+pub record WillKeep (log removed : Log) (least first : ℕ) (reads : Files) (job : Option (ℕ → Mark)) (begun : ℕ) : Type 0 where
+  pub marks : ℕ → Mark
+  pub job_is : job ≡ Some marks
+  pub no_less : least ≤ begun
+  pub kept : KeepsFrom log removed begun first reads marks
+
+abbrev pub KeepsJob : Log → Log → ℕ → ℕ → State → Option ℕ → Type 0
+KeepsJob log removed least first state None = Unit {0}
+KeepsJob log removed least first state (Some begun) = WillKeep log removed least first state.reads state.job begun
+
+-- A crash keeps at least `least` of the log's entries, and `begun` of them once the sync that is out has ended; None says nothing of a sync. The files below `first` are not being written.
+pub record Holds (log removed : Log) (least : ℕ) (begun : Option ℕ) (first : ℕ) (state : State) : Type 0 where
+  pub kept : KeepsFrom log removed least first state.reads state.marks
+  pub job : KeepsJob log removed least first state begun

@@ -1,0 +1,131 @@
+// Lists of items, read and written one after another.
+ghost use Rattle.std.specs.Prelude.{◌≡◌, ◌+◌, ◌≤◌, ◌<◌, ◌^◌, ◌++◌, length, vec_capacity, IsOk, IfOk, OnOk, OnErr, MatchOption, Some, None};
+ghost use Rattle.std.specs.Int.{w16};
+ghost use Rattle.std.specs.List.{AllByRecursion, flat_map};
+ghost use Rattle.log_entry.specs.Items.{items_in, rising_in, counted_in, counted_bytes, rises as rise, rises_from as rise_from};
+ghost use Rattle.log_entry.specs.Writing.{KeepsFront};
+
+use crate::item::Item;
+use je_bytes::{Reader, put_u16};
+use je_order::List;
+use std::alloc::{AllocError, Global};
+
+// So many items, if they all come next.
+fn read_items<T: Item>(
+    alloc: Global,
+    reader: &mut Reader<'_>,
+    count: u32,
+) -> Result<Option<Vec<T>>, AllocError>
+    ensures { IfOk result (λ found. MatchOption found (items_in T.item_in count reader.old ≡ None) (λ items. items_in T.item_in count reader.old ≡ Some (items.items, reader.new))) }
+{
+    let mut items = Vec::new(alloc);
+    for i in 0..count {
+        let Some(item) = T::read(alloc, reader)? else {
+            return Ok(None);
+        };
+        items.push(item)?;
+    }
+    Ok(Some(items))
+}
+
+// Whether this item comes before the first of the others, and each of them before the next one.
+fn rises_from<T: Item>(first: &T, items: &[T]) -> bool
+    ensures { result ≡ rise_from T.before first.now items.now }
+{
+    let mut last = first;
+    for item in items {
+        if !last.comes_before(item) {
+            return false;
+        }
+        last = item;
+    }
+    true
+}
+
+// Whether each item comes before the next one.
+fn rises<T: Item>(items: &[T]) -> bool
+    ensures { result ≡ rise T.before items.now }
+{
+    match items {
+        [] => true,
+        [first, others @ ..] => rises_from(first, others),
+    }
+}
+
+// So many items, but at most as many as are allowed, each of them before the next one, if they all come
+// next. The time is that of what is read.
+#[tactic(auto, unfolding(crate::specs::Items::rising_in))]
+pub(crate) fn read_rising<T: Item>(
+    alloc: Global,
+    reader: &mut Reader<'_>,
+    most: u32,
+    count: u32,
+) -> Result<Option<List<T>>, AllocError>
+    ensures { IfOk result (λ found. MatchOption found (rising_in T.item_in T.before most count reader.old ≡ None) (λ items. rising_in T.item_in T.before most count reader.old ≡ Some (items, reader.new))) }
+{
+    if count > most {
+        return Ok(None);
+    }
+    let Some(items) = read_items(alloc, reader, count)? else {
+        return Ok(None);
+    };
+    if !rises(items.as_slice()) {
+        return Ok(None);
+    }
+    Ok(Some(List::from_vec(items)))
+}
+
+// A list whose count has two bytes, if one comes next with at most so many items.
+#[tactic(auto, unfolding(crate::specs::Items::counted_in))]
+pub(crate) fn read_counted<T: Item>(
+    alloc: Global,
+    reader: &mut Reader<'_>,
+    most: u32,
+) -> Result<Option<List<T>>, AllocError>
+    ensures { IfOk result (λ found. MatchOption found (counted_in w16 T.item_in T.before most reader.old ≡ None) (λ items. counted_in w16 T.item_in T.before most reader.old ≡ Some (items, reader.new))) }
+{
+    let Ok(count) = reader.u16() else {
+        return Ok(None);
+    };
+    read_rising(alloc, reader, most, u32::from(count))
+}
+
+// Puts the items at the end.
+pub(crate) fn put_items<T: Item>(out: &mut Vec<u8>, items: &[T]) -> Result<(), AllocError>
+    requires { AllByRecursion T.IsItem items.now }
+    ensures ok { OnOk result (out.new.items ≡ out.old.items ++ flat_map T.item_bytes items.now) }
+    ensures err { OnErr result (KeepsFront out.old.items out.new.items) }
+    ensures fits { length out.old.items + length (flat_map T.item_bytes items.now) ≤ vec_capacity out.old → IsOk result }
+    ensures capacity { vec_capacity out.old ≤ vec_capacity out.new }
+{
+    for item in items {
+        item.put(out)?;
+    }
+    Ok(())
+}
+
+// Puts the list at the end: its count in two bytes, and its items.
+pub(crate) fn put_counted<T: Item>(out: &mut Vec<u8>, items: &[T]) -> Result<(), AllocError>
+    requires each { AllByRecursion T.IsItem items.now }
+    requires few { length items.now < 2 ^ 16 }
+    ensures ok { OnOk result (out.new.items ≡ out.old.items ++ counted_bytes w16 T.item_bytes items.now) }
+    ensures err { OnErr result (KeepsFront out.old.items out.new.items) }
+    ensures fits { length out.old.items + (2 + length (flat_map T.item_bytes items.now)) ≤ vec_capacity out.old → IsOk result }
+    ensures capacity { vec_capacity out.old ≤ vec_capacity out.new }
+{
+    put_u16(out, items.len() as u16)?;
+    put_items(out, items)
+}
+
+// How many bytes the items have.
+pub(crate) fn items_size<T: Item>(items: &[T]) -> u32
+    requires each { AllByRecursion T.IsItem items.now }
+    requires few { length (flat_map T.item_bytes items.now) < 2 ^ 32 }
+    ensures { result ≡ length (flat_map T.item_bytes items.now) }
+{
+    let mut size = 0;
+    for item in items {
+        size += item.size();
+    }
+    size
+}

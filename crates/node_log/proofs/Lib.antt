@@ -1,0 +1,4 @@
+pub mod Rising
+pub mod ReadBack
+pub mod Entries
+pub mod Filling
