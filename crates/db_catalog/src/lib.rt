@@ -11,8 +11,6 @@ pub mod catalog_view;
 pub mod db_kind;
 pub mod db_record;
 pub mod planning;
-#[cfg(test)]
-mod tests;
 
 pub use catalog_change::CatalogChange;
 pub use catalog_view::CatalogView;

@@ -1,5 +1,5 @@
 // The jobs of a folder.
-ghost use Rattle.std.specs.Prelude.{◌≡◌, [], IsNone, IfSome, IfOk};
+ghost use Rattle.std.specs.Prelude.{◌≡◌, [], length, IsNone, IfSome, IfOk};
 
 use je_disk::{ReadDone, ReadJob, SyncDone, SyncJob};
 use std::alloc::Global;
@@ -67,6 +67,15 @@ pub fn whole<F: Read + Drop>(alloc: Global, file: Option<F>) -> io::Result<Vec<u
         file.read_to_end(&mut bytes)?;
     }
     Ok(bytes)
+}
+
+impl<F> DirJob<F> {
+    /// How many files and folders are to be synced.
+    pub fn due(&self) -> usize
+        ensures { result ≡ length self.now.files.items }
+    {
+        self.files.len()
+    }
 }
 
 impl<F: OpenFile + Drop + Send> SyncJob for DirJob<F> {

@@ -14,6 +14,3 @@ pub mod place;
 
 pub use dir::DirDisk;
 pub use job::{DirDone, DirJob, DirReadDone, DirReadJob};
-
-#[cfg(test)]
-mod tests;

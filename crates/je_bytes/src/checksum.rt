@@ -41,17 +41,3 @@ pub fn adler32(bytes: &[u8]) -> u32
     let (a, b) = sums_after(a, b, rest);
     b * 65_536 + a
 }
-
-#[cfg(test)]
-mod tests {
-    use super::*;
-
-    // "Wikipedia" is the worked example of the encyclopedia's page on Adler-32; the others are a whole
-    // block of the greatest byte and more, as zlib sums them.
-    #[test]
-    fn sums_known_texts(rt: HostRuntime) {
-        assert_eq!(rt; adler32(b""), 1);
-        assert_eq!(rt; adler32(b"Wikipedia"), 0x11e60398);
-        assert_eq!(rt; adler32(&[255; 5_000]), 0x54b27596);
-    }
-}

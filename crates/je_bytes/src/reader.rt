@@ -94,32 +94,3 @@ impl<'a> Reader<'a> {
         Ok(BigEndian::read_u64(run))
     }
 }
-
-#[cfg(test)]
-mod tests {
-    use super::*;
-    use crate::{numbers_are_their_bytes, put_u16, put_u32, put_u64};
-    use std::test::Fail;
-
-    // The bytes of a log file's first header, as a format description gives them, and then each number
-    // put back.
-    #[test]
-    fn reads_and_puts_fields(rt: HostRuntime) -> Result<(), Fail> {
-        let bytes = b"\x01\x02\x03JELG\x00\x00\x00\x01\x00\x00\x00\x00tail";
-        let mut reader = Reader::new(bytes);
-        assert!(rt; reader.u8() == Ok(1) && reader.u16() == Ok(0x0203));
-        assert!(rt; reader.u32() == Ok(0x4a454c47) && reader.u64() == Ok(1 << 32));
-        assert!(rt; reader.u64() == Err(Short) && reader.take(5).is_err());
-        assert_eq!(rt; reader.take(2).ok().ok_or("short")?, b"ta".as_slice());
-        assert_eq!(rt; reader.rest(), b"il".as_slice());
-
-        let mut out = Vec::new(rt.alloc());
-        out.push(1)?;
-        put_u16(&mut out, 0x0203)?;
-        put_u32(&mut out, 0x4a454c47)?;
-        put_u64(&mut out, 1 << 32)?;
-        assert_eq!(rt; out.as_slice(), &bytes[..15]);
-        numbers_are_their_bytes();
-        Ok(())
-    }
-}

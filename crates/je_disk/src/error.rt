@@ -20,13 +20,3 @@ impl From<AllocError> for DiskErr {
         DiskErr::Memory
     }
 }
-
-#[cfg(test)]
-mod tests {
-    use super::*;
-
-    #[test]
-    fn wants_memory(rt: HostRuntime) {
-        assert!(rt; DiskErr::from(AllocError) == DiskErr::Memory);
-    }
-}

@@ -15,8 +15,6 @@ mod filtering;
 pub mod laws;
 pub mod plan;
 pub mod store;
-#[cfg(test)]
-mod tests;
 pub mod totals;
 
 pub use answer::{Answer, Fault};

@@ -46,30 +46,3 @@ impl Place {
         }
     }
 }
-
-#[cfg(test)]
-mod tests {
-    use super::*;
-
-    #[test]
-    fn places_entries(rt: HostRuntime) {
-        let rows: [(u32, u32, bool); 5] = [
-            (2_060, 2_036, false),
-            (2_060, 2_037, true),
-            (26, 5_000, false),
-            (27, 5_000, true),
-            (4_096, 22, true),
-        ];
-        for (offset, size, flips) in rows {
-            let end = Place {
-                file: 7,
-                offset: u64::from(offset),
-            };
-            let next = Place {
-                file: 8,
-                offset: 26,
-            };
-            assert!(rt; end.placed(4_096, size) == if flips { next } else { end });
-        }
-    }
-}

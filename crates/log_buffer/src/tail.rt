@@ -124,25 +124,3 @@ impl Tail {
         self.bytes.clear();
     }
 }
-
-#[cfg(test)]
-mod tests {
-    use super::*;
-    use std::test::Fail;
-
-    #[test]
-    fn keeps_files_apart(rt: HostRuntime) -> Result<(), Fail> {
-        let mut tail = Tail::new(rt.alloc());
-        tail.reserve(6, 1)?;
-        tail.push(b"ab")?;
-        tail.begin(b"cde")?;
-        tail.push(b"f")?;
-        assert!(rt; tail.len() == 6 && !tail.begins_first());
-        assert_eq!(rt; tail.files(), 1);
-        assert!(rt; tail.piece(0) == b"ab".as_slice());
-        assert!(rt; tail.piece(1) == b"cdef".as_slice());
-        tail.clear();
-        assert!(rt; tail.len() == 0 && tail.files() == 0);
-        Ok(())
-    }
-}

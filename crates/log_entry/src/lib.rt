@@ -26,8 +26,3 @@ pub use file_usage::FileUsage;
 pub use laws::{one_spelling, runs_are_spellings};
 pub use record_slot::RecordSlot;
 pub use root::Root;
-
-#[cfg(test)]
-mod tests;
-#[cfg(test)]
-mod vectors;

@@ -15,6 +15,3 @@ pub use found::Found;
 pub use laws::{files_are_found, files_are_one_list};
 pub use reading::{Scanned, scan};
 pub use scanning::scan_bytes;
-
-#[cfg(test)]
-mod tests;

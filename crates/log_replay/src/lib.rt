@@ -32,6 +32,3 @@ pub use reading::read_log;
 pub use replayed::{Replayed, new_environment};
 pub use rows::Rows;
 pub use sort_key::SortKey;
-
-#[cfg(test)]
-mod tests;

@@ -16,6 +16,3 @@ pub use change::Change;
 pub use job::{MemDone, MemJob, MemReadDone, MemReadJob};
 pub use mark::FileMark;
 pub use memory::MemDisk;
-
-#[cfg(test)]
-mod tests;

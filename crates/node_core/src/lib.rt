@@ -14,6 +14,3 @@ pub use laws::slots_are_their_names;
 pub use node::Node;
 pub use slot::{Marked, Slot, Version};
 pub use slots::Slots;
-
-#[cfg(test)]
-mod tests;

@@ -13,6 +13,3 @@ pub mod writing;
 pub use laws::{images_are_entries, nodes_are_read_back};
 pub use reading::from_entries;
 pub use writing::{to_delta, to_entry};
-
-#[cfg(test)]
-mod tests;

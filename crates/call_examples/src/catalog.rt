@@ -1,0 +1,150 @@
+// Plans of calls on databases, over a catalog of one database, and what logs their changes.
+ghost use Rattle.std.specs.Prelude.{◌≡◌, true};
+ghost use Rattle.je_model.specs.Store.{is_same};
+ghost use Rattle.je_order.specs.Words.{is_word};
+ghost use Rattle.db_catalog.specs.Planning.{is_catalog_call};
+ghost use Rattle.db_catalog.specs.declared.db_kind.DbKind.TheVariants.{Plain as PlainRecord};
+
+use db_catalog::{
+    CatalogChange, CatalogPlan, CatalogView, DbKind, DbRecord, catalog_changes, plan,
+};
+use je_model::{Answer, Call, Change, Kind};
+use je_order::{List, Word, cmp_bytes, copy_of};
+use std::alloc::{AllocError, Global};
+use std::test::Fail;
+
+// A catalog with one plain database, which has no records.
+#[derive(Drop)]
+struct OneDatabase {
+    name: Word,
+    number: u32,
+}
+
+impl OneDatabase {
+    fn is_named(&self, name: &Word) -> bool
+        ensures { result ≡ is_same self.now.name name.now }
+    {
+        cmp_bytes(self.name.as_slice(), name.as_slice()).is_eq()
+    }
+}
+
+impl CatalogView for OneDatabase {
+    ghost use Rattle.std.specs.Prelude.{◌∷◌, [], Some, None, if◌then◌else◌};
+    ghost use Rattle.je_model.specs.declared.store.Kind.TheVariants.{Plain};
+    ghost use Rattle.je_model.specs.Store.{is_same};
+    ghost use Rattle.db_catalog.specs.declared.db_kind.DbKind.TheVariants.{Plain as PlainRecord};
+
+    ghost seen = { λ v. record { databases = record { name = v.name; kind = Plain; pairs = [] } ∷ [] } };
+
+    ghost record_of = { λ v name. if is_same v.name name then Some (record { number = v.number; kind = PlainRecord }) else None };
+
+    fn has(&self, _alloc: Global, name: &Word) -> Result<bool, AllocError> {
+        if self.is_named(name) {
+            Ok(true)
+        } else {
+            Ok(false)
+        }
+    }
+
+    fn count(&self) -> usize {
+        1
+    }
+
+    fn names(&self, alloc: Global) -> Result<List<Word>, AllocError> {
+        let mut names = List::new(alloc);
+        names.push(copy_of(&self.name)?)?;
+        Ok(names)
+    }
+
+    fn row(&self, _alloc: Global, name: &Word) -> Result<Option<DbRecord>, AllocError> {
+        if self.is_named(name) {
+            Ok(Some(plain(self.number)))
+        } else {
+            Ok(None)
+        }
+    }
+}
+
+fn plain(number: u32) -> DbRecord
+    ensures { result ≡ record { number = number; kind = PlainRecord } }
+{
+    DbRecord {
+        number,
+        kind: DbKind::Plain,
+    }
+}
+
+fn word(alloc: Global, name: &[u8]) -> Result<Word, AllocError>
+    requires { is_word name.now ≡ true }
+{
+    Word::from_slice(alloc, name)
+}
+
+// A catalog with the database `s`, number 5.
+fn view(alloc: Global) -> Result<OneDatabase, AllocError> {
+    Ok(OneDatabase {
+        name: word(alloc, b"s")?,
+        number: 5,
+    })
+}
+
+fn planned(alloc: Global, call: Call) -> Result<CatalogPlan, AllocError>
+    requires { is_catalog_call call ≡ true }
+{
+    plan(alloc, &view(alloc)?, &call)
+}
+
+#[test]
+fn plans_a_creation(rt: HostRuntime) -> Result<(), Fail> {
+    let alloc = rt.alloc();
+    let call = Call::Create {
+        db: word(alloc, b"t")?,
+        kind: Kind::Plain,
+    };
+    let found = planned(alloc, call)?;
+    assert!(rt; found.answer == Answer::Done);
+    let [Change::Make { db, kind }] = found.changes.as_slice() else {
+        return Err(Fail::new("one change"));
+    };
+    assert!(rt; db.as_slice() == b"t".as_slice() && *kind == Kind::Plain);
+    Ok(())
+}
+
+#[test]
+fn lists_the_names(rt: HostRuntime) -> Result<(), Fail> {
+    let found = planned(rt.alloc(), Call::List)?;
+    assert!(rt; found.changes.is_empty());
+    let Answer::Names { names } = &found.answer else {
+        return Err(Fail::new("names"));
+    };
+    let [name] = names.as_slice() else {
+        return Err(Fail::new("one name"));
+    };
+    assert!(rt; name.as_slice() == b"s".as_slice());
+    Ok(())
+}
+
+// What is logged where `s` becomes `t`, and 9 is the next number.
+fn renamed(alloc: Global) -> Result<List<CatalogChange>, AllocError> {
+    let change = Change::Rename {
+        db: word(alloc, b"s")?,
+        to: word(alloc, b"t")?,
+    };
+    catalog_changes(alloc, &view(alloc)?, 9, &change)
+}
+
+// A renamed database keeps its number.
+#[test]
+fn logs_a_new_name(rt: HostRuntime) -> Result<(), Fail> {
+    let changes = renamed(rt.alloc())?;
+    let [
+        CatalogChange::Delete { db },
+        CatalogChange::Put { db: to, row },
+    ] = changes.as_slice()
+    else {
+        return Err(Fail::new("a name goes and another comes"));
+    };
+    assert!(rt; db.as_slice() == b"s".as_slice() && to.as_slice() == b"t".as_slice());
+    assert!(rt; *row == plain(5));
+    Ok(())
+}

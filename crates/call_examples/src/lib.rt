@@ -1,0 +1,17 @@
+//! Examples of the model's evaluation, the catalog's plans, and the texts that come in and go out: the
+//! words of the command line, scripts and reports. There are tests alone here. They stand on `je_model`,
+//! `db_catalog`, `script_text` and `command_line`.
+#![tactic(auto)]
+
+#[cfg(test)]
+mod catalog;
+#[cfg(test)]
+mod model;
+#[cfg(test)]
+mod records;
+#[cfg(test)]
+mod reports;
+#[cfg(test)]
+mod scripts;
+#[cfg(test)]
+mod words;

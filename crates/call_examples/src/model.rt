@@ -1,0 +1,235 @@
+// Calls on a store, their answers and the stores after them.
+use je_model::{Answer, Call, Kind, Store, eval};
+use je_order::{Octets, Word, copy_of};
+use std::alloc::{AllocError, Global};
+use std::test::Fail;
+
+// A call on a database, or on all of them.
+#[derive(Clone, Copy)]
+enum Step {
+    List,
+    Create,
+    Remove,
+    Rename,
+    Truncate,
+    Put(&'static str, &'static str),
+    PutNo(&'static str, &'static str),
+    Get(&'static str),
+    Delete(&'static str),
+}
+
+fn octets(alloc: Global, text: &str) -> Result<Octets, AllocError> {
+    Octets::from_slice(alloc, text.as_bytes())
+}
+
+fn put(alloc: Global, db: Word, key: &str, value: &str) -> Result<Call, AllocError> {
+    Ok(Call::Put {
+        db,
+        key: octets(alloc, key)?,
+        value: octets(alloc, value)?,
+    })
+}
+
+fn put_no(alloc: Global, db: Word, key: &str, value: &str) -> Result<Call, AllocError> {
+    Ok(Call::PutNo {
+        db,
+        key: octets(alloc, key)?,
+        value: octets(alloc, value)?,
+    })
+}
+
+fn get(alloc: Global, db: Word, key: &str) -> Result<Call, AllocError> {
+    Ok(Call::Get {
+        db,
+        key: octets(alloc, key)?,
+        rmw: false,
+    })
+}
+
+fn delete(alloc: Global, db: Word, key: &str) -> Result<Call, AllocError> {
+    Ok(Call::Delete {
+        db,
+        key: octets(alloc, key)?,
+    })
+}
+
+// The call of a step on a database; a rename takes the other name.
+fn call_of(alloc: Global, db: Word, to: Word, step: Step) -> Result<Call, AllocError> {
+    match step {
+        Step::List => Ok(Call::List),
+        Step::Create => Ok(Call::Create {
+            db,
+            kind: Kind::Plain,
+        }),
+        Step::Remove => Ok(Call::Remove { db }),
+        Step::Rename => Ok(Call::Rename { db, to }),
+        Step::Truncate => Ok(Call::Truncate { db }),
+        Step::Put(key, value) => put(alloc, db, key, value),
+        Step::PutNo(key, value) => put_no(alloc, db, key, value),
+        Step::Get(key) => get(alloc, db, key),
+        Step::Delete(key) => delete(alloc, db, key),
+    }
+}
+
+fn names_text(alloc: Global, names: &[Word]) -> Result<Vec<u8>, AllocError> {
+    let mut text = Vec::from_slice(alloc, b"names")?;
+    for name in names {
+        text.push(b' ')?;
+        text.extend_from_slice(name.as_slice())?;
+    }
+    Ok(text)
+}
+
+fn pair_text(alloc: Global, key: &[u8], value: &[u8]) -> Result<Vec<u8>, AllocError> {
+    let mut text = Vec::from_slice(alloc, key)?;
+    text.push(b'=')?;
+    text.extend_from_slice(value)?;
+    Ok(text)
+}
+
+// An answer as text: a word, a pair, or names.
+fn answer_text(alloc: Global, answer: &Answer) -> Result<Vec<u8>, AllocError> {
+    match answer {
+        Answer::Done => Vec::from_slice(alloc, b"done"),
+        Answer::NoDatabase => Vec::from_slice(alloc, b"no database"),
+        Answer::NotFound => Vec::from_slice(alloc, b"not found"),
+        Answer::KeyExist => Vec::from_slice(alloc, b"key exist"),
+        Answer::Rec { key, value } => pair_text(alloc, key.as_slice(), value.as_slice()),
+        Answer::Names { names } => names_text(alloc, names.as_slice()),
+        _ => Vec::from_slice(alloc, b"another"),
+    }
+}
+
+// The store as text: of each database the name, the pairs and a semicolon.
+fn store_text(alloc: Global, store: &Store) -> Result<Vec<u8>, AllocError> {
+    let mut text = Vec::new(alloc);
+    for d in store.databases.as_slice() {
+        text.extend_from_slice(d.name.as_slice())?;
+        for pair in d.pairs.as_slice() {
+            text.push(b' ')?;
+            text.extend_from_slice(pair.0.as_slice())?;
+            text.push(b'=')?;
+            text.extend_from_slice(pair.1.as_slice())?;
+        }
+        text.push(b';')?;
+    }
+    Ok(text)
+}
+
+// A database, `s` or `t`, a step, its answer and the store after it.
+type Row = (u8, Step, &'static str, &'static str);
+
+// One after the other on a store that is empty at first, worked out by hand.
+const RECORDS: [Row; 16] = [
+    (b't', Step::Put("a", "1"), "no database", ""),
+    (b't', Step::Get("a"), "no database", ""),
+    (b't', Step::Delete("a"), "no database", ""),
+    (b't', Step::Create, "done", "t;"),
+    (b't', Step::Put("b", "2"), "done", "t b=2;"),
+    (b't', Step::Put("a", "1"), "done", "t a=1 b=2;"),
+    (b't', Step::Put("ab", ""), "done", "t a=1 ab= b=2;"),
+    (b't', Step::Put("a", "9"), "done", "t a=9 ab= b=2;"),
+    (b't', Step::Get("a"), "a=9", "t a=9 ab= b=2;"),
+    (b't', Step::Get("ab"), "ab=", "t a=9 ab= b=2;"),
+    (b't', Step::Get("c"), "not found", "t a=9 ab= b=2;"),
+    (b't', Step::Delete("ab"), "done", "t a=9 b=2;"),
+    (b't', Step::Delete("ab"), "not found", "t a=9 b=2;"),
+    (b's', Step::Create, "done", "s;t a=9 b=2;"),
+    (b's', Step::Get("a"), "not found", "s;t a=9 b=2;"),
+    (b's', Step::Put("a", "5"), "done", "s a=5;t a=9 b=2;"),
+];
+
+// The calls on databases, and a put that overwrites nothing.
+const DATABASES: [Row; 17] = [
+    (b't', Step::List, "names", ""),
+    (b't', Step::Remove, "no database", ""),
+    (b't', Step::Rename, "no database", ""),
+    (b't', Step::Truncate, "no database", ""),
+    (b't', Step::PutNo("a", "1"), "no database", ""),
+    (b't', Step::Create, "done", "t;"),
+    (b't', Step::PutNo("a", "1"), "done", "t a=1;"),
+    (b't', Step::PutNo("a", "2"), "key exist", "t a=1;"),
+    (b't', Step::Rename, "done", "s a=1;"),
+    (b't', Step::Create, "done", "s a=1;t;"),
+    (b't', Step::List, "names s t", "s a=1;t;"),
+    (b't', Step::Put("b", "2"), "done", "s a=1;t b=2;"),
+    (b's', Step::Truncate, "done", "s;t b=2;"),
+    (b's', Step::Get("a"), "not found", "s;t b=2;"),
+    (b's', Step::Remove, "done", "t b=2;"),
+    (b't', Step::Rename, "done", "s b=2;"),
+    (b's', Step::Remove, "done", ""),
+];
+
+// The name of one letter.
+fn word(alloc: Global, letter: u8) -> Result<Word, AllocError> {
+    let name = [letter];
+    if Word::is_word(&name) {
+        Word::from_slice(alloc, &name)
+    } else {
+        Err(AllocError)
+    }
+}
+
+// The call of a row; what is renamed gets the other name.
+fn called(alloc: Global, db: u8, step: Step) -> Result<Call, AllocError> {
+    let to = if db == b's' { b't' } else { b's' };
+    let db = word(alloc, db)?;
+    call_of(alloc, db, word(alloc, to)?, step)
+}
+
+fn is_answer(alloc: Global, answer: &Answer, text: &str) -> Result<bool, AllocError> {
+    Ok(answer_text(alloc, answer)?.as_slice() == text.as_bytes())
+}
+
+fn is_store(alloc: Global, store: &Store, text: &str) -> Result<bool, AllocError> {
+    Ok(store_text(alloc, store)?.as_slice() == text.as_bytes())
+}
+
+fn evaluated(
+    alloc: Global,
+    store: &Store,
+    db: u8,
+    step: Step,
+) -> Result<(Answer, Store), AllocError> {
+    let call = called(alloc, db, step)?;
+    eval(alloc, store, &call)
+}
+
+// The store after a row's call, where that and the answer are those of the row.
+fn follows(alloc: Global, store: &Store, row: Row) -> Result<Option<Store>, AllocError> {
+    let (db, step, answer, after) = row;
+    let (found, next) = evaluated(alloc, store, db, step)?;
+    let same = is_answer(alloc, &found, answer)? && is_store(alloc, &next, after)?;
+    Ok(if same { Some(next) } else { None })
+}
+
+// The number of the first row that does not follow.
+fn first_other(alloc: Global, rows: &[Row]) -> Result<Option<usize>, AllocError> {
+    let mut store = Store::new(alloc);
+    for (i, row) in rows.iter().enumerate() {
+        match follows(alloc, &store, *row)? {
+            Some(next) => store = next,
+            None => return Ok(Some(i)),
+        }
+    }
+    Ok(None)
+}
+
+#[test]
+fn evaluates_calls_on_records(rt: HostRuntime) -> Result<(), Fail> {
+    assert_eq!(rt; first_other(rt.alloc(), &RECORDS)?, None);
+    Ok(())
+}
+
+#[test]
+fn evaluates_calls_on_databases(rt: HostRuntime) -> Result<(), Fail> {
+    assert_eq!(rt; first_other(rt.alloc(), &DATABASES)?, None);
+    Ok(())
+}
+
+#[test]
+fn copies_a_store(rt: HostRuntime) -> Result<(), Fail> {
+    let store = Store::new(rt.alloc());
+    assert!(rt; copy_of(&store)? == store);
+    Ok(())
+}

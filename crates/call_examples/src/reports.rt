@@ -1,0 +1,124 @@
+// The report of a journal.
+use je_io::{Failed, MemSink, Sink};
+use je_model::{Answer, Call, Event, Fault, Kind, Totals};
+use je_order::{List, Octets, Word};
+use script_text::report;
+use std::alloc::{AllocError, Global};
+use std::test::Fail;
+
+// What an event of the journal below answers.
+#[derive(Clone, Copy)]
+enum Said {
+    Logged(u64),
+    Begun,
+    Durable(u64),
+    Found,
+    Names,
+    KeyExist,
+    NotFound,
+    TooMany,
+    TooLong,
+    DiskFault,
+    Invalid,
+}
+
+fn two_names(alloc: Global) -> Result<List<Word>, AllocError> {
+    let mut names = List::new(alloc);
+    names.push(Word::from_slice(alloc, b"s_1")?)?;
+    names.push(Word::from_slice(alloc, b"t")?)?;
+    Ok(names)
+}
+
+fn answer_of(alloc: Global, said: Said) -> Result<Answer, AllocError> {
+    Ok(match said {
+        Said::Logged(commit) => Answer::Logged { commit },
+        Said::Begun => Answer::Done,
+        Said::Durable(commit) => Answer::Durable { commit },
+        Said::Found => Answer::Rec {
+            key: Octets::from_slice(alloc, b"\x00\xff")?,
+            value: Octets::new(alloc),
+        },
+        Said::Names => Answer::Names {
+            names: two_names(alloc)?,
+        },
+        Said::KeyExist => Answer::KeyExist,
+        Said::NotFound => Answer::NotFound,
+        Said::TooMany => Answer::TooMany { count: 1_000 },
+        Said::TooLong => Answer::TooLong { length: 4_097 },
+        Said::DiskFault => Answer::DiskFault,
+        Said::Invalid => Answer::Invalid { first: Fault::Disk },
+    })
+}
+
+fn event_of(alloc: Global, session: u8, line: u32, said: Said) -> Result<Event, AllocError> {
+    let answer = answer_of(alloc, said)?;
+    match said {
+        Said::Begun => Ok(Event::SyncBegin { answer }),
+        Said::Durable(_) => Ok(Event::SyncEnd { answer }),
+        _ => Ok(Event::Call {
+            session,
+            line,
+            call: Call::Create {
+                db: Word::from_slice(alloc, b"t")?,
+                kind: Kind::Plain,
+            },
+            answer,
+        }),
+    }
+}
+
+const JOURNAL: [(u8, u32, Said); 15] = [
+    (1, 1, Said::Logged(1)),
+    (0, 0, Said::Begun),
+    (0, 0, Said::Durable(1)),
+    (2, 3, Said::Found),
+    (2, 4, Said::Logged(2)),
+    (3, 5, Said::Logged(3)),
+    (1, 6, Said::NotFound),
+    (0, 0, Said::Begun),
+    (0, 0, Said::Durable(2)),
+    (1, 7, Said::TooMany),
+    (4, 9, Said::TooLong),
+    (5, 10, Said::Names),
+    (5, 11, Said::KeyExist),
+    (1, 8, Said::DiskFault),
+    (64, 1_000_000, Said::Invalid),
+];
+
+fn journal(alloc: Global) -> Result<Vec<Event>, AllocError> {
+    let mut events = Vec::new(alloc);
+    for (session, line, said) in JOURNAL {
+        events.push(event_of(alloc, session, line, said)?)?;
+    }
+    Ok(events)
+}
+
+const TEXT: &[u8] =
+    b"1 s1 ok\n3 s2 ok 00ff -\n6 s1 notfound\n4 s2 ok\n7 s1 toomany 1000\n9 s4 toolong 4097\n10 s5 ok s_1 t\n11 s5 keyexist\n8 s1 diskfault\n5 s3 diskfault\n1000000 s64 invalid\nend commits 3 databases 1 records 2\n";
+
+fn report_into(alloc: Global, out: &mut MemSink) -> Result<Result<(), Failed>, AllocError> {
+    let totals = Totals {
+        databases: 1,
+        records: 2,
+    };
+    let events = journal(alloc)?;
+    Ok(report(&events, &totals, out))
+}
+
+// A commit's line comes with the sync that covers it, or with the fault before it.
+#[test]
+fn prints_each_line_when_it_is_known(rt: HostRuntime) -> Result<(), Fail> {
+    let mut out = MemSink::new(rt.alloc());
+    report_into(rt.alloc(), &mut out)??;
+    assert_eq!(rt; out.bytes(), TEXT);
+    Ok(())
+}
+
+#[test]
+fn prints_what_the_sink_takes(rt: HostRuntime) -> Result<(), Fail> {
+    let mut out = MemSink::failing(rt.alloc(), 20);
+    assert!(rt; report_into(rt.alloc(), &mut out)?.is_err());
+    assert_eq!(rt; out.bytes(), &TEXT[..20]);
+    assert_eq!(rt; out.faults(), 1);
+    Ok(())
+}

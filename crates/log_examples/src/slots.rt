@@ -1,0 +1,24 @@
+// Slots of nodes that the examples make.
+use je_order::{Name, Octets};
+use node_core::slots::MOST_SLOTS;
+use node_core::{Node, Slot, Version};
+use std::alloc::{AllocError, Global};
+use std::test::Fail;
+
+/// The name of this one byte.
+pub fn name(alloc: Global, key: u8) -> Result<Name, AllocError> {
+    Ok(Name {
+        key: Octets::from_slice(alloc, &[key])?,
+        dup: Octets::new(alloc),
+    })
+}
+
+/// Puts a version of the record with this key into the node.
+pub fn put(alloc: Global, node: &mut Node, key: u8, version: Version) -> Result<(), Fail> {
+    let name = name(alloc, key)?;
+    if node.slots.len() >= MOST_SLOTS {
+        return Err("no room".into());
+    }
+    node.put_slot(Slot { name, version })?;
+    Ok(())
+}
