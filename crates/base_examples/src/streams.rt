@@ -2,33 +2,58 @@
 use je_io::{
     Failed, MemSink, MemSource, ReadErr, Sink, Source, StdSink, StdSource, read_all, write_all,
 };
+use std::alloc::Global;
+use std::process::Abort;
 use std::test::Fail;
 
+// Whether this is read of the source.
+fn reads<S: Source>(
+    alloc: Global,
+    source: &mut S,
+    most: usize,
+    want: &[u8],
+) -> Result<bool, ReadErr> {
+    let bytes = read_all(alloc, source, most)?;
+    let same = bytes.as_slice() == want;
+    drop(bytes);
+    Ok(same)
+}
+
+// Whether a read of the source fails.
+fn fails<S: Source>(alloc: Global, source: &mut S) -> bool {
+    let read = read_all(alloc, source, 9);
+    let failed = matches!(read, Err(ReadErr::Failed));
+    drop(read);
+    failed
+}
+
+const TEXT: &[u8] = b"seven b";
+
+// The most bytes that are wanted, and what is read of TEXT.
+static READS: [(usize, &[u8]); 5] = [
+    (7, b"seven b"),
+    (100, b"seven b"),
+    (6, b"seven b"),
+    (5, b"seven "),
+    (0, b"s"),
+];
+
 // Whole, cut one byte behind the limit, and in small pieces; the same over a reader of the library.
+fn reads_each(alloc: Global, most: usize, want: &[u8]) -> Result<bool, ReadErr> {
+    let mut whole = MemSource::new(TEXT);
+    let of_whole = reads(alloc, &mut whole, most, want)?;
+    let mut slow = MemSource::slow(TEXT, 2);
+    let of_slow = reads(alloc, &mut slow, most, want)?;
+    let mut reader = StdSource::new(TEXT);
+    let of_reader = reads(alloc, &mut reader, most, want)?;
+    let faults = whole.faults().max(slow.faults()).max(reader.faults());
+    Ok(of_whole && of_slow && of_reader && faults == 0)
+}
+
 #[test]
 fn reads_to_the_end_or_the_limit(rt: HostRuntime) -> Result<(), Fail> {
-    let text = b"seven b";
-    for (most, want) in [(7, 7), (100, 7), (6, 7), (5, 6), (0, 1)] {
-        let want = &text[..want];
-        let mut whole = MemSource::new(text);
-        assert_eq!(rt;
-            read_all(rt.alloc(), &mut whole, most)?.as_slice(),
-            want,
-            "{most}"
-        );
-        let mut slow = MemSource::slow(text, 2);
-        assert_eq!(rt;
-            read_all(rt.alloc(), &mut slow, most)?.as_slice(),
-            want,
-            "{most}"
-        );
-        let mut reader = StdSource::new(text.as_slice());
-        assert_eq!(rt;
-            read_all(rt.alloc(), &mut reader, most)?.as_slice(),
-            want,
-            "{most}"
-        );
-        assert_eq!(rt; whole.faults().max(slow.faults()).max(reader.faults()), 0);
+    for &(most, want) in &READS {
+        assert!(rt; reads_each(rt.alloc(), most, want)?);
     }
     Ok(())
 }
@@ -36,53 +61,60 @@ fn reads_to_the_end_or_the_limit(rt: HostRuntime) -> Result<(), Fail> {
 // A read that fails in the middle is answered, and the source goes on behind it.
 #[test]
 fn hands_a_fault_on(rt: HostRuntime) -> Result<(), Fail> {
+    let alloc = rt.alloc();
     let mut source = MemSource::failing(b"abcdef", 0);
-    assert_eq!(rt;
-        read_all(rt.alloc(), &mut source, 9).err(),
-        Some(ReadErr::Failed)
-    );
-    assert_eq!(rt; source.faults(), 1);
-    assert_eq!(rt;
-        read_all(rt.alloc(), &mut source, 9)?.as_slice(),
-        b"abcdef".as_slice()
-    );
+    assert!(rt; fails(alloc, &mut source));
+    assert!(rt; source.faults() == 1);
+    assert!(rt; reads(alloc, &mut source, 9, b"abcdef")?);
     let mut source = MemSource::failing(b"abcdef", 1);
-    assert_eq!(rt;
-        read_all(rt.alloc(), &mut source, 9).err(),
-        Some(ReadErr::Failed)
-    );
-    assert_eq!(rt; source.faults(), 1);
+    assert!(rt; fails(alloc, &mut source));
+    assert!(rt; source.faults() == 1);
     Ok(())
 }
 
+// A text that is written, whether that goes well, and then the sink's bytes and its faults.
+type Row = (&'static [u8], bool, &'static [u8], u64);
+
+static WHOLE: [Row; 3] = [
+    (b"one", true, b"one", 0),
+    (b"", true, b"one", 0),
+    (b"two", true, b"onetwo", 0),
+];
+
+static SHORT: [Row; 3] = [
+    (b"one", true, b"one", 0),
+    (b"two", false, b"onet", 1),
+    (b"more", false, b"onet", 2),
+];
+
+fn write_each(rt: &impl Abort, sink: &mut MemSink, rows: &[Row]) {
+    for &(text, well, bytes, faults) in rows {
+        assert!(rt; write_all(sink, text).is_ok() == well);
+        assert!(rt; sink.bytes() == bytes);
+        assert!(rt; sink.faults() == faults);
+    }
+}
+
 #[test]
-fn writes_all_or_the_first_bytes(rt: HostRuntime) -> Result<(), Fail> {
+fn writes_all_or_the_first_bytes(rt: HostRuntime) {
     let mut sink = MemSink::new(rt.alloc());
-    write_all(&mut sink, b"one")?;
-    write_all(&mut sink, b"")?;
-    write_all(&mut sink, b"two")?;
-    assert_eq!(rt; sink.bytes(), b"onetwo".as_slice());
-    assert_eq!(rt; sink.faults(), 0);
+    write_each(&rt, &mut sink, &WHOLE);
+    drop(sink);
     let mut sink = MemSink::failing(rt.alloc(), 4);
-    write_all(&mut sink, b"one")?;
-    assert_eq!(rt; write_all(&mut sink, b"two"), Err(Failed));
-    assert_eq!(rt; sink.bytes(), b"onet".as_slice());
-    assert_eq!(rt; sink.faults(), 1);
-    assert_eq!(rt; write_all(&mut sink, b"more"), Err(Failed));
-    assert_eq!(rt; sink.bytes(), b"onet".as_slice());
-    assert_eq!(rt; sink.faults(), 2);
-    Ok(())
+    write_each(&rt, &mut sink, &SHORT);
+    drop(sink);
 }
 
 // Over a writer of the library with room for three bytes.
 #[test]
-fn writes_to_a_writer(rt: HostRuntime) -> Result<(), Fail> {
+fn writes_to_a_writer(rt: HostRuntime) {
     let mut room = [0u8; 3];
     let mut sink = StdSink::new(room.as_mut_slice());
-    assert_eq!(rt; write_all(&mut sink, b"ab"), Ok(()));
-    assert_eq!(rt; write_all(&mut sink, b"cd"), Err(Failed));
-    assert_eq!(rt; sink.faults(), 1);
+    let first = write_all(&mut sink, b"ab");
+    let second = write_all(&mut sink, b"cd");
+    let faults = sink.faults();
     let _ = sink;
-    assert_eq!(rt; room.as_slice(), b"abc".as_slice());
-    Ok(())
+    assert!(rt; first.is_ok() && second == Err(Failed));
+    assert!(rt; faults == 1);
+    assert!(rt; room == *b"abc");
 }

@@ -1,54 +1,101 @@
 // Byte order, and each kind of value.
 use je_order::{Bound, List, Name, Octets, TxnId, Word, cmp_bytes, cmp_name, copy_of};
+use std::alloc::{AllocError, Global};
 use std::cmp::Ordering;
 use std::test::Fail;
 
 // Unsigned bytes, a proper prefix first: the examples of the order in the Getting Started Guide.
+static ORDERED: [(&[u8], &[u8], Ordering); 5] = [
+    (b"", b"", Ordering::Equal),
+    (b"", b"a", Ordering::Less),
+    (b"ab", b"b", Ordering::Less),
+    (b"abc", b"ab", Ordering::Greater),
+    (b"\xff", b"\x01\x01", Ordering::Greater),
+];
+
 #[test]
 fn orders_bytes(rt: HostRuntime) {
-    let rows: [(&[u8], &[u8], Ordering); 5] = [
-        (b"", b"", Ordering::Equal),
-        (b"", b"a", Ordering::Less),
-        (b"ab", b"b", Ordering::Less),
-        (b"abc", b"ab", Ordering::Greater),
-        (b"\xff", b"\x01\x01", Ordering::Greater),
-    ];
-    for (a, b, want) in rows {
-        assert_eq!(rt; cmp_bytes(a, b), want);
+    for &(a, b, want) in &ORDERED {
+        assert!(rt; cmp_bytes(a, b) == want);
     }
 }
 
-#[test]
-fn makes_each_value(rt: HostRuntime) -> Result<(), Fail> {
-    let alloc = rt.alloc();
+fn keys(alloc: Global) -> Result<Octets, AllocError> {
     let mut key = Octets::from_slice(alloc, b"key")?;
     key.push(b's')?;
-    let empty = Octets::from_vec(Octets::new(alloc).into_vec());
-    assert!(rt; empty.is_empty() && key.len() == 4);
-    let name = Name { key, dup: empty };
-    let copy = copy_of(&name)?;
-    assert!(rt; copy == name && cmp_name(&copy, &name) == Ordering::Equal);
-    let mut bounds = List::from_vec(List::new(alloc).into_vec());
+    Ok(key)
+}
+
+fn name(alloc: Global) -> Result<Name, AllocError> {
+    let key = keys(alloc)?;
+    let dup = Octets::from_vec(Octets::new(alloc).into_vec());
+    Ok(Name { key, dup })
+}
+
+// Whether a copy of the name is the same, and what the name's parts are is so.
+fn is_name(name: &Name) -> Result<bool, AllocError> {
+    let copy = copy_of(name)?;
+    let same = copy == *name && cmp_name(&copy, name) == Ordering::Equal;
+    drop(copy);
+    Ok(same && name.dup.is_empty() && name.key.len() == 4)
+}
+
+fn put_bounds(bounds: &mut List<Bound>, name: Name) -> Result<(), AllocError> {
     bounds.push(Bound::At(name))?;
     bounds.push(Bound::End)?;
-    let again = copy_of(&bounds)?;
-    assert!(rt; again == bounds && !again.is_empty() && again.len() == 2);
+    Ok(())
+}
+
+// Whether a copy of both bounds is the same.
+fn are_bounds(bounds: &List<Bound>) -> Result<bool, AllocError> {
+    let again = copy_of(bounds)?;
+    let same = again == *bounds && !again.is_empty() && again.len() == 2;
+    drop(again);
+    Ok(same)
+}
+
+#[test]
+fn makes_a_name(rt: HostRuntime) -> Result<(), Fail> {
+    let name = name(rt.alloc())?;
+    let whole = is_name(&name);
+    drop(name);
+    assert!(rt; whole?);
     assert!(rt; TxnId(1) < TxnId(2));
     Ok(())
 }
 
 #[test]
+fn makes_bounds(rt: HostRuntime) -> Result<(), Fail> {
+    let alloc = rt.alloc();
+    let name = name(alloc)?;
+    let mut bounds = List::from_vec(List::new(alloc).into_vec());
+    let put = put_bounds(&mut bounds, name);
+    let whole = are_bounds(&bounds);
+    drop(bounds);
+    put?;
+    assert!(rt; whole?);
+    Ok(())
+}
+
+static NOT_WORDS: [&[u8]; 4] = [b"", b"T", b"a b", &[b'a'; 65]];
+
+// Whether a text is a word, and a copy of that word the same.
+fn is_copied(alloc: Global, text: &[u8]) -> Result<bool, AllocError> {
+    if !Word::is_word(text) {
+        return Ok(false);
+    }
+    let word = Word::from_slice(alloc, text)?;
+    let same = word.as_slice() == text && word.len() == text.len() && copy_of(&word)? == word;
+    drop(word);
+    Ok(same)
+}
+
+#[test]
 fn takes_names_of_databases(rt: HostRuntime) -> Result<(), Fail> {
     assert!(rt; Word::is_word(b"t_9"));
-    for text in [b"".as_slice(), b"T", b"a b", &[b'a'; 65]] {
+    for &text in &NOT_WORDS {
         assert!(rt; !Word::is_word(text));
     }
-    let text = b"people";
-    if Word::is_word(text) {
-        let word = Word::from_slice(rt.alloc(), text)?;
-        assert!(rt;
-            word.as_slice() == text.as_slice() && word.len() == 6 && copy_of(&word)? == word
-        );
-    }
+    assert!(rt; is_copied(rt.alloc(), b"people")?);
     Ok(())
 }

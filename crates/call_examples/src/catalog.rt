@@ -88,10 +88,27 @@ fn view(alloc: Global) -> Result<OneDatabase, AllocError> {
     })
 }
 
+fn planned_of(alloc: Global, call: &Call) -> Result<CatalogPlan, AllocError>
+    requires { is_catalog_call call.now ≡ true }
+{
+    plan(alloc, &view(alloc)?, call)
+}
+
 fn planned(alloc: Global, call: Call) -> Result<CatalogPlan, AllocError>
     requires { is_catalog_call call ≡ true }
 {
-    plan(alloc, &view(alloc)?, &call)
+    let planned = planned_of(alloc, &call);
+    drop(call);
+    planned
+}
+
+// Whether the plan makes the plain database t, and says that it is done.
+fn makes_t(plan: &CatalogPlan) -> bool {
+    let [Change::Make { db, kind }] = plan.changes.as_slice() else {
+        return false;
+    };
+    let is_t = db.as_slice() == b"t".as_slice() && *kind == Kind::Plain;
+    is_t && matches!(plan.answer, Answer::Done)
 }
 
 #[test]
@@ -102,35 +119,46 @@ fn plans_a_creation(rt: HostRuntime) -> Result<(), Fail> {
         kind: Kind::Plain,
     };
     let found = planned(alloc, call)?;
-    assert!(rt; found.answer == Answer::Done);
-    let [Change::Make { db, kind }] = found.changes.as_slice() else {
-        return Err(Fail::new("one change"));
-    };
-    assert!(rt; db.as_slice() == b"t".as_slice() && *kind == Kind::Plain);
+    let is_made = makes_t(&found);
+    drop(found);
+    assert!(rt; is_made);
     Ok(())
+}
+
+// Whether the plan changes nothing, and names the database s alone.
+fn names_s(plan: &CatalogPlan) -> bool {
+    let Answer::Names { names } = &plan.answer else {
+        return false;
+    };
+    match names.as_slice() {
+        [name] => name.as_slice() == b"s".as_slice() && plan.changes.is_empty(),
+        _ => false,
+    }
 }
 
 #[test]
 fn lists_the_names(rt: HostRuntime) -> Result<(), Fail> {
     let found = planned(rt.alloc(), Call::List)?;
-    assert!(rt; found.changes.is_empty());
-    let Answer::Names { names } = &found.answer else {
-        return Err(Fail::new("names"));
-    };
-    let [name] = names.as_slice() else {
-        return Err(Fail::new("one name"));
-    };
-    assert!(rt; name.as_slice() == b"s".as_slice());
+    let is_named = names_s(&found);
+    drop(found);
+    assert!(rt; is_named);
     Ok(())
+}
+
+fn rename(alloc: Global) -> Result<Change, AllocError> {
+    Ok(Change::Rename {
+        db: word(alloc, b"s")?,
+        to: word(alloc, b"t")?,
+    })
 }
 
 // What is logged where `s` becomes `t`, and 9 is the next number.
 fn renamed(alloc: Global) -> Result<List<CatalogChange>, AllocError> {
-    let change = Change::Rename {
-        db: word(alloc, b"s")?,
-        to: word(alloc, b"t")?,
-    };
-    catalog_changes(alloc, &view(alloc)?, 9, &change)
+    let view = view(alloc)?;
+    let change = rename(alloc)?;
+    let changes = catalog_changes(alloc, &view, 9, &change);
+    drop(change);
+    changes
 }
 
 // A renamed database keeps its number.

@@ -67,7 +67,7 @@ fn event_of(alloc: Global, session: u8, line: u32, said: Said) -> Result<Event, 
     }
 }
 
-const JOURNAL: [(u8, u32, Said); 15] = [
+static JOURNAL: [(u8, u32, Said); 15] = [
     (1, 1, Said::Logged(1)),
     (0, 0, Said::Begun),
     (0, 0, Said::Durable(1)),
@@ -87,7 +87,7 @@ const JOURNAL: [(u8, u32, Said); 15] = [
 
 fn journal(alloc: Global) -> Result<Vec<Event>, AllocError> {
     let mut events = Vec::new(alloc);
-    for (session, line, said) in JOURNAL {
+    for &(session, line, said) in &JOURNAL {
         events.push(event_of(alloc, session, line, said)?)?;
     }
     Ok(events)
@@ -110,7 +110,7 @@ fn report_into(alloc: Global, out: &mut MemSink) -> Result<Result<(), Failed>, A
 fn prints_each_line_when_it_is_known(rt: HostRuntime) -> Result<(), Fail> {
     let mut out = MemSink::new(rt.alloc());
     report_into(rt.alloc(), &mut out)??;
-    assert_eq!(rt; out.bytes(), TEXT);
+    assert!(rt; out.bytes() == TEXT);
     Ok(())
 }
 
@@ -118,7 +118,6 @@ fn prints_each_line_when_it_is_known(rt: HostRuntime) -> Result<(), Fail> {
 fn prints_what_the_sink_takes(rt: HostRuntime) -> Result<(), Fail> {
     let mut out = MemSink::failing(rt.alloc(), 20);
     assert!(rt; report_into(rt.alloc(), &mut out)?.is_err());
-    assert_eq!(rt; out.bytes(), &TEXT[..20]);
-    assert_eq!(rt; out.faults(), 1);
+    assert!(rt; out.bytes() == &TEXT[..20] && out.faults() == 1);
     Ok(())
 }

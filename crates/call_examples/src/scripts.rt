@@ -5,37 +5,30 @@ use script_text::{ParseErr, parse};
 use std::alloc::{AllocError, Global};
 use std::test::Fail;
 
-fn octets(alloc: Global, bytes: &[u8]) -> Result<Octets, AllocError> {
-    Octets::from_slice(alloc, bytes)
-}
-
-// The calls of the script below.
+// The calls of the script below, which starts with line 3.
 fn call_at(alloc: Global, line: u32) -> Result<Call, AllocError> {
+    let digits: &[u8] = match line {
+        4 => b"\x00\xff",
+        5 => b"\x0a",
+        7 => b"\xab",
+        _ => b"",
+    };
     let db = Word::from_slice(alloc, b"t")?;
+    let key = Octets::from_slice(alloc, digits)?;
+    let value = Octets::new(alloc);
     Ok(match line {
         3 => Call::Create {
             db,
             kind: Kind::Plain,
         },
-        4 => Call::Put {
-            db,
-            key: octets(alloc, b"\x00\xff")?,
-            value: octets(alloc, b"")?,
-        },
+        4 => Call::Put { db, key, value },
         5 => Call::Get {
             db,
-            key: octets(alloc, b"\x0a")?,
+            key,
             rmw: false,
         },
-        6 => Call::Get {
-            db,
-            key: octets(alloc, b"")?,
-            rmw: true,
-        },
-        _ => Call::Delete {
-            db,
-            key: octets(alloc, b"\xab")?,
-        },
+        6 => Call::Get { db, key, rmw: true },
+        _ => Call::Delete { db, key },
     })
 }
 
@@ -45,7 +38,21 @@ fn is_given(alloc: Global, given: &Given, session: u8, line: u32) -> Result<bool
         line,
         call: call_at(alloc, line)?,
     };
-    Ok(*given == want)
+    let same = *given == want;
+    drop(want);
+    Ok(same)
+}
+
+// The lines that have a call, and the session of each.
+static LINES: [(u8, u32); 5] = [(1, 3), (64, 4), (9, 5), (10, 6), (2, 7)];
+
+// Whether those are the calls.
+fn are_given(alloc: Global, lines: &[Given]) -> Result<bool, AllocError> {
+    let mut same = lines.len() == LINES.len();
+    for (given, (session, line)) in lines.iter().zip(&LINES) {
+        same = same && is_given(alloc, given, *session, *line)?;
+    }
+    Ok(same)
 }
 
 // Each form, in a script with a comment, an empty line and no feed at its end.
@@ -55,52 +62,44 @@ fn reads_each_form(rt: HostRuntime) -> Result<(), Fail> {
     let text =
         b"# a test\n\ns1 create t plain\ns64 put t 00fF -\ns9 get t 0a\ns10 get t - rmw\ns2 delete t aB";
     let plan = parse(alloc, text)?;
-    let sessions = [1u8, 64, 9, 10, 2];
-    assert_eq!(rt; plan.lines.len(), sessions.len());
-    let mut line = 3;
-    for (given, session) in plan.lines.as_slice().iter().zip(sessions) {
-        assert!(rt; line < 8 && is_given(alloc, given, session, line)?);
-        line += 1;
-    }
+    assert!(rt; are_given(alloc, plan.lines.as_slice())?);
     Ok(())
 }
+
+// Scripts with a bad line, and the number of the first one.
+static BAD: [(&[u8], u32); 25] = [
+    (b" ", 1),
+    (b"\n\ns1 list", 3),
+    (b"s1 remove t", 1),
+    (b"s1 rename t u", 1),
+    (b"s1 truncate t", 1),
+    (b"s1 putno t 00 00", 1),
+    (b"# \x80", 1),
+    (b"s0 create t plain", 1),
+    (b"s01 create t plain", 1),
+    (b"s65 create t plain", 1),
+    (b"S1 create t plain", 1),
+    (b"s1 create t dup", 1),
+    (b"s1 create T plain", 1),
+    (b"s1 create t plain x", 1),
+    (b"s1  create t plain", 1),
+    (b" s1 create t plain", 1),
+    (b"s1 create t plain ", 1),
+    (b"s1 create t\tplain", 1),
+    (b"s1 create t plain\r\n", 1),
+    (b"s1 put t 0 -", 1),
+    (b"s1 put t 0g -", 1),
+    (b"s1 put t  00", 1),
+    (b"s1 get t 00 rmx", 1),
+    (b"s1", 1),
+    (b"s1 create t plain\ns1 delete t\ns1", 2),
+];
 
 // The first bad line, and what makes it bad.
 #[test]
 fn names_the_first_bad_line(rt: HostRuntime) -> Result<(), Fail> {
-    let alloc = rt.alloc();
-    let rows: [(&[u8], u32); 25] = [
-        (b" ", 1),
-        (b"\n\ns1 list", 3),
-        (b"s1 remove t", 1),
-        (b"s1 rename t u", 1),
-        (b"s1 truncate t", 1),
-        (b"s1 putno t 00 00", 1),
-        (b"# \x80", 1),
-        (b"s0 create t plain", 1),
-        (b"s01 create t plain", 1),
-        (b"s65 create t plain", 1),
-        (b"S1 create t plain", 1),
-        (b"s1 create t dup", 1),
-        (b"s1 create T plain", 1),
-        (b"s1 create t plain x", 1),
-        (b"s1  create t plain", 1),
-        (b" s1 create t plain", 1),
-        (b"s1 create t plain ", 1),
-        (b"s1 create t\tplain", 1),
-        (b"s1 create t plain\r\n", 1),
-        (b"s1 put t 0 -", 1),
-        (b"s1 put t 0g -", 1),
-        (b"s1 put t  00", 1),
-        (b"s1 get t 00 rmx", 1),
-        (b"s1", 1),
-        (b"s1 create t plain\ns1 delete t\ns1", 2),
-    ];
-    for (text, line) in rows {
-        assert_eq!(rt;
-            parse(alloc, text).err(),
-            Some(ParseErr::BadScript { line })
-        );
+    for &(text, line) in &BAD {
+        assert!(rt; parse(rt.alloc(), text).err() == Some(ParseErr::BadScript { line }));
     }
     Ok(())
 }

@@ -13,7 +13,7 @@ fn split(alloc: Global, line: &str) -> Result<Vec<String>, AllocError> {
 }
 
 // Lines whose words are right, with the folder and the file length that they give.
-const RIGHT: [(&str, &str, u32); 14] = [
+static RIGHT: [(&str, &str, u32); 14] = [
     ("run --home d", "d", 10_000_000),
     ("run --home=d", "d", 10_000_000),
     ("run --home=", "", 10_000_000),
@@ -31,7 +31,7 @@ const RIGHT: [(&str, &str, u32); 14] = [
 ];
 
 // Lines whose words are wrong.
-const WRONG: [&str; 37] = [
+static WRONG: [&str; 37] = [
     "run",
     "run --home",
     "--home d",
@@ -86,7 +86,7 @@ fn is_wrong(alloc: Global, line: &str) -> Result<bool, AllocError> {
 
 #[test]
 fn right_words_give_the_options(rt: HostRuntime) -> Result<(), Fail> {
-    for (line, home, file_max) in RIGHT {
+    for &(line, home, file_max) in &RIGHT {
         assert!(rt; gives(rt.alloc(), line, home, file_max)?, "{line}");
     }
     Ok(())
@@ -94,10 +94,15 @@ fn right_words_give_the_options(rt: HostRuntime) -> Result<(), Fail> {
 
 #[test]
 fn other_words_are_wrong(rt: HostRuntime) -> Result<(), Fail> {
-    let none: [String; 0] = [];
-    assert!(rt; parse(rt.alloc(), none.as_slice())?.is_none());
-    for line in WRONG {
+    for line in &WRONG {
         assert!(rt; is_wrong(rt.alloc(), line)?, "{line}");
     }
+    Ok(())
+}
+
+#[test]
+fn no_words_are_wrong(rt: HostRuntime) -> Result<(), Fail> {
+    let none: [String; 0] = [];
+    assert!(rt; parse(rt.alloc(), none.as_slice())?.is_none());
     Ok(())
 }

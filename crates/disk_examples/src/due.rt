@@ -4,6 +4,7 @@ use je_disk::{SyncDone, SyncJob};
 use je_lsn::FileNo;
 use std::io;
 use std::io::{Error, ErrorKind};
+use std::process::Abort;
 use std::test::Fail;
 
 // Begins a job, ends it as one that has worked or failed, and answers how much it was to sync.
@@ -53,7 +54,7 @@ fn is_due(
 
 // The file, the folder and the folder's name at first, then what was written or cut. A job that failed
 // leaves all as it was. Where a file goes, the folder is due; after a mount the folder and its name are.
-const STEPS: [(Step, bool, usize); 9] = [
+static STEPS: [(Step, bool, usize); 9] = [
     (Step::Nothing, true, 0),
     (Step::Append(3), true, 3),
     (Step::Nothing, true, 0),
@@ -68,30 +69,50 @@ const STEPS: [(Step, bool, usize); 9] = [
 #[test]
 fn syncs_what_is_due(rt: HostRuntime) -> Result<(), Fail> {
     let mut folder = Folder::new(&rt, "due")?;
-    for (step, worked, want) in STEPS {
+    for &(step, worked, want) in &STEPS {
         assert!(rt; is_due(&mut folder, step, worked, want)?);
     }
+    Ok(())
+}
+
+fn append(folder: &mut Folder<HostRuntime>, files: &[u32], bytes: &[u8]) -> io::Result<()> {
+    for f in files {
+        folder.append(FileNo(*f), bytes)?;
+    }
+    Ok(())
+}
+
+// A job with which a file grows.
+fn append_beside_a_job(folder: &mut Folder<HostRuntime>) -> io::Result<()> {
+    let job = folder.begin_sync(1)?;
+    let appended = append(folder, &[3], b"e");
+    job.run().give_up();
+    folder.end_sync(true)?;
+    appended
+}
+
+fn give_a_job_up(folder: &mut Folder<HostRuntime>) -> io::Result<()> {
+    folder.begin_sync(2)?.run().give_up();
+    folder.give_up_sync();
+    Ok(())
+}
+
+fn write_since(rt: &impl Abort, folder: &mut Folder<HostRuntime>) -> io::Result<()> {
+    append(folder, &[3, 4], b"abc")?;
+    folder.sync()?;
+    append(folder, &[3, 4], b"d")?;
+    append_beside_a_job(folder)?;
+    assert!(rt; due(folder, true)? == 1);
+    append(folder, &[4], b"f")?;
+    give_a_job_up(folder)?;
+    folder.sync()?;
+    assert!(rt; due(folder, true)? == 0);
     Ok(())
 }
 
 #[test]
 fn files_written_since_a_job_began_are_due_still(rt: HostRuntime) -> Result<(), Fail> {
     let mut folder = Folder::new(&rt, "since")?;
-    folder.append(FileNo(3), b"abc")?;
-    folder.append(FileNo(4), b"abc")?;
-    folder.sync()?;
-    folder.append(FileNo(3), b"d")?;
-    folder.append(FileNo(4), b"d")?;
-    let job = folder.begin_sync(1)?;
-    let appended = folder.append(FileNo(3), b"e");
-    job.run().give_up();
-    folder.end_sync(true)?;
-    appended?;
-    assert_eq!(rt; due(&mut folder, true)?, 1);
-    folder.append(FileNo(4), b"f")?;
-    folder.begin_sync(2)?.run().give_up();
-    folder.give_up_sync();
-    folder.sync()?;
-    assert_eq!(rt; due(&mut folder, true)?, 0);
+    write_since(&rt, &mut folder)?;
     Ok(())
 }

@@ -1,33 +1,55 @@
 // A disk in memory: its files at once, calls that fail, and what a crash keeps.
-use crate::disks;
+use crate::disks::{self, Step};
 use je_disk::{Disk, DiskErr, SyncDone, SyncJob};
 use je_lsn::FileNo;
 use mem_disk::MemDisk;
+use std::alloc::{AllocError, Global};
+use std::process::Abort;
 use std::test::Fail;
 
 #[test]
 fn is_a_disk(rt: HostRuntime) -> Result<(), Fail> {
     let alloc = rt.alloc();
-    disks::keeps_files(&rt, alloc, &mut MemDisk::new(alloc))?;
-    disks::cuts_and_removes(&rt, alloc, &mut MemDisk::new(alloc))?;
-    disks::syncs_by_jobs(&rt, &mut MemDisk::new(alloc))?;
-    disks::reads_by_jobs(&rt, alloc, &mut MemDisk::new(alloc))?;
-    disks::reads_what_changes(&rt, alloc, &mut MemDisk::new(alloc))
+    for (deed, _) in &disks::DEEDS {
+        disks::does(&rt, alloc, &mut MemDisk::new(alloc), *deed)?;
+    }
+    Ok(())
+}
+
+// A step, why it fails, and how many faults there are then.
+type Row = (Step, Option<DiskErr>, u64);
+
+fn take_rows(rt: &impl Abort, disk: &mut MemDisk, rows: &[Row]) {
+    for (step, error, faults) in rows {
+        let taken = disks::take_all(disk, &[*step]);
+        assert!(rt; taken.err() == *error && disk.faults() == *faults);
+    }
+}
+
+// Of these calls the second, the fourth and the fifth fail.
+static TOLD: [Row; 5] = [
+    (Step::Append(2, b"x"), None, 0),
+    (Step::Append(2, b"x"), Some(DiskErr::Failed), 1),
+    (Step::Append(2, b"y"), None, 1),
+    (Step::Cut(2, 0), Some(DiskErr::Failed), 2),
+    (Step::Remove(2), Some(DiskErr::Failed), 3),
+];
+
+// A disk on which those calls were made.
+fn told(rt: &impl Abort, alloc: Global) -> Result<MemDisk, AllocError> {
+    let mut disk = MemDisk::new(alloc);
+    disk.fail_calls(alloc, &[2, 4, 5])?;
+    take_rows(rt, &mut disk, &TOLD);
+    Ok(disk)
 }
 
 #[test]
 fn fails_where_told(rt: HostRuntime) -> Result<(), Fail> {
     let alloc = rt.alloc();
-    let mut disk = MemDisk::new(alloc);
-    disk.fail_calls(alloc, &[2, 4, 5])?;
-    assert!(rt; disk.append(FileNo(2), b"x") == Ok(()) && disk.faults() == 0);
-    assert!(rt; disk.append(FileNo(2), b"x") == Err(DiskErr::Failed) && disk.faults() == 1);
-    assert!(rt; disk.append(FileNo(2), b"y") == Ok(()));
-    assert!(rt; disk.cut(FileNo(2), 0) == Err(DiskErr::Failed));
-    assert!(rt; disk.remove(FileNo(2)) == Err(DiskErr::Failed) && disk.faults() == 3);
-    let mut again = MemDisk::with_files(alloc, disk.files(alloc)?)?;
-    assert!(rt; again.len(FileNo(2))? == 2 && again.faults() == 0);
-    assert!(rt; disks::has_piece(&mut again, FileNo(2), 0, 2, b"xy..")?);
+    let files = told(&rt, alloc)?.files(alloc)?;
+    let mut again = MemDisk::with_files(alloc, files)?;
+    assert!(rt; disks::are_long(&mut again, &[(2, 2)])? && again.faults() == 0);
+    assert!(rt; disks::has_piece(&mut again, 2, 0, 2, b"xy..")?);
     Ok(())
 }
 
@@ -48,27 +70,51 @@ fn fails_to_begin_and_to_end_a_sync(rt: HostRuntime) -> Result<(), Fail> {
 }
 
 // Calls 1 to 5 work; the fifth appends bytes that no sync made stable.
+static STOPPED: [Row; 8] = [
+    (Step::Append(1, b"abc"), None, 0),
+    (Step::Append(2, b"wxyz"), None, 0),
+    (Step::Sync, None, 0),
+    (Step::Cut(2, 1), None, 0),
+    (Step::Append(1, b"de"), None, 0),
+    (Step::Append(1, b"f"), Some(DiskErr::Failed), 1),
+    (Step::Remove(2), Some(DiskErr::Failed), 2),
+    (Step::Sync, Some(DiskErr::Failed), 3),
+];
+
+// What stays of each file, how many bytes may, and whether the file must or may be there.
+static MARKS: [(u32, &[u8], u64, bool, bool); 3] = [
+    (1, b"abc", 5, true, true),
+    (2, b"w", 4, true, true),
+    (3, b"", 0, false, false),
+];
+
+fn has_mark(
+    alloc: Global,
+    disk: &MemDisk,
+    f: u32,
+    stable: &[u8],
+    rest: (u64, bool, bool),
+) -> Result<bool, AllocError> {
+    let mark = disk.mark(alloc, FileNo(f))?;
+    Ok(mark.stable.as_slice() == stable && (mark.reach, mark.must, mark.may) == rest)
+}
+
+fn has_marks(alloc: Global, disk: &MemDisk) -> Result<bool, AllocError> {
+    let mut same = true;
+    for &(f, stable, reach, must, may) in &MARKS {
+        same = same && has_mark(alloc, disk, f, stable, (reach, must, may))?;
+    }
+    Ok(same)
+}
+
 #[test]
 fn stops_and_tells_what_stays(rt: HostRuntime) -> Result<(), Fail> {
     let alloc = rt.alloc();
     let mut disk = MemDisk::new(alloc);
     disk.stop_after(5);
-    disk.append(FileNo(1), b"abc")?;
-    disk.append(FileNo(2), b"wxyz")?;
-    disk.sync_now()?;
-    disk.cut(FileNo(2), 1)?;
-    disk.append(FileNo(1), b"de")?;
-    assert!(rt; disk.append(FileNo(1), b"f") == Err(DiskErr::Failed));
-    assert!(rt; disk.remove(FileNo(2)) == Err(DiskErr::Failed));
-    assert!(rt; disk.sync_now() == Err(DiskErr::Failed) && disk.faults() == 3);
-    let first = disk.mark(alloc, FileNo(1))?;
-    assert!(rt; first.stable.as_slice() == b"abc".as_slice() && first.reach == 5);
-    assert!(rt; first.must && first.may);
-    let second = disk.mark(alloc, FileNo(2))?;
-    assert!(rt; second.stable.as_slice() == b"w".as_slice() && second.reach == 4);
-    let third = disk.mark(alloc, FileNo(3))?;
-    assert!(rt; third.reach == 0 && !third.must && !third.may);
+    take_rows(&rt, &mut disk, &STOPPED);
+    assert!(rt; has_marks(alloc, &disk)?);
     disk.stop_after(u64::MAX);
-    assert!(rt; disk.len(FileNo(1))? == 5 && disk.len(FileNo(2))? == 1);
+    assert!(rt; disks::are_long(&mut disk, &[(1, 5), (2, 1)])?);
     Ok(())
 }

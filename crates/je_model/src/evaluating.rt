@@ -1,11 +1,14 @@
 // Evaluation as a plain program.
-ghost use Rattle.std.specs.Prelude.{◌≡◌, ◌∷◌, [], IfOk};
+ghost use Rattle.std.specs.Prelude.{◌≡◌, [], IfOk};
 ghost use Rattle.std.specs.Option.{option_copied};
 ghost use Rattle.je_model.specs.Store.{names_of, pair_at, all_changed};
-ghost use Rattle.je_model.specs.Evaluation.{Outcome, evaluation, reading, putting_new, deleting, plain_name};
+ghost use Rattle.je_model.specs.Evaluation.{Outcome, evaluation, changes_by, reading, plain_name};
+ghost use Rattle.je_model.specs.declared.answer.Answer.TheVariants.{Names, NoDatabase};
+ghost use Rattle.je_model.specs.declared.call.Call.TheVariants.{Remove as Removes, Rename as Renames, Truncate, Put, PutNo, Delete};
+ghost use Rattle.je_model.specs.declared.change.Change.TheVariants.{Set, Make};
 
 use crate::changing::{after_changes, find_database, same_bytes};
-use crate::{Answer, Call, Change, Store};
+use crate::{Answer, Call, Change, Kind, Store};
 use je_order::{List, Name, Octets, Word, copy_of};
 use std::alloc::{AllocError, Global};
 
@@ -31,70 +34,106 @@ fn outcome_of(
     ensures { IfOk result (λ r. record { answer = r.0; changes = r.1 } ≡ evaluation call.now store.now) }
 {
     match call {
-        Call::Create { db, kind } => {
-            let change = Change::Make {
-                db: copy_of(db)?,
-                kind: copy_of(kind)?,
-            };
-            Ok((Answer::Done, one_change(alloc, change)?))
-        }
-        Call::List => {
-            let names = names_in(alloc, store)?;
-            Ok((Answer::Names { names }, List::new(alloc)))
-        }
-        Call::Remove { db } => {
-            let Some(_) = find_database(store, db) else {
-                return Ok((Answer::NoDatabase, List::new(alloc)));
-            };
-            let change = Change::Remove { db: copy_of(db)? };
-            Ok((Answer::Done, one_change(alloc, change)?))
-        }
-        Call::Rename { db, to } => {
-            let Some(_) = find_database(store, db) else {
-                return Ok((Answer::NoDatabase, List::new(alloc)));
-            };
-            let change = Change::Rename {
-                db: copy_of(db)?,
-                to: copy_of(to)?,
-            };
-            Ok((Answer::Done, one_change(alloc, change)?))
-        }
-        Call::Truncate { db } => {
-            let Some(_) = find_database(store, db) else {
-                return Ok((Answer::NoDatabase, List::new(alloc)));
-            };
-            let change = Change::Empty { db: copy_of(db)? };
-            Ok((Answer::Done, one_change(alloc, change)?))
-        }
-        Call::PutNo { db, key, value } => {
-            let Some(d) = find_database(store, db) else {
-                return Ok((Answer::NoDatabase, List::new(alloc)));
-            };
-            put_new(alloc, db, key, value, find_pair(d.pairs.as_slice(), key))
-        }
-        Call::Put { db, key, value } => {
-            let Some(_) = find_database(store, db) else {
-                return Ok((Answer::NoDatabase, List::new(alloc)));
-            };
-            let change = Change::Set {
-                db: copy_of(db)?,
-                at: name_of(alloc, key)?,
-                value: copy_of(value)?,
-            };
-            Ok((Answer::Done, one_change(alloc, change)?))
-        }
+        Call::Create { db, kind } => create(alloc, db, kind),
+        Call::List => Ok((list(alloc, store)?, List::new(alloc))),
+        Call::Remove { db } => remove(alloc, store, db),
+        Call::Rename { db, to } => rename(alloc, store, db, to),
+        Call::Truncate { db } => truncate(alloc, store, db),
+        Call::Put { db, key, value } => put(alloc, store, db, key, value),
+        Call::PutNo { db, key, value } => put_new(alloc, store, db, key, value),
         Call::Get { db, key, .. } => {
             let Some(d) = find_database(store, db) else {
-                return Ok((Answer::NoDatabase, List::new(alloc)));
+                return Ok(no_database(alloc));
             };
             read(alloc, find_pair(d.pairs.as_slice(), key))
         }
-        Call::Delete { db, key } => {
-            let Some(d) = find_database(store, db) else {
-                return Ok((Answer::NoDatabase, List::new(alloc)));
-            };
-            delete(alloc, db, key, find_pair(d.pairs.as_slice(), key))
-        }
+        Call::Delete { db, key } => delete(alloc, store, db, key),
+    }
+}
+
+fn create(alloc: Global, db: &Word, kind: &Kind) -> Result<(Answer, List<Change>), AllocError>
+    ensures { IfOk result (λ r. record { answer = r.0; changes = r.1 } ≡ changes_by (Make db.now kind.now)) }
+{
+    let change = Change::Make {
+        db: copy_of(db)?,
+        kind: copy_of(kind)?,
+    };
+    done_by(alloc, change)
+}
+
+fn list(alloc: Global, store: &Store) -> Result<Answer, AllocError>
+    ensures { IfOk result (λ answer. answer ≡ Names (names_of store.now)) }
+{
+    let names = names_in(alloc, store)?;
+    Ok(Answer::Names { names })
+}
+
+fn remove(alloc: Global, store: &Store, db: &Word) -> Result<(Answer, List<Change>), AllocError>
+    ensures { IfOk result (λ r. record { answer = r.0; changes = r.1 } ≡ evaluation (Removes db.now) store.now) }
+{
+    let Some(_) = find_database(store, db) else {
+        return Ok(no_database(alloc));
+    };
+    done_by(alloc, Change::Remove { db: copy_of(db)? })
+}
+
+fn rename(
+    alloc: Global,
+    store: &Store,
+    db: &Word,
+    to: &Word,
+) -> Result<(Answer, List<Change>), AllocError>
+    ensures { IfOk result (λ r. record { answer = r.0; changes = r.1 } ≡ evaluation (Renames db.now to.now) store.now) }
+{
+    let Some(_) = find_database(store, db) else {
+        return Ok(no_database(alloc));
+    };
+    let change = Change::Rename {
+        db: copy_of(db)?,
+        to: copy_of(to)?,
+    };
+    done_by(alloc, change)
+}
+
+fn truncate(alloc: Global, store: &Store, db: &Word) -> Result<(Answer, List<Change>), AllocError>
+    ensures { IfOk result (λ r. record { answer = r.0; changes = r.1 } ≡ evaluation (Truncate db.now) store.now) }
+{
+    let Some(_) = find_database(store, db) else {
+        return Ok(no_database(alloc));
+    };
+    done_by(alloc, Change::Empty { db: copy_of(db)? })
+}
+
+fn put(
+    alloc: Global,
+    store: &Store,
+    db: &Word,
+    key: &Octets,
+    value: &Octets,
+) -> Result<(Answer, List<Change>), AllocError>
+    ensures { IfOk result (λ r. record { answer = r.0; changes = r.1 } ≡ evaluation (Put db.now key.now value.now) store.now) }
+{
+    let Some(_) = find_database(store, db) else {
+        return Ok(no_database(alloc));
+    };
+    set(alloc, db, key, value)
+}
+
+fn put_new(
+    alloc: Global,
+    store: &Store,
+    db: &Word,
+    key: &Octets,
+    value: &Octets,
+) -> Result<(Answer, List<Change>), AllocError>
+    ensures { IfOk result (λ r. record { answer = r.0; changes = r.1 } ≡ evaluation (PutNo db.now key.now value.now) store.now) }
+{
+    let Some(d) = find_database(store, db) else {
+        return Ok(no_database(alloc));
+    };
+    match find_pair(d.pairs.as_slice(), key) {
+        Some(_) => Ok((Answer::KeyExist, List::new(alloc))),
+        None => set(alloc, db, key, value),
     }
 }
 
@@ -115,44 +154,48 @@ fn read(
     Ok((answer, List::new(alloc)))
 }
 
-/// The answer and the change of a put of a new key that found that record.
-fn put_new(
-    alloc: Global,
-    db: &Word,
-    key: &Octets,
-    value: &Octets,
-    found: Option<&(Octets, Octets)>,
-) -> Result<(Answer, List<Change>), AllocError>
-    ensures { IfOk result (λ r. record { answer = r.0; changes = r.1 } ≡ putting_new db.now key.now value.now (option_copied found.entry)) }
-{
-    let None = found else {
-        return Ok((Answer::KeyExist, List::new(alloc)));
-    };
-    let change = Change::Set {
-        db: copy_of(db)?,
-        at: name_of(alloc, key)?,
-        value: copy_of(value)?,
-    };
-    Ok((Answer::Done, one_change(alloc, change)?))
-}
-
-/// The answer and the change of a delete that found that record.
 fn delete(
     alloc: Global,
+    store: &Store,
     db: &Word,
     key: &Octets,
-    found: Option<&(Octets, Octets)>,
 ) -> Result<(Answer, List<Change>), AllocError>
-    ensures { IfOk result (λ r. record { answer = r.0; changes = r.1 } ≡ deleting db.now key.now (option_copied found.entry)) }
+    ensures { IfOk result (λ r. record { answer = r.0; changes = r.1 } ≡ evaluation (Delete db.now key.now) store.now) }
 {
-    let Some(_) = found else {
+    let Some(d) = find_database(store, db) else {
+        return Ok(no_database(alloc));
+    };
+    let Some(_) = find_pair(d.pairs.as_slice(), key) else {
         return Ok((Answer::NotFound, List::new(alloc)));
     };
     let change = Change::Unset {
         db: copy_of(db)?,
         at: name_of(alloc, key)?,
     };
-    Ok((Answer::Done, one_change(alloc, change)?))
+    done_by(alloc, change)
+}
+
+// Sets a key's data, whatever is there.
+fn set(
+    alloc: Global,
+    db: &Word,
+    key: &Octets,
+    value: &Octets,
+) -> Result<(Answer, List<Change>), AllocError>
+    ensures { IfOk result (λ r. record { answer = r.0; changes = r.1 } ≡ changes_by (Set db.now (plain_name key.now) value.now)) }
+{
+    let change = Change::Set {
+        db: copy_of(db)?,
+        at: name_of(alloc, key)?,
+        value: copy_of(value)?,
+    };
+    done_by(alloc, change)
+}
+
+fn no_database(alloc: Global) -> (Answer, List<Change>)
+    ensures { result ≡ (NoDatabase, []) }
+{
+    (Answer::NoDatabase, List::new(alloc))
 }
 
 /// The names of a store's databases, in order.
@@ -184,10 +227,10 @@ fn name_of(alloc: Global, key: &Octets) -> Result<Name, AllocError>
     })
 }
 
-fn one_change(alloc: Global, change: Change) -> Result<List<Change>, AllocError>
-    ensures { IfOk result (λ changes. changes ≡ change ∷ []) }
+fn done_by(alloc: Global, change: Change) -> Result<(Answer, List<Change>), AllocError>
+    ensures { IfOk result (λ r. record { answer = r.0; changes = r.1 } ≡ changes_by change) }
 {
     let mut changes = List::new(alloc);
     changes.push(change)?;
-    Ok(changes)
+    Ok((Answer::Done, changes))
 }

@@ -27,6 +27,11 @@ not_waiting : (session line : ℕ) (call : Call) (answer : Answer) → is_logged
 not_waiting session line call (Logged commit) h = cc
 not_waiting session line call answer h = (tt, tt)
 
+-- a call that was logged was answered Logged
+logged_is : (answer : Answer) → is_logged answer ≡ true → (commit : ℕ) × (answer ≡ Logged commit)
+logged_is (Logged commit) h = (commit, refl)
+logged_is answer h = cc
+
 -- a call of an environment that is not valid is not answered Logged
 pub logged_valid : (most : ℕ) (fault : Option Fault) (st : Standing) (call : Call) (commit : ℕ) → MayAnswer (answer_after fault (log_rule most) st call) (Logged commit) → fault ≡ None
 logged_valid most None st call commit may = refl
@@ -52,10 +57,14 @@ module _ {D : Type 0} where
   -- where a call was logged, the model stands at a valid environment, whose log buffer works
   pub logged_at_work : (most : ℕ) (tells : Bool) (state : State) (buffer : LogBuffer D) (kept : Kept) (st : Standing) (call : Call) (answer : Answer) →
       GoesOn most tells state buffer kept st call (Ok answer) → is_logged answer ≡ true → (s : Standing) × (IsAt most tells state buffer kept s × (s.fault ≡ None)) × (has_failed buffer ≡ false)
-  logged_at_work most tells state buffer kept st call (Logged commit) goes logged =
-      let none : st.fault ≡ None = logged_valid most st.fault st call commit goes.0 in
-      (after_call (log_rule most) st call (Logged commit), (goes.1, none), (goes.1.valid none).at_end.works)
-  logged_at_work most tells state buffer kept st call answer goes logged = cc
+  logged_at_work most tells state buffer kept st call answer goes logged =
+      let of = logged_is answer logged in
+      at_work of.0 (subst (λ (a : Answer). GoesOn most tells state buffer kept st call (Ok a)) of.1 goes)
+    where
+      at_work : (commit : ℕ) → GoesOn most tells state buffer kept st call (Ok (Logged commit)) → (s : Standing) × (IsAt most tells state buffer kept s × (s.fault ≡ None)) × (has_failed buffer ≡ false)
+      at_work commit goes =
+          let none : st.fault ≡ None = logged_valid most st.fault st call commit goes.0 in
+          (after_call (log_rule most) st call (Logged commit), (goes.1, none), (goes.1.valid none).at_end.works)
 
   -- a call that was not logged
   pub runs_plain : (most : ℕ) (tells : Bool) (before after : State) (buffer longer : LogBuffer D) (old new : Kept) (journal : List Event) (session line : ℕ) (call : Call) (answer : Answer) (st : Standing) →

@@ -18,13 +18,12 @@ ghost use Rattle.je_program.specs.declared.kept.TheConstants.{LAST_FILE};
 ghost use Rattle.je_program.specs.Steps.{BeginsSync, CanGoOn, GoesOn, LogsChange, EndsSync, HasCause};
 
 use crate::kept::{COMMIT_SIZE, Kept};
-use crate::logging::{append_both, change_rows, entry_of};
+use crate::logging::{append_both, change_rows, entries_of};
 use crate::planning::{Planned, end_of_transaction, plan};
 use je_disk::{Disk, SyncJob};
 use je_model::{Answer, Call, Change, Fault, LAST_TXN, Totals};
-use je_order::TxnId;
 use log_buffer::LogBuffer;
-use log_entry::{Entry, size};
+use log_entry::size;
 use std::alloc::{AllocError, Global};
 
 /// An open environment: its log over its disk, and what is kept of it in memory.
@@ -88,8 +87,7 @@ impl<D: Disk> Environment<D> {
         ensures cause { HasCause (D.faults (disk_of self.old.log)) (D.faults (disk_of self.new.log)) result }
     {
         let txn = self.kept.last_txn + 1;
-        let entry = entry_of(alloc, txn, number, change)?;
-        let commit = Entry::Commit { txn: TxnId(txn) };
+        let (entry, commit) = entries_of(alloc, txn, number, change)?;
         let size = size(&entry);
         let end = end_of_transaction(self.kept.end, self.kept.file_max, size).unwrap();
         if self.log.reserve(&[size, COMMIT_SIZE]).is_err() {

@@ -1,5 +1,5 @@
 // One line of a script.
-ghost use Rattle.std.specs.Prelude.{◌≡◌, ◌≤◌, ◌<◌, ◌+◌, ◌++◌, ◌∷◌, [], ℕ, true, vec_len, vec_capacity, OnOk, OnErr, None};
+ghost use Rattle.std.specs.Prelude.{◌≡◌, ◌≤◌, ◌<◌, ◌+◌, ◌++◌, ◌∷◌, [], ℕ, true, length, vec_len, vec_capacity, OnOk, OnErr, None};
 ghost use Rattle.script_text.specs.Grammar.{has_line};
 ghost use Rattle.je_disk.specs.Moments.{History, now};
 ghost use Rattle.log_buffer.specs.Buffer.{disk_of};
@@ -21,6 +21,15 @@ fn waits_for_sync(answer: &Answer) -> bool
     ensures { result ≡ is_logged answer.now }
 {
     matches!(answer, Answer::Logged { .. })
+}
+
+// The journal gains an event, for which it has room.
+fn record(journal: &mut Vec<Event>, event: Event)
+    requires room { length journal.old.items < vec_capacity journal.old }
+    ensures items { journal.new.items ≡ journal.old.items ++ event ∷ [] }
+    ensures room { vec_capacity journal.old ≤ vec_capacity journal.new }
+{
+    journal.push(event).unwrap();
 }
 
 /// Gives a session's call to the environment, and syncs where it was logged; the journal gains the
@@ -55,18 +64,18 @@ pub fn give<D: Disk>(
         call,
         answer,
     };
-    journal.push(event).unwrap();
+    record(journal, event);
     if !logged {
         return Ok(());
     }
     let Some(job) = environment.begin_sync() else {
         let answer = Answer::DiskFault;
-        journal.push(Event::SyncBegin { answer }).unwrap();
+        record(journal, Event::SyncBegin { answer });
         return Ok(());
     };
     let answer = Answer::Done;
-    journal.push(Event::SyncBegin { answer }).unwrap();
+    record(journal, Event::SyncBegin { answer });
     let answer = environment.end_sync(job.run());
-    journal.push(Event::SyncEnd { answer }).unwrap();
+    record(journal, Event::SyncEnd { answer });
     Ok(())
 }

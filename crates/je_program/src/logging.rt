@@ -7,6 +7,7 @@ ghost use Rattle.log_buffer.specs.Buffer.{disk_of, end_of, file_max_of, has_fail
 ghost use Rattle.log_buffer.specs.Crash.{KeptThrough};
 ghost use Rattle.log_buffer.specs.Flip.{end_after_all};
 ghost use Rattle.log_entry.specs.Body.{IsEntry};
+ghost use Rattle.log_entry.specs.declared.entry.Entry.TheVariants.{Commit};
 ghost use Rattle.log_entry.specs.Spelling.{size_of};
 ghost use Rattle.log_file.specs.Log.{Log};
 ghost use Rattle.log_file.specs.Scan.{may_follow};
@@ -74,6 +75,19 @@ pub fn entry_of(alloc: Global, txn: u64, number: u32, change: Change) -> Result<
         Change::Rename { to, .. } => creation(alloc, txn, number, &to, &Kind::Plain),
         Change::Empty { db } => creation(alloc, txn, number, &db, &Kind::Plain),
     }
+}
+
+/// The entries of a transaction with one change, in the database of that number: the change and its commit.
+pub fn entries_of(
+    alloc: Global,
+    txn: u64,
+    number: u32,
+    change: Change,
+) -> Result<(Entry, Entry), AllocError>
+    ensures { IfOk result (λ e. (e.0 ≡ entry_of_change txn number change) × (e.1 ≡ Commit (record { 0 = txn }))) }
+{
+    let entry = entry_of(alloc, txn, number, change)?;
+    Ok((entry, Entry::Commit { txn: TxnId(txn) }))
 }
 
 /// Puts an entry and the commit of its transaction at the log's end, where room was reserved for both.

@@ -2,6 +2,7 @@
 ghost use Rattle.std.specs.Prelude.{option_copied, nat_lt, if◌then◌else◌, None, true, ◌≡◌, ◌≤◌, ◌<◌, ◌+◌, ◌^◌, ◌∷◌, length, IsTrue, Some, [], IfOk, option_map};
 ghost use Rattle.je_model.specs.Evaluation.{plain_name as name_of_key, database_named};
 ghost use Rattle.je_model.specs.Answers.{or_refusal, too_long, made_by};
+ghost use Rattle.je_model.specs.declared.answer.Answer.TheVariants.{TooLong};
 ghost use Rattle.je_order.specs.Words.{is_word};
 ghost use Rattle.log_replay.specs.Rows.{rows_in};
 ghost use Rattle.script_text.specs.Grammar.{has_line};
@@ -126,15 +127,13 @@ fn log_creation(kept: &Kept, change: Change, totals: Totals) -> Planned
     }
 }
 
-// The refusal of a key past its limit.
-fn long_key(key: &Octets) -> Option<Answer>
-    ensures { result ≡ too_long KEY_LIMIT key.now }
+// How many bytes a key has that is past its limit.
+fn long_key(key: &Octets) -> Option<u64>
+    ensures { option_map TooLong result ≡ too_long KEY_LIMIT key.now }
 {
     let length = key.len();
     if KEY_LIMIT < length {
-        Some(Answer::TooLong {
-            length: length as u64,
-        })
+        Some(length as u64)
     } else {
         None
     }
@@ -143,8 +142,8 @@ fn long_key(key: &Octets) -> Option<Answer>
 fn plan_get(kept: &Kept, alloc: Global, number: u32, key: &Octets) -> Result<Planned, AllocError>
     ensures { IfOk result (λ planned. planned ≡ planned_get kept.now [] key.now (Some number)) }
 {
-    if let Some(refusal) = long_key(key) {
-        return Ok(Planned::Answered(refusal));
+    if let Some(length) = long_key(key) {
+        return Ok(Planned::Answered(Answer::TooLong { length }));
     }
     let name = SortKey::new(plain_name(alloc, key.as_slice())?);
     match kept.rows.get(number, &name) {
@@ -157,16 +156,14 @@ fn plan_get(kept: &Kept, alloc: Global, number: u32, key: &Octets) -> Result<Pla
     }
 }
 
-// The refusal of a key or data past its limit.
-fn long_record(key: &Octets, value: &Octets) -> Option<Answer>
-    ensures { result ≡ or_refusal (too_long KEY_LIMIT key.now) (too_long VALUE_LIMIT value.now) }
+// How many bytes a key, or else data, has that is past its limit.
+fn long_record(key: &Octets, value: &Octets) -> Option<u64>
+    ensures { option_map TooLong result ≡ or_refusal (too_long KEY_LIMIT key.now) (too_long VALUE_LIMIT value.now) }
 {
     let length = value.len();
     match long_key(key) {
-        Some(refusal) => Some(refusal),
-        None if VALUE_LIMIT < length => Some(Answer::TooLong {
-            length: length as u64,
-        }),
+        Some(length) => Some(length),
+        None if VALUE_LIMIT < length => Some(length as u64),
         None => None,
     }
 }
@@ -193,8 +190,8 @@ fn plan_put(
     requires place { IsPlace kept.now.end }
     ensures { IfOk result (λ planned. planned ≡ planned_put kept.now db.now key.now value.now (Some number)) }
 {
-    if let Some(refusal) = long_record(key, value) {
-        return Ok(Planned::Answered(refusal));
+    if let Some(length) = long_record(key, value) {
+        return Ok(Planned::Answered(Answer::TooLong { length }));
     }
     let at = SortKey::new(plain_name(alloc, key.as_slice())?);
     let records = count_with(kept.totals.records, kept.rows.get(number, &at))?;
@@ -220,8 +217,8 @@ fn plan_delete(
     requires place { IsPlace kept.now.end }
     ensures { IfOk result (λ planned. planned ≡ planned_delete kept.now db.now key.now (Some number)) }
 {
-    if let Some(refusal) = long_key(key) {
-        return Ok(Planned::Answered(refusal));
+    if let Some(length) = long_key(key) {
+        return Ok(Planned::Answered(Answer::TooLong { length }));
     }
     let at = SortKey::new(plain_name(alloc, key.as_slice())?);
     if kept.rows.get(number, &at).is_none() {

@@ -1,15 +1,15 @@
 // Cycles in who waits for whom.
 use je_order::TxnId;
 use std::alloc::{AllocError, Global};
+use std::process::Abort;
 use std::test::Fail;
 use waits_for::{Edges, check_cycle, find_cycle};
 
-fn edges_of(alloc: Global, pairs: &[(u64, u64)]) -> Result<Edges, AllocError> {
-    let mut edges = Edges::new(alloc);
-    for (waiter, owner) in pairs {
-        edges.insert(TxnId(*waiter), TxnId(*owner))?;
+fn insert_all(edges: &mut Edges, pairs: &[(u64, u64)]) -> Result<(), AllocError> {
+    for &(waiter, owner) in pairs {
+        edges.insert(TxnId(waiter), TxnId(owner))?;
     }
-    Ok(edges)
+    Ok(())
 }
 
 // Whether the cycle that is found through a transaction is this one; where it has no number, whether
@@ -21,16 +21,41 @@ fn has_cycle(alloc: Global, edges: &Edges, txn: u64, want: &[TxnId]) -> Result<b
     }
 }
 
+static LINE: [(u64, u64); 2] = [(2, 3), (1, 2)];
+
+static BACK: [(u64, u64); 1] = [(3, 2)];
+
+static TWO: [TxnId; 2] = [TxnId(3), TxnId(2)];
+
+fn close_line(rt: &impl Abort, alloc: Global, edges: &mut Edges) -> Result<(), AllocError> {
+    insert_all(edges, &LINE)?;
+    assert!(rt; edges.contains(TxnId(2), TxnId(3)) && !edges.contains(TxnId(3), TxnId(2)));
+    assert!(rt; has_cycle(alloc, edges, 2, &[])?);
+    insert_all(edges, &BACK)?;
+    assert!(rt; has_cycle(alloc, edges, 3, &TWO)?);
+    assert!(rt; has_cycle(alloc, edges, 1, &[])?);
+    Ok(())
+}
+
 // Two that wait for each other, and one that waits for one of them.
 #[test]
 fn finds_the_cycle_of_two(rt: HostRuntime) -> Result<(), Fail> {
     let alloc = rt.alloc();
-    let line = edges_of(alloc, &[(2, 3), (1, 2)])?;
-    assert!(rt; line.contains(TxnId(2), TxnId(3)) && !line.contains(TxnId(3), TxnId(2)));
-    assert!(rt; has_cycle(alloc, &line, 2, &[])?);
-    let edges = edges_of(alloc, &[(2, 3), (1, 2), (3, 2)])?;
-    assert!(rt; has_cycle(alloc, &edges, 3, &[TxnId(3), TxnId(2)])?);
-    assert!(rt; has_cycle(alloc, &edges, 1, &[])?);
+    let mut edges = Edges::new(alloc);
+    let done = close_line(&rt, alloc, &mut edges);
+    drop(edges);
+    Ok(done?)
+}
+
+static WAYS: [(u64, u64); 5] = [(1, 4), (1, 2), (2, 3), (3, 1), (4, 1)];
+
+static LESSER: [TxnId; 3] = [TxnId(1), TxnId(2), TxnId(3)];
+
+fn take_lesser(rt: &impl Abort, alloc: Global, edges: &mut Edges) -> Result<(), AllocError> {
+    insert_all(edges, &WAYS)?;
+    assert!(rt; has_cycle(alloc, edges, 1, &LESSER)?);
+    assert!(rt; check_cycle(edges, &LESSER));
+    assert!(rt; !check_cycle(edges, &[]) && !check_cycle(edges, &LESSER[..2]));
     Ok(())
 }
 
@@ -38,10 +63,8 @@ fn finds_the_cycle_of_two(rt: HostRuntime) -> Result<(), Fail> {
 #[test]
 fn takes_the_lesser_way(rt: HostRuntime) -> Result<(), Fail> {
     let alloc = rt.alloc();
-    let edges = edges_of(alloc, &[(1, 4), (1, 2), (2, 3), (3, 1), (4, 1)])?;
-    let cycle = [TxnId(1), TxnId(2), TxnId(3)];
-    assert!(rt; has_cycle(alloc, &edges, 1, &cycle)?);
-    assert!(rt; check_cycle(&edges, &cycle));
-    assert!(rt; !check_cycle(&edges, &[]) && !check_cycle(&edges, &cycle[..2]));
-    Ok(())
+    let mut edges = Edges::new(alloc);
+    let done = take_lesser(&rt, alloc, &mut edges);
+    drop(edges);
+    Ok(done?)
 }

@@ -3,72 +3,87 @@ use crate::records::record;
 use je_order::TxnId;
 use lock_mgr::{LockMgr, Requested};
 use lock_mode::LockType;
+use lock_table::RecordId;
 use std::alloc::{AllocError, Global};
+use std::process::Abort;
 use std::test::Fail;
 
-// What became of a request.
+// What became of a request. Of one that closes cycles: its owner, how many victims there are, the first,
+// and how long its cycle is.
 #[derive(Clone, Copy, PartialEq, Eq)]
 enum Came {
     Granted,
     Waiting,
     NotAvailable,
-    Victims,
+    Victims(u64, usize, u64, usize),
     WaitedAlready,
 }
 
 // A request of a transaction for the record of a key, whether it may wait, and what becomes of it.
 type Row = (u64, u8, LockType, bool, Came);
 
-fn requested(
+fn kind_of(answer: &Requested) -> Came {
+    match answer {
+        Requested::Granted => Came::Granted,
+        Requested::Waiting { .. } => Came::Waiting,
+        Requested::NotAvailable { .. } => Came::NotAvailable,
+        Requested::Victims { owner, victims } => match victims.as_slice() {
+            [(victim, cycle), ..] => Came::Victims(owner.0, victims.len(), victim.0, cycle.len()),
+            [] => Came::Victims(owner.0, 0, 0, 0),
+        },
+    }
+}
+
+fn requested_at(
     locks: &mut LockMgr,
     alloc: Global,
-    txn: u64,
-    key: u8,
+    txn: TxnId,
+    at: &RecordId,
     mode: LockType,
     wait: bool,
 ) -> Result<Came, AllocError> {
-    let at = record(alloc, key)?;
-    if locks.waits_now(TxnId(txn)) {
+    if locks.waits_now(txn) {
         return Ok(Came::WaitedAlready);
     }
-    match locks.request(alloc, TxnId(txn), &at, mode, wait)? {
-        Requested::Granted => Ok(Came::Granted),
-        Requested::Waiting { .. } => Ok(Came::Waiting),
-        Requested::NotAvailable { .. } => Ok(Came::NotAvailable),
-        Requested::Victims { .. } => Ok(Came::Victims),
-    }
+    let answer = locks.request(alloc, txn, at, mode, wait)?;
+    let came = kind_of(&answer);
+    drop(answer);
+    Ok(came)
 }
 
-// The number of the first request of which something else became.
-fn first_other(
+// Whether this becomes of a request.
+fn comes(locks: &mut LockMgr, alloc: Global, row: Row) -> Result<bool, AllocError> {
+    let (txn, key, mode, wait, want) = row;
+    let at = record(alloc, key)?;
+    let came = requested_at(locks, alloc, TxnId(txn), &at, mode, wait);
+    drop(at);
+    Ok(came? == want)
+}
+
+fn request_all(
+    rt: &impl Abort,
     locks: &mut LockMgr,
     alloc: Global,
     rows: &[Row],
-) -> Result<Option<usize>, AllocError> {
-    for (i, (txn, key, mode, wait, want)) in rows.iter().enumerate() {
-        if requested(locks, alloc, *txn, *key, *mode, *wait)? != *want {
-            return Ok(Some(i));
-        }
+) -> Result<(), AllocError> {
+    for row in rows {
+        assert!(rt; comes(locks, alloc, *row)?);
     }
-    Ok(None)
+    Ok(())
 }
 
-// Of a request that closes cycles: its owner, how many victims there are, the first, and how long its
-// cycle is; zeros for any other request.
-fn closing(locks: &mut LockMgr, alloc: Global, txn: u64, key: u8) -> Result<[u64; 4], AllocError> {
-    let at = record(alloc, key)?;
-    if locks.waits_now(TxnId(txn)) {
-        return Ok([0; 4]);
-    }
-    match locks.request(alloc, TxnId(txn), &at, LockType::Write, true)? {
-        Requested::Victims { owner, victims } => match victims.as_slice() {
-            [(victim, cycle), ..] => {
-                Ok([owner.0, victims.len() as u64, victim.0, cycle.len() as u64])
-            }
-            [] => Ok([0; 4]),
-        },
-        _ => Ok([0; 4]),
-    }
+static CROSSED: [Row; 4] = [
+    (2, b'a', LockType::Write, true, Came::Granted),
+    (3, b'b', LockType::Write, true, Came::Granted),
+    (2, b'b', LockType::Write, true, Came::Waiting),
+    (3, b'a', LockType::Write, true, Came::Victims(2, 1, 3, 2)),
+];
+
+fn cross(rt: &impl Abort, locks: &mut LockMgr, alloc: Global) -> Result<(), AllocError> {
+    request_all(rt, locks, alloc, &CROSSED)?;
+    locks.release_all(TxnId(3));
+    assert!(rt; locks.is_granted(TxnId(2)) && !locks.is_granted(TxnId(3)));
+    Ok(())
 }
 
 // Transactions 2 and 3 each write a record and then ask for the other's: 3 is the victim, and 2 gets
@@ -76,30 +91,40 @@ fn closing(locks: &mut LockMgr, alloc: Global, txn: u64, key: u8) -> Result<[u64
 #[test]
 fn deadlock_of_two(rt: HostRuntime) -> Result<(), Fail> {
     let alloc = rt.alloc();
-    let rows = [
-        (2, b'a', LockType::Write, true, Came::Granted),
-        (3, b'b', LockType::Write, true, Came::Granted),
-        (2, b'b', LockType::Write, true, Came::Waiting),
-    ];
     let mut locks = LockMgr::new(alloc);
-    assert!(rt; first_other(&mut locks, alloc, &rows)?.is_none());
-    assert!(rt; closing(&mut locks, alloc, 3, b'a')? == [2, 1, 3, 2]);
-    locks.release_all(TxnId(3));
-    assert!(rt; locks.is_granted(TxnId(2)) && !locks.is_granted(TxnId(3)));
-    Ok(())
+    let done = cross(&rt, &mut locks, alloc);
+    drop(locks);
+    Ok(done?)
 }
 
+// Takes the transaction's wait back, and its lock to read.
 fn give_back_reading(
     locks: &mut LockMgr,
     alloc: Global,
-    txn: u64,
+    txn: TxnId,
     key: u8,
 ) -> Result<(), AllocError> {
     let at = record(alloc, key)?;
-    locks.cancel(TxnId(txn));
-    if locks.held(TxnId(txn), &at) == Some(LockType::Read) {
-        locks.give_back(TxnId(txn), &at, None);
+    locks.cancel(txn);
+    if locks.held(txn, &at) == Some(LockType::Read) {
+        locks.give_back(txn, &at, None);
     }
+    drop(at);
+    Ok(())
+}
+
+static UPGRADES: [Row; 4] = [
+    (3, b'a', LockType::Read, true, Came::Granted),
+    (4, b'a', LockType::Read, true, Came::Granted),
+    (3, b'a', LockType::Write, true, Came::Waiting),
+    (4, b'a', LockType::Write, true, Came::Victims(3, 1, 4, 2)),
+];
+
+fn upgrade_both(rt: &impl Abort, locks: &mut LockMgr, alloc: Global) -> Result<(), AllocError> {
+    request_all(rt, locks, alloc, &UPGRADES)?;
+    give_back_reading(locks, alloc, TxnId(4), b'a')?;
+    assert!(rt; locks.is_granted(TxnId(3)));
+    assert!(rt; locks.waits(alloc)?.is_empty());
     Ok(())
 }
 
@@ -108,40 +133,38 @@ fn give_back_reading(
 #[test]
 fn deadlock_of_two_upgrades(rt: HostRuntime) -> Result<(), Fail> {
     let alloc = rt.alloc();
-    let rows = [
-        (3, b'a', LockType::Read, true, Came::Granted),
-        (4, b'a', LockType::Read, true, Came::Granted),
-        (3, b'a', LockType::Write, true, Came::Waiting),
-        (4, b'a', LockType::Write, true, Came::Victims),
-    ];
     let mut locks = LockMgr::new(alloc);
-    assert!(rt; first_other(&mut locks, alloc, &rows)?.is_none());
-    give_back_reading(&mut locks, alloc, 4, b'a')?;
-    assert!(rt; locks.is_granted(TxnId(3)) && locks.waits(alloc)?.is_empty());
-    Ok(())
+    let done = upgrade_both(&rt, &mut locks, alloc);
+    drop(locks);
+    Ok(done?)
 }
 
-// Who writes the record of a key; None where it is not locked.
-fn writer(locks: &LockMgr, alloc: Global, key: u8) -> Result<Option<TxnId>, AllocError> {
+// Whether the record of a key is locked, and who writes it.
+fn told(locks: &LockMgr, alloc: Global, key: u8) -> Result<(bool, Option<TxnId>), AllocError> {
     let at = record(alloc, key)?;
-    if locks.is_locked(&at) {
-        Ok(locks.is_write_locked(&at))
-    } else {
-        Ok(None)
-    }
+    let told = (locks.is_locked(&at), locks.is_write_locked(&at));
+    drop(at);
+    Ok(told)
+}
+
+static WRITTEN: [Row; 3] = [
+    (2, b'a', LockType::Write, true, Came::Granted),
+    (4, b'a', LockType::Read, false, Came::NotAvailable),
+    (2, b'a', LockType::Write, true, Came::Granted),
+];
+
+fn tell(rt: &impl Abort, locks: &mut LockMgr, alloc: Global) -> Result<(), AllocError> {
+    request_all(rt, locks, alloc, &WRITTEN)?;
+    assert!(rt; told(locks, alloc, b'a')? == (true, Some(TxnId(2))));
+    assert!(rt; locks.holder_in(1) == Some(TxnId(2)));
+    Ok(())
 }
 
 #[test]
 fn tells_of_the_locks(rt: HostRuntime) -> Result<(), Fail> {
     let alloc = rt.alloc();
-    let rows = [
-        (2, b'a', LockType::Write, true, Came::Granted),
-        (4, b'a', LockType::Read, false, Came::NotAvailable),
-        (2, b'a', LockType::Write, true, Came::Granted),
-    ];
     let mut locks = LockMgr::new(alloc);
-    assert!(rt; first_other(&mut locks, alloc, &rows)?.is_none());
-    assert!(rt; writer(&locks, alloc, b'a')? == Some(TxnId(2)));
-    assert!(rt; locks.holder_in(1) == Some(TxnId(2)));
-    Ok(())
+    let done = tell(&rt, &mut locks, alloc);
+    drop(locks);
+    Ok(done?)
 }

@@ -1,38 +1,59 @@
 // Which types of locks conflict, and what an upgrade comes to.
-use lock_mode::{LockType, conflicts, upgrade};
+use lock_mode::LockType::{self, RangeInsert, RangeRead, RangeWrite, Read, Write};
+use lock_mode::{conflicts, upgrade};
 
-const TYPES: [LockType; 5] = [
-    LockType::Read,
-    LockType::Write,
-    LockType::RangeRead,
-    LockType::RangeWrite,
-    LockType::RangeInsert,
+// What is held, and whether each type that is asked waits: read, write, and range read, write and insert.
+static WAITS: [(LockType, &[bool]); 4] = [
+    (Read, &[false, true, false, true, false]),
+    (Write, &[true, true, true, true, false]),
+    (RangeRead, &[false, true, false, true, true]),
+    (RangeWrite, &[true, true, true, true, true]),
 ];
 
-// Rows: held; columns: asked, in the order of TYPES; `y` waits.
+fn waits(held: LockType) -> [bool; 5] {
+    [
+        conflicts(held, Read),
+        conflicts(held, Write),
+        conflicts(held, RangeRead),
+        conflicts(held, RangeWrite),
+        conflicts(held, RangeInsert),
+    ]
+}
+
 #[test]
 fn conflicts_as_the_table(rt: HostRuntime) {
-    let rows: [&[u8; 5]; 4] = [b"nynyn", b"yyyyn", b"nynyy", b"yyyyy"];
-    for (held, row) in TYPES.iter().zip(rows.iter()) {
-        for (asked, want) in TYPES.iter().zip(row.iter()) {
-            assert_eq!(rt; conflicts(*held, *asked), *want == b'y');
-        }
+    for &(held, want) in &WAITS {
+        assert!(rt; waits(held).as_slice() == want);
     }
 }
 
-// Rows: held; columns: asked; each a number in TYPES.
+// What is held, and what it comes to with each type that is asked, in the same order.
+static UPGRADED: [(LockType, &[LockType]); 4] = [
+    (Read, &[Read, Write, RangeRead, RangeWrite, Read]),
+    (Write, &[Write, Write, RangeWrite, RangeWrite, Write]),
+    (
+        RangeRead,
+        &[RangeRead, RangeWrite, RangeRead, RangeWrite, RangeRead],
+    ),
+    (
+        RangeWrite,
+        &[RangeWrite, RangeWrite, RangeWrite, RangeWrite, RangeWrite],
+    ),
+];
+
+fn upgraded(held: LockType) -> [LockType; 5] {
+    [
+        upgrade(held, Read),
+        upgrade(held, Write),
+        upgrade(held, RangeRead),
+        upgrade(held, RangeWrite),
+        upgrade(held, RangeInsert),
+    ]
+}
+
 #[test]
 fn upgrades_as_the_table(rt: HostRuntime) {
-    let rows: [[usize; 5]; 4] = [
-        [0, 1, 2, 3, 0],
-        [1, 1, 3, 3, 1],
-        [2, 3, 2, 3, 2],
-        [3, 3, 3, 3, 3],
-    ];
-    for (held, row) in TYPES.iter().zip(rows.iter()) {
-        for (asked, want) in TYPES.iter().zip(row.iter()) {
-            assert!(rt; *want < 5);
-            assert_eq!(rt; upgrade(*held, *asked), TYPES[*want]);
-        }
+    for &(held, want) in &UPGRADED {
+        assert!(rt; upgraded(held).as_slice() == want);
     }
 }

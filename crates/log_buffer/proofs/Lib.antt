@@ -9,6 +9,8 @@ pub mod Places
 pub mod Fetched
 pub mod Lasting
 pub mod Keeping
+pub mod Still
+pub mod Causing
 pub mod Splits
 pub mod Kept
 pub mod KeptWriting

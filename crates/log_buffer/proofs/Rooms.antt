@@ -1,7 +1,7 @@
 -- The room for entries, and the tail's bytes by file, as the fields change.
 use Rattle.std.proofs.Common.{◌≡◌, ◌≢◌, ℕ, ◌+◌, ◌≤◌, List, [], ◌∷◌, ◌++◌, length, refl, sym, ap, ap₂, ◌∙◌, arith}
 use Rattle.std.specs.List.{AllByRecursion}
-use Rattle.std.specs.Prelude.{Result, Ok, Err, OnErr}
+use Rattle.std.specs.Prelude.{Result, Ok, Err, OnOk, OnErr}
 use Rattle.std.proofs.Common.{length-append}
 use Rattle.log_entry.specs.declared.entry.Entry.{Entry}
 use Rattle.log_entry.specs.declared.entry.Entry.TheVariants.{FileHeader}
@@ -15,6 +15,11 @@ use Rattle.log_buffer.proofs.Tails.{push_last, push_other, begin_next, begin_oth
 pub each_more : (a b : ℕ) (sizes : List ℕ) → a ≤ b → AllByRecursion (λ size. header_size + size ≤ a) sizes → AllByRecursion (λ size. header_size + size ≤ b) sizes
 each_more a b [] le all = tt
 each_more a b (size ∷ sizes) le all = (let first = all.0 in omega arith, each_more a b sizes le all.1)
+
+-- room for the greatest of these sizes is room for each
+pub each_fits : (most room : ℕ) (sizes : List ℕ) → header_size + most ≤ room → AllByRecursion (λ size. size ≤ most) sizes → AllByRecursion (λ size. header_size + size ≤ room) sizes
+each_fits most room [] le all = tt
+each_fits most room (size ∷ sizes) le all = (let first = all.0 in omega arith, each_fits most room sizes le all.1)
 
 -- the same places and bytes are the same for each file
 pub same_for : (bytes starts bytes' starts' : List ℕ) (last f : ℕ) → bytes' ≡ bytes → starts' ≡ starts → bytes_for bytes' starts' last f ≡ bytes_for bytes starts last f
@@ -46,6 +51,10 @@ spelled_size bytes f e is =
 pub on_err : {T E : Type 0} (r : Result T E) (P : Type 0) → P → OnErr r P
 on_err (Ok v) P p = tt
 on_err (Err e) P p = p
+
+pub on_oks : {T E : Type 0} (r : Result T E) (P Q R : Type 0) → OnOk r P → OnOk r Q → (P → Q → R) → OnOk r R
+on_oks (Ok v) P Q R p q both = both p q
+on_oks (Err e) P Q R p q both = tt
 
 -- where the first byte is for the first file, it was so before a next file began
 pub first_before : (starts starts' : List ℕ) (at first first' : ℕ) → starts' ≡ starts ++ at ∷ [] → first' ≡ first → first_for starts' first' ≡ first' → first_for starts first ≡ first

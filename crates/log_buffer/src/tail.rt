@@ -16,7 +16,7 @@ pub struct Tail {
 
 impl Tail {
     ghost use Rattle.std.specs.Prelude.{◌≡◌, ◌==◌, ℕ, ◌+◌, ◌≤◌, slice_index_or, [], ◌∷◌, ◌++◌, length, vec_capacity, IsOk, OnOk, OnErr};
-    ghost use Rattle.log_buffer.specs.Tail.{piece_of};
+    ghost use Rattle.log_buffer.specs.Tail.{start_of, stop_of, piece_of};
 
     /// No bytes. It takes no memory.
     pub fn new(alloc: Global) -> Tail
@@ -56,17 +56,32 @@ impl Tail {
         requires { piece ≤ length self.now.starts.items }
         ensures { result.now ≡ piece_of self.now.bytes.items self.now.starts.items piece }
     {
-        let start = if piece == 0 {
+        let start = self.start(piece);
+        let end = self.stop(piece);
+        &self.bytes.as_slice()[start..end]
+    }
+
+    // Where a piece begins.
+    fn start(&self, piece: usize) -> usize
+        requires { piece ≤ length self.now.starts.items }
+        ensures { result ≡ start_of self.now.bytes.items self.now.starts.items piece }
+    {
+        if piece == 0 {
             0
         } else {
             self.starts[piece - 1]
-        };
-        let end = if piece < self.starts.len() {
+        }
+    }
+
+    // Where it ends.
+    fn stop(&self, piece: usize) -> usize
+        ensures { result ≡ stop_of self.now.bytes.items self.now.starts.items piece }
+    {
+        if piece < self.starts.len() {
             self.starts[piece]
         } else {
             self.bytes.len()
-        };
-        &self.bytes.as_slice()[start..end]
+        }
     }
 
     /// Puts bytes at the end of the last file's. Want of memory changes nothing.

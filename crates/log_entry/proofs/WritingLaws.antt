@@ -98,3 +98,27 @@ written_at bytes part start n le part_is n_is =
     let text : part ≡ to_be_bytes w32 (adler32_of (drop (start + 4) bytes)) ++ drop (start + 4) bytes =
     part_is ∙ ap (λ (x : List ℕ). to_be_bytes w32 n ++ x) after ∙ ap (λ (k : ℕ). to_be_bytes w32 k ++ drop (start + 4) bytes) sum in
     ap (λ (x : List ℕ). take start bytes ++ (part ++ x)) past ∙ ap (λ (x : List ℕ). take start bytes ++ x) (append-nil part ∙ text)
+
+-- numbers put one after another
+pub two_ok : {A E : Type 0} (r : Result A E) (old a b first new : List ℕ) → first ≡ old ++ a → OnOk r (new ≡ first ++ b) → OnOk r (new ≡ old ++ (a ++ b))
+two_ok (Ok v) old a b first new x is = is ∙ ap (λ (l : List ℕ). l ++ b) x ∙ append_assoc old a b
+two_ok (Err v) old a b first new x is = tt
+
+pub last_of_three_ok : {A E : Type 0} (r : Result A E) (old a b c first second new : List ℕ) → first ≡ old ++ a → second ≡ first ++ b → OnOk r (new ≡ second ++ c) → OnOk r (new ≡ old ++ (a ++ (b ++ c)))
+last_of_three_ok (Ok v) old a b c first second new x y is =
+    is ∙ ap (λ (l : List ℕ). l ++ c) y ∙ append_assoc first b c ∙ ap (λ (l : List ℕ). l ++ (b ++ c)) x ∙ append_assoc old a (b ++ c)
+last_of_three_ok (Err v) old a b c first second new x y is = tt
+
+pub unchanged_err : {A E : Type 0} (r : Result A E) (old a first new : List ℕ) → first ≡ old ++ a → OnErr r (new ≡ first) → OnErr r (KeepsFront old new)
+unchanged_err (Ok v) old a first new x is = tt
+unchanged_err (Err v) old a first new x is = keeps_front old a new (is ∙ x)
+
+-- behind a number there is room for the rest
+pub room_behind : (old a first : List ℕ) (n more cap larger : ℕ) → first ≡ old ++ a → length a ≡ n → cap ≤ larger → length old + (n + more) ≤ cap → length first + more ≤ larger
+room_behind old a first n more cap larger is len grows fits =
+    let all : length first ≡ length old + n = ap length is ∙ length-append old a ∙ ap (λ k. length old + k) len in
+    omega (arith, all, grows, fits)
+
+pub last_unchanged_err : {A E : Type 0} (r : Result A E) (old a b first second new : List ℕ) → first ≡ old ++ a → second ≡ first ++ b → OnErr r (new ≡ second) → OnErr r (KeepsFront old new)
+last_unchanged_err (Ok v) old a b first second new x y is = tt
+last_unchanged_err (Err v) old a b first second new x y is = keeps_then old a first new x (keeps_front first b new (is ∙ y))

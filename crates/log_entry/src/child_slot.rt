@@ -10,17 +10,10 @@ use std::alloc::{AllocError, Global};
 use std::cmp::Ordering;
 
 /// A child of an IN: the least name that the child may hold, and where the child's last image stands.
-#[derive(Clone, Debug, Drop, PartialEq, Eq)]
+#[derive(Debug, Drop, PartialEq, Eq)]
 pub struct ChildSlot {
     pub name: Name,
     pub child: Lsn,
-}
-
-impl je_order::Exact for ChildSlot {
-    ghost use Rattle.std.proofs.Common.{rules};
-    ghost use Rattle.je_order.specs.contracts.name.NameExact.TheImpl.Laws as name;
-
-    ghost exact = { Prim.search (rules, name.exact-law) };
 }
 
 impl Item for ChildSlot {

@@ -5,7 +5,7 @@ use je_order::{List, Name, Octets, TxnId};
 
 /// A log entry. A transaction's changes count once its `Commit` is in the log. What each kind holds, and
 /// its limits, are this project's own.
-#[derive(Clone, Debug, Drop, PartialEq, Eq)]
+#[derive(Debug, Drop, PartialEq, Eq)]
 pub enum Entry {
     /// The first entry of a file: the format's version and the file's own number.
     FileHeader {
@@ -76,11 +76,4 @@ pub enum Entry {
     FileSummary {
         files: List<FileUsage>,
     },
-}
-
-impl je_order::Exact for Entry {
-    ghost use Rattle.std.proofs.Common.{rules};
-    ghost use Rattle.je_order.specs.contracts.name.NameExact.TheImpl.Laws as name;
-
-    ghost exact = { Prim.search (rules, name.exact-law) };
 }

@@ -14,12 +14,6 @@ pub struct FileUsage {
     pub live: u64,
 }
 
-impl je_order::Exact for FileUsage {
-    ghost use Rattle.std.proofs.Common.{rules};
-
-    ghost exact = { Prim.search rules };
-}
-
 impl Item for FileUsage {
     ghost use Rattle.log_entry.specs.Items.{IsFileUsage, file_usage_bytes, file_usage_in, file_before};
 

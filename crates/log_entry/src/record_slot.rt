@@ -10,17 +10,10 @@ use std::alloc::{AllocError, Global};
 use std::cmp::Ordering;
 
 /// A record of a BIN: its name, and where its last committed change stands; None where it was deleted.
-#[derive(Clone, Debug, Drop, PartialEq, Eq)]
+#[derive(Debug, Drop, PartialEq, Eq)]
 pub struct RecordSlot {
     pub name: Name,
     pub lsn: Option<Lsn>,
-}
-
-impl je_order::Exact for RecordSlot {
-    ghost use Rattle.std.proofs.Common.{rules};
-    ghost use Rattle.je_order.specs.contracts.name.NameExact.TheImpl.Laws as name;
-
-    ghost exact = { Prim.search (rules, name.exact-law) };
 }
 
 impl Item for RecordSlot {

@@ -14,12 +14,6 @@ pub struct Root {
     pub image: Lsn,
 }
 
-impl je_order::Exact for Root {
-    ghost use Rattle.std.proofs.Common.{rules};
-
-    ghost exact = { Prim.search rules };
-}
-
 impl Item for Root {
     ghost use Rattle.log_entry.specs.Items.{IsRoot, root_bytes, root_in, root_before};
 

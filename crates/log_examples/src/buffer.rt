@@ -1,8 +1,7 @@
 // A log of several files over the disk in memory, each public call of the buffer once.
-ghost use Rattle.std.specs.Prelude.{◌≡◌, ◌≤◌, ◌+◌, ◌*◌, ◌^◌, true, IfOk};
+ghost use Rattle.std.specs.Prelude.{◌≡◌, ◌≤◌, ◌+◌, ◌*◌, ◌^◌, true, length, IfOk};
 ghost use Rattle.je_lsn.specs.Naming.{last_file};
 ghost use Rattle.log_entry.specs.Body.{IsEntry};
-ghost use Rattle.log_entry.specs.Spelling.{size_of};
 ghost use Rattle.log_file.specs.Scan.{may_follow};
 
 use je_disk::{Disk, ReadJob, SyncJob};
@@ -11,28 +10,60 @@ use je_order::{Name, Octets, TxnId};
 use log_buffer::{LogBuffer, LogErr};
 use log_entry::Entry;
 use mem_disk::MemDisk;
-use std::alloc::Global;
+use std::alloc::{AllocError, Global};
 use std::process::Abort;
 use std::test::Fail;
 
+// An entry that the examples append: a transaction's put of so many bytes, or its commit.
+#[derive(Clone, Copy, PartialEq, Eq)]
+enum Step {
+    Put(u64, u16),
+    Commit(u64),
+}
+
+fn sevens(alloc: Global, len: u16) -> Result<Octets, AllocError>
+    ensures { IfOk result (λ value. length value ≤ 65536) }
+{
+    let bytes = vec![in alloc; 7; usize::from(len)]?;
+    Octets::from_slice(alloc, &bytes)
+}
+
 // A put whose spelling has 14 + 16 + 4 + len bytes.
-fn put(alloc: Global, txn: u64, len: usize) -> Result<Entry, Fail>
-    requires { len ≤ 65536 }
+fn put(alloc: Global, txn: u64, len: u16) -> Result<Entry, AllocError>
     ensures entry { IfOk result (λ entry. IsEntry entry) }
     ensures follows { IfOk result (λ entry. may_follow entry ≡ true) }
-    ensures size { IfOk result (λ entry. size_of entry ≡ 34 + len) }
 {
-    let mut value = Vec::new(alloc);
-    value.resize(len, 7)?;
+    let value = sevens(alloc, len)?;
     Ok(Entry::Put {
         txn: TxnId(txn),
         db: 1,
         name: Name {
             key: Octets::from_slice(alloc, b"key!")?,
-            dup: Octets::from_slice(alloc, b"")?,
+            dup: Octets::new(alloc),
         },
-        value: Octets::from_slice(alloc, value.as_slice())?,
+        value,
     })
+}
+
+fn entry_of(alloc: Global, step: Step) -> Result<Entry, AllocError>
+    ensures entry { IfOk result (λ entry. IsEntry entry) }
+    ensures follows { IfOk result (λ entry. may_follow entry ≡ true) }
+{
+    match step {
+        Step::Put(txn, len) => put(alloc, txn, len),
+        Step::Commit(txn) => Ok(Entry::Commit { txn: TxnId(txn) }),
+    }
+}
+
+fn step_of(entry: &Entry) -> Option<Step> {
+    match entry {
+        Entry::Put { txn, value, .. } => {
+            let len = u16::try_from(value.len()).ok()?;
+            Some(Step::Put(txn.0, len))
+        }
+        Entry::Commit { txn } => Some(Step::Commit(txn.0)),
+        _ => None,
+    }
 }
 
 fn made(alloc: Global, disk: MemDisk, file: u32) -> Result<LogBuffer<MemDisk>, Fail>
@@ -50,111 +81,127 @@ fn at(file: u32, offset: u32) -> Lsn
     Lsn::new(FileNo(file), offset)
 }
 
-fn append_put(
-    alloc: Global,
-    buffer: &mut LogBuffer<MemDisk>,
-    txn: u64,
-    len: usize,
-) -> Result<Lsn, Fail>
-    requires { len ≤ 65536 }
-{
-    let entry = put(alloc, txn, len)?;
-    Ok(buffer.append(&entry)?)
+fn append(alloc: Global, buffer: &mut LogBuffer<MemDisk>, step: Step) -> Result<Lsn, LogErr> {
+    let entry = entry_of(alloc, step)?;
+    let place = buffer.append(&entry);
+    drop(entry);
+    place
 }
 
-fn append_commit(buffer: &mut LogBuffer<MemDisk>, txn: u64) -> Result<Lsn, LogErr> {
-    let commit = Entry::Commit { txn: TxnId(txn) };
-    buffer.append(&commit)
-}
-
-// Whether a put of so many bytes stands there.
-fn is_put(
+// What stands at a place.
+fn read(
     alloc: Global,
     buffer: &mut LogBuffer<MemDisk>,
     place: Lsn,
-    len: usize,
-) -> Result<bool, LogErr> {
-    match buffer.read(alloc, place)? {
-        Entry::Put { value, .. } => Ok(value.len() == len),
-        _ => Ok(false),
-    }
+) -> Result<Option<Step>, LogErr> {
+    let entry = buffer.read(alloc, place)?;
+    let step = step_of(&entry);
+    drop(entry);
+    Ok(step)
 }
 
-// Whether the commit of this transaction stands there.
-fn is_commit(
+// An entry with its file and its offset.
+type Place = (Step, u32, u32);
+
+fn append_all(
+    rt: &impl Abort,
     alloc: Global,
     buffer: &mut LogBuffer<MemDisk>,
-    place: Lsn,
-    txn: u64,
-) -> Result<bool, LogErr> {
-    match buffer.read(alloc, place)? {
-        Entry::Commit { txn: found } => Ok(found == TxnId(txn)),
-        _ => Ok(false),
+    places: &[Place],
+) -> Result<(), LogErr> {
+    for (step, file, offset) in places {
+        assert!(rt; append(alloc, buffer, *step)? == at(*file, *offset));
     }
-}
-
-// 26 + 2,034 = 2,060; 2,060 + 2,034 = 4,094 still fits in 4,096; the third put goes into file 1.
-fn fill(rt: &impl Abort, alloc: Global, buffer: &mut LogBuffer<MemDisk>) -> Result<(), Fail> {
-    assert!(rt; buffer.end() == at(0, 26));
-    buffer.reserve(&[2_034, 2_034, 2_034])?;
-    assert!(rt; append_put(alloc, buffer, 1, 2_000)? == at(0, 26));
-    assert!(rt; append_put(alloc, buffer, 1, 2_000)? == at(0, 2_060));
-    assert!(rt; append_put(alloc, buffer, 1, 2_000)? == at(1, 26));
-    assert!(rt; is_put(alloc, buffer, at(0, 2_060), 2_000)?);
-    assert!(rt; is_put(alloc, buffer, at(1, 26), 2_000)?);
-    assert!(rt; buffer.end() == at(1, 2_060) && buffer.written() == FileNo(0));
-    let damaged = buffer.read(alloc, at(1, 27));
-    assert!(rt; matches!(damaged, Err(LogErr::Damaged)));
     Ok(())
 }
 
-// Where an entry stands that comes while a sync is out, and the file that the sync had written then.
-fn append_beside_sync(
+fn read_all(
+    rt: &impl Abort,
+    alloc: Global,
     buffer: &mut LogBuffer<MemDisk>,
-    entry: &Entry,
-) -> Result<(Lsn, FileNo), LogErr>
-    requires entry { IsEntry entry.now }
-    requires follows { may_follow entry.now ≡ true }
-{
+    places: &[Place],
+) -> Result<(), LogErr> {
+    for (step, file, offset) in places {
+        assert!(rt; read(alloc, buffer, at(*file, *offset))? == Some(*step));
+    }
+    Ok(())
+}
+
+// The disk's files: the number of each, and its length.
+fn lengths(alloc: Global, disk: &MemDisk) -> Result<Vec<(u32, usize)>, AllocError> {
+    let mut lengths = Vec::new(alloc);
+    for (f, bytes) in &disk.files(alloc)? {
+        lengths.push((f.0, bytes.len()))?;
+    }
+    Ok(lengths)
+}
+
+// The files that the buffer leaves on its disk.
+fn close(alloc: Global, buffer: LogBuffer<MemDisk>) -> Result<Vec<(u32, usize)>, LogErr> {
+    let (disk, closed) = buffer.close();
+    let lengths = lengths(alloc, &disk);
+    drop(disk);
+    closed?;
+    Ok(lengths?)
+}
+
+// 26 + 2,034 = 2,060; 2,060 + 2,034 = 4,094 still fits in 4,096; the third put goes into file 1.
+static FILLING: [Place; 3] = [
+    (Step::Put(1, 2_000), 0, 26),
+    (Step::Put(1, 2_000), 0, 2_060),
+    (Step::Put(1, 2_000), 1, 26),
+];
+
+fn fill(rt: &impl Abort, alloc: Global, buffer: &mut LogBuffer<MemDisk>) -> Result<(), LogErr> {
+    assert!(rt; buffer.end() == at(0, 26));
+    buffer.reserve(&[2_034, 2_034, 2_034])?;
+    append_all(rt, alloc, buffer, &FILLING)?;
+    read_all(rt, alloc, buffer, &FILLING)?;
+    assert!(rt; buffer.end() == at(1, 2_060) && buffer.written() == FileNo(0));
+    assert!(rt; read(alloc, buffer, at(1, 27)) == Err(LogErr::Damaged));
+    Ok(())
+}
+
+// Where a commit stands that comes while a sync is out, and the file that the sync had written then.
+fn commit_beside_sync(buffer: &mut LogBuffer<MemDisk>) -> Result<(Lsn, FileNo), LogErr> {
     let job = buffer.sync_begin()?;
     let written = buffer.written();
-    let appended = buffer.append(entry);
+    let commit = Entry::Commit { txn: TxnId(1) };
+    let appended = buffer.append(&commit);
+    drop(commit);
     let done = job.run();
     buffer.sync_end(done)?;
     Ok((appended?, written))
 }
 
-fn commit_beside_sync(buffer: &mut LogBuffer<MemDisk>) -> Result<(Lsn, FileNo), LogErr> {
-    let commit = Entry::Commit { txn: TxnId(1) };
-    append_beside_sync(buffer, &commit)
+static SYNCED: [Place; 3] = [
+    (Step::Put(1, 2_000), 0, 26),
+    (Step::Put(1, 2_000), 1, 26),
+    (Step::Commit(1), 1, 2_060),
+];
+
+fn read_file(alloc: Global, buffer: &mut LogBuffer<MemDisk>) -> Result<Vec<u8>, LogErr> {
+    let job = buffer.read_begin(FileNo(0))?;
+    let done = job.run();
+    buffer.read_end(alloc, done)
 }
 
-fn sync(rt: &impl Abort, alloc: Global, buffer: &mut LogBuffer<MemDisk>) -> Result<(), Fail> {
-    assert!(rt; commit_beside_sync(buffer)? == (at(1, 2_060), FileNo(1)));
-    assert!(rt; is_put(alloc, buffer, at(0, 26), 2_000)?);
-    assert!(rt; is_put(alloc, buffer, at(1, 26), 2_000)?);
-    assert!(rt; is_commit(alloc, buffer, at(1, 2_060), 1)?);
-    Ok(())
+fn remove(rt: &impl Abort, buffer: &mut LogBuffer<MemDisk>) -> Result<(), LogErr> {
+    let written = buffer.written();
+    assert!(rt; written.0 > 0);
+    buffer.remove(FileNo(0))
 }
 
-fn read_and_remove(
+fn go_through(
     rt: &impl Abort,
     alloc: Global,
     buffer: &mut LogBuffer<MemDisk>,
-) -> Result<(), Fail> {
-    let job = buffer.read_begin(FileNo(0))?;
-    let done = job.run();
-    assert_eq!(rt; buffer.read_end(alloc, done)?.len(), 4_094);
-    let written = buffer.written();
-    assert!(rt; written.0 > 0);
-    buffer.remove(FileNo(0))?;
-    Ok(())
-}
-
-fn go_through(rt: &impl Abort, alloc: Global, buffer: &mut LogBuffer<MemDisk>) -> Result<(), Fail> {
+) -> Result<(), LogErr> {
     fill(rt, alloc, buffer)?;
-    sync(rt, alloc, buffer)?;
-    read_and_remove(rt, alloc, buffer)
+    assert!(rt; commit_beside_sync(buffer)? == (at(1, 2_060), FileNo(1)));
+    read_all(rt, alloc, buffer, &SYNCED)?;
+    assert!(rt; read_file(alloc, buffer)?.len() == 4_094);
+    remove(rt, buffer)
 }
 
 #[test]
@@ -162,31 +209,29 @@ fn goes_through_files(rt: HostRuntime) -> Result<(), Fail> {
     let alloc = rt.alloc();
     let mut buffer = made(alloc, MemDisk::new(alloc), 0)?;
     let done = go_through(&rt, alloc, &mut buffer);
-    let (disk, closed) = buffer.close();
+    let files = close(alloc, buffer);
     done?;
-    closed?;
-    let files = disk.files(alloc)?;
-    assert_eq!(rt; files.len(), 1);
-    assert!(rt; files[0].0 == FileNo(1));
     // 26 + 2,034 + 22
-    assert_eq!(rt; files[0].1.len(), 2_082);
+    assert!(rt; files?.as_slice() == [(1, 2_082)].as_slice());
     Ok(())
 }
 
 // 26 + 60,034 passes 4,096, where the file holds its header alone; so the commit goes into file 4.
-fn write(alloc: Global, buffer: &mut LogBuffer<MemDisk>) -> Result<(), Fail> {
-    append_put(alloc, buffer, 2, 60_000)?;
-    append_commit(buffer, 2)?;
-    buffer.write_out()?;
-    Ok(())
+fn write(alloc: Global, buffer: &mut LogBuffer<MemDisk>) -> Result<(), LogErr> {
+    append(alloc, buffer, Step::Put(2, 60_000))?;
+    append(alloc, buffer, Step::Commit(2))?;
+    buffer.write_out()
 }
 
-fn go_on(rt: &impl Abort, alloc: Global, buffer: &mut LogBuffer<MemDisk>) -> Result<(), Fail> {
-    assert!(rt; append_commit(buffer, 2)? == at(4, 48));
-    assert!(rt; is_commit(alloc, buffer, at(4, 26), 2)?);
-    assert!(rt; is_commit(alloc, buffer, at(4, 48), 2)?);
-    assert!(rt; is_put(alloc, buffer, at(3, 26), 60_000)?);
-    Ok(())
+static RESUMED: [Place; 3] = [
+    (Step::Commit(2), 4, 26),
+    (Step::Commit(2), 4, 48),
+    (Step::Put(2, 60_000), 3, 26),
+];
+
+fn go_on(rt: &impl Abort, alloc: Global, buffer: &mut LogBuffer<MemDisk>) -> Result<(), LogErr> {
+    assert!(rt; append(alloc, buffer, Step::Commit(2))? == at(4, 48));
+    read_all(rt, alloc, buffer, &RESUMED)
 }
 
 #[test]
@@ -195,21 +240,20 @@ fn goes_on_after_a_resume(rt: HostRuntime) -> Result<(), Fail> {
     let mut buffer = made(alloc, MemDisk::new(alloc), 3)?;
     let written = write(alloc, &mut buffer);
     let end = at(4, 48);
-    assert!(rt; buffer.end() == end);
+    assert!(rt; written == Ok(()) && buffer.end() == end);
     let mut buffer = LogBuffer::resume(alloc, buffer.into_disk(), end, 26, 4_096);
-    let done = match written {
-        Ok(()) => go_on(&rt, alloc, &mut buffer),
-        Err(error) => Err(error),
-    };
-    let (disk, closed) = buffer.close();
+    let done = go_on(&rt, alloc, &mut buffer);
+    let files = close(alloc, buffer);
     done?;
-    closed?;
-    let files = disk.files(alloc)?;
-    assert_eq!(rt; files.len(), 2);
     // 26 + 60,034, and 26 + 22 + 22
-    assert_eq!(rt; files[0].1.len(), 60_060);
-    assert_eq!(rt; files[1].1.len(), 70);
+    assert!(rt; files?.as_slice() == [(3, 60_060), (4, 70)].as_slice());
     Ok(())
+}
+
+fn fail(rt: &impl Abort, alloc: Global, buffer: &mut LogBuffer<MemDisk>) {
+    assert!(rt; buffer.write_out() == Err(LogErr::Fault));
+    assert!(rt; buffer.has_failed());
+    assert!(rt; append(alloc, buffer, Step::Commit(1)) == Err(LogErr::Fault));
 }
 
 #[test]
@@ -218,19 +262,16 @@ fn fails_once_and_for_all(rt: HostRuntime) -> Result<(), Fail> {
     let mut disk = MemDisk::new(alloc);
     disk.fail_calls(alloc, &[1])?;
     let mut buffer = made(alloc, disk, 0)?;
-    assert!(rt; buffer.write_out() == Err(LogErr::Fault));
-    assert!(rt; buffer.has_failed());
-    assert!(rt; append_commit(&mut buffer, 1) == Err(LogErr::Fault));
+    fail(&rt, alloc, &mut buffer);
     let (disk, closed) = buffer.close();
-    assert!(rt; closed == Err(LogErr::Fault));
-    assert_eq!(rt; disk.faults(), 1);
+    assert!(rt; closed == Err(LogErr::Fault) && disk.faults() == 1);
     Ok(())
 }
 
-fn end(rt: &impl Abort, alloc: Global, buffer: &mut LogBuffer<MemDisk>) -> Result<(), Fail> {
-    append_put(alloc, buffer, 1, 4_040)?;
+fn end(rt: &impl Abort, alloc: Global, buffer: &mut LogBuffer<MemDisk>) -> Result<(), LogErr> {
+    append(alloc, buffer, Step::Put(1, 4_040))?;
     assert!(rt; buffer.reserve(&[22]) == Err(LogErr::Full));
-    assert!(rt; append_commit(buffer, 1) == Err(LogErr::Full));
+    assert!(rt; append(alloc, buffer, Step::Commit(1)) == Err(LogErr::Full));
     assert!(rt; buffer.end() == at(0xffff_fffe, 4_100));
     Ok(())
 }
@@ -241,42 +282,48 @@ fn ends_with_the_last_file(rt: HostRuntime) -> Result<(), Fail> {
     let mut buffer = made(alloc, MemDisk::new(alloc), 0xffff_fffe)?;
     let ended = end(&rt, alloc, &mut buffer);
     let _ = buffer.into_disk();
-    ended
+    Ok(ended?)
 }
 
-// An entry that fills a file: 400 of them make 400 files.
-fn append_often(rt: &impl Abort, buffer: &mut LogBuffer<MemDisk>, entry: &Entry) -> Result<(), Fail>
-    requires entry { IsEntry entry.now }
-    requires follows { may_follow entry.now ≡ true }
-{
+// 400 puts of 4,034 bytes, each of which fills a file, are 1,613,600 bytes: the tail is written out on
+// the way.
+fn fill_many(
+    rt: &impl Abort,
+    alloc: Global,
+    buffer: &mut LogBuffer<MemDisk>,
+) -> Result<(), LogErr> {
     for i in 0..400 {
-        assert!(rt; buffer.append(entry)? == at(i, 26));
+        assert!(rt; append(alloc, buffer, Step::Put(1, 4_000))? == at(i, 26));
     }
     Ok(())
 }
 
-// 400 puts of 4,034 bytes are 1,613,600 bytes: the tail is written out on the way.
-fn many(rt: &impl Abort, alloc: Global, buffer: &mut LogBuffer<MemDisk>) -> Result<(), Fail> {
-    let entry = put(alloc, 1, 4_000)?;
-    append_often(rt, buffer, &entry)?;
+static MANY: [Place; 2] = [
+    (Step::Put(1, 4_000), 100, 26),
+    (Step::Put(1, 4_000), 399, 26),
+];
+
+fn go_through_many(
+    rt: &impl Abort,
+    alloc: Global,
+    buffer: &mut LogBuffer<MemDisk>,
+) -> Result<(), LogErr> {
+    fill_many(rt, alloc, buffer)?;
     assert!(rt; buffer.written() > FileNo(200));
-    assert!(rt; is_put(alloc, buffer, at(100, 26), 4_000)?);
-    assert!(rt; is_put(alloc, buffer, at(399, 26), 4_000)?);
-    Ok(())
+    read_all(rt, alloc, buffer, &MANY)
 }
 
 #[test]
 fn writes_a_long_tail_out(rt: HostRuntime) -> Result<(), Fail> {
     let alloc = rt.alloc();
     let mut buffer = made(alloc, MemDisk::new(alloc), 0)?;
-    let done = many(&rt, alloc, &mut buffer);
-    let (disk, closed) = buffer.close();
+    let done = go_through_many(&rt, alloc, &mut buffer);
+    let files = close(alloc, buffer);
     done?;
-    closed?;
-    let files = disk.files(alloc)?;
-    assert_eq!(rt; files.len(), 400);
-    for (_, bytes) in &files {
-        assert_eq!(rt; bytes.len(), 4_060);
+    let files = files?;
+    assert!(rt; files.len() == 400);
+    for (_, len) in &files {
+        assert!(rt; *len == 4_060);
     }
     Ok(())
 }

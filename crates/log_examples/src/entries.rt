@@ -5,7 +5,7 @@ ghost use Rattle.log_entry.specs.Body.{IsEntry};
 use crate::samples::first;
 use byteorder::{BigEndian, ByteOrder};
 use je_bytes::adler32;
-use je_order::{Name, Octets, TxnId, copy_of};
+use je_order::{Name, Octets, TxnId};
 use log_entry::{
     Decoded, Entry, Torn, decode, decode_at, encode_onto, one_spelling, runs_are_spellings, size,
 };
@@ -28,13 +28,13 @@ fn put(alloc: Global, txn: u64, db: u32, key: &[u8], value: &[u8]) -> Result<Ent
     })
 }
 
-// The offset of each entry of the file, its prev field and its length.
-const PLACES: [(usize, u32, usize); 5] = [
-    (0, 0, 26),
-    (26, 0, 36),
-    (62, 26, 22),
-    (84, 62, 32),
-    (116, 84, 22),
+// The entries of the file: the number of each, its offset, its prev field and its length.
+static PLACES: [(usize, usize, u32, usize); 5] = [
+    (0, 0, 0, 26),
+    (1, 26, 0, 36),
+    (2, 62, 26, 22),
+    (3, 84, 62, 32),
+    (4, 116, 84, 22),
 ];
 
 // The entries of the file, in order.
@@ -53,30 +53,17 @@ fn entry_of(alloc: Global, number: usize) -> Result<Entry, AllocError>
     }
 }
 
-// Whether the entry stands at an offset of the file, with this prev field and this length.
-fn stands_at(
-    alloc: Global,
-    wanted: &Entry,
-    at: usize,
-    want_prev: u32,
-    want_len: usize,
-) -> Result<bool, AllocError>
+// Whether this stands at an offset of the file.
+fn is_at(alloc: Global, wanted: &Decoded, at: usize) -> Result<bool, AllocError>
     requires { at ≤ 138 }
 {
-    match decode_at(alloc, first(), at)? {
-        Decoded::Whole { entry, prev, len } => {
-            Ok(
-                entry == *wanted
-                    && prev == want_prev
-                    && len == want_len
-                    && size(&entry) as usize == len,
-            )
-        }
-        Decoded::Torn(_) => Ok(false),
-    }
+    let found = decode_at(alloc, first(), at)?;
+    let same = found == *wanted;
+    drop(found);
+    Ok(same)
 }
 
-// The same of the entry of this number.
+// Whether the entry of this number stands at an offset of the file, with this prev field and this length.
 fn stands(
     alloc: Global,
     number: usize,
@@ -86,22 +73,18 @@ fn stands(
 ) -> Result<bool, AllocError>
     requires { at ≤ 138 }
 {
-    let wanted = entry_of(alloc, number)?;
-    stands_at(alloc, &wanted, at, prev, len)
-}
-
-fn is_copied(alloc: Global, number: usize) -> Result<bool, AllocError> {
     let entry = entry_of(alloc, number)?;
-    let copy = copy_of(&entry)?;
-    Ok(copy == entry)
+    let fits = size(&entry) as usize == len;
+    let wanted = Decoded::Whole { entry, prev, len };
+    let found = is_at(alloc, &wanted, at);
+    drop(wanted);
+    Ok(fits && found?)
 }
 
 #[test]
 fn decodes_a_file(rt: HostRuntime) -> Result<(), Fail> {
-    let alloc = rt.alloc();
-    for (number, (at, prev, len)) in PLACES.iter().enumerate() {
-        assert!(rt; *at < 138 && stands(alloc, number, *at, *prev, *len)?);
-        assert!(rt; is_copied(alloc, number)?);
+    for &(number, at, prev, len) in &PLACES {
+        assert!(rt; at < 138 && stands(rt.alloc(), number, at, prev, len)?);
     }
     Ok(())
 }
@@ -114,17 +97,19 @@ fn put_onto(
     prev: u32,
 ) -> Result<(), AllocError> {
     let entry = entry_of(alloc, number)?;
-    encode_onto(&entry, prev, bytes)
+    let done = encode_onto(&entry, prev, bytes);
+    drop(entry);
+    done
 }
 
 #[test]
 fn encodes_a_file(rt: HostRuntime) -> Result<(), Fail> {
     let alloc = rt.alloc();
     let mut bytes = Vec::new(alloc);
-    for (number, (_, prev, _)) in PLACES.iter().enumerate() {
-        put_onto(alloc, &mut bytes, number, *prev)?;
+    for &(number, _, prev, _) in &PLACES {
+        put_onto(alloc, &mut bytes, number, prev)?;
     }
-    assert_eq!(rt; bytes.as_slice(), first().as_slice());
+    assert!(rt; bytes.as_slice() == first().as_slice());
     one_spelling();
     runs_are_spellings();
     Ok(())
@@ -148,27 +133,36 @@ fn changed(at: usize, to: u8, signed: bool) -> [u8; 22] {
 pub fn torn(alloc: Global, bytes: &[u8]) -> Result<Option<Torn>, AllocError> {
     match decode(alloc, bytes)? {
         Decoded::Torn(torn) => Ok(Some(torn)),
-        Decoded::Whole { .. } => Ok(None),
+        Decoded::Whole { entry, .. } => {
+            drop(entry);
+            Ok(None)
+        }
     }
 }
 
 #[test]
-fn tells_why_none_is_whole(rt: HostRuntime) -> Result<(), Fail> {
-    let alloc = rt.alloc();
+fn tells_that_bytes_are_short(rt: HostRuntime) -> Result<(), Fail> {
     for cut in [0, 13, 14, 21] {
-        assert!(rt; torn(alloc, &first()[116..116 + cut])? == Some(Torn::Short));
+        assert!(rt; torn(rt.alloc(), &first()[116..116 + cut])? == Some(Torn::Short));
     }
-    let rows = [
-        (13, 9, false, Torn::Short),
-        (3, 0, false, Torn::BadSum),
-        (21, 3, false, Torn::BadSum),
-        (4, 6, true, Torn::BadKind),
-        (5, 1, true, Torn::BadKind),
-        (4, 3, true, Torn::BadKind),
-        (13, 7, true, Torn::BadSum),
-    ];
-    for (at, to, signed, why) in rows {
-        assert!(rt; torn(alloc, &changed(at, to, signed))? == Some(why));
+    Ok(())
+}
+
+// Which byte is changed to what, whether the checksum is made anew, and what that is then.
+static CHANGES: [(usize, u8, bool, Torn); 7] = [
+    (13, 9, false, Torn::Short),
+    (3, 0, false, Torn::BadSum),
+    (21, 3, false, Torn::BadSum),
+    (4, 6, true, Torn::BadKind),
+    (5, 1, true, Torn::BadKind),
+    (4, 3, true, Torn::BadKind),
+    (13, 7, true, Torn::BadSum),
+];
+
+#[test]
+fn tells_why_none_is_whole(rt: HostRuntime) -> Result<(), Fail> {
+    for &(at, to, signed, why) in &CHANGES {
+        assert!(rt; torn(rt.alloc(), &changed(at, to, signed))? == Some(why));
     }
     Ok(())
 }

@@ -3,7 +3,7 @@ use crate::slots::{name, put};
 use je_lsn::{FileNo, Lsn};
 use je_order::List;
 use log_entry::{Decoded, Entry, RecordSlot, decode};
-use node_core::{Node, Slot, Version};
+use node_core::{Marked, Node, Slot, Version};
 use node_log::{from_entries, images_are_entries, nodes_are_read_back, to_delta, to_entry};
 use std::alloc::{AllocError, Global};
 use std::test::Fail;
@@ -12,21 +12,13 @@ fn lsn(offset: u32) -> Lsn {
     Lsn::new(FileNo(0), offset)
 }
 
-fn record(alloc: Global, key: u8, lsn: Option<Lsn>) -> Result<RecordSlot, AllocError> {
-    Ok(RecordSlot {
-        name: name(alloc, key)?,
-        lsn,
-    })
-}
-
-fn records(
-    alloc: Global,
-    first: (u8, Option<Lsn>),
-    second: (u8, Option<Lsn>),
-) -> Result<List<RecordSlot>, AllocError> {
+// Records by key, and where each was put; none where it was deleted.
+fn records(alloc: Global, rows: &[(u8, Option<Lsn>)]) -> Result<List<RecordSlot>, AllocError> {
     let mut slots = List::new(alloc);
-    slots.push(record(alloc, first.0, first.1)?)?;
-    slots.push(record(alloc, second.0, second.1)?)?;
+    for (key, lsn) in rows {
+        let name = name(alloc, *key)?;
+        slots.push(RecordSlot { name, lsn: *lsn })?;
+    }
     Ok(slots)
 }
 
@@ -47,25 +39,36 @@ fn changed(alloc: Global) -> Result<Node, Fail> {
     Ok(node)
 }
 
+fn is_record(slot: &RecordSlot, key: u8, lsn: Option<Lsn>) -> bool {
+    let name = &slot.name;
+    slot.lsn == lsn && name.key.as_slice() == [key].as_slice() && name.dup.is_empty()
+}
+
 // Whether the slots are these records: the key, and where it is put; None where it was deleted.
 fn are_records(slots: &[RecordSlot], rows: &[(u8, Option<Lsn>)]) -> bool {
     let mut same = slots.len() == rows.len();
     for (slot, (key, lsn)) in slots.iter().zip(rows) {
-        let name = &slot.name;
-        same = same && name.key.as_slice() == [*key].as_slice() && name.dup.is_empty();
-        same = same && slot.lsn == *lsn;
+        same = same && is_record(slot, *key, *lsn);
     }
     same
 }
 
-// Whether the node's whole image is a BIN of database 3 with number 7 and these records.
-fn is_shown_by(alloc: Global, node: &Node, rows: &[(u8, Option<Lsn>)]) -> Result<bool, AllocError> {
-    match to_entry(alloc, node)? {
+// Whether the entry is a BIN of database 3 with number 7 and these records.
+fn is_bin(entry: &Entry, rows: &[(u8, Option<Lsn>)]) -> bool {
+    match entry {
         Entry::Bin { db, node, slots } => {
-            Ok(db == 3 && node == 7 && are_records(slots.as_slice(), rows))
+            *db == 3 && *node == 7 && are_records(slots.as_slice(), rows)
         }
-        _ => Ok(false),
+        _ => false,
     }
+}
+
+// Whether the node's whole image is that.
+fn is_shown_by(alloc: Global, node: &Node, rows: &[(u8, Option<Lsn>)]) -> Result<bool, AllocError> {
+    let image = to_entry(alloc, node)?;
+    let same = is_bin(&image, rows);
+    drop(image);
+    Ok(same)
 }
 
 // Whether the entry is a delta to the image at offset 90, of that BIN and with these records.
@@ -84,10 +87,19 @@ fn is_delta(entry: &Entry, rows: &[(u8, Option<Lsn>)]) -> bool {
     }
 }
 
-fn has_delta(alloc: Global, node: &Node, rows: &[(u8, Option<Lsn>)]) -> Result<bool, AllocError> {
+// Whether the node's delta is that; none where there is no delta.
+fn has_delta(
+    alloc: Global,
+    node: &Node,
+    rows: &[(u8, Option<Lsn>)],
+) -> Result<Option<bool>, AllocError> {
     match to_delta(alloc, node)? {
-        Some(delta) => Ok(is_delta(&delta, rows)),
-        None => Ok(false),
+        Some(delta) => {
+            let same = is_delta(&delta, rows);
+            drop(delta);
+            Ok(Some(same))
+        }
+        None => Ok(None),
     }
 }
 
@@ -96,7 +108,7 @@ fn shows_a_bin(rt: HostRuntime) -> Result<(), Fail> {
     let alloc = rt.alloc();
     let node = bin(alloc)?;
     assert!(rt; is_shown_by(alloc, &node, &[(b'a', Some(lsn(26))), (b'c', None)])?);
-    assert!(rt; to_delta(alloc, &node)?.is_none());
+    assert!(rt; has_delta(alloc, &node, &[])? == None);
     Ok(())
 }
 
@@ -105,7 +117,7 @@ fn delta(alloc: Global, node: u64) -> Result<Entry, AllocError> {
         db: 3,
         node,
         full: lsn(90),
-        slots: records(alloc, (b'a', None), (b'd', Some(lsn(120))))?,
+        slots: records(alloc, &[(b'a', None), (b'd', Some(lsn(120)))])?,
     })
 }
 
@@ -113,7 +125,8 @@ fn delta(alloc: Global, node: u64) -> Result<Entry, AllocError> {
 fn shows_a_delta(rt: HostRuntime) -> Result<(), Fail> {
     let alloc = rt.alloc();
     let node = changed(alloc)?;
-    assert!(rt; has_delta(alloc, &node, &[(b'a', None), (b'd', Some(lsn(120)))])?);
+    let rows = [(b'a', None), (b'd', Some(lsn(120)))];
+    assert!(rt; has_delta(alloc, &node, &rows)? == Some(true));
     images_are_entries();
     nodes_are_read_back();
     Ok(())
@@ -125,47 +138,61 @@ const IMAGE: &[u8] = b"\x1a\x9f\x01\x20\x08\x00\x00\x00\x00\x00\x00\x00\x00\x2a\
 \x00\x01\x61\x00\x00\x00\x00\x00\x00\x00\x00\x00\x00\x1a\
 \x00\x01\x63\x00\x00\x01\x00\x00\x00\x00\x00\x00\x00\x00";
 
-// The node that these bytes' entry and a delta show.
-fn read(alloc: Global, bytes: &[u8], delta: Option<&Entry>) -> Result<Option<Node>, AllocError> {
-    match decode(alloc, bytes)? {
-        Decoded::Whole { entry, .. } => from_entries(alloc, &entry, delta),
+// The node that the image shows, alone or with a delta.
+fn read(alloc: Global, delta: Option<&Entry>) -> Result<Option<Node>, AllocError> {
+    match decode(alloc, IMAGE)? {
+        Decoded::Whole { entry, .. } => {
+            let node = from_entries(alloc, &entry, delta);
+            drop(entry);
+            node
+        }
         Decoded::Torn(_) => Ok(None),
     }
 }
 
+// The node that the image shows with the delta of this node.
+fn read_with(alloc: Global, number: u64) -> Result<Option<Node>, AllocError> {
+    let delta = delta(alloc, number)?;
+    let node = read(alloc, Some(&delta));
+    drop(delta);
+    node
+}
+
+fn is_slot(marked: &Marked, key: u8, version: Version, changed: bool) -> bool {
+    let Slot {
+        name,
+        version: found,
+    } = &marked.slot;
+    let same = name.key.as_slice() == [key].as_slice() && name.dup.is_empty();
+    same && *found == version && marked.changed == changed
+}
+
 // Whether the node's slots are these: the key, the version, and whether it counts as changed.
-fn has_slots(alloc: Global, node: &Node, rows: &[(u8, Version, bool)]) -> Result<bool, AllocError> {
+fn has_slots(node: &Node, rows: &[(u8, Version, bool)]) -> bool {
     let mut same = node.slots.len() == rows.len();
     for (marked, (key, version, changed)) in node.slots.as_slice().iter().zip(rows) {
-        let name = name(alloc, *key)?;
-        let slot = Slot {
-            name,
-            version: *version,
-        };
-        same = same && marked.slot == slot && marked.changed == *changed;
+        same = same && is_slot(marked, *key, *version, *changed);
     }
-    Ok(same)
+    same
 }
 
 #[test]
 fn reads_an_image(rt: HostRuntime) -> Result<(), Fail> {
-    let alloc = rt.alloc();
-    let Some(node) = read(alloc, IMAGE, None)? else {
+    let Some(node) = read(rt.alloc(), None)? else {
         return Err("no node".into());
     };
     let rows = [
         (b'a', Version::There(lsn(26)), false),
         (b'c', Version::Deleted, false),
     ];
-    assert!(rt; node.db == 3 && node.number == 7 && node.level == 1 && node.full == None);
-    assert!(rt; has_slots(alloc, &node, &rows)?);
+    assert!(rt; (node.db, node.number, node.level) == (3, 7, 1) && node.full == None);
+    assert!(rt; has_slots(&node, &rows));
     Ok(())
 }
 
 #[test]
 fn reads_an_image_with_a_delta(rt: HostRuntime) -> Result<(), Fail> {
-    let alloc = rt.alloc();
-    let Some(node) = read(alloc, IMAGE, Some(&delta(alloc, 7)?))? else {
+    let Some(node) = read_with(rt.alloc(), 7)? else {
         return Err("no node".into());
     };
     let rows = [
@@ -173,8 +200,12 @@ fn reads_an_image_with_a_delta(rt: HostRuntime) -> Result<(), Fail> {
         (b'c', Version::Deleted, false),
         (b'd', Version::There(lsn(120)), true),
     ];
-    assert!(rt; node.full == Some(lsn(90)));
-    assert!(rt; has_slots(alloc, &node, &rows)?);
-    assert!(rt; read(alloc, IMAGE, Some(&delta(alloc, 8)?))?.is_none());
+    assert!(rt; node.full == Some(lsn(90)) && has_slots(&node, &rows));
+    Ok(())
+}
+
+#[test]
+fn reads_no_delta_of_another_node(rt: HostRuntime) -> Result<(), Fail> {
+    assert!(rt; read_with(rt.alloc(), 8)?.is_none());
     Ok(())
 }

@@ -36,7 +36,7 @@ fn remove(alloc: Global, node: &mut Node, key: u8) -> Result<(), AllocError> {
 }
 
 // Slots that are put, the third once more.
-const PUTS: [(u8, u32); 6] = [
+static PUTS: [(u8, u32); 6] = [
     (b'c', 40),
     (b'a', 26),
     (b'e', 62),
@@ -46,7 +46,7 @@ const PUTS: [(u8, u32); 6] = [
 ];
 
 fn fill(alloc: Global, node: &mut Node) -> Result<(), Fail> {
-    for (key, offset) in PUTS {
+    for &(key, offset) in &PUTS {
         put(alloc, node, key, at(offset))?;
     }
     Ok(())
@@ -64,14 +64,19 @@ fn keeps_slots_in_order(rt: HostRuntime) -> Result<(), Fail> {
     Ok(())
 }
 
+// Whether the node is split in these two, of which the upper one is number 7.
+fn splits(alloc: Global, node: &mut Node) -> Result<bool, AllocError> {
+    let upper = node.split(7)?;
+    let same = has_keys(node, b"abc") && has_keys(&upper, b"de") && node.number == 2;
+    Ok(same && (upper.number, upper.db, upper.level) == (7, 1, 1))
+}
+
 #[test]
 fn splits_and_removes(rt: HostRuntime) -> Result<(), Fail> {
     let alloc = rt.alloc();
     let mut node = Node::new(alloc, 1, 2, 1);
     fill(alloc, &mut node)?;
-    let upper = node.split(7)?;
-    assert!(rt; has_keys(&node, b"abc") && has_keys(&upper, b"de"));
-    assert!(rt; upper.number == 7 && upper.db == 1 && upper.level == 1 && node.number == 2);
+    assert!(rt; splits(alloc, &mut node)?);
     remove(alloc, &mut node, b'b')?;
     remove(alloc, &mut node, b'x')?;
     assert!(rt; has_keys(&node, b"ac"));
@@ -79,11 +84,14 @@ fn splits_and_removes(rt: HostRuntime) -> Result<(), Fail> {
     Ok(())
 }
 
+fn is_slot(slot: &Slot, key: u8, version: Version) -> bool {
+    slot.version == version && slot.name.key.as_slice() == [key].as_slice()
+}
+
 fn are_slots(slots: &[Slot], rows: &[(u8, Version)]) -> bool {
     let mut same = slots.len() == rows.len();
     for (slot, (key, version)) in slots.iter().zip(rows) {
-        same = same && slot.name.key.as_slice() == [*key].as_slice();
-        same = same && slot.version == *version;
+        same = same && is_slot(slot, *key, *version);
     }
     same
 }
@@ -97,29 +105,54 @@ fn are_copied(slots: &[Slot]) -> Result<bool, AllocError> {
     Ok(true)
 }
 
-#[test]
-fn tells_what_a_delta_shows(rt: HostRuntime) -> Result<(), Fail> {
-    let alloc = rt.alloc();
-    let full = Some(Lsn::new(FileNo(0), 200));
+// The image at offset 200.
+fn image() -> Option<Lsn> {
+    Some(Lsn::new(FileNo(0), 200))
+}
+
+// A node of three records that was logged in full.
+fn settled(alloc: Global) -> Result<Node, Fail> {
     let mut node = Node::new(alloc, 1, 2, 1);
     for (key, offset) in [(b'a', 26), (b'b', 62), (b'd', 98)] {
         put(alloc, &mut node, key, at(offset))?;
     }
-    node.settle(full);
-    assert!(rt; node.changed_slots(alloc)?.is_empty());
+    node.settle(image());
+    Ok(node)
+}
 
-    put(alloc, &mut node, b'c', Version::Unset)?;
-    put(alloc, &mut node, b'd', at(240))?;
-    put(alloc, &mut node, b'a', Version::Deleted)?;
-    remove(alloc, &mut node, b'c')?;
+// Whether a delta shows these slots, and copies of them are the same.
+fn shows(alloc: Global, node: &Node, rows: &[(u8, Version)]) -> Result<bool, AllocError> {
     let changed = node.changed_slots(alloc)?;
-    let rows = [(b'a', Version::Deleted), (b'd', at(240))];
-    assert!(rt; are_slots(changed.as_slice(), &rows) && node.full == full);
-    assert!(rt; are_copied(changed.as_slice())?);
+    Ok(are_slots(changed.as_slice(), rows) && are_copied(changed.as_slice())?)
+}
 
+fn change(alloc: Global, node: &mut Node) -> Result<(), Fail> {
+    put(alloc, node, b'c', Version::Unset)?;
+    put(alloc, node, b'd', at(240))?;
+    put(alloc, node, b'a', Version::Deleted)?;
+    Ok(remove(alloc, node, b'c')?)
+}
+
+#[test]
+fn tells_what_a_delta_shows(rt: HostRuntime) -> Result<(), Fail> {
+    let alloc = rt.alloc();
+    let mut node = settled(alloc)?;
+    assert!(rt; shows(alloc, &node, &[])?);
+    change(alloc, &mut node)?;
+    let rows = [(b'a', Version::Deleted), (b'd', at(240))];
+    assert!(rt; shows(alloc, &node, &rows)? && node.full == image());
+    Ok(())
+}
+
+// No delta can show that a committed slot was lost.
+#[test]
+fn tells_that_no_delta_shows_it(rt: HostRuntime) -> Result<(), Fail> {
+    let alloc = rt.alloc();
+    let mut node = settled(alloc)?;
+    change(alloc, &mut node)?;
     remove(alloc, &mut node, b'a')?;
     assert!(rt; node.full == None);
-    node.settle(full);
+    node.settle(image());
     put(alloc, &mut node, b'b', Version::Unset)?;
     assert!(rt; node.full == None);
     Ok(())

@@ -2,8 +2,8 @@
 use crate::samples::{first, second};
 use je_disk::{Disk, DiskErr};
 use je_lsn::{FileNo, Lsn};
-use je_model::Store;
-use log_replay::{Finding, LogRead, new_environment, read_log};
+use je_model::{Store, Totals};
+use log_replay::{Finding, LogRead, Replayed, new_environment, read_log};
 use mem_disk::MemDisk;
 use std::alloc::Global;
 use std::test::Fail;
@@ -20,24 +20,23 @@ fn read(alloc: Global, files: &[&[u8]]) -> Result<LogRead, DiskErr> {
     read_log(alloc, &mut disk, listed.as_slice())
 }
 
-// Whether the store is one database t, whose keys and data are one byte each, as wanted.
+// Whether a key and its data are this one byte each.
+fn is_pair(key: &[u8], data: &[u8], wanted: (u8, u8)) -> bool {
+    let (k, d) = wanted;
+    key == [k].as_slice() && data == [d].as_slice()
+}
+
+// Whether the store is one database t, with as many pairs as wanted, and those.
 fn has_t(store: &Store, wanted: &[(u8, u8)]) -> bool {
     let [database] = store.databases.as_slice() else {
         return false;
     };
-    if database.name.as_slice() != b"t".as_slice() || database.pairs.len() != wanted.len() {
-        return false;
+    let pairs = database.pairs.as_slice();
+    let mut same = database.name.as_slice() == b"t".as_slice() && pairs.len() == wanted.len();
+    for ((key, data), pair) in pairs.iter().zip(wanted) {
+        same = same && is_pair(key.as_slice(), data.as_slice(), *pair);
     }
-    let mut at = 0usize;
-    for (key, data) in database.pairs.as_slice() {
-        match wanted.get(at) {
-            Some((k, d))
-                if key.as_slice() == [*k].as_slice() && data.as_slice() == [*d].as_slice() => {}
-            _ => return false,
-        }
-        at = at.saturating_add(1);
-    }
-    true
+    same
 }
 
 // Whether the entry at this offset of file 0 is the first that put a wrong record.
@@ -48,30 +47,38 @@ fn is_wrong_at(alloc: Global, bytes: &[u8], offset: u32) -> Result<bool, DiskErr
     Ok(finding == Finding::Tree(Lsn::new(FileNo(0), offset)))
 }
 
+// Whether the replay of both files found all that they have.
+fn is_whole(whole: &Replayed) -> bool {
+    let Totals { databases, records } = whole.totals;
+    has_t(&whole.opening, &[(b'a', b'1'), (b'b', b'2')])
+        && (whole.last_txn, whole.last_db) == (3, 1)
+        && (databases, records) == (1, 2)
+        && (whole.rows.count(0), whole.rows.count(1)) == (1, 2)
+}
+
 #[test]
 fn replays_what_is_committed(rt: HostRuntime) -> Result<(), Fail> {
-    let alloc = rt.alloc();
-    let LogRead::Read(log) = read(alloc, &[first().as_slice(), second().as_slice()])? else {
+    let files = [first().as_slice(), second().as_slice()];
+    let LogRead::Read(log) = read(rt.alloc(), &files)? else {
         return Err(Fail::new("two files are a log"));
     };
-    let whole = log.replayed;
-    assert!(rt; has_t(&whole.opening, &[(b'a', b'1'), (b'b', b'2')]));
-    assert!(rt; whole.last_txn == 3 && whole.last_db == 1);
-    assert!(rt; whole.totals.databases == 1 && whole.totals.records == 2);
-    assert!(rt; whole.rows.count(0) == 1 && whole.rows.count(1) == 2);
+    assert!(rt; is_whole(&log.replayed));
     Ok(())
 }
 
 #[test]
 fn replays_no_change_without_its_commit(rt: HostRuntime) -> Result<(), Fail> {
-    let alloc = rt.alloc();
-    let LogRead::Read(log) = read(alloc, &[&first()[..116]])? else {
+    let LogRead::Read(log) = read(rt.alloc(), &[&first()[..116]])? else {
         return Err(Fail::new("a log without the last commit"));
     };
     assert!(rt; has_t(&log.replayed.opening, &[]) && log.replayed.last_txn == 2);
-    let new = new_environment(alloc);
-    assert!(rt; new.opening.databases.is_empty() && new.rows.count(0) == 0);
     Ok(())
+}
+
+#[test]
+fn begins_with_nothing(rt: HostRuntime) {
+    let new = new_environment(rt.alloc());
+    assert!(rt; new.opening.databases.is_empty() && new.rows.count(0) == 0);
 }
 
 #[test]

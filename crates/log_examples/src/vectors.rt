@@ -3,7 +3,8 @@
 ghost use Rattle.log_entry.specs.Body.{IsEntry};
 
 use crate::entries::torn;
-use je_bytes::{adler32, put_u32};
+use byteorder::{BigEndian, ByteOrder};
+use je_bytes::adler32;
 use je_lsn::{FileNo, Lsn};
 use je_order::{List, Name, Octets, TxnId};
 use log_entry::{ChildSlot, Decoded, Entry, FileUsage, RecordSlot, Root, Torn, decode, encode};
@@ -31,7 +32,9 @@ fn spells(alloc: Global, bytes: &[u8], want: &Entry, want_prev: u32) -> Result<b
     match decode(alloc, bytes)? {
         Decoded::Whole { entry, prev, len } => {
             let same = entry == *want && prev == want_prev && len == bytes.len();
-            Ok(same && is_spelled(alloc, &entry, prev, bytes)?)
+            let spelled = is_spelled(alloc, &entry, prev, bytes);
+            drop(entry);
+            Ok(same && spelled?)
         }
         Decoded::Torn(_) => Ok(false),
     }
@@ -39,7 +42,9 @@ fn spells(alloc: Global, bytes: &[u8], want: &Entry, want_prev: u32) -> Result<b
 
 // Whether the bytes are this entry with this prev field, read and written.
 fn spell(alloc: Global, bytes: &[u8], want: Entry, prev: u32) -> Result<bool, AllocError> {
-    spells(alloc, bytes, &want, prev)
+    let spelled = spells(alloc, bytes, &want, prev);
+    drop(want);
+    spelled
 }
 
 #[test]
@@ -87,14 +92,13 @@ fn spells_an_in(rt: HostRuntime) -> Result<(), Fail> {
 \x00\x01\x6d\x00\x01\x71\
 \x00\x00\x00\x01\x00\x00\x00\x1a";
     let mut slots = List::new(alloc);
-    slots.push(ChildSlot {
-        name: name(alloc, b"", b"")?,
-        child: lsn(0, 0x100),
-    })?;
-    slots.push(ChildSlot {
-        name: name(alloc, b"m", b"q")?,
-        child: lsn(1, 0x1a),
-    })?;
+    for (key, dup, child) in [
+        (b"".as_slice(), b"".as_slice(), lsn(0, 0x100)),
+        (b"m", b"q", lsn(1, 0x1a)),
+    ] {
+        let name = name(alloc, key, dup)?;
+        slots.push(ChildSlot { name, child })?;
+    }
     let entry = Entry::In {
         db: 3,
         node: 9,
@@ -103,6 +107,19 @@ fn spells_an_in(rt: HostRuntime) -> Result<(), Fail> {
     };
     assert!(rt; spell(alloc, bytes, entry, 62)?);
     Ok(())
+}
+
+// Records by key and dup, and where each was put; none where it was deleted.
+fn records(
+    alloc: Global,
+    rows: &[(&[u8], &[u8], Option<Lsn>)],
+) -> Result<List<RecordSlot>, AllocError> {
+    let mut slots = List::new(alloc);
+    for (key, dup, lsn) in rows {
+        let name = name(alloc, key, dup)?;
+        slots.push(RecordSlot { name, lsn: *lsn })?;
+    }
+    Ok(slots)
 }
 
 #[test]
@@ -118,19 +135,12 @@ fn spells_a_bin(rt: HostRuntime) -> Result<(), Fail> {
 \x01\x00\x00\x00\x00\x00\x00\x00\x00\
 \x00\x01\x62\x00\x01\x63\
 \x00\x00\x00\x00\x02\x00\x00\x00\x1a";
-    let mut slots = List::new(alloc);
-    slots.push(RecordSlot {
-        name: name(alloc, b"a", b"")?,
-        lsn: Some(lsn(0, 84)),
-    })?;
-    slots.push(RecordSlot {
-        name: name(alloc, b"b", b"")?,
-        lsn: None,
-    })?;
-    slots.push(RecordSlot {
-        name: name(alloc, b"b", b"c")?,
-        lsn: Some(lsn(2, 26)),
-    })?;
+    let rows: [(&[u8], &[u8], Option<Lsn>); 3] = [
+        (b"a", b"", Some(lsn(0, 84))),
+        (b"b", b"", None),
+        (b"b", b"c", Some(lsn(2, 26))),
+    ];
+    let slots = records(alloc, &rows)?;
     let entry = Entry::Bin {
         db: 3,
         node: 2,
@@ -150,11 +160,7 @@ fn spells_a_delta(rt: HostRuntime) -> Result<(), Fail> {
 \x00\x01\
 \x00\x01\x62\x00\x00\
 \x01\x00\x00\x00\x00\x00\x00\x00\x00";
-    let mut slots = List::new(alloc);
-    slots.push(RecordSlot {
-        name: name(alloc, b"b", b"")?,
-        lsn: None,
-    })?;
+    let slots = records(alloc, &[(b"b", b"", None)])?;
     let entry = Entry::BinDelta {
         db: 3,
         node: 2,
@@ -255,64 +261,61 @@ fn spells_a_summary(rt: HostRuntime) -> Result<(), Fail> {
 
 // A body with a header that has the right length and checksum.
 fn framed(alloc: Global, kind: u8, body: &[u8]) -> Result<Vec<u8>, AllocError> {
-    let mut rest = Vec::new(alloc);
-    rest.push(kind)?;
-    rest.push(0)?;
-    put_u32(&mut rest, 0)?;
-    put_u32(&mut rest, body.len().min(1_000) as u32)?;
-    rest.extend_from_slice(body)?;
-    let mut bytes = Vec::new(alloc);
-    put_u32(&mut bytes, adler32(&rest))?;
-    bytes.extend_from_slice(&rest)?;
+    let len = body.len().min(255) as u8;
+    let header = [0, 0, 0, 0, kind, 0, 0, 0, 0, 0, 0, 0, 0, len];
+    let mut bytes = Vec::from_slice(alloc, &header)?;
+    bytes.extend_from_slice(body)?;
+    let sum = adler32(&bytes[4..]);
+    BigEndian::write_u32(&mut bytes, sum);
     Ok(bytes)
 }
 
 // A body that a field puts out of its kind's limits: of an IN its level or that it has no child; of a BIN
 // a name that is not above the one before it, a state, or an LSN where the record was deleted; one byte
 // more than the fields; a database or a file that is not above the one before it.
+static BODIES: [(u8, &[u8]); 11] = [
+    (
+        7,
+        b"\0\0\0\x03\0\0\0\0\0\0\0\x09\x01\0\x01\0\0\0\0\0\0\0\0\0\0\x01\0",
+    ),
+    (
+        7,
+        b"\0\0\0\x03\0\0\0\0\0\0\0\x09\x41\0\x01\0\0\0\0\0\0\0\0\0\0\x01\0",
+    ),
+    (7, b"\0\0\0\x03\0\0\0\0\0\0\0\x09\x02\0\0"),
+    (
+        8,
+        b"\0\0\0\x03\0\0\0\0\0\0\0\x02\0\x02\0\x01a\0\0\0\0\0\0\0\0\0\0\x54\0\x01a\0\0\0\0\0\0\0\0\0\0\x54",
+    ),
+    (
+        8,
+        b"\0\0\0\x03\0\0\0\0\0\0\0\x02\0\x02\0\x01b\0\0\0\0\0\0\0\0\0\0\x54\0\x01a\0\0\0\0\0\0\0\0\0\0\x54",
+    ),
+    (
+        8,
+        b"\0\0\0\x03\0\0\0\0\0\0\0\x02\0\x01\0\x01a\0\0\x02\0\0\0\0\0\0\0\0",
+    ),
+    (
+        8,
+        b"\0\0\0\x03\0\0\0\0\0\0\0\x02\0\x01\0\x01a\0\0\x01\0\0\0\0\0\0\0\x54",
+    ),
+    (8, b"\0\0\0\x03\0\0\0\0\0\0\0\x02\0\0\0"),
+    (9, b"\0\0\0\x03\0\0\0\0\0\0\0\x02\0\0\0\0\0\0\0\x62\0\x81"),
+    (
+        11,
+        b"\0\0\0\0\0\0\0\x05\0\0\0\0\0\0\0\xc8\0\0\0\0\0\0\0\x1a\0\0\0\0\0\0\0\x07\0\0\0\0\0\0\0\x09\0\0\0\x03\0\0\0\0\0\0\0\0\0\x02\0\0\0\x03\0\0\0\0\0\0\x01\x2c\0\0\0\x03\0\0\0\0\0\0\x01\x90",
+    ),
+    (
+        12,
+        b"\0\0\0\x02\0\0\0\x03\0\0\0\0\0\0\x10\0\0\0\0\0\0\0\0\x64\0\0\0\x02\0\0\0\0\0\0\x13\x88\0\0\0\0\0\0\0\0",
+    ),
+];
+
 #[test]
 fn finds_bodies_of_no_kind(rt: HostRuntime) -> Result<(), Fail> {
-    let alloc = rt.alloc();
-    let rows: [(u8, &[u8]); 11] = [
-        (
-            7,
-            b"\0\0\0\x03\0\0\0\0\0\0\0\x09\x01\0\x01\0\0\0\0\0\0\0\0\0\0\x01\0",
-        ),
-        (
-            7,
-            b"\0\0\0\x03\0\0\0\0\0\0\0\x09\x41\0\x01\0\0\0\0\0\0\0\0\0\0\x01\0",
-        ),
-        (7, b"\0\0\0\x03\0\0\0\0\0\0\0\x09\x02\0\0"),
-        (
-            8,
-            b"\0\0\0\x03\0\0\0\0\0\0\0\x02\0\x02\0\x01a\0\0\0\0\0\0\0\0\0\0\x54\0\x01a\0\0\0\0\0\0\0\0\0\0\x54",
-        ),
-        (
-            8,
-            b"\0\0\0\x03\0\0\0\0\0\0\0\x02\0\x02\0\x01b\0\0\0\0\0\0\0\0\0\0\x54\0\x01a\0\0\0\0\0\0\0\0\0\0\x54",
-        ),
-        (
-            8,
-            b"\0\0\0\x03\0\0\0\0\0\0\0\x02\0\x01\0\x01a\0\0\x02\0\0\0\0\0\0\0\0",
-        ),
-        (
-            8,
-            b"\0\0\0\x03\0\0\0\0\0\0\0\x02\0\x01\0\x01a\0\0\x01\0\0\0\0\0\0\0\x54",
-        ),
-        (8, b"\0\0\0\x03\0\0\0\0\0\0\0\x02\0\0\0"),
-        (9, b"\0\0\0\x03\0\0\0\0\0\0\0\x02\0\0\0\0\0\0\0\x62\0\x81"),
-        (
-            11,
-            b"\0\0\0\0\0\0\0\x05\0\0\0\0\0\0\0\xc8\0\0\0\0\0\0\0\x1a\0\0\0\0\0\0\0\x07\0\0\0\0\0\0\0\x09\0\0\0\x03\0\0\0\0\0\0\0\0\0\x02\0\0\0\x03\0\0\0\0\0\0\x01\x2c\0\0\0\x03\0\0\0\0\0\0\x01\x90",
-        ),
-        (
-            12,
-            b"\0\0\0\x02\0\0\0\x03\0\0\0\0\0\0\x10\0\0\0\0\0\0\0\0\x64\0\0\0\x02\0\0\0\0\0\0\x13\x88\0\0\0\0\0\0\0\0",
-        ),
-    ];
-    for (kind, body) in rows {
-        let bytes = framed(alloc, kind, body)?;
-        assert!(rt; torn(alloc, &bytes)? == Some(Torn::BadKind));
+    for &(kind, body) in &BODIES {
+        let bytes = framed(rt.alloc(), kind, body)?;
+        assert!(rt; torn(rt.alloc(), &bytes)? == Some(Torn::BadKind));
     }
     Ok(())
 }

@@ -10,6 +10,8 @@ pub mod Changes
 pub mod Opening
 pub mod ReplayLaws
 pub mod WrongLaws
+pub mod Mapping
+pub mod Passing
 pub mod GapLaws
 pub mod FilesLaws
 pub mod ListedLaws

@@ -1,16 +1,28 @@
 -- The second replay, in which each put has its LSN for its data.
-use Rattle.std.proofs.Common.{◌≡◌, ℕ, List, [], ◌∷◌, ◌++◌, Option, refl, sym, ap, subst, ◌∙◌, append_assoc}
+use Rattle.std.proofs.Common.{◌≡◌, ◌+◌, ℕ, List, [], ◌∷◌, ◌++◌, Option, refl, sym, ap, subst, ◌∙◌, append_assoc}
 use Rattle.std.proofs.lemmas.List.{append-nil}
 use Rattle.je_disk.specs.States.{Files, content}
 use Rattle.je_lsn.specs.declared.file_no.FileNo.{FileNo}
 use Rattle.log_entry.specs.declared.entry.Entry.{Entry}
+use Rattle.log_entry.specs.Spelling.{size_of}
 use Rattle.log_file.specs.Scan.{found_in}
 use Rattle.log_file.specs.Log.{entries_found, log_in}
 use Rattle.log_replay.specs.declared.replaying.Replaying.{Replaying}
-use Rattle.log_replay.specs.Reading.{marked, marked_log, files_read, lsn_in, lsn_of}
+use Rattle.log_replay.specs.Reading.{marked, marked_entry, marked_log, files_read, lsn_at, lsn_in, lsn_of}
 use Rattle.log_replay.specs.declared.place.Place.{Place}
 use Rattle.log_replay.specs.Rows.{rows_in, data_at}
 use Rattle.log_replay.specs.UnderWay.{IsReplayOf, HasTaken}
+
+-- one entry more is marked
+pub marked_more : (f at len : ℕ) (entries left rest out new : List Entry) (entry made : Entry) → out ++ marked f at left ≡ marked f 26 entries → left ≡ entry ∷ rest →
+    made ≡ marked_entry (lsn_at f at) entry → new ≡ out ++ made ∷ [] → len ≡ size_of entry → new ++ marked f (at + len) rest ≡ marked f 26 entries
+marked_more f at len entries left rest out new entry made so_far is made_is more size =
+    ap (λ (l : List Entry). l ++ marked f (at + len) rest) more
+    ∙ append_assoc out (made ∷ []) (marked f (at + len) rest)
+    ∙ ap (λ (e : Entry). out ++ e ∷ marked f (at + len) rest) made_is
+    ∙ ap (λ (n : ℕ). out ++ marked_entry (lsn_at f at) entry ∷ marked f (at + n) rest) size
+    ∙ ap (λ (l : List Entry). out ++ marked f at l) (sym is)
+    ∙ so_far
 
 -- the entries of some files were replayed with their LSNs, and these files are left
 pub record IsMarking (reads : Files) (files left : List FileNo) (going : Replaying) : Type 0 where

@@ -12,6 +12,8 @@ use Rattle.log_replay.specs.declared.finding.Finding.TheVariants.{Tree}
 use Rattle.log_replay.specs.declared.log_read.ReadLog.{ReadLog}
 use Rattle.log_replay.specs.declared.log_read.LogRead.{LogRead}
 use Rattle.log_replay.specs.declared.log_read.LogRead.TheVariants.{Read, Found}
+use Rattle.log_replay.specs.declared.reading.Weighed.{Weighed}
+use Rattle.log_replay.specs.declared.reading.Weighed.TheVariants.{Answer as Answered, Wrong as WrongAt}
 use Rattle.log_replay.specs.declared.replayed.Replayed.{Replayed}
 use Rattle.log_replay.specs.declared.replayed.Judged.{Judged}
 use Rattle.log_replay.specs.declared.replayed.Judged.TheVariants.{Right, Wrong}
@@ -19,7 +21,7 @@ use Rattle.log_replay.specs.Rows.{rows_in, store_of, IsRising}
 use Rattle.log_replay.specs.Replay.{replayed, nothing_replayed}
 use Rattle.log_replay.specs.Meaning.{meaning_of}
 use Rattle.log_replay.specs.Wrong.{wrong_record}
-use Rattle.log_replay.specs.Reading.{reading_of, files_read}
+use Rattle.log_replay.specs.Reading.{reading_of, files_read, lsn_of}
 use Rattle.log_replay.specs.UnderWay.{IsTailOf}
 
 -- a replay of these entries: its records are those of an environment, and the numbers are those drawn last
@@ -62,3 +64,8 @@ pub record IsReadingOf (tells : Bool) (reads : Files) (files : List FileNo) (rea
   pub told : tells ≡ true → held ≡ files_read reads files
   pub listed : tells ≡ true → IsListing reads files → AreFiles reads held
   pub answer : IsAnswerFor tells held read
+
+-- what files come to that were read: an answer, or a place whose LSN makes one
+abbrev pub IsWeighed : Bool → Files → List FileNo → Weighed → Type 0
+IsWeighed tells reads files (Answered read) = IsReadingOf tells reads files read
+IsWeighed tells reads files (WrongAt place) = (lsn : ℕ) → (tells ≡ true → lsn ≡ lsn_of (log_in (files_read reads files)) place) → IsReadingOf tells reads files (Found (Tree lsn))

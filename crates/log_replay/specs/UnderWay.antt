@@ -87,7 +87,7 @@ pub record HaveFinding (tells : Bool) (reads : Files) (files : List FileNo) (fin
   pub are_of : AreOf tells reads files held
   pub found : finding_in held ≡ Some finding
 
--- what was read of files
-abbrev pub AreRead : Bool → Files → List FileNo → FilesRead → Type 0
-AreRead tells reads files (Stopped finding) = HaveFinding tells reads files finding
-AreRead tells reads files (AllRead going tail) = IsReading tells reads files [] going tail
+-- what was read of files, and replayed of them
+abbrev pub AreRead : Bool → Files → List FileNo → Replaying → FilesRead → Type 0
+AreRead tells reads files going (Stopped finding) = HaveFinding tells reads files finding
+AreRead tells reads files going (AllRead tail) = IsReading tells reads files [] going tail

@@ -1,5 +1,5 @@
 // The changes that wait for a commit.
-ghost use Rattle.std.specs.Prelude.{◌≡◌, ℕ, ◌==◌, [], ◌∷◌, ◌++◌, map, OnOk, if◌then◌else◌};
+ghost use Rattle.std.specs.Prelude.{◌≡◌, ℕ, ◌==◌, [], ◌∷◌, ◌++◌, map, IfOk, OnOk, if◌then◌else◌};
 ghost use Rattle.log_replay.specs.Pending.{as_change, pending_in};
 
 use crate::pending_change::PendingChange;
@@ -23,6 +23,15 @@ impl Model for Pending {
     ghost Value = { Items (ℕ × Items Change) };
 
     ghost view = { λ a. a.changes.entries };
+}
+
+// The one change.
+fn one_change(alloc: Global, change: PendingChange) -> Result<List<PendingChange>, AllocError>
+    ensures { IfOk result (λ changes. changes ≡ change ∷ []) }
+{
+    let mut changes = List::new(alloc);
+    changes.push(change)?;
+    Ok(changes)
 }
 
 impl Pending {
@@ -50,8 +59,7 @@ impl Pending {
                 Ok(())
             }
             None => {
-                let mut changes = List::new(alloc);
-                changes.push(change)?;
+                let changes = one_change(alloc, change)?;
                 self.changes.insert(txn, changes)?;
                 Ok(())
             }

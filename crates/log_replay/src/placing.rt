@@ -1,13 +1,17 @@
 // The place in the log of the entry that gave a record.
-ghost use Rattle.std.specs.Prelude.{◌≡◌, ◌+◌, ◌<◌, ◌^◌, true, Some, IfOk};
+ghost use Rattle.std.specs.Prelude.{◌≡◌, ◌+◌, ◌<◌, ◌^◌, true, [], IfOk, OnOk, option_copied};
+ghost use Rattle.std.specs.Int.{w64, to_be_bytes};
 ghost use Rattle.je_disk.specs.Moments.{now, Passes};
 ghost use Rattle.je_disk.specs.Causes.{HasCause};
 ghost use Rattle.log_entry.specs.Body.{IsEntry};
 ghost use Rattle.log_file.specs.Log.{AreFileEntries, entries_found, log_in};
 ghost use Rattle.log_replay.specs.Reading.{files_read, lsn_in, lsn_of as lsn_of_place, marked, marked_entry};
+ghost use Rattle.log_replay.specs.Rows.{data_at, rows_in};
+ghost use Rattle.log_replay.specs.UnderWay.{HasTaken, IsReplayOf};
 
 use crate::place::Place;
 use crate::replaying::Replaying;
+use crate::rows::Rows;
 use crate::sort_key::SortKey;
 use je_bytes::{Reader, put_u64};
 use je_disk::{Disk, DiskErr};
@@ -20,19 +24,27 @@ use std::alloc::{AllocError, Global};
 // How many bytes a file's header has.
 const HEADER_BYTES: u32 = 26;
 
+// An LSN as the data of a record.
+fn lsn_bytes(alloc: Global, lsn: Lsn) -> Result<Octets, AllocError>
+    ensures { IfOk result (λ bytes. bytes ≡ to_be_bytes w64 lsn) }
+{
+    let mut bytes = Vec::new(alloc);
+    put_u64(&mut bytes, lsn.as_u64())?;
+    Ok(Octets::from_vec(bytes))
+}
+
 // An entry with its LSN for its data.
 fn mark_entry(alloc: Global, entry: Entry, lsn: Lsn) -> Result<Entry, AllocError>
     ensures { IfOk result (λ marked. marked ≡ marked_entry lsn entry) }
 {
     match entry {
         Entry::Put { txn, db, name, .. } => {
-            let mut value = Vec::new(alloc);
-            put_u64(&mut value, lsn.as_u64())?;
+            let value = lsn_bytes(alloc, lsn)?;
             Ok(Entry::Put {
                 txn,
                 db,
                 name,
-                value: Octets::from_vec(value),
+                value,
             })
         }
         other => Ok(other),
@@ -64,11 +76,14 @@ fn entries_of(alloc: Global, scanned: Scanned) -> List<Entry>
     }
 }
 
-// The LSN that a marked put has for its data, 0 where there are fewer bytes.
-fn lsn_from(bytes: &[u8]) -> Lsn
-    ensures { result ≡ lsn_in (Some bytes.now) }
+// The LSN that a marked put has for its data, 0 where there is none or it has fewer bytes.
+fn lsn_from(marked: Option<&Octets>) -> Lsn
+    ensures { result ≡ lsn_in (option_copied marked.entry) }
 {
-    match Reader::new(bytes).u64() {
+    let Some(octets) = marked else {
+        return Lsn::new(FileNo(0), 0);
+    };
+    match Reader::new(octets.as_slice()).u64() {
         Ok(number) => Lsn::new(
             FileNo((number / 0x1_0000_0000) as u32),
             (number % 0x1_0000_0000) as u32,
@@ -77,29 +92,64 @@ fn lsn_from(bytes: &[u8]) -> Lsn
     }
 }
 
-/// The LSN of the put that gave the record of a place, found by a second replay of the files, in which
-/// each put has its LSN for its data.
-pub(crate) fn lsn_of<D: Disk>(
+// The LSN that the record of a place has for its data, 0 where there is no such record.
+fn lsn_at(rows: &Rows, place: &Place) -> Result<Lsn, AllocError>
+    ensures { IfOk result (λ lsn. lsn ≡ lsn_in (data_at place.now.name (rows_in rows.now place.now.db))) }
+{
+    let name = SortKey::new(copy_of(&place.name)?);
+    Ok(lsn_from(rows.get(place.db, &name)))
+}
+
+// Replays the entries of a file that was scanned, each with its LSN for its data.
+fn take_marked(
+    alloc: Global,
+    f: FileNo,
+    scanned: Scanned,
+    replaying: &mut Replaying,
+) -> Result<(), AllocError>
+    requires { AreFileEntries (entries_found scanned.found) }
+    ensures { OnOk result (HasTaken (marked f.0 26 (entries_found scanned.found)) replaying.old replaying.new) }
+{
+    let entries = mark(alloc, f, entries_of(alloc, scanned))?;
+    replaying.take_all(alloc, entries)
+}
+
+// The LSN of the put that gave the record of a place, by a replay that begins.
+fn find_lsn<D: Disk>(
     alloc: Global,
     disk: &mut D,
     files: &[FileNo],
     place: &Place,
+    replaying: &mut Replaying,
 ) -> Result<Lsn, DiskErr>
+    requires { IsReplayOf [] replaying.old }
     ensures lsn { D.tells ≡ true → IfOk result (λ lsn. lsn ≡ lsn_of_place (log_in (files_read (now (D.history disk.old)).reads files.now)) place.now) }
     ensures same { D.tells ≡ true → now (D.history disk.new) ≡ now (D.history disk.old) }
     ensures moments { D.tells ≡ true → Passes (D.history disk.old) (D.history disk.new) (λ s. s ≡ now (D.history disk.old)) }
     ensures jobs { (D.sync_out disk.new ≡ D.sync_out disk.old) × (D.read_out disk.new ≡ D.read_out disk.old) × (D.read_of disk.new ≡ D.read_of disk.old) × (D.drawn disk.new ≡ D.drawn disk.old) }
     ensures cause { HasCause (D.faults disk.old) (D.faults disk.new) result }
 {
-    let mut replaying = Replaying::new(alloc);
     for f in files {
         let scanned = scan(alloc, disk, *f)?;
-        let entries = mark(alloc, *f, entries_of(alloc, scanned))?;
-        replaying.take_all(alloc, entries)?;
+        take_marked(alloc, *f, scanned, replaying)?;
     }
-    let name = SortKey::new(copy_of(&place.name)?);
-    match replaying.rows.get(place.db, &name) {
-        Some(octets) => Ok(lsn_from(octets.as_slice())),
-        None => Ok(Lsn::new(FileNo(0), 0)),
-    }
+    Ok(lsn_at(&replaying.rows, place)?)
+}
+
+/// The LSN of the put that gave the record of a place, found by a second replay of the files, in which
+/// each put has its LSN for its data.
+pub(crate) fn lsn_of<D: Disk>(
+    alloc: Global,
+    disk: &mut D,
+    files: &[FileNo],
+    place: Place,
+) -> Result<Lsn, DiskErr>
+    ensures lsn { D.tells ≡ true → IfOk result (λ lsn. lsn ≡ lsn_of_place (log_in (files_read (now (D.history disk.old)).reads files.now)) place) }
+    ensures same { D.tells ≡ true → now (D.history disk.new) ≡ now (D.history disk.old) }
+    ensures moments { D.tells ≡ true → Passes (D.history disk.old) (D.history disk.new) (λ s. s ≡ now (D.history disk.old)) }
+    ensures jobs { (D.sync_out disk.new ≡ D.sync_out disk.old) × (D.read_out disk.new ≡ D.read_out disk.old) × (D.read_of disk.new ≡ D.read_of disk.old) × (D.drawn disk.new ≡ D.drawn disk.old) }
+    ensures cause { HasCause (D.faults disk.old) (D.faults disk.new) result }
+{
+    let mut replaying = Replaying::new(alloc);
+    find_lsn(alloc, disk, files, &place, &mut replaying)
 }

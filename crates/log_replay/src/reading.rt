@@ -1,12 +1,18 @@
 // Reading the files of a log.
-ghost use Rattle.std.specs.Prelude.{◌≡◌, ◌==◌, ◌<◌, ◌+◌, ◌∷◌, true, Some, None, IfOk, map, option_map, if◌then◌else◌};
+ghost use Rattle.std.specs.Prelude.{◌≡◌, ◌==◌, ◌<◌, ◌+◌, ◌∷◌, [], nat_lt, ℕ, List as Items, Bool, true, Some, None, IfOk, map, length, option_map, if◌then◌else◌};
 ghost use Rattle.je_disk.specs.Moments.{now, Passes};
 ghost use Rattle.je_disk.specs.Causes.{HasCause};
+ghost use Rattle.je_disk.specs.States.{Files, IsRising};
 ghost use Rattle.std.specs.List.Sorted.{IsStrictlyIncreasing};
-ghost use Rattle.log_replay.specs.Reading.{gap_in, gap_behind as gap_behind_number};
-ghost use Rattle.log_replay.specs.UnderWay.{IsFileRead, AreRead};
-ghost use Rattle.je_disk.specs.States.{IsRising};
-ghost use Rattle.log_replay.specs.Answer.{IsReadingOf};
+ghost use Rattle.je_lsn.specs.declared.file_no.FileNo.{FileNo as FileNumber};
+ghost use Rattle.log_file.specs.declared.found.Found.TheVariants.{Run};
+ghost use Rattle.log_file.specs.Scan.{found_in};
+ghost use Rattle.je_lsn.specs.Naming.{last_file};
+ghost use Rattle.log_replay.specs.declared.finding.Finding.TheVariants.{Damaged};
+ghost use Rattle.log_replay.specs.declared.reading.FilesRead.TheVariants.{All as AllRead};
+ghost use Rattle.log_replay.specs.Reading.{finding_behind, gap_in, gap_behind as gap_behind_number, lsn_at};
+ghost use Rattle.log_replay.specs.UnderWay.{IsReplayOf, IsReadOf, IsFileRead, AreRead};
+ghost use Rattle.log_replay.specs.Answer.{IsReadingOf, IsWeighed};
 
 use crate::place::Place;
 use crate::placing::lsn_of;
@@ -16,7 +22,7 @@ use crate::{Finding, LastFile, LogRead, ReadLog};
 use je_disk::{Disk, DiskErr};
 use je_lsn::{FileNo, Lsn};
 use log_file::{FileRun, Found, Scanned, scan};
-use std::alloc::Global;
+use std::alloc::{AllocError, Global};
 
 /// The greatest number of a log file.
 const LAST_FILE: u32 = 0xffff_fffe;
@@ -31,8 +37,65 @@ enum FileRead {
 // What was read of all files: their entries were replayed, with the last file, or a finding.
 #[derive(Drop)]
 enum FilesRead {
-    All(Replaying, Option<LastFile>),
+    All(Option<LastFile>),
     Stopped(Finding),
+}
+
+// What is wrong with a file of so many bytes whose run ends there.
+fn finding_of_run(f: FileNo, is_last: bool, len: u64, end: u32) -> Option<Finding>
+    ensures { result ≡ (if nat_lt last_file f.0 then Some (Damaged (lsn_at f.0 0)) else finding_behind is_last f.0 len end) }
+{
+    if f.0 > LAST_FILE {
+        return Some(Finding::Damaged(Lsn::new(f, 0)));
+    }
+    if !is_last && (end == 0 || u64::from(end) != len) {
+        return Some(Finding::Damaged(Lsn::new(f, end)));
+    }
+    None
+}
+
+// What was read of a file of so many bytes that has a run; its entries are replayed, if it is right.
+fn take_run(
+    alloc: Global,
+    f: FileNo,
+    is_last: bool,
+    len: u64,
+    run: FileRun,
+    replaying: &mut Replaying,
+) -> Result<FileRead, AllocError>
+    ensures { (bytes : Items ℕ) → found_in f.0 bytes ≡ Run run → len ≡ length bytes → IfOk result (IsReadOf is_last f.0 bytes replaying.old replaying.new) }
+{
+    let FileRun { entries, last, end } = run;
+    if let Some(finding) = finding_of_run(f, is_last, len, end) {
+        return Ok(FileRead::Stops(finding));
+    }
+    replaying.take_all(alloc, entries)?;
+    Ok(FileRead::GoesOn(LastFile {
+        file: f,
+        last,
+        end,
+        len,
+    }))
+}
+
+// What was read of a file that was scanned; its entries are replayed, if it is right.
+fn take_file(
+    alloc: Global,
+    f: FileNo,
+    is_last: bool,
+    scanned: Scanned,
+    replaying: &mut Replaying,
+) -> Result<FileRead, AllocError>
+    ensures { (bytes : Items ℕ) → scanned.found ≡ found_in f.0 bytes → scanned.len ≡ length bytes → IfOk result (IsReadOf is_last f.0 bytes replaying.old replaying.new) }
+{
+    let Scanned { found, len } = scanned;
+    match found {
+        Found::VersionUnknown { version } => {
+            Ok(FileRead::Stops(Finding::VersionUnknown { file: f, version }))
+        }
+        Found::Damaged => Ok(FileRead::Stops(Finding::Damaged(Lsn::new(f, 0)))),
+        Found::Run(run) => take_run(alloc, f, is_last, len, run, replaying),
+    }
 }
 
 // Reads a file, and replays its entries.
@@ -49,49 +112,34 @@ fn read_file<D: Disk>(
     ensures jobs { (D.sync_out disk.new ≡ D.sync_out disk.old) × (D.read_out disk.new ≡ D.read_out disk.old) × (D.read_of disk.new ≡ D.read_of disk.old) × (D.drawn disk.new ≡ D.drawn disk.old) }
     ensures cause { HasCause (D.faults disk.old) (D.faults disk.new) result }
 {
-    let Scanned { found, len } = scan(alloc, disk, f)?;
-    match found {
-        Found::VersionUnknown { version } => {
-            Ok(FileRead::Stops(Finding::VersionUnknown { file: f, version }))
-        }
-        Found::Damaged => Ok(FileRead::Stops(Finding::Damaged(Lsn::new(f, 0)))),
-        Found::Run(FileRun { entries, last, end }) => {
-            if f.0 > LAST_FILE {
-                return Ok(FileRead::Stops(Finding::Damaged(Lsn::new(f, 0))));
-            }
-            if !is_last && (end == 0 || u64::from(end) != len) {
-                return Ok(FileRead::Stops(Finding::Damaged(Lsn::new(f, end))));
-            }
-            replaying.take_all(alloc, entries)?;
-            Ok(FileRead::GoesOn(LastFile {
-                file: f,
-                last,
-                end,
-                len,
-            }))
-        }
-    }
+    let scanned = scan(alloc, disk, f)?;
+    Ok(take_file(alloc, f, is_last, scanned, replaying)?)
 }
 
-// Reads the files, in order, and replays their entries.
-fn read_files<D: Disk>(alloc: Global, disk: &mut D, files: &[FileNo]) -> Result<FilesRead, DiskErr>
-    ensures read { IfOk result (AreRead D.tells (now (D.history disk.old)).reads files.now) }
+// Reads the files, in order, and replays their entries behind a replay that begins.
+fn read_files<D: Disk>(
+    alloc: Global,
+    disk: &mut D,
+    files: &[FileNo],
+    replaying: &mut Replaying,
+) -> Result<FilesRead, DiskErr>
+    requires { IsReplayOf [] replaying.old }
+    ensures read { IfOk result (AreRead D.tells (now (D.history disk.old)).reads files.now replaying.new) }
     ensures same { D.tells ≡ true → now (D.history disk.new) ≡ now (D.history disk.old) }
     ensures moments { D.tells ≡ true → Passes (D.history disk.old) (D.history disk.new) (λ s. s ≡ now (D.history disk.old)) }
     ensures jobs { (D.sync_out disk.new ≡ D.sync_out disk.old) × (D.read_out disk.new ≡ D.read_out disk.old) × (D.read_of disk.new ≡ D.read_of disk.old) × (D.drawn disk.new ≡ D.drawn disk.old) }
     ensures cause { HasCause (D.faults disk.old) (D.faults disk.new) result }
 {
-    let mut replaying = Replaying::new(alloc);
     let mut tail = None;
     let mut left = files.len();
     for f in files {
         left -= 1;
-        match read_file(alloc, disk, *f, left == 0, &mut replaying)? {
+        match read_file(alloc, disk, *f, left == 0, replaying)? {
             FileRead::Stops(finding) => return Ok(FilesRead::Stopped(finding)),
             FileRead::GoesOn(file) => tail = Some(file),
         }
     }
-    Ok(FilesRead::All(replaying, tail))
+    Ok(FilesRead::All(tail))
 }
 
 // The number behind a file's, where it is not the other, later file's.
@@ -132,6 +180,48 @@ fn gap_between(files: &[FileNo]) -> Option<FileNo>
     }
 }
 
+// What files come to that were read: an answer, or the place of a record that breaks a rule.
+#[derive(Drop)]
+enum Weighed {
+    Answer(LogRead),
+    Wrong(Place),
+}
+
+// What files come to whose entries were replayed, where none is missing between them.
+fn weigh_records(
+    alloc: Global,
+    replaying: Replaying,
+    tail: Option<LastFile>,
+) -> Result<Weighed, AllocError>
+    ensures { (tells : Bool) (reads : Files) (files : Items FileNumber) → IsRising files → gap_in (map (λ f. f.0) files) ≡ None → AreRead tells reads files replaying (AllRead tail) → IfOk result (IsWeighed tells reads files) }
+{
+    match judge(alloc, replaying)? {
+        Judged::Right(replayed) => Ok(Weighed::Answer(LogRead::Read(ReadLog { replayed, tail }))),
+        Judged::Wrong(place) => Ok(Weighed::Wrong(place)),
+    }
+}
+
+// What files come to that were read, with what was replayed of them.
+fn weigh(
+    alloc: Global,
+    files: &[FileNo],
+    read: FilesRead,
+    replaying: Replaying,
+) -> Result<Weighed, AllocError>
+    requires { IsRising files.now }
+    ensures { (tells : Bool) (reads : Files) → AreRead tells reads files.now replaying read → IfOk result (IsWeighed tells reads files.now) }
+{
+    let tail = match read {
+        FilesRead::All(tail) => tail,
+        FilesRead::Stopped(finding) => return Ok(Weighed::Answer(LogRead::Found(finding))),
+    };
+    if let Some(missing) = gap_between(files) {
+        let finding = Finding::Missing(Lsn::new(missing, 0));
+        return Ok(Weighed::Answer(LogRead::Found(finding)));
+    }
+    weigh_records(alloc, replaying, tail)
+}
+
 /// Reads the files of a log whose numbers these are, rising: each once, whole, and each once more where
 /// a record breaks a rule. Where the disk tells, and these are all its files, the answer is what they
 /// mean, or the first finding. The disk's state stays the same, and so do the jobs that are out. `Failed`
@@ -145,17 +235,12 @@ pub fn read_log<D: Disk>(alloc: Global, disk: &mut D, files: &[FileNo]) -> Resul
     ensures jobs { (D.sync_out disk.new ≡ D.sync_out disk.old) × (D.read_out disk.new ≡ D.read_out disk.old) × (D.read_of disk.new ≡ D.read_of disk.old) × (D.drawn disk.new ≡ D.drawn disk.old) }
     ensures cause { HasCause (D.faults disk.old) (D.faults disk.new) result }
 {
-    let (replaying, tail) = match read_files(alloc, disk, files)? {
-        FilesRead::All(replaying, tail) => (replaying, tail),
-        FilesRead::Stopped(finding) => return Ok(LogRead::Found(finding)),
-    };
-    if let Some(missing) = gap_between(files) {
-        return Ok(LogRead::Found(Finding::Missing(Lsn::new(missing, 0))));
-    }
-    match judge(alloc, replaying)? {
-        Judged::Right(replayed) => Ok(LogRead::Read(ReadLog { replayed, tail })),
-        Judged::Wrong(place) => {
-            let lsn = lsn_of(alloc, disk, files, &place)?;
+    let mut replaying = Replaying::new(alloc);
+    let read = read_files(alloc, disk, files, &mut replaying)?;
+    match weigh(alloc, files, read, replaying)? {
+        Weighed::Answer(answer) => Ok(answer),
+        Weighed::Wrong(place) => {
+            let lsn = lsn_of(alloc, disk, files, place)?;
             Ok(LogRead::Found(Finding::Tree(lsn)))
         }
     }

@@ -1,10 +1,11 @@
 // What a replay found.
-ghost use Rattle.std.specs.Prelude.{◌≡◌, ℕ, List as Items, [], length, IfOk};
+ghost use Rattle.std.specs.Prelude.{◌≡◌, ℕ, List as Items, [], length, true, IfOk};
 ghost use Rattle.log_entry.specs.declared.entry.Entry.{Entry as AnyEntry};
 ghost use Rattle.je_model.specs.Store.{no_databases, record_count};
-ghost use Rattle.log_replay.specs.Rows.{rows_in, store_of, IsRising};
+ghost use Rattle.log_replay.specs.Rows.{rows_in, store_of, is_catalog_row, IsRising};
 ghost use Rattle.log_replay.specs.UnderWay.{IsReplayOf};
 ghost use Rattle.log_replay.specs.Answer.{IsJudged};
+ghost use Rattle.std.specs.List.{list_all};
 
 use crate::place::Place;
 use crate::replaying::Replaying;
@@ -54,27 +55,32 @@ pub(crate) enum Judged {
     Wrong(Place),
 }
 
+// The store of a replay's records, which are those of an environment, and how much it holds.
+fn opened(alloc: Global, rows: &Rows) -> Result<(Store, Totals), AllocError>
+    requires { list_all is_catalog_row (rows_in rows.now 0) ≡ true }
+    ensures store { IfOk result (λ opened. opened.0 ≡ store_of (rows_in rows.now)) }
+    ensures databases { IfOk result (λ opened. opened.1.databases ≡ length opened.0.databases) }
+    ensures records { IfOk result (λ opened. opened.1.records ≡ record_count opened.0) }
+{
+    let opening = rows.store(alloc)?;
+    let totals = totals_of(&opening)?;
+    Ok((opening, totals))
+}
+
 /// What comes of a replay that has all entries of a log.
 pub(crate) fn judge(alloc: Global, replaying: Replaying) -> Result<Judged, AllocError>
     ensures { IfOk result (λ judged. (entries : Items AnyEntry) → IsReplayOf entries replaying → IsJudged entries judged) }
 {
-    let Replaying {
-        rows,
-        pending: _,
-        last_txn,
-        last_db,
-    } = replaying;
-    if let Some(place) = rows.wrong_record(alloc)? {
+    if let Some(place) = replaying.rows.wrong_record(alloc)? {
         return Ok(Judged::Wrong(place));
     }
-    let opening = rows.store(alloc)?;
-    let totals = totals_of(&opening)?;
+    let (opening, totals) = opened(alloc, &replaying.rows)?;
     Ok(Judged::Right(Replayed {
-        rows,
+        rows: replaying.rows,
         opening,
         totals,
-        last_txn,
-        last_db,
+        last_txn: replaying.last_txn,
+        last_db: replaying.last_db,
     }))
 }
 

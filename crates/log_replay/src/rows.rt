@@ -96,8 +96,7 @@ impl Rows {
         match self.databases.get_mut(&db) {
             Some(table) => table.set(name, value),
             None => {
-                let mut table = Table::new(alloc);
-                table.set(name, value)?;
+                let table = Table::with_record(alloc, name, value)?;
                 self.databases.insert(db, table)?;
                 Ok(())
             }

@@ -43,6 +43,24 @@ fn is_right(name: &Name, number: u32, before: &[u32]) -> bool
         && before.len() < MOST_DATABASES as usize
 }
 
+// Copies of the key and data of a record.
+fn pair_in(name: &SortKey, data: &Octets) -> Result<(Octets, Octets), AllocError>
+    ensures { IfOk result (λ pair. pair ≡ pair_of (name.now, «data».now)) }
+{
+    Ok((name.name().key.clone()?, data.clone()?))
+}
+
+// The database that a record of a right catalog names.
+fn named_in(alloc: Global, name: &SortKey, data: &Octets) -> Result<Named, AllocError>
+    requires { is_catalog_row (name.now, «data».now) ≡ true }
+    ensures { IfOk result (λ named. named ≡ named_by (name.now, «data».now)) }
+{
+    Ok(Named {
+        name: Word::from_slice(alloc, name.name().key.as_slice())?,
+        number: number_of(data.as_slice()),
+    })
+}
+
 impl Table {
     /// No records. It takes no memory.
     pub(crate) fn new(alloc: Global) -> Table
@@ -51,6 +69,16 @@ impl Table {
         Table {
             records: BTreeMap::new(alloc),
         }
+    }
+
+    /// The one record of that name and data.
+    pub(crate) fn with_record(alloc: Global, name: Name, value: Octets) -> Result<Table, AllocError>
+        ensures record { IfOk result (λ table. table ≡ rows_with name (Some value) []) }
+        ensures rising { IfOk result (λ table. IsRising table) }
+    {
+        let mut table = Table::new(alloc);
+        table.set(name, value)?;
+        Ok(table)
     }
 
     pub(crate) fn len(&self) -> usize
@@ -143,8 +171,7 @@ impl Table {
     {
         let mut pairs = Vec::new(alloc);
         for (key, data) in &self.records {
-            let name = key.name();
-            pairs.push((name.key.clone()?, data.clone()?))?;
+            pairs.push(pair_in(key, data)?)?;
         }
         Ok(List::from_vec(pairs))
     }
@@ -156,10 +183,7 @@ impl Table {
     {
         let mut catalog = Vec::new(alloc);
         for (key, data) in &self.records {
-            catalog.push(Named {
-                name: Word::from_slice(alloc, key.name().key.as_slice())?,
-                number: number_of(data.as_slice()),
-            })?;
+            catalog.push(named_in(alloc, key, data)?)?;
         }
         Ok(List::from_vec(catalog))
     }

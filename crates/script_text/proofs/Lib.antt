@@ -4,3 +4,4 @@ mod Reading
 mod Scripted
 mod Sending
 mod Waits
+mod Gets

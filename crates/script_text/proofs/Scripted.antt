@@ -1,5 +1,5 @@
 -- A script's plan has only calls that the grammar has lines for.
-use Rattle.std.proofs.Common.{◌≡◌, ◌+◌, ◌&&◌, ℕ, List, [], ◌∷◌, ◌++◌, Bool, true, false, cond, not, nat_lt, Option, Some, None, Result, Ok, Err, option_to_list, refl, sym, ap, ◌∙◌, subst}
+use Rattle.std.proofs.Common.{◌≡◌, ◌+◌, ◌&&◌, ℕ, List, [], ◌∷◌, ◌++◌, Bool, true, false, cond, not, nat_lt, Option, Some, None, Result, Ok, Err, option_to_list, refl, subst}
 use Rattle.std.specs.Prelude.{IfOk, codes, ◌||◌}
 use Rattle.std.specs.List.{list_all}
 use Rattle.std.specs.Str.{bytes_eq}
@@ -14,7 +14,7 @@ use Rattle.je_model.specs.declared.plan.RunPlan.{RunPlan}
 use Rattle.script_text.specs.declared.parsing.TheConstants.{MOST_LINES}
 use Rattle.script_text.specs.declared.parsing.ParseErr.{ParseErr}
 use Rattle.script_text.specs.Words.{words_of}
-use Rattle.script_text.specs.Grammar.{lines_of, session_of, bytes_of, create_of, put_call, put_of, get_call, get_of, delete_call, delete_of, call_of, given_by, given_of, is_skipped, good_or_bad, line_gives, before_others, and_then, lines_give, as_plan, plan_of, Gives, has_line, is_line}
+use Rattle.script_text.specs.Grammar.{lines_of, session_of, bytes_of, create_of, put_call, put_of, get_call, get_of, delete_call, delete_of, call_of, given_by, given_of, is_skipped, good_or_bad, line_gives, and_then, lines_give, as_plan, plan_of, Gives, has_line, is_line}
 
 -- ---- calls
 

@@ -5,7 +5,9 @@ use Rattle.std.proofs.lemmas.List.{append-nil, take-append-drop, take-append-le,
 use Rattle.je_io.specs.Faults.{Rose}
 use Rattle.je_io.specs.Sink.{Gains, GainsPart}
 use Rattle.je_io.proofs.Flow.{gains_then, gains_further, gains_none}
-use Rattle.script_text.specs.Report.{line_if_any}
+use Rattle.je_model.specs.declared.answer.Answer.{Answer}
+use Rattle.je_model.specs.declared.answer.Answer.TheVariants.{Done, Logged, Durable, Rec, Names, NotFound, KeyExist, NoDatabase, NameTaken, TooMany, TooLong, LogFull, IdsEnded, DiskFault, Invalid}
+use Rattle.script_text.specs.Report.{answer_text, line_if_any, word_text}
 use Rattle.script_text.specs.Page.{Held, Point, point, held_of, Sends, Adds}
 
 -- a count that rose later rose
@@ -124,3 +126,22 @@ pub adds_line : {a b c d : Point} (session line : ℕ) (text : Option (List ℕ)
     Adds a b (decimal line ++ codes " s" ++ decimal session ++ codes " ") → Adds b c (unwrap_or text []) → Adds c d (codes "\n") → Adds a d (line_if_any session line text)
 adds_line session line (Some text) there front middle last = adds_then (adds_then front middle) last
 adds_line session line None there front middle last = cc
+
+-- the text of an answer that is a word, or has none
+pub word_is : (a : Answer) → ((key value : List ℕ) → a ≡ Rec key value → ⊥) → ((names : List (List ℕ)) → a ≡ Names names → ⊥) → ((n : ℕ) → a ≡ TooMany n → ⊥) → ((n : ℕ) → a ≡ TooLong n → ⊥) →
+    word_text a ≡ unwrap_or (answer_text a) []
+word_is Done rec names many long = refl
+word_is (Logged commit) rec names many long = refl
+word_is (Durable commit) rec names many long = refl
+word_is (Rec key value) rec names many long = absurd (rec key value refl)
+word_is (Names ns) rec names many long = absurd (names ns refl)
+word_is NotFound rec names many long = refl
+word_is KeyExist rec names many long = refl
+word_is NoDatabase rec names many long = refl
+word_is NameTaken rec names many long = refl
+word_is (TooMany n) rec names many long = absurd (many n refl)
+word_is (TooLong n) rec names many long = absurd (long n refl)
+word_is LogFull rec names many long = refl
+word_is IdsEnded rec names many long = refl
+word_is DiskFault rec names many long = refl
+word_is (Invalid first) rec names many long = refl

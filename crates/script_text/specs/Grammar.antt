@@ -73,6 +73,12 @@ get_of (db ∷ key ∷ []) = if is_word db then get_call db false (bytes_of key)
 get_of (db ∷ key ∷ rmw ∷ []) = if is_word db && bytes_eq rmw (codes "rmw") then get_call db true (bytes_of key) else None
 get_of words = None
 
+-- whether a get is for a change, by the words behind its key; none where they are no get's
+abbrev pub rmw_of : List (List ℕ) → Option Bool
+rmw_of [] = Some false
+rmw_of (rmw ∷ []) = if bytes_eq rmw (codes "rmw") then Some true else None
+rmw_of words = None
+
 -- `delete DB K`
 abbrev pub delete_call : List ℕ → Option (List ℕ) → Option Call
 delete_call db (Some key) = Some (Delete db key)

@@ -36,6 +36,19 @@ answer_text IdsEnded = Some (codes "idsended")
 answer_text DiskFault = Some (codes "diskfault")
 answer_text (Invalid first) = Some (codes "invalid")
 
+-- the text of an answer that says no more than a word; nothing for the others
+abbrev pub word_text : Answer → List ℕ
+word_text Done = codes "ok"
+word_text NotFound = codes "notfound"
+word_text KeyExist = codes "keyexist"
+word_text NoDatabase = codes "nodatabase"
+word_text NameTaken = codes "nametaken"
+word_text LogFull = codes "logfull"
+word_text IdsEnded = codes "idsended"
+word_text DiskFault = codes "diskfault"
+word_text (Invalid first) = codes "invalid"
+word_text answer = []
+
 -- a line of the report: the line of the script, the session and the text
 abbrev pub line_text : ℕ → ℕ → List ℕ → List ℕ
 line_text session line text = decimal line ++ codes " s" ++ decimal session ++ codes " " ++ text ++ codes "\n"

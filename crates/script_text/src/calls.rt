@@ -1,7 +1,7 @@
 // The forms of calls.
 ghost use Rattle.std.specs.Prelude.{◌≡◌, IfOk, if◌then◌else◌};
 ghost use Rattle.je_order.specs.Words.{is_word};
-ghost use Rattle.script_text.specs.Grammar.{call_of, create_of, put_of, get_of, get_call, delete_of, bytes_of};
+ghost use Rattle.script_text.specs.Grammar.{call_of, create_of, put_of, get_of, get_call, rmw_of, delete_of, bytes_of};
 
 use crate::bytes::bytes_of;
 use crate::words::Words;
@@ -70,6 +70,19 @@ fn put_of(alloc: Global, mut words: Words) -> Result<Option<Call>, AllocError>
     Ok(Some(Call::Put { db, key, value }))
 }
 
+// Whether a get is for a change, by the words behind its key; none where they are no get's.
+fn rmw_of(mut words: Words) -> Option<bool>
+    ensures { result ≡ rmw_of words.entry }
+{
+    let Some(rmw) = words.next() else {
+        return Some(false);
+    };
+    if words.next().is_some() || rmw != b"rmw".as_slice() {
+        return None;
+    }
+    Some(true)
+}
+
 fn get_of(alloc: Global, mut words: Words) -> Result<Option<Call>, AllocError>
     ensures { IfOk result (λ call. call ≡ get_of words.entry) }
 {
@@ -79,13 +92,10 @@ fn get_of(alloc: Global, mut words: Words) -> Result<Option<Call>, AllocError>
     let Some(key) = words.next() else {
         return Ok(None);
     };
-    let Some(rmw) = words.next() else {
-        return plain_get(alloc, db, key, false);
-    };
-    if words.next().is_some() || rmw != b"rmw".as_slice() {
-        return Ok(None);
+    match rmw_of(words) {
+        Some(rmw) => plain_get(alloc, db, key, rmw),
+        None => Ok(None),
     }
-    plain_get(alloc, db, key, true)
 }
 
 fn plain_get(alloc: Global, db: &[u8], key: &[u8], rmw: bool) -> Result<Option<Call>, AllocError>

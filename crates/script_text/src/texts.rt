@@ -3,7 +3,7 @@ ghost use Rattle.std.specs.Prelude.{◌≡◌, ◌++◌, ◌∷◌, [], codes, d
 ghost use Rattle.hex.specs.Hex.{encode_lower};
 ghost use Rattle.script_text.specs.Page.{Adds, point};
 ghost use Rattle.std.specs.List.{flat_map};
-ghost use Rattle.script_text.specs.Report.{answer_text, bytes_text, line_if_any, line_text, name_text};
+ghost use Rattle.script_text.specs.Report.{answer_text, bytes_text, line_if_any, line_text, name_text, word_text};
 
 use crate::page::Page;
 use itoa::Buffer;
@@ -102,27 +102,35 @@ fn put_with_number<K: Sink>(page: &mut Page, out: &mut K, text: &[u8], number: u
     put_number(page, out, number);
 }
 
+// The text of an answer that says no more than a word; no bytes for the others.
+fn word_of(answer: &Answer) -> &[u8]
+    ensures { result.now ≡ word_text answer.now }
+{
+    match answer {
+        Answer::Done => b"ok",
+        Answer::NotFound => b"notfound",
+        Answer::KeyExist => b"keyexist",
+        Answer::NoDatabase => b"nodatabase",
+        Answer::NameTaken => b"nametaken",
+        Answer::LogFull => b"logfull",
+        Answer::IdsEnded => b"idsended",
+        Answer::DiskFault => b"diskfault",
+        Answer::Invalid { first: _ } => b"invalid",
+        _ => b"",
+    }
+}
+
 fn put_answer<K: Sink>(page: &mut Page, out: &mut K, answer: &Answer)
     ensures { Adds (point (K.written out.old) (K.faults out.old) page.old)
         (point (K.written out.new) (K.faults out.new) page.new)
         (unwrap_or (answer_text answer.now) []) }
 {
     match answer {
-        Answer::Done => page.put(out, b"ok"),
-        Answer::Logged { commit: _ } => page.put(out, b""),
-        Answer::Durable { commit: _ } => page.put(out, b""),
         Answer::Rec { key, value } => put_record(page, out, key.as_slice(), value.as_slice()),
         Answer::Names { names } => put_list(page, out, names.as_slice()),
-        Answer::NotFound => page.put(out, b"notfound"),
-        Answer::KeyExist => page.put(out, b"keyexist"),
-        Answer::NoDatabase => page.put(out, b"nodatabase"),
-        Answer::NameTaken => page.put(out, b"nametaken"),
         Answer::TooMany { count } => put_with_number(page, out, b"toomany ", u64::from(*count)),
         Answer::TooLong { length } => put_with_number(page, out, b"toolong ", *length),
-        Answer::LogFull => page.put(out, b"logfull"),
-        Answer::IdsEnded => page.put(out, b"idsended"),
-        Answer::DiskFault => page.put(out, b"diskfault"),
-        Answer::Invalid { first: _ } => page.put(out, b"invalid"),
+        _ => page.put(out, word_of(answer)),
     }
 }
 

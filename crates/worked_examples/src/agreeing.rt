@@ -1,8 +1,9 @@
 // The program's answers beside the plain program's.
 use crate::fixture::run_script;
-use je_model::{Answer, Event, Store, eval};
+use je_model::{Answer, Call, Event, Store, eval};
 use mem_disk::MemDisk;
 use std::alloc::{AllocError, Global};
+use std::process::Abort;
 use std::test::Fail;
 
 // Three databases, one of them made late, and keys that are prefixes of each other or empty. No name
@@ -41,40 +42,46 @@ s5 delete u 00\n\
 s5 put u 00 00\n\
 s5 get s 61\n";
 
-// The answer that a session has of a call at the end: a commit that was logged is done.
-fn settled(answer: &Answer) -> Result<Answer, AllocError> {
-    Ok(match answer {
-        Answer::Logged { .. } | Answer::Done => Answer::Done,
-        Answer::Rec { key, value } => Answer::Rec {
-            key: key.clone()?,
-            value: value.clone()?,
-        },
-        Answer::NotFound => Answer::NotFound,
-        Answer::NoDatabase => Answer::NoDatabase,
-        // no other answer comes in this script
-        _ => Answer::LogFull,
-    })
+// Whether a session has this answer of a call at the end: a commit that was logged is done.
+fn is_answered(answer: &Answer, want: &Answer) -> bool {
+    match answer {
+        Answer::Logged { .. } => *want == Answer::Done,
+        _ => answer == want,
+    }
+}
+
+// The store after a call, which was answered as the plain program answers it.
+fn follow(
+    rt: &impl Abort,
+    alloc: Global,
+    store: &Store,
+    call: &Call,
+    answer: &Answer,
+) -> Result<Store, AllocError> {
+    let (want, after) = eval(alloc, store, call)?;
+    assert!(rt; is_answered(answer, &want), "{call:?}");
+    Ok(after)
+}
+
+// How many calls the journal has, each answered as the plain program answers it.
+fn follow_all(rt: &impl Abort, alloc: Global, journal: &[Event]) -> Result<u32, AllocError> {
+    let mut store = Store::new(alloc);
+    let mut calls = 0u32;
+    for event in journal {
+        if let Event::Call { call, answer, .. } = event {
+            store = follow(rt, alloc, &store, call, answer)?;
+            calls = calls.saturating_add(1);
+        }
+    }
+    Ok(calls)
 }
 
 #[test]
 fn as_the_plain_program(rt: HostRuntime) -> Result<(), Fail> {
     let alloc = rt.alloc();
     let ran = run_script(alloc, MemDisk::new(alloc), SCRIPT)?;
-    let mut store = Store::new(alloc);
-    let mut calls = 0u32;
-    for event in ran.journal.as_slice() {
-        if let Event::Call { call, answer, .. } = event {
-            let (want, after) = eval(alloc, &store, call)?;
-            assert_eq!(rt; settled(answer)?, want, "{call:?}");
-            store = after;
-            calls = calls.saturating_add(1);
-        }
-    }
-    assert_eq!(rt; calls, 33);
-    assert!(rt;
-        ran.text
-            .as_str()
-            .ends_with("\nend commits 13 databases 3 records 5\n")
-    );
+    assert!(rt; follow_all(&rt, alloc, &ran.journal)? == 33);
+    let end = "\nend commits 13 databases 3 records 5\n";
+    assert!(rt; ran.text().ends_with(end));
     Ok(())
 }

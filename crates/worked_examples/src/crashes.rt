@@ -1,6 +1,6 @@
 // Runs that stop at each call of the disk. What a crash may leave then opens to the commits that were
 // durable, or to those and the one that was under way.
-use crate::fixture::{FIRST, Ran, run_script, run_small, strings};
+use crate::fixture::{FIRST, RUN, RUN_SMALL, Ran, run_script, run_words, strings};
 use je_lsn::FileNo;
 use je_model::{Answer, Event};
 use mem_disk::MemDisk;
@@ -59,24 +59,32 @@ struct Prefixes {
     found: Vec<usize>,
 }
 
+impl Prefixes {
+    // Which of the texts this is, at least so far on; none where it is no such text.
+    fn place_of(&self, text: &str, least: usize) -> Option<usize> {
+        for (count, wanted) in self.texts.iter().enumerate().skip(least) {
+            if wanted.as_str() == text {
+                return Some(count);
+            }
+        }
+        None
+    }
+}
+
 // How many commits the files mean, at least so many; none where they do not open, or mean none of these.
 fn opens_to(
     alloc: Global,
     image: Files,
     prefixes: &Prefixes,
     least: usize,
-) -> Result<Option<usize>, Fail> {
+) -> Result<Option<usize>, AllocError> {
     let disk = MemDisk::with_files(alloc, image)?;
     let ran = run_script(alloc, disk, &prefixes.reading)?;
-    if ran.status != 0 {
-        return Ok(None);
+    if ran.status == 0 {
+        Ok(prefixes.place_of(ran.text(), least))
+    } else {
+        Ok(None)
     }
-    for (count, text) in prefixes.texts.iter().enumerate().skip(least) {
-        if ran.text == *text {
-            return Ok(Some(count));
-        }
-    }
-    Ok(None)
 }
 
 // The same where the last file is cut to a length. Images that were opened before are not opened again.
@@ -86,7 +94,7 @@ fn cut_opens_to(
     len: usize,
     prefixes: &mut Prefixes,
     least: usize,
-) -> Result<Option<usize>, Fail> {
+) -> Result<Option<usize>, AllocError> {
     if let Some(count) = prefixes.found.get(len) {
         return Ok(Some(*count));
     }
@@ -108,18 +116,83 @@ fn assert_found(rt: &impl Abort, found: Option<usize>, least: usize) {
     }
 }
 
+// Whether a crash leaves the file whole.
+fn is_left_whole(
+    alloc: Global,
+    disk: &MemDisk,
+    f: FileNo,
+    bytes: &[u8],
+) -> Result<bool, AllocError> {
+    let mark = disk.mark(alloc, f)?;
+    let len = bytes.len();
+    Ok(mark.must && mark.stable.len() == len && mark.reach == len as u64)
+}
+
 // Each file but the last one is left whole by any crash.
 fn assert_earlier_stand(
     rt: &impl Abort,
     alloc: Global,
     disk: &MemDisk,
-    files: &Files,
-) -> Result<(), Fail> {
+    files: &[(FileNo, Vec<u8>)],
+) -> Result<(), AllocError> {
     let earlier = files.len().saturating_sub(1);
     for (f, bytes) in files.iter().take(earlier) {
-        let mark = disk.mark(alloc, *f)?;
-        assert!(rt; mark.must && mark.stable.len() == bytes.len());
-        assert!(rt; mark.reach == bytes.len() as u64);
+        assert!(rt; is_left_whole(alloc, disk, *f, bytes)?);
+    }
+    Ok(())
+}
+
+// The image opens to so many commits or to one more.
+fn assert_opens(
+    rt: &impl Abort,
+    alloc: Global,
+    image: Files,
+    prefixes: &Prefixes,
+    least: usize,
+) -> Result<(), AllocError> {
+    let found = opens_to(alloc, image, prefixes, least)?;
+    assert_found(rt, found, least);
+    Ok(())
+}
+
+// What a crash may leave of the last file: the shortest piece, and whether the file may be gone.
+fn last_mark(
+    rt: &impl Abort,
+    alloc: Global,
+    disk: &MemDisk,
+    f: FileNo,
+    len: usize,
+) -> Result<(usize, bool), AllocError> {
+    let mark = disk.mark(alloc, f)?;
+    assert!(rt; mark.may && mark.reach == len as u64);
+    Ok((mark.stable.len(), !mark.must))
+}
+
+// The files, with each piece of the last one that a crash may leave, open to so many commits or to one
+// more.
+fn assert_pieces_open(
+    rt: &impl Abort,
+    alloc: Global,
+    disk: &MemDisk,
+    files: &Files,
+    prefixes: &mut Prefixes,
+    least: usize,
+) -> Result<(), AllocError> {
+    let Some((f, bytes)) = files.last() else {
+        return assert_opens(rt, alloc, Vec::new(alloc), prefixes, least);
+    };
+    if prefixes.last != *f {
+        prefixes.last = *f;
+        prefixes.found.clear();
+    }
+    let (shortest, may_go) = last_mark(rt, alloc, disk, *f, bytes.len())?;
+    if may_go {
+        let image = without_last(alloc, files)?;
+        assert_opens(rt, alloc, image, prefixes, least)?;
+    }
+    for len in shortest..bytes.len() + 1 {
+        let found = cut_opens_to(alloc, files, len, prefixes, least)?;
+        assert_found(rt, found, least);
     }
     Ok(())
 }
@@ -131,72 +204,86 @@ fn assert_images_open(
     alloc: Global,
     ran: &Ran,
     prefixes: &mut Prefixes,
-) -> Result<(), Fail> {
+) -> Result<(), AllocError> {
     let least = durable(&ran.journal) as usize;
     let files = ran.disk.files(alloc)?;
     assert_earlier_stand(rt, alloc, &ran.disk, &files)?;
-    let Some((f, bytes)) = files.last() else {
-        let found = opens_to(alloc, Vec::new(alloc), prefixes, least)?;
-        assert_found(rt, found, least);
-        return Ok(());
-    };
-    if prefixes.last != *f {
-        prefixes.last = *f;
-        prefixes.found.clear();
-    }
-    let mark = ran.disk.mark(alloc, *f)?;
-    assert!(rt; mark.may && mark.reach == bytes.len() as u64);
-    if !mark.must {
-        let image = without_last(alloc, &files)?;
-        assert_found(rt, opens_to(alloc, image, prefixes, least)?, least);
-    }
-    for len in mark.stable.len()..bytes.len() + 1 {
-        assert_found(
-            rt,
-            cut_opens_to(alloc, &files, len, prefixes, least)?,
-            least,
-        );
-    }
-    Ok(())
+    assert_pieces_open(rt, alloc, &ran.disk, &files, prefixes, least)
 }
 
-// The first example: the store before it, with the database, and with the record.
-#[test]
-fn stops_in_the_first_example(rt: HostRuntime) -> Result<(), Fail> {
-    let alloc = rt.alloc();
+// A run over a disk that stops after so many calls: how many files it leaves where it came to its end.
+fn stop_after(
+    rt: &impl Abort,
+    alloc: Global,
+    words: &[&str],
+    script: &[u8],
+    calls: u64,
+    prefixes: &mut Prefixes,
+) -> Result<Option<usize>, AllocError> {
+    let mut disk = MemDisk::new(alloc);
+    disk.stop_after(calls);
+    let ran = run_words(alloc, words, disk, script)?;
+    assert_images_open(rt, alloc, &ran, prefixes)?;
+    if ran.status == 0 {
+        Ok(Some(ran.disk.files(alloc)?.len()))
+    } else {
+        Ok(None)
+    }
+}
+
+// Such runs, each one call longer, up to one that comes to its end: how many files that one leaves. None
+// where 1,000 calls are too few.
+fn stop_at_each_call(
+    rt: &impl Abort,
+    alloc: Global,
+    words: &[&str],
+    script: &[u8],
+    prefixes: &mut Prefixes,
+) -> Result<Option<usize>, AllocError> {
+    for calls in 0..1_000u64 {
+        let files = stop_after(rt, alloc, words, script, calls, prefixes)?;
+        if files.is_some() {
+            return Ok(files);
+        }
+    }
+    Ok(None)
+}
+
+// What is read of the first example: the store before it, with the database, and with the record.
+fn first_prefixes(alloc: Global) -> Result<Prefixes, AllocError> {
     let texts = [
         "1 s1 nodatabase\nend commits 0 databases 0 records 0\n",
         "1 s1 notfound\nend commits 0 databases 1 records 0\n",
         "1 s1 ok 61 31\nend commits 0 databases 1 records 1\n",
     ];
-    let mut prefixes = Prefixes {
+    Ok(Prefixes {
         reading: Vec::from_slice(alloc, b"s1 get t 61\n")?,
         texts: strings(alloc, &texts)?,
         last: FileNo(0),
         found: Vec::new(alloc),
-    };
-    let mut whole = false;
-    for last in 0..100u64 {
-        let mut disk = MemDisk::new(alloc);
-        disk.stop_after(last);
-        let ran = run_script(alloc, disk, FIRST)?;
-        assert_images_open(&rt, alloc, &ran, &mut prefixes)?;
-        whole = ran.status == 0;
-        if whole {
-            break;
-        }
-    }
-    assert!(rt; whole);
+    })
+}
+
+#[test]
+fn stops_in_the_first_example(rt: HostRuntime) -> Result<(), Fail> {
+    let alloc = rt.alloc();
+    let mut prefixes = first_prefixes(alloc)?;
+    assert!(rt; stop_at_each_call(&rt, alloc, &RUN, FIRST, &mut prefixes)? == Some(1));
     Ok(())
 }
 
 // How many keys the long script has.
 const KEYS: usize = 6;
 
+// Whether the line of the long script deletes its key. Line 0 stands for no line.
+fn is_deletion(line: usize) -> bool {
+    line % 13 == 0
+}
+
 // The data that a line of the long script puts, in hexadecimal digits; none where it deletes.
 fn data_of(alloc: Global, line: usize) -> Result<String, AllocError> {
     let mut data = String::new(alloc);
-    if line % 13 == 0 {
+    if is_deletion(line) {
         return Ok(data);
     }
     let len = if line % 20 == 10 { 3_600 } else { 3 };
@@ -212,71 +299,85 @@ fn key_of(alloc: Global, key: usize) -> Result<String, AllocError> {
     format!(in alloc; "6b{key:02}")
 }
 
-// 40 lines: the database is made, and its keys get data in turn, but each thirteenth line deletes.
+// A line of the long script.
+fn line_of(alloc: Global, line: usize) -> Result<String, AllocError> {
+    let key = key_of(alloc, line % KEYS)?;
+    let data = data_of(alloc, line)?;
+    if data.is_empty() {
+        format!(in alloc; "s1 delete t {key}\n")
+    } else {
+        format!(in alloc; "s1 put t {key} {data}\n")
+    }
+}
+
+// 40 lines: the database is made, and its keys get data in turn.
 fn long_script(alloc: Global) -> Result<String, AllocError> {
     let mut script = String::from_str(alloc, "s1 create t plain\n")?;
     for line in 1..40usize {
-        let key = key_of(alloc, line % KEYS)?;
-        let data = data_of(alloc, line)?;
-        let text = if data.is_empty() {
-            format!(in alloc; "s1 delete t {key}\n")?
-        } else {
-            format!(in alloc; "s1 put t {key} {data}\n")?
-        };
-        script.push_str(&text)?;
+        script.push_str(line_of(alloc, line)?.as_str())?;
     }
     Ok(script)
 }
 
 // A script that reads all keys.
-fn reading(alloc: Global) -> Result<Vec<u8>, AllocError> {
-    let mut script = Vec::new(alloc);
+fn reading(alloc: Global) -> Result<String, AllocError> {
+    let mut script = String::new(alloc);
     for key in 0..KEYS {
         let key = key_of(alloc, key)?;
-        let text = format!(in alloc; "s1 get t {key}\n")?;
-        script.extend_from_slice(text.as_bytes())?;
+        script.push_str(format!(in alloc; "s1 get t {key}\n")?.as_str())?;
     }
     Ok(script)
 }
 
-// What is read where the keys have this data, in order; no data where there is no record.
-fn text_of(alloc: Global, values: &[String], databases: usize) -> Result<String, AllocError> {
+// What is read of a key that a line of the script wrote last; line 0 stands for none.
+fn row_of(alloc: Global, key: usize, line: usize) -> Result<String, AllocError> {
+    let number = key.saturating_add(1);
+    let data = data_of(alloc, line)?;
+    if data.is_empty() {
+        return format!(in alloc; "{number} s1 notfound\n");
+    }
+    let key = key_of(alloc, key)?;
+    format!(in alloc; "{number} s1 ok {key} {data}\n")
+}
+
+// What is read where these lines wrote the keys last, in order.
+fn text_of(alloc: Global, lines: &[usize]) -> Result<String, AllocError> {
     let mut text = String::new(alloc);
     let mut records = 0usize;
-    for (i, data) in values.iter().enumerate() {
-        let line = i + 1;
-        let row = if databases == 0 {
-            format!(in alloc; "{line} s1 nodatabase\n")?
-        } else if data.is_empty() {
-            format!(in alloc; "{line} s1 notfound\n")?
-        } else {
+    for (key, line) in lines.iter().enumerate() {
+        text.push_str(row_of(alloc, key, *line)?.as_str())?;
+        if !is_deletion(*line) {
             records = records.saturating_add(1);
-            let key = key_of(alloc, i)?;
-            format!(in alloc; "{line} s1 ok {key} {data}\n")?
-        };
-        text.push_str(&row)?;
+        }
     }
-    let end = format!(in alloc; "end commits 0 databases {databases} records {records}\n")?;
-    text.push_str(&end)?;
+    let end = format!(in alloc; "end commits 0 databases 1 records {records}\n")?;
+    text.push_str(end.as_str())?;
     Ok(text)
 }
 
+// What is read of an empty store.
+const NO_DATABASE: &str =
+    "1 s1 nodatabase\n2 s1 nodatabase\n3 s1 nodatabase\n4 s1 nodatabase\n5 s1 nodatabase\n6 s1 nodatabase\nend commits 0 databases 0 records 0\n";
+
 // What is read of each prefix of the long script's commits, one a line.
 fn long_texts(alloc: Global) -> Result<Vec<String>, AllocError> {
-    let mut values = Vec::new(alloc);
-    for _ in 0..KEYS {
-        values.push(String::new(alloc))?;
-    }
-    let mut texts = Vec::new(alloc);
-    texts.push(text_of(alloc, &values, 0)?)?;
-    texts.push(text_of(alloc, &values, 1)?)?;
+    let mut texts = strings(alloc, &[NO_DATABASE])?;
+    let mut lines = [0; KEYS];
+    texts.push(text_of(alloc, &lines)?)?;
     for line in 1..40usize {
-        if let Some(value) = values.get_mut(line % KEYS) {
-            *value = data_of(alloc, line)?;
-        }
-        texts.push(text_of(alloc, &values, 1)?)?;
+        lines[line % KEYS] = line;
+        texts.push(text_of(alloc, &lines)?)?;
     }
     Ok(texts)
+}
+
+fn long_prefixes(alloc: Global) -> Result<Prefixes, AllocError> {
+    Ok(Prefixes {
+        reading: reading(alloc)?.into_bytes(),
+        texts: long_texts(alloc)?,
+        last: FileNo(0),
+        found: Vec::new(alloc),
+    })
 }
 
 // Files of 4,096 bytes, five of them in the end. A build that checks as it runs takes minutes over the
@@ -285,24 +386,8 @@ fn long_texts(alloc: Global) -> Result<Vec<String>, AllocError> {
 fn stops_in_many_files(rt: HostRuntime) -> Result<(), Fail> {
     let alloc = rt.alloc();
     let script = long_script(alloc)?;
-    let mut prefixes = Prefixes {
-        reading: reading(alloc)?,
-        texts: long_texts(alloc)?,
-        last: FileNo(0),
-        found: Vec::new(alloc),
-    };
-    let mut whole = false;
-    for last in 0..1_000u64 {
-        let mut disk = MemDisk::new(alloc);
-        disk.stop_after(last);
-        let ran = run_small(alloc, disk, script.as_bytes())?;
-        assert_images_open(&rt, alloc, &ran, &mut prefixes)?;
-        whole = ran.status == 0;
-        if whole {
-            assert_eq!(rt; ran.disk.files(alloc)?.len(), 5);
-            break;
-        }
-    }
-    assert!(rt; whole);
+    let mut prefixes = long_prefixes(alloc)?;
+    let files = stop_at_each_call(&rt, alloc, &RUN_SMALL, script.as_bytes(), &mut prefixes)?;
+    assert!(rt; files == Some(5));
     Ok(())
 }

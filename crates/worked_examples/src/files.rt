@@ -1,6 +1,7 @@
 // Logs of several files, torn ones, and files that cannot be opened.
 use crate::fixture::{
-    FIRST_LOG, HEADER, assert_ran, disk_with, holds, holds_files, run_script, run_small,
+    FIRST_LOG, HEADER, Ran, assert_leaves, assert_ran, disk_of, disk_with, put_line, run_script,
+    run_small,
 };
 use mem_disk::MemDisk;
 use std::alloc::{AllocError, Global};
@@ -44,14 +45,13 @@ fn torn_tail(rt: HostRuntime) -> Result<(), Fail> {
         if [62, 84, 116, 138].contains(&len) {
             left = cut;
         }
-        let ran = run_script(alloc, disk_with(alloc, &[(0, cut)])?, b"")?;
         let text = match left.len() {
             26 | 62 => "end commits 0 databases 0 records 0\n",
             84 | 116 => "end commits 0 databases 1 records 0\n",
             _ => "end commits 0 databases 1 records 1\n",
         };
-        assert_ran(&rt, &ran, 0, text);
-        assert!(rt; holds(alloc, &ran.disk, left)?, "cut to {len}");
+        let disk = disk_with(alloc, &[(0, cut)])?;
+        assert_leaves(&rt, alloc, disk, b"", 0, text, &[(0, left)])?;
     }
     Ok(())
 }
@@ -62,31 +62,46 @@ fn zeros_at_the_end(rt: HostRuntime) -> Result<(), Fail> {
     let alloc = rt.alloc();
     let (front, _) = FIRST_LOG.split_at(84);
     let mut log = Vec::from_slice(alloc, front)?;
-    for _ in 0..54 {
-        log.push(0)?;
-    }
-    let ran = run_script(alloc, disk_with(alloc, &[(0, &log)])?, b"s1 get t 61\n")?;
+    log.extend_from_slice(&[0; 54])?;
+    let disk = disk_with(alloc, &[(0, &log)])?;
     let text = "1 s1 notfound\nend commits 0 databases 1 records 0\n";
-    assert_ran(&rt, &ran, 0, text);
-    assert!(rt; holds(alloc, &ran.disk, front)?);
+    assert_leaves(&rt, alloc, disk, b"s1 get t 61\n", 0, text, &[(0, front)])?;
     Ok(())
 }
 
 // Files that cannot be opened are left as they are, and the line says why.
-fn are_refused(
+fn assert_refused(
     rt: &impl Abort,
     alloc: Global,
     files: &[(u32, &[u8])],
     text: &str,
-) -> Result<(), Fail> {
-    let ran = run_script(alloc, disk_with(alloc, files)?, b"s1 get t 61\n")?;
-    assert_ran(rt, &ran, 5, text);
-    assert!(rt; holds_files(alloc, &ran.disk, files)?, "{text}");
-    Ok(())
+) -> Result<(), AllocError> {
+    let disk = disk_with(alloc, files)?;
+    assert_leaves(rt, alloc, disk, b"s1 get t 61\n", 5, text, files)
 }
+
+// Files, and why they cannot be opened.
+static UNREADABLE: [(&[(u32, &[u8])], &str); 7] = [
+    (&[(0, b""), (1, HEADER_1)], "fault damaged 0x0/0x0\n"),
+    (&[(0, HEADER_1)], "fault damaged 0x0/0x0\n"),
+    (&[(0, HEADER_9)], "fault version 00000000.jdb 9\n"),
+    (&[(0, FIRST_LOG), (2, HEADER_1)], "fault damaged 0x2/0x0\n"),
+    (&[(0, FIRST_LOG), (2, b"")], "fault missing 0x1/0x0\n"),
+    (&[(0, NO_NUMBER)], "fault tree 0x0/0x1a\n"),
+    (&[(0, WITH_DUP)], "fault tree 0x0/0x54\n"),
+];
 
 #[test]
 fn unreadable_files(rt: HostRuntime) -> Result<(), Fail> {
+    for &(files, text) in &UNREADABLE {
+        assert_refused(&rt, rt.alloc(), files, text)?;
+    }
+    Ok(())
+}
+
+// A changed byte and a torn end in a file that is not the last one.
+#[test]
+fn damaged_files(rt: HostRuntime) -> Result<(), Fail> {
     let alloc = rt.alloc();
     let mut damaged = Vec::from_slice(alloc, FIRST_LOG)?;
     if let Some(byte) = damaged.get_mut(30) {
@@ -94,31 +109,13 @@ fn unreadable_files(rt: HostRuntime) -> Result<(), Fail> {
     }
     let (cut, _) = FIRST_LOG.split_at(137);
     let next = (1, HEADER_1);
-    are_refused(
+    assert_refused(
         &rt,
         alloc,
         &[(0, &damaged), next],
         "fault damaged 0x0/0x1a\n",
     )?;
-    are_refused(&rt, alloc, &[(0, cut), next], "fault damaged 0x0/0x74\n")?;
-    are_refused(&rt, alloc, &[(0, b""), next], "fault damaged 0x0/0x0\n")?;
-    are_refused(&rt, alloc, &[(0, HEADER_1)], "fault damaged 0x0/0x0\n")?;
-    are_refused(
-        &rt,
-        alloc,
-        &[(0, HEADER_9)],
-        "fault version 00000000.jdb 9\n",
-    )?;
-    let first = (0, FIRST_LOG);
-    are_refused(
-        &rt,
-        alloc,
-        &[first, (2, HEADER_1)],
-        "fault damaged 0x2/0x0\n",
-    )?;
-    are_refused(&rt, alloc, &[first, (2, b"")], "fault missing 0x1/0x0\n")?;
-    are_refused(&rt, alloc, &[(0, NO_NUMBER)], "fault tree 0x0/0x1a\n")?;
-    are_refused(&rt, alloc, &[(0, WITH_DUP)], "fault tree 0x0/0x54\n")?;
+    assert_refused(&rt, alloc, &[(0, cut), next], "fault damaged 0x0/0x74\n")?;
     Ok(())
 }
 
@@ -127,83 +124,86 @@ fn unreadable_files(rt: HostRuntime) -> Result<(), Fail> {
 fn headless_last_file(rt: HostRuntime) -> Result<(), Fail> {
     let alloc = rt.alloc();
     let (part, _) = HEADER_1.split_at(10);
+    let left = [(0, FIRST_LOG), (1, HEADER_1)];
+    let text = "1 s1 ok 61 31\nend commits 0 databases 1 records 1\n";
     for torn in [b"".as_slice(), part, HEADER_1] {
         let disk = disk_with(alloc, &[(0, FIRST_LOG), (1, torn)])?;
-        let ran = run_script(alloc, disk, b"s1 get t 61\n")?;
-        let text = "1 s1 ok 61 31\nend commits 0 databases 1 records 1\n";
-        assert_ran(&rt, &ran, 0, text);
-        assert!(rt; holds_files(alloc, &ran.disk, &[(0, FIRST_LOG), (1, HEADER_1)])?);
+        assert_leaves(&rt, alloc, disk, b"s1 get t 61\n", 0, text, &left)?;
     }
     Ok(())
 }
 
-// A put of the key with this digit's code, and of so many bytes `1` of data.
-fn put_line(alloc: Global, script: &mut Vec<u8>, key: &[u8], len: usize) -> Result<(), AllocError> {
-    script.extend_from_slice(b"s1 put t ")?;
-    script.extend_from_slice(key)?;
-    script.push(b' ')?;
-    let bytes = vec![in alloc; [b'3', b'1']; len]?;
-    for digits in &bytes {
-        script.extend_from_slice(digits.as_slice())?;
-    }
-    script.push(b'\n')?;
-    Ok(())
-}
+// A key in hexadecimal digits, and how long its data is.
+type Put = (&'static [u8], usize);
 
-// A script that makes t, and puts data of these lengths under 61, 62 and so on.
-fn puts(alloc: Global, lens: &[(&[u8], usize)]) -> Result<Vec<u8>, AllocError> {
+// A run that makes t and puts these records, with log files of at most 4,096 bytes.
+fn run_puts(alloc: Global, disk: MemDisk, puts: &[Put]) -> Result<Box<Ran>, AllocError> {
     let mut script = Vec::from_slice(alloc, b"s1 create t plain\n")?;
-    for (key, len) in lens {
+    for (key, len) in puts {
         put_line(alloc, &mut script, key, *len)?;
     }
-    Ok(script)
+    run_small(alloc, disk, &script)
 }
 
-// How long the disk's files are, in order.
-fn lengths(alloc: Global, disk: &MemDisk) -> Result<Vec<usize>, AllocError> {
-    let mut lengths = Vec::new(alloc);
-    for (_, bytes) in &disk.files(alloc)? {
-        lengths.push(bytes.len())?;
+// Whether the disk's files are so long, in order.
+fn has_lengths(alloc: Global, disk: &MemDisk, wanted: &[usize]) -> Result<bool, AllocError> {
+    let files = disk.files(alloc)?;
+    let mut same = files.len() == wanted.len();
+    for ((_, bytes), len) in files.iter().zip(wanted) {
+        same = same && bytes.len() == *len;
     }
-    Ok(lengths)
+    Ok(same)
 }
 
-// Files of 4,096 bytes: one that is filled to the last byte, one more entry, and an entry that is longer
-// than a file, whose commit stands in the file behind it.
+// Records that are put, how long the files are then, and how many commits and records there are. Files of
+// 4,096 bytes: one that is filled to the last byte, one more entry, and an entry that is longer than a
+// file, whose commit stands in the file behind it.
+static SMALL: [(&[Put], &[usize], &str); 4] = [
+    (
+        &[(b"61", 3_959)],
+        &[4_096],
+        "end commits 2 databases 1 records 1\n",
+    ),
+    (
+        &[(b"61", 3_960)],
+        &[4_075, 48],
+        "end commits 2 databases 1 records 1\n",
+    ),
+    (
+        &[(b"61", 3_959), (b"62", 1)],
+        &[4_096, 80],
+        "end commits 3 databases 1 records 2\n",
+    ),
+    (
+        &[(b"61", 3_959), (b"62", 5_000)],
+        &[4_096, 5_057, 48],
+        "end commits 3 databases 1 records 2\n",
+    ),
+];
+
+// The disk that these records leave.
+fn small_disk(
+    rt: &impl Abort,
+    alloc: Global,
+    puts: &[Put],
+    lengths: &[usize],
+    text: &str,
+) -> Result<MemDisk, AllocError> {
+    let ran = run_puts(alloc, MemDisk::new(alloc), puts)?;
+    let is_end = ran.text().ends_with(text);
+    assert!(rt; is_end && has_lengths(alloc, &ran.disk, lengths)?, "{text}");
+    Ok(disk_of(ran))
+}
+
 #[test]
 fn small_files(rt: HostRuntime) -> Result<(), Fail> {
     let alloc = rt.alloc();
-    let rows: [(&[(&[u8], usize)], &[usize], &str); 4] = [
-        (
-            &[(b"61", 3_959)],
-            &[4_096],
-            "end commits 2 databases 1 records 1\n",
-        ),
-        (
-            &[(b"61", 3_960)],
-            &[4_075, 48],
-            "end commits 2 databases 1 records 1\n",
-        ),
-        (
-            &[(b"61", 3_959), (b"62", 1)],
-            &[4_096, 80],
-            "end commits 3 databases 1 records 2\n",
-        ),
-        (
-            &[(b"61", 3_959), (b"62", 5_000)],
-            &[4_096, 5_057, 48],
-            "end commits 3 databases 1 records 2\n",
-        ),
-    ];
-    for (lens, wanted, text) in rows {
-        let ran = run_small(alloc, MemDisk::new(alloc), &puts(alloc, lens)?)?;
-        assert!(rt; ran.text.as_str().ends_with(text));
-        assert!(rt; lengths(alloc, &ran.disk)?.as_slice() == wanted, "{text}");
-        let again = run_script(alloc, ran.disk, b"s1 delete t 61\n")?;
+    for &(puts, lengths, text) in &SMALL {
+        let disk = small_disk(&rt, alloc, puts, lengths, text)?;
+        let again = run_script(alloc, disk, b"s1 delete t 61\n")?;
         assert!(rt;
             again
-                .text
-                .as_str()
+                .text()
                 .starts_with("1 s1 ok\nend commits 1 databases 1 ")
         );
     }
@@ -215,15 +215,11 @@ fn small_files(rt: HostRuntime) -> Result<(), Fail> {
 fn last_file(rt: HostRuntime) -> Result<(), Fail> {
     let alloc = rt.alloc();
     let disk = disk_with(alloc, &[(0xffff_fffe, HEADER_LAST)])?;
-    let ran = run_small(alloc, disk, &puts(alloc, &[(b"61", 5_000)])?)?;
+    let ran = run_puts(alloc, disk, &[(b"61", 5_000)])?;
     let text = "1 s1 ok\n2 s1 logfull\nend commits 1 databases 1 records 0\nfault log full\n";
     assert_ran(&rt, &ran, 12, text);
-    let again = run_script(alloc, ran.disk, b"s1 put t 61 31\n")?;
-    assert_ran(
-        &rt,
-        &again,
-        0,
-        "1 s1 ok\nend commits 1 databases 1 records 1\n",
-    );
+    let again = run_script(alloc, disk_of(ran), b"s1 put t 61 31\n")?;
+    let text = "1 s1 ok\nend commits 1 databases 1 records 1\n";
+    assert_ran(&rt, &again, 0, text);
     Ok(())
 }

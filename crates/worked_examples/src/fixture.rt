@@ -6,19 +6,33 @@ use je_program::{Ended, run_je};
 use mem_disk::MemDisk;
 use std::alloc::{AllocError, Global};
 use std::process::Abort;
-use std::test::Fail;
 
-// What a run came to.
+// What a run came to. It is handed out in a box, so that each way out of a test lets it go in one step.
 #[derive(Drop)]
 pub struct Ran {
     pub status: u8,
-    pub text: String,
+    pub output: MemSink,
     pub disk: MemDisk,
     pub journal: Vec<Event>,
 }
 
-// The words of a right command line.
+impl Ran {
+    // What was written.
+    pub fn text(&self) -> &str {
+        std::str::from_utf8(self.output.bytes()).unwrap_or("no text")
+    }
+}
+
+// The disk that a run left.
+pub fn disk_of(ran: Box<Ran>) -> MemDisk {
+    let Ran { disk, .. } = Box::into_inner(ran);
+    disk
+}
+
+// The words of a right command line, and of one for log files of at most 4,096 bytes.
 pub const RUN: [&str; 3] = ["run", "--home", "store"];
+
+pub const RUN_SMALL: [&str; 5] = ["run", "--home", "store", "--file-max", "4096"];
 
 // A file's header, which is the whole log of an empty store.
 pub const HEADER: &[u8] =
@@ -47,16 +61,15 @@ pub fn strings(alloc: Global, words: &[&str]) -> Result<Vec<String>, AllocError>
     Ok(strings)
 }
 
-// Runs the program with these words.
-pub fn run_words<S: Source>(
+// Runs the program with these words, this input and this output.
+pub fn run_with<S: Source>(
     alloc: Global,
     words: &[&str],
     disk: MemDisk,
     input: &mut S,
     mut output: MemSink,
-) -> Result<Ran, Fail> {
+) -> Result<Box<Ran>, AllocError> {
     let words = strings(alloc, words)?;
-    let ended = run_je(alloc, &words, disk, input, &mut output);
     let Ended {
         status,
         cause: _,
@@ -65,35 +78,42 @@ pub fn run_words<S: Source>(
         journal,
         opening: _,
         rows: _,
-    } = ended;
-    let text = std::str::from_utf8(output.bytes())?;
-    Ok(Ran {
+    } = run_je(alloc, &words, disk, input, &mut output);
+    let ran = Ran {
         status,
-        text: String::from_str(alloc, text)?,
+        output,
         disk,
         journal,
-    })
+    };
+    Ok(Box::new(alloc, ran)?)
 }
 
-// Runs a script over a disk, with log files of at most 4,096 bytes.
-pub fn run_small(alloc: Global, disk: MemDisk, script: &[u8]) -> Result<Ran, Fail> {
-    let words = ["run", "--home", "store", "--file-max", "4096"];
+// Runs a script over a disk, with these words.
+pub fn run_words(
+    alloc: Global,
+    words: &[&str],
+    disk: MemDisk,
+    script: &[u8],
+) -> Result<Box<Ran>, AllocError> {
     let mut input = MemSource::new(script);
-    run_words(alloc, &words, disk, &mut input, MemSink::new(alloc))
+    run_with(alloc, words, disk, &mut input, MemSink::new(alloc))
 }
 
-// Runs a script over a disk.
-pub fn run_script(alloc: Global, disk: MemDisk, script: &[u8]) -> Result<Ran, Fail> {
-    let mut input = MemSource::new(script);
-    run_words(alloc, &RUN, disk, &mut input, MemSink::new(alloc))
+// The same with log files of at most 4,096 bytes.
+pub fn run_small(alloc: Global, disk: MemDisk, script: &[u8]) -> Result<Box<Ran>, AllocError> {
+    run_words(alloc, &RUN_SMALL, disk, script)
+}
+
+// The same with the words of a right command line.
+pub fn run_script(alloc: Global, disk: MemDisk, script: &[u8]) -> Result<Box<Ran>, AllocError> {
+    run_words(alloc, &RUN, disk, script)
 }
 
 // The disk that the first example leaves.
-pub fn first_disk(rt: &impl Abort, alloc: Global) -> Result<MemDisk, Fail> {
+pub fn first_disk(rt: &impl Abort, alloc: Global) -> Result<MemDisk, AllocError> {
     let ran = run_script(alloc, MemDisk::new(alloc), FIRST)?;
     assert_ran(rt, &ran, 0, FIRST_TEXT);
-    let Ran { disk, .. } = ran;
-    Ok(disk)
+    Ok(disk_of(ran))
 }
 
 // A disk whose files have these numbers and bytes.
@@ -112,30 +132,60 @@ pub fn holds_files(
     held: &[(u32, &[u8])],
 ) -> Result<bool, AllocError> {
     let files = disk.files(alloc)?;
-    if files.len() != held.len() {
-        return Ok(false);
-    }
+    let mut same = files.len() == held.len();
     for ((f, bytes), (number, wanted)) in files.iter().zip(held) {
-        if f.0 != *number || bytes.as_slice() != *wanted {
-            return Ok(false);
-        }
+        same = same && f.0 == *number && bytes.as_slice() == *wanted;
     }
-    Ok(true)
-}
-
-// Whether the disk has one file, with these bytes.
-pub fn holds(alloc: Global, disk: &MemDisk, bytes: &[u8]) -> Result<bool, AllocError> {
-    holds_files(alloc, disk, &[(0, bytes)])
-}
-
-// Whether the disk has no file.
-pub fn is_bare(alloc: Global, disk: &MemDisk) -> Result<bool, AllocError> {
-    Ok(disk.files(alloc)?.is_empty())
+    Ok(same)
 }
 
 // A run has this status, and wrote this text.
 pub fn assert_ran(rt: &impl Abort, ran: &Ran, status: u8, text: &str) {
     let found = ran.status;
-    assert_eq!(rt; ran.text.as_str(), text);
+    assert_eq!(rt; ran.text(), text);
     assert_eq!(rt; found, status);
+}
+
+// A script over this disk has this status, writes this text, and leaves these files.
+pub fn assert_leaves(
+    rt: &impl Abort,
+    alloc: Global,
+    disk: MemDisk,
+    script: &[u8],
+    status: u8,
+    text: &str,
+    left: &[(u32, &[u8])],
+) -> Result<(), AllocError> {
+    let ran = run_script(alloc, disk, script)?;
+    assert_ran(rt, &ran, status, text);
+    assert!(rt; holds_files(alloc, &ran.disk, left)?, "{text}");
+    Ok(())
+}
+
+// So many bytes `1` in hexadecimal digits.
+pub fn ones(alloc: Global, len: usize) -> Result<Vec<u8>, AllocError> {
+    let mut digits = Vec::new(alloc);
+    for _ in 0..len {
+        digits.extend_from_slice(b"31")?;
+    }
+    Ok(digits)
+}
+
+// Writes a line that puts data of so many bytes `1` under a key, which is spelled in hexadecimal digits.
+pub fn put_line(
+    alloc: Global,
+    script: &mut Vec<u8>,
+    key: &[u8],
+    len: usize,
+) -> Result<(), AllocError> {
+    for piece in [
+        b"s1 put t ".as_slice(),
+        key,
+        b" ",
+        &ones(alloc, len)?,
+        b"\n",
+    ] {
+        script.extend_from_slice(piece)?;
+    }
+    Ok(())
 }

@@ -32,8 +32,7 @@ returns-then-not-logged-clause-runs g c = λ most st running.
     let new = c.step.new.self in
     let journal = c.args.journal.now.items in
     let call : Event = Called c.args.session c.args.line c.args.call c.in_ok-answer.answer in
-    let first : c.push.new.self.items ≡ c.reserve.new.self.items ++ call ∷ [] = rw c.unwrap.ensures at c.push.ensures.items in
-    let all = first ∙ ap (λ (l : List Event). l ++ call ∷ []) c.reserve.ensures.items in
+    let all = c.record.ensures.items ∙ ap (λ (l : List Event). l ++ call ∷ []) c.reserve.ensures.items in
     subst (λ (l : List Event). IsRunning most g.D.Disk.tells (state (disk_of new.log)) new.log new.kept l st) (sym all)
     (runs_plain most g.D.Disk.tells (state (disk_of old.log)) (state (disk_of new.log)) old.log new.log old.kept new.kept journal c.args.session c.args.line c.args.call c.in_ok-answer.answer st running
     (c.in_ok-answer.ensures.goes_on most (after_events (log_rule most) st journal) running.here) (sym c.waits_for_sync-logged.ensures ∙ c.if-not-logged.true))
@@ -46,9 +45,7 @@ returns-in_default-clause-runs g c = λ most st running.
     let new = c.begin_sync.new.self in
     let journal = c.args.journal.now.items in
     let call : Event = Called c.args.session c.args.line c.args.call c.in_ok-answer.answer in
-    let first : c.push.new.self.items ≡ c.reserve.new.self.items ++ call ∷ [] = rw c.unwrap.ensures at c.push.ensures.items in
-    let second : c.push-in_default.new.self.items ≡ c.push.new.self.items ++ SyncBegin DiskFault ∷ [] = rw c.unwrap-in_default.ensures at c.push-in_default.ensures.items in
-    let all = second ∙ ap (λ (l : List Event). l ++ SyncBegin DiskFault ∷ []) (first ∙ ap (λ (l : List Event). l ++ call ∷ []) c.reserve.ensures.items) in
+    let all = c.record-in_default.ensures.items ∙ ap (λ (l : List Event). l ++ SyncBegin DiskFault ∷ []) (c.record.ensures.items ∙ ap (λ (l : List Event). l ++ call ∷ []) c.reserve.ensures.items) in
     subst (λ (l : List Event). IsRunning most g.D.Disk.tells (state (disk_of new.log)) new.log new.kept l st) (sym all)
     (runs_unsynced most g.D.Disk.tells (state (disk_of old.log)) (state (disk_of middle.log)) (state (disk_of new.log)) old.log middle.log new.log old.kept middle.kept new.kept
     journal c.args.session c.args.line c.args.call c.in_ok-answer.answer st running
@@ -66,7 +63,7 @@ returns-in_default-clause-caused g c = λ before caused.
     let running = c.requires.running.2 in
     let at_work = logged_at_work most g.D.Disk.tells (state (disk_of middle.log)) middle.log middle.kept (after_events (log_rule most) st journal) c.args.call c.in_ok-answer.answer
     (c.in_ok-answer.ensures.goes_on most (after_events (log_rule most) st journal) running.here) (sym c.waits_for_sync-logged.ensures ∙ c.if-not-logged.false) in
-    caused_unsynced before (faults (disk_of c.args.environment.now.log)) (faults (disk_of middle.log)) (faults (disk_of c.begin_sync.new.self.log)) journal c.push-in_default.new.self.items caused
+    caused_unsynced before (faults (disk_of c.args.environment.now.log)) (faults (disk_of middle.log)) (faults (disk_of c.begin_sync.new.self.log)) journal c.record-in_default.new.journal.items caused
     c.in_ok-answer.ensures.cause.never_falls (c.in_default.ensures.cause at_work.2 refl) c.begin_sync.ensures.never_falls
 
 pub returns-clause-runs : goal.returns-clause-runs
@@ -78,11 +75,8 @@ returns-clause-runs g c = λ most st running.
     let journal = c.args.journal.now.items in
     let ending = c.end_sync-answer.result in
     let call : Event = Called c.args.session c.args.line c.args.call c.in_ok-answer.answer in
-    let first : c.push.new.self.items ≡ c.reserve.new.self.items ++ call ∷ [] = rw c.unwrap.ensures at c.push.ensures.items in
-    let second : c.push-2.new.self.items ≡ c.push.new.self.items ++ SyncBegin Done ∷ [] = rw c.unwrap-2.ensures at c.push-2.ensures.items in
-    let third : c.push-3.new.self.items ≡ c.push-2.new.self.items ++ SyncEnd ending ∷ [] = rw c.unwrap-3.ensures at c.push-3.ensures.items in
-    let all = third ∙ ap (λ (l : List Event). l ++ SyncEnd ending ∷ []) (second
-    ∙ ap (λ (l : List Event). l ++ SyncBegin Done ∷ []) (first ∙ ap (λ (l : List Event). l ++ call ∷ []) c.reserve.ensures.items)) in
+    let all = c.record-3.ensures.items ∙ ap (λ (l : List Event). l ++ SyncEnd ending ∷ []) (c.record-2.ensures.items
+    ∙ ap (λ (l : List Event). l ++ SyncBegin Done ∷ []) (c.record.ensures.items ∙ ap (λ (l : List Event). l ++ call ∷ []) c.reserve.ensures.items)) in
     subst (λ (l : List Event). IsRunning most g.D.Disk.tells (state (disk_of new.log)) new.log new.kept l st) (sym all)
     (runs_logged most g.D.Disk.tells (state (disk_of old.log)) (state (disk_of middle.log)) (state (disk_of new.log)) old.log middle.log new.log old.kept middle.kept new.kept
     journal c.args.session c.args.line c.args.call c.in_ok-answer.answer ending st running
@@ -106,11 +100,8 @@ returns-clause-caused g c = λ before caused.
     let here = (c.in-Some.ensures.begins most at_work.0 at_work.1.0 at_work.1.1).1 in
     let works : has_failed begun.log ≡ false = (here.valid at_work.1.1).at_end.works in
     let call : Event = Called c.args.session c.args.line c.args.call c.in_ok-answer.answer in
-    let first : c.push.new.self.items ≡ c.reserve.new.self.items ++ call ∷ [] = rw c.unwrap.ensures at c.push.ensures.items in
-    let second : c.push-2.new.self.items ≡ c.push.new.self.items ++ SyncBegin Done ∷ [] = rw c.unwrap-2.ensures at c.push-2.ensures.items in
-    let third : c.push-3.new.self.items ≡ c.push-2.new.self.items ++ SyncEnd ending ∷ [] = rw c.unwrap-3.ensures at c.push-3.ensures.items in
-    let all = third ∙ ap (λ (l : List Event). l ++ SyncEnd ending ∷ []) (second
-    ∙ ap (λ (l : List Event). l ++ SyncBegin Done ∷ []) (first ∙ ap (λ (l : List Event). l ++ call ∷ []) c.reserve.ensures.items)) in
+    let all = c.record-3.ensures.items ∙ ap (λ (l : List Event). l ++ SyncEnd ending ∷ []) (c.record-2.ensures.items
+    ∙ ap (λ (l : List Event). l ++ SyncBegin Done ∷ []) (c.record.ensures.items ∙ ap (λ (l : List Event). l ++ call ∷ []) c.reserve.ensures.items)) in
     let after = faults (disk_of c.end_sync-answer.new.self.log) in
     subst (λ (l : List Event). IsCaused before after l) (sym all)
     (caused_synced before (faults (disk_of c.args.environment.now.log)) (faults (disk_of middle.log)) (faults (disk_of begun.log)) after journal c.args.session c.args.line c.args.call
@@ -127,8 +118,7 @@ returns-then-not-logged-clause-crash g c = λ told most st log start running gua
     let new = c.step.new.self in
     let journal = c.args.journal.now.items in
     let call : Event = Called c.args.session c.args.line c.args.call c.in_ok-answer.answer in
-    let first : c.push.new.self.items ≡ c.reserve.new.self.items ++ call ∷ [] = rw c.unwrap.ensures at c.push.ensures.items in
-    let all = first ∙ ap (λ (l : List Event). l ++ call ∷ []) c.reserve.ensures.items in
+    let all = c.record.ensures.items ∙ ap (λ (l : List Event). l ++ call ∷ []) c.reserve.ensures.items in
     subst (λ (l : List Event). IsGuarded most st log start (g.D.Disk.history (disk_of new.log)) new.log l None) (sym all)
     (c.in_ok-answer.ensures.crash told most st log start c.args.session c.args.line journal running.here guarded)
 
@@ -140,9 +130,7 @@ returns-in_default-clause-crash g c = λ told most st log start running guarded.
     let journal = c.args.journal.now.items in
     let standing = after_events (log_rule most) st journal in
     let call : Event = Called c.args.session c.args.line c.args.call c.in_ok-answer.answer in
-    let first : c.push.new.self.items ≡ c.reserve.new.self.items ++ call ∷ [] = rw c.unwrap.ensures at c.push.ensures.items in
-    let second : c.push-in_default.new.self.items ≡ c.push.new.self.items ++ SyncBegin DiskFault ∷ [] = rw c.unwrap-in_default.ensures at c.push-in_default.ensures.items in
-    let all = second ∙ ap (λ (l : List Event). l ++ SyncBegin DiskFault ∷ []) (first ∙ ap (λ (l : List Event). l ++ call ∷ []) c.reserve.ensures.items) in
+    let all = c.record-in_default.ensures.items ∙ ap (λ (l : List Event). l ++ SyncBegin DiskFault ∷ []) (c.record.ensures.items ∙ ap (λ (l : List Event). l ++ call ∷ []) c.reserve.ensures.items) in
     let goes = c.in_ok-answer.ensures.goes_on most standing running.here in
     let stands = after_events-append (log_rule most) st journal (call ∷ []) in
     let none : (after_events (log_rule most) st (journal ++ call ∷ [])).fault ≡ None =
@@ -162,11 +150,8 @@ returns-clause-crash g c = λ told most st log start running guarded.
     let standing = after_events (log_rule most) st journal in
     let ending = c.end_sync-answer.result in
     let call : Event = Called c.args.session c.args.line c.args.call c.in_ok-answer.answer in
-    let first : c.push.new.self.items ≡ c.reserve.new.self.items ++ call ∷ [] = rw c.unwrap.ensures at c.push.ensures.items in
-    let second : c.push-2.new.self.items ≡ c.push.new.self.items ++ SyncBegin Done ∷ [] = rw c.unwrap-2.ensures at c.push-2.ensures.items in
-    let third : c.push-3.new.self.items ≡ c.push-2.new.self.items ++ SyncEnd ending ∷ [] = rw c.unwrap-3.ensures at c.push-3.ensures.items in
-    let all = third ∙ ap (λ (l : List Event). l ++ SyncEnd ending ∷ []) (second
-    ∙ ap (λ (l : List Event). l ++ SyncBegin Done ∷ []) (first ∙ ap (λ (l : List Event). l ++ call ∷ []) c.reserve.ensures.items)) in
+    let all = c.record-3.ensures.items ∙ ap (λ (l : List Event). l ++ SyncEnd ending ∷ []) (c.record-2.ensures.items
+    ∙ ap (λ (l : List Event). l ++ SyncBegin Done ∷ []) (c.record.ensures.items ∙ ap (λ (l : List Event). l ++ call ∷ []) c.reserve.ensures.items)) in
     let called : List Event = journal ++ call ∷ [] in
     let syncing : List Event = called ++ SyncBegin Done ∷ [] in
     let goes = c.in_ok-answer.ensures.goes_on most standing running.here in

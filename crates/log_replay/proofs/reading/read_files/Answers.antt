@@ -1,8 +1,9 @@
 use Rattle.std.proofs.Common.{◌≡◌, ◌∙◌, ap, sym, subst, refl, ℕ, arith, get_or, drop, length, ◌+◌, ◌-◌, ◌==◌}
 use Rattle.je_disk.specs.Moments.{now}
 use Rattle.je_disk.specs.States.{State}
-use Rattle.je_disk.proofs.Moments.{passes_none, passes_then, passes_weaken}
+use Rattle.je_disk.proofs.Moments.{passes_none}
 use Rattle.log_replay.specs.UnderWay.{IsFileRead}
+use Rattle.log_replay.proofs.Passing.{passes_again}
 use Rattle.log_replay.proofs.GapLaws.{item_at}
 use Rattle.log_replay.proofs.ReadingLaws.{reading_begins, reading_goes_on, reading_stops, read_along}
 use Rattle.log_replay.proofs.reading.read_files.Goals as goal
@@ -11,7 +12,7 @@ pub loop-f-init : goal.loop-f-init
 loop-f-init g c =
     let start = g.D.Disk.history c.args.disk.now in
     record {
-      reading = reading_begins g.D.Disk.tells (now start).reads c.args.files.now c.new-replaying.result c.new-replaying.ensures;
+      reading = reading_begins g.D.Disk.tells (now start).reads c.args.files.now c.args.replaying.now c.requires;
       left = refl;
       same = λ t. refl;
       moments = λ t. passes_none start (λ s. s ≡ now start);
@@ -55,8 +56,44 @@ loop-f-preserved g c =
       left = sym left;
       same = λ t. read.same t ∙ before.same t;
       moments = λ t.
-          passes_then start (history c.loop-f.disk) (history c.read_file.new.disk) (λ s. s ≡ now start) (before.moments t)
-          (passes_weaken (history c.loop-f.disk) (history c.read_file.new.disk) (λ s. s ≡ now (history c.loop-f.disk)) (λ s. s ≡ now start) (λ s e. e ∙ before.same t) (read.moments t));
+          passes_again start (history c.loop-f.disk) (history c.read_file.new.disk) (before.same t) (before.moments t) (read.moments t);
       jobs = (read.jobs.0 ∙ before.jobs.0, read.jobs.1 ∙ before.jobs.1, read.jobs.2 ∙ before.jobs.2, read.jobs.3 ∙ before.jobs.3);
       never_falls = omega (arith, before.never_falls, read.cause.never_falls);
     }
+
+pub returns-in_err-finding-clause-same : goal.returns-in_err-finding-clause-same
+returns-in_err-finding-clause-same g c t = c.in_err-finding.ensures.same t ∙ c.loop-f.invariant.same t
+
+pub returns-in_err-finding-clause-moments : goal.returns-in_err-finding-clause-moments
+returns-in_err-finding-clause-moments g c t =
+    passes_again (g.D.Disk.history c.args.disk.now) (g.D.Disk.history c.loop-f.disk) (g.D.Disk.history c.read_file.new.disk)
+    (c.loop-f.invariant.same t) (c.loop-f.invariant.moments t) (c.in_err-finding.ensures.moments t)
+
+pub returns-in_err-finding-clause-jobs : goal.returns-in_err-finding-clause-jobs
+returns-in_err-finding-clause-jobs g c =
+    let first = c.loop-f.invariant.jobs in
+    let then_ = c.in_err-finding.ensures.jobs in
+    (then_.0 ∙ first.0, then_.1 ∙ first.1, then_.2 ∙ first.2, then_.3 ∙ first.3)
+
+pub returns-in-Stops-clause-same : goal.returns-in-Stops-clause-same
+returns-in-Stops-clause-same g c t = c.in_ok-finding.ensures.same t ∙ c.loop-f.invariant.same t
+
+pub returns-in-Stops-clause-moments : goal.returns-in-Stops-clause-moments
+returns-in-Stops-clause-moments g c t =
+    passes_again (g.D.Disk.history c.args.disk.now) (g.D.Disk.history c.loop-f.disk) (g.D.Disk.history c.read_file.new.disk)
+    (c.loop-f.invariant.same t) (c.loop-f.invariant.moments t) (c.in_ok-finding.ensures.moments t)
+
+pub returns-in-Stops-clause-jobs : goal.returns-in-Stops-clause-jobs
+returns-in-Stops-clause-jobs g c =
+    let first = c.loop-f.invariant.jobs in
+    let then_ = c.in_ok-finding.ensures.jobs in
+    (then_.0 ∙ first.0, then_.1 ∙ first.1, then_.2 ∙ first.2, then_.3 ∙ first.3)
+
+pub returns-clause-same : goal.returns-clause-same
+returns-clause-same g c = c.loop-f.invariant.same
+
+pub returns-clause-moments : goal.returns-clause-moments
+returns-clause-moments g c = c.loop-f.invariant.moments
+
+pub returns-clause-jobs : goal.returns-clause-jobs
+returns-clause-jobs g c = c.loop-f.invariant.jobs

@@ -1,47 +1,76 @@
-use Rattle.std.proofs.Common.{◌∙◌, ap, sym, subst, ℕ, option_map}
+use Rattle.std.proofs.Common.{◌∙◌, subst}
 use Rattle.je_disk.specs.Moments.{now}
-use Rattle.je_disk.specs.States.{State}
-use Rattle.je_lsn.specs.declared.file_no.FileNo.{FileNo}
-use Rattle.log_file.specs.Log.{log_in}
-use Rattle.log_replay.specs.declared.finding.Finding.TheVariants.{Missing}
-use Rattle.log_replay.specs.declared.log_read.LogRead.TheVariants.{Found}
-use Rattle.log_replay.specs.Reading.{files_read, lsn_of}
-use Rattle.log_replay.specs.UnderWay.{AreRead}
-use Rattle.log_replay.specs.Answer.{IsJudged, IsReadingOf}
-use Rattle.log_replay.proofs.ReadingLaws.{stopped, missing_answer, wrong_answer, right_answer}
+use Rattle.log_replay.specs.declared.reading.Weighed.TheVariants.{Wrong}
+use Rattle.log_replay.specs.Answer.{IsWeighed}
+use Rattle.log_replay.proofs.Passing.{passes_again, lsn_again}
 use Rattle.log_replay.proofs.reading.read_log.Goals as goal
 
-pub returns-in-Stopped-clause-read : goal.returns-in-Stopped-clause-read
-returns-in-Stopped-clause-read g c =
+pub returns-in-Answer-clause-read : goal.returns-in-Answer-clause-read
+returns-in-Answer-clause-read g c =
     let tells = g.D.Disk.tells in
     let reads = (now (g.D.Disk.history c.args.disk.now)).reads in
-    stopped tells reads c.args.files.now c.in-Stopped.finding c.requires (subst (AreRead tells reads c.args.files.now) c.in-Stopped.is c.in_ok-replaying.ensures.read)
-
-pub returns-in-Some-clause-read : goal.returns-in-Some-clause-read
-returns-in-Some-clause-read g c =
-    let tells = g.D.Disk.tells in
-    let reads = (now (g.D.Disk.history c.args.disk.now)).reads in
-    subst (λ (lsn : ℕ). IsReadingOf tells reads c.args.files.now (Found (Missing lsn))) (sym c.new.ensures)
-    (missing_answer tells reads c.args.files.now c.in-All.replaying c.in-All.tail c.in-Some.missing.0 c.requires
-    (subst (AreRead tells reads c.args.files.now) c.in-All.is c.in_ok-replaying.ensures.read)
-    (sym c.gap_between.ensures ∙ ap (option_map (λ (f : FileNo). f.0)) c.in-Some.is))
-
-pub returns-in-Right-clause-read : goal.returns-in-Right-clause-read
-returns-in-Right-clause-read g c =
-    let tells = g.D.Disk.tells in
-    let reads = (now (g.D.Disk.history c.args.disk.now)).reads in
-    right_answer tells reads c.args.files.now c.in-All.replaying c.in-All.tail c.in-Right.replayed c.requires
-    (subst (AreRead tells reads c.args.files.now) c.in-All.is c.in_ok-replaying.ensures.read)
-    (sym c.gap_between.ensures ∙ ap (option_map (λ (f : FileNo). f.0)) c.in_default.is)
-    (λ entries is. subst (IsJudged entries) c.in-Right.is (c.in_ok-replayed.ensures entries is))
+    subst (IsWeighed tells reads c.args.files.now) c.in-Answer.is (c.in_ok-answer.ensures tells reads c.in_ok-read.ensures.read)
 
 pub returns-in_ok-lsn-in-Wrong-clause-read : goal.returns-in_ok-lsn-in-Wrong-clause-read
 returns-in_ok-lsn-in-Wrong-clause-read g c =
     let tells = g.D.Disk.tells in
     let reads = (now (g.D.Disk.history c.args.disk.now)).reads in
-    wrong_answer tells reads c.args.files.now c.in-All.replaying c.in-All.tail c.in-Wrong.place c.in_ok-lsn-in-Wrong.lsn c.requires
-    (subst (AreRead tells reads c.args.files.now) c.in-All.is c.in_ok-replaying.ensures.read)
-    (sym c.gap_between.ensures ∙ ap (option_map (λ (f : FileNo). f.0)) c.in_default.is)
-    (λ entries is. subst (IsJudged entries) c.in-Wrong.is (c.in_ok-replayed.ensures entries is))
-    (λ t. c.in_ok-lsn-in-Wrong.ensures.lsn t
-    ∙ ap (λ (s : State). lsn_of (log_in (files_read s.reads c.args.files.now)) c.in-Wrong.place) (c.in_ok-replaying.ensures.same t))
+    let weighed : IsWeighed tells reads c.args.files.now (Wrong c.in-Wrong.place) =
+    subst (IsWeighed tells reads c.args.files.now) c.in-Wrong.is (c.in_ok-answer.ensures tells reads c.in_ok-read.ensures.read) in
+    weighed c.in_ok-lsn-in-Wrong.lsn
+    (λ t. lsn_again (g.D.Disk.history c.args.disk.now) (g.D.Disk.history c.read_files.new.disk) c.args.files.now c.in-Wrong.place c.in_ok-lsn-in-Wrong.lsn (c.in_ok-read.ensures.same t) (c.in_ok-lsn-in-Wrong.ensures.lsn t))
+
+pub returns-in_err-lsn-in-Wrong-clause-moments : goal.returns-in_err-lsn-in-Wrong-clause-moments
+returns-in_err-lsn-in-Wrong-clause-moments g c t =
+    passes_again (g.D.Disk.history c.args.disk.now) (g.D.Disk.history c.read_files.new.disk) (g.D.Disk.history c.lsn_of.new.disk)
+    (c.in_ok-read.ensures.same t) (c.in_ok-read.ensures.moments t) (c.in_err-lsn-in-Wrong.ensures.moments t)
+
+pub returns-in_ok-lsn-in-Wrong-clause-moments : goal.returns-in_ok-lsn-in-Wrong-clause-moments
+returns-in_ok-lsn-in-Wrong-clause-moments g c t =
+    passes_again (g.D.Disk.history c.args.disk.now) (g.D.Disk.history c.read_files.new.disk) (g.D.Disk.history c.lsn_of.new.disk)
+    (c.in_ok-read.ensures.same t) (c.in_ok-read.ensures.moments t) (c.in_ok-lsn-in-Wrong.ensures.moments t)
+
+pub returns-in_err-lsn-in-Wrong-clause-same : goal.returns-in_err-lsn-in-Wrong-clause-same
+returns-in_err-lsn-in-Wrong-clause-same g c t = c.in_err-lsn-in-Wrong.ensures.same t ∙ c.in_ok-read.ensures.same t
+
+pub returns-in_ok-lsn-in-Wrong-clause-same : goal.returns-in_ok-lsn-in-Wrong-clause-same
+returns-in_ok-lsn-in-Wrong-clause-same g c t = c.in_ok-lsn-in-Wrong.ensures.same t ∙ c.in_ok-read.ensures.same t
+
+pub returns-in_err-lsn-in-Wrong-clause-jobs : goal.returns-in_err-lsn-in-Wrong-clause-jobs
+returns-in_err-lsn-in-Wrong-clause-jobs g c =
+    let first = c.in_ok-read.ensures.jobs in
+    let then_ = c.in_err-lsn-in-Wrong.ensures.jobs in
+    (then_.0 ∙ first.0, then_.1 ∙ first.1, then_.2 ∙ first.2, then_.3 ∙ first.3)
+
+pub returns-in_ok-lsn-in-Wrong-clause-jobs : goal.returns-in_ok-lsn-in-Wrong-clause-jobs
+returns-in_ok-lsn-in-Wrong-clause-jobs g c =
+    let first = c.in_ok-read.ensures.jobs in
+    let then_ = c.in_ok-lsn-in-Wrong.ensures.jobs in
+    (then_.0 ∙ first.0, then_.1 ∙ first.1, then_.2 ∙ first.2, then_.3 ∙ first.3)
+
+pub returns-in_err-read-clause-same : goal.returns-in_err-read-clause-same
+returns-in_err-read-clause-same g c = c.in_err-read.ensures.same
+
+pub returns-in_err-read-clause-moments : goal.returns-in_err-read-clause-moments
+returns-in_err-read-clause-moments g c = c.in_err-read.ensures.moments
+
+pub returns-in_err-read-clause-jobs : goal.returns-in_err-read-clause-jobs
+returns-in_err-read-clause-jobs g c = c.in_err-read.ensures.jobs
+
+pub returns-in_err-answer-clause-same : goal.returns-in_err-answer-clause-same
+returns-in_err-answer-clause-same g c = c.in_ok-read.ensures.same
+
+pub returns-in_err-answer-clause-moments : goal.returns-in_err-answer-clause-moments
+returns-in_err-answer-clause-moments g c = c.in_ok-read.ensures.moments
+
+pub returns-in_err-answer-clause-jobs : goal.returns-in_err-answer-clause-jobs
+returns-in_err-answer-clause-jobs g c = c.in_ok-read.ensures.jobs
+
+pub returns-in-Answer-clause-same : goal.returns-in-Answer-clause-same
+returns-in-Answer-clause-same g c = c.in_ok-read.ensures.same
+
+pub returns-in-Answer-clause-moments : goal.returns-in-Answer-clause-moments
+returns-in-Answer-clause-moments g c = c.in_ok-read.ensures.moments
+
+pub returns-in-Answer-clause-jobs : goal.returns-in-Answer-clause-jobs
+returns-in-Answer-clause-jobs g c = c.in_ok-read.ensures.jobs

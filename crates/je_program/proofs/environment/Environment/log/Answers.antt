@@ -43,7 +43,8 @@ returns-in-Ok-clause-logs g c =
     let reserved = c.reserve.new.self in
     let same = c.reserve.ensures.unchanged in
     let txn = old.kept.last_txn + 1 in
-    let entry : c.in_ok-entry.entry ≡ entry_of txn c.args.number c.args.change = c.in_ok-entry.ensures in
+    let entry : c.in_ok-entry.entry ≡ entry_of txn c.args.number c.args.change = c.in_ok-entry.ensures.0 in
+    let commit : c.in_ok-entry.commit ≡ Commit (record { 0 = txn }) = c.in_ok-entry.ensures.1 in
     let sizes : size_of c.in_ok-entry.entry ∷ 22 ∷ [] ≡ logged_sizes (c.args.change ∷ []) = ap (λ (e : Entry). size_of e ∷ 22 ∷ []) entry ∙ sizes_are txn c.args.number c.args.change in
     let end : c.unwrap-end.result ≡ end_behind old.kept c.args.change =
     end_found (end_after_all old.kept.file_max old.kept.end (c.size-size.result ∷ 22 ∷ [])) c.unwrap-end.result (sym c.unwrap-end.ensures ∙ c.end_of_transaction.ensures)
@@ -64,22 +65,22 @@ returns-in-Ok-clause-logs g c =
       },
       record {
         end = c.in-Ok.ensures.end
-            ∙ end_along (file_max_of reserved) old.kept.file_max (end_of reserved) old.kept.end (size_of c.in_ok-entry.entry ∷ 22 ∷ []) (logged_sizes (c.args.change ∷ []))
-            (same.kept.max ∙ c.requires.works.file_max) (same.kept.end ∙ c.requires.works.end) sizes
+            ∙ end_along (file_max_of reserved) old.kept.file_max (end_of reserved) old.kept.end (size_of c.in_ok-entry.entry ∷ size_of c.in_ok-entry.commit ∷ []) (logged_sizes (c.args.change ∷ []))
+            (same.kept.max ∙ c.requires.works.file_max) (same.kept.end ∙ c.requires.works.end) (ap (λ (e : Entry). size_of c.in_ok-entry.entry ∷ size_of e ∷ []) commit ∙ sizes)
             ∙ sym end;
         file_max = c.in-Ok.ensures.file_max ∙ same.kept.max ∙ c.requires.works.file_max;
         works = c.in-Ok.ensures.works;
       },
       gains_along g.D.Disk.tells (state (disk_of old.log)) (state (disk_of reserved)) (state (disk_of c.append_both.new.log)) old.log reserved c.append_both.new.log
-          (c.in_ok-entry.entry ∷ Commit (record { 0 = txn }) ∷ []) (entry_of txn c.args.number c.args.change ∷ Commit (record { 0 = txn }) ∷ [])
-          (keeps_unchanged g.D.Disk.tells state old.log reserved same) (ap (λ (e : Entry). e ∷ Commit (record { 0 = txn }) ∷ []) entry) gains,
+          (c.in_ok-entry.entry ∷ c.in_ok-entry.commit ∷ []) (entry_of txn c.args.number c.args.change ∷ Commit (record { 0 = txn }) ∷ [])
+          (keeps_unchanged g.D.Disk.tells state old.log reserved same) (ap (λ (e : Entry). e ∷ c.in_ok-entry.commit ∷ []) entry ∙ ap (λ (e : Entry). entry_of txn c.args.number c.args.change ∷ e ∷ []) commit) gains,
     )
 
 pub returns-in-Ok-clause-bounds : goal.returns-in-Ok-clause-bounds
 returns-in-Ok-clause-bounds g c =
     let old = c.args.self.now in
     let txn = old.kept.last_txn + 1 in
-    let entry : c.in_ok-entry.entry ≡ entry_of txn c.args.number c.args.change = c.in_ok-entry.ensures in
+    let entry : c.in_ok-entry.entry ≡ entry_of txn c.args.number c.args.change = c.in_ok-entry.ensures.0 in
     let sizes : size_of c.in_ok-entry.entry ∷ 22 ∷ [] ≡ logged_sizes (c.args.change ∷ []) = ap (λ (e : Entry). size_of e ∷ 22 ∷ []) entry ∙ sizes_are txn c.args.number c.args.change in
     let end : c.unwrap-end.result ≡ end_behind old.kept c.args.change =
     end_found (end_after_all old.kept.file_max old.kept.end (c.size-size.result ∷ 22 ∷ [])) c.unwrap-end.result (sym c.unwrap-end.ensures ∙ c.end_of_transaction.ensures)
@@ -130,11 +131,12 @@ returns-in-Ok-clause-crash g c = λ told held least keeping.
     let same = c.reserve.ensures.unchanged in
     let keeps = keeping_unchanged state old.log reserved held least None same keeping in
     let txn = old.kept.last_txn + 1 in
-    let log_is : log_with_all (file_max_of reserved) (end_of reserved) (c.in_ok-entry.entry ∷ Commit (record { 0 = txn }) ∷ []) held
+    let log_is : log_with_all (file_max_of reserved) (end_of reserved) (c.in_ok-entry.entry ∷ c.in_ok-entry.commit ∷ []) held
     ≡ log_with_all old.kept.file_max old.kept.end (entries_logged txn c.args.number c.args.change) held =
-    ap (λ (m : ℕ). log_with_all m (end_of reserved) (c.in_ok-entry.entry ∷ Commit (record { 0 = txn }) ∷ []) held) (same.kept.max ∙ c.requires.works.file_max)
-    ∙ ap (λ (p : Place). log_with_all old.kept.file_max p (c.in_ok-entry.entry ∷ Commit (record { 0 = txn }) ∷ []) held) (same.kept.end ∙ c.requires.works.end)
-    ∙ ap (λ (e : Entry). log_with_all old.kept.file_max old.kept.end (e ∷ Commit (record { 0 = txn }) ∷ []) held) c.in_ok-entry.ensures in
+    ap (λ (m : ℕ). log_with_all m (end_of reserved) (c.in_ok-entry.entry ∷ c.in_ok-entry.commit ∷ []) held) (same.kept.max ∙ c.requires.works.file_max)
+    ∙ ap (λ (p : Place). log_with_all old.kept.file_max p (c.in_ok-entry.entry ∷ c.in_ok-entry.commit ∷ []) held) (same.kept.end ∙ c.requires.works.end)
+    ∙ ap (λ (e : Entry). log_with_all old.kept.file_max old.kept.end (e ∷ c.in_ok-entry.commit ∷ []) held) c.in_ok-entry.ensures.0
+    ∙ ap (λ (e : Entry). log_with_all old.kept.file_max old.kept.end (entry_of txn c.args.number c.args.change ∷ e ∷ []) held) c.in_ok-entry.ensures.1 in
     let through = c.append_both.ensures.crash told held least keeps in (
       subst (λ (h : History). KeptThrough h (g.D.Disk.history (disk_of new)) (log_with_all old.kept.file_max old.kept.end (entries_logged txn c.args.number c.args.change) held) [] least)
           (ap (λ d. g.D.Disk.history d) same.disk)
@@ -152,11 +154,12 @@ returns-clause-crash g c = λ told held least keeping.
     let same = c.reserve.ensures.unchanged in
     let keeps = keeping_unchanged state old.log reserved held least None same keeping in
     let txn = old.kept.last_txn + 1 in
-    let log_is : log_with_all (file_max_of reserved) (end_of reserved) (c.in_ok-entry.entry ∷ Commit (record { 0 = txn }) ∷ []) held
+    let log_is : log_with_all (file_max_of reserved) (end_of reserved) (c.in_ok-entry.entry ∷ c.in_ok-entry.commit ∷ []) held
     ≡ log_with_all old.kept.file_max old.kept.end (entries_logged txn c.args.number c.args.change) held =
-    ap (λ (m : ℕ). log_with_all m (end_of reserved) (c.in_ok-entry.entry ∷ Commit (record { 0 = txn }) ∷ []) held) (same.kept.max ∙ c.requires.works.file_max)
-    ∙ ap (λ (p : Place). log_with_all old.kept.file_max p (c.in_ok-entry.entry ∷ Commit (record { 0 = txn }) ∷ []) held) (same.kept.end ∙ c.requires.works.end)
-    ∙ ap (λ (e : Entry). log_with_all old.kept.file_max old.kept.end (e ∷ Commit (record { 0 = txn }) ∷ []) held) c.in_ok-entry.ensures in
+    ap (λ (m : ℕ). log_with_all m (end_of reserved) (c.in_ok-entry.entry ∷ c.in_ok-entry.commit ∷ []) held) (same.kept.max ∙ c.requires.works.file_max)
+    ∙ ap (λ (p : Place). log_with_all old.kept.file_max p (c.in_ok-entry.entry ∷ c.in_ok-entry.commit ∷ []) held) (same.kept.end ∙ c.requires.works.end)
+    ∙ ap (λ (e : Entry). log_with_all old.kept.file_max old.kept.end (e ∷ c.in_ok-entry.commit ∷ []) held) c.in_ok-entry.ensures.0
+    ∙ ap (λ (e : Entry). log_with_all old.kept.file_max old.kept.end (entry_of txn c.args.number c.args.change ∷ e ∷ []) held) c.in_ok-entry.ensures.1 in
     let through = c.append_both.ensures.crash told held least keeps in (
       subst (λ (h : History). KeptThrough h (g.D.Disk.history (disk_of new)) (log_with_all old.kept.file_max old.kept.end (entries_logged txn c.args.number c.args.change) held) [] least)
           (ap (λ d. g.D.Disk.history d) same.disk)

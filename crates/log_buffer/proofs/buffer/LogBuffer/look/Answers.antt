@@ -1,7 +1,8 @@
-use Rattle.std.proofs.Common.{ℕ, sym, subst, drop}
+use Rattle.std.proofs.Common.{ℕ, refl, sym, subst, drop, le_refl}
 use Rattle.je_disk.specs.Moments.{now}
 use Rattle.log_buffer.specs.Buffer.{tail_of}
 use Rattle.log_buffer.specs.Log.{Spells}
+use Rattle.log_buffer.proofs.Causing.{cause_ok, cause_failed}
 use Rattle.log_buffer.proofs.Fetched.{standing, on_disk, in_the_tail}
 use Rattle.log_buffer.proofs.buffer.LogBuffer.look.Goals as goal
 
@@ -21,3 +22,12 @@ returns-clause-found g c =
     let is = standing g.D.Disk.tells state old log c.args.at c.file-file.result.0 c.offset-offset.result entry c.file-file.ensures c.offset-offset.ensures told has stands in
     let spells = in_the_tail g.D.Disk.tells state old c.file-file.result.0 c.offset-offset.result entry is (λ there. let t = c.is_on_disk.ensures.1 there in let f = c.if-is_on_disk.false in absurd cc) in
     c.in_ok-found.ensures entry is.within (subst (λ (n : ℕ). Spells (drop n (tail_of old c.file-file.result.0)) entry) (sym c.within_tail-within.ensures) spells)
+
+pub returns-then-self-clause-cause : goal.returns-then-self-clause-cause
+returns-then-self-clause-cause g c = cause_failed _ _ _ _ c.if-self.true c.if-self.true refl
+
+pub returns-then-is_on_disk-clause-cause : goal.returns-then-is_on_disk-clause-cause
+returns-then-is_on_disk-clause-cause g c = c.fetch.ensures.cause
+
+pub returns-clause-cause : goal.returns-clause-cause
+returns-clause-cause g c = cause_ok _ _ _ _ _ c.if-self.false c.if-self.false (le_refl _)

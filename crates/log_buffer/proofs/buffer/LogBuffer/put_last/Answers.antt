@@ -1,11 +1,11 @@
-use Rattle.std.proofs.Common.{◌≡◌, ℕ, ◌+◌, ◌-◌, List, ◌++◌, length, vec_capacity, refl, ap, ◌∙◌, arith}
+use Rattle.std.proofs.Common.{◌≡◌, ℕ, ◌+◌, ◌-◌, List, ◌++◌, length, vec_capacity, refl, sym, ap, ◌∙◌, le_refl, le_of_eq, arith}
 use Rattle.log_entry.specs.Spelling.{size_of}
 use Rattle.log_entry.proofs.ReadingLaws.{length-spelling}
 use Rattle.log_buffer.specs.Tail.{bytes_for}
 use Rattle.log_buffer.proofs.Pieces.{IsCut}
 use Rattle.log_buffer.proofs.Growing.{log_last}
-use Rattle.log_buffer.proofs.Rooms.{each_more, same_for, on_err, first_same, pushed_last, pushed_other}
-use Rattle.log_buffer.specs.Tail.{first_for}
+use Rattle.log_buffer.proofs.Rooms.{each_more, on_err, first_same, pushed_last, pushed_other}
+use Rattle.log_buffer.proofs.Still.{tail_kept}
 use Rattle.log_buffer.specs.Buffer.{file_of, offset_of, last_of, first_of}
 use Rattle.log_buffer.proofs.KeptGrowing.{holds_with}
 use Rattle.log_buffer.proofs.buffer.LogBuffer.put_last.Goals as goal
@@ -47,25 +47,15 @@ returns-clause-room g c =
       each = each_more _ _ sizes c.spell.ensures.capacity room.each.1;
     }
 
+pub returns-in_err-spell-clause-unchanged : goal.returns-in_err-spell-clause-unchanged
+returns-in_err-spell-clause-unchanged g c =
+    on_err c.from_residual.result _ (record { kept = tail_kept c.args.self.now _ refl refl refl refl refl refl (le_refl _) (le_refl _) c.spell.ensures.capacity; disk = refl; failed = refl })
+
 pub returns-in_err-push-clause-unchanged : goal.returns-in_err-push-clause-unchanged
 returns-in_err-push-clause-unchanged g c =
-    let old = c.args.self.now in
-    let starts : c.push.new.self.starts.items ≡ old.tail.starts.items = ap (λ v. v.items) c.push.ensures.starts in
+    let starts = c.push.ensures.starts in
     on_err c.from_residual-in_err-push.result _ (record {
-      kept = record {
-        end = refl;
-        last = refl;
-        first = ap (λ (s : List ℕ). old.file.0 - length s) starts;
-        written = ap (λ (s : List ℕ). first_for s (old.file.0 - length s)) starts;
-        base = refl;
-        max = refl;
-        tail = λ f. same_for old.tail.bytes.items old.tail.starts.items c.push.new.self.bytes.items c.push.new.self.starts.items old.file.0 f c.in_err-push.ensures.err starts;
-        room = λ sizes room. record {
-          bytes = let bytes = room.bytes in let unused = c.in_err-push.ensures.unused in omega arith;
-          files = let files = room.files in let places = ap (λ v. vec_capacity v) c.push.ensures.starts in omega (arith, ap length starts, places);
-          each = each_more _ _ sizes c.spell.ensures.capacity room.each;
-        };
-      };
+      kept = tail_kept c.args.self.now _ refl refl refl refl c.in_err-push.ensures.err (ap (λ v. v.items) starts) c.in_err-push.ensures.unused (le_of_eq (ap (λ v. vec_capacity v) (sym starts))) c.spell.ensures.capacity;
       disk = refl;
       failed = refl;
     })

@@ -1,10 +1,10 @@
-use Rattle.std.proofs.Common.{ℕ, ◌+◌, ◌-◌, List, [], ◌∷◌, length, refl, ap, ◌∙◌, arith, length-append}
+use Rattle.std.proofs.Common.{ℕ, ◌+◌, ◌-◌, [], ◌∷◌, length, refl, ap, ◌∙◌, le_refl, arith, length-append}
 use Rattle.log_buffer.proofs.Pieces.{IsCut}
 use Rattle.log_buffer.proofs.Tails.{bytes_for_above}
 use Rattle.log_buffer.proofs.Growing.{log_next}
-use Rattle.log_buffer.proofs.Rooms.{each_more, same_for, begun_next, begun_other, spelled_size, on_err, first_before}
+use Rattle.log_buffer.proofs.Rooms.{each_more, begun_next, begun_other, spelled_size, on_err, first_before}
+use Rattle.log_buffer.proofs.Still.{tail_kept}
 use Rattle.log_entry.proofs.BodyLaws.{body_small}
-use Rattle.log_buffer.specs.Tail.{first_for}
 use Rattle.log_buffer.specs.Buffer.{file_of, offset_of, last_of, first_of}
 use Rattle.log_buffer.proofs.KeptGrowing.{holds_with}
 use Rattle.log_buffer.proofs.buffer.LogBuffer.put_next.Goals as goal
@@ -14,25 +14,14 @@ begin-requires g c =
     let len = spelled_size c.as_slice.result.now (c.args.self.now.file.0 + 1) c.args.entry.now (c.as_slice.ensures.value ∙ c.in_ok-spell_first.ensures.ok) in
     omega (arith, len)
 
+pub returns-in_err-spell_first-clause-unchanged : goal.returns-in_err-spell_first-clause-unchanged
+returns-in_err-spell_first-clause-unchanged g c =
+    on_err c.from_residual.result _ (record { kept = tail_kept c.args.self.now _ refl refl refl refl refl refl (le_refl _) (le_refl _) c.spell_first.ensures.capacity; disk = refl; failed = refl })
+
 pub returns-in_err-begin-clause-unchanged : goal.returns-in_err-begin-clause-unchanged
 returns-in_err-begin-clause-unchanged g c =
-    let old = c.args.self.now in
-    let starts = c.in_err-begin.ensures.kept in
     on_err c.from_residual-in_err-begin.result _ (record {
-      kept = record {
-        end = refl;
-        last = refl;
-        first = ap (λ (s : List ℕ). old.file.0 - length s) starts;
-        written = ap (λ (s : List ℕ). first_for s (old.file.0 - length s)) starts;
-        base = refl;
-        max = refl;
-        tail = λ f. same_for old.tail.bytes.items old.tail.starts.items c.begin.new.self.bytes.items c.begin.new.self.starts.items old.file.0 f c.in_err-begin.ensures.err starts;
-        room = λ sizes room. record {
-          bytes = let bytes = room.bytes in let unused = c.in_err-begin.ensures.unused in omega arith;
-          files = let files = room.files in let places = c.begin.ensures.capacity in omega (arith, ap length starts);
-          each = each_more _ _ sizes c.spell_first.ensures.capacity room.each;
-        };
-      };
+      kept = tail_kept c.args.self.now _ refl refl refl refl c.in_err-begin.ensures.err c.in_err-begin.ensures.kept c.in_err-begin.ensures.unused c.begin.ensures.capacity c.spell_first.ensures.capacity;
       disk = refl;
       failed = refl;
     })
@@ -41,6 +30,17 @@ pub returns-in_err-begin-clause-fits : goal.returns-in_err-begin-clause-fits
 returns-in_err-begin-clause-fits g c =
     let len = spelled_size c.as_slice.result.now (c.args.self.now.file.0 + 1) c.args.entry.now (c.as_slice.ensures.value ∙ c.in_ok-spell_first.ensures.ok) in
     λ sizes room. let bytes = room.bytes in let files = room.files in let ok = c.in_err-begin.ensures.fits (omega arith) (omega (arith, len)) in absurd cc
+
+pub invariant_of-self-2 : goal.invariant_of-self-2
+invariant_of-self-2 g c =
+    let more = length-append c.args.self.now.tail.starts.items (length c.args.self.now.tail.bytes.items ∷ []) in
+    let begun = ap length c.in_ok-begin.ensures.begun in
+    let files = c.args.self.now.files in
+    record {
+      last_file = omega (arith, c.requires.file);
+      max = c.args.self.now.max;
+      files = omega (arith, more, begun);
+    }
 
 pub returns-clause-log : goal.returns-clause-log
 returns-clause-log g c =

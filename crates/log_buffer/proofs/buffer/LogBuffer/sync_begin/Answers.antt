@@ -1,9 +1,11 @@
-use Rattle.std.proofs.Common.{Some, length, sym, subst, arith}
+use Rattle.std.proofs.Common.{Some, length, refl, sym, ap, subst, le_refl, arith}
 use Rattle.je_disk.specs.Moments.{now}
+use Rattle.je_disk.specs.States.{State}
 use Rattle.log_file.specs.Log.{entries_of}
 use Rattle.log_buffer.specs.Buffer.{file_of, offset_of, last_of, first_of}
 use Rattle.log_buffer.specs.Crash.{Holds}
-use Rattle.log_buffer.proofs.KeptSyncs.{holds_begun}
+use Rattle.log_buffer.proofs.KeptSyncs.{holds_begun, begun_through}
+use Rattle.log_buffer.proofs.Still.{log_still, tail_kept}
 use Rattle.log_buffer.proofs.buffer.LogBuffer.sync_begin.Goals as goal
 
 pub returns-in-Ok-clause-holds : goal.returns-in-Ok-clause-holds
@@ -14,3 +16,23 @@ returns-in-Ok-clause-holds g c =
     subst (Holds log removed least (Some (length (entries_of log))) (first_of written)) (sym (c.in-Ok.ensures.done told))
     (holds_begun log removed least (file_of written) (offset_of written) (last_of written) (first_of written) begun (now (g.D.Disk.history written.disk)) has_written.is_log has_written.ends (omega arith)
     (c.in_ok-write_out.ensures.whole log has told) (c.in_ok-write_out.ensures.holds told log removed least begun has h))
+
+pub returns-in-Ok-clause-log : goal.returns-in-Ok-clause-log
+returns-in-Ok-clause-log g c =
+    let written = c.write_out.new.self in
+    λ log has.
+    log_still g.D.Disk.tells (now (g.D.Disk.history written.disk)) _ written _ log (λ told. ap (λ (s : State). s.reads) (c.in-Ok.ensures.done told)) (tail_kept written _ refl refl refl refl refl refl (le_refl _) (le_refl _) (le_refl _)) (c.in_ok-write_out.ensures.log log has)
+
+pub returns-in-Ok-clause-crash : goal.returns-in-Ok-clause-crash
+returns-in-Ok-clause-crash g c =
+    let written = c.write_out.new.self in
+    λ told log removed least begun has h.
+    begun_through log removed least (first_of written) begun (g.D.Disk.history c.args.self.now.disk) (g.D.Disk.history written.disk) (g.D.Disk.history c.begin_sync.new.self)
+    (c.write_out.ensures.crash told log removed least begun has h) (c.in_ok-write_out.ensures.holds told log removed least begun has h) (c.begin_sync.ensures.moments told)
+
+pub returns-in-Err-clause-crash : goal.returns-in-Err-clause-crash
+returns-in-Err-clause-crash g c =
+    let written = c.write_out.new.self in
+    λ told log removed least begun has h.
+    begun_through log removed least (first_of written) begun (g.D.Disk.history c.args.self.now.disk) (g.D.Disk.history written.disk) (g.D.Disk.history c.begin_sync.new.self)
+    (c.write_out.ensures.crash told log removed least begun has h) (c.in_ok-write_out.ensures.holds told log removed least begun has h) (c.begin_sync.ensures.moments told)

@@ -25,3 +25,13 @@ returns-in-Ok-clause-holds g c =
     λ told log removed least begun has h.
     subst (λ (n : ℕ). Holds log removed least begun n (now (g.D.Disk.history c.write_tail.new.disk))) (let starts = ap length c.clear.ensures.starts in omega (arith, starts))
     (c.in-Ok.ensures.holds told log removed least begun (tail_is g.D.Disk.tells (now (g.D.Disk.history old.disk)) old log told has) h)
+
+pub returns-in-Ok-clause-crash : goal.returns-in-Ok-clause-crash
+returns-in-Ok-clause-crash g c =
+    let old = c.args.self.now in
+    λ told log removed least begun has h. c.write_tail.ensures.crash told log removed least begun (tail_is g.D.Disk.tells (now (g.D.Disk.history old.disk)) old log told has) h
+
+pub returns-in-Err-clause-crash : goal.returns-in-Err-clause-crash
+returns-in-Err-clause-crash g c =
+    let old = c.args.self.now in
+    λ told log removed least begun has h. c.write_tail.ensures.crash told log removed least begun (tail_is g.D.Disk.tells (now (g.D.Disk.history old.disk)) old log told has) h

@@ -1,6 +1,5 @@
-use Rattle.std.proofs.Common.{◌∙◌, List, [], ◌∷◌, ◌++◌, ap}
+use Rattle.std.proofs.Common.{[]}
 use Rattle.log_replay.proofs.Entries.{list_is_found, list_is_absent, is_there}
-use Rattle.log_replay.specs.declared.pending_change.PendingChange.{PendingChange}
 use Rattle.log_replay.proofs.Waiting.{pending_pushed}
 use Rattle.log_replay.proofs.pending.Pending.push.Goals as goal
 
@@ -13,6 +12,5 @@ returns-in_ok-push-in-Some c =
 pub returns-in_ok-insert-in-None : goal.returns-in_ok-insert-in-None
 returns-in_ok-insert-in-None c =
     let updates = rw c.get_mut.follows.holds-at-none at c.in_ok-insert-in-None.ensures.updates in
-    rw (← c.self.view_is) (pending_pushed c.args.txn c.args.change [] c.push-in-None.new.self c.self.inside.changes.entries _ updates.0
-    (c.in_ok-push-in-None.ensures.ok ∙ ap (λ (l : List PendingChange). l ++ c.args.change ∷ []) c.new-changes.ensures)
-    (list_is_absent c.args.txn c.self.inside.changes.entries c.in-None.ensures.value))
+    rw (← c.self.view_is) (pending_pushed c.args.txn c.args.change [] c.in_ok-changes-in-None.changes c.self.inside.changes.entries _ updates.0
+    c.in_ok-changes-in-None.ensures (list_is_absent c.args.txn c.self.inside.changes.entries c.in-None.ensures.value))

@@ -12,7 +12,7 @@ invariant_of-self c =
 pub invariant_of-self-in-None : goal.invariant_of-self-in-None
 invariant_of-self-in-None c =
     let updates = rw c.get_mut.follows.holds-at-none at c.in_ok-insert-in-None.ensures.updates in
-    rising_updated c.args.db c.set-in-None.new.self c.self.inside.databases.entries _ updates.0 c.set-in-None.ensures.rising c.self.invariant
+    rising_updated c.args.db c.in_ok-table-in-None.table c.self.inside.databases.entries _ updates.0 c.in_ok-table-in-None.ensures.rising c.self.invariant
 
 pub returns-in-Some-clause-ok : goal.returns-in-Some-clause-ok
 returns-in-Some-clause-ok c =
@@ -39,10 +39,10 @@ returns-in-Some-clause-rising c =
 pub returns-in_ok-insert-in-None-clause-ok : goal.returns-in_ok-insert-in-None-clause-ok
 returns-in_ok-insert-in-None-clause-ok c =
     let updates = rw c.get_mut.follows.holds-at-none at c.in_ok-insert-in-None.ensures.updates in
-    rw (← c.self.view_is) (rows_set (record { txn = 0; db = c.args.db; name = c.args.name; value = Some c.args.value }) c.set-in-None.new.self c.self.inside.databases.entries _ updates.0
-    (c.in_ok-set-in-None.ensures.ok ∙ ap (λ (rows : List Row). rows_with c.args.name (Some c.args.value) rows) (c.new-table.ensures ∙ sym (list_is_absent c.args.db c.self.inside.databases.entries c.in-None.ensures.value))))
+    rw (← c.self.view_is) (rows_set (record { txn = 0; db = c.args.db; name = c.args.name; value = Some c.args.value }) c.in_ok-table-in-None.table c.self.inside.databases.entries _ updates.0
+    (c.in_ok-table-in-None.ensures.record ∙ ap (λ (rows : List Row). rows_with c.args.name (Some c.args.value) rows) (sym (list_is_absent c.args.db c.self.inside.databases.entries c.in-None.ensures.value))))
 
 pub returns-in_ok-insert-in-None-clause-rising : goal.returns-in_ok-insert-in-None-clause-rising
 returns-in_ok-insert-in-None-clause-rising c =
     let updates = rw c.get_mut.follows.holds-at-none at c.in_ok-insert-in-None.ensures.updates in
-    rising_updated c.args.db c.set-in-None.new.self c.self.inside.databases.entries _ updates.0 c.set-in-None.ensures.rising c.self.invariant
+    rising_updated c.args.db c.in_ok-table-in-None.table c.self.inside.databases.entries _ updates.0 c.in_ok-table-in-None.ensures.rising c.self.invariant

@@ -1,7 +1,7 @@
 use Rattle.std.proofs.Common.{◌≡◌, ◌≤◌, true, drop}
 use Rattle.je_disk.specs.Moments.{now, Passes}
 use Rattle.log_replay.proofs.PlacingLaws.{IsMarking}
-use Rattle.log_replay.proofs.placing.lsn_of.Given as goal
+use Rattle.log_replay.proofs.placing.find_lsn.Given as goal
 
 abbrev pub invariant-loop-f : goal.invariant-loop-f
 invariant-loop-f g l =

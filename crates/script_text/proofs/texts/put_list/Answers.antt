@@ -1,0 +1,5 @@
+use Rattle.script_text.proofs.Sending.{adds_then}
+use Rattle.script_text.proofs.texts.put_list.Goals as goal
+
+pub returns : goal.returns
+returns g c = adds_then c.put.ensures c.put_names.ensures
