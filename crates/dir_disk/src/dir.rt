@@ -18,11 +18,12 @@ pub struct DirDisk<R: Files + AllocGlobal + Clone + Drop> {
 }
 
 impl<R: Files + AllocGlobal + Clone + Drop> DirDisk<R> {
-    ghost use Rattle.std.specs.Prelude.{◌≡◌, ◌≤◌, None, IfOk};
-    ghost use Rattle.je_disk.specs.Causes.{Rose};
+    ghost use Rattle.std.specs.Prelude.{◌≡◌, ◌≤◌, codes, if◌then◌else◌, length, string_bytes, ◌==◌, None, Ok, IfOk};
+    ghost use Rattle.je_disk.specs.Causes.{Rose, HasFault, HasCause};
 
     /// The folder of this path, which need not be there. Nothing is done to it yet.
     pub fn new(rt: &R, path: &str) -> Result<DirDisk<R>, AllocError>
+        ensures path { IfOk result (λ disk. string_bytes disk.folder.place.path ≡ (if length path.now == 0 then codes "." else path.now)) }
         ensures faults { IfOk result (λ disk. disk.faults ≡ 0) }
         ensures sync_out { IfOk result (λ disk. disk.jobs.sync ≡ None) }
         ensures read_out { IfOk result (λ disk. disk.jobs.reading ≡ None) }
@@ -46,15 +47,28 @@ impl<R: Files + AllocGlobal + Clone + Drop> DirDisk<R> {
         DiskErr::Failed
     }
 
-    // What a call says that may also answer Memory.
-    fn refusal(&mut self, error: &io::Error) -> DiskErr
-        ensures failed { result ≡ DiskErr.Failed → Rose self.old.faults self.new.faults }
-        ensures never_falls { self.old.faults ≤ self.new.faults }
+    // What a call says that has no answer but success and a fault.
+    fn judged<T>(&mut self, answer: io::Result<T>) -> Result<T, DiskErr>
+        ensures ok { IfOk result (λ value. answer ≡ Ok value) }
         ensures jobs { self.new.jobs ≡ self.old.jobs }
+        ensures cause { HasFault self.old.faults self.new.faults result }
     {
-        match error.kind() {
-            ErrorKind::OutOfMemory => DiskErr::Memory,
-            _ => self.fault(),
+        match answer {
+            Ok(value) => Ok(value),
+            Err(_) => Err(self.fault()),
+        }
+    }
+
+    // What a call says that may also answer Memory.
+    fn judged_with_memory<T>(&mut self, answer: io::Result<T>) -> Result<T, DiskErr>
+        ensures ok { IfOk result (λ value. answer ≡ Ok value) }
+        ensures jobs { self.new.jobs ≡ self.old.jobs }
+        ensures cause { HasCause self.old.faults self.new.faults result }
+    {
+        match answer {
+            Ok(value) => Ok(value),
+            Err(e) if e.kind() == ErrorKind::OutOfMemory => Err(DiskErr::Memory),
+            Err(_) => Err(self.fault()),
         }
     }
 }
@@ -89,66 +103,48 @@ where
     fn mount(&mut self) -> Result<(), DiskErr> {
         self.jobs.give_up_sync();
         self.jobs.give_up_reading();
-        match self.folder.mount() {
-            Ok(()) => Ok(()),
-            Err(_) => Err(self.fault()),
-        }
+        let answer = self.folder.mount();
+        self.judged(answer)
     }
 
     fn list(&mut self, alloc: Global) -> Result<Vec<FileNo>, DiskErr> {
-        match self.folder.list(alloc) {
-            Ok(files) => Ok(files),
-            Err(e) => Err(self.refusal(&e)),
-        }
+        let answer = self.folder.list(alloc);
+        self.judged_with_memory(answer)
     }
 
     fn len(&mut self, f: FileNo) -> Result<u64, DiskErr> {
-        match self.folder.len(f) {
-            Ok(len) => Ok(len),
-            Err(_) => Err(self.fault()),
-        }
+        let answer = self.folder.len(f);
+        self.judged(answer)
     }
 
     fn create(&mut self, f: FileNo) -> Result<(), DiskErr> {
-        match self.folder.create(f) {
-            Ok(()) => Ok(()),
-            Err(_) => Err(self.fault()),
-        }
+        let answer = self.folder.create(f);
+        self.judged(answer)
     }
 
     fn append(&mut self, f: FileNo, bytes: &[u8]) -> Result<(), DiskErr> {
-        match self.folder.append(f, bytes) {
-            Ok(()) => Ok(()),
-            Err(_) => Err(self.fault()),
-        }
+        let answer = self.folder.append(f, bytes);
+        self.judged(answer)
     }
 
     fn cut(&mut self, f: FileNo, len: u64) -> Result<(), DiskErr> {
-        match self.folder.cut(f, len) {
-            Ok(()) => Ok(()),
-            Err(_) => Err(self.fault()),
-        }
+        let answer = self.folder.cut(f, len);
+        self.judged(answer)
     }
 
     fn remove(&mut self, f: FileNo) -> Result<(), DiskErr> {
-        match self.folder.remove(f) {
-            Ok(()) => Ok(()),
-            Err(_) => Err(self.fault()),
-        }
+        let answer = self.folder.remove(f);
+        self.judged(answer)
     }
 
     fn read(&mut self, f: FileNo, at: u64, into: &mut [u8]) -> Result<usize, DiskErr> {
-        match self.folder.read(f, at, into) {
-            Ok(count) => Ok(count),
-            Err(_) => Err(self.fault()),
-        }
+        let answer = self.folder.read(f, at, into);
+        self.judged(answer)
     }
 
     fn sync_now(&mut self) -> Result<(), DiskErr> {
-        match self.folder.sync() {
-            Ok(()) => Ok(()),
-            Err(_) => Err(self.fault()),
-        }
+        let answer = self.folder.sync();
+        self.judged(answer)
     }
 
     fn begin_sync(&mut self) -> Result<DirJob<R::File>, DiskErr> {
@@ -157,13 +153,10 @@ where
             self.folder.give_up_sync();
             return Err(self.fault());
         };
-        match self.folder.begin_sync(number) {
-            Ok(job) => {
-                self.jobs.begin_sync(number);
-                Ok(job)
-            }
-            Err(_) => Err(self.fault()),
-        }
+        let answer = self.folder.begin_sync(number);
+        let job = self.judged(answer)?;
+        self.jobs.begin_sync(number);
+        Ok(job)
     }
 
     fn end_sync(&mut self, done: DirDone) -> Result<(), DiskErr>
@@ -175,10 +168,8 @@ where
         ensures cause { HasFault self.old.faults self.new.faults result }
     {
         self.jobs.give_up_sync();
-        match self.folder.end_sync(done.worked()) {
-            Ok(()) => Ok(()),
-            Err(_) => Err(self.fault()),
-        }
+        let answer = self.folder.end_sync(done.worked());
+        self.judged(answer)
     }
 
     fn read_job(&mut self, f: FileNo) -> Result<DirReadJob<R::File>, DiskErr> {
@@ -186,21 +177,16 @@ where
         let Some(number) = self.jobs.next() else {
             return Err(self.fault());
         };
-        match self.folder.begin_read(number, f) {
-            Ok(job) => {
-                self.jobs.begin_reading(number, f);
-                Ok(job)
-            }
-            Err(_) => Err(self.fault()),
-        }
+        let answer = self.folder.begin_read(number, f);
+        let job = self.judged(answer)?;
+        self.jobs.begin_reading(number, f);
+        Ok(job)
     }
 
     fn end_read(&mut self, alloc: Global, done: DirReadDone) -> Result<Vec<u8>, DiskErr> {
         self.jobs.give_up_reading();
-        match self.folder.end_read(alloc, done.bytes()) {
-            Ok(bytes) => Ok(bytes),
-            Err(e) => Err(self.refusal(&e)),
-        }
+        let answer = self.folder.end_read(alloc, done.bytes());
+        self.judged_with_memory(answer)
     }
 
     fn faults(&self) -> u64 {

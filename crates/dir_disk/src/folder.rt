@@ -1,17 +1,17 @@
 // The folder and its open files.
-ghost use Rattle.std.specs.Prelude.{◌≡◌, ◌≤◌, false, length, IfOk, IsErr};
+ghost use Rattle.std.specs.Prelude.{◌≡◌, ◌≤◌, codes, false, if◌then◌else◌, length, string_bytes, ◌==◌, IfOk, IsErr};
 ghost use Rattle.je_disk.specs.States.{IsRising};
 
 use crate::job::{DirJob, DirReadJob, Lost, sync_all, sync_file, whole};
-use crate::pending::Pending;
-use crate::pieces::{fill, in_order};
+use crate::pending::{Pending, Stage};
+use crate::pieces::{fill_from, in_order};
 use crate::place::Place;
 use je_lsn::FileNo;
 use std::alloc::{AllocError, Global};
 use std::collections::BTreeMap;
 use std::fs::OpenFile;
 use std::io;
-use std::io::{Error, ErrorKind, Seek, SeekFrom, Write};
+use std::io::{Error, ErrorKind, Write};
 use std::rt::Files;
 use std::sync::Arc;
 use std::sync::atomic::AtomicBool;
@@ -54,7 +54,9 @@ fn lost_data() -> Error {
 }
 
 impl<R: Files + AllocGlobal + Clone + Drop> Folder<R> {
-    pub fn new(rt: &R, path: &str) -> Result<Folder<R>, AllocError> {
+    pub fn new(rt: &R, path: &str) -> Result<Folder<R>, AllocError>
+        ensures path { IfOk result (λ folder. string_bytes folder.place.path ≡ (if length path.now == 0 then codes "." else path.now)) }
+    {
         Ok(Folder {
             place: Place::new(rt, path)?,
             files: BTreeMap::new(rt.alloc()),
@@ -193,10 +195,7 @@ impl<R: Files + AllocGlobal + Clone + Drop> Folder<R> {
             return Ok(0);
         }
         match self.files.get_mut(&f.0) {
-            Some(opened) => {
-                opened.file.seek(SeekFrom::Start(at))?;
-                fill(&mut opened.file, into)
-            }
+            Some(opened) => fill_from(&mut opened.file, at, into),
             None => Ok(0),
         }
     }
@@ -231,8 +230,8 @@ impl<R: Files + AllocGlobal + Clone + Drop> Folder<R> {
     pub fn sync(&mut self) -> io::Result<()> {
         let handles = self.handles()?;
         self.finish(sync_all(handles.as_slice(), &self.lost))?;
-        self.begin_pending();
-        self.end_pending(true);
+        self.follow(Stage::Begun);
+        self.follow(Stage::Ended { worked: true });
         Ok(())
     }
 
@@ -240,10 +239,10 @@ impl<R: Files + AllocGlobal + Clone + Drop> Folder<R> {
     pub fn begin_sync(&mut self, number: u64) -> io::Result<DirJob<R::File>>
         ensures { IfOk result (λ job. job.number ≡ number) }
     {
-        self.end_pending(false);
+        self.follow(Stage::Ended { worked: false });
         let files = self.handles()?;
         let lost = Arc::try_clone(&self.lost)?;
-        self.begin_pending();
+        self.follow(Stage::Begun);
         Ok(DirJob {
             number,
             files,
@@ -255,13 +254,13 @@ impl<R: Files + AllocGlobal + Clone + Drop> Folder<R> {
     pub fn end_sync(&mut self, worked: bool) -> io::Result<()>
         ensures failed { worked ≡ false → IsErr result }
     {
-        self.end_pending(worked);
+        self.follow(Stage::Ended { worked });
         self.finish(if worked { Ok(()) } else { Err(lost_data()) })
     }
 
     /// No sync job is out: what it was to make stable is due again.
     pub fn give_up_sync(&mut self) {
-        self.end_pending(false);
+        self.follow(Stage::Ended { worked: false });
     }
 
     fn finish(&self, answer: io::Result<()>) -> io::Result<()>
@@ -300,9 +299,9 @@ impl<R: Files + AllocGlobal + Clone + Drop> Folder<R> {
         if !self.place.is_there()? {
             return Ok(());
         }
-        let numbers = self.place.numbers(self.place.alloc())?;
-        for f in &numbers {
-            if let Some(file) = self.place.reader(FileNo(*f))? {
+        let files = self.list(self.place.alloc())?;
+        for f in &files {
+            if let Some(file) = self.place.reader(*f)? {
                 sync_file(&file, &self.lost)?;
             }
         }
@@ -311,19 +310,12 @@ impl<R: Files + AllocGlobal + Clone + Drop> Folder<R> {
         Ok(())
     }
 
-    fn begin_pending(&mut self) {
+    // The sync job reaches a stage, for all that it is to make stable.
+    fn follow(&mut self, stage: Stage) {
         for opened in self.files.values_mut() {
-            opened.pending.begin();
+            opened.pending.follow(stage);
         }
-        self.entries.begin();
-        self.name.begin();
-    }
-
-    fn end_pending(&mut self, worked: bool) {
-        for opened in self.files.values_mut() {
-            opened.pending.end(worked);
-        }
-        self.entries.end(worked);
-        self.name.end(worked);
+        self.entries.follow(stage);
+        self.name.follow(stage);
     }
 }

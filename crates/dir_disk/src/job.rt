@@ -63,9 +63,10 @@ pub fn whole<F: Read + Drop>(alloc: Global, file: Option<F>) -> io::Result<Vec<u
     ensures all { IfSome file (λ file. IfSome (F.remaining file) (λ left. IfOk result (λ bytes. bytes.items ≡ left))) }
 {
     let mut bytes = Vec::new(alloc);
-    if let Some(mut file) = file {
-        file.read_to_end(&mut bytes)?;
-    }
+    let Some(mut file) = file else {
+        return Ok(bytes);
+    };
+    file.read_to_end(&mut bytes)?;
     Ok(bytes)
 }
 

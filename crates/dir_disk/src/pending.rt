@@ -2,7 +2,7 @@
 ghost use Rattle.std.specs.Prelude.{◌≡◌, ◌≢◌, ◌↔◌, IsTrue, true, false};
 
 /// What it takes to make stable what was done to a file, or to a folder.
-#[derive(Clone, Copy, Debug, PartialEq, Eq)]
+#[derive(Clone, Copy, PartialEq, Eq)]
 pub enum Pending {
     /// It is stable.
     Nothing,
@@ -10,6 +10,15 @@ pub enum Pending {
     Job,
     /// The next sync makes it so.
     Sync,
+}
+
+/// How far a sync job is.
+#[derive(Clone, Copy)]
+pub enum Stage {
+    /// It begins.
+    Begun,
+    /// It has worked, or has failed or was given up.
+    Ended { worked: bool },
 }
 
 impl Pending {
@@ -46,6 +55,14 @@ impl Pending {
             } else {
                 Pending::Sync
             };
+        }
+    }
+
+    /// The sync job that is out reaches a stage.
+    pub(crate) fn follow(&mut self, stage: Stage) {
+        match stage {
+            Stage::Begun => self.begin(),
+            Stage::Ended { worked } => self.end(worked),
         }
     }
 }

@@ -8,7 +8,7 @@ use je_lsn::FileNo;
 use std::alloc::{AllocError, Global};
 use std::collections::BTreeSet;
 use std::io;
-use std::io::{ErrorKind, Read};
+use std::io::{ErrorKind, Read, Seek, SeekFrom};
 
 /// Reads until the piece is full or the file ends, and answers how many bytes.
 pub fn fill<F: Read>(file: &mut F, into: &mut [u8]) -> io::Result<usize>
@@ -24,6 +24,14 @@ pub fn fill<F: Read>(file: &mut F, into: &mut [u8]) -> io::Result<usize>
         }
     }
     Ok(count)
+}
+
+/// The same from an offset.
+pub fn fill_from<F: Read + Seek>(file: &mut F, at: u64, into: &mut [u8]) -> io::Result<usize>
+    ensures { IfOk result (λ count. count ≤ length into.old) }
+{
+    file.seek(SeekFrom::Start(at))?;
+    fill(file, into)
 }
 
 fn sorted(alloc: Global, numbers: &BTreeSet<u32>) -> Result<Vec<u32>, AllocError>

@@ -25,7 +25,11 @@ fn if_there<T>(answer: io::Result<T>) -> io::Result<Option<T>> {
 }
 
 impl<R: Files + AllocGlobal + Clone + Drop> Place<R> {
-    pub fn new(rt: &R, path: &str) -> Result<Place<R>, AllocError> {
+    ghost use Rattle.std.specs.Prelude.{◌≡◌, codes, IfOk, if◌then◌else◌, length, string_bytes, ◌==◌};
+
+    pub fn new(rt: &R, path: &str) -> Result<Place<R>, AllocError>
+        ensures path { IfOk result (λ place. string_bytes place.path ≡ (if length path.now == 0 then codes "." else path.now)) }
+    {
         let path = if path.is_empty() { "." } else { path };
         Ok(Place {
             rt: rt.clone()?,
@@ -96,32 +100,27 @@ impl<R: Files + AllocGlobal + Clone + Drop> Place<R> {
         Ok(numbers)
     }
 
+    // Opens a file; none where there is no file, or no folder, of that path.
+    fn open(&self, f: FileNo, options: &OpenOptions) -> io::Result<Option<R::File>> {
+        let path = self.path_of(f)?;
+        if_there(options.open(&self.rt, path.as_str()))
+    }
+
     /// A file that is there, for reading and for writing at its end.
     pub fn file(&self, f: FileNo) -> io::Result<Option<R::File>> {
-        let path = self.path_of(f)?;
-        if_there(
-            OpenOptions::new()
-                .read(true)
-                .append(true)
-                .open(&self.rt, path.as_str()),
-        )
+        self.open(f, OpenOptions::new().read(true).append(true))
     }
 
     /// A file that is there, for reading alone, with a position of its own.
     pub fn reader(&self, f: FileNo) -> io::Result<Option<R::File>> {
-        let path = self.path_of(f)?;
-        if_there(OpenOptions::new().read(true).open(&self.rt, path.as_str()))
+        self.open(f, OpenOptions::new().read(true))
     }
 
     /// A new file, for reading and for writing at its end; none where the folder is not there.
     pub fn make(&self, f: FileNo) -> io::Result<Option<R::File>> {
-        let path = self.path_of(f)?;
-        if_there(
-            OpenOptions::new()
-                .read(true)
-                .append(true)
-                .create_new(true)
-                .open(&self.rt, path.as_str()),
+        self.open(
+            f,
+            OpenOptions::new().read(true).append(true).create_new(true),
         )
     }
 

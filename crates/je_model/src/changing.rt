@@ -71,10 +71,9 @@ fn unset_pair(
 {
     match kind {
         Kind::Plain => {
-            let kept = copies_where(alloc, pairs, |pair: &(Octets, Octets)| {
+            copies_where(alloc, pairs, |pair: &(Octets, Octets)| {
                 !same_bytes(pair.0.as_slice(), at.key.as_slice())
-            })?;
-            Ok(List::from_vec(kept))
+            })
         }
     }
 }
@@ -182,12 +181,12 @@ fn empty_in_each(
 fn remove_database(
     alloc: Global,
     databases: &[Database],
-    db: &[u8],
-) -> Result<Vec<Database>, AllocError>
-    ensures { IfOk result (λ kept. kept.items ≡ databases_without db.now databases.now) }
+    db: &Word,
+) -> Result<List<Database>, AllocError>
+    ensures { IfOk result (λ list. list ≡ databases_without db.now databases.now) }
 {
     copies_where(alloc, databases, |d: &Database| {
-        !same_bytes(d.name.as_slice(), db)
+        !same_bytes(d.name.as_slice(), db.as_slice())
     })
 }
 
@@ -214,8 +213,8 @@ fn rename_database(
         return copy_of(databases);
     };
     let new = copy_named(d, to)?;
-    let others = remove_database(alloc, databases.as_slice(), d.name.as_slice())?;
-    add_database(alloc, new, &others)
+    let others = remove_database(alloc, databases.as_slice(), &d.name)?;
+    add_database(alloc, new, others.as_slice())
 }
 
 /// The databases and one more, in order of the names.
@@ -236,38 +235,59 @@ fn add_database(
     )
 }
 
+/// A database without records.
+fn empty_database(alloc: Global, db: &Word, kind: &Kind) -> Result<Database, AllocError>
+    ensures { IfOk result (λ d. d ≡ record { name = db.now; kind = kind.now; pairs = [] }) }
+{
+    let name = copy_of(db)?;
+    let kind = copy_of(kind)?;
+    Ok(Database {
+        name,
+        kind,
+        pairs: List::new(alloc),
+    })
+}
+
+/// The databases and an empty one.
+fn make_database(
+    alloc: Global,
+    databases: &[Database],
+    db: &Word,
+    kind: &Kind,
+) -> Result<List<Database>, AllocError>
+    ensures { IfOk result (λ list. list ≡ databases_with (record { name = db.now; kind = kind.now; pairs = [] }) databases.now) }
+{
+    let new = empty_database(alloc, db, kind)?;
+    add_database(alloc, new, databases)
+}
+
+/// The databases after a change.
+fn databases_after(
+    alloc: Global,
+    store: &Store,
+    change: &Change,
+) -> Result<List<Database>, AllocError>
+    ensures { IfOk result (λ list. list ≡ (changed change.now store.now).databases) }
+{
+    let databases = store.databases.as_slice();
+    match change {
+        Change::Set { db, at, value } => set_in_each(alloc, databases, db, at, value),
+        Change::Unset { db, at } => unset_in_each(alloc, databases, db, at),
+        Change::Make { db, kind } => make_database(alloc, databases, db, kind),
+        Change::Remove { db } => remove_database(alloc, databases, db),
+        Change::Rename { db, to } => {
+            rename_database(alloc, find_database(store, db), to, &store.databases)
+        }
+        Change::Empty { db } => empty_in_each(alloc, databases, db),
+    }
+}
+
 /// The store after a change.
 fn after_change(alloc: Global, store: &Store, change: &Change) -> Result<Store, AllocError>
     ensures { IfOk result (λ after. after ≡ changed change.now store.now) }
 {
-    let databases = store.databases.as_slice();
-    match change {
-        Change::Set { db, at, value } => Ok(Store {
-            databases: set_in_each(alloc, databases, db, at, value)?,
-        }),
-        Change::Unset { db, at } => Ok(Store {
-            databases: unset_in_each(alloc, databases, db, at)?,
-        }),
-        Change::Make { db, kind } => {
-            let new = Database {
-                name: copy_of(db)?,
-                kind: copy_of(kind)?,
-                pairs: List::new(alloc),
-            };
-            Ok(Store {
-                databases: add_database(alloc, new, databases)?,
-            })
-        }
-        Change::Remove { db } => Ok(Store {
-            databases: List::from_vec(remove_database(alloc, databases, db.as_slice())?),
-        }),
-        Change::Rename { db, to } => Ok(Store {
-            databases: rename_database(alloc, find_database(store, db), to, &store.databases)?,
-        }),
-        Change::Empty { db } => Ok(Store {
-            databases: empty_in_each(alloc, databases, db)?,
-        }),
-    }
+    let databases = databases_after(alloc, store, change)?;
+    Ok(Store { databases })
 }
 
 /// The store after several changes, in order.

@@ -1,10 +1,10 @@
 // Evaluation as a plain program.
-ghost use Rattle.std.specs.Prelude.{◌≡◌, [], IfOk};
+ghost use Rattle.std.specs.Prelude.{◌≡◌, [], Bool, IfOk};
 ghost use Rattle.std.specs.Option.{option_copied};
 ghost use Rattle.je_model.specs.Store.{names_of, pair_at, all_changed};
 ghost use Rattle.je_model.specs.Evaluation.{Outcome, evaluation, changes_by, reading, plain_name};
 ghost use Rattle.je_model.specs.declared.answer.Answer.TheVariants.{Names, NoDatabase};
-ghost use Rattle.je_model.specs.declared.call.Call.TheVariants.{Remove as Removes, Rename as Renames, Truncate, Put, PutNo, Delete};
+ghost use Rattle.je_model.specs.declared.call.Call.TheVariants.{Remove as Removes, Rename as Renames, Truncate, Put, PutNo, Get, Delete};
 ghost use Rattle.je_model.specs.declared.change.Change.TheVariants.{Set, Make};
 
 use crate::changing::{after_changes, find_database, same_bytes};
@@ -35,18 +35,13 @@ fn outcome_of(
 {
     match call {
         Call::Create { db, kind } => create(alloc, db, kind),
-        Call::List => Ok((list(alloc, store)?, List::new(alloc))),
+        Call::List => list(alloc, store),
         Call::Remove { db } => remove(alloc, store, db),
         Call::Rename { db, to } => rename(alloc, store, db, to),
         Call::Truncate { db } => truncate(alloc, store, db),
         Call::Put { db, key, value } => put(alloc, store, db, key, value),
         Call::PutNo { db, key, value } => put_new(alloc, store, db, key, value),
-        Call::Get { db, key, .. } => {
-            let Some(d) = find_database(store, db) else {
-                return Ok(no_database(alloc));
-            };
-            read(alloc, find_pair(d.pairs.as_slice(), key))
-        }
+        Call::Get { db, key, .. } => get(alloc, store, db, key),
         Call::Delete { db, key } => delete(alloc, store, db, key),
     }
 }
@@ -61,11 +56,11 @@ fn create(alloc: Global, db: &Word, kind: &Kind) -> Result<(Answer, List<Change>
     done_by(alloc, change)
 }
 
-fn list(alloc: Global, store: &Store) -> Result<Answer, AllocError>
-    ensures { IfOk result (λ answer. answer ≡ Names (names_of store.now)) }
+fn list(alloc: Global, store: &Store) -> Result<(Answer, List<Change>), AllocError>
+    ensures { IfOk result (λ r. r ≡ (Names (names_of store.now), [])) }
 {
     let names = names_in(alloc, store)?;
-    Ok(Answer::Names { names })
+    Ok((Answer::Names { names }, List::new(alloc)))
 }
 
 fn remove(alloc: Global, store: &Store, db: &Word) -> Result<(Answer, List<Change>), AllocError>
@@ -135,6 +130,20 @@ fn put_new(
         Some(_) => Ok((Answer::KeyExist, List::new(alloc))),
         None => set(alloc, db, key, value),
     }
+}
+
+fn get(
+    alloc: Global,
+    store: &Store,
+    db: &Word,
+    key: &Octets,
+) -> Result<(Answer, List<Change>), AllocError>
+    ensures { (rmw : Bool) → IfOk result (λ r. record { answer = r.0; changes = r.1 } ≡ evaluation (Get db.now key.now rmw) store.now) }
+{
+    let Some(d) = find_database(store, db) else {
+        return Ok(no_database(alloc));
+    };
+    read(alloc, find_pair(d.pairs.as_slice(), key))
 }
 
 /// The answer of a read that found that record.

@@ -16,6 +16,8 @@ use Rattle.log_buffer.specs.declared.buffer.LogBuffer.{LogBuffer}
 use Rattle.log_buffer.specs.declared.error.LogErr.{LogErr}
 use Rattle.log_buffer.specs.declared.error.LogErr.TheVariants.{Full, Fault, Damaged, Memory}
 use Rattle.log_buffer.specs.declared.place.Place.{Place}
+use Rattle.std.specs.Result.{IsErrAnd}
+use Rattle.log_buffer.specs.Causes.{FailsByFault}
 use Rattle.log_buffer.specs.Buffer.{disk_of, file_of, offset_of, last_of, IsUnchanged}
 use Rattle.log_buffer.specs.Flip.{end_after, end_after_all, lsn_of, placed_at}
 use Rattle.log_buffer.specs.Log.{HasLog, log_with}
@@ -51,6 +53,14 @@ only_fault r Full is full memory damaged = absurd (full is)
 only_fault r Fault is full memory damaged = is
 only_fault r Damaged is full memory damaged = absurd (damaged is)
 only_fault r Memory is full memory damaged = absurd (memory is)
+
+one_error : {T : Type 0} (r : Result T LogErr) (a b : LogErr) → r ≡ Err a → r ≡ Err b → a ≡ b
+one_error r a b first second = cc
+
+-- and then the same error is handed on
+pub fails_by : {T U : Type 0} (first : Result T LogErr) (e : LogErr) (last : Result U LogErr) → first ≡ Err e → IsErrOf first Fault → IsErrAnd last (λ x. x ≡ e) → FailsByFault last
+fails_by first e (Ok x) is fault same = tt
+fails_by first e (Err y) is fault same = same ∙ one_error first e Fault is fault
 
 -- a buffer works on after an append that met none
 pub works_on : {T : Type 0} (r : Result T LogErr) (x : T) (failed : Bool) → r ≡ Ok x → (failed ≡ true ↔ IsErrOf r Fault) → failed ≡ false

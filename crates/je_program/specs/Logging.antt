@@ -21,6 +21,10 @@ rows_after entry rows = rows
 abbrev pub entries_logged : ℕ → ℕ → Change → List Entry
 entries_logged txn number change = entry_of txn number change ∷ Commit (record { 0 = txn }) ∷ []
 
+-- these are the entries of a transaction with one change
+abbrev pub IsTransaction : ℕ → ℕ → Change → Entry → Entry → Type 0
+IsTransaction txn number change entry commit = (entry ≡ entry_of txn number change) × (commit ≡ Commit (record { 0 = txn }))
+
 -- a change was logged: what is kept now has it
 pub record HasLogged (old new : Kept) (number : ℕ) (change : Change) (totals : Totals) : Type 0 where
   pub rows : (db : ℕ) → rows_in new.rows db ≡ row_changed (row_change_of (old.last_txn + 1) number change) (rows_in old.rows) db

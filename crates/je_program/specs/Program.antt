@@ -37,6 +37,12 @@ StopsReading left before after (BadScript line) = IfSome left (λ bytes. (length
 StopsReading left before after Memory = Unit {0}
 StopsReading left before after cause = ⊥
 
+-- why the words and the input told no task: wrong words, no memory, or right words and an input that was not a plan
+abbrev pub TellsNone : Bool → Option (List ℕ) → ℕ → ℕ → Cause → Type 0
+TellsNone taken left before after Usage = taken ≡ false
+TellsNone taken left before after Memory = Unit {0}
+TellsNone taken left before after cause = (taken ≡ true) × StopsReading left before after cause
+
 -- a cause that is one of reading came by reading; of the others this says nothing
 abbrev pub IsStopped : Option (List ℕ) → ℕ → ℕ → Cause → Type 0
 IsStopped left before after Input = Rose before after

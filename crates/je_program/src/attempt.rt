@@ -24,9 +24,8 @@ use crate::cause::Cause;
 use crate::ending::journal_cause;
 use crate::environment::Environment;
 use crate::opening::{Opened, Stopped, open};
-use crate::reading::read_script;
 use crate::running::{Running, run};
-use command_line::parse;
+use crate::task::{Task, read_task};
 use je_disk::Disk;
 use je_io::Source;
 use je_model::{Event, RunPlan, Store, Totals};
@@ -197,13 +196,8 @@ pub fn work<D: Disk, S: Source>(
     ensures files { result.cause ≡ Why.Done → D.tells ≡ true → MeanStore (now (D.history result.disk)).reads (final_store result.opening result.journal.items) }
     ensures source { S.faults input.old ≤ S.faults input.new }
 {
-    let options = match parse(alloc, words) {
-        Ok(Some(options)) => options,
-        Ok(None) => return unopened(alloc, Cause::Usage, disk),
-        Err(_) => return unopened(alloc, Cause::Memory, disk),
-    };
-    match read_script(alloc, input) {
-        Ok(plan) => run_plan(alloc, disk, options.file_max, plan),
+    match read_task(alloc, words, input) {
+        Ok(Task { file_max, plan }) => run_plan(alloc, disk, file_max, plan),
         Err(cause) => unopened(alloc, cause, disk),
     }
 }

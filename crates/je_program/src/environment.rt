@@ -4,6 +4,7 @@ ghost use Rattle.std.specs.Prelude.{◌≡◌, ◌≤◌, ◌<◌, ◌+◌, ◌-
 ghost use Rattle.je_disk.specs.Causes.{Rose};
 ghost use Rattle.je_disk.specs.Moments.{History, now};
 ghost use Rattle.je_model.specs.Answers.{Standing, after_events};
+ghost use Rattle.je_model.specs.declared.change.Change.{Change as OneChange};
 ghost use Rattle.je_model.specs.declared.event.Event.{Event};
 ghost use Rattle.je_model.specs.declared.event.Event.TheVariants.{SyncEnd};
 ghost use Rattle.log_buffer.specs.Buffer.{disk_of, has_failed};
@@ -12,7 +13,7 @@ ghost use Rattle.log_file.specs.Log.{Log, entries_of};
 ghost use Rattle.log_replay.specs.Logging.{entry_of as entry_of_change};
 ghost use Rattle.je_program.specs.Crash.{BeginsSafely, GoesOnSafely, IsGuarded, IsKeeping, LogsSafely, log_after, log_with_all};
 ghost use Rattle.je_program.specs.Environment.{IsAt, IsAtEnd, log_rule};
-ghost use Rattle.je_program.specs.Logging.{entries_logged};
+ghost use Rattle.je_program.specs.Logging.{IsTransaction, entries_logged};
 ghost use Rattle.je_program.specs.Planning.{end_behind};
 ghost use Rattle.je_program.specs.declared.kept.TheConstants.{LAST_FILE};
 ghost use Rattle.je_program.specs.Steps.{BeginsSync, CanGoOn, GoesOn, LogsChange, EndsSync, HasCause};
@@ -23,7 +24,7 @@ use crate::planning::{Planned, end_of_transaction, plan};
 use je_disk::{Disk, SyncJob};
 use je_model::{Answer, Call, Change, Fault, LAST_TXN, Totals};
 use log_buffer::LogBuffer;
-use log_entry::size;
+use log_entry::{Entry, size};
 use std::alloc::{AllocError, Global};
 
 /// An open environment: its log over its disk, and what is kept of it in memory.
@@ -88,14 +89,38 @@ impl<D: Disk> Environment<D> {
     {
         let txn = self.kept.last_txn + 1;
         let (entry, commit) = entries_of(alloc, txn, number, change)?;
-        let size = size(&entry);
+        self.log_both(alloc, number, totals, &entry, &commit)
+    }
+
+    // Logs the entry of a change and the commit of its transaction. Want of memory leaves the environment as
+    // it was.
+    fn log_both(
+        &mut self,
+        alloc: Global,
+        number: u32,
+        totals: Totals,
+        entry: &Entry,
+        commit: &Entry,
+    ) -> Result<Answer, AllocError>
+        requires bounds { CanGoOn self.old.kept }
+        requires works { IsAtEnd self.old.log self.old.kept }
+        requires numbers { self.old.kept.last_txn < 2 ^ 63 - 1 }
+        requires logs { (change : OneChange) × IsTransaction (self.old.kept.last_txn + 1) number change entry.now commit.now × IsEntry entry.now × ((end_behind self.old.kept change).file ≤ LAST_FILE) }
+        ensures logs { (change : OneChange) → IsTransaction (self.old.kept.last_txn + 1) number change entry.now commit.now
+            → LogsChange D.tells (now (D.history (disk_of self.old.log))) (now (D.history (disk_of self.new.log))) self.old.log self.new.log self.old.kept self.new.kept number change totals result }
+        ensures bounds { CanGoOn self.new.kept }
+        ensures crash { D.tells ≡ true → (held : Log) (least : ℕ) → IsKeeping (now (D.history (disk_of self.old.log))) self.old.log held least None
+            → LogsSafely (D.history (disk_of self.old.log)) (D.history (disk_of self.new.log)) self.new.log held (log_with_all self.old.kept.file_max self.old.kept.end (entry.now ∷ commit.now ∷ []) held) least result }
+        ensures cause { HasCause (D.faults (disk_of self.old.log)) (D.faults (disk_of self.new.log)) result }
+    {
+        let size = size(entry);
         let end = end_of_transaction(self.kept.end, self.kept.file_max, size).unwrap();
         if self.log.reserve(&[size, COMMIT_SIZE]).is_err() {
             return Err(AllocError);
         }
-        change_rows(&mut self.kept.rows, alloc, &entry)?;
-        self.kept.last_txn = txn;
-        match append_both(&mut self.log, &entry, &commit) {
+        change_rows(&mut self.kept.rows, alloc, entry)?;
+        self.kept.last_txn += 1;
+        match append_both(&mut self.log, entry, commit) {
             Ok(()) => {
                 self.kept.commits += 1;
                 self.kept.totals = totals;

@@ -18,6 +18,7 @@ pub mod planning;
 pub mod program;
 pub mod reading;
 pub mod running;
+pub mod task;
 pub mod words;
 
 pub use cause::Cause;

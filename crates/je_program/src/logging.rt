@@ -4,6 +4,7 @@ ghost use Rattle.je_disk.specs.Causes.{Rose};
 ghost use Rattle.je_disk.specs.Moments.{now};
 ghost use Rattle.je_model.specs.declared.change.Change.TheVariants.{Make};
 ghost use Rattle.log_buffer.specs.Buffer.{disk_of, end_of, file_max_of, has_failed, HasRoom};
+ghost use Rattle.log_buffer.specs.Causes.{FailsByFault};
 ghost use Rattle.log_buffer.specs.Crash.{KeptThrough};
 ghost use Rattle.log_buffer.specs.Flip.{end_after_all};
 ghost use Rattle.log_entry.specs.Body.{IsEntry};
@@ -14,7 +15,7 @@ ghost use Rattle.log_file.specs.Scan.{may_follow};
 ghost use Rattle.log_replay.specs.Rows.{rows_in};
 ghost use Rattle.log_replay.specs.Logging.{entry_of as entry_of_change};
 ghost use Rattle.je_program.specs.Crash.{IsKeeping, log_with_all};
-ghost use Rattle.je_program.specs.Logging.{rows_after};
+ghost use Rattle.je_program.specs.Logging.{IsTransaction, rows_after};
 ghost use Rattle.je_program.specs.Steps.{GainsEntries};
 ghost use Rattle.je_program.specs.declared.kept.TheConstants.{LAST_FILE};
 
@@ -84,7 +85,7 @@ pub fn entries_of(
     number: u32,
     change: Change,
 ) -> Result<(Entry, Entry), AllocError>
-    ensures { IfOk result (λ e. (e.0 ≡ entry_of_change txn number change) × (e.1 ≡ Commit (record { 0 = txn }))) }
+    ensures { IfOk result (λ e. IsTransaction txn number change e.0 e.1) }
 {
     let entry = entry_of(alloc, txn, number, change)?;
     Ok((entry, Entry::Commit { txn: TxnId(txn) }))
@@ -110,6 +111,7 @@ pub fn append_both<D: Disk>(
         → KeptThrough (D.history (disk_of log.old)) (D.history (disk_of log.new)) (log_with_all (file_max_of log.old) (end_of log.old) (entry.now ∷ commit.now ∷ []) held) [] least }
     ensures keeps { D.tells ≡ true → (held : Log) (least : ℕ) → IsKeeping (now (D.history (disk_of log.old))) log.old held least None
         → OnOk result (IsKeeping (now (D.history (disk_of log.new))) log.new (log_with_all (file_max_of log.old) (end_of log.old) (entry.now ∷ commit.now ∷ []) held) least None) }
+    ensures by_fault { FailsByFault result }
     ensures failed { OnErr result (has_failed log.new ≡ true) }
     ensures never_falls { D.faults (disk_of log.old) ≤ D.faults (disk_of log.new) }
     ensures fault { OnErr result (Rose (D.faults (disk_of log.old)) (D.faults (disk_of log.new))) }

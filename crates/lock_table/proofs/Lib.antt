@@ -8,3 +8,4 @@ pub mod Sound
 pub mod Listing
 pub mod Steps
 pub mod Ranges
+pub mod Walks

@@ -1,5 +1,5 @@
 -- What each call keeps of the whole table.
-use Rattle.std.proofs.Common.{◌≡◌, Bool, true, false, cond, not, ◌&&◌, List, [], ◌∷◌, ◌++◌, Some, Option, ap, sym, ◌∙◌, subst, ◌⊎◌, ⊎_elim}
+use Rattle.std.proofs.Common.{◌≡◌, refl, Bool, true, false, cond, not, ◌&&◌, List, [], ◌∷◌, ◌++◌, Some, Option, ap, sym, ◌∙◌, subst, ◌⊎◌, ⊎_elim}
 use Rattle.std.proofs.lemmas.Bool.{cases_Bool, or_parts, both_ways, cond-true, cond-false, and_cases}
 use Rattle.je_order.specs.declared.txn_id.TxnId.{TxnId}
 use Rattle.lock_mode.specs.declared.lock_type.LockType.{LockType}
@@ -104,6 +104,21 @@ sound_give_back Q Q2 L L2 P u at was h s e wh q l = record {
 
     there : (r : RecordId) → is_record at r ≡ false → Q2 r ≡ Q r
     there r i = q r ∙ cond-false (is_record at r) (after_give_back u was (Q r)) (Q r) i
+
+-- the same, where what the transaction is told is one equation
+pub sound_told : (Q Q2 : RecordId → Queue) (L L2 : TxnId → RecordId → Bool) (P P2 : TxnId → Option RecordId) (at : RecordId) (w : Lock) (told : Option RecordId)
+    → IsSound Q L P → ((r : RecordId) → has_lock w.txn (Q r).1 ≡ false)
+    → ((r : RecordId) → Q2 r ≡ cond (is_record at r) (after_ask w (Q r)) (Q r))
+    → ((t : TxnId) (r : RecordId) → L2 t r ≡ cond (is_same w.txn t && is_record at r) true (L t r))
+    → (is_blocked (Q at).0 w ≡ true → told ≡ Some at) → ((t : TxnId) → P2 t ≡ cond (is_same w.txn t) told (P t))
+    → IsSound Q2 L2 P2
+sound_told Q Q2 L L2 P P2 at w told s free q l is p =
+    sound_ask Q Q2 L L2 P P2 at w s free q (λ t r. from (is_same w.txn t && is_record at r) (L2 t r) (L t r) (l t r))
+    (λ b. p w.txn ∙ (cond-true (is_same w.txn w.txn) told (P w.txn) (same_itself w.txn) ∙ is b)) (λ t h. p t ∙ cond-false (is_same w.txn t) told (P t) h)
+  where
+    from : (b new old : Bool) → new ≡ cond b true old → new ≡ false → (old ≡ false) × (b ≡ false)
+    from true new old e n = absurd (both_ways new n e)
+    from false new old e n = (sym e ∙ n, refl)
 
 -- the same queues and pending records, with at least as much listed
 pub sound_same : (Q Q2 : RecordId → Queue) (L L2 : TxnId → RecordId → Bool) (P P2 : TxnId → Option RecordId)

@@ -7,7 +7,7 @@ ghost use Rattle.lock_mode.specs.declared.lock_type.LockType.{LockType};
 ghost use Rattle.lock_table.specs.declared.record_id.RecordId.{RecordId};
 ghost use Rattle.lock_table.specs.Locks.{is_same, has_lock, held_by, blocker, is_blocked, after_ask, after_cancel, after_release, after_give_back, WasHeld, IsSettled};
 ghost use Rattle.lock_table.specs.Records.{record_cmp, is_record, queue_at};
-ghost use Rattle.lock_table.specs.Table.{at_txn, owner_in, is_listed, IsOut, IsTable};
+ghost use Rattle.lock_table.specs.Table.{at_txn, owner_in, is_listed, IsOut, IsSameTable, IsTable};
 
 use crate::listed::{list_at, unlist_at};
 use crate::queue::Queue;
@@ -33,8 +33,7 @@ pub(crate) fn ask_in(
     ensures answer { IfOk result (λ asked. owner_in asked ≡ blocker lock (queue_at at.now queues.old.entries).0) }
     ensures queues { OnOk result ((r : RecordId) → queue_at r queues.new.entries ≡ (if is_record at.now r then after_ask lock (queue_at r queues.old.entries) else queue_at r queues.old.entries)) }
     ensures pending { IfOk result (λ asked. (t : TxnId) → at_txn t pending.new.entries ≡ (if is_same lock.txn t then option_map_or (λ _. Some at.now) (owner_in asked) None else at_txn t pending.old.entries)) }
-    ensures err_queues { OnErr result ((r : RecordId) → queue_at r queues.new.entries ≡ queue_at r queues.old.entries) }
-    ensures err_pending { OnErr result ((t : TxnId) → at_txn t pending.new.entries ≡ at_txn t pending.old.entries) }
+    ensures err { OnErr result (IsSameTable (record { records = queues.old.entries; pending = pending.old.entries }) (record { records = queues.new.entries; pending = pending.new.entries })) }
 {
     let Some(owner) = lists::blocker_in(owners_at(queues, at), lock) else {
         grant_now(queues, lists, pending, alloc, at, lock)?;
@@ -59,8 +58,7 @@ fn grant_now(
     ensures table { IsTable queues.new.entries lists.new.entries pending.new.entries }
     ensures queues { OnOk result ((r : RecordId) → queue_at r queues.new.entries ≡ (if is_record at.now r then after_ask lock (queue_at r queues.old.entries) else queue_at r queues.old.entries)) }
     ensures pending { OnOk result ((t : TxnId) → at_txn t pending.new.entries ≡ (if is_same lock.txn t then None else at_txn t pending.old.entries)) }
-    ensures err_queues { OnErr result ((r : RecordId) → queue_at r queues.new.entries ≡ queue_at r queues.old.entries) }
-    ensures err_pending { OnErr result ((t : TxnId) → at_txn t pending.new.entries ≡ at_txn t pending.old.entries) }
+    ensures err { OnErr result (IsSameTable (record { records = queues.old.entries; pending = pending.old.entries }) (record { records = queues.new.entries; pending = pending.new.entries })) }
 {
     list_at(lists, alloc, lock.txn, at)?;
     ask_at(queues, alloc, at, lock)?;
@@ -83,19 +81,31 @@ fn wait_now(
     ensures table { IsTable queues.new.entries lists.new.entries pending.new.entries }
     ensures queues { OnOk result ((r : RecordId) → queue_at r queues.new.entries ≡ (if is_record at.now r then after_ask lock (queue_at r queues.old.entries) else queue_at r queues.old.entries)) }
     ensures pending { OnOk result ((t : TxnId) → at_txn t pending.new.entries ≡ (if is_same lock.txn t then Some at.now else at_txn t pending.old.entries)) }
-    ensures err_queues { OnErr result ((r : RecordId) → queue_at r queues.new.entries ≡ queue_at r queues.old.entries) }
-    ensures err_pending { OnErr result ((t : TxnId) → at_txn t pending.new.entries ≡ at_txn t pending.old.entries) }
+    ensures err { OnErr result (IsSameTable (record { records = queues.old.entries; pending = pending.old.entries }) (record { records = queues.new.entries; pending = pending.new.entries })) }
 {
-    let key = copy_of(at)?;
     list_at(lists, alloc, lock.txn, at)?;
     ask_at(queues, alloc, at, lock)?;
-    match pending.insert(lock.txn, key) {
-        Ok(_) => Ok(()),
+    match note_wait(pending, lock.txn, at) {
+        Ok(()) => Ok(()),
         Err(failed) => {
             cancel_at(queues, at, lock.txn);
-            Err(AllocError::from(failed))
+            Err(failed)
         }
     }
+}
+
+// Notes that a transaction waits on a record. Want of memory changes nothing.
+fn note_wait(
+    pending: &mut BTreeMap<TxnId, RecordId>,
+    txn: TxnId,
+    at: &RecordId,
+) -> Result<(), AllocError>
+    ensures ok { OnOk result ((t : TxnId) → at_txn t pending.new.entries ≡ (if is_same txn t then Some at.now else at_txn t pending.old.entries)) }
+    ensures err { OnErr result ((t : TxnId) → at_txn t pending.new.entries ≡ at_txn t pending.old.entries) }
+{
+    let key = copy_of(at)?;
+    let _ = pending.insert(txn, key)?;
+    Ok(())
 }
 
 // The transaction's wait is taken back, if it has one. It takes no memory.

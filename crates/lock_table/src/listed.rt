@@ -1,15 +1,25 @@
 // Which records a transaction has locks or waits on.
-ghost use Rattle.std.specs.Prelude.{◌≡◌, ◌&&◌, true, false, if◌then◌else◌, OnOk, OnErr};
+ghost use Rattle.std.specs.Prelude.{◌≡◌, ◌&&◌, true, false, if◌then◌else◌, IfOk, OnOk, OnErr};
+ghost use Rattle.std.specs.BTreeSet.{contains as set_has};
 ghost use Rattle.je_order.specs.declared.txn_id.TxnId.{TxnId};
 ghost use Rattle.lock_table.specs.declared.record_id.RecordId.{RecordId};
 ghost use Rattle.lock_table.specs.Locks.{is_same};
-ghost use Rattle.lock_table.specs.Records.{is_record};
+ghost use Rattle.lock_table.specs.Records.{record_cmp, is_record};
 ghost use Rattle.lock_table.specs.Table.{is_listed};
 
 use crate::RecordId;
 use je_order::{TxnId, copy_of};
 use std::alloc::{AllocError, Global};
 use std::collections::{BTreeMap, BTreeSet};
+
+// A list of one record.
+fn list_of(alloc: Global, key: RecordId) -> Result<BTreeSet<RecordId>, AllocError>
+    ensures { IfOk result (λ list. (r : RecordId) → set_has record_cmp list r ≡ (if is_record key r then true else false)) }
+{
+    let mut list = BTreeSet::new(alloc);
+    list.insert(key)?;
+    Ok(list)
+}
 
 // Lists a record at a transaction. Want of memory changes nothing.
 pub(crate) fn list_at(
@@ -26,8 +36,7 @@ pub(crate) fn list_at(
         list.insert(key)?;
         return Ok(());
     }
-    let mut list = BTreeSet::new(alloc);
-    list.insert(key)?;
+    let list = list_of(alloc, key)?;
     lists.insert(txn, list)?;
     Ok(())
 }

@@ -27,11 +27,18 @@ pub(crate) fn is_in(locks: &[Lock], txn: TxnId) -> bool
     locks.iter().any(|lock| txn == lock.txn)
 }
 
+// Whether the request conflicts with this owner.
+fn is_stopping(owner: Lock, lock: Lock) -> bool
+    ensures { result ≡ is_blocking lock owner }
+{
+    lock.txn != owner.txn && conflicts(owner.mode, lock.mode)
+}
+
 // Whether the request conflicts with an owner.
 pub(crate) fn is_stopped(owners: &[Lock], lock: Lock) -> bool
     ensures { result ≡ is_blocked owners.now lock }
 {
-    owners.iter().any(|owner| lock.txn != owner.txn && conflicts(owner.mode, lock.mode))
+    owners.iter().any(|owner| is_stopping(*owner, lock))
 }
 
 // The lesser of two transactions, where there are two.
@@ -50,7 +57,7 @@ pub(crate) fn blocker_in(owners: &[Lock], lock: Lock) -> Option<TxnId>
 {
     let mut found = None;
     for owner in owners {
-        if lock.txn != owner.txn && conflicts(owner.mode, lock.mode) {
+        if is_stopping(*owner, lock) {
             found = lesser_of(found, owner.txn);
         }
     }
@@ -94,7 +101,7 @@ fn stoppers(alloc: Global, owners: &[Lock], lock: Lock) -> Result<Vec<TxnId>, Al
 {
     let mut found = Vec::new(alloc);
     for owner in owners {
-        if lock.txn != owner.txn && conflicts(owner.mode, lock.mode) {
+        if is_stopping(*owner, lock) {
             found.push(owner.txn)?;
         }
     }
@@ -178,11 +185,23 @@ fn set_lock(owner: Lock, txn: TxnId, mode: LockType) -> Lock
 }
 
 // Sets the transaction's lock to the type. It takes no memory.
-pub(crate) fn set_in(owners: &mut [Lock], txn: TxnId, mode: LockType)
+fn set_in(owners: &mut [Lock], txn: TxnId, mode: LockType)
     ensures { owners.new ≡ with_type txn (Some mode) owners.old }
 {
     for at in 0..owners.len() {
         owners[at] = set_lock(owners[at], txn, mode);
+    }
+}
+
+// The transaction's lock is this type again, or none. It takes no memory.
+pub(crate) fn restore_in(owners: &mut Vec<Lock>, txn: TxnId, was: Option<LockType>)
+    ensures items { owners.new.items ≡ with_type txn was owners.old.items }
+    ensures capacity { vec_capacity owners.new ≡ vec_capacity owners.old }
+    ensures len { vec_len owners.new ≤ vec_len owners.old }
+{
+    match was {
+        None => remove_from(owners, txn),
+        Some(mode) => set_in(owners.as_mut_slice(), txn, mode),
     }
 }
 

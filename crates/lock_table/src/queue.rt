@@ -10,7 +10,7 @@ use std::marker::Model;
 
 // One record's owners and, in order of arrival, its waits, seen as the two lists. There is room for
 // each wait among the owners, so that a grant takes no memory.
-#[derive(Debug, Drop)]
+#[derive(Drop)]
 pub(crate) struct Queue {
     owners: Vec<Lock>,
     waits: Vec<Lock>,
@@ -113,10 +113,7 @@ impl Queue {
     pub(crate) fn give_back(&mut self, txn: TxnId, was: Option<LockType>)
         ensures { self.new ≡ after_give_back txn was self.old }
     {
-        match was {
-            None => lists::remove_from(&mut self.owners, txn),
-            Some(mode) => lists::set_in(self.owners.as_mut_slice(), txn, mode),
-        }
+        lists::restore_in(&mut self.owners, txn, was);
         lists::grant_in(&mut self.owners, &mut self.waits);
     }
 }

@@ -1,5 +1,5 @@
 // The records that are locked, each with its owners and waits.
-ghost use Rattle.std.specs.Prelude.{◌≡◌, if◌then◌else◌, OnOk, OnErr};
+ghost use Rattle.std.specs.Prelude.{◌≡◌, [], if◌then◌else◌, IfOk, OnOk, OnErr};
 ghost use Rattle.lock_table.specs.declared.record_id.RecordId.{RecordId};
 ghost use Rattle.lock_table.specs.Locks.{after_ask, after_cancel, after_release, after_give_back};
 ghost use Rattle.lock_table.specs.Records.{is_record, queue_at};
@@ -31,6 +31,15 @@ pub(crate) fn waits_at<'a>(queues: &'a BTreeMap<RecordId, Queue>, at: &RecordId)
     }
 }
 
+// The owners and the waits of a record on which one lock was asked for.
+fn first_queue(alloc: Global, lock: Lock) -> Result<Queue, AllocError>
+    ensures { IfOk result (λ queue. queue ≡ after_ask lock ([], [])) }
+{
+    let mut queue = Queue::new(alloc);
+    queue.ask(lock)?;
+    Ok(queue)
+}
+
 // A transaction asks for a lock on a record. Want of memory changes nothing.
 pub(crate) fn ask_at(
     queues: &mut BTreeMap<RecordId, Queue>,
@@ -44,8 +53,7 @@ pub(crate) fn ask_at(
     if let Some(queue) = queues.get_mut(at) {
         return queue.ask(lock);
     }
-    let mut queue = Queue::new(alloc);
-    queue.ask(lock)?;
+    let queue = first_queue(alloc, lock)?;
     if queue.is_empty() {
         return Ok(());
     }

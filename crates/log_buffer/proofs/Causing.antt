@@ -1,10 +1,15 @@
 -- When a log buffer has failed, for each way in which a call ends.
-use Rattle.std.proofs.Common.{◌≡◌, ℕ, ◌≤◌, Bool, true, false, le_refl}
-use Rattle.std.specs.Prelude.{Result, Ok, Err, IsErrOf}
-use Rattle.je_disk.specs.Causes.{Rose}
+use Rattle.std.proofs.Common.{◌≡◌, ℕ, ◌<◌, ◌≤◌, ◌⊎◌, inl, inr, Bool, true, false, refl, ap, subst, ◌∙◌, le_refl, le_trans, arith}
+use Rattle.std.proofs.lemmas.Bool.{cases_order}
+use Rattle.std.specs.Prelude.{Result, Ok, Err, Option, Some, None, OnErr, IsErrAnd, IsErrOf, ◌↔◌}
+use Rattle.std.specs.Result.{is_err}
+use Rattle.std.specs.Option.{ok_or}
+use Rattle.je_disk.specs.declared.error.DiskErr.{DiskErr}
+use Rattle.je_disk.specs.declared.error.DiskErr.TheVariants.{Failed, Memory as Wants}
+use Rattle.je_disk.specs.Causes.{Rose, HasCause as DiskCause}
 use Rattle.log_buffer.specs.declared.error.LogErr.{LogErr}
-use Rattle.log_buffer.specs.declared.error.LogErr.TheVariants.{Fault, Memory}
-use Rattle.log_buffer.specs.Causes.{HasCause}
+use Rattle.log_buffer.specs.declared.error.LogErr.TheVariants.{Fault, Full, Memory, Damaged}
+use Rattle.log_buffer.specs.Causes.{HasCause, FailsByFault}
 
 module _ {T : Type 0} where
   -- no fault
@@ -48,3 +53,97 @@ cause_same was is before after r r' to from cause = record {
   stays = λ old. to (cause.stays old);
   failed = (λ new. to (cause.failed.0 new), λ fault. cause.failed.1 (from fault));
 }
+
+-- a call that goes on where another one went well
+pub cause_done : {T U : Type 0} (was was' is : Bool) (before before' after : ℕ) (r : Result T LogErr) (u : T) (v : U) → r ≡ Ok u → was' ≡ was → before' ≡ before → HasCause was' is before' after r → HasCause was is before after (Ok v)
+cause_done was was' is before before' after r u v ok same count cause =
+    subst (λ (n : ℕ). HasCause was is n after (Ok v)) count (subst (λ (b : Bool). HasCause b is before' after (Ok v)) same (cause_same was' is before' after r (Ok v) (λ fault. cc) (λ fault. cc) cause))
+
+-- it had not failed before
+was_well : {T : Type 0} (was is : Bool) (before after : ℕ) (r : Result T LogErr) (u : T) → r ≡ Ok u → HasCause was is before after r → was ≡ true → ⊥
+was_well was is before after r u ok cause failed = let fault = cause.stays failed in absurd cc
+
+pub cause_then_ok : {T U : Type 0} (was is : Bool) (before mid after : ℕ) (r : Result T LogErr) (u : T) (v : U) → r ≡ Ok u → HasCause was is before mid r → mid ≤ after → HasCause was false before after (Ok v)
+cause_then_ok was is before mid after r u v ok cause le = record {
+  never_falls = le_trans cause.never_falls le;
+  fault = λ _ fault. absurd cc;
+  stays = λ failed. absurd (was_well was is before mid r u ok cause failed);
+  failed = (λ failed. absurd cc, λ fault. absurd cc);
+}
+
+rose_since : (before mid after : ℕ) → before ≤ mid → mid ≤ after → Rose mid after → Rose before after
+rose_since before mid after low high (inl less) = inl (omega arith)
+rose_since before mid after low high (inr full) = by_order (cases_order before mid) where
+  by_order : (before ≡ mid) ⊎ ((before < mid) ⊎ (mid < before)) → Rose before after
+  by_order (inl same) = inr (same ∙ full)
+  by_order (inr (inl less)) = inl (omega arith)
+  by_order (inr (inr more)) = absurd (omega arith)
+
+pub rose_then : {T E : Type 0} (r : Result T E) (before mid after : ℕ) → before ≤ mid → mid ≤ after → OnErr r (Rose mid after) → OnErr r (Rose before after)
+rose_then (Ok v) before mid after low high rose = tt
+rose_then (Err e) before mid after low high rose = rose_since before mid after low high rose
+
+pub cause_then_fault : {T U : Type 0} (was is : Bool) (before mid after : ℕ) (r : Result T LogErr) (u : T) (r' : Result U LogErr) → r ≡ Ok u → r' ≡ Err Fault → HasCause was is before mid r → mid ≤ after → Rose mid after → HasCause was true before after r'
+cause_then_fault was is before mid after r u r' ok fault cause le rose = record {
+  never_falls = le_trans cause.never_falls le;
+  fault = λ _ _. rose_since before mid after cause.never_falls le rose;
+  stays = λ _. fault;
+  failed = (λ _. fault, λ _. refl);
+}
+
+-- what went well had no fault before
+pub failed_not : {T : Type 0} (was is : Bool) (before after : ℕ) (r : Result T LogErr) (P : Type 0) → is_err r ≡ false → HasCause was is before after r → was ≡ true → P
+failed_not was is before after r P ok cause failed = let fault = cause.stays failed in let err = ap is_err fault in absurd cc
+
+-- ---- an error that is handed on
+
+pub err_is : {T E : Type 0} (r : Result T E) (e : E) → IsErrAnd r (λ x. x ≡ e) → r ≡ Err e
+err_is (Ok v) e is = absurd is
+err_is (Err x) e is = ap (λ y. Err y) is
+
+pub cause_err : {T U : Type 0} (was was' is : Bool) (before before' after : ℕ) (r : Result T LogErr) (e : LogErr) (r' : Result U LogErr) → r ≡ Err e → r' ≡ Err e → was' ≡ was → before' ≡ before → HasCause was' is before' after r → HasCause was is before after r'
+cause_err was was' is before before' after r e r' err err' same count cause =
+    subst (λ (n : ℕ). HasCause was is n after r') count (subst (λ (b : Bool). HasCause b is before' after r') same (cause_same was' is before' after r r' (λ fault. cc) (λ fault. cc) cause))
+
+pub cause_refused : {T U : Type 0} (was : Bool) (count : ℕ) (r : Result T LogErr) (e : LogErr) (r' : Result U LogErr) → r ≡ Err e → r' ≡ Err e → (IsErrOf r Fault ↔ was ≡ true) → HasCause was was count count r'
+cause_refused was count r e r' err err' fault = record {
+  never_falls = le_refl count;
+  fault = λ none is. let failed = fault.0 cc in absurd cc;
+  stays = λ failed. let is = fault.1 failed in cc;
+  failed = (λ failed. let is = fault.1 failed in cc, λ is. fault.0 cc);
+}
+
+-- an error of a call that fails by faults alone
+pub fault_handed : {T U : Type 0} (r : Result T LogErr) (e : LogErr) (r' : Result U LogErr) → FailsByFault r → r ≡ Err e → r' ≡ Err e → r' ≡ Err Fault
+fault_handed (Ok v) e r' by_fault err err' = absurd cc
+fault_handed (Err x) e r' by_fault err err' = cc
+
+pub not_full : {T : Type 0} (r : Result T LogErr) (P : Type 0) → r ≡ Err Fault → IsErrOf r Full → P
+not_full r P fault is = absurd cc
+
+pub not_memory : {T : Type 0} (r : Result T LogErr) (P : Type 0) → r ≡ Err Fault → IsErrOf r Memory → P
+not_memory r P fault is = absurd cc
+
+-- ---- an error of the disk that may want memory
+
+pub cause_judged : {T U : Type 0} (was is : Bool) (before after : ℕ) (r : Result T DiskErr) (e : DiskErr) (e' : LogErr) → was ≡ false → r ≡ Err e → (e ≡ Wants → (e' ≡ Memory) × (is ≡ was)) → (e ≡ Failed → (e' ≡ Fault) × (is ≡ true))
+    → DiskCause before after r → HasCause {T = U} was is before after (Err e')
+cause_judged was is before after r Wants e' old err memory fault cause = let m = memory refl in cause_memory was is before after (Err e') old (m.1 ∙ old) cause.never_falls (ap (λ x. Err x) m.0)
+cause_judged was is before after r Failed e' old err memory fault cause = let f = fault refl in cause_fault was is before after (Err e') old f.1 cause.never_falls (ap (λ x. Err x) f.0) (cause.failed err)
+
+pub judged_not : {T : Type 0} (is was : Bool) (e : DiskErr) (e' : LogErr) → (e ≡ Wants → (e' ≡ Memory) × (is ≡ was)) → (e ≡ Failed → (e' ≡ Fault) × (is ≡ true)) → (IsErrOf {T = T} (Err e') Full → ⊥) × (IsErrOf {T = T} (Err e') Damaged → ⊥)
+judged_not is was Wants e' memory fault = let m = (memory refl).0 in (λ full. absurd cc, λ damaged. absurd cc)
+judged_not is was Failed e' memory fault = let f = (fault refl).0 in (λ full. absurd cc, λ damaged. absurd cc)
+
+-- ---- an answer where there may be none
+
+pub found_is : {T : Type 0} (o : Option T) (r : Result T LogErr) (v : T) → r ≡ ok_or o Damaged → o ≡ Some v → r ≡ Ok v
+found_is o r v is some = is ∙ ap (λ x. ok_or x Damaged) some
+
+pub found_not_full : {T : Type 0} (o : Option T) (r : Result T LogErr) → r ≡ ok_or o Damaged → IsErrOf r Full → ⊥
+found_not_full (Some v) r is full = absurd cc
+found_not_full None r is full = absurd cc
+
+pub cause_found : {T : Type 0} (was is : Bool) (before after : ℕ) (r : Result (Option T) LogErr) (o : Option T) (r' : Result T LogErr) → r ≡ Ok o → r' ≡ ok_or o Damaged → HasCause was is before after r → HasCause was is before after r'
+cause_found was is before after r (Some v) r' ok found cause = cause_same was is before after r r' (λ fault. cc) (λ fault. cc) cause
+cause_found was is before after r None r' ok found cause = cause_same was is before after r r' (λ fault. cc) (λ fault. cc) cause

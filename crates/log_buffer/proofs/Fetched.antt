@@ -291,9 +291,3 @@ in_the_tail tells state buffer f offset e is not = by_order (cases_order f (firs
   by_order (inl same) ge (inl is) (inr (inr gt)) = first same (omega (arith, is)) ge (omega arith)
   by_order (inl same) ge (inr (inr more)) (inl eq) = first same (omega arith) ge (omega (arith, eq))
   by_order (inl same) ge (inr (inr more)) (inr (inr gt)) = first same (omega arith) ge (omega arith)
-
-pub same_some : (a b : Entry) → (let o : Option Entry = Some a in o) ≡ Some b → a ≡ b
-same_some a b is = cc
-
-pub none_some : (e : Entry) → (let o : Option Entry = None in o) ≡ Some e → ⊥
-none_some e is = absurd cc

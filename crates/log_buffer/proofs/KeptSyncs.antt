@@ -124,3 +124,12 @@ closed_keeps (Ok v) tells log old new buffer ok told has read done =
     subst (λ (s : State). KeepsLog log [] (length (entries_of log)) s.marks) (sym done)
     (whole_kept log [] (file_of buffer) (offset_of buffer) (last_of buffer) (file_of buffer) (now old).reads has.is_log has.ends (omega arith) (read told)).keeps
 closed_keeps (Err e) tells log old new buffer ok told has read done = absurd cc
+
+pub closed_whole : {T E U F : Type 0} (r : Result T E) (r' : Result U F) (tells : Bool) (log : Log) (s t : State) → is_err r ≡ false → OnOk r (ReadAs tells s.reads log) → (tells ≡ true → OnOk r' (t ≡ synced s)) → OnOk r' (ReadAs tells t.reads log)
+closed_whole (Ok v) (Ok w) tells log s t ok read done = λ told f. ap (λ (u : State). u.reads f) (done told) ∙ read told f
+closed_whole (Ok v) (Err e) tells log s t ok read done = tt
+closed_whole (Err e) r' tells log s t ok read done = absurd cc
+
+pub closed_stable : {T E : Type 0} (r : Result T E) (s t : State) → OnOk r (t ≡ synced s) → OnOk r (t.marks ≡ synced_marks t.reads)
+closed_stable (Ok v) s t done = subst (λ (u : State). u.marks ≡ synced_marks u.reads) (sym done) refl
+closed_stable (Err e) s t done = tt

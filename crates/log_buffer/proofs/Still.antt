@@ -1,5 +1,5 @@
 -- A buffer whose tail stays as it was.
-use Rattle.std.proofs.Common.{◌≡◌, ℕ, ◌-◌, ◌≤◌, ◌<◌, Bool, true, List, None, length, vec_capacity, sym, ap, ap₂, subst, ◌∙◌, le_trans, arith}
+use Rattle.std.proofs.Common.{◌≡◌, ℕ, ◌-◌, ◌≤◌, ◌<◌, Bool, true, List, None, length, vec_capacity, refl, sym, ap, ap₂, subst, ◌∙◌, le_refl, le_trans, arith}
 use Rattle.je_disk.specs.States.{State, Files, content}
 use Rattle.log_file.specs.Log.{Log, files_of_log}
 use Rattle.log_buffer.specs.declared.place.Place.{Place}
@@ -56,3 +56,6 @@ module _ {D : Type 0} where
         ∙ ap (λ (p : Place). bytes_for old.tail.bytes.items old.tail.starts.items p.file f) end;
     room = room_kept old new starts spare places piece;
   }
+
+  pub tail_same : (buffer : LogBuffer D) → KeepsTail buffer buffer
+  tail_same buffer = tail_kept buffer buffer refl refl refl refl refl refl (le_refl _) (le_refl _) (le_refl _)

@@ -5,6 +5,7 @@ use Rattle.std.proofs.lemmas.Bool.{cases_order, eqb-true}
 use Rattle.je_disk.specs.States.{State, Files, put_at, created, created_by, appended, appended_by, synced}
 use Rattle.log_buffer.specs.Tail.{piece_of, bytes_for}
 use Rattle.log_buffer.specs.Buffer.{joined}
+use Rattle.log_buffer.specs.Writing.{put_behind}
 use Rattle.log_buffer.proofs.Tails.{bytes_for_from, bytes_for_below, bytes_for_above}
 
 -- ---- one file
@@ -55,10 +56,12 @@ begun_reads f bytes s g some = appended_reads f bytes (created f s) g some ∙ c
 pub behind_reads : (f : ℕ) (bytes : List ℕ) (s t : State) → 0 < length bytes → t ≡ appended f bytes s → (g : ℕ) → t.reads g ≡ put_at s.reads f (joined (s.reads f) bytes) g
 behind_reads f bytes s t some is g = ap (λ (u : State). u.reads g) is ∙ appended_reads f bytes s g some
 
-pub file_reads : (f : ℕ) (bytes : List ℕ) (s t u v : State) → 0 < length bytes → t ≡ synced s → u ≡ created f t → v ≡ appended f bytes u
-    → (g : ℕ) → v.reads g ≡ put_at s.reads f (joined (s.reads f) bytes) g
-file_reads f bytes s t u v some a b c g =
-    ap (λ (w : State). w.reads g) (c ∙ ap (appended f bytes) (b ∙ ap (created f) a)) ∙ begun_reads f bytes (synced s) g some
+pub put_reads : (f : ℕ) (bytes : List ℕ) (s t : State) → t ≡ put_behind f bytes s → (g : ℕ) → t.reads g ≡ put_at s.reads f (joined (s.reads f) bytes) g
+put_reads f [] s t is g = ap (λ (u : State). u.reads g) is ∙ put_self s.reads f g
+put_reads f (b ∷ bytes) s t is g = behind_reads f (b ∷ bytes) s t (omega arith) is g
+
+pub file_reads : (f : ℕ) (bytes : List ℕ) (s t : State) → 0 < length bytes → t ≡ appended f bytes (created f (synced s)) → (g : ℕ) → t.reads g ≡ put_at s.reads f (joined (s.reads f) bytes) g
+file_reads f bytes s t some is g = ap (λ (u : State). u.reads g) is ∙ begun_reads f bytes (synced s) g some
 
 -- ---- file after file
 

@@ -15,6 +15,10 @@ pub record IsPutBehind (f : ℕ) (bytes : List ℕ) (before s : State) : Type 0 
   pub some : 0 < length bytes
   pub part : IsPartOfAppend f bytes before s
 
+-- a file is being made, behind a sync of what was there
+abbrev pub IsMadeNext : ℕ → State → State → Type 0
+IsMadeNext f before s = IsEither before (synced before) s ⊎ IsEither (synced before) (created f (synced before)) s
+
 -- a file is being begun, behind a sync of what was there
 abbrev pub IsPutNext : ℕ → List ℕ → State → State → Type 0
 IsPutNext f bytes before s =

@@ -52,17 +52,32 @@ impl<D: Disk> LogBuffer<D> {
         ensures read_out { D.read_out (disk_of self.new) ≡ D.read_out (disk_of self.old) }
         ensures read_of { D.read_of (disk_of self.new) ≡ D.read_of (disk_of self.old) }
     {
+        let size = size(entry);
+        let place = self.next_place(size)?;
+        self.put(entry, size, place)?;
+        self.write_long()?;
+        Ok(Lsn::new(FileNo(place.file), place.offset as u32))
+    }
+
+    // Where an entry of so many bytes goes.
+    fn next_place(&self, size: u32) -> Result<Place, LogErr>
+        ensures place { IfOk result (λ place. place ≡ placed_at (file_max_of self.now) (end_of self.now) size) }
+        ensures file { IfOk result (λ place. place.file ≤ last_file) }
+        ensures offset { IfOk result (λ place. place.offset < 2 ^ 32) }
+        ensures works { OnOk result (has_failed self.now ≡ false) }
+        ensures full { has_failed self.now ≡ false → (IsErrOf result LogErr.Full ↔ last_file < (placed_at (file_max_of self.now) (end_of self.now) size).file) }
+        ensures fault { IsErrOf result LogErr.Fault ↔ has_failed self.now ≡ true }
+        ensures not_memory { IsErrOf result LogErr.Memory → ⊥ }
+        ensures not_damaged { IsErrOf result LogErr.Damaged → ⊥ }
+    {
         if self.failed {
             return Err(LogErr::Fault);
         }
-        let size = size(entry);
         let place = self.place().placed(self.file_max, size);
         if place.file > LAST_FILE {
             return Err(LogErr::Full);
         }
-        self.put(entry, size, place)?;
-        self.write_long()?;
-        Ok(Lsn::new(FileNo(place.file), place.offset as u32))
+        Ok(place)
     }
 
     // Where the log ends.

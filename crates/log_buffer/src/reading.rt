@@ -40,10 +40,7 @@ impl<D: Disk> LogBuffer<D> {
         ensures read_out { D.read_out (disk_of self.new) ≡ D.read_out (disk_of self.old) }
         ensures read_of { D.read_of (disk_of self.new) ≡ D.read_of (disk_of self.old) }
     {
-        match self.look(alloc, at)? {
-            Some(entry) => Ok(entry),
-            None => Err(LogErr::Damaged),
-        }
+        self.look(alloc, at)?.ok_or(LogErr::Damaged)
     }
 
     // The entry at a place of the log, where one can be read there.
@@ -100,11 +97,7 @@ impl<D: Disk> LogBuffer<D> {
     {
         match entry_at(alloc, &mut self.disk, f, offset) {
             Ok(found) => Ok(found),
-            Err(DiskErr::Memory) => Err(LogErr::Memory),
-            Err(DiskErr::Failed) => {
-                self.failed = true;
-                Err(LogErr::Fault)
-            }
+            Err(error) => Err(judged(&mut self.failed, error)),
         }
     }
 
@@ -196,11 +189,7 @@ impl<D: Disk> LogBuffer<D> {
         }
         match self.disk.end_read(alloc, done) {
             Ok(bytes) => Ok(bytes),
-            Err(DiskErr::Memory) => Err(LogErr::Memory),
-            Err(DiskErr::Failed) => {
-                self.failed = true;
-                Err(LogErr::Fault)
-            }
+            Err(error) => Err(judged(&mut self.failed, error)),
         }
     }
 
@@ -269,5 +258,19 @@ impl<D: Disk> LogBuffer<D> {
         ensures { result ≡ has_failed self.now }
     {
         self.failed
+    }
+}
+
+// An error of the disk as a buffer answers it; at a fault the buffer has failed.
+fn judged(failed: &mut bool, error: DiskErr) -> LogErr
+    ensures memory { error ≡ DiskErr.Memory → (result ≡ LogErr.Memory) × (failed.new ≡ failed.old) }
+    ensures fault { error ≡ DiskErr.Failed → (result ≡ LogErr.Fault) × (failed.new ≡ true) }
+{
+    match error {
+        DiskErr::Memory => LogErr::Memory,
+        DiskErr::Failed => {
+            *failed = true;
+            LogErr::Fault
+        }
     }
 }

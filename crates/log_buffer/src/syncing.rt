@@ -1,8 +1,8 @@
 // Syncs, and the end of a buffer.
 ghost use Rattle.std.specs.Prelude.{◌≡◌, ◌≤◌, [], ℕ, true, false, Option, Some, None, length, OnOk, OnErr, IfOk, IsErrOf};
 ghost use Rattle.je_disk.specs.Causes.{Rose};
-ghost use Rattle.je_disk.specs.Moments.{now};
-ghost use Rattle.je_disk.specs.States.{synced_marks};
+ghost use Rattle.je_disk.specs.Moments.{now, Passes};
+ghost use Rattle.je_disk.specs.States.{synced, synced_marks, IsEither};
 ghost use Rattle.log_file.specs.Log.{Log, entries_of};
 ghost use Rattle.log_buffer.specs.Buffer.{disk_of, first_of, end_of, last_of, file_max_of, has_failed, IsWritten, KeepsTail};
 ghost use Rattle.log_buffer.specs.Log.{HasLog, ReadAs};
@@ -98,9 +98,24 @@ impl<D: Disk> LogBuffer<D> {
         if written.is_err() {
             return (disk, written);
         }
-        match disk.sync_now() {
-            Ok(()) => (disk, Ok(())),
-            Err(_) => (disk, Err(LogErr::Fault)),
-        }
+        let done = sync(&mut disk);
+        (disk, done)
+    }
+}
+
+// Makes stable what the files read as.
+fn sync<D: Disk>(disk: &mut D) -> Result<(), LogErr>
+    ensures done { D.tells ≡ true → OnOk result (now (D.history disk.new) ≡ synced (now (D.history disk.old))) }
+    ensures moments { D.tells ≡ true → Passes (D.history disk.old) (D.history disk.new) (IsEither (now (D.history disk.old)) (synced (now (D.history disk.old)))) }
+    ensures by_fault { FailsByFault result }
+    ensures never_falls { D.faults disk.old ≤ D.faults disk.new }
+    ensures fault { OnErr result (Rose (D.faults disk.old) (D.faults disk.new)) }
+    ensures sync_out { D.sync_out disk.new ≡ D.sync_out disk.old }
+    ensures read_out { D.read_out disk.new ≡ D.read_out disk.old }
+    ensures read_of { D.read_of disk.new ≡ D.read_of disk.old }
+{
+    match disk.sync_now() {
+        Ok(()) => Ok(()),
+        Err(_) => Err(LogErr::Fault),
     }
 }

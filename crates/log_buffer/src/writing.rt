@@ -2,13 +2,13 @@
 ghost use Rattle.std.specs.Prelude.{◌≡◌, ◌<◌, ◌≤◌, ℕ, List, true, false, length, ◌-◌, Option, OnOk, IfOk};
 ghost use Rattle.je_disk.specs.Causes.{HasFault};
 ghost use Rattle.je_disk.specs.Moments.{now, Passes};
-ghost use Rattle.je_disk.specs.States.{put_at, created, synced, appended};
+ghost use Rattle.je_disk.specs.States.{created, synced, appended};
 ghost use Rattle.log_file.specs.Log.{Log};
 ghost use Rattle.log_buffer.specs.Buffer.{disk_of, first_of, end_of, last_of, file_max_of, has_failed, joined, HasRoom, IsWritten};
 ghost use Rattle.log_buffer.specs.Tail.{bytes_for};
 ghost use Rattle.log_buffer.specs.Log.{HasLog, ReadAs};
 ghost use Rattle.log_buffer.specs.Crash.{Holds, KeptThrough};
-ghost use Rattle.log_buffer.specs.Writing.{IsTailOf, IsPutBehind, IsPutNext, put_behind};
+ghost use Rattle.log_buffer.specs.Writing.{IsTailOf, IsPutBehind, IsMadeNext, IsPutNext, put_behind};
 ghost use Rattle.log_buffer.specs.Causes.{HasCause, FailsByFault};
 
 use crate::tail::Tail;
@@ -18,7 +18,6 @@ use je_lsn::FileNo;
 
 // Writes bytes behind a file's; where there are none the disk is not touched.
 fn write_behind<D: Disk>(disk: &mut D, f: FileNo, bytes: &[u8]) -> Result<(), DiskErr>
-    ensures done { D.tells ≡ true → OnOk result ((g : ℕ) → (now (D.history disk.new)).reads g ≡ put_at (now (D.history disk.old)).reads f.0 (joined ((now (D.history disk.old)).reads f.0) bytes.now) g) }
     ensures state { D.tells ≡ true → OnOk result (now (D.history disk.new) ≡ put_behind f.0 bytes.now (now (D.history disk.old))) }
     ensures moments { D.tells ≡ true → Passes (D.history disk.old) (D.history disk.new) (IsPutBehind f.0 bytes.now (now (D.history disk.old))) }
     ensures cause { HasFault (D.faults disk.old) (D.faults disk.new) result }
@@ -32,20 +31,31 @@ fn write_behind<D: Disk>(disk: &mut D, f: FileNo, bytes: &[u8]) -> Result<(), Di
     disk.append(f, bytes)
 }
 
-// Writes a file that begins in the tail: it is made only after a sync of what was written before.
-fn write_file<D: Disk>(disk: &mut D, f: FileNo, bytes: &[u8]) -> Result<(), DiskErr>
-    requires { 0 < length bytes.now }
-    ensures done { D.tells ≡ true → OnOk result ((g : ℕ) → (now (D.history disk.new)).reads g ≡ put_at (now (D.history disk.old)).reads f.0 (joined ((now (D.history disk.old)).reads f.0) bytes.now) g) }
-    ensures state { D.tells ≡ true → OnOk result (now (D.history disk.new) ≡ appended f.0 bytes.now (created f.0 (synced (now (D.history disk.old))))) }
-    ensures moments { D.tells ≡ true → Passes (D.history disk.old) (D.history disk.new) (IsPutNext f.0 bytes.now (now (D.history disk.old))) }
+// Makes a next file, only after a sync of what was written before.
+fn make_file<D: Disk>(disk: &mut D, f: FileNo) -> Result<(), DiskErr>
+    ensures state { D.tells ≡ true → OnOk result (now (D.history disk.new) ≡ created f.0 (synced (now (D.history disk.old)))) }
+    ensures moments { D.tells ≡ true → Passes (D.history disk.old) (D.history disk.new) (IsMadeNext f.0 (now (D.history disk.old))) }
     ensures cause { HasFault (D.faults disk.old) (D.faults disk.new) result }
     ensures sync_out { D.sync_out disk.new ≡ D.sync_out disk.old }
     ensures read_out { D.read_out disk.new ≡ D.read_out disk.old }
     ensures read_of { D.read_of disk.new ≡ D.read_of disk.old }
 {
     disk.sync_now()?;
-    disk.create(f)?;
-    disk.append(f, bytes)
+    disk.create(f)
+}
+
+// Writes a file that begins in the tail.
+fn write_file<D: Disk>(disk: &mut D, f: FileNo, piece: &[u8]) -> Result<(), DiskErr>
+    requires { 0 < length piece.now }
+    ensures state { D.tells ≡ true → OnOk result (now (D.history disk.new) ≡ appended f.0 piece.now (created f.0 (synced (now (D.history disk.old))))) }
+    ensures moments { D.tells ≡ true → Passes (D.history disk.old) (D.history disk.new) (IsPutNext f.0 piece.now (now (D.history disk.old))) }
+    ensures cause { HasFault (D.faults disk.old) (D.faults disk.new) result }
+    ensures sync_out { D.sync_out disk.new ≡ D.sync_out disk.old }
+    ensures read_out { D.read_out disk.new ≡ D.read_out disk.old }
+    ensures read_of { D.read_of disk.new ≡ D.read_of disk.old }
+{
+    make_file(disk, f)?;
+    disk.append(f, piece)
 }
 
 // Writes the tail, whose last piece belongs to the file `last`.

@@ -1,9 +1,9 @@
 -- A body that is read is the body that was written, and what was written is read again.
-use Rattle.std.proofs.Common.{◌≡◌, ℕ, ◌+◌, ◌*◌, ◌^◌, ◌<◌, ◌≤◌, Bool, true, false, cond, eqb, leb, ltb, List, [], ◌∷◌, ◌++◌, length, Option, Some, None, refl, sym, ap, subst, ◌∙◌, arith}
+use Rattle.std.proofs.Common.{◌≡◌, ℕ, ◌*◌, ◌^◌, ◌<◌, ◌≤◌, Bool, true, false, cond, eqb, leb, ltb, List, [], ◌∷◌, ◌++◌, length, Option, Some, None, refl, sym, ap, subst, ◌∙◌, arith}
 use Rattle.std.specs.Int.{w16, w32, w64, to_be_bytes}
 use Rattle.std.specs.List.{AllByRecursion, flat_map}
 use Rattle.std.proofs.lemmas.Bool.{eqb-true, leb-true, le-leb, ltb-true, lt-ltb}
-use Rattle.std.proofs.lemmas.List.{append-nil, nil_from_length, length-append}
+use Rattle.std.proofs.lemmas.List.{nil_from_length, length-append}
 use Rattle.je_order.specs.declared.name.Name.{Name}
 use Rattle.je_order.specs.declared.txn_id.TxnId.{TxnId}
 use Rattle.je_bytes.specs.Reading.{AreBytes, byte_in, number_in}
@@ -14,10 +14,10 @@ use Rattle.log_entry.specs.declared.root.Root.{Root}
 use Rattle.log_entry.specs.declared.file_usage.FileUsage.{FileUsage}
 use Rattle.log_entry.specs.declared.entry.Entry.{Entry}
 use Rattle.log_entry.specs.declared.entry.Entry.TheVariants.{FileHeader, Put, Delete, Migrated, Commit, In, Bin, BinDelta, CkptStart, CkptEnd, FileSummary}
-use Rattle.log_entry.specs.Fields.{◌>>=◌, IsName, name_bytes, name_in, optional_bytes, optional_in}
+use Rattle.log_entry.specs.Fields.{◌>>=◌, name_bytes, name_in, optional_bytes, optional_in}
 use Rattle.log_entry.specs.Items.{AreRising, counted_bytes, counted_in, IsChildSlot, child_before, child_slot_bytes, child_slot_in, IsRecordSlot, record_before, record_slot_bytes, record_slot_in, IsRoot, root_before, root_bytes, root_in, IsFileUsage, file_before, file_usage_bytes, file_usage_in}
 use Rattle.log_entry.specs.Body.{IsEntry, kind_of, magic, body_of, body_size_of, whole, file_header_in, put_in, delete_in, migrated_in, commit_in, internal_in, bin_in, delta_in, ckpt_start_in, ckpt_end_in, file_summary_in, entry_in}
-use Rattle.log_entry.proofs.FieldLaws.{test_held, some_is, bind_is, IsField, Stepped, step, step_again, and_then, ends, last_again, two, four, eight, byte, a_name, an_optional, IsOptional, counted, a_child, a_record, a_root, a_usage, length_optional, length_child, length_record}
+use Rattle.log_entry.proofs.FieldLaws.{test_held, some_is, bind_is, IsField, step, and_then, ends, last_again, four, eight, byte, a_name, an_optional, IsOptional, counted, a_child, a_record, a_root, a_usage, length_optional, length_child, length_record}
 
 -- ---- fields that are lists
 
@@ -244,7 +244,7 @@ entry_in-takes kind bytes e are read =
 -- ---- bodies that were written
 
 -- a field is read again, and then what is read after it
-reads_on : {A B : Type 0} (o : Option A) (f : A → Option B) (x : A) (y : Option B) → o ≡ Some x → f x ≡ y → (o >>= f) ≡ y
+pub reads_on : {A B : Type 0} (o : Option A) (f : A → Option B) (x : A) (y : Option B) → o ≡ Some x → f x ≡ y → (o >>= f) ≡ y
 reads_on o f x y is after = bind_is o f x is ∙ after
 
 file_header_again : (bytes one more : List ℕ) (version file : ℕ) → number_in w32 bytes ≡ Some (magic, one) → number_in w32 one ≡ Some (version, more) → number_in w32 more ≡ Some (file, [])

@@ -1,13 +1,15 @@
 -- Lists that are read, looked through and written item by item.
-use Rattle.std.proofs.Common.{◌≡◌, ℕ, zero, suc, ◌+◌, ◌-◌, ◌<◌, ◌≤◌, List, [], ◌∷◌, ◌++◌, length, get_or, take, Option, Some, None, refl, sym, ap, subst, ◌∙◌, append_assoc, arith}
-use Rattle.std.specs.List.{flat_map}
-use Rattle.std.specs.Prelude.{MatchOption}
-use Rattle.std.proofs.lemmas.List.{append-nil, take_more, length-append}
-use Rattle.std.proofs.lemmas.List.Folds.{length-flat_map-take}
+use Rattle.std.proofs.Common.{◌≡◌, ℕ, zero, suc, ◌+◌, ◌-◌, ◌<◌, ◌≤◌, List, [], ◌∷◌, ◌++◌, length, get_or, take, drop, Bool, true, drop-cons, add-one, Result, Ok, Err, Option, Some, None, refl, sym, ap, subst, ◌∙◌, append_assoc, arith}
+use Rattle.std.specs.List.{AllByRecursion, flat_map}
+use Rattle.std.specs.Prelude.{MatchOption, is_err, ◌&&◌}
+use Rattle.std.proofs.lemmas.List.{append-nil, take_more, take_all, take-append-drop}
 use Rattle.std.proofs.lemmas.Grind.{flat_map-append}
+use Rattle.std.proofs.Math.ListN.{drop_of_length-le}
 use Rattle.log_entry.specs.Fields.{◌>>=◌}
-use Rattle.log_entry.specs.Items.{items_in}
+use Rattle.log_entry.specs.Items.{items_in, rises_from}
+use Rattle.log_entry.specs.Writing.{Puts}
 use Rattle.log_entry.proofs.FieldLaws.{bind_is}
+use Rattle.log_entry.proofs.Putting.{puts_behind, puts_stops, puts_same}
 
 -- ---- reading
 
@@ -69,7 +71,27 @@ reading_ends item_in count i xs bytes o le so_far =
     let none : count - i ≡ 0 = omega arith in
     sym so_far ∙ ap (λ (n : ℕ). after xs (items_in item_in n bytes)) none ∙ ap (λ (ys : List _). Some (ys, bytes)) (append-nil xs)
 
+-- ---- looking through
+
+from_item : {A : Type 0} (xs : List A) (i : ℕ) (x : A) → i < length xs → x ≡ get_or xs i x → drop i xs ≡ x ∷ drop (i + 1) xs
+from_item xs i x lt is = drop-cons xs i x lt ∙ ap (λ (y : _). y ∷ drop (suc i) xs) (sym is) ∙ ap (λ (n : ℕ). x ∷ drop n xs) (sym (add-one i))
+
+-- behind an item that comes after the one before it
+pub rising_goes_on : {A : Type 0} (before : A → A → Bool) (xs : List A) (i : ℕ) (last x : A) (all : Bool) → i < length xs → x ≡ get_or xs i x → true ≡ before last x
+    → rises_from before last (drop i xs) ≡ all → rises_from before x (drop (i + 1) xs) ≡ all
+rising_goes_on before xs i last x all lt is holds so_far =
+    ap (λ (b : Bool). b && rises_from before x (drop (i + 1) xs)) holds ∙ ap (rises_from before last) (sym (from_item xs i x lt is)) ∙ so_far
+
+pub rising_ends : {A : Type 0} (before : A → A → Bool) (xs : List A) (i : ℕ) (last : A) (all : Bool) → length xs ≤ i → rises_from before last (drop i xs) ≡ all → true ≡ all
+rising_ends before xs i last all le so_far = ap (rises_from before last) (sym (drop_of_length-le xs le)) ∙ so_far
+
 -- ---- writing
+
+-- what holds of each item
+pub each_holds : {A : Type 0} (P : A → Type 0) (xs : List A) (i : ℕ) (x : A) → AllByRecursion P xs → i < length xs → x ≡ get_or xs i x → P x
+each_holds P [] i x all lt is = absurd (omega arith)
+each_holds P (y ∷ ys) zero x all lt is = subst P (sym is) all.0
+each_holds P (y ∷ ys) (suc i) x all lt is = each_holds P ys i x all.1 (omega arith) is
 
 -- so many items were put behind what was there, and the room did not shrink
 pub record HasPut {A : Type 0} (text : A → List ℕ) (old new : List ℕ) (old_room new_room : ℕ) (xs : List A) (i : ℕ) : Type 0 where
@@ -90,11 +112,28 @@ putting_goes_on text old mid new old_room mid_room new_room xs i x lt is so_far 
       room = omega (arith, room, le);
     }
 
--- the next item has room where all of them have
-pub room_for_next : {A : Type 0} (text : A → List ℕ) (old mid : List ℕ) (old_room mid_room : ℕ) (xs : List A) (i : ℕ) (x : A) → i < length xs → x ≡ get_or xs i x
-    → HasPut text old mid old_room mid_room xs i → length old + length (flat_map text xs) ≤ old_room → length mid + length (text x) ≤ mid_room
-room_for_next text old mid old_room mid_room xs i x lt is so_far fits =
-    let room : old_room ≤ mid_room = so_far.room in
-    let next = length-flat_map-take text xs i x lt in
-    let same : length (text x) ≡ length (text (get_or xs i x)) = ap (λ (y : _). length (text y)) is in
-    omega (arith, room, next, same, ap length so_far.put, length-append old (flat_map text (take i xs)))
+-- all items, with one of them apart
+apart : {A : Type 0} (text : A → List ℕ) (xs : List A) (i : ℕ) (x : A) → i < length xs → x ≡ get_or xs i x → flat_map text (take i xs) ++ (text x ++ flat_map text (drop (i + 1) xs)) ≡ flat_map text xs
+apart text xs i x lt is =
+    sym (append_assoc (flat_map text (take i xs)) (text x) (flat_map text (drop (i + 1) xs)))
+    ∙ ap (λ (t : List ℕ). t ++ flat_map text (drop (i + 1) xs)) (sym (one_more text xs i x lt is))
+    ∙ sym (flat_map-append text (take (i + 1) xs) (drop (i + 1) xs)) ∙ ap (flat_map text) (take-append-drop (i + 1) xs)
+
+-- where memory ran out at an item
+pub items_stop : {A B C E F : Type 0} {e : F} {r : Result B E} {old mid new : List ℕ} {room middle larger : ℕ} (text : A → List ℕ) (xs : List A) (i : ℕ) (x : A) → i < length xs → x ≡ get_or xs i x
+    → is_err r ≡ true → HasPut text old mid room middle xs i → Puts (text x) (let failed : Result C F = Err e in failed) mid new middle larger → Puts (flat_map text xs) r old new room larger
+items_stop text xs i x lt is failed so_far next =
+    puts_same (apart text xs i x lt is) (puts_behind (flat_map text (take i xs)) so_far.put so_far.room (puts_stops (flat_map text (drop (i + 1) xs)) failed next))
+
+pub putting_begins : {A : Type 0} (text : A → List ℕ) (old : List ℕ) (room : ℕ) (xs : List A) → HasPut text old old room room xs 0
+putting_begins text old room xs = record { put = sym (append-nil old); room = omega arith }
+
+-- where all items were put
+pub items_put : {A C E : Type 0} {v : C} {old new : List ℕ} {room larger : ℕ} (text : A → List ℕ) (xs : List A) (i : ℕ) → length xs ≤ i → HasPut text old new room larger xs i
+    → Puts {E = E} (flat_map text xs) (let done : Result C E = Ok v in done) old new room larger
+items_put {old = old} text xs i le so_far = record {
+  ok = so_far.put ∙ ap (λ (ys : List _). old ++ flat_map text ys) (take_all i xs le);
+  err = tt;
+  fits = λ _. refl;
+  capacity = so_far.room;
+}

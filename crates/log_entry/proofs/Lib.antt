@@ -1,3 +1,6 @@
+pub mod Putting
+pub mod Decoding
+pub mod BodyParts
 pub mod FieldLaws
 pub mod ItemLaws
 pub mod BodyLaws

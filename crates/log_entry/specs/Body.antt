@@ -1,8 +1,9 @@
 -- What an entry's body is as bytes: each field as it is written, and as it is read.
-use Rattle.std.specs.Prelude.{◌≡◌, ℕ, ◌+◌, ◌<◌, ◌≤◌, ◌^◌, ◌==◌, nat_le, nat_lt, if◌then◌else◌, List, [], ◌∷◌, ◌++◌, length, Option, Some, None, IfSome}
+use Rattle.std.specs.Prelude.{ℕ, ◌+◌, ◌<◌, ◌≤◌, ◌^◌, ◌==◌, nat_le, nat_lt, if◌then◌else◌, List, ◌∷◌, ◌++◌, length, Option, Some, None, IfSome}
 use Rattle.std.specs.Int.{w16, w32, w64, to_be_bytes}
 use Rattle.std.specs.List.{flat_map}
 use Rattle.je_bytes.specs.Reading.{byte_in, number_in}
+use Rattle.je_order.specs.declared.name.Name.{Name}
 use Rattle.log_entry.specs.declared.entry.Entry.{Entry}
 use Rattle.log_entry.specs.declared.entry.Entry.TheVariants.{FileHeader, Put, Delete, Migrated, Commit, In, Bin, BinDelta, CkptStart, CkptEnd, FileSummary}
 use Rattle.log_entry.specs.Fields.{◌>>=◌, IsName, name_bytes, name_in, optional_bytes, optional_in}
@@ -82,6 +83,10 @@ body_size_of (FileSummary files) = 4 + length (flat_map file_usage_bytes files)
 abbrev pub whole : {A : Type 0} → A × List ℕ → Option A
 whole read = if length read.1 == 0 then Some read.0 else None
 
+-- what is read next, where nothing follows it
+abbrev pub alone : {A : Type 0} → Option (A × List ℕ) → Option A
+alone next = next >>= whole
+
 -- the body of a file's header
 unfoldable pub file_header_in : List ℕ → Option Entry
 file_header_in bytes = do
@@ -89,6 +94,12 @@ file_header_in bytes = do
   version ← number_in w32 first.1
   file ← number_in w32 version.1
   if first.0 == magic then whole (FileHeader version.0 file.0, file.1) else None
+
+-- a record's name, and its value, which takes the rest
+unfoldable pub record_in : List ℕ → Option (Name × List ℕ)
+record_in bytes = do
+  name ← name_in bytes
+  if nat_le (length name.1) 65536 then Some (name.0, name.1) else None
 
 -- the body of a put
 unfoldable pub put_in : List ℕ → Option Entry

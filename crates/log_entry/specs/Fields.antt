@@ -1,5 +1,5 @@
 -- Fields of entries' bodies that are no plain numbers: as they are written, and as they are read with the bytes after them.
-use Rattle.std.specs.Prelude.{ℕ, ◌+◌, ◌<◌, ◌≤◌, ◌^◌, ◌==◌, ◌&&◌, nat_le, if◌then◌else◌, List, ◌∷◌, ◌++◌, length, Option, Some, None}
+use Rattle.std.specs.Prelude.{ℕ, ◌≤◌, ◌==◌, ◌&&◌, nat_le, if◌then◌else◌, List, ◌∷◌, ◌++◌, length, Option, Some, None}
 use Rattle.std.specs.Int.{w16, w64, to_be_bytes}
 use Rattle.je_order.specs.declared.name.Name.{Name}
 use Rattle.je_bytes.specs.Reading.{byte_in, number_in, run_in}

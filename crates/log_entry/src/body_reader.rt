@@ -1,12 +1,12 @@
 // Bodies as they are read.
-ghost use Rattle.std.specs.Prelude.{◌≡◌, IfOk, MatchOption, Some, None};
-ghost use Rattle.log_entry.specs.Body.{file_header_in, put_in, delete_in, migrated_in, commit_in, internal_in, bin_in, delta_in, ckpt_start_in, ckpt_end_in, file_summary_in, entry_in};
+ghost use Rattle.std.specs.Prelude.{◌≡◌, IfOk, Some, None};
+ghost use Rattle.log_entry.specs.Body.{file_header_in, record_in, put_in, delete_in, migrated_in, commit_in, internal_in, bin_in, delta_in, ckpt_start_in, ckpt_end_in, file_summary_in, entry_in};
 
 use crate::Entry;
-use crate::fields::{lsn_of, read_name, read_optional};
+use crate::fields::{lsn_of, name_of, read_optional, read_strings};
 use crate::items::{read_counted, read_rising};
 use je_bytes::Reader;
-use je_order::{Octets, TxnId};
+use je_order::{Name, Octets, TxnId};
 use std::alloc::{AllocError, Global};
 
 /// The greatest length of a value, in bytes.
@@ -38,6 +38,21 @@ fn read_file_header(bytes: &[u8]) -> Option<Entry>
     Some(Entry::FileHeader { version, file })
 }
 
+// A record's name, and its value, which takes the rest.
+#[tactic(auto, unfolding(crate::specs::Body::record_in))]
+fn read_record(alloc: Global, reader: &mut Reader<'_>) -> Result<Option<(Name, Octets)>, AllocError>
+    ensures { IfOk result (λ found. found ≡ record_in reader.old) }
+{
+    let Some((key, dup)) = read_strings(reader) else {
+        return Ok(None);
+    };
+    let value = reader.rest();
+    if value.len() > MAX_VALUE {
+        return Ok(None);
+    }
+    Ok(Some((name_of(alloc, key, dup)?, Octets::from_slice(alloc, value)?)))
+}
+
 #[tactic(auto, unfolding(crate::specs::Body::put_in))]
 fn read_put(alloc: Global, bytes: &[u8]) -> Result<Option<Entry>, AllocError>
     ensures { IfOk result (λ found. found ≡ put_in bytes.now) }
@@ -49,18 +64,14 @@ fn read_put(alloc: Global, bytes: &[u8]) -> Result<Option<Entry>, AllocError>
     let Ok(db) = reader.u32() else {
         return Ok(None);
     };
-    let Some(name) = read_name(alloc, &mut reader)? else {
+    let Some((name, value)) = read_record(alloc, &mut reader)? else {
         return Ok(None);
     };
-    let value = reader.rest();
-    if value.len() > MAX_VALUE {
-        return Ok(None);
-    }
     Ok(Some(Entry::Put {
         txn: TxnId(txn),
         db,
         name,
-        value: Octets::from_slice(alloc, value)?,
+        value,
     }))
 }
 
@@ -75,7 +86,7 @@ fn read_delete(alloc: Global, bytes: &[u8]) -> Result<Option<Entry>, AllocError>
     let Ok(db) = reader.u32() else {
         return Ok(None);
     };
-    let Some(name) = read_name(alloc, &mut reader)? else {
+    let Some((key, dup)) = read_strings(&mut reader) else {
         return Ok(None);
     };
     if !reader.rest().is_empty() {
@@ -84,7 +95,7 @@ fn read_delete(alloc: Global, bytes: &[u8]) -> Result<Option<Entry>, AllocError>
     Ok(Some(Entry::Delete {
         txn: TxnId(txn),
         db,
-        name,
+        name: name_of(alloc, key, dup)?,
     }))
 }
 
@@ -108,18 +119,10 @@ fn read_migrated(alloc: Global, bytes: &[u8]) -> Result<Option<Entry>, AllocErro
     let Ok(db) = reader.u32() else {
         return Ok(None);
     };
-    let Some(name) = read_name(alloc, &mut reader)? else {
+    let Some((name, value)) = read_record(alloc, &mut reader)? else {
         return Ok(None);
     };
-    let value = reader.rest();
-    if value.len() > MAX_VALUE {
-        return Ok(None);
-    }
-    Ok(Some(Entry::Migrated {
-        db,
-        name,
-        value: Octets::from_slice(alloc, value)?,
-    }))
+    Ok(Some(Entry::Migrated { db, name, value }))
 }
 
 #[tactic(auto, unfolding(crate::specs::Body::internal_in))]
@@ -136,10 +139,13 @@ fn read_internal(alloc: Global, bytes: &[u8]) -> Result<Option<Entry>, AllocErro
     let Ok(level) = reader.u8() else {
         return Ok(None);
     };
+    if level < 2 || level > 64 {
+        return Ok(None);
+    }
     let Some(slots) = read_counted(alloc, &mut reader, MOST_SLOTS)? else {
         return Ok(None);
     };
-    if level < 2 || level > 64 || slots.is_empty() || !reader.rest().is_empty() {
+    if slots.is_empty() {
         return Ok(None);
     }
     Ok(Some(Entry::In {
@@ -164,9 +170,6 @@ fn read_bin(alloc: Global, bytes: &[u8]) -> Result<Option<Entry>, AllocError>
     let Some(slots) = read_counted(alloc, &mut reader, MOST_SLOTS)? else {
         return Ok(None);
     };
-    if !reader.rest().is_empty() {
-        return Ok(None);
-    }
     Ok(Some(Entry::Bin { db, node, slots }))
 }
 
@@ -187,9 +190,6 @@ fn read_delta(alloc: Global, bytes: &[u8]) -> Result<Option<Entry>, AllocError>
     let Some(slots) = read_counted(alloc, &mut reader, MOST_SLOTS)? else {
         return Ok(None);
     };
-    if !reader.rest().is_empty() {
-        return Ok(None);
-    }
     Ok(Some(Entry::BinDelta {
         db,
         node,
@@ -239,9 +239,6 @@ fn read_ckpt_end(alloc: Global, bytes: &[u8]) -> Result<Option<Entry>, AllocErro
     let Some(roots) = read_counted(alloc, &mut reader, MOST_ROOTS)? else {
         return Ok(None);
     };
-    if !reader.rest().is_empty() {
-        return Ok(None);
-    }
     Ok(Some(Entry::CkptEnd {
         number,
         start: lsn_of(start),
@@ -265,9 +262,6 @@ fn read_file_summary(alloc: Global, bytes: &[u8]) -> Result<Option<Entry>, Alloc
     let Some(files) = read_rising(alloc, &mut reader, MOST_FILES, count)? else {
         return Ok(None);
     };
-    if !reader.rest().is_empty() {
-        return Ok(None);
-    }
     Ok(Some(Entry::FileSummary { files }))
 }
 

@@ -1,13 +1,13 @@
 // Bodies as they are written. Where memory runs out, part of a field may stand at the end; it does not
 // where the vector has room.
-ghost use Rattle.std.specs.Prelude.{◌≡◌, ◌+◌, ◌<◌, ◌≤◌, ◌^◌, ◌++◌, length, vec_capacity, IsOk, OnOk, OnErr};
-ghost use Rattle.std.specs.List.{AllByRecursion, flat_map};
+ghost use Rattle.std.specs.Prelude.{◌≡◌, ◌+◌, ◌<◌, ◌≤◌, ◌^◌, ◌++◌, length, vec_capacity};
+ghost use Rattle.std.specs.List.{AllByRecursion};
 ghost use Rattle.log_entry.specs.Fields.{IsName};
-ghost use Rattle.log_entry.specs.Items.{IsChildSlot, child_slot_bytes, IsRecordSlot, record_slot_bytes, IsRoot, root_bytes, IsFileUsage, file_usage_bytes};
+ghost use Rattle.log_entry.specs.Items.{IsChildSlot, IsRecordSlot, IsRoot, IsFileUsage};
 ghost use Rattle.log_entry.specs.Body.{IsEntry, kind_of, body_of, body_size_of};
 ghost use Rattle.std.specs.Int.{w32, w64, to_be_bytes};
 ghost use Rattle.log_entry.specs.declared.entry.Entry.TheVariants.{FileHeader, Put, Delete, Migrated, In, Bin, BinDelta, CkptEnd, FileSummary};
-ghost use Rattle.log_entry.specs.Writing.{KeepsFront};
+ghost use Rattle.log_entry.specs.Writing.{Puts};
 
 use crate::body_reader::MAGIC;
 use crate::fields::{put_name, put_optional};
@@ -65,20 +65,14 @@ pub(crate) fn body_size(entry: &Entry) -> u32
 }
 
 fn put_txn(out: &mut Vec<u8>, txn: TxnId, db: u32) -> Result<(), AllocError>
-    ensures ok { OnOk result (out.new.items ≡ out.old.items ++ (to_be_bytes w64 txn.0 ++ to_be_bytes w32 db)) }
-    ensures err { OnErr result (KeepsFront out.old.items out.new.items) }
-    ensures fits { length out.old.items + (12) ≤ vec_capacity out.old → IsOk result }
-    ensures capacity { vec_capacity out.old ≤ vec_capacity out.new }
+    ensures { Puts (to_be_bytes w64 txn.0 ++ to_be_bytes w32 db) result out.old.items out.new.items (vec_capacity out.old) (vec_capacity out.new) }
 {
     put_u64(out, txn.0)?;
     put_u32(out, db)
 }
 
 fn put_file_header(out: &mut Vec<u8>, version: u32, file: u32) -> Result<(), AllocError>
-    ensures ok { OnOk result (out.new.items ≡ out.old.items ++ body_of (FileHeader version file)) }
-    ensures err { OnErr result (KeepsFront out.old.items out.new.items) }
-    ensures fits { length out.old.items + (12) ≤ vec_capacity out.old → IsOk result }
-    ensures capacity { vec_capacity out.old ≤ vec_capacity out.new }
+    ensures { Puts (body_of (FileHeader version file)) result out.old.items out.new.items (vec_capacity out.old) (vec_capacity out.new) }
 {
     put_u32(out, MAGIC)?;
     put_u32(out, version)?;
@@ -93,10 +87,7 @@ fn put_put(
     value: &[u8],
 ) -> Result<(), AllocError>
     requires { IsName name.now }
-    ensures ok { OnOk result (out.new.items ≡ out.old.items ++ body_of (Put txn db name.now value.now)) }
-    ensures err { OnErr result (KeepsFront out.old.items out.new.items) }
-    ensures fits { length out.old.items + (16 + length name.now.key + length name.now.dup + length value.now) ≤ vec_capacity out.old → IsOk result }
-    ensures capacity { vec_capacity out.old ≤ vec_capacity out.new }
+    ensures { Puts (body_of (Put txn db name.now value.now)) result out.old.items out.new.items (vec_capacity out.old) (vec_capacity out.new) }
 {
     put_txn(out, txn, db)?;
     put_name(out, name)?;
@@ -105,10 +96,7 @@ fn put_put(
 
 fn put_delete(out: &mut Vec<u8>, txn: TxnId, db: u32, name: &Name) -> Result<(), AllocError>
     requires { IsName name.now }
-    ensures ok { OnOk result (out.new.items ≡ out.old.items ++ body_of (Delete txn db name.now)) }
-    ensures err { OnErr result (KeepsFront out.old.items out.new.items) }
-    ensures fits { length out.old.items + (16 + length name.now.key + length name.now.dup) ≤ vec_capacity out.old → IsOk result }
-    ensures capacity { vec_capacity out.old ≤ vec_capacity out.new }
+    ensures { Puts (body_of (Delete txn db name.now)) result out.old.items out.new.items (vec_capacity out.old) (vec_capacity out.new) }
 {
     put_txn(out, txn, db)?;
     put_name(out, name)
@@ -116,10 +104,7 @@ fn put_delete(out: &mut Vec<u8>, txn: TxnId, db: u32, name: &Name) -> Result<(),
 
 fn put_migrated(out: &mut Vec<u8>, db: u32, name: &Name, value: &[u8]) -> Result<(), AllocError>
     requires { IsName name.now }
-    ensures ok { OnOk result (out.new.items ≡ out.old.items ++ body_of (Migrated db name.now value.now)) }
-    ensures err { OnErr result (KeepsFront out.old.items out.new.items) }
-    ensures fits { length out.old.items + (8 + length name.now.key + length name.now.dup + length value.now) ≤ vec_capacity out.old → IsOk result }
-    ensures capacity { vec_capacity out.old ≤ vec_capacity out.new }
+    ensures { Puts (body_of (Migrated db name.now value.now)) result out.old.items out.new.items (vec_capacity out.old) (vec_capacity out.new) }
 {
     put_u32(out, db)?;
     put_name(out, name)?;
@@ -127,10 +112,7 @@ fn put_migrated(out: &mut Vec<u8>, db: u32, name: &Name, value: &[u8]) -> Result
 }
 
 fn put_node(out: &mut Vec<u8>, db: u32, node: u64) -> Result<(), AllocError>
-    ensures ok { OnOk result (out.new.items ≡ out.old.items ++ (to_be_bytes w32 db ++ to_be_bytes w64 node)) }
-    ensures err { OnErr result (KeepsFront out.old.items out.new.items) }
-    ensures fits { length out.old.items + (12) ≤ vec_capacity out.old → IsOk result }
-    ensures capacity { vec_capacity out.old ≤ vec_capacity out.new }
+    ensures { Puts (to_be_bytes w32 db ++ to_be_bytes w64 node) result out.old.items out.new.items (vec_capacity out.old) (vec_capacity out.new) }
 {
     put_u32(out, db)?;
     put_u64(out, node)
@@ -145,10 +127,7 @@ fn put_internal(
 ) -> Result<(), AllocError>
     requires each { AllByRecursion IsChildSlot slots.now }
     requires few { length slots.now < 2 ^ 16 }
-    ensures ok { OnOk result (out.new.items ≡ out.old.items ++ body_of (In db node level slots.now)) }
-    ensures err { OnErr result (KeepsFront out.old.items out.new.items) }
-    ensures fits { length out.old.items + (15 + length (flat_map child_slot_bytes slots.now)) ≤ vec_capacity out.old → IsOk result }
-    ensures capacity { vec_capacity out.old ≤ vec_capacity out.new }
+    ensures { Puts (body_of (In db node level slots.now)) result out.old.items out.new.items (vec_capacity out.old) (vec_capacity out.new) }
 {
     put_node(out, db, node)?;
     out.push(level)?;
@@ -158,10 +137,7 @@ fn put_internal(
 fn put_bin(out: &mut Vec<u8>, db: u32, node: u64, slots: &[RecordSlot]) -> Result<(), AllocError>
     requires each { AllByRecursion IsRecordSlot slots.now }
     requires few { length slots.now < 2 ^ 16 }
-    ensures ok { OnOk result (out.new.items ≡ out.old.items ++ body_of (Bin db node slots.now)) }
-    ensures err { OnErr result (KeepsFront out.old.items out.new.items) }
-    ensures fits { length out.old.items + (14 + length (flat_map record_slot_bytes slots.now)) ≤ vec_capacity out.old → IsOk result }
-    ensures capacity { vec_capacity out.old ≤ vec_capacity out.new }
+    ensures { Puts (body_of (Bin db node slots.now)) result out.old.items out.new.items (vec_capacity out.old) (vec_capacity out.new) }
 {
     put_node(out, db, node)?;
     put_counted(out, slots)
@@ -176,10 +152,7 @@ fn put_delta(
 ) -> Result<(), AllocError>
     requires each { AllByRecursion IsRecordSlot slots.now }
     requires few { length slots.now < 2 ^ 16 }
-    ensures ok { OnOk result (out.new.items ≡ out.old.items ++ body_of (BinDelta db node full slots.now)) }
-    ensures err { OnErr result (KeepsFront out.old.items out.new.items) }
-    ensures fits { length out.old.items + (22 + length (flat_map record_slot_bytes slots.now)) ≤ vec_capacity out.old → IsOk result }
-    ensures capacity { vec_capacity out.old ≤ vec_capacity out.new }
+    ensures { Puts (body_of (BinDelta db node full slots.now)) result out.old.items out.new.items (vec_capacity out.old) (vec_capacity out.new) }
 {
     put_node(out, db, node)?;
     put_u64(out, full.as_u64())?;
@@ -187,10 +160,7 @@ fn put_delta(
 }
 
 fn put_checkpoint(out: &mut Vec<u8>, number: u64, start: Lsn, redo: Lsn) -> Result<(), AllocError>
-    ensures ok { OnOk result (out.new.items ≡ out.old.items ++ (to_be_bytes w64 number ++ (to_be_bytes w64 start ++ to_be_bytes w64 redo))) }
-    ensures err { OnErr result (KeepsFront out.old.items out.new.items) }
-    ensures fits { length out.old.items + (24) ≤ vec_capacity out.old → IsOk result }
-    ensures capacity { vec_capacity out.old ≤ vec_capacity out.new }
+    ensures { Puts (to_be_bytes w64 number ++ (to_be_bytes w64 start ++ to_be_bytes w64 redo)) result out.old.items out.new.items (vec_capacity out.old) (vec_capacity out.new) }
 {
     put_u64(out, number)?;
     put_u64(out, start.as_u64())?;
@@ -203,10 +173,7 @@ fn put_last(
     last_node: u64,
     last_db: u32,
 ) -> Result<(), AllocError>
-    ensures ok { OnOk result (out.new.items ≡ out.old.items ++ (to_be_bytes w64 last_txn.0 ++ (to_be_bytes w64 last_node ++ to_be_bytes w32 last_db))) }
-    ensures err { OnErr result (KeepsFront out.old.items out.new.items) }
-    ensures fits { length out.old.items + (20) ≤ vec_capacity out.old → IsOk result }
-    ensures capacity { vec_capacity out.old ≤ vec_capacity out.new }
+    ensures { Puts (to_be_bytes w64 last_txn.0 ++ (to_be_bytes w64 last_node ++ to_be_bytes w32 last_db)) result out.old.items out.new.items (vec_capacity out.old) (vec_capacity out.new) }
 {
     put_u64(out, last_txn.0)?;
     put_u64(out, last_node)?;
@@ -226,10 +193,7 @@ fn put_ckpt_end(
 ) -> Result<(), AllocError>
     requires each { AllByRecursion IsRoot roots.now }
     requires few { length roots.now < 2 ^ 16 }
-    ensures ok { OnOk result (out.new.items ≡ out.old.items ++ body_of (CkptEnd number start redo last_txn last_node last_db summary roots.now)) }
-    ensures err { OnErr result (KeepsFront out.old.items out.new.items) }
-    ensures fits { length out.old.items + (54 + length (flat_map root_bytes roots.now)) ≤ vec_capacity out.old → IsOk result }
-    ensures capacity { vec_capacity out.old ≤ vec_capacity out.new }
+    ensures { Puts (body_of (CkptEnd number start redo last_txn last_node last_db summary roots.now)) result out.old.items out.new.items (vec_capacity out.old) (vec_capacity out.new) }
 {
     put_checkpoint(out, number, start, redo)?;
     put_last(out, last_txn, last_node, last_db)?;
@@ -240,10 +204,7 @@ fn put_ckpt_end(
 fn put_file_summary(out: &mut Vec<u8>, files: &[FileUsage]) -> Result<(), AllocError>
     requires each { AllByRecursion IsFileUsage files.now }
     requires few { length files.now < 2 ^ 32 }
-    ensures ok { OnOk result (out.new.items ≡ out.old.items ++ body_of (FileSummary files.now)) }
-    ensures err { OnErr result (KeepsFront out.old.items out.new.items) }
-    ensures fits { length out.old.items + (4 + length (flat_map file_usage_bytes files.now)) ≤ vec_capacity out.old → IsOk result }
-    ensures capacity { vec_capacity out.old ≤ vec_capacity out.new }
+    ensures { Puts (body_of (FileSummary files.now)) result out.old.items out.new.items (vec_capacity out.old) (vec_capacity out.new) }
 {
     put_u32(out, files.len() as u32)?;
     put_items(out, files)
@@ -252,10 +213,7 @@ fn put_file_summary(out: &mut Vec<u8>, files: &[FileUsage]) -> Result<(), AllocE
 // Puts the entry's body at the end.
 pub(crate) fn put_body(out: &mut Vec<u8>, entry: &Entry) -> Result<(), AllocError>
     requires { IsEntry entry.now }
-    ensures ok { OnOk result (out.new.items ≡ out.old.items ++ body_of entry.now) }
-    ensures err { OnErr result (KeepsFront out.old.items out.new.items) }
-    ensures fits { length out.old.items + (body_size_of entry.now) ≤ vec_capacity out.old → IsOk result }
-    ensures capacity { vec_capacity out.old ≤ vec_capacity out.new }
+    ensures { Puts (body_of entry.now) result out.old.items out.new.items (vec_capacity out.old) (vec_capacity out.new) }
 {
     match entry {
         Entry::FileHeader { version, file } => put_file_header(out, *version, *file),

@@ -1,10 +1,12 @@
 // What bytes begin with.
-ghost use Rattle.std.specs.Prelude.{◌≡◌, ◌+◌, ◌≤◌, ℕ, ◌<◌, ◌^◌, ◌++◌, List, length, drop, take, IfOk};
+ghost use Rattle.std.specs.Prelude.{◌≡◌, ◌==◌, ◌+◌, ◌≤◌, ℕ, ◌<◌, ◌^◌, ◌++◌, List, length, drop, take, IfOk, MatchResult};
+ghost use Rattle.std.specs.Int.{w32};
+ghost use Rattle.je_bytes.specs.Adler.{adler32_of};
 ghost use Rattle.log_entry.specs.declared.entry.Entry.{Entry as Found};
-ghost use Rattle.log_entry.specs.declared.decoder.Decoded.TheVariants.{Whole};
+ghost use Rattle.log_entry.specs.declared.decoder.Decoded.TheVariants.{Whole, Torn as NotWhole};
 ghost use Rattle.log_entry.specs.Body.{IsEntry};
 ghost use Rattle.log_entry.specs.Spelling.{spelling, size_of};
-ghost use Rattle.log_entry.specs.Reading.{decoded, whole_in, IsFound};
+ghost use Rattle.log_entry.specs.Reading.{decoded, number_at as number_there, whole_in, IsFound};
 
 use crate::Entry;
 use crate::body_reader::read_body;
@@ -32,40 +34,68 @@ pub enum Torn {
     BadKind,
 }
 
+// The number in the 4 bytes at an offset.
+fn number_at(bytes: &[u8], at: usize) -> u32
+    requires { at + 4 ≤ length bytes.now }
+    ensures { result ≡ number_there w32 at bytes.now }
+{
+    BigEndian::read_u32(&bytes[at..])
+}
+
+// Whether the checksum is that of what follows it, with a body of this length.
+fn is_sum_right(bytes: &[u8], len: usize) -> bool
+    requires { 14 + len ≤ length bytes.now }
+    ensures { result ≡ (number_there w32 0 bytes.now == adler32_of (take (10 + len) (drop 4 bytes.now))) }
+{
+    number_at(bytes, 0) == adler32(&bytes[4..][..10 + len])
+}
+
+// How long the body of the entry is that the bytes begin with, where they hold all of it and its checksum
+// is right.
+#[tactic(auto, unfolding(crate::specs::Reading::decoded))]
+fn body_len(bytes: &[u8]) -> Result<usize, Torn>
+    ensures { MatchResult result (λ len. (14 + len ≤ length bytes.now) × (decoded bytes.now ≡ whole_in len bytes.now)) (λ torn. decoded bytes.now ≡ NotWhole torn) }
+{
+    if bytes.len() < 14 {
+        return Err(Torn::Short);
+    }
+    let len = number_at(bytes, 10) as usize;
+    if bytes.len() < 14 + len {
+        return Err(Torn::Short);
+    }
+    if !is_sum_right(bytes, len) {
+        return Err(Torn::BadSum);
+    }
+    Ok(len)
+}
+
 // What bytes begin with that hold a whole body of this length and the right checksum.
 fn decode_whole(alloc: Global, bytes: &[u8], len: usize) -> Result<Decoded, AllocError>
     requires { 14 + len ≤ length bytes.now }
     ensures { IfOk result (λ found. found ≡ whole_in len bytes.now) }
 {
-    let Some(entry) = read_body(alloc, bytes[4], &bytes[14..14 + len])? else {
-        return Ok(Decoded::Torn(Torn::BadKind));
-    };
     if bytes[5] != 0 {
         return Ok(Decoded::Torn(Torn::BadKind));
     }
+    let prev = number_at(bytes, 6);
+    let Some(entry) = read_body(alloc, bytes[4], &bytes[14..14 + len])? else {
+        return Ok(Decoded::Torn(Torn::BadKind));
+    };
     Ok(Decoded::Whole {
         entry,
-        prev: BigEndian::read_u32(&bytes[6..]),
+        prev,
         len: 14 + len,
     })
 }
 
 // What bytes begin with.
-#[tactic(auto, unfolding(crate::specs::Reading::decoded))]
 fn decode_front(alloc: Global, bytes: &[u8]) -> Result<Decoded, AllocError>
     ensures { IfOk result (λ found. found ≡ decoded bytes.now) }
 {
-    if bytes.len() < 14 {
-        return Ok(Decoded::Torn(Torn::Short));
+    match body_len(bytes) {
+        Ok(len) => decode_whole(alloc, bytes, len),
+        Err(torn) => Ok(Decoded::Torn(torn)),
     }
-    let len = BigEndian::read_u32(&bytes[10..]) as usize;
-    if bytes.len() < 14 + len {
-        return Ok(Decoded::Torn(Torn::Short));
-    }
-    if BigEndian::read_u32(bytes) != adler32(&bytes[4..][..10 + len]) {
-        return Ok(Decoded::Torn(Torn::BadSum));
-    }
-    decode_whole(alloc, bytes, len)
 }
 
 /// What the bytes begin with. Bytes may follow the entry: the cost is that of the entry alone. The one

@@ -4,7 +4,7 @@ ghost use Rattle.std.specs.Int.{w32, to_be_bytes};
 ghost use Rattle.je_bytes.specs.Adler.{adler32_of};
 ghost use Rattle.log_entry.specs.Body.{IsEntry};
 ghost use Rattle.log_entry.specs.Spelling.{spelling, head, summed, size_of};
-ghost use Rattle.log_entry.specs.Writing.{KeepsFront};
+ghost use Rattle.log_entry.specs.Writing.{Puts};
 
 use crate::Entry;
 use crate::body_writer::{body_size, kind, put_body};
@@ -23,10 +23,7 @@ pub fn size(entry: &Entry) -> u32
 
 // Puts at the end what stands between the checksum and the body.
 fn put_head(out: &mut Vec<u8>, kind: u8, prev: u32, len: u32) -> Result<(), AllocError>
-    ensures ok { OnOk result (out.new.items ≡ out.old.items ++ head kind prev len) }
-    ensures err { OnErr result (KeepsFront out.old.items out.new.items) }
-    ensures fits { length out.old.items + (10) ≤ vec_capacity out.old → IsOk result }
-    ensures capacity { vec_capacity out.old ≤ vec_capacity out.new }
+    ensures { Puts (head kind prev len) result out.old.items out.new.items (vec_capacity out.old) (vec_capacity out.new) }
 {
     out.push(kind)?;
     out.push(0)?;
@@ -37,10 +34,7 @@ fn put_head(out: &mut Vec<u8>, kind: u8, prev: u32, len: u32) -> Result<(), Allo
 // Puts the entry at the end with 0 for its checksum.
 fn put_unsigned(out: &mut Vec<u8>, entry: &Entry, prev: u32) -> Result<(), AllocError>
     requires { IsEntry entry.now }
-    ensures ok { OnOk result (out.new.items ≡ out.old.items ++ (to_be_bytes w32 0 ++ summed entry.now prev)) }
-    ensures err { OnErr result (KeepsFront out.old.items out.new.items) }
-    ensures fits { length out.old.items + (size_of entry.now) ≤ vec_capacity out.old → IsOk result }
-    ensures capacity { vec_capacity out.old ≤ vec_capacity out.new }
+    ensures { Puts (to_be_bytes w32 0 ++ summed entry.now prev) result out.old.items out.new.items (vec_capacity out.old) (vec_capacity out.new) }
 {
     put_u32(out, 0)?;
     put_head(out, kind(entry), prev, body_size(entry))?;

@@ -1,8 +1,8 @@
 // Fields of bodies that are no plain numbers. Where memory runs out, part of a field may stand at the
 // end; it does not where the vector has room.
-ghost use Rattle.std.specs.Prelude.{◌≡◌, ◌+◌, ◌<◌, ◌≤◌, ◌^◌, ◌++◌, length, vec_capacity, IsOk, IfOk, OnOk, OnErr, MatchOption, IfSome, Some, None};
+ghost use Rattle.std.specs.Prelude.{◌≡◌, ◌<◌, ◌^◌, length, vec_capacity, IfOk, MatchOption, Some, None};
 ghost use Rattle.log_entry.specs.Fields.{IsName, string, name_bytes, string_in, name_in, version_bytes, version_in, optional_bytes, optional_in};
-ghost use Rattle.log_entry.specs.Writing.{KeepsFront};
+ghost use Rattle.log_entry.specs.Writing.{Puts};
 
 use je_bytes::{Reader, put_u16, put_u64};
 use je_lsn::{FileNo, Lsn};
@@ -23,28 +23,38 @@ fn read_string<'a>(reader: &mut Reader<'a>) -> Option<&'a [u8]>
     reader.take(len).ok()
 }
 
+// A name's key and its dup.
 #[tactic(auto, unfolding(crate::specs::Fields::name_in))]
+pub(crate) fn read_strings<'a>(reader: &mut Reader<'a>) -> Option<(&'a [u8], &'a [u8])>
+    ensures { MatchOption result (name_in reader.old ≡ None) (λ found. name_in reader.old ≡ Some (record { key = found.0.now; dup = found.1.now }, reader.new)) }
+{
+    let key = read_string(reader)?;
+    let dup = read_string(reader)?;
+    Some((key, dup))
+}
+
+// The name of this key and this dup.
+pub(crate) fn name_of(alloc: Global, key: &[u8], dup: &[u8]) -> Result<Name, AllocError>
+    ensures { IfOk result (λ name. name ≡ record { key = key.now; dup = dup.now }) }
+{
+    Ok(Name {
+        key: Octets::from_slice(alloc, key)?,
+        dup: Octets::from_slice(alloc, dup)?,
+    })
+}
+
 pub(crate) fn read_name(alloc: Global, reader: &mut Reader<'_>) -> Result<Option<Name>, AllocError>
     ensures { IfOk result (λ found. MatchOption found (name_in reader.old ≡ None) (λ name. name_in reader.old ≡ Some (name, reader.new))) }
 {
-    let Some(key) = read_string(reader) else {
+    let Some((key, dup)) = read_strings(reader) else {
         return Ok(None);
     };
-    let Some(dup) = read_string(reader) else {
-        return Ok(None);
-    };
-    Ok(Some(Name {
-        key: Octets::from_slice(alloc, key)?,
-        dup: Octets::from_slice(alloc, dup)?,
-    }))
+    Ok(Some(name_of(alloc, key, dup)?))
 }
 
 fn put_string(out: &mut Vec<u8>, bytes: &[u8]) -> Result<(), AllocError>
     requires { length bytes.now < 2 ^ 16 }
-    ensures ok { OnOk result (out.new.items ≡ out.old.items ++ string bytes.now) }
-    ensures err { OnErr result (KeepsFront out.old.items out.new.items) }
-    ensures fits { length out.old.items + (2 + length bytes.now) ≤ vec_capacity out.old → IsOk result }
-    ensures capacity { vec_capacity out.old ≤ vec_capacity out.new }
+    ensures { Puts (string bytes.now) result out.old.items out.new.items (vec_capacity out.old) (vec_capacity out.new) }
 {
     put_u16(out, bytes.len() as u16)?;
     out.extend_from_slice(bytes)
@@ -52,10 +62,7 @@ fn put_string(out: &mut Vec<u8>, bytes: &[u8]) -> Result<(), AllocError>
 
 pub(crate) fn put_name(out: &mut Vec<u8>, name: &Name) -> Result<(), AllocError>
     requires { IsName name.now }
-    ensures ok { OnOk result (out.new.items ≡ out.old.items ++ name_bytes name.now) }
-    ensures err { OnErr result (KeepsFront out.old.items out.new.items) }
-    ensures fits { length out.old.items + (4 + length name.now.key + length name.now.dup) ≤ vec_capacity out.old → IsOk result }
-    ensures capacity { vec_capacity out.old ≤ vec_capacity out.new }
+    ensures { Puts (name_bytes name.now) result out.old.items out.new.items (vec_capacity out.old) (vec_capacity out.new) }
 {
     put_string(out, name.key.as_slice())?;
     put_string(out, name.dup.as_slice())
@@ -85,10 +92,7 @@ pub(crate) fn read_version(reader: &mut Reader<'_>) -> Option<Option<Lsn>>
 }
 
 pub(crate) fn put_version(out: &mut Vec<u8>, version: Option<Lsn>) -> Result<(), AllocError>
-    ensures ok { OnOk result (out.new.items ≡ out.old.items ++ version_bytes version) }
-    ensures err { OnErr result (KeepsFront out.old.items out.new.items) }
-    ensures fits { length out.old.items + 9 ≤ vec_capacity out.old → IsOk result }
-    ensures capacity { vec_capacity out.old ≤ vec_capacity out.new }
+    ensures { Puts (version_bytes version) result out.old.items out.new.items (vec_capacity out.old) (vec_capacity out.new) }
 {
     match version {
         Some(lsn) => {
@@ -113,10 +117,7 @@ pub(crate) fn read_optional(reader: &mut Reader<'_>) -> Option<Option<Lsn>>
 }
 
 pub(crate) fn put_optional(out: &mut Vec<u8>, lsn: Option<Lsn>) -> Result<(), AllocError>
-    ensures ok { OnOk result (out.new.items ≡ out.old.items ++ optional_bytes lsn) }
-    ensures err { OnErr result (KeepsFront out.old.items out.new.items) }
-    ensures fits { length out.old.items + 8 ≤ vec_capacity out.old → IsOk result }
-    ensures capacity { vec_capacity out.old ≤ vec_capacity out.new }
+    ensures { Puts (optional_bytes lsn) result out.old.items out.new.items (vec_capacity out.old) (vec_capacity out.new) }
 {
     match lsn {
         Some(lsn) => put_u64(out, lsn.as_u64()),

@@ -1,6 +1,6 @@
 // Items of lists within bodies.
-ghost use Rattle.std.specs.Prelude.{◌≡◌, ◌+◌, ◌≤◌, ◌++◌, length, vec_capacity, IsOk, IfOk, OnOk, OnErr, MatchOption, Some, None};
-ghost use Rattle.log_entry.specs.Writing.{KeepsFront};
+ghost use Rattle.std.specs.Prelude.{◌≡◌, length, vec_capacity, IfOk, MatchOption, Some, None};
+ghost use Rattle.log_entry.specs.Writing.{Puts};
 
 use je_bytes::Reader;
 use std::alloc::{AllocError, Global};
@@ -24,10 +24,7 @@ pub(crate) trait Item: Drop {
     // Puts the item at the end.
     fn put(&self, out: &mut Vec<u8>) -> Result<(), AllocError>
         requires { IsItem self.now }
-        ensures ok { OnOk result (out.new.items ≡ out.old.items ++ item_bytes self.now) }
-        ensures err { OnErr result (KeepsFront out.old.items out.new.items) }
-        ensures fits { length out.old.items + length (item_bytes self.now) ≤ vec_capacity out.old → IsOk result }
-        ensures capacity { vec_capacity out.old ≤ vec_capacity out.new };
+        ensures { Puts (item_bytes self.now) result out.old.items out.new.items (vec_capacity out.old) (vec_capacity out.new) };
 
     // How many bytes the item has.
     fn size(&self) -> u32

@@ -1,9 +1,10 @@
 // Lists of items, read and written one after another.
-ghost use Rattle.std.specs.Prelude.{◌≡◌, ◌+◌, ◌≤◌, ◌<◌, ◌^◌, ◌++◌, length, vec_capacity, IsOk, IfOk, OnOk, OnErr, MatchOption, Some, None};
+ghost use Rattle.std.specs.Prelude.{◌≡◌, ◌+◌, ◌<◌, ◌^◌, length, vec_capacity, IfOk, MatchOption, Some, None};
 ghost use Rattle.std.specs.Int.{w16};
 ghost use Rattle.std.specs.List.{AllByRecursion, flat_map};
+ghost use Rattle.log_entry.specs.Body.{alone};
 ghost use Rattle.log_entry.specs.Items.{items_in, rising_in, counted_in, counted_bytes, rises as rise, rises_from as rise_from};
-ghost use Rattle.log_entry.specs.Writing.{KeepsFront};
+ghost use Rattle.log_entry.specs.Writing.{Puts};
 
 use crate::item::Item;
 use je_bytes::{Reader, put_u16};
@@ -52,8 +53,8 @@ fn rises<T: Item>(items: &[T]) -> bool
     }
 }
 
-// So many items, but at most as many as are allowed, each of them before the next one, if they all come
-// next. The time is that of what is read.
+// So many items, but at most as many as are allowed, each of them before the next one, if they are all
+// that is left. The time is that of what is read.
 #[tactic(auto, unfolding(crate::specs::Items::rising_in))]
 pub(crate) fn read_rising<T: Item>(
     alloc: Global,
@@ -61,7 +62,7 @@ pub(crate) fn read_rising<T: Item>(
     most: u32,
     count: u32,
 ) -> Result<Option<List<T>>, AllocError>
-    ensures { IfOk result (λ found. MatchOption found (rising_in T.item_in T.before most count reader.old ≡ None) (λ items. rising_in T.item_in T.before most count reader.old ≡ Some (items, reader.new))) }
+    ensures { IfOk result (λ found. found ≡ alone (rising_in T.item_in T.before most count reader.old)) }
 {
     if count > most {
         return Ok(None);
@@ -69,20 +70,20 @@ pub(crate) fn read_rising<T: Item>(
     let Some(items) = read_items(alloc, reader, count)? else {
         return Ok(None);
     };
-    if !rises(items.as_slice()) {
+    if !rises(items.as_slice()) || !reader.rest().is_empty() {
         return Ok(None);
     }
     Ok(Some(List::from_vec(items)))
 }
 
-// A list whose count has two bytes, if one comes next with at most so many items.
+// A list whose count has two bytes, if that is all that is left and it has at most so many items.
 #[tactic(auto, unfolding(crate::specs::Items::counted_in))]
 pub(crate) fn read_counted<T: Item>(
     alloc: Global,
     reader: &mut Reader<'_>,
     most: u32,
 ) -> Result<Option<List<T>>, AllocError>
-    ensures { IfOk result (λ found. MatchOption found (counted_in w16 T.item_in T.before most reader.old ≡ None) (λ items. counted_in w16 T.item_in T.before most reader.old ≡ Some (items, reader.new))) }
+    ensures { IfOk result (λ found. found ≡ alone (counted_in w16 T.item_in T.before most reader.old)) }
 {
     let Ok(count) = reader.u16() else {
         return Ok(None);
@@ -93,10 +94,7 @@ pub(crate) fn read_counted<T: Item>(
 // Puts the items at the end.
 pub(crate) fn put_items<T: Item>(out: &mut Vec<u8>, items: &[T]) -> Result<(), AllocError>
     requires { AllByRecursion T.IsItem items.now }
-    ensures ok { OnOk result (out.new.items ≡ out.old.items ++ flat_map T.item_bytes items.now) }
-    ensures err { OnErr result (KeepsFront out.old.items out.new.items) }
-    ensures fits { length out.old.items + length (flat_map T.item_bytes items.now) ≤ vec_capacity out.old → IsOk result }
-    ensures capacity { vec_capacity out.old ≤ vec_capacity out.new }
+    ensures { Puts (flat_map T.item_bytes items.now) result out.old.items out.new.items (vec_capacity out.old) (vec_capacity out.new) }
 {
     for item in items {
         item.put(out)?;
@@ -108,10 +106,7 @@ pub(crate) fn put_items<T: Item>(out: &mut Vec<u8>, items: &[T]) -> Result<(), A
 pub(crate) fn put_counted<T: Item>(out: &mut Vec<u8>, items: &[T]) -> Result<(), AllocError>
     requires each { AllByRecursion T.IsItem items.now }
     requires few { length items.now < 2 ^ 16 }
-    ensures ok { OnOk result (out.new.items ≡ out.old.items ++ counted_bytes w16 T.item_bytes items.now) }
-    ensures err { OnErr result (KeepsFront out.old.items out.new.items) }
-    ensures fits { length out.old.items + (2 + length (flat_map T.item_bytes items.now)) ≤ vec_capacity out.old → IsOk result }
-    ensures capacity { vec_capacity out.old ≤ vec_capacity out.new }
+    ensures { Puts (counted_bytes w16 T.item_bytes items.now) result out.old.items out.new.items (vec_capacity out.old) (vec_capacity out.new) }
 {
     put_u16(out, items.len() as u16)?;
     put_items(out, items)

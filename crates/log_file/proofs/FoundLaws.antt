@@ -1,7 +1,7 @@
 -- What is found of a file that was spelled, and what the run of any file is spelled as.
 use Rattle.std.proofs.Common.{◌≡◌, ℕ, ◌+◌, ◌<◌, ◌≤◌, ◌^◌, ◌==◌, ◌&&◌, nat_lt, not, Bool, true, false, cond, List, [], ◌∷◌, ◌++◌, length, take, drop, refl, sym, ap, subst, ◌∙◌, append_assoc, arith}
 use Rattle.std.proofs.lemmas.Bool.Decides.{nat_tests}
-use Rattle.std.proofs.lemmas.Bool.{eqb-true}
+use Rattle.std.proofs.lemmas.Bool.{eqb-true, eq-eqb, ne_eqb}
 use Rattle.std.proofs.lemmas.List.{append-nil, drop_at, take_at, length-append}
 use Rattle.std.specs.List.{AllByRecursion}
 use Rattle.je_bytes.specs.Reading.{AreBytes}
@@ -36,6 +36,25 @@ found_headed : (f : ℕ) (bytes : List ℕ) (len : ℕ) → decoded bytes ≡ Wh
 found_headed f bytes len is =
     let same : (f == f) ≡ true = grind (arith, nat_tests) in
     ap (found_by f bytes) is ∙ rw same refl
+
+-- a first entry that is the file's header
+pub found_run : (f : ℕ) (bytes : List ℕ) (prev version file : ℕ) (first : Entry) (run : FileRun) → first ≡ FileHeader version file → prev ≡ 0 → version ≡ 1 → file ≡ f →
+    run ≡ run_with (entries_behind bytes) → Run run ≡ found_first f bytes prev first
+found_run f bytes prev version file first run is zero one same whole =
+    let found : found_first f bytes 0 (FileHeader 1 f) ≡ Run (run_with (entries_behind bytes)) = rw (eq-eqb f f refl) refl in
+    ap Run whole
+    ∙ sym (ap (found_first f bytes prev) is
+    ∙ ap (λ (p : ℕ). found_first f bytes p (FileHeader version file)) zero
+    ∙ ap (λ (v : ℕ). found_first f bytes 0 (FileHeader v file)) one
+    ∙ ap (λ (n : ℕ). found_first f bytes 0 (FileHeader 1 n)) same
+    ∙ found)
+
+-- a first entry that is a header of another version
+pub found_unknown : (f : ℕ) (bytes : List ℕ) (prev version file : ℕ) (first : Entry) → first ≡ FileHeader version file → prev ≡ 0 → (version ≡ 1 → ⊥) →
+    VersionUnknown version ≡ found_first f bytes prev first
+found_unknown f bytes prev version file first is zero other =
+    let found : found_first f bytes 0 (FileHeader version file) ≡ VersionUnknown version = rw (ne_eqb version 1 other) refl in
+    sym (ap (found_first f bytes prev) is ∙ ap (λ (p : ℕ). found_first f bytes p (FileHeader version file)) zero ∙ found)
 
 -- the entries behind a header that were spelled, and then those that follow them
 pub behind-spelled : (f : ℕ) (entries : List Entry) (rest : List ℕ) → f < 2 ^ 32 → AreFileEntries entries →

@@ -1,6 +1,7 @@
 -- A scan that is under way, from entry to entry.
-use Rattle.std.proofs.Common.{◌≡◌, ℕ, ◌+◌, ◌<◌, ◌≤◌, ◌^◌, ◌==◌, ◌&&◌, true, false, cond, List, [], ◌∷◌, ◌++◌, length, drop, refl, sym, ap, subst, ◌∙◌, append_assoc, arith, nat_lt, length-drop}
-use Rattle.std.proofs.lemmas.Bool.Decides.{nat_tests}
+use Rattle.std.proofs.Common.{◌≡◌, ℕ, ◌+◌, ◌≤◌, ◌^◌, ◌==◌, ◌&&◌, true, false, cond, List, [], ◌∷◌, ◌++◌, length, drop, refl, sym, ap, subst, ◌∙◌, append_assoc, arith, nat_lt, Bool, Some, None, length-drop}
+use Rattle.std.proofs.lemmas.Bool.{eqb-true}
+use Rattle.std.proofs.lemmas.Option.{none-some, same_Some}
 use Rattle.std.proofs.lemmas.List.{append-nil, drop-drop}
 use Rattle.log_entry.specs.declared.entry.Entry.{Entry}
 use Rattle.log_entry.specs.declared.decoder.Decoded.TheVariants.{Whole, Torn as NotWhole}
@@ -8,12 +9,13 @@ use Rattle.log_entry.specs.declared.decoder.Torn.{Torn}
 use Rattle.log_entry.specs.Spelling.{size_of}
 use Rattle.log_entry.specs.declared.decoder.Decoded.{Decoded}
 use Rattle.log_entry.specs.Reading.{decoded, IsFound}
-use Rattle.log_entry.specs.Run.{Run, run_on}
+use Rattle.log_entry.specs.Run.{Run, run_on, last_from}
 use Rattle.log_entry.proofs.ReadingLaws.{decoded-long}
 use Rattle.log_entry.proofs.RunLaws.{run_on-whole, run_on-torn, run_on-other}
+use Rattle.log_file.specs.declared.file_run.FileRun.{FileRun}
 use Rattle.log_file.specs.declared.scanning.Next.{Next}
-use Rattle.log_file.specs.Scan.{may_follow, front, entries_behind}
-use Rattle.log_file.specs.Scanning.{run_at, IsNext, IsLast, IsScanned}
+use Rattle.log_file.specs.Scan.{may_follow, front, entries_behind, run_with}
+use Rattle.log_file.specs.Scanning.{run_at, end_in_run, IsNext, IsLast, IsScanned}
 use Rattle.log_file.proofs.SpelledLaws.{sizes-append, last-append}
 
 -- ---- what comes next in a run
@@ -23,7 +25,7 @@ pub torn_ends : (bytes : List ℕ) (at last : ℕ) (torn : Torn) → decoded (dr
 torn_ends bytes at last torn is = ap (λ (r : Run). front at r.entries) (run_on-torn last at (drop at bytes) torn is)
 
 -- an entry that names another one before it
-pub parted_ends : (bytes : List ℕ) (at last : ℕ) (entry : Entry) (prev len : ℕ) → decoded (drop at bytes) ≡ Whole entry prev len → (prev == last) ≡ false → IsLast bytes at last
+parted_ends : (bytes : List ℕ) (at last : ℕ) (entry : Entry) (prev len : ℕ) → decoded (drop at bytes) ≡ Whole entry prev len → (prev == last) ≡ false → IsLast bytes at last
 parted_ends bytes at last entry prev len is other = ap (λ (r : Run). front at r.entries) (run_on-other last at (drop at bytes) entry prev len is other)
 
 -- the entries from a whole entry on
@@ -36,22 +38,46 @@ whole_at bytes at last entry len is size =
     ∙ ap (λ (x : List ℕ). front at (entry ∷ (run_on at (at + size_of entry) x).entries)) far
 
 -- an entry that may not follow, or that ends past the limit
-pub unfit_ends : (bytes : List ℕ) (at last : ℕ) (entry : Entry) (len : ℕ) → decoded (drop at bytes) ≡ Whole entry last len → len ≡ size_of entry →
+unfit_ends : (bytes : List ℕ) (at last : ℕ) (entry : Entry) (len : ℕ) → decoded (drop at bytes) ≡ Whole entry last len → len ≡ size_of entry →
     (may_follow entry && nat_lt (at + size_of entry) (2 ^ 32)) ≡ false → IsLast bytes at last
 unfit_ends bytes at last entry len is size unfit = whole_at bytes at last entry len is size ∙ rw unfit refl
 
 -- an entry that fits
-pub fit_goes_on : (bytes : List ℕ) (at last : ℕ) (entry : Entry) (len : ℕ) → at ≤ length bytes → decoded (drop at bytes) ≡ Whole entry last len → len ≡ size_of entry →
-    may_follow entry ≡ true → at + size_of entry < 2 ^ 32 → IsNext bytes at last (record { entry = entry; end = at + size_of entry })
-fit_goes_on bytes at last entry len inside is size follows fits =
-    let fit : nat_lt (at + size_of entry) (2 ^ 32) ≡ true = grind (arith, nat_tests) in
+fit_goes_on : (bytes : List ℕ) (at last : ℕ) (entry : Entry) (len : ℕ) → at ≤ length bytes → decoded (drop at bytes) ≡ Whole entry last len → len ≡ size_of entry →
+    (may_follow entry && nat_lt (at + size_of entry) (2 ^ 32)) ≡ true → IsNext bytes at last (record { entry = entry; end = at + size_of entry })
+fit_goes_on bytes at last entry len inside is size fit =
     let long = decoded-long (drop at bytes) entry last len is in
     record {
-      goes_on = whole_at bytes at last entry len is size ∙ rw (follows, fit) refl;
+      goes_on = whole_at bytes at last entry len is size ∙ rw fit refl;
       end = refl;
       after = omega arith;
       within = omega (arith, long.1, size, length-drop at bytes, inside);
     }
+
+-- the run ends before an entry that it does not go on with
+pub whole_ends : (bytes : List ℕ) (at last : ℕ) (entry : Entry) (prev len : ℕ) → decoded (drop at bytes) ≡ Whole entry prev len → len ≡ size_of entry →
+    None ≡ end_in_run entry prev at last → IsLast bytes at last
+whole_ends bytes at last entry prev len is size none = by_case (prev == last) (may_follow entry && nat_lt (at + size_of entry) (2 ^ 32)) refl refl none
+  where
+    by_case : (a b : Bool) → (prev == last) ≡ a → (may_follow entry && nat_lt (at + size_of entry) (2 ^ 32)) ≡ b →
+        None ≡ cond (a && b) (Some (at + size_of entry)) None → IsLast bytes at last
+    by_case false b other fit h = parted_ends bytes at last entry prev len is other
+    by_case true false same fit h =
+        unfit_ends bytes at last entry len (is ∙ ap (λ (p : ℕ). Whole entry p len) (eqb-true prev last same)) size fit
+    by_case true true same fit h = absurd (none-some (at + size_of entry) h)
+
+-- the run goes on with an entry
+pub whole_goes_on : (bytes : List ℕ) (at last : ℕ) (entry : Entry) (prev len end : ℕ) → at ≤ length bytes → decoded (drop at bytes) ≡ Whole entry prev len → len ≡ size_of entry →
+    Some end ≡ end_in_run entry prev at last → IsNext bytes at last (record { entry = entry; end = end })
+whole_goes_on bytes at last entry prev len end inside is size some = by_case (prev == last) (may_follow entry && nat_lt (at + size_of entry) (2 ^ 32)) refl refl some
+  where
+    by_case : (a b : Bool) → (prev == last) ≡ a → (may_follow entry && nat_lt (at + size_of entry) (2 ^ 32)) ≡ b →
+        Some end ≡ cond (a && b) (Some (at + size_of entry)) None → IsNext bytes at last (record { entry = entry; end = end })
+    by_case false b other fit h = absurd (none-some end (sym h))
+    by_case true false same fit h = absurd (none-some end (sym h))
+    by_case true true same fit h =
+        subst (λ (n : ℕ). IsNext bytes at last (record { entry = entry; end = n })) (sym (same_Some end (at + size_of entry) h))
+        (fit_goes_on bytes at last entry len inside (is ∙ ap (λ (p : ℕ). Whole entry p len) (eqb-true prev last same)) size fit)
 
 -- ---- the entries read so far
 
@@ -67,8 +93,16 @@ reads_on bytes entries at last next so_far is = record {
   within = is.within;
 }
 
-pub all_read : (bytes : List ℕ) (entries : List Entry) (at last : ℕ) → IsScanned bytes entries at last → IsLast bytes at last → entries ≡ entries_behind bytes
+all_read : (bytes : List ℕ) (entries : List Entry) (at last : ℕ) → IsScanned bytes entries at last → IsLast bytes at last → entries ≡ entries_behind bytes
 all_read bytes entries at last so_far is = sym (append-nil entries) ∙ ap (λ (l : List Entry). entries ++ l) (sym is) ∙ so_far.run
+
+-- the run, once all of it was read
+pub read_run : (bytes : List ℕ) (entries : List Entry) (at last : ℕ) → IsScanned bytes entries at last → IsLast bytes at last →
+    (let run : FileRun = record { entries = entries; last = last; end = at } in run) ≡ run_with (entries_behind bytes)
+read_run bytes entries at last so_far is =
+    let at_last : ℕ → FileRun = λ n. record { entries = entries; last = n; end = at } in
+    let ends : ℕ → FileRun = λ n. record { entries = entries; last = last_from 0 26 entries; end = n } in
+    ap at_last so_far.last_is ∙ ap ends so_far.at_is ∙ ap run_with (all_read bytes entries at last so_far is)
 
 -- what a whole entry that was found says of its bytes
 pub whole_size : (bytes : List ℕ) (d : Decoded) (entry : Entry) (prev len : ℕ) → IsFound bytes d → d ≡ Whole entry prev len → len ≡ size_of entry

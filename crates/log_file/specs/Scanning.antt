@@ -1,14 +1,19 @@
 -- A scan that is under way.
-use Rattle.std.specs.Prelude.{ℕ, ◌≡◌, ◌≤◌, ◌<◌, ◌+◌, ◌++◌, List, [], ◌∷◌, length, drop}
+use Rattle.std.specs.Prelude.{ℕ, ◌≡◌, ◌≤◌, ◌<◌, ◌+◌, ◌^◌, ◌==◌, ◌&&◌, nat_lt, if◌then◌else◌, ◌++◌, List, [], ◌∷◌, length, drop, Option, None, Some}
 use Rattle.log_entry.specs.declared.entry.Entry.{Entry}
 use Rattle.log_entry.specs.Spelling.{size_of}
 use Rattle.log_entry.specs.Run.{run_on, last_from}
 use Rattle.log_file.specs.declared.scanning.Next.{Next}
-use Rattle.log_file.specs.Scan.{front, entries_behind, sizes_of}
+use Rattle.log_file.specs.Scan.{may_follow, front, entries_behind, sizes_of}
 
 -- the entries of a run from an offset on, behind an entry at the offset `last`
 abbrev pub run_at : List ℕ → ℕ → ℕ → List Entry
 run_at bytes at last = front at (run_on last at (drop at bytes)).entries
+
+-- where an entry at an offset ends, if a run behind an entry at the offset `last` goes on with it
+abbrev pub end_in_run : Entry → ℕ → ℕ → ℕ → Option ℕ
+end_in_run entry prev at last =
+    if (prev == last) && (may_follow entry && nat_lt (at + size_of entry) (2 ^ 32)) then Some (at + size_of entry) else None
 
 -- the run goes on with this entry
 pub record IsNext (bytes : List ℕ) (at last : ℕ) (next : Next) : Type 0 where

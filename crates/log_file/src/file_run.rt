@@ -3,7 +3,7 @@ use je_order::List;
 use log_entry::Entry;
 
 /// The run of a file: the whole entries from its beginning, of which the first is the header.
-#[derive(Debug, Drop, PartialEq, Eq)]
+#[derive(Drop)]
 pub struct FileRun {
     /// The entries behind the header, in order.
     pub entries: List<Entry>,

@@ -2,7 +2,7 @@
 use crate::FileRun;
 
 /// What a file's bytes are, told by their first entry.
-#[derive(Debug, Drop, PartialEq, Eq)]
+#[derive(Drop)]
 pub enum Found {
     /// The file's run; an empty one where no whole entry comes first.
     Run(FileRun),

@@ -1,16 +1,19 @@
 // Scanning a file of a disk.
-ghost use Rattle.std.specs.Prelude.{◌≡◌, true, IfOk};
+ghost use Rattle.std.specs.Prelude.{◌≡◌, true, length, IfOk};
+ghost use Rattle.je_bytes.specs.Reading.{AreBytes};
 ghost use Rattle.je_disk.specs.Moments.{now, Passes};
+ghost use Rattle.je_disk.specs.States.{content};
 ghost use Rattle.je_disk.specs.Causes.{HasCause};
 ghost use Rattle.log_file.specs.Reading.{IsScanOf};
+ghost use Rattle.log_file.specs.Scan.{found_in};
 
 use crate::{Found, scan_bytes};
 use je_disk::{Disk, DiskErr};
 use je_lsn::FileNo;
-use std::alloc::Global;
+use std::alloc::{AllocError, Global};
 
 /// What a scan of a file found.
-#[derive(Debug, Drop, PartialEq, Eq)]
+#[derive(Drop)]
 pub struct Scanned {
     /// What the file's bytes are.
     pub found: Found,
@@ -28,13 +31,33 @@ pub fn scan<D: Disk>(alloc: Global, disk: &mut D, f: FileNo) -> Result<Scanned, 
     ensures jobs { (D.sync_out disk.new ≡ D.sync_out disk.old) × (D.read_out disk.new ≡ D.read_out disk.old) × (D.read_of disk.new ≡ D.read_of disk.old) × (D.drawn disk.new ≡ D.drawn disk.old) }
     ensures cause { HasCause (D.faults disk.old) (D.faults disk.new) result }
 {
-    let len = disk.len(f)?;
-    let mut bytes = vec![in alloc; 0u8; len as usize]?;
-    let count = disk.read(f, 0, &mut bytes)?;
-    bytes.truncate(count);
-    let found = scan_bytes(alloc, &bytes, f)?;
+    let bytes = read_whole(alloc, disk, f)?;
+    Ok(scan_whole(alloc, &bytes, f)?)
+}
+
+// What a file is that has these bytes.
+fn scan_whole(alloc: Global, bytes: &[u8], f: FileNo) -> Result<Scanned, AllocError>
+    ensures are { AreBytes bytes.now }
+    ensures scanned { IfOk result (λ scanned. (scanned.found ≡ found_in f.0 bytes.now) × (scanned.len ≡ length bytes.now)) }
+{
+    let found = scan_bytes(alloc, bytes, f)?;
     Ok(Scanned {
         found,
         len: bytes.len() as u64,
     })
+}
+
+// The bytes of a file; none where it is not there.
+fn read_whole<D: Disk>(alloc: Global, disk: &mut D, f: FileNo) -> Result<Vec<u8>, DiskErr>
+    ensures bytes { D.tells ≡ true → IfOk result (λ bytes. bytes.items ≡ content (now (D.history disk.old)).reads f.0) }
+    ensures same { D.tells ≡ true → now (D.history disk.new) ≡ now (D.history disk.old) }
+    ensures moments { D.tells ≡ true → Passes (D.history disk.old) (D.history disk.new) (λ s. s ≡ now (D.history disk.old)) }
+    ensures jobs { (D.sync_out disk.new ≡ D.sync_out disk.old) × (D.read_out disk.new ≡ D.read_out disk.old) × (D.read_of disk.new ≡ D.read_of disk.old) × (D.drawn disk.new ≡ D.drawn disk.old) }
+    ensures cause { HasCause (D.faults disk.old) (D.faults disk.new) result }
+{
+    let len = disk.len(f)?;
+    let mut bytes = vec![in alloc; 0u8; len as usize]?;
+    let count = disk.read(f, 0, &mut bytes)?;
+    bytes.truncate(count);
+    Ok(bytes)
 }

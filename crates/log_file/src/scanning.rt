@@ -1,8 +1,9 @@
 // Scanning the bytes of a file.
 ghost use Rattle.std.specs.Prelude.{◌≡◌, ◌≤◌, ◌<◌, ◌^◌, length, IfOk, MatchOption};
+ghost use Rattle.log_entry.specs.Body.{IsEntry};
 ghost use Rattle.log_entry.specs.Spelling.{size_of};
 ghost use Rattle.log_file.specs.Scan.{may_follow as may_follow_header, no_run as nothing_run, run_with, entries_behind, found_in, found_headless as headless, found_first};
-ghost use Rattle.log_file.specs.Scanning.{IsNext, IsLast};
+ghost use Rattle.log_file.specs.Scanning.{end_in_run, IsNext, IsLast};
 
 use crate::{FileRun, Found};
 use je_lsn::FileNo;
@@ -33,6 +34,21 @@ struct Next {
     end: u32,
 }
 
+// Where a run that goes on with this entry, which stands at the offset `at` and has this prev field,
+// goes on behind it; None where the run ends before it. `last` is the offset of the entry before.
+fn end_of(entry: &Entry, prev: u32, at: u32, last: u32) -> Option<u32>
+    requires { IsEntry entry.now }
+    ensures { result ≡ end_in_run entry.now prev at last }
+{
+    if prev != last {
+        return None;
+    }
+    if !may_follow(entry) {
+        return None;
+    }
+    at.checked_add(size(entry))
+}
+
 // The next entry of a run that goes on at an offset behind an entry at the offset `last`, in the time
 // of that entry; None where the run ends.
 fn next_entry(alloc: Global, bytes: &[u8], at: u32, last: u32) -> Result<Option<Next>, AllocError>
@@ -42,13 +58,7 @@ fn next_entry(alloc: Global, bytes: &[u8], at: u32, last: u32) -> Result<Option<
     let Decoded::Whole { entry, prev, .. } = decode_at(alloc, bytes, at as usize)? else {
         return Ok(None);
     };
-    if prev != last {
-        return Ok(None);
-    }
-    if !may_follow(&entry) {
-        return Ok(None);
-    }
-    match at.checked_add(size(&entry)) {
+    match end_of(&entry, prev, at, last) {
         Some(end) => Ok(Some(Next { entry, end })),
         None => Ok(None),
     }

@@ -1,5 +1,5 @@
 -- Numbers between rising numbers of files.
-use Rattle.std.proofs.Common.{◌≡◌, ℕ, suc, ◌+◌, ◌<◌, List, [], ◌∷◌, map, length, drop, take, get_or, refl, sym, ap, subst, ◌∙◌, arith, add-one, drop-cons, ◌-◌, ◌==◌, Bool, true, false, cond, Option, Some, None}
+use Rattle.std.proofs.Common.{◌≡◌, ℕ, suc, ◌+◌, ◌<◌, ◌≤◌, length-drop, List, [], ◌∷◌, map, length, drop, take, get_or, refl, sym, ap, subst, ◌∙◌, arith, add-one, drop-cons, ◌-◌, ◌==◌, Bool, true, false, cond, Option, Some, None}
 use Rattle.std.specs.Bool.{if◌then◌else◌}
 use Rattle.log_replay.specs.Reading.{gap_behind}
 use Rattle.std.proofs.Math.Seq.{take-length}
@@ -20,6 +20,10 @@ item_at files i below =
     let none : FileNo = record { 0 = 0 } in
     let at : drop i files ≡ get_or files i none ∷ drop (suc i) files = drop-cons files i none below in
     at ∙ ap (λ (n : ℕ). get_or files i none ∷ drop n files) (sym (add-one i))
+
+-- a file is left where one was not read yet
+pub one_left : (files : List FileNo) (i left : ℕ) → i < length files → left ≡ length (drop i files) → 1 ≤ left
+one_left files i left below is = omega (arith, length-drop i files)
 
 -- the numbers from an item on
 numbers_at : (rest : List FileNo) (i : ℕ) → i < length rest → map (λ f. f.0) (drop i rest) ≡ (get_or rest i (record { 0 = 0 })).0 ∷ map (λ f. f.0) (drop (i + 1) rest)

@@ -1,11 +1,11 @@
 -- The second replay, in which each put has its LSN for its data.
-use Rattle.std.proofs.Common.{◌≡◌, ◌+◌, ℕ, List, [], ◌∷◌, ◌++◌, Option, refl, sym, ap, subst, ◌∙◌, append_assoc}
+use Rattle.std.proofs.Common.{◌≡◌, ◌+◌, ◌<◌, ◌^◌, ℕ, List, [], arith, Fits, w32, ◌∷◌, ◌++◌, Option, refl, sym, ap, subst, ◌∙◌, append_assoc}
 use Rattle.std.proofs.lemmas.List.{append-nil}
 use Rattle.je_disk.specs.States.{Files, content}
 use Rattle.je_lsn.specs.declared.file_no.FileNo.{FileNo}
 use Rattle.log_entry.specs.declared.entry.Entry.{Entry}
 use Rattle.log_entry.specs.Spelling.{size_of}
-use Rattle.log_file.specs.Scan.{found_in}
+use Rattle.log_file.specs.Scan.{found_in, sizes_of}
 use Rattle.log_file.specs.Log.{entries_found, log_in}
 use Rattle.log_replay.specs.declared.replaying.Replaying.{Replaying}
 use Rattle.log_replay.specs.Reading.{marked, marked_entry, marked_log, files_read, lsn_at, lsn_in, lsn_of}
@@ -23,6 +23,13 @@ marked_more f at len entries left rest out new entry made so_far is made_is more
     ∙ ap (λ (n : ℕ). out ++ marked_entry (lsn_at f at) entry ∷ marked f (at + n) rest) size
     ∙ ap (λ (l : List Entry). out ++ marked f at l) (sym is)
     ∙ so_far
+
+pub ends_below : (at len : ℕ) (left rest : List Entry) (entry : Entry) → left ≡ entry ∷ rest → len ≡ size_of entry → at + sizes_of left < 2 ^ 32 → Fits w32 (at + len)
+ends_below at len left rest entry is size below = omega (arith, ap sizes_of is, size, below)
+
+-- all entries are marked
+pub marked_all : (f at : ℕ) (entries left out : List Entry) → out ++ marked f at left ≡ marked f 26 entries → left ≡ [] → out ≡ marked f 26 entries
+marked_all f at entries left out so_far none = sym (append-nil out) ∙ ap (λ (l : List Entry). out ++ marked f at l) (sym none) ∙ so_far
 
 -- the entries of some files were replayed with their LSNs, and these files are left
 pub record IsMarking (reads : Files) (files left : List FileNo) (going : Replaying) : Type 0 where

@@ -1,9 +1,9 @@
 // The place in the log of the entry that gave a record.
-ghost use Rattle.std.specs.Prelude.{◌≡◌, ◌+◌, ◌<◌, ◌^◌, true, [], IfOk, OnOk, option_copied};
+ghost use Rattle.std.specs.Prelude.{◌≡◌, ◌+◌, ◌<◌, true, [], IfOk, OnOk, option_copied};
 ghost use Rattle.std.specs.Int.{w64, to_be_bytes};
 ghost use Rattle.je_disk.specs.Moments.{now, Passes};
 ghost use Rattle.je_disk.specs.Causes.{HasCause};
-ghost use Rattle.log_entry.specs.Body.{IsEntry};
+ghost use Rattle.log_entry.specs.declared.entry.Entry.TheVariants.{Put};
 ghost use Rattle.log_file.specs.Log.{AreFileEntries, entries_found, log_in};
 ghost use Rattle.log_replay.specs.Reading.{files_read, lsn_in, lsn_of as lsn_of_place, marked, marked_entry};
 ghost use Rattle.log_replay.specs.Rows.{data_at, rows_in};
@@ -13,10 +13,10 @@ use crate::place::Place;
 use crate::replaying::Replaying;
 use crate::rows::Rows;
 use crate::sort_key::SortKey;
-use je_bytes::{Reader, put_u64};
+use je_bytes::Reader;
 use je_disk::{Disk, DiskErr};
 use je_lsn::{FileNo, Lsn};
-use je_order::{List, Octets, copy_of};
+use je_order::{List, Name, Octets, TxnId, copy_of};
 use log_entry::{Entry, size};
 use log_file::{Found, Scanned, scan};
 use std::alloc::{AllocError, Global};
@@ -28,9 +28,20 @@ const HEADER_BYTES: u32 = 26;
 fn lsn_bytes(alloc: Global, lsn: Lsn) -> Result<Octets, AllocError>
     ensures { IfOk result (λ bytes. bytes ≡ to_be_bytes w64 lsn) }
 {
-    let mut bytes = Vec::new(alloc);
-    put_u64(&mut bytes, lsn.as_u64())?;
-    Ok(Octets::from_vec(bytes))
+    Octets::from_slice(alloc, &lsn.as_u64().to_be_bytes())
+}
+
+// A put of the name with an LSN for its data.
+fn put_of(alloc: Global, txn: TxnId, db: u32, name: Name, lsn: Lsn) -> Result<Entry, AllocError>
+    ensures { IfOk result (λ put. put ≡ Put txn db name (to_be_bytes w64 lsn)) }
+{
+    let value = lsn_bytes(alloc, lsn)?;
+    Ok(Entry::Put {
+        txn,
+        db,
+        name,
+        value,
+    })
 }
 
 // An entry with its LSN for its data.
@@ -38,15 +49,7 @@ fn mark_entry(alloc: Global, entry: Entry, lsn: Lsn) -> Result<Entry, AllocError
     ensures { IfOk result (λ marked. marked ≡ marked_entry lsn entry) }
 {
     match entry {
-        Entry::Put { txn, db, name, .. } => {
-            let value = lsn_bytes(alloc, lsn)?;
-            Ok(Entry::Put {
-                txn,
-                db,
-                name,
-                value,
-            })
-        }
+        Entry::Put { txn, db, name, .. } => put_of(alloc, txn, db, name, lsn),
         other => Ok(other),
     }
 }

@@ -1,6 +1,5 @@
 // A replay under way.
-ghost use Rattle.std.specs.Prelude.{◌≡◌, ℕ, List as Items, [], ◌∷◌, map, max, OnOk};
-ghost use Rattle.log_entry.specs.declared.entry.Entry.{Entry as AnyEntry};
+ghost use Rattle.std.specs.Prelude.{◌≡◌, ℕ, [], ◌∷◌, map, OnOk};
 ghost use Rattle.log_replay.specs.Rows.{rows_in, row_changed, rows_changed};
 ghost use Rattle.log_replay.specs.Replay.{Replay, replayed_entry, txn_in, db_in};
 ghost use Rattle.log_replay.specs.Pending.{as_change, StandsFor};

@@ -3,7 +3,7 @@ use je_lsn::FileNo;
 use je_order::Octets;
 
 /// What a call that was done changed on the disk.
-#[derive(Debug, Drop)]
+#[derive(Drop)]
 pub enum Change {
     Create(FileNo),
     Append(FileNo, Octets),

@@ -9,7 +9,7 @@ use je_lsn::FileNo;
 use std::alloc::{AllocError, Global};
 
 /// One file: how it reads, what a crash keeps of it, and what it will keep when the sync ends that is out.
-#[derive(Debug, Drop)]
+#[derive(Drop)]
 pub struct FileState {
     reads: Option<Vec<u8>>,
     mark: FileMark,

@@ -4,25 +4,21 @@ ghost use Rattle.std.specs.Prelude.{◌≡◌};
 use je_disk::{ReadDone, ReadJob, SyncDone, SyncJob};
 
 /// A sync that was begun. There is nothing to do: the disk is in memory.
-#[derive(Debug)]
 pub struct MemJob {
     number: u64,
 }
 
 /// A sync that has run.
-#[derive(Debug)]
 pub struct MemDone {
     number: u64,
 }
 
 /// The reading of a file that was begun. The disk has the bytes itself when it ends.
-#[derive(Debug)]
 pub struct MemReadJob {
     number: u64,
 }
 
 /// The reading of a file that has run.
-#[derive(Debug)]
 pub struct MemReadDone {
     number: u64,
 }

@@ -7,7 +7,7 @@ use std::alloc::{AllocError, Global};
 
 /// What a crash keeps of one file. It may leave the file with its stable bytes, and behind them any
 /// bytes, up to the greatest length.
-#[derive(Debug, Drop)]
+#[derive(Drop)]
 pub struct FileMark {
     /// The file's first bytes, which stay since the last sync that finished.
     pub stable: Vec<u8>,

@@ -9,7 +9,7 @@ use std::alloc::{AllocError, Global};
 /// A disk in memory. Calls of the trait are numbered from 1; those whose numbers are listed and those
 /// behind the stop fail and change nothing, and so does a call that finds no memory and has no such
 /// answer.
-#[derive(Debug, Drop)]
+#[derive(Drop)]
 pub struct MemDisk {
     shelf: Shelf,
     meter: Meter,

@@ -6,7 +6,7 @@ use je_disk::DiskErr;
 
 /// Counts the calls of a disk, and fails those whose numbers are listed and those behind a stop. Where
 /// there is no stop it stands at 2^64 - 1, the last number that is counted.
-#[derive(Debug, Drop)]
+#[derive(Drop)]
 pub struct Meter {
     fails: Vec<u64>,
     stop: u64,

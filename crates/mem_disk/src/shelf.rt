@@ -19,7 +19,7 @@ use std::alloc::{AllocError, Global};
 use std::collections::BTreeMap;
 
 /// The files as they read, and the record of all changes, which makes the same files.
-#[derive(Debug, Drop)]
+#[derive(Drop)]
 pub struct Shelf {
     files: BTreeMap<u32, Vec<u8>>,
     changes: Vec<Change>,

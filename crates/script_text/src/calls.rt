@@ -1,7 +1,7 @@
 // The forms of calls.
-ghost use Rattle.std.specs.Prelude.{◌≡◌, IfOk, if◌then◌else◌};
+ghost use Rattle.std.specs.Prelude.{◌≡◌, true, IfOk, if◌then◌else◌};
 ghost use Rattle.je_order.specs.Words.{is_word};
-ghost use Rattle.script_text.specs.Grammar.{call_of, create_of, put_of, get_of, get_call, rmw_of, delete_of, bytes_of};
+ghost use Rattle.script_text.specs.Grammar.{call_of, create_of, put_call, put_of, get_of, get_call, rmw_of, delete_call, delete_of, bytes_of};
 
 use crate::bytes::bytes_of;
 use crate::words::Words;
@@ -60,6 +60,13 @@ fn put_of(alloc: Global, mut words: Words) -> Result<Option<Call>, AllocError>
     if words.next().is_some() || !Word::is_word(db) {
         return Ok(None);
     }
+    plain_put(alloc, db, key, value)
+}
+
+fn plain_put(alloc: Global, db: &[u8], key: &[u8], value: &[u8]) -> Result<Option<Call>, AllocError>
+    requires { is_word db.now ≡ true }
+    ensures { IfOk result (λ call. call ≡ put_call db.now (bytes_of key.now) (bytes_of value.now)) }
+{
     let Some(key) = bytes_of(alloc, key)? else {
         return Ok(None);
     };
@@ -124,6 +131,13 @@ fn delete_of(alloc: Global, mut words: Words) -> Result<Option<Call>, AllocError
     if words.next().is_some() || !Word::is_word(db) {
         return Ok(None);
     }
+    plain_delete(alloc, db, key)
+}
+
+fn plain_delete(alloc: Global, db: &[u8], key: &[u8]) -> Result<Option<Call>, AllocError>
+    requires { is_word db.now ≡ true }
+    ensures { IfOk result (λ call. call ≡ delete_call db.now (bytes_of key.now)) }
+{
     let Some(key) = bytes_of(alloc, key)? else {
         return Ok(None);
     };

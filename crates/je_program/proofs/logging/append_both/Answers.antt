@@ -8,7 +8,7 @@ use Rattle.log_entry.specs.Spelling.{size_of}
 use Rattle.je_program.proofs.BothLaws.{as_told, of_told, both_of, both_through, first_through, keeps_both, second_is}
 use Rattle.je_program.proofs.FinishLaws.{rose_earlier}
 use Rattle.je_program.proofs.FlipLaws.{placed_in}
-use Rattle.je_program.proofs.LoggingLaws.{first_fits, gains_both, on_err, only_fault, second_fits, works_on}
+use Rattle.je_program.proofs.LoggingLaws.{fails_by, first_fits, gains_both, on_err, only_fault, second_fits, works_on}
 use Rattle.je_program.proofs.logging.append_both.Goals as goal
 
 pub returns-in_err-append-clause-fault : goal.returns-in_err-append-clause-fault
@@ -126,3 +126,23 @@ returns-in_err-append-2-clause-failed g c =
     (λ e. second_fits (file_max_of old) (file_max_of middle) (end_of old) (end_of middle) (size_of c.args.entry.now) (size_of c.args.commit.now)
     c.append.ensures.file_max c.in_ok-append.ensures.end c.requires.fits (full.0 e))
     (c.append-2.ensures.has_room [] room) c.append-2.ensures.not_damaged))
+
+pub returns-in_err-append-clause-by_fault : goal.returns-in_err-append-clause-by_fault
+returns-in_err-append-clause-by_fault g c =
+    let old = c.args.log.now in
+    let full = c.append.ensures.full c.requires.works in
+    fails_by c.append.result c.in_err-append.field-0.0 c.from_residual.result c.in_err-append.was (only_fault c.append.result c.in_err-append.field-0.0 c.in_err-append.was
+    (λ e. first_fits (file_max_of old) (end_of old) (size_of c.args.entry.now) (size_of c.args.commit.now) c.requires.fits (full.0 e))
+    (c.append.ensures.has_room (size_of c.args.commit.now ∷ []) c.requires.room) c.append.ensures.not_damaged) c.from_residual.ensures.1
+
+pub returns-in_err-append-2-clause-by_fault : goal.returns-in_err-append-2-clause-by_fault
+returns-in_err-append-2-clause-by_fault g c =
+    let old = c.args.log.now in
+    let middle = c.append.new.self in
+    let works : has_failed middle ≡ false = works_on c.append.result c.in_ok-append.field-0 (has_failed middle) c.in_ok-append.was c.append.ensures.cause.failed in
+    let full = c.append-2.ensures.full works in
+    let room : HasRoom middle (size_of c.args.commit.now ∷ []) = c.in_ok-append.ensures.room (size_of c.args.commit.now ∷ []) c.requires.room in
+    fails_by c.append-2.result c.in_err-append-2.field-0.0 c.from_residual-in_err-append-2.result c.in_err-append-2.was (only_fault c.append-2.result c.in_err-append-2.field-0.0 c.in_err-append-2.was
+    (λ e. second_fits (file_max_of old) (file_max_of middle) (end_of old) (end_of middle) (size_of c.args.entry.now) (size_of c.args.commit.now)
+    c.append.ensures.file_max c.in_ok-append.ensures.end c.requires.fits (full.0 e))
+    (c.append-2.ensures.has_room [] room) c.append-2.ensures.not_damaged) c.from_residual-in_err-append-2.ensures.1

@@ -1,4 +1,4 @@
-use Rattle.std.proofs.Common.{ap, sym, ◌∙◌, ◌≡◌, []}
+use Rattle.std.proofs.Common.{ap, sym, ◌∙◌}
 use Rattle.std.specs.Option.{is_some}
 use Rattle.std.proofs.lemmas.Result.{on_ok_weaker, on_err_weaker}
 use Rattle.lock_table.specs.Locks.{after_ask}
@@ -13,11 +13,9 @@ returns-in-Some-clause-err c = on_err_weaker _ (λ is. same_written c.args.queue
 
 pub returns-then-is_empty-clause-ok : goal.returns-then-is_empty-clause-ok
 returns-then-is_empty-clause-ok c =
-    let is : c.ask-2.new.self ≡ after_ask c.args.lock ([], []) = c.in_ok-ask.ensures.ok ∙ ap (after_ask c.args.lock) c.new-queue.ensures in
-    queue_absent c.args.queues.now.entries _ c.args.at.now (after_ask c.args.lock) c.in_default.ensures.value (sym is ∙ is_nothing c.ask-2.new.self _ c.is_empty.ensures c.if-is_empty.true) (ap (λ m. m.entries) c.get_mut.follows.holds-at-none)
+    queue_absent c.args.queues.now.entries _ c.args.at.now (after_ask c.args.lock) c.in_default.ensures.value (sym c.in_ok-queue.ensures ∙ is_nothing c.in_ok-queue.queue _ c.is_empty.ensures c.if-is_empty.true) (ap (λ m. m.entries) c.get_mut.follows.holds-at-none)
 
 pub returns-clause-ok : goal.returns-clause-ok
 returns-clause-ok c =
-    let is : c.ask-2.new.self ≡ after_ask c.args.lock ([], []) = c.in_ok-ask.ensures.ok ∙ ap (after_ask c.args.lock) c.new-queue.ensures in
     let u = c.in_ok-insert.ensures.updates.0 in
-    queue_added c.args.queues.now.entries _ c.args.at.now (after_ask c.args.lock) c.ask-2.new.self c.in_default.ensures.value is (λ q. rw (← c.in_ok-key.ensures, ← c.get_mut.follows.holds-at-none) (u q))
+    queue_added c.args.queues.now.entries _ c.args.at.now (after_ask c.args.lock) c.in_ok-queue.queue c.in_default.ensures.value c.in_ok-queue.ensures (λ q. rw (← c.in_ok-key.ensures, ← c.get_mut.follows.holds-at-none) (u q))

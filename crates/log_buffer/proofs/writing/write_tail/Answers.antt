@@ -1,4 +1,4 @@
-use Rattle.std.proofs.Common.{◌≡◌, ◌+◌, ◌-◌, ℕ, length, sym, ap, subst, ◌∙◌, arith}
+use Rattle.std.proofs.Common.{◌≡◌, ◌<◌, ◌+◌, ◌-◌, ℕ, length, sym, ap, subst, ◌∙◌, arith}
 use Rattle.je_disk.specs.Moments.{now}
 use Rattle.je_disk.specs.States.{Files}
 use Rattle.log_buffer.specs.Tail.{piece_of, bytes_for}
@@ -6,7 +6,7 @@ use Rattle.log_buffer.specs.Crash.{Holds}
 use Rattle.log_buffer.specs.Writing.{IsTailOf}
 use Rattle.log_buffer.proofs.Pieces.{IsCut}
 use Rattle.log_buffer.proofs.Tails.{bytes_for_from}
-use Rattle.log_buffer.proofs.Written.{WrittenUpTo, written_first, written_next, written_all, pieced}
+use Rattle.log_buffer.proofs.Written.{WrittenUpTo, put_reads, file_reads, written_first, written_next, written_all, pieced}
 use Rattle.log_buffer.proofs.KeptWriting.{GoesOn, through_first, goes_first, read_so_far, through_next, goes_next, tail_next, piece_some}
 use Rattle.log_buffer.proofs.writing.write_tail.Goals as goal
 
@@ -24,7 +24,7 @@ loop-i-init g c =
       first_is = omega (arith, count);
       count_is = count;
       written = λ told. subst (WrittenUpTo bytes starts c.args.last start after) here (written_first bytes starts c.args.last first start after c.requires (omega (arith, count))
-          (pieced start after first c.piece.result.now (piece_of bytes starts 0) c.piece.ensures (c.in_ok-write_behind.ensures.done told)));
+          (pieced start after first c.piece.result.now (piece_of bytes starts 0) c.piece.ensures (put_reads first c.piece.result.now (now (g.D.Disk.history c.args.disk.now)) (now (g.D.Disk.history c.write_behind.new.disk)) (c.in_ok-write_behind.ensures.state told))));
       never_falls = c.write_behind.ensures.cause.never_falls;
       sync_out = c.write_behind.ensures.sync_out;
       read_out = c.write_behind.ensures.read_out;
@@ -46,19 +46,22 @@ loop-i-preserved g c =
     let starts = c.args.tail.now.starts.items in
     let cut : IsCut (length bytes) starts = record { within = c.args.tail.now.within; apart = c.args.tail.now.apart } in
     let piece = c.piece-in-loop-i.result.now in
+    let some : 0 < length piece =
+    let lt = c.loop-i-test.true in let n = before.count_is in piece_some bytes starts piece cut c.loop-i.i (omega arith) c.piece-in-loop-i.ensures in
     record {
       first_is = before.first_is;
       count_is = before.count_is;
       written = λ told. written_next bytes starts c.args.last (first + c.loop-i.i) (first + (c.loop-i.i + 1)) (c.loop-i.i + 1) start after next
           c.requires (omega arith) (let f = before.first_is in omega arith) (before.written told)
-          (pieced after next (first + (c.loop-i.i + 1)) piece (piece_of bytes starts (c.loop-i.i + 1)) c.piece-in-loop-i.ensures (c.in_ok-write_file.ensures.done told));
+          (pieced after next (first + (c.loop-i.i + 1)) piece (piece_of bytes starts (c.loop-i.i + 1)) c.piece-in-loop-i.ensures
+          (file_reads (first + (c.loop-i.i + 1)) piece (now (g.D.Disk.history c.loop-i.disk)) (now (g.D.Disk.history c.write_file.new.disk)) some (c.in_ok-write_file.ensures.state told)));
       never_falls = let a = before.never_falls in let b = cause.never_falls in omega arith;
       sync_out = c.write_file.ensures.sync_out ∙ before.sync_out;
       read_out = c.write_file.ensures.read_out ∙ before.read_out;
       read_of = c.write_file.ensures.read_of ∙ before.read_of;
       goes = λ told log removed least begun is h.
           goes_next log removed least (first + c.loop-i.i) (first + (c.loop-i.i + 1)) begun (g.D.Disk.history c.args.disk.now) (g.D.Disk.history c.loop-i.disk) piece is.is_log (omega arith)
-          (let lt = c.loop-i-test.true in let n = before.count_is in piece_some bytes starts piece cut c.loop-i.i (omega arith) c.piece-in-loop-i.ensures)
+          some
           (let f = before.first_is in tail_next log start bytes starts piece c.args.last first (first + (c.loop-i.i + 1)) (c.loop-i.i + 1) is c.requires (omega arith) (omega arith) c.piece-in-loop-i.ensures)
           (read_so_far log bytes starts c.args.last first (first + c.loop-i.i) start after is (omega arith) (before.written told))
           (before.goes told log removed least begun is h)

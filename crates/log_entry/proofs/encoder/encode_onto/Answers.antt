@@ -1,8 +1,10 @@
 use Rattle.std.proofs.Common.{◌≡◌, ◌∙◌, ◌++◌, length, arith, ap}
+use Rattle.std.specs.Prelude.{vec_capacity}
 use Rattle.std.specs.Int.{w32, to_be_bytes}
 use Rattle.log_entry.specs.Spelling.{summed}
 use Rattle.std.proofs.lemmas.List.{take_at}
 use Rattle.log_entry.proofs.WritingLaws.{signed_from}
+use Rattle.log_entry.proofs.Putting.{room_unsigned}
 use Rattle.log_entry.proofs.encoder.encode_onto.Goals as goal
 
 pub returns-in-Ok-clause-ok : goal.returns-in-Ok-clause-ok
@@ -12,3 +14,7 @@ returns-in-Ok-clause-ok c =
     take_at c.sign.new.bytes _ c.put_unsigned.new.out.len same_len
     ∙ signed_from c.args.onto.now.items c.as_mut_slice.result.now c.sign.new.bytes c.len-start.result c.args.entry.now c.args.prev
     (omega (arith, c.len-start.ensures)) mid c.sign.ensures
+
+pub returns-in-Err-clause-fits : goal.returns-in-Err-clause-fits
+returns-in-Err-clause-fits c = λ fits. c.in-Err.ensures.fits
+    (room_unsigned c.args.entry.now c.args.prev c.args.onto.now.items c.reserve.new.self.items (vec_capacity c.args.onto.now) (vec_capacity c.reserve.new.self) c.in_ok-reserve.ensures.items c.reserve.ensures.capacity fits)

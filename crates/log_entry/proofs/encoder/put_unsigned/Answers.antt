@@ -1,14 +1,19 @@
 use Rattle.std.specs.Int.{w32, to_be_bytes}
-use Rattle.log_entry.specs.Spelling.{head}
-use Rattle.log_entry.proofs.WritingLaws.{unsigned_ok, unsigned_err}
+use Rattle.log_entry.specs.Body.{body_of}
+use Rattle.log_entry.specs.Spelling.{summed}
+use Rattle.log_entry.proofs.Putting.{puts_behind, puts_then, puts_stops, stops_unchanged, puts_same, summed_is}
 use Rattle.log_entry.proofs.encoder.put_unsigned.Goals as goal
 
-pub returns-clause-ok : goal.returns-clause-ok
-returns-clause-ok c =
-    unsigned_ok c.put_body.result c.args.out.now.items c.put_u32.new.out.items c.put_head.new.out.items c.put_body.new.out.items c.args.entry.now c.args.prev c.kind.result c.body_size.result
-    c.in_ok-put_u32.ensures.ok c.in_ok-put_head.ensures.ok c.kind.ensures c.body_size.ensures.value c.put_body.ensures.ok
+pub returns-in_err-put_u32 : goal.returns-in_err-put_u32
+returns-in_err-put_u32 c =
+    stops_unchanged (to_be_bytes w32 0) (summed c.args.entry.now c.args.prev) c.from_residual.ensures.0 c.in_err-put_u32.ensures.err c.in_err-put_u32.ensures.fits c.in_err-put_u32.ensures.capacity
 
-pub returns-clause-err : goal.returns-clause-err
-returns-clause-err c =
-    unsigned_err c.put_body.result c.args.out.now.items c.put_u32.new.out.items c.put_head.new.out.items c.put_body.new.out.items
-    (to_be_bytes w32 0) c.in_ok-put_u32.ensures.ok (head c.kind.result c.args.prev c.body_size.result) c.in_ok-put_head.ensures.ok c.put_body.ensures.err
+pub returns-in_err-put_head : goal.returns-in_err-put_head
+returns-in_err-put_head c =
+    puts_same (summed_is c.args.entry.now c.args.prev c.kind.result c.body_size.result c.kind.ensures c.body_size.ensures.value)
+    (puts_behind (to_be_bytes w32 0) c.in_ok-put_u32.ensures.ok c.in_ok-put_u32.ensures.capacity (puts_stops (body_of c.args.entry.now) c.from_residual-in_err-put_head.ensures.0 c.in_err-put_head.ensures))
+
+pub returns : goal.returns
+returns c =
+    puts_same (summed_is c.args.entry.now c.args.prev c.kind.result c.body_size.result c.kind.ensures c.body_size.ensures.value)
+    (puts_behind (to_be_bytes w32 0) c.in_ok-put_u32.ensures.ok c.in_ok-put_u32.ensures.capacity (puts_then c.in_ok-put_head.ensures c.put_body.ensures))

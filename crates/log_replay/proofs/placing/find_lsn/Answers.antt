@@ -6,7 +6,7 @@ use Rattle.log_file.specs.Log.{AreFileEntries, entries_found}
 use Rattle.log_replay.specs.Reading.{marked}
 use Rattle.log_replay.specs.Rows.{data_at, rows_in}
 use Rattle.log_replay.proofs.FilesLaws.{entries_found-are}
-use Rattle.log_replay.proofs.Passing.{passes_again, content_again}
+use Rattle.log_replay.proofs.Passing.{cause_later, cause_memory, cause_none, stays, passes_again, content_again}
 use Rattle.log_replay.proofs.GapLaws.{item_at}
 use Rattle.log_replay.proofs.PlacingLaws.{marking_begins, marking_goes_on, marking_ends, lsn_answer}
 use Rattle.log_replay.proofs.placing.find_lsn.Goals as goal
@@ -107,3 +107,23 @@ returns-in_err-lsn_at-clause-moments g c = c.loop-f.invariant.moments
 
 pub returns-in_err-lsn_at-clause-jobs : goal.returns-in_err-lsn_at-clause-jobs
 returns-in_err-lsn_at-clause-jobs g c = c.loop-f.invariant.jobs
+
+pub returns-in_err-scanned-clause-cause : goal.returns-in_err-scanned-clause-cause
+returns-in_err-scanned-clause-cause g c =
+    let faults = g.D.Disk.faults in
+    cause_later (faults c.args.disk.now) (faults c.loop-f.disk) (faults c.scan.new.disk) c.from_residual.result c.in_err-scanned.field-0.0 c.loop-f.invariant.never_falls c.from_residual.ensures.1 c.in_err-scanned.ensures.cause
+
+pub returns-in_err-take_marked-clause-cause : goal.returns-in_err-take_marked-clause-cause
+returns-in_err-take_marked-clause-cause g c =
+    let faults = g.D.Disk.faults in
+    cause_memory (faults c.args.disk.now) (faults c.loop-f.disk) (faults c.scan.new.disk) c.from_residual-in_err-take_marked.result c.loop-f.invariant.never_falls c.in_ok-scanned.ensures.cause.never_falls c.from_residual-in_err-take_marked.ensures.1
+
+pub returns-in_err-lsn_at-clause-cause : goal.returns-in_err-lsn_at-clause-cause
+returns-in_err-lsn_at-clause-cause g c =
+    let faults = g.D.Disk.faults in
+    cause_memory (faults c.args.disk.now) (faults c.loop-f.disk) (faults c.loop-f.disk) c.from_residual-in_err-lsn_at.result c.loop-f.invariant.never_falls (stays (faults c.loop-f.disk)) c.from_residual-in_err-lsn_at.ensures.1
+
+pub returns-clause-cause : goal.returns-clause-cause
+returns-clause-cause g c =
+    let faults = g.D.Disk.faults in
+    cause_none (faults c.args.disk.now) (faults c.loop-f.disk) (faults c.loop-f.disk) c.loop-f.invariant.never_falls (stays (faults c.loop-f.disk))

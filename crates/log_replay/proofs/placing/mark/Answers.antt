@@ -1,11 +1,12 @@
-use Rattle.std.proofs.Common.{◌≡◌, ◌∷◌, ◌∙◌, ap, subst, arith, ℕ}
+use Rattle.std.proofs.Common.{◌≡◌, ◌∷◌, ◌∙◌, ap, sym, subst, arith, ℕ}
+use Rattle.std.proofs.lemmas.List.{nil_from_length}
 use Rattle.std.specs.List.{AllByRecursion}
 use Rattle.std.specs.Vec.Iter.{into_iter_items}
 use Rattle.log_entry.specs.Body.{IsEntry}
 use Rattle.log_entry.specs.Spelling.{size_of}
 use Rattle.log_file.specs.Scan.{sizes_of}
 use Rattle.log_replay.specs.Reading.{marked_entry}
-use Rattle.log_replay.proofs.PlacingLaws.{marked_more}
+use Rattle.log_replay.proofs.PlacingLaws.{ends_below, marked_all, marked_more}
 use Rattle.log_replay.proofs.placing.mark.Goals as goal
 
 pub loop-entry-preserved : goal.loop-entry-preserved
@@ -19,3 +20,15 @@ loop-entry-preserved c =
       all.1,
       omega (arith, ap sizes_of is, size, c.loop-entry.invariant.2),
     )
+
+pub size-len-requires : goal.size-len-requires
+size-len-requires c = (subst (AllByRecursion IsEntry) c.in-Some.ensures.steps.0 c.loop-entry.invariant.1).0
+
+pub overflow_add-at : goal.overflow_add-at
+overflow_add-at c = ends_below c.loop-entry.at c.size-len.result (into_iter_items c.loop-entry.entry-iterator) (into_iter_items c.next.new.self) c.in-Some.entry c.in-Some.ensures.steps.0 c.size-len.ensures.value c.loop-entry.invariant.2
+
+pub returns : goal.returns
+returns c =
+    c.from_vec.ensures
+    ∙ marked_all c.args.f.0 c.loop-entry.at c.args.entries (into_iter_items c.loop-entry.entry-iterator) c.loop-entry.out.items c.loop-entry.invariant.0
+    (nil_from_length (into_iter_items c.loop-entry.entry-iterator) (sym c.loop-entry.entry-iterator.rest.ok.0 ∙ c.in-None.ensures.steps.0))

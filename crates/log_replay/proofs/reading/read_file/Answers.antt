@@ -1,3 +1,4 @@
+use Rattle.log_replay.proofs.Passing.{cause_again, cause_memory, cause_none, stays}
 use Rattle.log_replay.proofs.reading.read_file.Goals as goal
 
 pub returns-clause-read : goal.returns-clause-read
@@ -31,3 +32,17 @@ returns-clause-moments g c = c.in_ok-scanned.ensures.moments
 
 pub returns-clause-jobs : goal.returns-clause-jobs
 returns-clause-jobs g c = c.in_ok-scanned.ensures.jobs
+
+pub returns-in_err-scanned-clause-cause : goal.returns-in_err-scanned-clause-cause
+returns-in_err-scanned-clause-cause g c =
+    cause_again (g.D.Disk.faults c.args.disk.now) (g.D.Disk.faults c.scan.new.disk) c.from_residual.result c.in_err-scanned.field-0.0 c.from_residual.ensures.1 c.in_err-scanned.ensures.cause
+
+pub returns-in_err-take_file-clause-cause : goal.returns-in_err-take_file-clause-cause
+returns-in_err-take_file-clause-cause g c =
+    let faults = g.D.Disk.faults in
+    cause_memory (faults c.args.disk.now) (faults c.scan.new.disk) (faults c.scan.new.disk) c.from_residual-in_err-take_file.result c.in_ok-scanned.ensures.cause.never_falls (stays (faults c.scan.new.disk)) c.from_residual-in_err-take_file.ensures.1
+
+pub returns-clause-cause : goal.returns-clause-cause
+returns-clause-cause g c =
+    let faults = g.D.Disk.faults in
+    cause_none (faults c.args.disk.now) (faults c.scan.new.disk) (faults c.scan.new.disk) c.in_ok-scanned.ensures.cause.never_falls (stays (faults c.scan.new.disk))

@@ -1,10 +1,12 @@
-use Rattle.std.proofs.Common.{◌≡◌, ◌∙◌, ap, sym, subst, refl, ℕ, arith, get_or, drop, length, ◌+◌, ◌-◌, ◌==◌}
+use Rattle.std.proofs.Common.{List, ◌≡◌, ◌∙◌, ap, sym, subst, refl, ℕ, arith, get_or, drop, length, ◌+◌, ◌-◌, ◌==◌}
 use Rattle.je_disk.specs.Moments.{now}
 use Rattle.je_disk.specs.States.{State}
 use Rattle.je_disk.proofs.Moments.{passes_none}
-use Rattle.log_replay.specs.UnderWay.{IsFileRead}
-use Rattle.log_replay.proofs.Passing.{passes_again}
-use Rattle.log_replay.proofs.GapLaws.{item_at}
+use Rattle.std.proofs.Math.ListN.{drop_of_length-le}
+use Rattle.je_lsn.specs.declared.file_no.FileNo.{FileNo}
+use Rattle.log_replay.specs.UnderWay.{IsFileRead, IsReading}
+use Rattle.log_replay.proofs.Passing.{cause_later, cause_none, stays, passes_again}
+use Rattle.log_replay.proofs.GapLaws.{item_at, one_left}
 use Rattle.log_replay.proofs.ReadingLaws.{reading_begins, reading_goes_on, reading_stops, read_along}
 use Rattle.log_replay.proofs.reading.read_files.Goals as goal
 
@@ -97,3 +99,26 @@ returns-clause-moments g c = c.loop-f.invariant.moments
 
 pub returns-clause-jobs : goal.returns-clause-jobs
 returns-clause-jobs g c = c.loop-f.invariant.jobs
+
+pub returns-in_err-finding-clause-cause : goal.returns-in_err-finding-clause-cause
+returns-in_err-finding-clause-cause g c =
+    let faults = g.D.Disk.faults in
+    cause_later (faults c.args.disk.now) (faults c.loop-f.disk) (faults c.read_file.new.disk) c.from_residual.result c.in_err-finding.field-0.0 c.loop-f.invariant.never_falls c.from_residual.ensures.1 c.in_err-finding.ensures.cause
+
+pub returns-in-Stops-clause-cause : goal.returns-in-Stops-clause-cause
+returns-in-Stops-clause-cause g c =
+    let faults = g.D.Disk.faults in
+    cause_none (faults c.args.disk.now) (faults c.loop-f.disk) (faults c.read_file.new.disk) c.loop-f.invariant.never_falls c.in_ok-finding.ensures.cause.never_falls
+
+pub returns-clause-cause : goal.returns-clause-cause
+returns-clause-cause g c =
+    let faults = g.D.Disk.faults in
+    cause_none (faults c.args.disk.now) (faults c.loop-f.disk) (faults c.loop-f.disk) c.loop-f.invariant.never_falls (stays (faults c.loop-f.disk))
+
+pub overflow_sub-left : goal.overflow_sub-left
+overflow_sub-left g c = one_left c.args.files.now c.loop-f.f-index c.loop-f.left c.loop-f-test.true c.loop-f.invariant.left
+
+pub returns-clause-read : goal.returns-clause-read
+returns-clause-read g c =
+    subst (λ (left : List FileNo). IsReading g.D.Disk.tells (now (g.D.Disk.history c.args.disk.now)).reads c.args.files.now left c.loop-f.replaying c.loop-f.tail)
+    (drop_of_length-le c.args.files.now c.loop-f-test.false) c.loop-f.invariant.reading

@@ -2,7 +2,7 @@ use Rattle.std.proofs.Common.{◌∙◌, subst}
 use Rattle.je_disk.specs.Moments.{now}
 use Rattle.log_replay.specs.declared.reading.Weighed.TheVariants.{Wrong}
 use Rattle.log_replay.specs.Answer.{IsWeighed}
-use Rattle.log_replay.proofs.Passing.{passes_again, lsn_again}
+use Rattle.log_replay.proofs.Passing.{cause_again, cause_later, cause_memory, cause_none, stays, passes_again, lsn_again}
 use Rattle.log_replay.proofs.reading.read_log.Goals as goal
 
 pub returns-in-Answer-clause-read : goal.returns-in-Answer-clause-read
@@ -74,3 +74,27 @@ returns-in-Answer-clause-moments g c = c.in_ok-read.ensures.moments
 
 pub returns-in-Answer-clause-jobs : goal.returns-in-Answer-clause-jobs
 returns-in-Answer-clause-jobs g c = c.in_ok-read.ensures.jobs
+
+pub returns-in_err-read-clause-cause : goal.returns-in_err-read-clause-cause
+returns-in_err-read-clause-cause g c =
+    cause_again (g.D.Disk.faults c.args.disk.now) (g.D.Disk.faults c.read_files.new.disk) c.from_residual.result c.in_err-read.field-0.0 c.from_residual.ensures.1 c.in_err-read.ensures.cause
+
+pub returns-in_err-answer-clause-cause : goal.returns-in_err-answer-clause-cause
+returns-in_err-answer-clause-cause g c =
+    let faults = g.D.Disk.faults in
+    cause_memory (faults c.args.disk.now) (faults c.read_files.new.disk) (faults c.read_files.new.disk) c.from_residual-in_err-answer.result c.in_ok-read.ensures.cause.never_falls (stays (faults c.read_files.new.disk)) c.from_residual-in_err-answer.ensures.1
+
+pub returns-in-Answer-clause-cause : goal.returns-in-Answer-clause-cause
+returns-in-Answer-clause-cause g c =
+    let faults = g.D.Disk.faults in
+    cause_none (faults c.args.disk.now) (faults c.read_files.new.disk) (faults c.read_files.new.disk) c.in_ok-read.ensures.cause.never_falls (stays (faults c.read_files.new.disk))
+
+pub returns-in_err-lsn-in-Wrong-clause-cause : goal.returns-in_err-lsn-in-Wrong-clause-cause
+returns-in_err-lsn-in-Wrong-clause-cause g c =
+    let faults = g.D.Disk.faults in
+    cause_later (faults c.args.disk.now) (faults c.read_files.new.disk) (faults c.lsn_of.new.disk) c.from_residual-in_err-lsn-in-Wrong.result c.in_err-lsn-in-Wrong.field-0.0 c.in_ok-read.ensures.cause.never_falls c.from_residual-in_err-lsn-in-Wrong.ensures.1 c.in_err-lsn-in-Wrong.ensures.cause
+
+pub returns-in_ok-lsn-in-Wrong-clause-cause : goal.returns-in_ok-lsn-in-Wrong-clause-cause
+returns-in_ok-lsn-in-Wrong-clause-cause g c =
+    let faults = g.D.Disk.faults in
+    cause_none (faults c.args.disk.now) (faults c.read_files.new.disk) (faults c.lsn_of.new.disk) c.in_ok-read.ensures.cause.never_falls c.in_ok-lsn-in-Wrong.ensures.cause.never_falls

@@ -1,7 +1,8 @@
-use Rattle.std.proofs.Common.{[], refl, arith}
+use Rattle.std.proofs.Common.{[], ◌++◌, take, refl, sym, ap, ◌∙◌, arith}
+use Rattle.std.proofs.lemmas.List.{append-nil, drop_all}
 use Rattle.script_text.specs.Page.{point}
 use Rattle.script_text.specs.Report.{events_text}
-use Rattle.script_text.proofs.Sending.{adds_none, adds_then}
+use Rattle.script_text.proofs.Sending.{adds_none, adds_same, adds_then}
 use Rattle.script_text.proofs.Waits.{events_step}
 use Rattle.script_text.proofs.reporting.put_events.Goals as goal
 
@@ -24,3 +25,12 @@ loop-at-preserved g c =
         events_step events c.loop-at.first c.loop-at.at c.index-events-at.result kept.2.0 (events_text [] events) c.loop-at-test.true c.index-events-at.is kept.0 kept.1 kept.2.2,
       ),
     )
+
+pub returns : goal.returns
+returns g c =
+    let events = c.args.events.now in
+    let kept = c.loop-at.invariant.2 in
+    adds_same _ _
+    (sym (append-nil kept.0)
+    ∙ ap (λ l. kept.0 ++ events_text (take c.loop-at.at events) l) (sym (drop_all c.loop-at.at events c.loop-at-test.false))
+    ∙ kept.2) kept.1

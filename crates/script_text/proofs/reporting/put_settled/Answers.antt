@@ -1,5 +1,6 @@
-use Rattle.std.proofs.Common.{[], refl, sym}
+use Rattle.std.proofs.Common.{[], ◌++◌, refl, sym, ap, ◌∙◌}
 use Rattle.std.specs.List.{flat_map}
+use Rattle.std.proofs.lemmas.List.{append-nil, drop_all}
 use Rattle.script_text.specs.Page.{point}
 use Rattle.script_text.specs.Report.{settled_line, waiting_after}
 use Rattle.script_text.proofs.Sending.{adds_none, adds_same, adds_then}
@@ -23,3 +24,12 @@ loop-k-preserved g c =
       adds_then c.loop-k.invariant.1 c.put_if_settled.ensures,
       settled_step f before c.loop-k.k c.index-before-k.result c.loop-k.invariant.0 (flat_map f (waiting_after before)) c.loop-k-test.true c.index-before-k.is c.loop-k.invariant.2,
     )
+
+pub returns : goal.returns
+returns g c =
+    let f = settled_line c.args.event.now in
+    let kept = c.loop-k.invariant in
+    adds_same _ _
+    (sym (append-nil kept.0)
+    ∙ ap (λ l. kept.0 ++ flat_map f (waiting_after l)) (sym (drop_all c.loop-k.k c.args.before.now c.loop-k-test.false))
+    ∙ kept.2) kept.1

@@ -1,4 +1,6 @@
-use Rattle.std.proofs.Common.{sym}
+use Rattle.std.proofs.Common.{sym, ap}
+use Rattle.std.proofs.lemmas.List.{take_all}
+use Rattle.hex.specs.Hex.{encode_lower}
 use Rattle.script_text.specs.Page.{point}
 use Rattle.script_text.proofs.Digits.{encode_lower-nil, encode_lower_more}
 use Rattle.script_text.proofs.Sending.{adds_none, adds_same, adds_then}
@@ -12,3 +14,6 @@ pub loop-byte-preserved : goal.loop-byte-preserved
 loop-byte-preserved g c =
     let digits = adds_same _ _ c.digits_of.ensures c.put.ensures in
     adds_same _ _ (encode_lower_more c.args.bytes.now c.loop-byte.byte-index c.loop-byte-test.true) (adds_then c.loop-byte.invariant digits)
+
+pub returns : goal.returns
+returns g c = adds_same _ _ (ap encode_lower (take_all c.loop-byte.byte-index c.args.bytes.now c.loop-byte-test.false)) c.loop-byte.invariant

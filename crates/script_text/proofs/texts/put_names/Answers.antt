@@ -1,6 +1,6 @@
 use Rattle.std.proofs.Common.{◌≡◌, ◌+◌, ◌<◌, ◌∷◌, [], ◌++◌, ℕ, List, length, take, get_or, ap, sym, ◌∙◌}
 use Rattle.std.specs.List.{flat_map}
-use Rattle.std.proofs.lemmas.List.{append-nil, take_more}
+use Rattle.std.proofs.lemmas.List.{append-nil, take_all, take_more}
 use Rattle.std.proofs.lemmas.List.Concat.{flat_map-append}
 use Rattle.script_text.specs.Page.{point}
 use Rattle.script_text.specs.Report.{name_text}
@@ -23,3 +23,6 @@ pub loop-k-preserved : goal.loop-k-preserved
 loop-k-preserved g c =
     adds_same _ _ (next_name c.args.names.now c.loop-k.k c.index-names-k.result c.loop-k-test.true c.index-names-k.is)
     (adds_then c.loop-k.invariant c.put_name.ensures)
+
+pub returns : goal.returns
+returns g c = adds_same _ _ (ap (flat_map name_text) (take_all c.loop-k.k c.args.names.now c.loop-k-test.false)) c.loop-k.invariant

@@ -1,169 +1,25 @@
-use Rattle.std.proofs.Common.{◌≡◌, ◌∷◌, [], ◌+◌, ℕ, refl, ap, sym, subst, ◌∙◌, arith, None}
-use Rattle.je_disk.specs.Causes.{Rose}
-use Rattle.je_disk.specs.Moments.{now, History}
-use Rattle.je_disk.specs.States.{State}
-use Rattle.log_buffer.specs.Buffer.{disk_of, end_of, file_max_of}
-use Rattle.log_buffer.specs.Flip.{end_after_all}
+use Rattle.std.proofs.Common.{◌∷◌, [], ◌+◌, sym, subst}
+use Rattle.log_buffer.specs.Buffer.{disk_of}
 use Rattle.log_entry.specs.declared.entry.Entry.{Entry}
 use Rattle.log_entry.specs.declared.entry.Entry.TheVariants.{Commit}
-use Rattle.log_entry.specs.Spelling.{size_of}
-use Rattle.log_replay.specs.Logging.{entry_of}
-use Rattle.log_replay.specs.Rows.{rows_in}
-use Rattle.je_program.specs.Environment.{logged_sizes}
-use Rattle.je_program.specs.Logging.{rows_after}
-use Rattle.je_program.specs.Planning.{end_behind}
-use Rattle.log_file.specs.Log.{Log}
-use Rattle.log_buffer.specs.Crash.{KeptThrough}
-use Rattle.log_buffer.specs.declared.place.Place.{Place}
-use Rattle.je_program.specs.Crash.{IsKeeping, log_with_all}
-use Rattle.je_program.specs.Logging.{entries_logged}
-use Rattle.je_program.proofs.GuardLaws.{keeping_unchanged, logs_nothing_safely}
-use Rattle.je_program.proofs.LoggingLaws.{can_go_on, end_along, end_found, gains_along, keeps_unchanged, logs_nothing, rows_after_is, sizes_are}
+use Rattle.log_entry.specs.Body.{IsEntry}
+use Rattle.je_program.specs.Crash.{LogsSafely, log_with_all}
 use Rattle.je_program.proofs.environment.Environment.log.Goals as goal
 
-pub returns-then-is_err-clause-logs : goal.returns-then-is_err-clause-logs
-returns-then-is_err-clause-logs g c = (
-  record { rows = λ d. refl; totals = refl; last_txn = refl; last_db = refl; end = refl; file_max = refl; commits = refl; fault = refl },
-  keeps_unchanged g.D.Disk.tells (λ d. now (g.D.Disk.history d)) c.args.self.now.log c.reserve.new.self c.reserve.ensures.unchanged,
-)
+pub log_both-requires-clause-logs : goal.log_both-requires-clause-logs
+log_both-requires-clause-logs g c κs within =
+    let is = c.in_ok-entry.ensures in
+    (c.args.change, is, subst (λ (e : Entry). IsEntry e) (sym is.0) c.requires.entry, c.requires.room)
 
-pub returns-in_err-change_rows-clause-logs : goal.returns-in_err-change_rows-clause-logs
-returns-in_err-change_rows-clause-logs g c =
-    let state : g.row.D.Denot → State = λ d. now (g.D.Disk.history d) in
-    let old = c.args.self.now in
-    logs_nothing g.D.Disk.tells (state (disk_of old.log)) (state (disk_of c.reserve.new.self)) old.log c.reserve.new.self old.kept (record old.kept { rows = c.change_rows.new.rows })
-    c.args.number c.args.change c.args.totals c.from_residual-in_err-change_rows.result c.from_residual-in_err-change_rows.ensures.0
-    (record { rows = c.in_err-change_rows.ensures.err; totals = refl; last_txn = refl; last_db = refl; end = refl; file_max = refl; commits = refl; fault = refl })
-    (keeps_unchanged g.D.Disk.tells state old.log c.reserve.new.self c.reserve.ensures.unchanged)
-
-pub returns-in-Ok-clause-logs : goal.returns-in-Ok-clause-logs
-returns-in-Ok-clause-logs g c =
-    let state : g.row.D.Denot → State = λ d. now (g.D.Disk.history d) in
-    let old = c.args.self.now in
-    let reserved = c.reserve.new.self in
-    let same = c.reserve.ensures.unchanged in
-    let txn = old.kept.last_txn + 1 in
-    let entry : c.in_ok-entry.entry ≡ entry_of txn c.args.number c.args.change = c.in_ok-entry.ensures.0 in
-    let commit : c.in_ok-entry.commit ≡ Commit (record { 0 = txn }) = c.in_ok-entry.ensures.1 in
-    let sizes : size_of c.in_ok-entry.entry ∷ 22 ∷ [] ≡ logged_sizes (c.args.change ∷ []) = ap (λ (e : Entry). size_of e ∷ 22 ∷ []) entry ∙ sizes_are txn c.args.number c.args.change in
-    let end : c.unwrap-end.result ≡ end_behind old.kept c.args.change =
-    end_found (end_after_all old.kept.file_max old.kept.end (c.size-size.result ∷ 22 ∷ [])) c.unwrap-end.result (sym c.unwrap-end.ensures ∙ c.end_of_transaction.ensures)
-    ∙ end_along old.kept.file_max old.kept.file_max old.kept.end old.kept.end (c.size-size.result ∷ 22 ∷ []) (logged_sizes (c.args.change ∷ [])) refl refl
-    (ap (λ (n : ℕ). n ∷ 22 ∷ []) c.size-size.ensures.value ∙ sizes) in
-    let gains = c.in-Ok.ensures.gains in (
-      refl,
-      record {
-        rows = λ d. c.in_ok-change_rows.ensures.ok d ∙ ap (λ (e : Entry). rows_after e (rows_in old.kept.rows) d) entry
-            ∙ rows_after_is txn c.args.number c.args.change (rows_in old.kept.rows) d;
-        counts = refl;
-        last_txn = refl;
-        last_db = c.max-self.ensures;
-        end = end;
-        file_max = refl;
-        commits = refl;
-        fault = refl;
-      },
-      record {
-        end = c.in-Ok.ensures.end
-            ∙ end_along (file_max_of reserved) old.kept.file_max (end_of reserved) old.kept.end (size_of c.in_ok-entry.entry ∷ size_of c.in_ok-entry.commit ∷ []) (logged_sizes (c.args.change ∷ []))
-            (same.kept.max ∙ c.requires.works.file_max) (same.kept.end ∙ c.requires.works.end) (ap (λ (e : Entry). size_of c.in_ok-entry.entry ∷ size_of e ∷ []) commit ∙ sizes)
-            ∙ sym end;
-        file_max = c.in-Ok.ensures.file_max ∙ same.kept.max ∙ c.requires.works.file_max;
-        works = c.in-Ok.ensures.works;
-      },
-      gains_along g.D.Disk.tells (state (disk_of old.log)) (state (disk_of reserved)) (state (disk_of c.append_both.new.log)) old.log reserved c.append_both.new.log
-          (c.in_ok-entry.entry ∷ c.in_ok-entry.commit ∷ []) (entry_of txn c.args.number c.args.change ∷ Commit (record { 0 = txn }) ∷ [])
-          (keeps_unchanged g.D.Disk.tells state old.log reserved same) (ap (λ (e : Entry). e ∷ c.in_ok-entry.commit ∷ []) entry ∙ ap (λ (e : Entry). entry_of txn c.args.number c.args.change ∷ e ∷ []) commit) gains,
-    )
-
-pub returns-in-Ok-clause-bounds : goal.returns-in-Ok-clause-bounds
-returns-in-Ok-clause-bounds g c =
-    let old = c.args.self.now in
-    let txn = old.kept.last_txn + 1 in
-    let entry : c.in_ok-entry.entry ≡ entry_of txn c.args.number c.args.change = c.in_ok-entry.ensures.0 in
-    let sizes : size_of c.in_ok-entry.entry ∷ 22 ∷ [] ≡ logged_sizes (c.args.change ∷ []) = ap (λ (e : Entry). size_of e ∷ 22 ∷ []) entry ∙ sizes_are txn c.args.number c.args.change in
-    let end : c.unwrap-end.result ≡ end_behind old.kept c.args.change =
-    end_found (end_after_all old.kept.file_max old.kept.end (c.size-size.result ∷ 22 ∷ [])) c.unwrap-end.result (sym c.unwrap-end.ensures ∙ c.end_of_transaction.ensures)
-    ∙ end_along old.kept.file_max old.kept.file_max old.kept.end old.kept.end (c.size-size.result ∷ 22 ∷ []) (logged_sizes (c.args.change ∷ [])) refl refl
-    (ap (λ (n : ℕ). n ∷ 22 ∷ []) c.size-size.ensures.value ∙ sizes) in
-    can_go_on old.kept (record {
-      rows = c.change_rows.new.rows;
-      totals = c.args.totals;
-      last_txn = txn;
-      last_db = c.max-self.result;
-      end = c.unwrap-end.result;
-      file_max = old.kept.file_max;
-      commits = old.kept.commits + 1;
-      fault = old.kept.fault;
-    }) c.args.number c.args.change c.requires.bounds c.requires.room (omega (arith, c.ranges.number.fits)) end refl refl c.max-self.ensures
-
-pub returns-clause-cause : goal.returns-clause-cause
-returns-clause-cause g c =
-    let faults : g.row.D.Denot → ℕ = λ d. g.D.Disk.faults d in
-    let same : faults (disk_of c.reserve.new.self) ≡ faults (disk_of c.args.self.now.log) = ap faults c.reserve.ensures.unchanged.disk in
-    record {
-      never_falls = omega (arith, c.append_both.ensures.never_falls, same);
-      fault = λ is. subst (λ (n : ℕ). Rose n (faults (disk_of c.append_both.new.log))) same c.in-Err.ensures.fault;
-    }
-
-pub returns-then-is_err-clause-crash : goal.returns-then-is_err-clause-crash
-returns-then-is_err-clause-crash g c = λ told held least keeping.
-    let state : g.row.D.Denot → State = λ d. now (g.D.Disk.history d) in
-    let old = c.args.self.now in
-    let same = c.reserve.ensures.unchanged in
-    (ap (λ d. g.D.Disk.history d) same.disk, keeping_unchanged state old.log c.reserve.new.self held least None same keeping)
-
-pub returns-in_err-change_rows-clause-crash : goal.returns-in_err-change_rows-clause-crash
-returns-in_err-change_rows-clause-crash g c = λ told held least keeping.
-    let state : g.row.D.Denot → State = λ d. now (g.D.Disk.history d) in
-    let old = c.args.self.now in
-    let same = c.reserve.ensures.unchanged in
-    logs_nothing_safely (g.D.Disk.history (disk_of old.log)) (g.D.Disk.history (disk_of c.reserve.new.self)) c.reserve.new.self held
-    (log_with_all old.kept.file_max old.kept.end (entries_logged (old.kept.last_txn + 1) c.args.number c.args.change) held) least
-    c.from_residual-in_err-change_rows.result c.from_residual-in_err-change_rows.ensures.0 (ap (λ d. g.D.Disk.history d) same.disk) (keeping_unchanged state old.log c.reserve.new.self held least None same keeping)
-
-pub returns-in-Ok-clause-crash : goal.returns-in-Ok-clause-crash
-returns-in-Ok-clause-crash g c = λ told held least keeping.
-    let state : g.row.D.Denot → State = λ d. now (g.D.Disk.history d) in
-    let old = c.args.self.now in
-    let reserved = c.reserve.new.self in
-    let new = c.append_both.new.log in
-    let same = c.reserve.ensures.unchanged in
-    let keeps = keeping_unchanged state old.log reserved held least None same keeping in
-    let txn = old.kept.last_txn + 1 in
-    let log_is : log_with_all (file_max_of reserved) (end_of reserved) (c.in_ok-entry.entry ∷ c.in_ok-entry.commit ∷ []) held
-    ≡ log_with_all old.kept.file_max old.kept.end (entries_logged txn c.args.number c.args.change) held =
-    ap (λ (m : ℕ). log_with_all m (end_of reserved) (c.in_ok-entry.entry ∷ c.in_ok-entry.commit ∷ []) held) (same.kept.max ∙ c.requires.works.file_max)
-    ∙ ap (λ (p : Place). log_with_all old.kept.file_max p (c.in_ok-entry.entry ∷ c.in_ok-entry.commit ∷ []) held) (same.kept.end ∙ c.requires.works.end)
-    ∙ ap (λ (e : Entry). log_with_all old.kept.file_max old.kept.end (e ∷ c.in_ok-entry.commit ∷ []) held) c.in_ok-entry.ensures.0
-    ∙ ap (λ (e : Entry). log_with_all old.kept.file_max old.kept.end (entry_of txn c.args.number c.args.change ∷ e ∷ []) held) c.in_ok-entry.ensures.1 in
-    let through = c.append_both.ensures.crash told held least keeps in (
-      subst (λ (h : History). KeptThrough h (g.D.Disk.history (disk_of new)) (log_with_all old.kept.file_max old.kept.end (entries_logged txn c.args.number c.args.change) held) [] least)
-          (ap (λ d. g.D.Disk.history d) same.disk)
-          (subst (λ (l : Log). KeptThrough (g.D.Disk.history (disk_of reserved)) (g.D.Disk.history (disk_of new)) l [] least) log_is through),
-      λ ne. subst (λ (l : Log). IsKeeping (state (disk_of new)) new l least None) log_is (c.in-Ok.ensures.keeps told held least keeps),
-      λ ok e. cc,
-    )
+pub returns-clause-logs : goal.returns-clause-logs
+returns-clause-logs g c = c.log_both.ensures.logs c.args.change c.in_ok-entry.ensures
 
 pub returns-clause-crash : goal.returns-clause-crash
 returns-clause-crash g c = λ told held least keeping.
-    let state : g.row.D.Denot → State = λ d. now (g.D.Disk.history d) in
     let old = c.args.self.now in
-    let reserved = c.reserve.new.self in
-    let new = c.append_both.new.log in
-    let same = c.reserve.ensures.unchanged in
-    let keeps = keeping_unchanged state old.log reserved held least None same keeping in
-    let txn = old.kept.last_txn + 1 in
-    let log_is : log_with_all (file_max_of reserved) (end_of reserved) (c.in_ok-entry.entry ∷ c.in_ok-entry.commit ∷ []) held
-    ≡ log_with_all old.kept.file_max old.kept.end (entries_logged txn c.args.number c.args.change) held =
-    ap (λ (m : ℕ). log_with_all m (end_of reserved) (c.in_ok-entry.entry ∷ c.in_ok-entry.commit ∷ []) held) (same.kept.max ∙ c.requires.works.file_max)
-    ∙ ap (λ (p : Place). log_with_all old.kept.file_max p (c.in_ok-entry.entry ∷ c.in_ok-entry.commit ∷ []) held) (same.kept.end ∙ c.requires.works.end)
-    ∙ ap (λ (e : Entry). log_with_all old.kept.file_max old.kept.end (e ∷ c.in_ok-entry.commit ∷ []) held) c.in_ok-entry.ensures.0
-    ∙ ap (λ (e : Entry). log_with_all old.kept.file_max old.kept.end (entry_of txn c.args.number c.args.change ∷ e ∷ []) held) c.in_ok-entry.ensures.1 in
-    let through = c.append_both.ensures.crash told held least keeps in (
-      subst (λ (h : History). KeptThrough h (g.D.Disk.history (disk_of new)) (log_with_all old.kept.file_max old.kept.end (entries_logged txn c.args.number c.args.change) held) [] least)
-          (ap (λ d. g.D.Disk.history d) same.disk)
-          (subst (λ (l : Log). KeptThrough (g.D.Disk.history (disk_of reserved)) (g.D.Disk.history (disk_of new)) l [] least) log_is through),
-      λ ne. absurd (ne refl),
-      λ ok. let failed = c.in-Err.ensures.failed in absurd cc,
-    )
+    let new = c.log_both.new.self.log in
+    let is = c.in_ok-entry.ensures in
+    let safely : Entry → Entry → Type 0 = λ e d. LogsSafely (g.D.Disk.history (disk_of old.log)) (g.D.Disk.history (disk_of new)) new held
+    (log_with_all old.kept.file_max old.kept.end (e ∷ d ∷ []) held) least c.log_both.result in
+    subst (λ (e : Entry). safely e (Commit (record { 0 = old.kept.last_txn + 1 }))) is.0
+    (subst (λ (e : Entry). safely c.in_ok-entry.entry e) is.1 (c.log_both.ensures.crash told held least keeping))

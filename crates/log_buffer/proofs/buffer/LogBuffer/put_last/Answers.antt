@@ -67,3 +67,6 @@ returns-clause-holds g c =
     λ tells state log removed least begun has h.
     holds_with log removed least begun (first_of old) (old.file.0 - length c.push.new.self.starts.items) (file_of old) (offset_of old) (last_of old) (file_of old) state c.args.entry.now has.is_log has.ends (omega arith)
     (ap (λ (s : List ℕ). old.file.0 - length s) starts) h
+
+pub returns-in_err-spell-clause-fits : goal.returns-in_err-spell-clause-fits
+returns-in_err-spell-clause-fits g c = λ sizes room. let most = room.each.0 in let ok = c.in_err-spell.ensures.fits (omega arith) in absurd cc

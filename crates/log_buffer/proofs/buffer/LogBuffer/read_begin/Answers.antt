@@ -3,8 +3,8 @@ use Rattle.je_disk.specs.States.{State}
 use Rattle.log_buffer.specs.Buffer.{first_of}
 use Rattle.log_buffer.specs.Crash.{Holds}
 use Rattle.log_buffer.proofs.KeptSyncs.{same_through}
-use Rattle.log_buffer.proofs.Still.{log_still, tail_kept}
-use Rattle.log_buffer.proofs.Causing.{cause_ok, cause_fault}
+use Rattle.log_buffer.proofs.Still.{log_still, tail_kept, tail_same}
+use Rattle.log_buffer.proofs.Causing.{cause_ok, cause_failed, cause_fault}
 use Rattle.log_buffer.proofs.buffer.LogBuffer.read_begin.Goals as goal
 
 pub returns-in-Ok-clause-log : goal.returns-in-Ok-clause-log
@@ -38,3 +38,9 @@ returns-in-Ok-clause-cause g c = cause_ok _ _ _ _ _ c.if-self.false refl c.read_
 
 pub returns-in-Err-clause-cause : goal.returns-in-Err-clause-cause
 returns-in-Err-clause-cause g c = cause_fault _ _ _ _ _ c.if-self.false refl c.read_job.ensures.cause.never_falls refl c.in-Err.ensures.cause.failed
+
+pub returns-then-self-clause-cause : goal.returns-then-self-clause-cause
+returns-then-self-clause-cause g c = cause_failed _ _ _ _ c.if-self.true c.if-self.true refl
+
+pub returns-then-self-clause-kept : goal.returns-then-self-clause-kept
+returns-then-self-clause-kept g c = tail_same c.args.self.now

@@ -1,4 +1,4 @@
-use Rattle.std.proofs.Common.{ℕ, ◌-◌, ◌++◌, length, option_map, refl, sym, subst, arith}
+use Rattle.std.proofs.Common.{ℕ, ◌-◌, ◌++◌, length, option_map, refl, sym, subst, le_refl, arith}
 use Rattle.je_disk.specs.Moments.{now}
 use Rattle.log_buffer.proofs.Tails.{none_below, first_for_le, first_or_below}
 use Rattle.log_buffer.proofs.Ending.{log_removed}
@@ -7,6 +7,8 @@ use Rattle.log_buffer.specs.Buffer.{first_of}
 use Rattle.log_buffer.specs.Log.{log_without, log_of}
 use Rattle.log_buffer.specs.Crash.{Holds}
 use Rattle.log_buffer.proofs.KeptRemoved.{holds_removed, removed_through}
+use Rattle.log_buffer.proofs.Still.{tail_kept, tail_same}
+use Rattle.log_buffer.proofs.Causing.{cause_ok, cause_failed, cause_fault}
 use Rattle.log_buffer.proofs.buffer.LogBuffer.remove.Goals as goal
 
 pub returns-in-Ok-clause-log : goal.returns-in-Ok-clause-log
@@ -38,3 +40,21 @@ returns-in-Err-clause-crash g c =
     let old = c.args.self.now in
     λ told log removed least begun has h less.
     removed_through log removed least c.args.f.0 begun (first_of old) (g.D.Disk.history old.disk) (g.D.Disk.history c.remove.new.self) has.is_log less h (c.remove.ensures.moments told)
+
+pub returns-then-self-clause-cause : goal.returns-then-self-clause-cause
+returns-then-self-clause-cause g c = cause_failed _ _ _ _ c.if-self.true c.if-self.true refl
+
+pub returns-then-self-clause-kept : goal.returns-then-self-clause-kept
+returns-then-self-clause-kept g c = tail_same c.args.self.now
+
+pub returns-in-Ok-clause-kept : goal.returns-in-Ok-clause-kept
+returns-in-Ok-clause-kept g c = tail_kept c.args.self.now _ refl refl refl refl refl refl (le_refl _) (le_refl _) (le_refl _)
+
+pub returns-in-Err-clause-kept : goal.returns-in-Err-clause-kept
+returns-in-Err-clause-kept g c = tail_kept c.args.self.now _ refl refl refl refl refl refl (le_refl _) (le_refl _) (le_refl _)
+
+pub returns-in-Ok-clause-cause : goal.returns-in-Ok-clause-cause
+returns-in-Ok-clause-cause g c = cause_ok _ _ _ _ _ c.if-self.false refl c.remove.ensures.cause.never_falls
+
+pub returns-in-Err-clause-cause : goal.returns-in-Err-clause-cause
+returns-in-Err-clause-cause g c = cause_fault _ _ _ _ _ c.if-self.false refl c.remove.ensures.cause.never_falls refl c.in-Err.ensures.cause.failed

@@ -6,6 +6,7 @@ use Rattle.log_buffer.specs.Buffer.{file_of, offset_of, last_of, first_of}
 use Rattle.log_buffer.specs.Crash.{Holds}
 use Rattle.log_buffer.proofs.KeptSyncs.{holds_begun, begun_through}
 use Rattle.log_buffer.proofs.Still.{log_still, tail_kept}
+use Rattle.log_buffer.proofs.Causing.{cause_err, err_is, cause_then_ok, cause_then_fault}
 use Rattle.log_buffer.proofs.buffer.LogBuffer.sync_begin.Goals as goal
 
 pub returns-in-Ok-clause-holds : goal.returns-in-Ok-clause-holds
@@ -36,3 +37,12 @@ returns-in-Err-clause-crash g c =
     λ told log removed least begun has h.
     begun_through log removed least (first_of written) begun (g.D.Disk.history c.args.self.now.disk) (g.D.Disk.history written.disk) (g.D.Disk.history c.begin_sync.new.self)
     (c.write_out.ensures.crash told log removed least begun has h) (c.in_ok-write_out.ensures.holds told log removed least begun has h) (c.begin_sync.ensures.moments told)
+
+pub returns-in-Ok-clause-cause : goal.returns-in-Ok-clause-cause
+returns-in-Ok-clause-cause g c = cause_then_ok _ _ _ _ _ c.write_out.result _ _ c.in_ok-write_out.was c.write_out.ensures.cause c.begin_sync.ensures.cause.never_falls
+
+pub returns-in-Err-clause-cause : goal.returns-in-Err-clause-cause
+returns-in-Err-clause-cause g c = cause_then_fault _ _ _ _ _ c.write_out.result _ _ c.in_ok-write_out.was refl c.write_out.ensures.cause c.begin_sync.ensures.cause.never_falls c.in-Err.ensures.cause.failed
+
+pub returns-in_err-write_out-clause-cause : goal.returns-in_err-write_out-clause-cause
+returns-in_err-write_out-clause-cause g c = cause_err _ _ _ _ _ _ c.write_out.result _ _ c.in_err-write_out.was (err_is _ _ c.from_residual.ensures.1) refl refl c.write_out.ensures.cause

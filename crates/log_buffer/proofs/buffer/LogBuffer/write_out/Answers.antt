@@ -5,6 +5,7 @@ use Rattle.log_buffer.proofs.KeptWriting.{tail_is}
 use Rattle.log_buffer.proofs.Tails.{bytes_for_none}
 use Rattle.log_buffer.proofs.Rooms.{same_for}
 use Rattle.log_buffer.proofs.Ending.{log_written}
+use Rattle.log_buffer.proofs.Causing.{cause_ok, cause_failed, cause_fault}
 use Rattle.log_buffer.proofs.buffer.LogBuffer.write_out.Goals as goal
 
 pub returns-in-Ok-clause-log : goal.returns-in-Ok-clause-log
@@ -35,3 +36,12 @@ pub returns-in-Err-clause-crash : goal.returns-in-Err-clause-crash
 returns-in-Err-clause-crash g c =
     let old = c.args.self.now in
     λ told log removed least begun has h. c.write_tail.ensures.crash told log removed least begun (tail_is g.D.Disk.tells (now (g.D.Disk.history old.disk)) old log told has) h
+
+pub returns-then-self-clause-cause : goal.returns-then-self-clause-cause
+returns-then-self-clause-cause g c = cause_failed _ _ _ _ c.if-self.true c.if-self.true refl
+
+pub returns-in-Ok-clause-cause : goal.returns-in-Ok-clause-cause
+returns-in-Ok-clause-cause g c = cause_ok _ _ _ _ _ c.if-self.false refl c.write_tail.ensures.cause.never_falls
+
+pub returns-in-Err-clause-cause : goal.returns-in-Err-clause-cause
+returns-in-Err-clause-cause g c = cause_fault _ _ _ _ _ c.if-self.false refl c.write_tail.ensures.cause.never_falls refl c.in-Err.ensures.cause.failed

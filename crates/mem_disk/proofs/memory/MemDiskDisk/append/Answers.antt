@@ -1,12 +1,52 @@
-use Rattle.std.proofs.Common.{inr, refl, ℕ, ◌≤◌, length, arith}
+use Rattle.std.proofs.Common.{ℕ, ◌≤◌, arith, inr, refl, ap, ◌∙◌, length}
+use Rattle.je_disk.proofs.Moments.{passes_none}
 use Rattle.mem_disk.specs.declared.change.Change.TheVariants.{Append}
+use Rattle.mem_disk.specs.Replay.{history_of}
+use Rattle.mem_disk.proofs.Calling.{call_failed, no_fault, late_fault, due_at, no_ok, at_error, passes_same}
 use Rattle.mem_disk.proofs.Replaying.{pushed_now, pushed_passes}
 use Rattle.mem_disk.proofs.memory.MemDiskDisk.append.Goals as goal
 
-pub returns-in-Ok-clause-done : goal.returns-in-Ok-clause-done
-returns-in-Ok-clause-done c = pushed_now _ _ (Append c.args.f c.args.bytes.now) c.in-Ok.ensures.ok
+whole : (n : ℕ) → n ≤ n
+whole n = omega arith
 
-pub returns-in-Ok-clause-moments : goal.returns-in-Ok-clause-moments
-returns-in-Ok-clause-moments c = pushed_passes _ _ (Append c.args.f c.args.bytes.now) _ c.in-Ok.ensures.ok (inr (c.args.bytes.now, whole (length c.args.bytes.now), refl)) where
-  whole : (n : ℕ) → n ≤ n
-  whole n = omega arith
+pub returns-in_err-call : goal.returns-in_err-call
+returns-in_err-call c = record {
+  done = no_ok _ _ c.from_residual.ensures.0;
+  moments = passes_none _ _;
+  sync_out = refl;
+  read_out = refl;
+  read_of = refl;
+  drawn = refl;
+  cause = call_failed _ _ c.in_err-call.field-0.0 _ c.from_residual.ensures.0 c.from_residual.ensures.1 c.in_err-call.ensures.cause;
+  unchanged = at_error _ refl;
+  due = λ _. c.from_residual.ensures.0;
+  counted = record { calls = c.call.ensures.made; fails = ap (λ v. v.items) c.call.ensures.fails; stop = c.call.ensures.stop };
+}
+
+pub returns-in-Ok : goal.returns-in-Ok
+returns-in-Ok c = record {
+  done = pushed_now _ _ (Append c.args.f c.args.bytes.now) c.in-Ok.ensures.ok;
+  moments = pushed_passes _ _ (Append c.args.f c.args.bytes.now) _ c.in-Ok.ensures.ok (inr (c.args.bytes.now, whole (length c.args.bytes.now), refl));
+  sync_out = refl;
+  read_out = refl;
+  read_of = refl;
+  drawn = refl;
+  cause = no_fault _ _ _ c.in_ok-call.ensures.steady;
+  unchanged = tt;
+  due = (due_at _ _ _ _ _ c.in_ok-call.ensures.made c.in_ok-call.ensures.due).1;
+  counted = record { calls = c.call.ensures.made; fails = ap (λ v. v.items) c.call.ensures.fails; stop = c.call.ensures.stop };
+}
+
+pub returns-in-Err : goal.returns-in-Err
+returns-in-Err c = record {
+  done = tt;
+  moments = passes_same _ _ _ c.in-Err.ensures.err;
+  sync_out = refl;
+  read_out = refl;
+  read_of = refl;
+  drawn = refl;
+  cause = late_fault _ _ _ _ c.in_ok-call.ensures.steady c.fault.ensures.failed c.fault.ensures.rose c.fault.ensures.never_falls;
+  unchanged = ap history_of c.in-Err.ensures.err;
+  due = λ _. refl;
+  counted = record { calls = c.fault.ensures.made ∙ c.call.ensures.made; fails = ap (λ v. v.items) (c.fault.ensures.fails ∙ c.call.ensures.fails); stop = c.fault.ensures.stop ∙ c.call.ensures.stop };
+}

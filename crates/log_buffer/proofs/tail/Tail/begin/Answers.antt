@@ -1,0 +1,21 @@
+use Rattle.std.proofs.Common.{length, arith}
+use Rattle.log_buffer.proofs.Pieces.{IsCut, begun_starts, begun_cut}
+use Rattle.log_buffer.proofs.tail.Tail.begin.Goals as goal
+
+pub invariant_of-self-2 : goal.invariant_of-self-2
+invariant_of-self-2 c =
+    let old = c.args.self.now in
+    let room = c.in_ok-reserve.ensures.ok in
+    let cut : IsCut (length old.bytes.items) old.starts.items = record { within = old.within; apart = old.apart } in
+    let starts = begun_starts old.bytes.items old.starts.items c.push.new.self.items c.len-start.result c.reserve.new.self.items _ c.reserve.ensures.items c.len-start.ensures.value c.push.ensures.items (c.push.ensures.succeeds (omega (arith, room))) in
+    let new = begun_cut old.bytes.items old.starts.items c.extend_from_slice.new.self.items c.push.new.self.items c.args.bytes.now c.requires c.in_ok-extend_from_slice.ensures.ok starts cut in
+    record { within = new.within; apart = new.apart }
+
+pub unwrap-requires : goal.unwrap-requires
+unwrap-requires c = let room = c.in_ok-reserve.ensures.ok in c.push.ensures.succeeds (omega (arith, room))
+
+pub returns-clause-begun : goal.returns-clause-begun
+returns-clause-begun c =
+    let old = c.args.self.now in
+    let room = c.in_ok-reserve.ensures.ok in
+    begun_starts old.bytes.items old.starts.items c.push.new.self.items c.len-start.result c.reserve.new.self.items _ c.reserve.ensures.items c.len-start.ensures.value c.push.ensures.items (c.push.ensures.succeeds (omega (arith, room)))
