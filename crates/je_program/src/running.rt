@@ -36,6 +36,16 @@ fn none_stopped() -> [bool; 256]
     [false; 256]
 }
 
+// A journal that has room for one event of each line and for a sync behind the last. Where there is no
+// memory for so many, it grows as they come.
+fn journal_for(alloc: Global, lines: usize) -> Vec<Event>
+    ensures { result.items ≡ [] }
+{
+    let mut journal = Vec::new(alloc);
+    let _ = journal.reserve(lines.saturating_add(2));
+    journal
+}
+
 // Gives a line, unless its session was ended. A call that finds no memory ends its session.
 fn give_line<D: Disk>(running: &mut Running<D>, alloc: Global, session: u8, line: u32, call: Call)
     requires running { (most : ℕ) × (st : Standing) × IsRunning most D.tells (now (D.history (disk_of running.old.environment.log))) running.old.environment.log running.old.environment.kept running.old.journal.items st }
@@ -117,7 +127,7 @@ pub fn run<D: Disk>(alloc: Global, environment: Environment<D>, lines: Vec<Given
 {
     let mut running = Running {
         environment,
-        journal: Vec::new(alloc),
+        journal: journal_for(alloc, lines.len()),
         memory_ended: false,
         stopped: none_stopped(),
     };

@@ -11,7 +11,7 @@ use Rattle.je_program.proofs.running.run.Goals as goal
 
 pub loop-given-init : goal.loop-given-init
 loop-given-init g c =
-    let empty = sym c.new.ensures.items in
+    let empty = sym c.journal_for.ensures in
     let env = c.args.environment in
     let faults = g.D.Disk.faults (disk_of env.log) in
     record {
