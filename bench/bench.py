@@ -22,6 +22,10 @@ TOP = os.path.dirname(os.path.dirname(os.path.abspath(__file__)))
 PROGRAM = os.path.join(TOP, "crates", "jedb", "out", "jedb")
 ON_DISK = os.path.join(TOP, "bench", "build")
 
+# What ./jedb starts the program with, unless it is set: large pages, where the system gives them on demand. Every
+# system is measured so.
+TUNABLES = ("GLIBC_TUNABLES", "glibc.malloc.hugetlb=1")
+
 PARTS = ["memory", "disk", "databases", "opening", "files"]
 
 # What is asked of the program, at the full sizes.
@@ -132,13 +136,50 @@ def net(whole, empty):
     return max(whole - empty, 1e-6)
 
 
+class Growing:
+    """The puts, gets and reopening of one system at one size, and the least that each came to so far."""
+
+    def __init__(self, bench, system, folder, size):
+        records = records_of(size)
+        self.bench, self.system, self.folder, self.size = bench, system, folder, size
+        self.create = create_scripts(bench.work, ["t"])
+        self.puts = put_scripts(bench.work, records, ["t"])
+        self.gets = get_scripts(bench.work, records, "t")
+        self.before, self.put, self.opened, self.got = Least(), Least(), Least(), Least()
+        self.home = None
+
+    def run(self, least, scripts):
+        least.take(self.system.run(self.home, scripts, self.bench.work))
+
+    def write(self, turn):
+        """Puts all records into a folder of its own, in place of the one of the turn before."""
+        say(f"{self.system.name}: {self.size:,} puts in {self.folder}, turn {turn}")
+        if self.home:
+            shutil.rmtree(self.home)
+        self.home = fresh(self.folder)
+        self.system.run(self.home, self.create, self.bench.work)
+        self.run(self.before, [self.bench.empty])
+        self.run(self.put, self.puts)
+
+    def read(self, turn):
+        """Opens the folder that the puts left, and gets all records."""
+        say(f"{self.system.name}: {self.size:,} gets in {self.folder}, turn {turn}")
+        self.run(self.opened, [self.bench.empty])
+        self.run(self.got, self.gets)
+
+    def rows(self):
+        log = folder_bytes(self.home)
+        works = [("put", self.put, self.before), ("get", self.got, self.opened), ("reopen", self.opened, self.before)]
+        return [Row(self.system.name, work, self.size, net(whole.seconds, base.seconds), (whole.peak - base.peak) / self.size, log)
+                for work, whole, base in works]
+
+
 class Bench:
     def __init__(self, systems, sizes, work):
         self.systems = systems
         self.sizes = sizes
         self.work = work
         self.empty = empty_script(work)
-        self.rows = []
 
     def base(self, system, home, times):
         """The least of an empty script on a folder."""
@@ -147,39 +188,16 @@ class Bench:
             least.take(system.run(home, [self.empty], self.work))
         return least
 
-    def size(self, system, folder, size, times):
-        """Puts, gets and reopening at one size."""
-        records = records_of(size)
-        create = create_scripts(self.work, ["t"])
-        puts = put_scripts(self.work, records, ["t"])
-        gets = get_scripts(self.work, records, "t")
-        put, put_base, home = Least(), Least(), None
-        for _ in range(times):
-            if home:
-                shutil.rmtree(home)
-            home = fresh(folder)
-            system.run(home, create, self.work)
-            put_base.take(system.run(home, [self.empty], self.work))
-            put.take(system.run(home, puts, self.work))
-        log = folder_bytes(home)
-        reopened = self.base(system, home, times)
-        got = Least()
-        for _ in range(times):
-            got.take(system.run(home, gets, self.work))
-        shutil.rmtree(home)
-        add = lambda work, whole, base: self.rows.append(
-            Row(system.name, work, size, net(whole.seconds, base.seconds), (whole.peak - base.peak) / size, log))
-        add("put", put, put_base)
-        add("get", got, reopened)
-        add("reopen", reopened, put_base)
-
     def growth(self, folder):
-        self.rows = []
-        for size in self.sizes.lines:
-            for system in self.systems:
-                say(f"{system.name}: {size:,} lines in {folder}")
-                self.size(system, folder, size, self.sizes.repeats)
-        return self.rows
+        """Puts, gets and reopening. The sizes take turns, so that the load of a shared machine falls on all of them."""
+        works = [Growing(self, system, folder, size) for size in self.sizes.lines for system in self.systems]
+        for turn in range(self.sizes.repeats):
+            for work in works:
+                work.write(turn + 1)
+        for turn in range(self.sizes.repeats):
+            for work in works:
+                work.read(turn + 1)
+        return [row for work in works for row in work.rows()]
 
     def many_databases(self, folder):
         """The same records in many databases and in one: net seconds to write and to open them."""
@@ -381,6 +399,7 @@ def main():
     sizes = QUICK if words.quick else Sizes()
     if words.repeat:
         sizes.repeats = words.repeat
+    os.environ.setdefault(*TUNABLES)
     os.makedirs(words.disk, exist_ok=True)
     goals = Goals(not words.quick)
     with room_in(words.memory) as work:

@@ -26,7 +26,7 @@ pub fn fill<F: Read>(file: &mut F, into: &mut [u8]) -> io::Result<usize>
     Ok(count)
 }
 
-/// The same from an offset.
+/// Reads from an offset of the file until the piece is full or the file ends: how many bytes it read.
 pub fn fill_from<F: Read + Seek>(file: &mut F, at: u64, into: &mut [u8]) -> io::Result<usize>
     ensures { IfOk result (λ count. count ≤ length into.old) }
 {

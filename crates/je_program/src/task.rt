@@ -1,5 +1,5 @@
 // What a program is to do.
-ghost use Rattle.std.specs.Prelude.{◌≡◌, ◌≤◌, Some, true, map, string_bytes, IfErr, IfOk, OnOk};
+ghost use Rattle.std.specs.Prelude.{◌≡◌, ◌≤◌, Some, true, false, map, string_bytes, IfErr, IfOk, OnOk};
 ghost use Rattle.std.specs.List.{list_all};
 ghost use Rattle.script_text.specs.Grammar.{is_line};
 ghost use Rattle.command_line.specs.Words.{file_max_in, is_taken};
@@ -27,6 +27,7 @@ pub fn read_task<S: Source>(alloc: Global, words: &[String], input: &mut S) -> R
     ensures read { IfOk result (λ task. ReadsPlan (S.left input.old) (S.left input.new) task.plan) }
     ensures lines { IfOk result (λ task. list_all is_line task.plan.lines ≡ true) }
     ensures none { IfErr result (λ cause. TellsNone (is_taken (map string_bytes words.now)) (S.left input.old) (S.faults input.old) (S.faults input.new) cause) }
+    ensures unread { is_taken (map string_bytes words.now) ≡ false → (S.left input.new ≡ S.left input.old) × (S.faults input.new ≡ S.faults input.old) }
     ensures never_falls { S.faults input.old ≤ S.faults input.new }
 {
     let options = parse(alloc, words)?.ok_or(Cause::Usage)?;

@@ -140,7 +140,7 @@ remove_is_unset name [] h = refl
 remove_is_unset name (r ∷ rows) h =
     remove_at name r rows (name_cmp name r.0) refl (rising_head r rows h) (remove_is_unset name rows (rising_tail r rows h))
 
-flips_equal : (a b : Name) (o : Ordering) → name_cmp a b ≡ o → is_eq (name_cmp b a) ≡ is_eq o
+pub flips_equal : (a b : Name) (o : Ordering) → name_cmp a b ≡ o → is_eq (name_cmp b a) ≡ is_eq o
 flips_equal a b Less h = rw (flipped a b Less h) refl
 flips_equal a b Equal h = rw (flipped a b Equal h) refl
 flips_equal a b Greater h = rw (flipped a b Greater h) refl

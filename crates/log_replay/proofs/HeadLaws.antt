@@ -1,5 +1,6 @@
 -- What the heads of keys say of the order of their names.
-use Rattle.std.proofs.Common.{◌≡◌, ℕ, zero, suc, List, [], ◌∷◌, ◌++◌, take, drop, min, length, arith, refl, ap, ◌∙◌}
+use Rattle.std.proofs.Common.{◌≡◌, ℕ, zero, suc, List, [], ◌∷◌, ◌++◌, take, drop, min, ◌≤◌, length, arith, refl, ap, sym, ◌∙◌, inl, inr}
+use Rattle.std.proofs.lemmas.Bool.{cases_order}
 use Rattle.std.specs.declared.cmp.Ordering.{Ordering}
 use Rattle.std.specs.declared.cmp.Ordering.TheVariants.{Less, Equal, Greater}
 use Rattle.std.specs.Ordering.{ordering_then, ordering_reverse, nat_cmp}
@@ -51,3 +52,32 @@ first_eight (a ∷ b ∷ c ∷ d ∷ e ∷ f ∷ g ∷ h ∷ []) = refl
 first_eight (a ∷ b ∷ c ∷ d ∷ e ∷ f ∷ g ∷ h ∷ i ∷ key) =
     let all : min (length (a ∷ b ∷ c ∷ d ∷ e ∷ f ∷ g ∷ h ∷ i ∷ key)) 8 ≡ 8 = omega arith in
     rw all refl
+
+-- ---- keys that are no longer than their heads
+
+suc_cmp : (m n : ℕ) → nat_cmp (suc m) (suc n) ≡ nat_cmp m n
+suc_cmp m n =
+    elim (cases_order m n) [
+      | inl same ↦ sym (nat_cmp_is (suc m) (suc n) Equal (omega (arith, same))) ∙ nat_cmp_is m n Equal same
+      | inr other ↦ elim other [
+        | inl less ↦ sym (nat_cmp_is (suc m) (suc n) Less (omega (arith, less))) ∙ nat_cmp_is m n Less less
+        | inr more ↦ sym (nat_cmp_is (suc m) (suc n) Greater (omega (arith, more))) ∙ nat_cmp_is m n Greater more
+      ]
+    ]
+
+-- where heads are the same, such keys are ordered by their lengths
+pub cmp_by_lengths : (count : ℕ) (a b : List ℕ) → bytes_cmp (head_of count a) (head_of count b) ≡ Equal → length a ≤ count → length b ≤ count → bytes_cmp a b ≡ nat_cmp (length a) (length b)
+cmp_by_lengths zero [] [] h la lb = refl
+cmp_by_lengths zero (x ∷ a) b h la lb = absurd (omega arith)
+cmp_by_lengths zero [] (y ∷ b) h la lb = absurd (omega arith)
+cmp_by_lengths (suc count) [] [] h la lb = refl
+cmp_by_lengths (suc count) [] (y ∷ b) h la lb = nat_cmp_is 0 (length (y ∷ b)) Less (omega arith)
+cmp_by_lengths (suc count) (x ∷ a) [] h la lb = nat_cmp_is (length (x ∷ a)) 0 Greater (omega arith)
+cmp_by_lengths (suc count) (x ∷ a) (y ∷ b) h la lb =
+    by_first (nat_cmp x y) (λ e. cmp_by_lengths count a b e (omega arith) (omega arith)) h
+  where
+    by_first : (o : Ordering) → (bytes_cmp (head_of count a) (head_of count b) ≡ Equal → bytes_cmp a b ≡ nat_cmp (length a) (length b)) →
+        ordering_then o (bytes_cmp (head_of count a) (head_of count b)) ≡ Equal → ordering_then o (bytes_cmp a b) ≡ nat_cmp (length (x ∷ a)) (length (y ∷ b))
+    by_first Less step e = cc
+    by_first Equal step e = step e ∙ sym (suc_cmp (length a) (length b))
+    by_first Greater step e = cc

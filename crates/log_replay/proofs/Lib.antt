@@ -19,3 +19,4 @@ pub mod ReadingLaws
 pub mod PlacingLaws
 pub mod AgainLaws
 pub mod HeadLaws
+pub mod Loaded

@@ -10,7 +10,8 @@ use Rattle.log_file.specs.Log.{entries_found, log_in}
 use Rattle.log_replay.specs.declared.replaying.Replaying.{Replaying}
 use Rattle.log_replay.specs.Reading.{marked, marked_entry, marked_log, files_read, lsn_at, lsn_in, lsn_of}
 use Rattle.log_replay.specs.declared.place.Place.{Place}
-use Rattle.log_replay.specs.Rows.{rows_in, data_at}
+use Rattle.log_replay.specs.Rows.{Row, rows_in, data_at}
+use Rattle.log_replay.specs.Loading.{loaded}
 use Rattle.log_replay.specs.UnderWay.{IsReplayOf, HasTaken}
 
 -- one entry more is marked
@@ -65,7 +66,8 @@ marking_ends reads files left going so_far is =
     (sym (append-nil so_far.done) ∙ ap (λ (l : List FileNo). so_far.done ++ marked_log (log_in (files_read reads l))) (sym is) ∙ so_far.parts) so_far.replay
 
 -- the LSN that the second replay has for a place
-pub lsn_answer : (reads : Files) (files : List FileNo) (going : Replaying) (place : Place) (value : Option (List ℕ)) (lsn : ℕ) → IsReplayOf (marked_log (log_in (files_read reads files))) going →
-    lsn ≡ lsn_in value → value ≡ data_at place.name (rows_in going.rows place.db) → lsn ≡ lsn_of (log_in (files_read reads files)) place
-lsn_answer reads files going place value lsn is lsn_is value_is =
-    lsn_is ∙ ap lsn_in (value_is ∙ ap (data_at place.name) (is.stands.rows place.db))
+pub lsn_answer : (reads : Files) (files : List FileNo) (going : Replaying) (kept : List (ℕ × List Row)) (place : Place) (value : Option (List ℕ)) (lsn : ℕ) →
+    IsReplayOf (marked_log (log_in (files_read reads files))) going → ((db : ℕ) → rows_in kept db ≡ loaded going.loading db) →
+    lsn ≡ lsn_in value → value ≡ data_at place.name (rows_in kept place.db) → lsn ≡ lsn_of (log_in (files_read reads files)) place
+lsn_answer reads files going kept place value lsn is settled lsn_is value_is =
+    lsn_is ∙ ap lsn_in (value_is ∙ ap (data_at place.name) (settled place.db ∙ is.stands.rows place.db))

@@ -1,11 +1,14 @@
 -- A replay that is under way, from entry to entry.
 use Rattle.std.proofs.Common.{◌≡◌, ℕ, List, [], ◌∷◌, ◌++◌, refl, ap, sym, ◌∙◌, subst, arith, max, append_assoc, Result, Ok, Err}
 use Rattle.std.specs.Prelude.{OnOk}
+use mathlib.Core.Path.{fun_ext}
 use Rattle.std.proofs.lemmas.List.{append-nil}
 use Rattle.log_entry.specs.declared.entry.Entry.{Entry}
 use Rattle.log_replay.specs.declared.pending_change.PendingChange.{PendingChange}
 use Rattle.log_replay.specs.declared.replaying.Replaying.{Replaying}
 use Rattle.log_replay.specs.Rows.{Row, rows_in}
+use Rattle.log_replay.specs.Loading.{loaded}
+use Rattle.log_replay.specs.declared.loading.Loading.{Loading}
 use Rattle.log_replay.specs.Replay.{Replay, replayed, replayed_entry, nothing_replayed, txn_in, db_in, greatest}
 use Rattle.log_replay.specs.Pending.{StandsFor, pending_in}
 use Rattle.log_replay.specs.UnderWay.{IsReplayOf, HasTaken}
@@ -19,15 +22,15 @@ pub greatest-append : (number : Entry → ℕ) (before after : List Entry) → g
 greatest-append number [] after = omega arith
 greatest-append number (entry ∷ before) after = omega (arith, greatest-append number before after)
 
-pub begins : (rows : List (ℕ × List Row)) (pending : List (ℕ × List PendingChange)) → ((db : ℕ) → rows_in rows db ≡ []) → ((txn : ℕ) → pending_in pending txn ≡ []) →
-    IsReplayOf [] (record { rows = rows; pending = pending; last_txn = 0; last_db = 0 })
-begins rows pending no_rows no_pending = record { stands = record { rows = no_rows; pending = no_pending }; txn = refl; db = refl }
+pub begins : (loading : Loading) (pending : List (ℕ × List PendingChange)) → ((db : ℕ) → loaded loading db ≡ []) → ((txn : ℕ) → pending_in pending txn ≡ []) →
+    IsReplayOf [] (record { loading = loading; pending = pending; last_txn = 0; last_db = 0 })
+begins loading pending no_rows no_pending = record { stands = record { rows = no_rows; pending = no_pending }; txn = refl; db = refl }
 
 pub takes_one : (entry : Entry) (old new : Replaying) →
-    ((replay : Replay) → StandsFor old.rows old.pending replay → StandsFor new.rows new.pending (replayed_entry entry replay)) →
+    ((replay : Replay) → StandsFor (loaded old.loading) old.pending replay → StandsFor (loaded new.loading) new.pending (replayed_entry entry replay)) →
     new.last_txn ≡ max old.last_txn (txn_in entry) → new.last_db ≡ max old.last_db (db_in entry) → HasTaken (entry ∷ []) old new
 takes_one entry old new stands txn db before is = record {
-  stands = subst (StandsFor new.rows new.pending) (sym (replayed-append before (entry ∷ []) nothing_replayed)) (stands (replayed before nothing_replayed) is.stands);
+  stands = subst (StandsFor (loaded new.loading) new.pending) (sym (replayed-append before (entry ∷ []) nothing_replayed)) (stands (replayed before nothing_replayed) is.stands);
   txn = omega (arith, txn, is.txn, greatest-append txn_in before (entry ∷ []));
   db = omega (arith, db, is.db, greatest-append db_in before (entry ∷ []));
 }
@@ -63,7 +66,14 @@ taking_ends entries left old now so_far is =
     subst (λ (l : List Entry). HasTaken l old now) (sym (append-nil so_far.done) ∙ ap (λ (l : List Entry). so_far.done ++ l) (sym is) ∙ so_far.parts) so_far.taken
 
 pub takes_result : {T X : Type 0} (result : Result T X) (entry : Entry) (old new : Replaying) →
-    ((replay : Replay) → StandsFor old.rows old.pending replay → OnOk result (StandsFor new.rows new.pending (replayed_entry entry replay))) →
+    ((replay : Replay) → StandsFor (loaded old.loading) old.pending replay → OnOk result (StandsFor (loaded new.loading) new.pending (replayed_entry entry replay))) →
     new.last_txn ≡ max old.last_txn (txn_in entry) → new.last_db ≡ max old.last_db (db_in entry) → OnOk result (HasTaken (entry ∷ []) old new)
 takes_result (Ok x) entry old new stands txn db = takes_one entry old new stands txn db
 takes_result (Err e) entry old new stands txn db = tt
+
+-- ---- all that was loaded, among the records
+
+-- the records with what waited among them are those of the replay
+pub all_loaded : (entries : List Entry) (going : Replaying) (kept : List (ℕ × List Row)) → ((db : ℕ) → rows_in kept db ≡ loaded going.loading db) →
+    IsReplayOf entries going → rows_in kept ≡ (replayed entries nothing_replayed).rows
+all_loaded entries going kept settled is = fun_ext (λ (db : ℕ). settled db ∙ is.stands.rows db)

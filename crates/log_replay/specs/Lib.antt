@@ -4,6 +4,7 @@ pub mod Meaning
 pub mod Logging
 pub mod Kept
 pub mod Pending
+pub mod Loading
 pub mod Opening
 pub mod Wrong
 pub mod Reading

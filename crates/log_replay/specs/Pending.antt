@@ -3,7 +3,7 @@
 use Rattle.std.specs.Prelude.{ℕ, ◌≡◌, ◌==◌, List, [], map, unwrap_or}
 use Rattle.std.specs.Map.{lookup}
 use Rattle.log_replay.specs.declared.pending_change.PendingChange.{PendingChange}
-use Rattle.log_replay.specs.Rows.{Row, RowChange, rows_in}
+use Rattle.log_replay.specs.Rows.{Rows, RowChange}
 use Rattle.log_replay.specs.Replay.{Replay, changes_of}
 
 -- a change that waits for its transaction's commit, as a change of a record
@@ -15,6 +15,6 @@ abbrev pub pending_in : List (ℕ × List PendingChange) → ℕ → List RowCha
 pending_in kept txn = map (as_change txn) (unwrap_or (lookup (λ n. n == txn) kept) [])
 
 -- what is kept is what a replay has
-pub record StandsFor (kept_rows : List (ℕ × List Row)) (kept_pending : List (ℕ × List PendingChange)) (replay : Replay) : Type 0 where
-  pub rows : (db : ℕ) → rows_in kept_rows db ≡ replay.rows db
+pub record StandsFor (kept_rows : Rows) (kept_pending : List (ℕ × List PendingChange)) (replay : Replay) : Type 0 where
+  pub rows : (db : ℕ) → kept_rows db ≡ replay.rows db
   pub pending : (txn : ℕ) → pending_in kept_pending txn ≡ changes_of txn replay.pending

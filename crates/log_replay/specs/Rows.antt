@@ -39,6 +39,11 @@ rows_with name (Some value) rows =
     filter (λ r. is_lt (name_cmp r.0 name)) rows ++ (name, value) ∷ filter (λ r. is_gt (name_cmp r.0 name)) rows
 rows_with name None rows = filter (λ r. not (is_eq (name_cmp r.0 name))) rows
 
+-- the records of one database with names set to data, in order
+abbrev pub rows_put : List Row → List Row → List Row
+rows_put [] rows = rows
+rows_put (put ∷ puts) rows = rows_put puts (rows_with put.0 (Some put.1) rows)
+
 -- a change of a record, by a transaction: the data that its name is set to, or None where it is taken out
 pub record RowChange : Type 0 where
   pub txn : ℕ

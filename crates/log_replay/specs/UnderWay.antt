@@ -17,11 +17,12 @@ use Rattle.log_replay.specs.declared.reading.FilesRead.{FilesRead}
 use Rattle.log_replay.specs.declared.reading.FilesRead.TheVariants.{All as AllRead, Stopped}
 use Rattle.log_replay.specs.Replay.{replayed, nothing_replayed, txn_in, db_in, greatest}
 use Rattle.log_replay.specs.Pending.{StandsFor}
+use Rattle.log_replay.specs.Loading.{loaded}
 use Rattle.log_replay.specs.Reading.{finding_at, finding_in}
 
 -- entries were replayed, and nothing else
 pub record IsReplayOf (entries : List Entry) (going : Replaying) : Type 0 where
-  pub stands : StandsFor going.rows going.pending (replayed entries nothing_replayed)
+  pub stands : StandsFor (loaded going.loading) going.pending (replayed entries nothing_replayed)
   pub txn : going.last_txn ≡ greatest txn_in entries
   pub db : going.last_db ≡ greatest db_in entries
 

@@ -9,6 +9,7 @@
 pub mod finding;
 pub mod last_file;
 pub mod laws;
+mod loading;
 pub mod log_read;
 mod named;
 pub mod numbers;

@@ -136,7 +136,8 @@ fn find_lsn<D: Disk>(
         let scanned = scan(alloc, disk, *f)?;
         take_marked(alloc, *f, scanned, replaying)?;
     }
-    Ok(lsn_at(&replaying.rows, place)?)
+    replaying.loading.settle(alloc)?;
+    Ok(lsn_at(&replaying.loading.rows, place)?)
 }
 
 /// The LSN of the put that gave the record of a place, found by a second replay of the files, in which

@@ -71,12 +71,13 @@ fn opened(alloc: Global, rows: &Rows) -> Result<(Store, Totals), AllocError>
 pub(crate) fn judge(alloc: Global, replaying: Replaying) -> Result<Judged, AllocError>
     ensures { IfOk result (λ judged. (entries : Items AnyEntry) → IsReplayOf entries replaying → IsJudged entries judged) }
 {
-    if let Some(place) = replaying.rows.wrong_record(alloc)? {
+    let rows = replaying.loading.into_rows(alloc)?;
+    if let Some(place) = rows.wrong_record(alloc)? {
         return Ok(Judged::Wrong(place));
     }
-    let (opening, totals) = opened(alloc, &replaying.rows)?;
+    let (opening, totals) = opened(alloc, &rows)?;
     Ok(Judged::Right(Replayed {
-        rows: replaying.rows,
+        rows,
         opening,
         totals,
         last_txn: replaying.last_txn,

@@ -1,15 +1,15 @@
 // A replay under way.
 ghost use Rattle.std.specs.Prelude.{◌≡◌, ℕ, [], ◌∷◌, map, OnOk};
-ghost use Rattle.log_replay.specs.Rows.{rows_in, row_changed, rows_changed};
+ghost use Rattle.log_replay.specs.Rows.{row_changed, rows_changed};
+ghost use Rattle.log_replay.specs.Loading.{loaded};
 ghost use Rattle.log_replay.specs.Replay.{Replay, replayed_entry, txn_in, db_in};
 ghost use Rattle.log_replay.specs.Pending.{as_change, StandsFor};
 ghost use Rattle.log_replay.specs.UnderWay.{IsReplayOf, HasTaken};
 
+use crate::loading::Loading;
 use crate::numbers::number_of;
 use crate::pending::Pending;
 use crate::pending_change::PendingChange;
-use crate::rows::Rows;
-use crate::sort_key::SortKey;
 use je_order::List;
 use log_entry::Entry;
 use std::alloc::{AllocError, Global};
@@ -18,7 +18,7 @@ use std::alloc::{AllocError, Global};
 #[derive(Drop)]
 pub(crate) struct Replaying {
     /// The records.
-    pub(crate) rows: Rows,
+    pub(crate) loading: Loading,
     /// The changes that wait for their transactions' commits.
     pub(crate) pending: Pending,
     /// The greatest transaction number, 0 where there was none.
@@ -26,30 +26,28 @@ pub(crate) struct Replaying {
     /// The greatest database number, 0 where there was none.
     pub(crate) last_db: u32,
 }
+
 // Makes the change of one record.
-fn change_row(rows: &mut Rows, alloc: Global, change: PendingChange) -> Result<(), AllocError>
-    ensures { OnOk result ((txn d : ℕ) → rows_in rows.new d ≡ row_changed (as_change txn change) (rows_in rows.old) d) }
+fn change_row(loading: &mut Loading, alloc: Global, change: PendingChange) -> Result<(), AllocError>
+    ensures { OnOk result ((txn d : ℕ) → loaded loading.new d ≡ row_changed (as_change txn change) (loaded loading.old) d) }
 {
     let PendingChange { db, name, value } = change;
     match value {
-        Some(value) => rows.set(alloc, db, name, value),
-        None => {
-            rows.unset(db, &SortKey::new(name));
-            Ok(())
-        }
+        Some(value) => loading.put(alloc, db, name, value),
+        None => loading.unset(alloc, db, name),
     }
 }
 
 // Makes the changes, in order.
 fn change_rows(
-    rows: &mut Rows,
+    loading: &mut Loading,
     alloc: Global,
     changes: List<PendingChange>,
 ) -> Result<(), AllocError>
-    ensures { OnOk result ((txn d : ℕ) → rows_in rows.new d ≡ rows_changed (map (as_change txn) changes) (rows_in rows.old) d) }
+    ensures { OnOk result ((txn d : ℕ) → loaded loading.new d ≡ rows_changed (map (as_change txn) changes) (loaded loading.old) d) }
 {
     for change in changes.into_vec() {
-        change_row(rows, alloc, change)?;
+        change_row(loading, alloc, change)?;
     }
     Ok(())
 }
@@ -83,12 +81,12 @@ fn db_number(entry: &Entry) -> u32
 
 // Takes what an entry says: a change waits, and a commit makes the changes that waited for it.
 fn take_entry(
-    rows: &mut Rows,
+    loading: &mut Loading,
     pending: &mut Pending,
     alloc: Global,
     entry: Entry,
 ) -> Result<(), AllocError>
-    ensures { (replay : Replay) → StandsFor rows.old pending.old replay → OnOk result (StandsFor rows.new pending.new (replayed_entry entry replay)) }
+    ensures { (replay : Replay) → StandsFor (loaded loading.old) pending.old replay → OnOk result (StandsFor (loaded loading.new) pending.new (replayed_entry entry replay)) }
 {
     match entry {
         Entry::Put {
@@ -114,7 +112,7 @@ fn take_entry(
         }
         Entry::Commit { txn } => {
             let changes = pending.take(alloc, txn.0);
-            change_rows(rows, alloc, changes)
+            change_rows(loading, alloc, changes)
         }
         _ => Ok(()),
     }
@@ -126,7 +124,7 @@ impl Replaying {
         ensures { IsReplayOf [] result }
     {
         Replaying {
-            rows: Rows::new(alloc),
+            loading: Loading::new(alloc),
             pending: Pending::new(alloc),
             last_txn: 0,
             last_db: 0,
@@ -140,7 +138,7 @@ impl Replaying {
     {
         self.last_txn = self.last_txn.max(txn_number(&entry));
         self.last_db = self.last_db.max(db_number(&entry));
-        take_entry(&mut self.rows, &mut self.pending, alloc, entry)
+        take_entry(&mut self.loading, &mut self.pending, alloc, entry)
     }
 
     /// Takes the next entries, in order.

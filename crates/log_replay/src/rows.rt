@@ -1,7 +1,7 @@
 // The records of an environment.
-ghost use Rattle.std.specs.Prelude.{◌≡◌, true, ℕ, [], length, Option, None, Some, IfOk, OnOk, OnErr, option_copied, map, filter, not};
+ghost use Rattle.std.specs.Prelude.{◌≡◌, ◌==◌, true, ℕ, [], length, Option, None, Some, IfOk, OnOk, OnErr, option_copied, map, filter, not, if◌then◌else◌};
 ghost use Rattle.std.specs.List.{list_all};
-ghost use Rattle.log_replay.specs.Rows.{IsRising, RowChange, rows_in, row_changed, data_at, are_plain, pair_of, is_catalog_row, numbers_of, store_of};
+ghost use Rattle.log_replay.specs.Rows.{IsRising, RowChange, rows_in, rows_put, row_changed, data_at, are_plain, pair_of, is_catalog_row, numbers_of, store_of};
 ghost use Rattle.log_replay.specs.Wrong.{least, lesser as lesser_of, wrong_in_catalog, wrong_in_plain, wrong_under, wrong_database, wrong_record};
 ghost use Rattle.log_replay.specs.Opening.{named_by, database_named};
 
@@ -97,6 +97,28 @@ impl Rows {
             Some(table) => table.set(name, value),
             None => {
                 let table = Table::with_record(alloc, name, value)?;
+                self.databases.insert(db, table)?;
+                Ok(())
+            }
+        }
+    }
+
+    /// Sets each name to its data, in order, in the database of that number, which need not be there before.
+    /// After want of memory some of them may be set.
+    pub(crate) fn put_all(
+        &mut self,
+        alloc: Global,
+        db: u32,
+        puts: Vec<(SortKey, Octets)>,
+    ) -> Result<(), AllocError>
+        ensures ok { OnOk result ((d : ℕ) → rows_in self.new d ≡ (if d == db then rows_put puts.items (rows_in self.old d) else rows_in self.old d)) }
+        ensures rising { (d : ℕ) → IsRising (rows_in self.new d) }
+    {
+        match self.databases.get_mut(&db) {
+            Some(table) => table.put_all(alloc, puts),
+            None => {
+                let mut table = Table::new(alloc);
+                table.put_all(alloc, puts)?;
                 self.databases.insert(db, table)?;
                 Ok(())
             }

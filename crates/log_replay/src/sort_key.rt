@@ -1,5 +1,7 @@
 // What the records of a database are sorted by.
 ghost use Rattle.std.specs.Prelude.{◌≡◌};
+ghost use Rattle.std.specs.declared.cmp.Ordering.TheVariants.{Equal};
+ghost use Rattle.je_order.specs.Order.{bytes_cmp, name_cmp};
 ghost use Rattle.log_replay.specs.Heads.{head_of};
 
 use je_order::{Name, cmp_name};
@@ -17,6 +19,19 @@ fn head_of(key: &[u8]) -> [u8; HEAD]
     let count = key.len().min(HEAD);
     head[..count].copy_from_slice(&key[..count]);
     head
+}
+
+// The order of names whose keys have one head. Keys that are no longer than it differ in their lengths alone,
+// and their bytes need not be read.
+fn cmp_behind(name: &Name, other: &Name) -> Ordering
+    requires { bytes_cmp (head_of 8 name.now.key) (head_of 8 other.now.key) ≡ Equal }
+    ensures { result ≡ name_cmp name.now other.now }
+{
+    let (len, other_len) = (name.key.len(), other.key.len());
+    if len > HEAD || other_len > HEAD {
+        return cmp_name(name, other);
+    }
+    len.cmp(&other_len).then(name.dup.cmp(&other.dup))
 }
 
 /// A name beside the head of its key, seen as the name alone and in name order. Most comparisons end
@@ -118,7 +133,7 @@ impl Ord for SortKey {
 
     fn cmp(&self, other: &SortKey) -> Ordering {
         match self.head.cmp(&other.head) {
-            Ordering::Equal => cmp_name(&self.name, &other.name),
+            Ordering::Equal => cmp_behind(&self.name, &other.name),
             order => order,
         }
     }

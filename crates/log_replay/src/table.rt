@@ -1,9 +1,11 @@
 // The records of one database.
 ghost use Rattle.std.specs.Prelude.{◌≡◌, true, ℕ, List as Items, [], length, Option, None, Some, IfOk, OnOk, OnErr, option_copied, map};
-ghost use Rattle.log_replay.specs.Rows.{IsRising, rows_with, data_at, are_plain, pair_of, is_catalog_row, number_in};
+ghost use Rattle.log_replay.specs.Rows.{IsRising, rows_with, rows_put, data_at, are_plain, pair_of, is_catalog_row, number_in};
 ghost use Rattle.log_replay.specs.Wrong.{is_right_behind, wrong_in_catalog as wrong_in_catalog_rows, wrong_in_plain as wrong_in_plain_rows};
 ghost use Rattle.log_replay.specs.Opening.{named_by};
 ghost use Rattle.std.specs.List.{list_all};
+ghost use Rattle.std.specs.BTreeMap.{IsFromIterResult};
+ghost use Rattle.je_order.specs.Order.{name_cmp};
 
 use crate::named::Named;
 use crate::numbers::number_of;
@@ -13,6 +15,9 @@ use je_order::{List, Name, Octets, Word};
 use std::alloc::{AllocError, Global};
 use std::collections::BTreeMap;
 use std::marker::Model;
+
+/// How many puts are at least put in order before they go in.
+const MANY: usize = 16;
 
 /// The records of one database in name order, seen as the list of their names and data.
 #[derive(Drop)]
@@ -61,6 +66,16 @@ fn named_in(alloc: Global, name: &SortKey, data: &Octets) -> Result<Named, Alloc
     })
 }
 
+// The data that is put last for each name, in name order.
+fn sorted(
+    alloc: Global,
+    puts: Vec<(SortKey, Octets)>,
+) -> Result<BTreeMap<SortKey, Octets>, AllocError>
+    ensures { IfOk result (IsFromIterResult name_cmp puts.items) }
+{
+    puts.into_iter().collect(alloc)
+}
+
 impl Table {
     /// No records. It takes no memory.
     pub(crate) fn new(alloc: Global) -> Table
@@ -103,6 +118,23 @@ impl Table {
     {
         self.records.insert(SortKey::new(name), value)?;
         Ok(())
+    }
+
+    /// Sets each name to its data, in order. Many are sorted first and go in side by side. After want of
+    /// memory some of them may be set.
+    pub(crate) fn put_all(
+        &mut self,
+        alloc: Global,
+        puts: Vec<(SortKey, Octets)>,
+    ) -> Result<(), AllocError>
+        ensures ok { OnOk result (self.new ≡ rows_put puts.items self.old) }
+        ensures rising { IsRising self.new }
+    {
+        if puts.len() < MANY {
+            return self.records.extend(puts);
+        }
+        let mut sorted = sorted(alloc, puts)?;
+        self.records.append(&mut sorted)
     }
 
     /// Takes the name out, where it is there. It takes no memory.

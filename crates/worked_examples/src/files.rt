@@ -223,3 +223,35 @@ fn last_file(rt: HostRuntime) -> Result<(), Fail> {
     assert_ran(&rt, &again, 0, text);
     Ok(())
 }
+
+// A script that makes t, puts 600 records from the greatest key down and the least 20 of them again with
+// other data, and takes one out.
+fn many_lines(alloc: Global) -> Result<String, AllocError> {
+    let mut script = String::from_str(alloc, "s1 create t plain\n")?;
+    for key in (1000..1600u16).rev() {
+        script.push_str(&format!(in alloc; "s1 put t {key} 31\n")?)?;
+    }
+    for key in 1000..1020u16 {
+        script.push_str(&format!(in alloc; "s1 put t {key} 32\n")?)?;
+    }
+    script.push_str("s1 delete t 1001\n")?;
+    Ok(script)
+}
+
+// Records in no order, some put twice and one taken out, are found when the log is opened again.
+#[test]
+fn many_records(rt: HostRuntime) -> Result<(), Fail> {
+    let alloc = rt.alloc();
+    let script = many_lines(alloc)?;
+    let ran = run_script(alloc, MemDisk::new(alloc), script.as_bytes())?;
+    assert!(rt;
+        ran.text()
+            .ends_with("end commits 622 databases 1 records 599\n")
+    );
+    let reading = b"s1 get t 1000\ns1 get t 1001\ns1 get t 1599\n";
+    let again = run_script(alloc, disk_of(ran), reading)?;
+    let text =
+        "1 s1 ok 1000 32\n2 s1 notfound\n3 s1 ok 1599 31\nend commits 0 databases 1 records 599\n";
+    assert_ran(&rt, &again, 0, text);
+    Ok(())
+}

@@ -57,10 +57,10 @@ loop-f-preserved g c =
 pub returns-clause-lsn : goal.returns-clause-lsn
 returns-clause-lsn g c t =
     let reads = (now (g.D.Disk.history c.args.disk.now)).reads in
-    lsn_answer reads c.args.files.now c.loop-f.replaying c.args.place.now (data_at c.args.place.now.name (rows_in c.loop-f.replaying.rows c.args.place.now.db)) c.in_ok-lsn_at.field-0
+    lsn_answer reads c.args.files.now c.loop-f.replaying c.settle.new.self.rows c.args.place.now (data_at c.args.place.now.name (rows_in c.settle.new.self.rows c.args.place.now.db)) c.in_ok-lsn_at.field-0
     (marking_ends reads c.args.files.now (drop c.loop-f.f-index c.args.files.now) c.loop-f.replaying (c.loop-f.invariant.marking t)
     (drop_all c.loop-f.f-index c.args.files.now (omega (arith, c.loop-f-test.false))))
-    c.in_ok-lsn_at.ensures refl
+    c.in_ok-settle.ensures.rows c.in_ok-lsn_at.ensures refl
 
 pub returns-in_err-scanned-clause-same : goal.returns-in_err-scanned-clause-same
 returns-in_err-scanned-clause-same g c t = c.in_err-scanned.ensures.same t ∙ c.loop-f.invariant.same t
