@@ -10,13 +10,13 @@ use std::alloc::{AllocError, Global};
 use std::mem::replace;
 
 /// How many bytes may wait, about.
-const MOST_WAITING: usize = 33_554_432;
+const MOST_WAITING: usize = 134_217_728;
 
 /// How many bytes a put takes beside those of its name and data, about.
 const PUT_BYTES: usize = 80;
 
 /// Records that a replay sets. The puts of one database wait, and go in sorted: a map that grows by names
-/// in no order reads memory in no order.
+/// in no order reads memory in no order. After want of memory nothing is known of them, and the replay ends.
 #[derive(Drop)]
 pub(crate) struct Loading {
     /// The records without the puts that wait.
