@@ -400,6 +400,7 @@ def main():
     if words.repeat:
         sizes.repeats = words.repeat
     os.environ.setdefault(*TUNABLES)
+    print(f"{TUNABLES[0]}={os.environ[TUNABLES[0]]}\n")
     os.makedirs(words.disk, exist_ok=True)
     goals = Goals(not words.quick)
     with room_in(words.memory) as work:
