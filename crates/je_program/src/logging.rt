@@ -134,7 +134,7 @@ pub fn change_rows(rows: &mut Rows, alloc: Global, entry: &Entry) -> Result<(), 
             ..
         } => rows.set(alloc, *db, copy_of(name)?, copy_of(value)?),
         Entry::Delete { db, name, .. } => {
-            rows.unset(*db, &SortKey::new(copy_of(name)?));
+            rows.unset(*db, &SortKey::new(alloc, copy_of(name)?)?);
             Ok(())
         }
         _ => Ok(()),

@@ -82,9 +82,9 @@ fn number_of(kept: &Kept, alloc: Global, db: &Word) -> Result<Option<u32>, Alloc
     ensures word { IsTrue (is_word db.now) }
     ensures number { IfOk result (λ number. number ≡ number_named (rows_in kept.now.rows) db.now) }
 {
-    let name = SortKey::new(plain_name(alloc, db.as_slice())?);
+    let name = SortKey::plain(alloc, db.as_slice())?;
     match kept.rows.get(0, &name) {
-        Some(found) => Ok(Some(number_in_record(found.as_slice()))),
+        Some(found) => Ok(Some(number_in_record(found))),
         None => Ok(None),
     }
 }
@@ -145,14 +145,13 @@ fn plan_get(kept: &Kept, alloc: Global, number: u32, key: &Octets) -> Result<Pla
     if let Some(length) = long_key(key) {
         return Ok(Planned::Answered(Answer::TooLong { length }));
     }
-    let name = SortKey::new(plain_name(alloc, key.as_slice())?);
+    let name = SortKey::plain(alloc, key.as_slice())?;
     match kept.rows.get(number, &name) {
         None => Ok(Planned::Answered(Answer::NotFound)),
-        Some(value) => {
-            let value = copy_of(value)?;
-            let Name { key, dup: _ } = name.into_name();
-            Ok(Planned::Answered(Answer::Rec { key, value }))
-        }
+        Some(value) => Ok(Planned::Answered(Answer::Rec {
+            key: copy_of(key)?,
+            value: Octets::from_slice(alloc, value)?,
+        })),
     }
 }
 
@@ -170,7 +169,7 @@ fn long_record(key: &Octets, value: &Octets) -> Option<u64>
 
 // How many records there are with one more, unless the name has one already; want of memory where that
 // is no number.
-fn count_with(records: u64, old: Option<&Octets>) -> Result<u64, AllocError>
+fn count_with(records: u64, old: Option<&[u8]>) -> Result<u64, AllocError>
     ensures { IfOk result (λ count. count ≡ records_with records (option_copied old.entry)) }
 {
     match old {
@@ -193,11 +192,11 @@ fn plan_put(
     if let Some(length) = long_record(key, value) {
         return Ok(Planned::Answered(Answer::TooLong { length }));
     }
-    let at = SortKey::new(plain_name(alloc, key.as_slice())?);
-    let records = count_with(kept.totals.records, kept.rows.get(number, &at))?;
+    let name = SortKey::plain(alloc, key.as_slice())?;
+    let records = count_with(kept.totals.records, kept.rows.get(number, &name))?;
     let change = Change::Set {
         db: copy_of(db)?,
-        at: at.into_name(),
+        at: plain_name(alloc, key.as_slice())?,
         value: copy_of(value)?,
     };
     let totals = Totals {
@@ -220,8 +219,8 @@ fn plan_delete(
     if let Some(length) = long_key(key) {
         return Ok(Planned::Answered(Answer::TooLong { length }));
     }
-    let at = SortKey::new(plain_name(alloc, key.as_slice())?);
-    if kept.rows.get(number, &at).is_none() {
+    let name = SortKey::plain(alloc, key.as_slice())?;
+    if kept.rows.get(number, &name).is_none() {
         return Ok(Planned::Answered(Answer::NotFound));
     }
     let db = copy_of(db)?;
@@ -234,7 +233,7 @@ fn plan_delete(
         number,
         Change::Unset {
             db,
-            at: at.into_name(),
+            at: plain_name(alloc, key.as_slice())?,
         },
         totals,
     ))

@@ -18,28 +18,53 @@ fn compared_with(
     first: &SortKey,
     key: &[u8],
 ) -> Result<(Ordering, bool), AllocError> {
-    let second = SortKey::new(plain(alloc, key)?);
+    let second = SortKey::new(alloc, plain(alloc, key)?)?;
     Ok((first.cmp(&second), *first == second))
 }
 
 fn compared(alloc: Global, a: &[u8], b: &[u8]) -> Result<(Ordering, bool), AllocError> {
-    let first = SortKey::new(plain(alloc, a)?);
+    let first = SortKey::new(alloc, plain(alloc, a)?)?;
     compared_with(alloc, &first, b)
 }
 
-// A byte apart within the head and behind it, and keys with one head of which one begins the other.
-static ROWS: [(&[u8], &[u8], Ordering); 5] = [
+// Keys that are held whole, of one or of different lengths; one of 22 bytes, the most that are, and a longer
+// one that it begins; and longer ones that differ in their last byte.
+static ROWS: [(&[u8], &[u8], Ordering); 7] = [
     (b"\x01\xff", b"\xff", Ordering::Less),
-    (b"abcdefgh2", b"abcdefgh1", Ordering::Greater),
     (b"ab", b"ab\0", Ordering::Less),
     (b"", b"\0", Ordering::Less),
     (b"abcdefghi", b"abcdefghi", Ordering::Equal),
+    (
+        b"twenty-two bytes of it",
+        b"twenty-two bytes of it.",
+        Ordering::Less,
+    ),
+    (
+        b"customer:00000000000002",
+        b"customer:00000000000001",
+        Ordering::Greater,
+    ),
+    (
+        b"customer:00000000000001",
+        b"customer:00000000000001",
+        Ordering::Equal,
+    ),
 ];
 
 #[test]
 fn sorts_as_names(rt: HostRuntime) -> Result<(), Fail> {
     for &(a, b, want) in &ROWS {
         assert!(rt; compared(rt.alloc(), a, b)? == (want, want.is_eq()));
+    }
+    Ok(())
+}
+
+// The name of a key that is held whole, and of a longer one.
+#[test]
+fn gives_the_name_back(rt: HostRuntime) -> Result<(), Fail> {
+    for key in [b"short".as_slice(), b"customer:00000000000001".as_slice()] {
+        let name = SortKey::plain(rt.alloc(), key)?.to_name(rt.alloc())?;
+        assert!(rt; name == plain(rt.alloc(), key)?);
     }
     Ok(())
 }

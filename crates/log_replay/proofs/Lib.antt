@@ -18,5 +18,5 @@ pub mod ListedLaws
 pub mod ReadingLaws
 pub mod PlacingLaws
 pub mod AgainLaws
-pub mod HeadLaws
+pub mod HeldLaws
 pub mod Loaded

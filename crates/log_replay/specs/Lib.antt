@@ -11,4 +11,4 @@ pub mod Reading
 pub mod UnderWay
 pub mod Answer
 pub mod Laws
-pub mod Heads
+pub mod Held

@@ -6,13 +6,17 @@
 //! as they say.
 #![tactic(auto)]
 
+mod data;
 pub mod finding;
+mod held_data;
+mod held_name;
 pub mod last_file;
 pub mod laws;
 mod loading;
 pub mod log_read;
 mod named;
 pub mod numbers;
+mod padded;
 mod pending;
 mod pending_change;
 mod place;

@@ -3,6 +3,7 @@ ghost use Rattle.std.specs.Prelude.{◌≡◌, ℕ, [], Some, None, IfOk, OnOk};
 ghost use Rattle.log_replay.specs.Rows.{rows_in, row_changed};
 ghost use Rattle.log_replay.specs.Loading.{loaded};
 
+use crate::data::Data;
 use crate::rows::Rows;
 use crate::sort_key::SortKey;
 use je_order::{Name, Octets};
@@ -24,7 +25,7 @@ pub(crate) struct Loading {
     /// The database of the puts that wait.
     pub(crate) db: u32,
     /// The puts that wait, in their order.
-    pub(crate) waiting: Vec<(SortKey, Octets)>,
+    pub(crate) waiting: Vec<(SortKey, Data)>,
     /// How many bytes they take, about.
     bytes: usize,
 }
@@ -75,7 +76,8 @@ impl Loading {
     {
         self.make_room(alloc, db)?;
         self.bytes = self.bytes.saturating_add(put_size(&name, &value));
-        self.waiting.push((SortKey::new(name), value))?;
+        let name = SortKey::new(alloc, name)?;
+        self.waiting.push((name, Data::new(value)))?;
         Ok(())
     }
 
@@ -84,7 +86,7 @@ impl Loading {
         ensures { OnOk result ((txn d : ℕ) → loaded self.new d ≡ row_changed (record { txn = txn; db = db; name = name; value = None }) (loaded self.old) d) }
     {
         self.settle(alloc)?;
-        self.rows.unset(db, &SortKey::new(name));
+        self.rows.unset(db, &SortKey::new(alloc, name)?);
         Ok(())
     }
 

@@ -80,13 +80,13 @@ fn entries_of(alloc: Global, scanned: Scanned) -> List<Entry>
 }
 
 // The LSN that a marked put has for its data, 0 where there is none or it has fewer bytes.
-fn lsn_from(marked: Option<&Octets>) -> Lsn
+fn lsn_from(marked: Option<&[u8]>) -> Lsn
     ensures { result ≡ lsn_in (option_copied marked.entry) }
 {
-    let Some(octets) = marked else {
+    let Some(bytes) = marked else {
         return Lsn::new(FileNo(0), 0);
     };
-    match Reader::new(octets.as_slice()).u64() {
+    match Reader::new(bytes).u64() {
         Ok(number) => Lsn::new(
             FileNo((number / 0x1_0000_0000) as u32),
             (number % 0x1_0000_0000) as u32,
@@ -96,10 +96,10 @@ fn lsn_from(marked: Option<&Octets>) -> Lsn
 }
 
 // The LSN that the record of a place has for its data, 0 where there is no such record.
-fn lsn_at(rows: &Rows, place: &Place) -> Result<Lsn, AllocError>
+fn lsn_at(alloc: Global, rows: &Rows, place: &Place) -> Result<Lsn, AllocError>
     ensures { IfOk result (λ lsn. lsn ≡ lsn_in (data_at place.now.name (rows_in rows.now place.now.db))) }
 {
-    let name = SortKey::new(copy_of(&place.name)?);
+    let name = SortKey::new(alloc, copy_of(&place.name)?)?;
     Ok(lsn_from(rows.get(place.db, &name)))
 }
 
@@ -137,7 +137,7 @@ fn find_lsn<D: Disk>(
         take_marked(alloc, *f, scanned, replaying)?;
     }
     replaying.loading.settle(alloc)?;
-    Ok(lsn_at(&replaying.loading.rows, place)?)
+    Ok(lsn_at(alloc, &replaying.loading.rows, place)?)
 }
 
 /// The LSN of the put that gave the record of a place, found by a second replay of the files, in which

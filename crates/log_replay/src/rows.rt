@@ -5,12 +5,13 @@ ghost use Rattle.log_replay.specs.Rows.{IsRising, RowChange, rows_in, rows_put, 
 ghost use Rattle.log_replay.specs.Wrong.{least, lesser as lesser_of, wrong_in_catalog, wrong_in_plain, wrong_under, wrong_database, wrong_record};
 ghost use Rattle.log_replay.specs.Opening.{named_by, database_named};
 
+use crate::data::Data;
 use crate::named::Named;
 use crate::place::Place;
 use crate::sort_key::SortKey;
 use crate::table::Table;
 use je_model::{Database, Kind, Store};
-use je_order::{List, Name, Octets, copy_of};
+use je_order::{List, Name, Octets};
 use std::alloc::{AllocError, Global};
 use std::collections::BTreeMap;
 use std::marker::Model;
@@ -59,7 +60,7 @@ impl Rows {
     }
 
     /// The data of the name in the database of that number, and None where there is no such record.
-    pub fn get(&self, db: u32, name: &SortKey) -> Option<&Octets>
+    pub fn get(&self, db: u32, name: &SortKey) -> Option<&[u8]>
         ensures value { option_copied result ≡ data_at name.now (rows_in self.now db) }
         ensures rising { (d : ℕ) → IsRising (rows_in self.now d) }
     {
@@ -94,7 +95,7 @@ impl Rows {
         ensures rising { (d : ℕ) → IsRising (rows_in self.new d) }
     {
         match self.databases.get_mut(&db) {
-            Some(table) => table.set(name, value),
+            Some(table) => table.set(alloc, name, value),
             None => {
                 let table = Table::with_record(alloc, name, value)?;
                 self.databases.insert(db, table)?;
@@ -109,7 +110,7 @@ impl Rows {
         &mut self,
         alloc: Global,
         db: u32,
-        puts: Vec<(SortKey, Octets)>,
+        puts: Vec<(SortKey, Data)>,
     ) -> Result<(), AllocError>
         ensures ok { OnOk result ((d : ℕ) → rows_in self.new d ≡ (if d == db then rows_put puts.items (rows_in self.old d) else rows_in self.old d)) }
         ensures rising { (d : ℕ) → IsRising (rows_in self.new d) }
@@ -191,12 +192,12 @@ impl Rows {
     }
 
     /// The name of the first record of the database that is wrong in a plain one.
-    fn wrong_in_plain(&self, db: u32) -> Option<&Name>
-        ensures { option_copied result ≡ wrong_in_plain (rows_in self.now db) }
+    fn wrong_in_plain(&self, alloc: Global, db: u32) -> Result<Option<Name>, AllocError>
+        ensures { IfOk result (λ wrong. wrong ≡ wrong_in_plain (rows_in self.now db)) }
     {
         match self.databases.get(&db) {
-            Some(table) => table.wrong_in_plain(),
-            None => None,
+            Some(table) => table.wrong_in_plain(alloc),
+            None => Ok(None),
         }
     }
 
@@ -208,13 +209,10 @@ impl Rows {
         let Some(db) = self.least_wrong(numbers.as_slice()) else {
             return Ok(None);
         };
-        let Some(name) = self.wrong_in_plain(db) else {
+        let Some(name) = self.wrong_in_plain(alloc, db)? else {
             return Ok(None);
         };
-        Ok(Some(Place {
-            db,
-            name: copy_of(name)?,
-        }))
+        Ok(Some(Place { db, name }))
     }
 
     /// The place of the first record that breaks a rule of environments.

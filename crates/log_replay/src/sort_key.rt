@@ -1,82 +1,136 @@
 // What the records of a database are sorted by.
-ghost use Rattle.std.specs.Prelude.{◌≡◌};
-ghost use Rattle.std.specs.declared.cmp.Ordering.TheVariants.{Equal};
+ghost use Rattle.std.specs.Prelude.{◌≡◌, ◌≤◌, [], length, IfOk};
+ghost use Rattle.std.specs.Ordering.{nat_cmp, ordering_then};
 ghost use Rattle.je_order.specs.Order.{bytes_cmp, name_cmp};
-ghost use Rattle.log_replay.specs.Heads.{head_of};
+ghost use Rattle.log_replay.specs.Held.{padded_to};
 
-use je_order::{Name, cmp_name};
+use crate::held_name::{HEAD, HeldName, SHORT};
+use crate::padded::padded;
+use je_order::{Name, Octets, cmp_bytes};
+use std::alloc::{AllocError, Global};
 use std::cmp::Ordering;
 use std::marker::Model;
 
-/// How many bytes of a key its head has.
-const HEAD: usize = 8;
-
-// The first bytes of a key, with zeros behind a shorter one.
-fn head_of(key: &[u8]) -> [u8; HEAD]
-    ensures { result ≡ head_of 8 key.now }
-{
-    let mut head = [0u8; HEAD];
-    let count = key.len().min(HEAD);
-    head[..count].copy_from_slice(&key[..count]);
-    head
-}
-
-// The order of names whose keys have one head. Keys that are no longer than it differ in their lengths alone,
-// and their bytes need not be read.
-fn cmp_behind(name: &Name, other: &Name) -> Ordering
-    requires { bytes_cmp (head_of 8 name.now.key) (head_of 8 other.now.key) ≡ Equal }
-    ensures { result ≡ name_cmp name.now other.now }
-{
-    let (len, other_len) = (name.key.len(), other.key.len());
-    if len > HEAD || other_len > HEAD {
-        return cmp_name(name, other);
-    }
-    len.cmp(&other_len).then(name.dup.cmp(&other.dup))
-}
-
-/// A name beside the head of its key, seen as the name alone and in name order. Most comparisons end
-/// at the heads, which lie in the map's own nodes, and never read the key's bytes elsewhere in memory.
+/// A name, seen as the name alone and in name order. A short key lies in it whole, and of a longer one
+/// the head, at which most comparisons end: they read no bytes elsewhere in memory.
 #[derive(Drop)]
 pub struct SortKey {
-    head: [u8; HEAD],
-    name: Name,
+    held: HeldName,
 }
 
 impl Model for SortKey {
-    ghost use Rattle.std.specs.Prelude.{◌≡◌};
     ghost use Rattle.je_order.specs.declared.name.Name.{Name as Named};
-    ghost use Rattle.log_replay.specs.Heads.{head_of};
+    ghost use Rattle.log_replay.specs.Held.{IsHeld, name_held};
 
     ghost Value = { Named };
 
-    ghost view = { λ a. a.name };
+    ghost view = { λ a. name_held a.held };
 
-    ghost invariant = { λ a. a.head ≡ head_of 8 a.name.key };
+    ghost invariant = { λ a. IsHeld a.held };
+}
+
+// The name of a short key, and of no dup.
+fn short(key: &[u8]) -> SortKey
+    requires { length key.now ≤ 22 }
+    ensures { result ≡ record { key = key.now; dup = [] } }
+{
+    SortKey {
+        held: HeldName::Short(key.len() as u8, padded(key)),
+    }
+}
+
+// The order of short keys: that of their bytes with zeros behind, and where these are the same, of their lengths.
+#[inline]
+fn cmp_short(len: u8, bytes: &[u8; SHORT], other_len: u8, other_bytes: &[u8; SHORT]) -> Ordering
+    ensures { result ≡ ordering_then (bytes_cmp bytes.now other_bytes.now) (nat_cmp len other_len) }
+{
+    match bytes.cmp(other_bytes) {
+        Ordering::Equal => len.cmp(&other_len),
+        order => order,
+    }
 }
 
 impl SortKey {
-    /// The name with its head. It takes no memory.
-    pub fn new(name: Name) -> SortKey
-        ensures { result ≡ name }
+    /// The name. It takes memory where the key has more than 22 bytes, or the dup any.
+    pub fn new(alloc: Global, name: Name) -> Result<SortKey, AllocError>
+        ensures { IfOk result (λ key. key ≡ name) }
     {
-        SortKey {
-            head: head_of(name.key.as_slice()),
-            name,
+        if name.key.len() <= SHORT && name.dup.is_empty() {
+            return Ok(short(name.key.as_slice()));
+        }
+        let head = padded(name.key.as_slice());
+        Ok(SortKey {
+            held: HeldName::Long(head, Box::new(alloc, name)?),
+        })
+    }
+
+    /// The name of a record of that key in a plain database. It takes memory where the key has more
+    /// than 22 bytes.
+    pub fn plain(alloc: Global, key: &[u8]) -> Result<SortKey, AllocError>
+        ensures { IfOk result (λ name. name ≡ record { key = key.now; dup = [] }) }
+    {
+        if key.len() <= SHORT {
+            return Ok(short(key));
+        }
+        let name = Name {
+            key: Octets::from_slice(alloc, key)?,
+            dup: Octets::new(alloc),
+        };
+        SortKey::new(alloc, name)
+    }
+
+    /// The name's key.
+    pub fn key(&self) -> &[u8]
+        ensures { result.now ≡ self.now.key }
+    {
+        match &self.held {
+            HeldName::Short(len, bytes) => &bytes[..*len as usize],
+            HeldName::Long(_, name) => name.key.as_slice(),
         }
     }
 
-    /// The name.
-    pub fn name(&self) -> &Name
-        ensures { result.now ≡ self.now }
+    /// The name's dup.
+    pub fn dup(&self) -> &[u8]
+        ensures { result.now ≡ self.now.dup }
     {
-        &self.name
+        match &self.held {
+            HeldName::Short(..) => &[],
+            HeldName::Long(_, name) => name.dup.as_slice(),
+        }
     }
 
-    /// The name, without its head. It takes no memory.
-    pub fn into_name(self) -> Name
-        ensures { result ≡ self }
+    /// A copy of the name.
+    pub fn to_name(&self, alloc: Global) -> Result<Name, AllocError>
+        ensures { IfOk result (λ name. name ≡ self.now) }
     {
-        self.name
+        Ok(Name {
+            key: Octets::from_slice(alloc, self.key())?,
+            dup: Octets::from_slice(alloc, self.dup())?,
+        })
+    }
+
+    // The key's first bytes, with zeros behind fewer.
+    fn head(&self) -> &[u8]
+        ensures { result.now ≡ padded_to 15 self.now.key }
+    {
+        match &self.held {
+            HeldName::Short(_, bytes) => &bytes[..HEAD],
+            HeldName::Long(head, _) => head,
+        }
+    }
+
+    // The order of names one of which is long. It is called, so that the order of short ones is small enough to
+    // stand in the map's own loops.
+    #[inline(never)]
+    fn cmp_long(&self, other: &SortKey) -> Ordering
+        ensures { result ≡ name_cmp self.now other.now }
+    {
+        match cmp_bytes(self.head(), other.head()) {
+            Ordering::Equal => {
+                cmp_bytes(self.key(), other.key()).then(cmp_bytes(self.dup(), other.dup()))
+            }
+            order => order,
+        }
     }
 }
 
@@ -84,7 +138,7 @@ impl PartialEq for SortKey {
     ghost use Rattle.std.specs.Ordering.{eq_by_cmp};
     ghost use Rattle.std.specs.Cmp.{partial_equiv_from_equiv};
     ghost use Rattle.std.proofs.lemmas.Cmp.{eq_by_cmp_equiv};
-    ghost use Rattle.log_replay.specs.Heads.{names_are_ordered};
+    ghost use Rattle.log_replay.specs.Held.{names_are_ordered};
     ghost use Rattle.je_order.specs.Order.{name_cmp};
 
     ghost eq = { eq_by_cmp name_cmp };
@@ -98,7 +152,7 @@ impl PartialEq for SortKey {
 
 impl Eq for SortKey {
     ghost use Rattle.std.proofs.lemmas.Cmp.{eq_by_cmp_equiv};
-    ghost use Rattle.log_replay.specs.Heads.{names_are_ordered};
+    ghost use Rattle.log_replay.specs.Held.{names_are_ordered};
 
     ghost laws = { eq_by_cmp_equiv names_are_ordered };
 }
@@ -106,7 +160,7 @@ impl Eq for SortKey {
 impl PartialOrd for SortKey {
     ghost use Rattle.std.specs.Ordering.{as_partial_cmp};
     ghost use Rattle.std.specs.Cmp.{partial_order_from_total};
-    ghost use Rattle.log_replay.specs.Heads.{names_are_ordered};
+    ghost use Rattle.log_replay.specs.Held.{names_are_ordered};
     ghost use Rattle.je_order.specs.Order.{name_cmp};
 
     ghost partial_cmp = { as_partial_cmp name_cmp };
@@ -120,7 +174,7 @@ impl PartialOrd for SortKey {
 
 impl Ord for SortKey {
     ghost use Rattle.std.proofs.Common.{refl};
-    ghost use Rattle.log_replay.specs.Heads.{names_are_ordered};
+    ghost use Rattle.log_replay.specs.Held.{names_are_ordered};
     ghost use Rattle.je_order.specs.Order.{name_cmp};
 
     ghost cmp = { name_cmp };
@@ -131,10 +185,13 @@ impl Ord for SortKey {
 
     ghost matches_eq = { λ x y. refl };
 
+    #[inline]
     fn cmp(&self, other: &SortKey) -> Ordering {
-        match self.head.cmp(&other.head) {
-            Ordering::Equal => cmp_behind(&self.name, &other.name),
-            order => order,
+        match (&self.held, &other.held) {
+            (HeldName::Short(len, bytes), HeldName::Short(other_len, other_bytes)) => {
+                cmp_short(*len, bytes, *other_len, other_bytes)
+            }
+            _ => self.cmp_long(other),
         }
     }
 }

@@ -7,6 +7,7 @@ ghost use Rattle.std.specs.List.{list_all};
 ghost use Rattle.std.specs.BTreeMap.{IsFromIterResult};
 ghost use Rattle.je_order.specs.Order.{name_cmp};
 
+use crate::data::Data;
 use crate::named::Named;
 use crate::numbers::number_of;
 use crate::sort_key::SortKey;
@@ -22,7 +23,7 @@ const MANY: usize = 16;
 /// The records of one database in name order, seen as the list of their names and data.
 #[derive(Drop)]
 pub(crate) struct Table {
-    records: BTreeMap<SortKey, Octets>,
+    records: BTreeMap<SortKey, Data>,
 }
 
 impl Model for Table {
@@ -38,39 +39,39 @@ impl Model for Table {
 
 // Whether a catalog record of this name and number is right behind records of other numbers. There are
 // at most as many of these as there may be databases.
-fn is_right(name: &Name, number: u32, before: &[u32]) -> bool
+fn is_right(name: &SortKey, number: u32, before: &[u32]) -> bool
     ensures { (data_ : Items ℕ) → number_in data_ ≡ number → result ≡ is_right_behind before.now (name.now, data_) }
 {
-    Word::is_word(name.key.as_slice())
-        && name.dup.is_empty()
+    Word::is_word(name.key())
+        && name.dup().is_empty()
         && number != 0
         && !before.contains(&number)
         && before.len() < MOST_DATABASES as usize
 }
 
 // Copies of the key and data of a record.
-fn pair_in(name: &SortKey, data: &Octets) -> Result<(Octets, Octets), AllocError>
+fn pair_in(alloc: Global, name: &SortKey, data: &Data) -> Result<(Octets, Octets), AllocError>
     ensures { IfOk result (λ pair. pair ≡ pair_of (name.now, «data».now)) }
 {
-    Ok((name.name().key.clone()?, data.clone()?))
+    Ok((
+        Octets::from_slice(alloc, name.key())?,
+        Octets::from_slice(alloc, data.as_slice())?,
+    ))
 }
 
 // The database that a record of a right catalog names.
-fn named_in(alloc: Global, name: &SortKey, data: &Octets) -> Result<Named, AllocError>
+fn named_in(alloc: Global, name: &SortKey, data: &Data) -> Result<Named, AllocError>
     requires { is_catalog_row (name.now, «data».now) ≡ true }
     ensures { IfOk result (λ named. named ≡ named_by (name.now, «data».now)) }
 {
     Ok(Named {
-        name: Word::from_slice(alloc, name.name().key.as_slice())?,
+        name: Word::from_slice(alloc, name.key())?,
         number: number_of(data.as_slice()),
     })
 }
 
 // The data that is put last for each name, in name order.
-fn sorted(
-    alloc: Global,
-    puts: Vec<(SortKey, Octets)>,
-) -> Result<BTreeMap<SortKey, Octets>, AllocError>
+fn sorted(alloc: Global, puts: Vec<(SortKey, Data)>) -> Result<BTreeMap<SortKey, Data>, AllocError>
     ensures { IfOk result (IsFromIterResult name_cmp puts.items) }
 {
     puts.into_iter().collect(alloc)
@@ -92,7 +93,7 @@ impl Table {
         ensures rising { IfOk result (λ table. IsRising table) }
     {
         let mut table = Table::new(alloc);
-        table.set(name, value)?;
+        table.set(alloc, name, value)?;
         Ok(table)
     }
 
@@ -104,19 +105,23 @@ impl Table {
     }
 
     /// The data of the name, and None where there is no such record.
-    pub(crate) fn get(&self, name: &SortKey) -> Option<&Octets>
+    pub(crate) fn get(&self, name: &SortKey) -> Option<&[u8]>
         ensures { option_copied result ≡ data_at name.now self.now }
     {
-        self.records.get(name)
+        match self.records.get(name) {
+            Some(data) => Some(data.as_slice()),
+            None => None,
+        }
     }
 
     /// Sets the name to the data. Want of memory changes nothing.
-    pub(crate) fn set(&mut self, name: Name, value: Octets) -> Result<(), AllocError>
+    pub(crate) fn set(&mut self, alloc: Global, name: Name, value: Octets) -> Result<(), AllocError>
         ensures ok { OnOk result (self.new ≡ rows_with name (Some value) self.old) }
         ensures err { OnErr result (self.new ≡ self.old) }
         ensures rising { IsRising self.new }
     {
-        self.records.insert(SortKey::new(name), value)?;
+        let Table { records } = self;
+        records.insert(SortKey::new(alloc, name)?, Data::new(value))?;
         Ok(())
     }
 
@@ -125,7 +130,7 @@ impl Table {
     pub(crate) fn put_all(
         &mut self,
         alloc: Global,
-        puts: Vec<(SortKey, Octets)>,
+        puts: Vec<(SortKey, Data)>,
     ) -> Result<(), AllocError>
         ensures ok { OnOk result (self.new ≡ rows_put puts.items self.old) }
         ensures rising { IsRising self.new }
@@ -150,7 +155,7 @@ impl Table {
         ensures { result ≡ are_plain self.now }
     {
         for (key, _data) in &self.records {
-            if !key.name().dup.is_empty() {
+            if !key.dup().is_empty() {
                 return false;
             }
         }
@@ -163,10 +168,9 @@ impl Table {
     {
         let mut before = Vec::new(alloc);
         for (key, data) in &self.records {
-            let name = key.name();
             let number = number_of(data.as_slice());
-            if !is_right(name, number, &before) {
-                return Ok(Some(name.clone()?));
+            if !is_right(key, number, &before) {
+                return Ok(Some(key.to_name(alloc)?));
             }
             before.push(number)?;
         }
@@ -174,16 +178,15 @@ impl Table {
     }
 
     /// The name of the first record that is wrong in a plain database.
-    pub(crate) fn wrong_in_plain(&self) -> Option<&Name>
-        ensures { option_copied result ≡ wrong_in_plain_rows self.now }
+    pub(crate) fn wrong_in_plain(&self, alloc: Global) -> Result<Option<Name>, AllocError>
+        ensures { IfOk result (λ wrong. wrong ≡ wrong_in_plain_rows self.now) }
     {
         for (key, _data) in &self.records {
-            let name = key.name();
-            if !name.dup.is_empty() {
-                return Some(name);
+            if !key.dup().is_empty() {
+                return Ok(Some(key.to_name(alloc)?));
             }
         }
-        None
+        Ok(None)
     }
 
     /// The numbers in the records of a catalog, in order.
@@ -203,7 +206,7 @@ impl Table {
     {
         let mut pairs = Vec::new(alloc);
         for (key, data) in &self.records {
-            pairs.push(pair_in(key, data)?)?;
+            pairs.push(pair_in(alloc, key, data)?)?;
         }
         Ok(List::from_vec(pairs))
     }

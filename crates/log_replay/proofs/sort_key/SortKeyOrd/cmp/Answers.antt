@@ -1,12 +1,15 @@
-use Rattle.std.proofs.Common.{sym, ◌∙◌, ap₂}
-use Rattle.std.specs.Cmp.Lexicographic.{slice_cmp}
-use Rattle.std.specs.Ordering.{nat_cmp}
+use Rattle.std.proofs.Common.{◌≡◌, ◌∙◌, ap, ap₂, subst, sym}
 use Rattle.je_order.specs.Order.{name_cmp}
-use Rattle.log_replay.proofs.HeadLaws.{by_heads}
+use Rattle.log_replay.specs.Held.{IsHeld, name_held}
+use Rattle.log_replay.specs.declared.held_name.HeldName.TheVariants.{Short}
+use Rattle.log_replay.proofs.HeldLaws.{cmp_short}
 use Rattle.log_replay.proofs.sort_key.SortKeyOrd.cmp.Goals as goal
 
-pub returns-in_default : goal.returns-in_default
-returns-in_default c =
-    let heads = sym (ap₂ (slice_cmp nat_cmp) c.self.invariant c.other.invariant) ∙ sym c.cmp.ensures in
-    let names = ap₂ name_cmp c.self.view_is c.other.view_is in
-    sym (by_heads c.self.inside.name c.other.inside.name c.cmp.result heads (λ e. absurd (c.in_default.not-Equal e))) ∙ names
+pub returns-in-Short-Short : goal.returns-in-Short-Short
+returns-in-Short-Short c =
+    let both = c.in-Short-Short in
+    let first : name_held (Short both.len both.bytes) ≡ c.args.self.now = sym (ap name_held both.is-0) ∙ c.self.view_is in
+    let second : name_held (Short both.other_len both.other_bytes) ≡ c.args.other.now = sym (ap name_held both.is-1) ∙ c.other.view_is in
+    c.cmp_short.ensures
+    ∙ cmp_short both.len both.other_len both.bytes both.other_bytes (subst IsHeld both.is-0 c.self.invariant) (subst IsHeld both.is-1 c.other.invariant)
+    ∙ ap₂ name_cmp first second
