@@ -16,6 +16,7 @@ import tempfile
 from dataclasses import dataclass, field
 
 from child import NoPeak, run_child
+from quiet import Machine
 from scripts import Script, create_scripts, empty_script, get_scripts, put_scripts, records_of
 
 TOP = os.path.dirname(os.path.dirname(os.path.abspath(__file__)))
@@ -50,21 +51,41 @@ class Sizes:
 
 QUICK = Sizes([4_000, 8_000, 16_000], 100, 100, 2, [25_000, 50_000, 100_000])
 
+# How many turns are taken, for each run that is asked for, to find as many quiet ones.
+MOST_TURNS = 4
+
 # Greatest sizes of a file, in bytes: that of the program where nothing is said, and one that makes many files.
 FEW_FILES = 10_000_000
 MANY_FILES = 100_000
 
 
 @dataclass
-class Least:
-    """The least wall time and the greatest peak memory of several runs."""
+class Ran:
+    """One run of some scripts: its wall time, its peak memory, and the machine's paces around it."""
 
-    seconds: float = math.inf
+    seconds: float = 0.0
     peak: int = 0
+    paces: list = field(default_factory=list)
+
+
+class Runs:
+    """Runs of the same work. Those on a quiet machine count: of them the least time is taken."""
+
+    def __init__(self, machine):
+        self.machine = machine
+        self.ran = []
 
     def take(self, ran):
-        self.seconds = min(self.seconds, ran.seconds)
-        self.peak = max(self.peak, ran.peak)
+        self.ran.append(ran)
+
+    def quiet(self):
+        return [ran for ran in self.ran if all(self.machine.is_quiet(pace) for pace in ran.paces)]
+
+    def seconds(self):
+        return min(ran.seconds for ran in self.quiet() or self.ran)
+
+    def peak(self):
+        return max(ran.peak for ran in self.ran)
 
 
 class Failure(Exception):
@@ -72,26 +93,33 @@ class Failure(Exception):
 
 
 class System:
-    """A program that takes `run --home DIR < script`."""
+    """A program that takes `run --home DIR < script`, on one processor or on all. Of one on all, every run counts: what is
+    known of the machine is known of one processor."""
 
-    def __init__(self, name, words):
+    def __init__(self, name, words, machine, on_all=False):
         self.name = name
         self.words = words
+        self.machine = machine
+        self.processors = machine.processors if on_all else None
 
     def run(self, home, scripts, work, options=()):
         """Runs scripts on a folder, one after another: the sum of their times and the greatest peak."""
-        seconds, peak = 0.0, 0
+        whole = Ran()
         for script in scripts:
             report = os.path.join(work, "report")
-            ran = run_child([*self.words, "run", "--home", home, *options], script.path, report)
+            before = self.machine.settle()
+            ran = run_child([*self.words, "run", "--home", home, *options], script.path, report, self.processors)
+            behind = self.machine.pace()
             if ran.status != 0:
                 raise Failure(f"{self.name}: {script.name}: status {ran.status}")
             wrong = script.first_wrong_line(report)
             if wrong is not None:
                 raise Failure(f"{self.name}: {script.name}: the report is wrong at: {wrong}")
-            seconds += ran.seconds
-            peak = max(peak, ran.peak)
-        return Least(seconds, peak)
+            whole.seconds += ran.seconds
+            whole.peak = max(whole.peak, ran.peak)
+            if self.processors is None:
+                whole.paces += [before, behind]
+        return whole
 
 
 @dataclass
@@ -132,11 +160,24 @@ def fresh(folder):
 
 def net(whole, empty):
     """Time less that of an empty script; never nothing, since a logarithm is taken of it."""
-    return max(whole - empty, 1e-6)
+    return max(whole.seconds() - empty.seconds(), 1e-6)
+
+
+def take_turns(machine, repeats, works):
+    """Has each work take a turn, one after another, until each has as many quiet runs as are asked for of all that it
+    measures, or has had its turns."""
+    waiting = works
+    for turn in range(1, MOST_TURNS * repeats + 1):
+        for step, _ in waiting:
+            step(turn)
+        waiting = [(step, runs) for step, runs in works if min(len(one.quiet()) for one in runs) < repeats]
+        if not waiting or (turn >= repeats and machine.patience <= 0):
+            break
+    machine.was_loud |= bool(waiting)
 
 
 class Growing:
-    """The puts, gets and reopening of one system at one size, and the least that each came to so far."""
+    """The puts, gets and reopening of one system at one size, and what their runs came to so far."""
 
     def __init__(self, bench, system, folder, size):
         records = records_of(size)
@@ -144,11 +185,11 @@ class Growing:
         self.create = create_scripts(bench.work, ["t"])
         self.puts = put_scripts(bench.work, records, ["t"])
         self.gets = get_scripts(bench.work, records, "t")
-        self.before, self.put, self.opened, self.got = Least(), Least(), Least(), Least()
+        self.before, self.put, self.opened, self.got = (Runs(bench.machine) for _ in range(4))
         self.home = None
 
-    def run(self, least, scripts):
-        least.take(self.system.run(self.home, scripts, self.bench.work))
+    def run(self, runs, scripts):
+        runs.take(self.system.run(self.home, scripts, self.bench.work))
 
     def write(self, turn):
         """Puts all records into a folder of its own, in place of the one of the turn before."""
@@ -169,33 +210,29 @@ class Growing:
     def rows(self):
         log = folder_bytes(self.home)
         works = [("put", self.put, self.before), ("get", self.got, self.opened), ("reopen", self.opened, self.before)]
-        return [Row(self.system.name, work, self.size, net(whole.seconds, base.seconds), (whole.peak - base.peak) / self.size, log)
+        return [Row(self.system.name, work, self.size, net(whole, base), (whole.peak() - base.peak()) / self.size, log)
                 for work, whole, base in works]
 
 
 class Bench:
-    def __init__(self, systems, sizes, work):
+    def __init__(self, machine, systems, sizes, work):
+        self.machine = machine
         self.systems = systems
         self.sizes = sizes
         self.work = work
         self.empty = empty_script(work)
 
-    def base(self, system, home, times):
-        """The least of an empty script on a folder."""
-        least = Least()
-        for _ in range(times):
-            least.take(system.run(home, [self.empty], self.work))
-        return least
+    def base(self, system, home):
+        """Runs of an empty script on a folder."""
+        runs = Runs(self.machine)
+        take_turns(self.machine, self.sizes.repeats, [(lambda turn: runs.take(system.run(home, [self.empty], self.work)), [runs])])
+        return runs
 
     def growth(self, folder):
         """Puts, gets and reopening. The sizes take turns, so that the load of a shared machine falls on all of them."""
         works = [Growing(self, system, folder, size) for size in self.sizes.lines for system in self.systems]
-        for turn in range(self.sizes.repeats):
-            for work in works:
-                work.write(turn + 1)
-        for turn in range(self.sizes.repeats):
-            for work in works:
-                work.read(turn + 1)
+        take_turns(self.machine, self.sizes.repeats, [(work.write, [work.before, work.put]) for work in works])
+        take_turns(self.machine, self.sizes.repeats, [(work.read, [work.opened, work.got]) for work in works])
         return [row for work in works for row in work.rows()]
 
     def many_databases(self, folder):
@@ -203,22 +240,23 @@ class Bench:
         system = self.systems[0]
         records = records_of(self.sizes.databases * self.sizes.records)
         many = [f"d{number}" for number in range(self.sizes.databases)]
-        kinds = [(many, create_scripts(self.work, many), put_scripts(self.work, records, many)),
-                 (["t"], create_scripts(self.work, ["t"]), put_scripts(self.work, records, ["t"]))]
-        found = [(Least(), Least(), Least()) for _ in kinds]
-        # the two take turns, so that the load of a shared machine falls on both
-        for _ in range(self.sizes.repeats):
-            for (names, create, puts), (base, wrote, opened) in zip(kinds, found):
+        works, found = [], []
+        for names in (many, ["t"]):
+            create, puts = create_scripts(self.work, names), put_scripts(self.work, records, names)
+            base, wrote, opened = runs = [Runs(self.machine) for _ in range(3)]
+
+            def step(_, names=names, create=create, steps=((base, [self.empty]), (wrote, puts), (opened, [self.empty]))):
                 say(f"{system.name}: {len(records):,} records in {len(names):,} databases")
                 home = fresh(folder)
                 system.run(home, create, self.work)
-                base.take(system.run(home, [self.empty], self.work))
-                wrote.take(system.run(home, puts, self.work))
-                opened.take(system.run(home, [self.empty], self.work))
+                for kind, scripts in steps:
+                    kind.take(system.run(home, scripts, self.work))
                 shutil.rmtree(home)
-        return [(len(names), net(wrote.seconds, base.seconds), net(opened.seconds, base.seconds))
-                for (names, _, _), (base, wrote, opened) in zip(kinds, found)]
 
+            works.append((step, runs))
+            found.append((len(names), base, wrote, opened))
+        take_turns(self.machine, self.sizes.repeats, works)
+        return [(names, net(wrote, base), net(opened, base)) for names, base, wrote, opened in found]
 
     def opening(self, folder):
         """Opening logs of many files: of each size its records, net seconds, net memory, files, greatest file."""
@@ -228,12 +266,12 @@ class Bench:
             say(f"{system.name}: opening {size:,} records")
             home = fresh(folder)
             system.run(home, create_scripts(self.work, ["t"]), self.work)
-            before = self.base(system, home, self.sizes.repeats)
+            before = self.base(system, home)
             system.run(home, put_scripts(self.work, records_of(size), ["t"]), self.work)
-            opened = self.base(system, home, self.sizes.repeats)
+            opened = self.base(system, home)
             files = [os.path.getsize(os.path.join(home, name)) for name in os.listdir(home)]
             shutil.rmtree(home)
-            found.append(Opened(size, net(opened.seconds, before.seconds), opened.peak - before.peak, len(files), max(files)))
+            found.append(Opened(size, net(opened, before), opened.peak() - before.peak(), len(files), max(files)))
         return found
 
     def many_files(self, folder):
@@ -241,18 +279,24 @@ class Bench:
         system = self.systems[0]
         size = self.sizes.lines[-1]
         puts = put_scripts(self.work, records_of(size), ["t"])
-        kinds = [("--file-max", str(most)) for most in (FEW_FILES, MANY_FILES)]
-        found = [[Least(), Least(), 0] for _ in kinds]
-        for _ in range(self.sizes.repeats):
-            for options, kind in zip(kinds, found):
+        works, found = [], []
+        for most in (FEW_FILES, MANY_FILES):
+            base, wrote = runs = [Runs(self.machine) for _ in range(2)]
+            files = []
+
+            def step(_, options=("--file-max", str(most)), steps=((base, [self.empty]), (wrote, puts)), files=files):
                 say(f"{system.name}: {size:,} puts with {' '.join(options)}")
                 home = fresh(folder)
                 system.run(home, create_scripts(self.work, ["t"]), self.work, options)
-                kind[0].take(system.run(home, [self.empty], self.work, options))
-                kind[1].take(system.run(home, puts, self.work, options))
-                kind[2] = len(os.listdir(home))
+                for kind, scripts in steps:
+                    kind.take(system.run(home, scripts, self.work, options))
+                files.append(len(os.listdir(home)))
                 shutil.rmtree(home)
-        return size, [(files, net(wrote.seconds, base.seconds)) for base, wrote, files in found]
+
+            works.append((step, runs))
+            found.append((base, wrote, files))
+        take_turns(self.machine, self.sizes.repeats, works)
+        return size, [(files[-1], net(wrote, base)) for base, wrote, files in found]
 
 
 def exponent(points):
@@ -360,18 +404,21 @@ def read_words():
     return p.parse_args()
 
 
-def systems_of(words):
+def systems_of(words, machine):
     if not os.access(words.program, os.X_OK):
         sys.exit(f"bench: no program at {words.program}; run ./jedb once, which builds it, or give --program")
-    systems = [System("jedb", [os.path.abspath(words.program)])]
-    for name, command in (("bdb", words.bdb), ("je", words.je)):
-        if command:
-            systems.append(System(name, shlex.split(command)))
+    systems = [System("jedb", [os.path.abspath(words.program)], machine)]
+    if words.bdb:
+        systems.append(System("bdb", shlex.split(words.bdb), machine))
+    if words.je:
+        # a Java machine compiles and collects beside its program
+        systems.append(System("je", shlex.split(words.je), machine, on_all=True))
     return systems
 
 
-def measure(words, systems, sizes, work, goals):
-    bench = Bench(systems, sizes, work)
+def measure(words, machine, sizes, work, goals):
+    systems = systems_of(words, machine)
+    bench = Bench(machine, systems, sizes, work)
     parts = [words.only] if words.only else PARTS
     for part, title, folder in (("memory", "In memory", words.memory), ("disk", "On disk", words.disk)):
         if part in parts:
@@ -394,7 +441,7 @@ def measure(words, systems, sizes, work, goals):
 
 def main():
     words = read_words()
-    systems = systems_of(words)
+    machine = Machine()
     sizes = QUICK if words.quick else Sizes()
     if words.repeat:
         sizes.repeats = words.repeat
@@ -404,9 +451,11 @@ def main():
     goals = Goals(not words.quick)
     with room_in(words.memory) as work:
         try:
-            measure(words, systems, sizes, work, goals)
+            measure(words, machine, sizes, work, goals)
         except (Failure, NoPeak) as failure:
             sys.exit(f"bench: {failure}")
+    if machine.was_loud:
+        print("The machine was not quiet often enough: some of the least times are of fewer quiet runs than asked for.")
     for missed in goals.missed:
         print(f"MISSED: {missed}")
     sys.exit(1 if goals.missed else 0)

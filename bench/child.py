@@ -27,9 +27,11 @@ class NoPeak(Exception):
     pass
 
 
-def start(words, stdin, stdout, traced):
+def start(words, stdin, stdout, processors, traced):
     """Makes the child; it does not come back from here."""
     try:
+        if processors:
+            os.sched_setaffinity(0, processors)
         os.dup2(os.open(stdin, os.O_RDONLY), 0)
         os.dup2(os.open(stdout, os.O_WRONLY | os.O_CREAT | os.O_TRUNC, 0o600), 1)
         if traced:
@@ -81,8 +83,9 @@ if not TRACED:
     print("bench: programs can't be traced here, so peak memory counts this script's own too", file=sys.stderr)
 
 
-def run_child(words, stdin, stdout):
+def run_child(words, stdin, stdout, processors=None):
+    """Runs a program, on these processors or on those of this script."""
     pid = os.fork()
     if pid == 0:
-        start(words, stdin, stdout, TRACED)
+        start(words, stdin, stdout, processors, TRACED)
     return follow(pid)
