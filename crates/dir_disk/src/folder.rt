@@ -53,17 +53,25 @@ fn lost_data() -> Error {
     Error::from(ErrorKind::Other)
 }
 
+// Puts a handle behind others, where the system gave one.
+fn push_opened<F: Drop>(handles: &mut Vec<F>, opened: io::Result<F>) -> io::Result<()> {
+    handles.push(opened?)?;
+    Ok(())
+}
+
 impl<R: Files + AllocGlobal + Clone + Drop> Folder<R> {
     pub fn new(rt: &R, path: &str) -> Result<Folder<R>, AllocError>
         ensures path { IfOk result (λ folder. string_bytes folder.place.path ≡ (if length path.now == 0 then codes "." else path.now)) }
     {
+        let lost = Arc::new(rt.alloc(), AtomicBool::new(false))?;
+        let place = Place::new(rt, path)?;
         Ok(Folder {
-            place: Place::new(rt, path)?,
+            place,
             files: BTreeMap::new(rt.alloc()),
             entries: Pending::Nothing,
             name: Pending::Nothing,
             is_unsettled: true,
-            lost: Arc::new(rt.alloc(), AtomicBool::new(false))?,
+            lost,
             reading: None,
         })
     }
@@ -87,17 +95,14 @@ impl<R: Files + AllocGlobal + Clone + Drop> Folder<R> {
         Ok(in_order(alloc, &numbers)?)
     }
 
-    // Opens a file that is there, and answers whether it is.
-    fn open(&mut self, f: FileNo) -> io::Result<bool> {
+    // Opens a file, where it is there.
+    fn open(&mut self, f: FileNo) -> io::Result<()> {
         if self.files.contains_key(&f.0) {
-            return Ok(true);
+            return Ok(());
         }
         match self.place.file(f)? {
-            Some(file) => {
-                self.keep(f, file, Pending::Nothing)?;
-                Ok(true)
-            }
-            None => Ok(false),
+            Some(file) => self.keep(f, file, Pending::Nothing),
+            None => Ok(()),
         }
     }
 
@@ -120,16 +125,19 @@ impl<R: Files + AllocGlobal + Clone + Drop> Folder<R> {
 
     /// Makes a file that is not there, and the folder too where it is not there.
     pub fn create(&mut self, f: FileNo) -> io::Result<()> {
-        if self.open(f)? {
+        self.open(f)?;
+        if self.files.contains_key(&f.0) {
             return Ok(());
         }
         self.note_change(f);
-        let mut made = self.place.make(f)?;
-        if made.is_none() {
-            self.place.make_folder()?;
-            self.name = Pending::Sync;
-            made = self.place.make(f)?;
-        }
+        let made = match self.place.make(f)? {
+            None => {
+                self.place.make_folder()?;
+                self.name = Pending::Sync;
+                self.place.make(f)?
+            }
+            made => made,
+        };
         self.entries = Pending::Sync;
         match made {
             Some(file) => self.keep(f, file, Pending::Sync),
@@ -177,9 +185,7 @@ impl<R: Files + AllocGlobal + Clone + Drop> Folder<R> {
 
     /// How many bytes a file has; 0 where it is not there.
     pub fn len(&mut self, f: FileNo) -> io::Result<u64> {
-        if !self.open(f)? {
-            return Ok(0);
-        }
+        self.open(f)?;
         match self.files.get(&f.0) {
             Some(opened) => Ok(opened.file.metadata()?.len()),
             None => Ok(0),
@@ -191,9 +197,10 @@ impl<R: Files + AllocGlobal + Clone + Drop> Folder<R> {
         ensures { IfOk result (λ count. count ≤ length into.old) }
     {
         // no file reaches past the greatest offset that a seek takes
-        if at > i64::MAX as u64 || !self.open(f)? {
+        if at > i64::MAX as u64 {
             return Ok(0);
         }
+        self.open(f)?;
         match self.files.get_mut(&f.0) {
             Some(opened) => fill_from(&mut opened.file, at, into),
             None => Ok(0),
@@ -219,7 +226,10 @@ impl<R: Files + AllocGlobal + Clone + Drop> Folder<R> {
     /// Ends a reading, with what the job read, or with the file's bytes now where it was changed since.
     pub fn end_read(&mut self, alloc: Global, bytes: io::Result<Vec<u8>>) -> io::Result<Vec<u8>> {
         match self.reading.take() {
-            Some(reading) if reading.is_changed => whole(alloc, self.place.reader(reading.file)?),
+            Some(reading) if reading.is_changed => {
+                drop(bytes);
+                whole(alloc, self.place.reader(reading.file)?)
+            }
             _ => bytes,
         }
     }
@@ -282,14 +292,14 @@ impl<R: Files + AllocGlobal + Clone + Drop> Folder<R> {
         let mut handles = Vec::new(self.place.alloc());
         for opened in self.files.values() {
             if opened.pending.is_due() {
-                handles.push(opened.file.try_clone()?)?;
+                push_opened(&mut handles, opened.file.try_clone())?;
             }
         }
         if self.entries.is_due() {
-            handles.push(self.place.folder()?)?;
+            push_opened(&mut handles, self.place.folder())?;
         }
         if self.name.is_due() {
-            handles.push(self.place.above()?)?;
+            push_opened(&mut handles, self.place.above())?;
         }
         Ok(handles)
     }
