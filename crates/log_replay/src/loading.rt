@@ -86,7 +86,9 @@ impl Loading {
         ensures { OnOk result ((txn d : ℕ) → loaded self.new d ≡ row_changed (record { txn = txn; db = db; name = name; value = None }) (loaded self.old) d) }
     {
         self.settle(alloc)?;
-        self.rows.unset(db, &SortKey::new(alloc, name)?);
+        let name = SortKey::new(alloc, name)?;
+        self.rows.unset(db, &name);
+        drop(name);
         Ok(())
     }
 

@@ -100,7 +100,9 @@ fn lsn_at(alloc: Global, rows: &Rows, place: &Place) -> Result<Lsn, AllocError>
     ensures { IfOk result (λ lsn. lsn ≡ lsn_in (data_at place.now.name (rows_in rows.now place.now.db))) }
 {
     let name = SortKey::new(alloc, copy_of(&place.name)?)?;
-    Ok(lsn_from(rows.get(place.db, &name)))
+    let lsn = lsn_from(rows.get(place.db, &name));
+    drop(name);
+    Ok(lsn)
 }
 
 // Replays the entries of a file that was scanned, each with its LSN for its data.

@@ -114,7 +114,10 @@ fn take_entry(
             let changes = pending.take(alloc, txn.0);
             change_rows(loading, alloc, changes)
         }
-        _ => Ok(()),
+        other => {
+            drop(other);
+            Ok(())
+        }
     }
 }
 

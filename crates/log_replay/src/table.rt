@@ -121,7 +121,7 @@ impl Table {
         ensures rising { IsRising self.new }
     {
         let Table { records } = self;
-        records.insert(SortKey::new(alloc, name)?, Data::new(value))?;
+        drop(records.insert(SortKey::new(alloc, name)?, Data::new(value))?);
         Ok(())
     }
 
