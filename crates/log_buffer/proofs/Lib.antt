@@ -10,6 +10,7 @@ pub mod Fetched
 pub mod Lasting
 pub mod Keeping
 pub mod Still
+pub mod OnlyRead
 pub mod Causing
 pub mod Splits
 pub mod Kept

@@ -210,3 +210,18 @@ begun_some bytes starts cut i lt none =
 pub some_first : (starts : List ℕ) → (get_or starts 0 1 == 0) ≡ true → 0 < length starts
 some_first [] is = absurd cc
 some_first (s ∷ starts) is = omega arith
+
+-- ---- a tail whose first byte is for the file at whose end it begins
+
+pub first_for_same : (starts : List ℕ) (first : ℕ) → (get_or starts 0 1 == 0) ≡ false → first_for starts first ≡ first
+first_for_same starts first not = ap (λ (b : Bool). if b then first + 1 else first) not
+
+-- where it has no bytes for that file it has none at all
+pub only_last : (bytes starts : List ℕ) (last : ℕ) → length starts ≤ last → IsCut (length bytes) starts → (get_or starts 0 1 == 0) ≡ false → bytes_for bytes starts last (last - length starts) ≡ [] → last - length starts ≡ last
+only_last bytes [] last le cut not none = omega arith
+only_last bytes (zero ∷ starts) last le cut not none = absurd cc
+only_last bytes (suc s ∷ starts) last le cut not none =
+    let some = cut.within 0 (omega arith) in
+    let len = ap length (sym (bytes_for_from bytes (suc s ∷ starts) last (last - length (suc s ∷ starts)) 0 le (omega arith)) ∙ none) in
+    let size = length-take (suc s - 0) (drop 0 bytes) in
+    absurd (omega (arith, len, size))

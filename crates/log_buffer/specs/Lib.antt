@@ -1,5 +1,6 @@
 pub mod Flip
 pub mod Tail
+pub mod Reads
 pub mod Buffer
 pub mod Log
 pub mod Causes

@@ -1,13 +1,14 @@
 // Entries as they are read back.
-ghost use Rattle.std.specs.Prelude.{◌≡◌, ◌≤◌, ◌↔◌, true, Some, length, take, drop, IsTrue, IfOk};
+ghost use Rattle.std.specs.Prelude.{◌≡◌, ◌+◌, ◌≤◌, ◌↔◌, true, Some, length, take, drop, IsTrue, IfOk};
 ghost use Rattle.je_disk.specs.Causes.{HasFault, HasCause};
-ghost use Rattle.je_disk.specs.Moments.{now, Passes};
+ghost use Rattle.je_disk.specs.Moments.{now};
 ghost use Rattle.je_disk.specs.States.{content};
 ghost use Rattle.log_entry.specs.declared.entry.Entry.{Entry as Found};
 ghost use Rattle.log_entry.specs.Reading.{number_at};
 ghost use Rattle.log_entry.specs.Spelling.{size_of};
 ghost use Rattle.std.specs.Int.{w32};
 ghost use Rattle.log_buffer.specs.Log.{Spells};
+ghost use Rattle.log_buffer.specs.Reads.{IsOnlyRead};
 
 use byteorder::{BigEndian, ByteOrder};
 use je_disk::{Disk, DiskErr};
@@ -36,45 +37,56 @@ pub(crate) fn entry_in(alloc: Global, bytes: &[u8], at: usize) -> Result<Option<
 fn fill<D: Disk>(disk: &mut D, f: FileNo, at: u32, into: &mut [u8]) -> Result<bool, DiskErr>
     ensures whole { D.tells ≡ true → IfOk result (λ whole. IsTrue whole ↔ length into.old ≤ length (drop at (content (now (D.history disk.old)).reads f.0))) }
     ensures bytes { D.tells ≡ true → IfOk result (λ whole. whole ≡ true → into.new ≡ take (length into.old) (drop at (content (now (D.history disk.old)).reads f.0))) }
-    ensures same { D.tells ≡ true → now (D.history disk.new) ≡ now (D.history disk.old) }
-    ensures moments { D.tells ≡ true → Passes (D.history disk.old) (D.history disk.new) (λ s. s ≡ now (D.history disk.old)) }
+    ensures only_read { IsOnlyRead D.tells D.history D.sync_out D.read_out D.read_of disk.old disk.new }
     ensures cause { HasFault (D.faults disk.old) (D.faults disk.new) result }
-    ensures sync_out { D.sync_out disk.new ≡ D.sync_out disk.old }
-    ensures read_out { D.read_out disk.new ≡ D.read_out disk.old }
-    ensures read_of { D.read_of disk.new ≡ D.read_of disk.old }
 {
     let len = into.len();
     let count = disk.read(f, u64::from(at), into)?;
     Ok(count == len)
 }
 
-// The length of the body, as an entry's head says it.
-fn body_len(head: &[u8]) -> u32
+// How many bytes an entry has, as its head says it; none where no entry is so long.
+fn size_by(head: &[u8]) -> Option<usize>
     requires { HEAD ≤ length head.now }
-    ensures { result ≡ number_at w32 10 head.now }
+    ensures { number_at w32 10 head.now ≤ BODY_MAX → result ≡ Some (HEAD + number_at w32 10 head.now) }
 {
-    BigEndian::read_u32(&head[10..])
+    let len = BigEndian::read_u32(&head[10..]);
+    if len > BODY_MAX {
+        return None;
+    }
+    Some(HEAD + len as usize)
 }
 
 // How many bytes the entry has that stands at a place of a file.
 fn size_at<D: Disk>(disk: &mut D, f: FileNo, at: u32) -> Result<Option<usize>, DiskErr>
     ensures found { (entry : Found) → D.tells ≡ true → Spells (drop at (content (now (D.history disk.old)).reads f.0)) entry → IfOk result (λ size. size ≡ Some (size_of entry)) }
-    ensures same { D.tells ≡ true → now (D.history disk.new) ≡ now (D.history disk.old) }
-    ensures moments { D.tells ≡ true → Passes (D.history disk.old) (D.history disk.new) (λ s. s ≡ now (D.history disk.old)) }
+    ensures only_read { IsOnlyRead D.tells D.history D.sync_out D.read_out D.read_of disk.old disk.new }
     ensures cause { HasFault (D.faults disk.old) (D.faults disk.new) result }
-    ensures sync_out { D.sync_out disk.new ≡ D.sync_out disk.old }
-    ensures read_out { D.read_out disk.new ≡ D.read_out disk.old }
-    ensures read_of { D.read_of disk.new ≡ D.read_of disk.old }
 {
     let mut head = [0; HEAD];
     if !fill(disk, f, at, &mut head)? {
         return Ok(None);
     }
-    let len = body_len(&head);
-    if len > BODY_MAX {
+    Ok(size_by(&head))
+}
+
+// The entry that stands at a place of a file and fills this piece, into which its bytes are read.
+fn entry_into<D: Disk>(
+    alloc: Global,
+    disk: &mut D,
+    f: FileNo,
+    at: u32,
+    piece: &mut [u8],
+) -> Result<Option<Entry>, DiskErr>
+    ensures found { (entry : Found) → D.tells ≡ true → length piece.old ≡ size_of entry → Spells (drop at (content (now (D.history disk.old)).reads f.0)) entry → IfOk result (λ found. found ≡ Some entry) }
+    ensures only_read { IsOnlyRead D.tells D.history D.sync_out D.read_out D.read_of disk.old disk.new }
+    ensures cause { HasCause (D.faults disk.old) (D.faults disk.new) result }
+{
+    if !fill(disk, f, at, piece)? {
         return Ok(None);
     }
-    Ok(Some(HEAD + len as usize))
+    let found = entry_in(alloc, piece, 0)?;
+    Ok(found)
 }
 
 // The entry of this size that stands at a place of a file.
@@ -86,20 +98,12 @@ fn entry_of<D: Disk>(
     size: usize,
 ) -> Result<Option<Entry>, DiskErr>
     ensures found { (entry : Found) → D.tells ≡ true → size ≡ size_of entry → Spells (drop at (content (now (D.history disk.old)).reads f.0)) entry → IfOk result (λ found. found ≡ Some entry) }
-    ensures same { D.tells ≡ true → now (D.history disk.new) ≡ now (D.history disk.old) }
-    ensures moments { D.tells ≡ true → Passes (D.history disk.old) (D.history disk.new) (λ s. s ≡ now (D.history disk.old)) }
+    ensures only_read { IsOnlyRead D.tells D.history D.sync_out D.read_out D.read_of disk.old disk.new }
     ensures cause { HasCause (D.faults disk.old) (D.faults disk.new) result }
-    ensures sync_out { D.sync_out disk.new ≡ D.sync_out disk.old }
-    ensures read_out { D.read_out disk.new ≡ D.read_out disk.old }
-    ensures read_of { D.read_of disk.new ≡ D.read_of disk.old }
 {
     let mut bytes = Vec::new(alloc);
     bytes.resize(size, 0)?;
-    if !fill(disk, f, at, bytes.as_mut_slice())? {
-        return Ok(None);
-    }
-    let found = entry_in(alloc, bytes.as_slice(), 0)?;
-    Ok(found)
+    entry_into(alloc, disk, f, at, bytes.as_mut_slice())
 }
 
 // The entry that stands at a place of a file: its head is read, and then all of it.
@@ -110,12 +114,8 @@ pub(crate) fn entry_at<D: Disk>(
     at: u32,
 ) -> Result<Option<Entry>, DiskErr>
     ensures found { (entry : Found) → D.tells ≡ true → Spells (drop at (content (now (D.history disk.old)).reads f.0)) entry → IfOk result (λ found. found ≡ Some entry) }
-    ensures same { D.tells ≡ true → now (D.history disk.new) ≡ now (D.history disk.old) }
-    ensures moments { D.tells ≡ true → Passes (D.history disk.old) (D.history disk.new) (λ s. s ≡ now (D.history disk.old)) }
+    ensures only_read { IsOnlyRead D.tells D.history D.sync_out D.read_out D.read_of disk.old disk.new }
     ensures cause { HasCause (D.faults disk.old) (D.faults disk.new) result }
-    ensures sync_out { D.sync_out disk.new ≡ D.sync_out disk.old }
-    ensures read_out { D.read_out disk.new ≡ D.read_out disk.old }
-    ensures read_of { D.read_of disk.new ≡ D.read_of disk.old }
 {
     match size_at(disk, f, at)? {
         Some(size) => entry_of(alloc, disk, f, at, size),

@@ -7,6 +7,7 @@ ghost use Rattle.log_file.specs.Log.{Log, entries_of};
 ghost use Rattle.log_buffer.specs.Buffer.{disk_of, end_of, file_of, first_of, base_of, has_failed, tail_of, written_of, KeepsTail};
 ghost use Rattle.log_buffer.specs.Flip.{lsn_of};
 ghost use Rattle.log_buffer.specs.Log.{HasLog, Spells, StandsAt, log_without, log_of, log_upto};
+ghost use Rattle.log_buffer.specs.Reads.{IsOnlyRead};
 ghost use Rattle.log_buffer.specs.Crash.{Holds, KeptThrough};
 ghost use Rattle.log_buffer.specs.Causes.{HasCause, FailsByFault};
 
@@ -47,17 +48,12 @@ impl<D: Disk> LogBuffer<D> {
     fn look(&mut self, alloc: Global, at: Lsn) -> Result<Option<Entry>, LogErr>
         ensures found { (log : Log) (entry : Found) → D.tells ≡ true → HasLog D.tells (now (D.history (disk_of self.old))) self.old log → StandsAt log at entry
             → IfOk result (λ found. found ≡ Some entry) }
-        ensures log { (log : Log) → HasLog D.tells (now (D.history (disk_of self.old))) self.old log → HasLog D.tells (now (D.history (disk_of self.new))) self.new log }
-        ensures same { D.tells ≡ true → now (D.history (disk_of self.new)) ≡ now (D.history (disk_of self.old)) }
-        ensures moments { D.tells ≡ true → Passes (D.history (disk_of self.old)) (D.history (disk_of self.new)) (λ s. s ≡ now (D.history (disk_of self.old))) }
+        ensures only_read { IsOnlyRead D.tells D.history D.sync_out D.read_out D.read_of (disk_of self.old) (disk_of self.new) }
         ensures kept { KeepsTail self.old self.new }
         ensures not_full { IsErrOf result LogErr.Full → ⊥ }
         ensures not_damaged { IsErrOf result LogErr.Damaged → ⊥ }
         ensures cause { HasCause (has_failed self.old) (has_failed self.new) (D.faults (disk_of self.old)) (D.faults (disk_of self.new)) result }
         ensures still { has_failed self.old ≡ true → disk_of self.new ≡ disk_of self.old }
-        ensures sync_out { D.sync_out (disk_of self.new) ≡ D.sync_out (disk_of self.old) }
-        ensures read_out { D.read_out (disk_of self.new) ≡ D.read_out (disk_of self.old) }
-        ensures read_of { D.read_of (disk_of self.new) ≡ D.read_of (disk_of self.old) }
     {
         if self.failed {
             return Err(LogErr::Fault);
@@ -72,28 +68,29 @@ impl<D: Disk> LogBuffer<D> {
         Ok(found)
     }
 
+    // The file at whose end the tail's bytes begin.
+    fn first(&self) -> u32
+        ensures { result ≡ first_of self.now }
+    {
+        self.file.0 - self.tail.files() as u32
+    }
+
     // Whether a place of the log is on the disk; else it is in the tail.
     fn is_on_disk(&self, f: FileNo, offset: u32) -> bool
         ensures { IsTrue result ↔ (f.0 < written_of self.now) ⊎ ((f.0 ≡ first_of self.now) × (offset < base_of self.now)) }
     {
-        f.0 < self.written().0
-            || (f.0 == self.file.0 - self.tail.files() as u32 && offset < self.base)
+        f.0 < self.written().0 || (f.0 == self.first() && offset < self.base)
     }
 
     // The entry at a place of a file.
     fn fetch(&mut self, alloc: Global, f: FileNo, offset: u32) -> Result<Option<Entry>, LogErr>
         requires { has_failed self.old ≡ false }
         ensures found { (entry : Found) → D.tells ≡ true → Spells (drop offset (content (now (D.history (disk_of self.old))).reads f.0)) entry → IfOk result (λ found. found ≡ Some entry) }
-        ensures log { (log : Log) → HasLog D.tells (now (D.history (disk_of self.old))) self.old log → HasLog D.tells (now (D.history (disk_of self.new))) self.new log }
-        ensures same { D.tells ≡ true → now (D.history (disk_of self.new)) ≡ now (D.history (disk_of self.old)) }
-        ensures moments { D.tells ≡ true → Passes (D.history (disk_of self.old)) (D.history (disk_of self.new)) (λ s. s ≡ now (D.history (disk_of self.old))) }
+        ensures only_read { IsOnlyRead D.tells D.history D.sync_out D.read_out D.read_of (disk_of self.old) (disk_of self.new) }
         ensures kept { KeepsTail self.old self.new }
         ensures not_full { IsErrOf result LogErr.Full → ⊥ }
         ensures not_damaged { IsErrOf result LogErr.Damaged → ⊥ }
         ensures cause { HasCause (has_failed self.old) (has_failed self.new) (D.faults (disk_of self.old)) (D.faults (disk_of self.new)) result }
-        ensures sync_out { D.sync_out (disk_of self.new) ≡ D.sync_out (disk_of self.old) }
-        ensures read_out { D.read_out (disk_of self.new) ≡ D.read_out (disk_of self.old) }
-        ensures read_of { D.read_of (disk_of self.new) ≡ D.read_of (disk_of self.old) }
     {
         match entry_at(alloc, &mut self.disk, f, offset) {
             Ok(found) => Ok(found),
@@ -105,7 +102,7 @@ impl<D: Disk> LogBuffer<D> {
     fn within_tail(&self, f: FileNo, offset: u32) -> u32
         ensures { result ≡ (if f.0 == first_of self.now then offset - base_of self.now else offset) }
     {
-        if f.0 == self.file.0 - self.tail.files() as u32 {
+        if f.0 == self.first() {
             offset.saturating_sub(self.base)
         } else {
             offset
@@ -120,8 +117,7 @@ impl<D: Disk> LogBuffer<D> {
         if f.0 > self.file.0 {
             return Ok(None);
         }
-        let first = self.file.0 - self.tail.files() as u32;
-        let bytes = self.tail.piece((f.0 - first) as usize);
+        let bytes = self.tail.piece((f.0 - self.first()) as usize);
         if at as usize > bytes.len() {
             return Ok(None);
         }
@@ -238,7 +234,7 @@ impl<D: Disk> LogBuffer<D> {
         ensures below { (f : ℕ) → f < result.0 → tail_of self.now f ≡ [] }
         ensures only { tail_of self.now result.0 ≡ [] → result.0 ≡ file_of self.now }
     {
-        let first = self.file.0 - self.tail.files() as u32;
+        let first = self.first();
         if self.tail.begins_first() {
             FileNo(first + 1)
         } else {

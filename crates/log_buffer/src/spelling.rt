@@ -36,7 +36,10 @@ pub(crate) fn spell_header(piece: &mut Vec<u8>, file: FileNo) -> Result<(), Allo
     ensures fits { header_size ≤ vec_capacity piece.old → IsOk result }
     ensures capacity { vec_capacity piece.old ≤ vec_capacity piece.new }
 {
-    spell(piece, &header(file), 0)
+    let header = header(file);
+    let spelled = spell(piece, &header, 0);
+    drop(header);
+    spelled
 }
 
 // A file's header and first entry, in the place of what was there.

@@ -1,23 +1,9 @@
-use Rattle.std.proofs.Common.{◌≡◌, ℕ, List, length, ap, sym, subst, drop, take, ◌∙◌, arith}
-use Rattle.std.proofs.lemmas.List.{take_at}
-use Rattle.je_disk.specs.Moments.{now}
-use Rattle.je_disk.specs.States.{content}
-use Rattle.log_buffer.specs.Log.{Spells}
-use Rattle.log_buffer.proofs.Fetched.{spells_size, spells_taken, not_whole}
+use Rattle.std.proofs.Common.{◌∙◌}
+use Rattle.log_buffer.proofs.OnlyRead.{read_none}
 use Rattle.log_buffer.proofs.fetching.entry_of.Goals as goal
 
-pub returns-then-not-branch-clause-found : goal.returns-then-not-branch-clause-found
-returns-then-not-branch-clause-found g c =
-    λ entry told is spells.
-    let size = spells_size (drop c.args.at (content (now (g.D.Disk.history c.args.disk.now)).reads c.args.f.0)) entry spells in
-    let len = c.as_mut_slice.ensures.len in
-    let all = c.in_ok-resize.ensures.len in
-    absurd (not_whole c.in_ok-fill.field-0 _ _ (c.in_ok-fill.ensures.whole told) c.if-not-branch.true (omega (arith, len, all, is)))
+pub returns-in_err-resize-clause-only_read : goal.returns-in_err-resize-clause-only_read
+returns-in_err-resize-clause-only_read g c = read_none g.D.Disk.tells g.D.Disk.history g.D.Disk.sync_out g.D.Disk.read_out g.D.Disk.read_of c.args.disk.now
 
 pub returns-clause-found : goal.returns-clause-found
-returns-clause-found g c =
-    λ entry told is spells.
-    let bytes = drop c.args.at (content (now (g.D.Disk.history c.args.disk.now)).reads c.args.f.0) in
-    let len : length c.as_mut_slice.result.now ≡ c.args.size = c.as_mut_slice.ensures.len ∙ c.in_ok-resize.ensures.len in
-    let filled : c.as_slice.result.now ≡ take c.args.size bytes = c.as_slice.ensures.value ∙ take_at c.fill.new.into _ c.resize.new.self.len (c.fill.auto.into ∙ c.as_mut_slice.ensures.len) ∙ c.in_ok-fill.ensures.bytes told c.if-not-branch.false ∙ ap (λ (n : ℕ). take n bytes) len in
-    (c.in_ok-found.ensures entry (subst (λ (x : List ℕ). Spells x entry) (sym filled) (spells_taken bytes c.args.size entry is spells)))
+returns-clause-found g c = λ entry told is spells. c.entry_into.ensures.found entry told (c.as_mut_slice.ensures.len ∙ c.in_ok-resize.ensures.len ∙ is) spells

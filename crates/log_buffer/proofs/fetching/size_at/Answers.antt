@@ -1,4 +1,4 @@
-use Rattle.std.proofs.Common.{ℕ, ◌+◌, ap, Some, Option, drop, ◌∙◌, arith}
+use Rattle.std.proofs.Common.{ℕ, ◌+◌, ◌≤◌, ap, Some, Option, drop, sym, subst, ◌∙◌, arith}
 use Rattle.je_disk.specs.Moments.{now}
 use Rattle.je_disk.specs.States.{content}
 use Rattle.log_entry.proofs.BodyLaws.{body_small}
@@ -11,16 +11,9 @@ returns-then-not-branch-clause-found g c =
     let size = spells_size (drop c.args.at (content (now (g.D.Disk.history c.args.disk.now)).reads c.args.f.0)) entry spells in
     absurd (not_whole c.in_ok-fill.field-0 14 _ (c.in_ok-fill.ensures.whole told) c.if-not-branch.true (omega arith))
 
-pub returns-then-len-gt-BODY_MAX-clause-found : goal.returns-then-len-gt-BODY_MAX-clause-found
-returns-then-len-gt-BODY_MAX-clause-found g c =
-    λ entry told spells.
-    let len = head_len (drop c.args.at (content (now (g.D.Disk.history c.args.disk.now)).reads c.args.f.0)) c.fill.new.into entry (c.in_ok-fill.ensures.bytes told c.if-not-branch.false) spells in
-    let most = body_small entry spells.is_entry in
-    let past = c.if-len-gt-BODY_MAX.true in
-    absurd (omega (arith, c.body_len-len.ensures ∙ len))
-
 pub returns-clause-found : goal.returns-clause-found
 returns-clause-found g c =
     λ entry told spells.
     let len = head_len (drop c.args.at (content (now (g.D.Disk.history c.args.disk.now)).reads c.args.f.0)) c.fill.new.into entry (c.in_ok-fill.ensures.bytes told c.if-not-branch.false) spells in
-    ap (λ (n : ℕ). let o : Option ℕ = Some (14 + n) in o) (c.body_len-len.ensures ∙ len)
+    let most = body_small entry spells.is_entry in
+    c.size_by.ensures (subst (λ (n : ℕ). n ≤ 20000004) (sym len) most) ∙ ap (λ (n : ℕ). let o : Option ℕ = Some (14 + n) in o) len

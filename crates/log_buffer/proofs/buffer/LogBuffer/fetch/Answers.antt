@@ -1,22 +1,19 @@
-use Rattle.std.proofs.Common.{refl, ap, le_refl}
-use Rattle.je_disk.specs.States.{State}
-use Rattle.log_buffer.proofs.Still.{log_still, tail_kept}
+use Rattle.std.proofs.Common.{refl, le_refl}
+use Rattle.log_buffer.proofs.Still.{tail_kept}
 use Rattle.log_buffer.proofs.Causing.{cause_ok, cause_judged, judged_not}
 use Rattle.log_buffer.proofs.buffer.LogBuffer.fetch.Goals as goal
 
 pub returns-in-Ok-clause-found : goal.returns-in-Ok-clause-found
 returns-in-Ok-clause-found g c = λ entry told spells. c.in-Ok.ensures.found entry told spells
 
-pub returns-in-Ok-clause-log : goal.returns-in-Ok-clause-log
-returns-in-Ok-clause-log g c =
-    λ log has. log_still g.D.Disk.tells _ _ c.args.self.now _ log (λ told. ap (λ (s : State). s.reads) (c.entry_at.ensures.same told)) (tail_kept c.args.self.now _ refl refl refl refl refl refl (le_refl _) (le_refl _) (le_refl _)) has
+pub returns-in-Ok-clause-only_read : goal.returns-in-Ok-clause-only_read
+returns-in-Ok-clause-only_read g c = c.entry_at.ensures.only_read
 
 pub returns-in-Ok-clause-kept : goal.returns-in-Ok-clause-kept
 returns-in-Ok-clause-kept g c = tail_kept c.args.self.now _ refl refl refl refl refl refl (le_refl _) (le_refl _) (le_refl _)
 
-pub returns-in-Err-clause-log : goal.returns-in-Err-clause-log
-returns-in-Err-clause-log g c =
-    λ log has. log_still g.D.Disk.tells _ _ c.args.self.now _ log (λ told. ap (λ (s : State). s.reads) (c.entry_at.ensures.same told)) (tail_kept c.args.self.now _ refl refl refl refl refl refl (le_refl _) (le_refl _) (le_refl _)) has
+pub returns-in-Err-clause-only_read : goal.returns-in-Err-clause-only_read
+returns-in-Err-clause-only_read g c = c.entry_at.ensures.only_read
 
 pub returns-in-Err-clause-kept : goal.returns-in-Err-clause-kept
 returns-in-Err-clause-kept g c = tail_kept c.args.self.now _ refl refl refl refl refl refl (le_refl _) (le_refl _) (le_refl _)

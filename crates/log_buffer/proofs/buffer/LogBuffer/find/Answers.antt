@@ -1,4 +1,4 @@
-use Rattle.std.proofs.Common.{◌-◌, ap, sym, ◌∙◌, length, arith}
+use Rattle.std.proofs.Common.{◌-◌, ap, length, arith}
 use Rattle.log_buffer.specs.Tail.{bytes_for}
 use Rattle.log_buffer.proofs.Tails.{bytes_for_from}
 use Rattle.log_buffer.proofs.Fetched.{spells_in}
@@ -10,9 +10,10 @@ returns-then-at-bytes g c =
     let old = c.args.self.now in
     let le = old.files in
     let low = c.requires in
-    let count = c.files.ensures in
-    let same = bytes_for_from old.tail.bytes.items old.tail.starts.items old.file.0 c.args.f.0 (c.args.f.0 - (old.file.0 - c.files.result)) le (omega (arith, count)) in
-    let len = ap length (same ∙ sym c.piece-bytes.ensures) in
+    let first = c.first.ensures in
+    let same = bytes_for_from old.tail.bytes.items old.tail.starts.items old.file.0 c.args.f.0 (c.args.f.0 - c.first.result) le (omega (arith, first)) in
+    let len = ap length c.piece-bytes.ensures in
+    let size = ap length same in
     let lt = spells_in (bytes_for old.tail.bytes.items old.tail.starts.items old.file.0 c.args.f.0) c.args.at entry spells in
     let past = c.if-at-bytes.true in
-    absurd (omega (arith, len))
+    absurd (omega (arith, len, size))

@@ -2,6 +2,8 @@ use Rattle.std.proofs.Common.{ℕ, refl, sym, subst, drop, le_refl}
 use Rattle.je_disk.specs.Moments.{now}
 use Rattle.log_buffer.specs.Buffer.{tail_of}
 use Rattle.log_buffer.specs.Log.{Spells}
+use Rattle.log_buffer.proofs.OnlyRead.{read_none}
+use Rattle.log_buffer.proofs.Still.{tail_same}
 use Rattle.log_buffer.proofs.Causing.{cause_ok, cause_failed}
 use Rattle.log_buffer.proofs.Fetched.{standing, on_disk, in_the_tail}
 use Rattle.log_buffer.proofs.buffer.LogBuffer.look.Goals as goal
@@ -31,3 +33,27 @@ returns-then-is_on_disk-clause-cause g c = c.fetch.ensures.cause
 
 pub returns-clause-cause : goal.returns-clause-cause
 returns-clause-cause g c = cause_ok _ _ _ _ _ c.if-self.false c.if-self.false (le_refl _)
+
+pub returns-then-is_on_disk-clause-only_read : goal.returns-then-is_on_disk-clause-only_read
+returns-then-is_on_disk-clause-only_read g c = c.fetch.ensures.only_read
+
+pub returns-then-is_on_disk-clause-kept : goal.returns-then-is_on_disk-clause-kept
+returns-then-is_on_disk-clause-kept g c = c.fetch.ensures.kept
+
+pub returns-then-self-clause-only_read : goal.returns-then-self-clause-only_read
+returns-then-self-clause-only_read g c = read_none g.D.Disk.tells g.D.Disk.history g.D.Disk.sync_out g.D.Disk.read_out g.D.Disk.read_of c.args.self.now.disk
+
+pub returns-then-self-clause-kept : goal.returns-then-self-clause-kept
+returns-then-self-clause-kept g c = tail_same c.args.self.now
+
+pub returns-in_err-found-clause-only_read : goal.returns-in_err-found-clause-only_read
+returns-in_err-found-clause-only_read g c = read_none g.D.Disk.tells g.D.Disk.history g.D.Disk.sync_out g.D.Disk.read_out g.D.Disk.read_of c.args.self.now.disk
+
+pub returns-in_err-found-clause-kept : goal.returns-in_err-found-clause-kept
+returns-in_err-found-clause-kept g c = tail_same c.args.self.now
+
+pub returns-clause-only_read : goal.returns-clause-only_read
+returns-clause-only_read g c = read_none g.D.Disk.tells g.D.Disk.history g.D.Disk.sync_out g.D.Disk.read_out g.D.Disk.read_of c.args.self.now.disk
+
+pub returns-clause-kept : goal.returns-clause-kept
+returns-clause-kept g c = tail_same c.args.self.now
