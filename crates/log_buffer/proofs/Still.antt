@@ -1,5 +1,5 @@
 -- A buffer whose tail stays as it was.
-use Rattle.std.proofs.Common.{◌≡◌, ℕ, ◌-◌, ◌≤◌, ◌<◌, Bool, true, List, None, length, vec_capacity, refl, sym, ap, ap₂, subst, ◌∙◌, le_refl, le_trans, arith}
+use Rattle.std.proofs.Common.{◌≡◌, ℕ, ◌-◌, ◌≤◌, ◌<◌, ◌^◌, Bool, true, List, None, length, vec_capacity, refl, sym, ap, ap₂, subst, ◌∙◌, le_refl, le_trans, arith}
 use Rattle.je_disk.specs.States.{State, Files, content}
 use Rattle.log_file.specs.Log.{Log, files_of_log}
 use Rattle.log_buffer.specs.declared.place.Place.{Place}
@@ -59,3 +59,21 @@ module _ {D : Type 0} where
 
   pub tail_same : (buffer : LogBuffer D) → KeepsTail buffer buffer
   tail_same buffer = tail_kept buffer buffer refl refl refl refl refl refl (le_refl _) (le_refl _) (le_refl _)
+
+  -- where only the disk below has changed, or the word whether the buffer has failed
+  pub tail_over : (buffer : LogBuffer D) {disk : D} {failed : Bool} {last_file : buffer.file.0 ≤ 0xfffffffe} {max : buffer.file_max ≤ 2 ^ 30} {files : length buffer.tail.starts.items ≤ buffer.file.0}
+      → KeepsTail buffer (record {
+        disk = disk;
+        tail = buffer.tail;
+        piece = buffer.piece;
+        file = buffer.file;
+        offset = buffer.offset;
+        last = buffer.last;
+        base = buffer.base;
+        file_max = buffer.file_max;
+        failed = failed;
+        last_file = last_file;
+        max = max;
+        files = files;
+      })
+  tail_over buffer = tail_kept buffer _ refl refl refl refl refl refl (le_refl _) (le_refl _) (le_refl _)

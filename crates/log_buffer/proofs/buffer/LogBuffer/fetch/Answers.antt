@@ -1,5 +1,4 @@
-use Rattle.std.proofs.Common.{refl, le_refl}
-use Rattle.log_buffer.proofs.Still.{tail_kept}
+use Rattle.log_buffer.proofs.Still.{tail_over}
 use Rattle.log_buffer.proofs.Causing.{cause_ok, cause_judged, judged_not}
 use Rattle.log_buffer.proofs.buffer.LogBuffer.fetch.Goals as goal
 
@@ -10,13 +9,13 @@ pub returns-in-Ok-clause-only_read : goal.returns-in-Ok-clause-only_read
 returns-in-Ok-clause-only_read g c = c.entry_at.ensures.only_read
 
 pub returns-in-Ok-clause-kept : goal.returns-in-Ok-clause-kept
-returns-in-Ok-clause-kept g c = tail_kept c.args.self.now _ refl refl refl refl refl refl (le_refl _) (le_refl _) (le_refl _)
+returns-in-Ok-clause-kept g c = tail_over c.args.self.now
 
 pub returns-in-Err-clause-only_read : goal.returns-in-Err-clause-only_read
 returns-in-Err-clause-only_read g c = c.entry_at.ensures.only_read
 
 pub returns-in-Err-clause-kept : goal.returns-in-Err-clause-kept
-returns-in-Err-clause-kept g c = tail_kept c.args.self.now _ refl refl refl refl refl refl (le_refl _) (le_refl _) (le_refl _)
+returns-in-Err-clause-kept g c = tail_over c.args.self.now
 
 pub returns-in-Ok-clause-cause : goal.returns-in-Ok-clause-cause
 returns-in-Ok-clause-cause g c = cause_ok _ _ _ _ _ c.requires c.requires c.entry_at.ensures.cause.never_falls

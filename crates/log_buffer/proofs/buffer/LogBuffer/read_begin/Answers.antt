@@ -1,15 +1,15 @@
-use Rattle.std.proofs.Common.{refl, sym, ap, subst, le_refl}
+use Rattle.std.proofs.Common.{refl, sym, ap, subst}
 use Rattle.je_disk.specs.States.{State}
 use Rattle.log_buffer.specs.Buffer.{first_of}
 use Rattle.log_buffer.specs.Crash.{Holds}
 use Rattle.log_buffer.proofs.KeptSyncs.{same_through}
-use Rattle.log_buffer.proofs.Still.{log_still, tail_kept, tail_same}
+use Rattle.log_buffer.proofs.Still.{log_still, tail_over, tail_same}
 use Rattle.log_buffer.proofs.Causing.{cause_ok, cause_failed, cause_fault}
 use Rattle.log_buffer.proofs.buffer.LogBuffer.read_begin.Goals as goal
 
 pub returns-in-Ok-clause-log : goal.returns-in-Ok-clause-log
 returns-in-Ok-clause-log g c =
-    λ log has. log_still g.D.Disk.tells _ _ c.args.self.now _ log (λ told. ap (λ (s : State). s.reads) (c.read_job.ensures.same told)) (tail_kept c.args.self.now _ refl refl refl refl refl refl (le_refl _) (le_refl _) (le_refl _)) has
+    λ log has. log_still g.D.Disk.tells _ _ c.args.self.now _ log (λ told. ap (λ (s : State). s.reads) (c.read_job.ensures.same told)) (tail_over c.args.self.now) has
 
 pub returns-in-Ok-clause-crash : goal.returns-in-Ok-clause-crash
 returns-in-Ok-clause-crash g c = λ told log removed least begun has h. same_through log removed least (first_of c.args.self.now) begun _ _ (c.read_job.ensures.moments told) h
@@ -18,11 +18,11 @@ pub returns-in-Ok-clause-holds : goal.returns-in-Ok-clause-holds
 returns-in-Ok-clause-holds g c = λ told log removed least begun has h. subst (Holds log removed least begun (first_of c.args.self.now)) (sym (c.read_job.ensures.same told)) h
 
 pub returns-in-Ok-clause-kept : goal.returns-in-Ok-clause-kept
-returns-in-Ok-clause-kept g c = tail_kept c.args.self.now _ refl refl refl refl refl refl (le_refl _) (le_refl _) (le_refl _)
+returns-in-Ok-clause-kept g c = tail_over c.args.self.now
 
 pub returns-in-Err-clause-log : goal.returns-in-Err-clause-log
 returns-in-Err-clause-log g c =
-    λ log has. log_still g.D.Disk.tells _ _ c.args.self.now _ log (λ told. ap (λ (s : State). s.reads) (c.read_job.ensures.same told)) (tail_kept c.args.self.now _ refl refl refl refl refl refl (le_refl _) (le_refl _) (le_refl _)) has
+    λ log has. log_still g.D.Disk.tells _ _ c.args.self.now _ log (λ told. ap (λ (s : State). s.reads) (c.read_job.ensures.same told)) (tail_over c.args.self.now) has
 
 pub returns-in-Err-clause-crash : goal.returns-in-Err-clause-crash
 returns-in-Err-clause-crash g c = λ told log removed least begun has h. same_through log removed least (first_of c.args.self.now) begun _ _ (c.read_job.ensures.moments told) h
@@ -31,7 +31,7 @@ pub returns-in-Err-clause-holds : goal.returns-in-Err-clause-holds
 returns-in-Err-clause-holds g c = λ told log removed least begun has h. subst (Holds log removed least begun (first_of c.args.self.now)) (sym (c.read_job.ensures.same told)) h
 
 pub returns-in-Err-clause-kept : goal.returns-in-Err-clause-kept
-returns-in-Err-clause-kept g c = tail_kept c.args.self.now _ refl refl refl refl refl refl (le_refl _) (le_refl _) (le_refl _)
+returns-in-Err-clause-kept g c = tail_over c.args.self.now
 
 pub returns-in-Ok-clause-cause : goal.returns-in-Ok-clause-cause
 returns-in-Ok-clause-cause g c = cause_ok _ _ _ _ _ c.if-self.false refl c.read_job.ensures.cause.never_falls

@@ -1,4 +1,4 @@
-use Rattle.std.proofs.Common.{ℕ, ◌-◌, ◌++◌, length, option_map, refl, sym, subst, le_refl, arith}
+use Rattle.std.proofs.Common.{ℕ, ◌-◌, ◌++◌, length, option_map, refl, sym, subst, arith}
 use Rattle.je_disk.specs.Moments.{now}
 use Rattle.log_buffer.proofs.Tails.{none_below, first_for_le, first_or_below}
 use Rattle.log_buffer.proofs.Ending.{log_removed}
@@ -7,7 +7,7 @@ use Rattle.log_buffer.specs.Buffer.{first_of}
 use Rattle.log_buffer.specs.Log.{log_without, log_of}
 use Rattle.log_buffer.specs.Crash.{Holds}
 use Rattle.log_buffer.proofs.KeptRemoved.{holds_removed, removed_through}
-use Rattle.log_buffer.proofs.Still.{tail_kept, tail_same}
+use Rattle.log_buffer.proofs.Still.{tail_over, tail_same}
 use Rattle.log_buffer.proofs.Causing.{cause_ok, cause_failed, cause_fault}
 use Rattle.log_buffer.proofs.buffer.LogBuffer.remove.Goals as goal
 
@@ -48,10 +48,10 @@ pub returns-then-self-clause-kept : goal.returns-then-self-clause-kept
 returns-then-self-clause-kept g c = tail_same c.args.self.now
 
 pub returns-in-Ok-clause-kept : goal.returns-in-Ok-clause-kept
-returns-in-Ok-clause-kept g c = tail_kept c.args.self.now _ refl refl refl refl refl refl (le_refl _) (le_refl _) (le_refl _)
+returns-in-Ok-clause-kept g c = tail_over c.args.self.now
 
 pub returns-in-Err-clause-kept : goal.returns-in-Err-clause-kept
-returns-in-Err-clause-kept g c = tail_kept c.args.self.now _ refl refl refl refl refl refl (le_refl _) (le_refl _) (le_refl _)
+returns-in-Err-clause-kept g c = tail_over c.args.self.now
 
 pub returns-in-Ok-clause-cause : goal.returns-in-Ok-clause-cause
 returns-in-Ok-clause-cause g c = cause_ok _ _ _ _ _ c.if-self.false refl c.remove.ensures.cause.never_falls

@@ -1,11 +1,11 @@
-use Rattle.std.proofs.Common.{Some, length, refl, sym, ap, subst, le_refl, arith}
+use Rattle.std.proofs.Common.{Some, length, refl, sym, ap, subst, arith}
 use Rattle.je_disk.specs.Moments.{now}
 use Rattle.je_disk.specs.States.{State}
 use Rattle.log_file.specs.Log.{entries_of}
 use Rattle.log_buffer.specs.Buffer.{file_of, offset_of, last_of, first_of}
 use Rattle.log_buffer.specs.Crash.{Holds}
 use Rattle.log_buffer.proofs.KeptSyncs.{holds_begun, begun_through}
-use Rattle.log_buffer.proofs.Still.{log_still, tail_kept}
+use Rattle.log_buffer.proofs.Still.{log_still, tail_over}
 use Rattle.log_buffer.proofs.Causing.{cause_err, err_is, cause_then_ok, cause_then_fault}
 use Rattle.log_buffer.proofs.buffer.LogBuffer.sync_begin.Goals as goal
 
@@ -22,7 +22,7 @@ pub returns-in-Ok-clause-log : goal.returns-in-Ok-clause-log
 returns-in-Ok-clause-log g c =
     let written = c.write_out.new.self in
     λ log has.
-    log_still g.D.Disk.tells (now (g.D.Disk.history written.disk)) _ written _ log (λ told. ap (λ (s : State). s.reads) (c.in-Ok.ensures.done told)) (tail_kept written _ refl refl refl refl refl refl (le_refl _) (le_refl _) (le_refl _)) (c.in_ok-write_out.ensures.log log has)
+    log_still g.D.Disk.tells (now (g.D.Disk.history written.disk)) _ written _ log (λ told. ap (λ (s : State). s.reads) (c.in-Ok.ensures.done told)) (tail_over written) (c.in_ok-write_out.ensures.log log has)
 
 pub returns-in-Ok-clause-crash : goal.returns-in-Ok-clause-crash
 returns-in-Ok-clause-crash g c =
