@@ -1,10 +1,10 @@
 """Tells the quiet moments of a machine that others share.
 
-A processor of a virtual machine is a part of one that other machines use too. While these work, the same program
-takes up to twice as long, and which of its runs that befalls is chance. So two fixed pieces of work, one that the
-processor does alone and one that waits for memory, are timed on one processor after another, until one does both
-about as fast as they were ever done here; a program is run there, and the work is timed again behind it. A run
-counts where both were done about as fast before and behind it.
+On a virtual machine the same program takes its least time now and up to twice as long then, for seconds on end, and
+which of its runs that befalls is chance. The cause is probably that other machines work on the same processor; it was
+not shown. So two fixed pieces of work, one that the processor does alone and one that waits for memory, are timed on
+one processor after another, until one does both about as fast as they were ever done here; a program is run there,
+and the work is timed again behind it. A run counts where both were done about as fast before and behind it.
 """
 
 import hashlib
