@@ -1,5 +1,5 @@
 // Entries as they are read back.
-ghost use Rattle.std.specs.Prelude.{◌≡◌, ◌+◌, ◌≤◌, ◌↔◌, true, Some, length, take, drop, IsTrue, IfOk};
+ghost use Rattle.std.specs.Prelude.{◌≡◌, ◌+◌, ◌≤◌, ◌<◌, ◌↔◌, true, Some, None, length, take, drop, IsTrue, IfOk};
 ghost use Rattle.je_disk.specs.Causes.{HasFault, HasCause};
 ghost use Rattle.je_disk.specs.Moments.{now};
 ghost use Rattle.je_disk.specs.States.{content};
@@ -48,7 +48,8 @@ fn fill<D: Disk>(disk: &mut D, f: FileNo, at: u32, into: &mut [u8]) -> Result<bo
 // How many bytes an entry has, as its head says it; none where no entry is so long.
 fn size_by(head: &[u8]) -> Option<usize>
     requires { HEAD ≤ length head.now }
-    ensures { number_at w32 10 head.now ≤ BODY_MAX → result ≡ Some (HEAD + number_at w32 10 head.now) }
+    ensures within { number_at w32 10 head.now ≤ BODY_MAX → result ≡ Some (HEAD + number_at w32 10 head.now) }
+    ensures beyond { BODY_MAX < number_at w32 10 head.now → result ≡ None }
 {
     let len = BigEndian::read_u32(&head[10..]);
     if len > BODY_MAX {

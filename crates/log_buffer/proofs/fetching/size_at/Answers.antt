@@ -16,4 +16,4 @@ returns-clause-found g c =
     λ entry told spells.
     let len = head_len (drop c.args.at (content (now (g.D.Disk.history c.args.disk.now)).reads c.args.f.0)) c.fill.new.into entry (c.in_ok-fill.ensures.bytes told c.if-not-branch.false) spells in
     let most = body_small entry spells.is_entry in
-    c.size_by.ensures (subst (λ (n : ℕ). n ≤ 20000004) (sym len) most) ∙ ap (λ (n : ℕ). let o : Option ℕ = Some (14 + n) in o) len
+    c.size_by.ensures.within (subst (λ (n : ℕ). n ≤ 20000004) (sym len) most) ∙ ap (λ (n : ℕ). let o : Option ℕ = Some (14 + n) in o) len
