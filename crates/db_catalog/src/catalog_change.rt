@@ -3,7 +3,7 @@ use crate::DbRecord;
 use je_order::Word;
 
 /// A change of one record of the catalog: what is logged in database 0.
-#[derive(Debug, Drop, PartialEq, Eq)]
+#[derive(Drop, PartialEq, Eq)]
 pub enum CatalogChange {
     /// Sets the record of a name.
     Put { db: Word, row: DbRecord },

@@ -13,7 +13,7 @@ const MOST_OFFSET: u32 = 65_535;
 const MOST_SLICE: u32 = 4_096;
 
 /// How a database keeps its records.
-#[derive(Clone, Copy, Debug, PartialEq, Eq)]
+#[derive(Clone, Copy, PartialEq, Eq)]
 pub enum DbKind {
     /// One record for each key: the byte 0.
     Plain,

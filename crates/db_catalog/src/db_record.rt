@@ -8,7 +8,7 @@ use je_bytes::{Reader, put_u32};
 use std::alloc::{AllocError, Global};
 
 /// A database's number and kind. The number names the database in the log; it is never drawn twice.
-#[derive(Clone, Copy, Debug, PartialEq, Eq)]
+#[derive(Clone, Copy, PartialEq, Eq)]
 pub struct DbRecord {
     pub number: u32,
     pub kind: DbKind,

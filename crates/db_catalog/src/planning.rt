@@ -10,7 +10,7 @@ use je_order::{List, Word, copy_of};
 use std::alloc::{AllocError, Global};
 
 /// What a call comes to: its answer, and the changes that it makes, in order.
-#[derive(Debug, Drop)]
+#[derive(Drop)]
 pub struct CatalogPlan {
     pub answer: Answer,
     pub changes: List<Change>,

@@ -6,7 +6,7 @@ use log_replay::Finding;
 
 /// Why a program ended as it did, before its output was written. Each has a status and a fault line of
 /// its own (docs/ANSWERS.md).
-#[derive(Clone, Copy, Debug, PartialEq, Eq)]
+#[derive(Clone, Copy, PartialEq, Eq)]
 pub enum Cause {
     /// All was done: 0, and no fault line.
     Done,

@@ -20,7 +20,7 @@ use log_replay::{SortKey, number_of as number_in_record};
 use std::alloc::{AllocError, Global};
 
 /// What a call of a valid environment comes to, before anything is changed.
-#[derive(Debug, Drop)]
+#[derive(Drop)]
 pub enum Planned {
     /// An answer, and nothing to log.
     Answered(Answer),

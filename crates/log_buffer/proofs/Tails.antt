@@ -1,13 +1,26 @@
 -- What the tail has for each file, as it grows.
 use Rattle.std.proofs.Common.{◌≡◌, ◌≢◌, ℕ, zero, suc, ◌+◌, ◌-◌, ◌<◌, ◌≤◌, ◌⊎◌, inl, inr, List, [], ◌∷◌, ◌++◌, length, take, drop, get_or, refl, sym, ap, ap₂, ◌∙◌, arith, length-append}
 use Rattle.std.specs.Prelude.{slice_range, nat_le, if◌then◌else◌, true, false, Bool, ◌==◌}
-use Rattle.std.proofs.lemmas.List.{get_or_default, get_or_past, get_or_append_left, get_or_push, take_at, append-nil}
+use Rattle.std.proofs.lemmas.List.{get_or_default, get_or_past, get_or_append_left, get_or_push, take_all, take-append-le, drop-append-le}
+use Rattle.std.proofs.lemmas.Slice.{between_is}
 use Rattle.std.proofs.lemmas.Bool.{cases_order}
-use Rattle.bytes.proofs.Ranges.{slice_range_front, slice_range_grown}
 use Rattle.std.proofs.lemmas.Bool.{eqb-true}
 use Rattle.std.proofs.lemmas.List.{length-drop, length-take}
 use Rattle.log_buffer.specs.Tail.{start_of, stop_of, piece_of, bytes_for, first_for}
 use Rattle.log_buffer.proofs.Pieces.{IsCut, stop_within, start_before, begun_has_bytes}
+
+-- a piece of the bytes is the same piece of more bytes
+piece_in_front : (bytes more : List ℕ) (s e : ℕ) → e ≤ length bytes → slice_range bytes s e ≡ slice_range (bytes ++ more) s e
+piece_in_front bytes more s e le = between_is bytes s e ∙ ap (drop s) (sym (take-append-le e bytes more le)) ∙ sym (between_is (bytes ++ more) s e)
+
+-- to their end it is what is left out of their front
+piece_to_end : (bytes : List ℕ) (s : ℕ) → slice_range bytes s (length bytes) ≡ drop s bytes
+piece_to_end bytes s = between_is bytes s (length bytes) ∙ ap (drop s) (take_all (length bytes) bytes (omega arith))
+
+-- and grows by what is put behind them
+piece_grown : (bytes more : List ℕ) (s : ℕ) → s ≤ length bytes → slice_range (bytes ++ more) s (length (bytes ++ more)) ≡ slice_range bytes s (length bytes) ++ more
+piece_grown bytes more s le =
+    piece_to_end (bytes ++ more) s ∙ drop-append-le s bytes more le ∙ ap (λ (x : List ℕ). x ++ more) (sym (piece_to_end bytes s))
 
 -- a range with nothing between
 none_between : (bytes : List ℕ) (s : ℕ) → slice_range bytes s s ≡ []
@@ -31,26 +44,21 @@ start_same : (bytes more starts : List ℕ) (i : ℕ) → i ≤ length starts �
 start_same bytes more starts zero le = refl
 start_same bytes more starts (suc i) le = get_or_default starts i (length (bytes ++ more)) (length bytes) (omega arith)
 
-front_of : (bytes more : List ℕ) → take (length bytes) (bytes ++ more) ≡ bytes
-front_of bytes more = take_at bytes more (length bytes) refl
-
 -- the last piece grows
 pub piece_push : (bytes more starts : List ℕ) → IsCut (length bytes) starts → (i : ℕ) → i ≡ length starts → piece_of (bytes ++ more) starts i ≡ piece_of bytes starts i ++ more
 piece_push bytes more starts cut i is =
     let p : stop_of (bytes ++ more) starts i ≡ length (bytes ++ more) = get_or_past starts i (length (bytes ++ more)) (omega arith) in
     let q : stop_of bytes starts i ≡ length bytes = get_or_past starts i (length bytes) (omega arith) in
     let a = start_before bytes starts cut i in
-    let all : take (length (bytes ++ more)) (bytes ++ more) ≡ bytes ++ more = ap (λ (x : List ℕ). take (length (bytes ++ more)) x) (sym (append-nil (bytes ++ more))) ∙ take_at (bytes ++ more) [] (length (bytes ++ more)) refl in
-    let whole : take (length bytes) bytes ≡ bytes = ap (take (length bytes)) (sym (append-nil bytes)) ∙ take_at bytes [] (length bytes) refl in
     range_is (bytes ++ more) _ _ _ _ (start_same bytes more starts i (omega arith)) p
-    ∙ slice_range_grown bytes (bytes ++ more) more (start_of bytes starts i) (length bytes) (length (bytes ++ more)) (omega (arith, q)) (omega arith) (all ∙ ap (λ (x : List ℕ). x ++ more) (sym whole))
+    ∙ piece_grown bytes more (start_of bytes starts i) (omega (arith, q))
     ∙ ap (λ (n : ℕ). slice_range bytes (start_of bytes starts i) n ++ more) (sym q)
 
 -- the others stay
 pub piece_same : (bytes more starts : List ℕ) → IsCut (length bytes) starts → (i : ℕ) → i < length starts → piece_of (bytes ++ more) starts i ≡ piece_of bytes starts i
 piece_same bytes more starts cut i lt =
     range_is (bytes ++ more) _ _ _ _ (start_same bytes more starts i (omega arith)) (get_or_default starts i (length (bytes ++ more)) (length bytes) lt)
-    ∙ sym (slice_range_front bytes (bytes ++ more) (start_of bytes starts i) (stop_of bytes starts i) (length bytes) (front_of bytes more) (stop_within bytes starts cut i))
+    ∙ sym (piece_in_front bytes more (start_of bytes starts i) (stop_of bytes starts i) (stop_within bytes starts cut i))
 
 -- a piece that begins has what was pushed, and the others stay
 stop_begun : (bytes more starts : List ℕ) (i : ℕ) → i ≤ length starts → stop_of (bytes ++ more) (starts ++ length bytes ∷ []) i ≡ stop_of bytes starts i
@@ -67,7 +75,7 @@ start_begun bytes more starts (suc i) le = get_or_append_left starts (length byt
 pub piece_kept : (bytes more starts : List ℕ) → IsCut (length bytes) starts → (i : ℕ) → i ≤ length starts → piece_of (bytes ++ more) (starts ++ length bytes ∷ []) i ≡ piece_of bytes starts i
 piece_kept bytes more starts cut i le =
     range_is (bytes ++ more) _ _ _ _ (start_begun bytes more starts i le) (stop_begun bytes more starts i le)
-    ∙ sym (slice_range_front bytes (bytes ++ more) (start_of bytes starts i) (stop_of bytes starts i) (length bytes) (front_of bytes more) (stop_within bytes starts cut i))
+    ∙ sym (piece_in_front bytes more (start_of bytes starts i) (stop_of bytes starts i) (stop_within bytes starts cut i))
 
 pub piece_begun : (bytes more starts : List ℕ) (i : ℕ) → i ≡ length starts + 1 → piece_of (bytes ++ more) (starts ++ length bytes ∷ []) i ≡ more
 piece_begun bytes more starts zero is = absurd (omega arith)
@@ -75,8 +83,7 @@ piece_begun bytes more starts (suc i) is =
     let p : stop_of (bytes ++ more) (starts ++ length bytes ∷ []) (suc i) ≡ length (bytes ++ more) = get_or_past (starts ++ length bytes ∷ []) (suc i) (length (bytes ++ more)) (omega (arith, length-append starts (length bytes ∷ []))) in
     let s : start_of (bytes ++ more) (starts ++ length bytes ∷ []) (suc i) ≡ length bytes = get_or_push starts (length bytes) (length (bytes ++ more)) i (omega arith) in
     range_is (bytes ++ more) _ _ _ _ s p
-    ∙ slice_range_grown bytes (bytes ++ more) more (length bytes) (length bytes) (length (bytes ++ more)) (omega arith) (omega arith)
-    (ap (λ (x : List ℕ). take (length (bytes ++ more)) x) (sym (append-nil (bytes ++ more))) ∙ take_at (bytes ++ more) [] (length (bytes ++ more)) refl ∙ ap (λ (x : List ℕ). x ++ more) (sym (ap (take (length bytes)) (sym (append-nil bytes)) ∙ take_at bytes [] (length bytes) refl)))
+    ∙ piece_grown bytes more (length bytes) (omega arith)
     ∙ ap (λ (x : List ℕ). x ++ more) (none_between bytes (length bytes))
 
 -- ---- by the file

@@ -15,7 +15,7 @@ use je_bytes::adler32;
 use std::alloc::{AllocError, Global};
 
 /// What bytes begin with.
-#[derive(Debug, Drop, PartialEq, Eq)]
+#[derive(Drop, PartialEq, Eq)]
 pub enum Decoded {
     /// An entry, its prev field, and how many bytes its spelling has. Other bytes may follow.
     Whole { entry: Entry, prev: u32, len: usize },
@@ -24,7 +24,7 @@ pub enum Decoded {
 }
 
 /// Why bytes begin with no entry. The first of these that holds is the answer.
-#[derive(Clone, Copy, Debug, PartialEq, Eq)]
+#[derive(Clone, Copy, PartialEq, Eq)]
 pub enum Torn {
     /// There are fewer bytes than a header has, or than its body length says.
     Short,

@@ -1,5 +1,5 @@
 // The lock manager: deadlocks and their victims, and what it tells of locks.
-use crate::records::record;
+use crate::record_ids::record;
 use je_order::TxnId;
 use lock_mgr::{LockMgr, Requested};
 use lock_mode::LockType;

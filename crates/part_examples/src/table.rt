@@ -1,5 +1,5 @@
 // The lock table: phantoms wait, and upgrades are given back.
-use crate::records::record;
+use crate::record_ids::record;
 use je_order::TxnId;
 use lock_mode::LockType;
 use lock_table::{Asked, LockTable, RecordId};

@@ -250,41 +250,6 @@ fn goes_on_after_a_resume(rt: HostRuntime) -> Result<(), Fail> {
     Ok(())
 }
 
-fn fail(rt: &impl Abort, alloc: Global, buffer: &mut LogBuffer<MemDisk>) {
-    assert!(rt; buffer.write_out() == Err(LogErr::Fault));
-    assert!(rt; buffer.has_failed());
-    assert!(rt; append(alloc, buffer, Step::Commit(1)) == Err(LogErr::Fault));
-}
-
-#[test]
-fn fails_once_and_for_all(rt: HostRuntime) -> Result<(), Fail> {
-    let alloc = rt.alloc();
-    let mut disk = MemDisk::new(alloc);
-    disk.fail_calls(alloc, &[1])?;
-    let mut buffer = made(alloc, disk, 0)?;
-    fail(&rt, alloc, &mut buffer);
-    let (disk, closed) = buffer.close();
-    assert!(rt; closed == Err(LogErr::Fault) && disk.faults() == 1);
-    Ok(())
-}
-
-fn end(rt: &impl Abort, alloc: Global, buffer: &mut LogBuffer<MemDisk>) -> Result<(), LogErr> {
-    append(alloc, buffer, Step::Put(1, 4_040))?;
-    assert!(rt; buffer.reserve(&[22]) == Err(LogErr::Full));
-    assert!(rt; append(alloc, buffer, Step::Commit(1)) == Err(LogErr::Full));
-    assert!(rt; buffer.end() == at(0xffff_fffe, 4_100));
-    Ok(())
-}
-
-#[test]
-fn ends_with_the_last_file(rt: HostRuntime) -> Result<(), Fail> {
-    let alloc = rt.alloc();
-    let mut buffer = made(alloc, MemDisk::new(alloc), 0xffff_fffe)?;
-    let ended = end(&rt, alloc, &mut buffer);
-    let _ = buffer.into_disk();
-    Ok(ended?)
-}
-
 // 400 puts of 4,034 bytes, each of which fills a file, are 1,613,600 bytes: the tail is written out on
 // the way.
 fn fill_many(
