@@ -2,7 +2,7 @@
 """Measures the built program: puts, gets and opening, in memory and on disk. bench/README.md says more.
 
     python3 bench/bench.py                      all of it
-    python3 bench/bench.py --quick              a tenth of the sizes, two repeats
+    python3 bench/bench.py --quick              a tenth of the sizes, two turns
     python3 bench/bench.py --bdb PATH           beside a driver of Berkeley DB, on the same scripts
 """
 
@@ -11,12 +11,12 @@ import math
 import os
 import shlex
 import shutil
+import statistics
 import sys
 import tempfile
 from dataclasses import dataclass, field
 
 from child import NoPeak, run_child
-from quiet import Machine
 from scripts import Script, create_scripts, empty_script, get_scripts, put_scripts, records_of
 
 TOP = os.path.dirname(os.path.dirname(os.path.abspath(__file__)))
@@ -46,13 +46,13 @@ class Sizes:
     databases: int = 1_000
     records: int = 100  # in each of them
     repeats: int = 5
+    turns: int = 20  # of the sizes in memory
     opened: list = field(default_factory=lambda: [250_000, 500_000, 1_000_000])
 
 
-QUICK = Sizes([4_000, 8_000, 16_000], 100, 100, 2, [25_000, 50_000, 100_000])
+QUICK = Sizes([4_000, 8_000, 16_000], 100, 100, 2, 2, [25_000, 50_000, 100_000])
 
-# How many turns are taken, for each run that is asked for, to find as many quiet ones.
-MOST_TURNS = 4
+PROCESSORS = sorted(os.sched_getaffinity(0))
 
 # Greatest sizes of a file, in bytes: that of the program where nothing is said, and one that makes many files.
 FEW_FILES = 10_000_000
@@ -61,31 +61,27 @@ MANY_FILES = 100_000
 
 @dataclass
 class Ran:
-    """One run of some scripts: its wall time, its peak memory, and the machine's paces around it."""
+    """Runs of some scripts: their wall time in all, and the greatest peak memory of one."""
 
     seconds: float = 0.0
     peak: int = 0
-    paces: list = field(default_factory=list)
+
+    def add(self, other):
+        self.seconds += other.seconds
+        self.peak = max(self.peak, other.peak)
 
 
-class Runs:
-    """Runs of the same work. Those on a quiet machine count: of them the least time is taken."""
+class Turns:
+    """The same work at each turn: the seconds of each, and the greatest peak memory."""
 
-    def __init__(self, machine):
-        self.machine = machine
-        self.ran = []
+    def __init__(self):
+        self.times = []
+        self.peak = 0
 
-    def take(self, ran):
-        self.ran.append(ran)
-
-    def quiet(self):
-        return [ran for ran in self.ran if all(self.machine.is_quiet(pace) for pace in ran.paces)]
-
-    def seconds(self):
-        return min(ran.seconds for ran in self.quiet() or self.ran)
-
-    def peak(self):
-        return max(ran.peak for ran in self.ran)
+    def take(self, ran, runs=1):
+        """A turn of so many runs. It took one run's part of their time."""
+        self.times.append(ran.seconds / runs)
+        self.peak = max(self.peak, ran.peak)
 
 
 class Failure(Exception):
@@ -93,43 +89,37 @@ class Failure(Exception):
 
 
 class System:
-    """A program that takes `run --home DIR < script`, on one processor or on all. Of one on all, every run counts: what is
-    known of the machine is known of one processor."""
+    """A program that takes `run --home DIR < script`, on this script's processor or on all."""
 
-    def __init__(self, name, words, machine, on_all=False):
+    def __init__(self, name, words, on_all=False):
         self.name = name
         self.words = words
-        self.machine = machine
-        self.processors = machine.processors if on_all else None
+        self.processors = PROCESSORS if on_all else None
 
     def run(self, home, scripts, work, options=()):
-        """Runs scripts on a folder, one after another: the sum of their times and the greatest peak."""
+        """Runs scripts on a folder, one after another."""
         whole = Ran()
         for script in scripts:
             report = os.path.join(work, "report")
-            before = self.machine.settle()
             ran = run_child([*self.words, "run", "--home", home, *options], script.path, report, self.processors)
-            behind = self.machine.pace()
             if ran.status != 0:
                 raise Failure(f"{self.name}: {script.name}: status {ran.status}")
             wrong = script.first_wrong_line(report)
             if wrong is not None:
                 raise Failure(f"{self.name}: {script.name}: the report is wrong at: {wrong}")
-            whole.seconds += ran.seconds
-            whole.peak = max(whole.peak, ran.peak)
-            if self.processors is None:
-                whole.paces += [before, behind]
+            whole.add(ran)
         return whole
 
 
 @dataclass
 class Row:
-    """What one kind of work came to at one size: net seconds, net memory of a line, bytes of log."""
+    """What one kind of work came to at one size: net seconds, in all and at each turn, net memory of a line, bytes of log."""
 
     system: str
     work: str
     size: int
     seconds: float
+    turns: list
     memory: float
     log: int
 
@@ -158,65 +148,79 @@ def fresh(folder):
     return tempfile.mkdtemp(dir=folder)
 
 
+def seconds_over(whole, empty):
+    """Never nothing, since a logarithm is taken of it."""
+    return max(whole - empty, 1e-6)
+
+
 def net(whole, empty):
-    """Time less that of an empty script; never nothing, since a logarithm is taken of it."""
-    return max(whole.seconds() - empty.seconds(), 1e-6)
+    """The least time less the least of an empty script."""
+    return seconds_over(min(whole.times), min(empty.times))
 
 
-def take_turns(machine, repeats, works):
-    """Has each work take a turn, one after another, until each has as many quiet runs as are asked for of all that it
-    measures, or has had its turns."""
-    waiting = works
-    for turn in range(1, MOST_TURNS * repeats + 1):
-        for step, _ in waiting:
+def take_turns(count, steps):
+    """Has each step take its turns, one after another. All steps of a turn run on one processor, the next turn on the next."""
+    for turn in range(1, count + 1):
+        os.sched_setaffinity(0, {PROCESSORS[turn % len(PROCESSORS)]})
+        for step in steps:
             step(turn)
-        waiting = [(step, runs) for step, runs in works if min(len(one.quiet()) for one in runs) < repeats]
-        if not waiting or (turn >= repeats and machine.patience <= 0):
-            break
-    machine.was_loud |= bool(waiting)
 
 
 class Growing:
-    """The puts, gets and reopening of one system at one size, and what their runs came to so far."""
+    """The puts, gets and reopening of one system at one size, and what each turn of them took. A turn has as many lines at
+    each size."""
 
     def __init__(self, bench, system, folder, size):
         records = records_of(size)
         self.bench, self.system, self.folder, self.size = bench, system, folder, size
+        self.runs = bench.sizes.lines[-1] // size  # in a turn
         self.create = create_scripts(bench.work, ["t"])
         self.puts = put_scripts(bench.work, records, ["t"])
         self.gets = get_scripts(bench.work, records, "t")
-        self.before, self.put, self.opened, self.got = (Runs(bench.machine) for _ in range(4))
+        self.before, self.put, self.opened, self.got = (Turns() for _ in range(4))
         self.home = None
 
-    def run(self, runs, scripts):
-        runs.take(self.system.run(self.home, scripts, self.bench.work))
-
-    def write(self, turn):
-        """Puts all records into a folder of its own, in place of the one of the turn before."""
-        say(f"{self.system.name}: {self.size:,} puts in {self.folder}, turn {turn}")
+    def begin(self):
+        """Goes to a folder of its own, in place of the one before."""
         if self.home:
             shutil.rmtree(self.home)
         self.home = fresh(self.folder)
         self.system.run(self.home, self.create, self.bench.work)
-        self.run(self.before, [self.bench.empty])
-        self.run(self.put, self.puts)
+
+    def turn(self, base, whole, scripts, begin=lambda: None):
+        """Runs an empty script and the scripts, by turns."""
+        empty, done = Ran(), Ran()
+        for _ in range(self.runs):
+            begin()
+            empty.add(self.system.run(self.home, [self.bench.empty], self.bench.work))
+            done.add(self.system.run(self.home, scripts, self.bench.work))
+        base.take(empty, self.runs)
+        whole.take(done, self.runs)
+
+    def write(self, turn):
+        """Puts all records into a folder of its own."""
+        say(f"{self.system.name}: {self.size:,} puts in {self.folder}, turn {turn}")
+        self.turn(self.before, self.put, self.puts, self.begin)
 
     def read(self, turn):
         """Opens the folder that the puts left, and gets all records."""
         say(f"{self.system.name}: {self.size:,} gets in {self.folder}, turn {turn}")
-        self.run(self.opened, [self.bench.empty])
-        self.run(self.got, self.gets)
+        self.turn(self.opened, self.got, self.gets)
+
+    def take_turn(self, turn):
+        self.write(turn)
+        self.read(turn)
 
     def rows(self):
         log = folder_bytes(self.home)
         works = [("put", self.put, self.before), ("get", self.got, self.opened), ("reopen", self.opened, self.before)]
-        return [Row(self.system.name, work, self.size, net(whole, base), (whole.peak() - base.peak()) / self.size, log)
+        return [Row(self.system.name, work, self.size, net(whole, base),
+                    [seconds_over(*times) for times in zip(whole.times, base.times)], (whole.peak - base.peak) / self.size, log)
                 for work, whole, base in works]
 
 
 class Bench:
-    def __init__(self, machine, systems, sizes, work):
-        self.machine = machine
+    def __init__(self, systems, sizes, work):
         self.systems = systems
         self.sizes = sizes
         self.work = work
@@ -224,15 +228,14 @@ class Bench:
 
     def base(self, system, home):
         """Runs of an empty script on a folder."""
-        runs = Runs(self.machine)
-        take_turns(self.machine, self.sizes.repeats, [(lambda turn: runs.take(system.run(home, [self.empty], self.work)), [runs])])
-        return runs
+        turns = Turns()
+        take_turns(self.sizes.repeats, [lambda turn: turns.take(system.run(home, [self.empty], self.work))])
+        return turns
 
-    def growth(self, folder):
+    def growth(self, folder, turns):
         """Puts, gets and reopening. The sizes take turns, so that the load of a shared machine falls on all of them."""
         works = [Growing(self, system, folder, size) for size in self.sizes.lines for system in self.systems]
-        take_turns(self.machine, self.sizes.repeats, [(work.write, [work.before, work.put]) for work in works])
-        take_turns(self.machine, self.sizes.repeats, [(work.read, [work.opened, work.got]) for work in works])
+        take_turns(turns, [work.take_turn for work in works])
         return [row for work in works for row in work.rows()]
 
     def many_databases(self, folder):
@@ -240,22 +243,22 @@ class Bench:
         system = self.systems[0]
         records = records_of(self.sizes.databases * self.sizes.records)
         many = [f"d{number}" for number in range(self.sizes.databases)]
-        works, found = [], []
+        steps, found = [], []
         for names in (many, ["t"]):
             create, puts = create_scripts(self.work, names), put_scripts(self.work, records, names)
-            base, wrote, opened = runs = [Runs(self.machine) for _ in range(3)]
+            base, wrote, opened = (Turns() for _ in range(3))
 
-            def step(_, names=names, create=create, steps=((base, [self.empty]), (wrote, puts), (opened, [self.empty]))):
+            def step(_, names=names, create=create, works=((base, [self.empty]), (wrote, puts), (opened, [self.empty]))):
                 say(f"{system.name}: {len(records):,} records in {len(names):,} databases")
                 home = fresh(folder)
                 system.run(home, create, self.work)
-                for kind, scripts in steps:
-                    kind.take(system.run(home, scripts, self.work))
+                for turns, scripts in works:
+                    turns.take(system.run(home, scripts, self.work))
                 shutil.rmtree(home)
 
-            works.append((step, runs))
+            steps.append(step)
             found.append((len(names), base, wrote, opened))
-        take_turns(self.machine, self.sizes.repeats, works)
+        take_turns(self.sizes.repeats, steps)
         return [(names, net(wrote, base), net(opened, base)) for names, base, wrote, opened in found]
 
     def opening(self, folder):
@@ -271,7 +274,7 @@ class Bench:
             opened = self.base(system, home)
             files = [os.path.getsize(os.path.join(home, name)) for name in os.listdir(home)]
             shutil.rmtree(home)
-            found.append(Opened(size, net(opened, before), opened.peak() - before.peak(), len(files), max(files)))
+            found.append(Opened(size, net(opened, before), opened.peak - before.peak, len(files), max(files)))
         return found
 
     def many_files(self, folder):
@@ -279,23 +282,23 @@ class Bench:
         system = self.systems[0]
         size = self.sizes.lines[-1]
         puts = put_scripts(self.work, records_of(size), ["t"])
-        works, found = [], []
+        steps, found = [], []
         for most in (FEW_FILES, MANY_FILES):
-            base, wrote = runs = [Runs(self.machine) for _ in range(2)]
+            base, wrote = Turns(), Turns()
             files = []
 
-            def step(_, options=("--file-max", str(most)), steps=((base, [self.empty]), (wrote, puts)), files=files):
+            def step(_, options=("--file-max", str(most)), works=((base, [self.empty]), (wrote, puts)), files=files):
                 say(f"{system.name}: {size:,} puts with {' '.join(options)}")
                 home = fresh(folder)
                 system.run(home, create_scripts(self.work, ["t"]), self.work, options)
-                for kind, scripts in steps:
-                    kind.take(system.run(home, scripts, self.work, options))
+                for turns, scripts in works:
+                    turns.take(system.run(home, scripts, self.work, options))
                 files.append(len(os.listdir(home)))
                 shutil.rmtree(home)
 
-            works.append((step, runs))
+            steps.append(step)
             found.append((base, wrote, files))
-        take_turns(self.machine, self.sizes.repeats, works)
+        take_turns(self.sizes.repeats, steps)
         return size, [(files[-1], net(wrote, base)) for base, wrote, files in found]
 
 
@@ -305,6 +308,12 @@ def exponent(points):
     x = sum(a for a, _ in logs) / len(logs)
     y = sum(b for _, b in logs) / len(logs)
     return sum((a - x) * (b - y) for a, b in logs) / sum((a - x) ** 2 for a, _ in logs)
+
+
+def steady_exponent(rows):
+    """The median of the exponents of the turns, one for each turn of all sizes: a busy moment bends the one of its turn alone."""
+    sizes = [row.size for row in rows]
+    return statistics.median(exponent(zip(sizes, times)) for times in zip(*(row.turns for row in rows)))
 
 
 def say(text):
@@ -347,9 +356,10 @@ def print_growth(title, rows, systems, smallest, goals, in_memory):
     for system in systems:
         for work in ("put", "get", "reopen"):
             mine = [row for row in rows if row.system == system.name and row.work == work]
-            value = exponent([(row.size, row.seconds) for row in mine])
+            value = steady_exponent(mine)
+            least = exponent([(row.size, row.seconds) for row in mine])
             mark = goals.mark(f"{title}, {work}, exponent", value, most=MOST_EXPONENT) if system is systems[0] else ""
-            print(f"exponent of {work}, {system.name}: {value:.2f}{mark}")
+            print(f"exponent of {work}, {system.name}: {value:.2f}{mark}, of the least times {least:.2f}")
     if in_memory:
         for work, least, most in (("put", LEAST_PUTS, MOST_PUT_MEMORY), ("get", LEAST_GETS, MOST_GET_MEMORY)):
             row = own[work, smallest]
@@ -394,8 +404,8 @@ def print_files(size, found, goals):
 def read_words():
     p = argparse.ArgumentParser(description=__doc__, formatter_class=argparse.RawDescriptionHelpFormatter)
     p.add_argument("--program", default=PROGRAM, help="the program (without it, the one that ./jedb built)")
-    p.add_argument("--quick", action="store_true", help="a tenth of the sizes, two repeats")
-    p.add_argument("--repeat", type=int, help="how many runs the least is taken of")
+    p.add_argument("--quick", action="store_true", help="a tenth of the sizes, two turns")
+    p.add_argument("--turns", type=int, help="how many turns each work takes")
     p.add_argument("--only", choices=PARTS, help="one part alone")
     p.add_argument("--memory", default="/dev/shm", help="a folder in memory (/dev/shm)")
     p.add_argument("--disk", default=ON_DISK, help="a folder on disk (bench/build)")
@@ -404,26 +414,26 @@ def read_words():
     return p.parse_args()
 
 
-def systems_of(words, machine):
+def systems_of(words):
     if not os.access(words.program, os.X_OK):
         sys.exit(f"bench: no program at {words.program}; run ./jedb once, which builds it, or give --program")
-    systems = [System("jedb", [os.path.abspath(words.program)], machine)]
+    systems = [System("jedb", [os.path.abspath(words.program)])]
     if words.bdb:
-        systems.append(System("bdb", shlex.split(words.bdb), machine))
+        systems.append(System("bdb", shlex.split(words.bdb)))
     if words.je:
         # a Java machine compiles and collects beside its program
-        systems.append(System("je", shlex.split(words.je), machine, on_all=True))
+        systems.append(System("je", shlex.split(words.je), on_all=True))
     return systems
 
 
-def measure(words, machine, sizes, work, goals):
-    systems = systems_of(words, machine)
-    bench = Bench(machine, systems, sizes, work)
+def measure(words, sizes, work, goals):
+    systems = systems_of(words)
+    bench = Bench(systems, sizes, work)
     parts = [words.only] if words.only else PARTS
-    for part, title, folder in (("memory", "In memory", words.memory), ("disk", "On disk", words.disk)):
+    for part, title, folder, turns in (("memory", "In memory", words.memory, sizes.turns), ("disk", "On disk", words.disk, sizes.repeats)):
         if part in parts:
             with room_in(folder) as room:
-                rows = bench.growth(room)
+                rows = bench.growth(room, turns)
             print_growth(title, rows, systems, sizes.lines[0], goals, part == "memory")
     if "databases" in parts:
         with room_in(words.memory) as room:
@@ -441,21 +451,18 @@ def measure(words, machine, sizes, work, goals):
 
 def main():
     words = read_words()
-    machine = Machine()
     sizes = QUICK if words.quick else Sizes()
-    if words.repeat:
-        sizes.repeats = words.repeat
+    if words.turns:
+        sizes.repeats = sizes.turns = words.turns
     if TUNABLES in os.environ:
         print(f"{TUNABLES}={os.environ[TUNABLES]}\n")
     os.makedirs(words.disk, exist_ok=True)
     goals = Goals(not words.quick)
     with room_in(words.memory) as work:
         try:
-            measure(words, machine, sizes, work, goals)
+            measure(words, sizes, work, goals)
         except (Failure, NoPeak) as failure:
             sys.exit(f"bench: {failure}")
-    if machine.was_loud:
-        print("The machine was not quiet often enough: some of the least times are of fewer quiet runs than asked for.")
     for missed in goals.missed:
         print(f"MISSED: {missed}")
     sys.exit(1 if goals.missed else 0)

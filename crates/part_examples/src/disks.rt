@@ -1,4 +1,4 @@
-// What disks do.
+// What every disk does, from a disk on which nothing was done yet.
 ghost use Rattle.std.specs.Prelude.{◌≡◌, None};
 
 use je_disk::{Disk, DiskErr, ReadDone, ReadJob, SyncDone, SyncJob};
@@ -227,60 +227,7 @@ fn reads_what_changes<D: Disk>(
     Ok(())
 }
 
-// Two files that stay, and one that goes.
-static LEFT: [Step; 5] = [
-    Step::Create(26),
-    Step::Append(3, b"abcde"),
-    Step::Append(6, b"z"),
-    Step::Sync,
-    Step::Remove(6),
-];
-
-// Goes on with the two files that stay, and finds no other.
-fn goes_on<D: Disk>(rt: &impl Abort, alloc: Global, disk: &mut D) -> Result<(), DiskErr> {
-    assert!(rt; lists(alloc, disk, &[FileNo(3), FileNo(26)])?);
-    take_all(disk, &[Step::Append(3, b"!")])?;
-    assert!(rt; has_piece(disk, 3, 4, 2, b"e!..")?);
-    Ok(())
-}
-
-// Fails at each call, since there is no place for its files.
-fn is_nowhere<D: Disk>(rt: &impl Abort, disk: &mut D) -> Result<(), DiskErr> {
-    assert!(rt; disk.mount() == Err(DiskErr::Failed));
-    assert!(rt; disk.append(FileNo(0), b"x") == Err(DiskErr::Failed));
-    assert!(rt; disk.faults() == 2);
-    Ok(())
-}
-
-// Counts the calls that fail at a file that is none.
-fn counts_faults<D: Disk>(rt: &impl Abort, alloc: Global, disk: &mut D) -> Result<(), DiskErr> {
-    for step in [Step::Cut(7, 0), Step::Remove(7)] {
-        assert!(rt; take_all(disk, &[step]) == Err(DiskErr::Failed));
-    }
-    let done = disk.read_job(FileNo(7))?.run();
-    assert!(rt; disk.end_read(alloc, done).err() == Some(DiskErr::Failed));
-    assert!(rt; disk.faults() == 3 && disk.read_out().is_none());
-    Ok(())
-}
-
-// Why a sync by a job fails.
-fn sync_fault<D: Disk>(disk: &mut D) -> Result<Option<DiskErr>, DiskErr> {
-    let done = disk.begin_sync()?.run();
-    Ok(disk.end_sync(done).err())
-}
-
-// Syncs nothing behind a sync that failed, since what the system let go it does not tell again.
-fn trusts_no_sync<D: Disk>(rt: &impl Abort, disk: &mut D) -> Result<(), DiskErr> {
-    disk.append(FileNo(8), b"x")?;
-    assert!(rt; sync_fault(disk)? == Some(DiskErr::Failed));
-    assert!(rt; disk.faults() == 1 && disk.sync_out().is_none());
-    take_all(disk, &[Step::Remove(8)])?;
-    assert!(rt; take_all(disk, &[Step::Sync]) == Err(DiskErr::Failed));
-    assert!(rt; sync_fault(disk)? == Some(DiskErr::Failed) && disk.faults() == 3);
-    Ok(())
-}
-
-/// What a disk does: the first five from a disk on which nothing was done yet.
+/// What every disk does, from a disk on which nothing was done yet.
 #[derive(Clone, Copy)]
 pub enum Deed {
     KeepFiles,
@@ -288,14 +235,9 @@ pub enum Deed {
     SyncByJobs,
     ReadByJobs,
     ReadWhatChanges,
-    LeaveTwo,
-    GoOn,
-    BeNowhere,
-    CountFaults,
-    TrustNoSync,
 }
 
-/// Each of these that every disk does, and the name of a folder for it.
+/// Each of these, and the name of a folder for it.
 pub static DEEDS: [(Deed, &str); 5] = [
     (Deed::KeepFiles, "files"),
     (Deed::CutAndRemove, "cuts"),
@@ -317,10 +259,5 @@ pub fn does<D: Disk>(
         Deed::SyncByJobs => syncs_by_jobs(rt, disk),
         Deed::ReadByJobs => reads_by_jobs(rt, alloc, disk),
         Deed::ReadWhatChanges => reads_what_changes(rt, alloc, disk),
-        Deed::LeaveTwo => take_all(disk, &LEFT),
-        Deed::GoOn => goes_on(rt, alloc, disk),
-        Deed::BeNowhere => is_nowhere(rt, disk),
-        Deed::CountFaults => counts_faults(rt, alloc, disk),
-        Deed::TrustNoSync => trusts_no_sync(rt, disk),
     }
 }
