@@ -1,4 +1,4 @@
-// A log of several files over the disk in memory, each public call of the buffer once.
+// A log of several files over the disk in memory: flips, a sync that is out, a resume, a tail that is written out.
 ghost use Rattle.std.specs.Prelude.{◌≡◌, ◌≤◌, ◌+◌, ◌*◌, ◌^◌, true, length, IfOk};
 ghost use Rattle.je_lsn.specs.Naming.{last_file};
 ghost use Rattle.log_entry.specs.Body.{IsEntry};
