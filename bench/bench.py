@@ -356,10 +356,9 @@ def print_growth(title, rows, systems, smallest, goals, in_memory):
     for system in systems:
         for work in ("put", "get", "reopen"):
             mine = [row for row in rows if row.system == system.name and row.work == work]
-            value = steady_exponent(mine)
-            least = exponent([(row.size, row.seconds) for row in mine])
-            mark = goals.mark(f"{title}, {work}, exponent", value, most=MOST_EXPONENT) if system is systems[0] else ""
-            print(f"exponent of {work}, {system.name}: {value:.2f}{mark}, of the least times {least:.2f}")
+            for measure, value in (("of the turns", steady_exponent(mine)), ("of the least times", exponent([(row.size, row.seconds) for row in mine]))):
+                mark = goals.mark(f"{title}, {work}, exponent {measure}", value, most=MOST_EXPONENT) if system is systems[0] else ""
+                print(f"exponent of {work} {measure}, {system.name}: {value:.2f}{mark}")
     if in_memory:
         for work, least, most in (("put", LEAST_PUTS, MOST_PUT_MEMORY), ("get", LEAST_GETS, MOST_GET_MEMORY)):
             row = own[work, smallest]
