@@ -1,24 +1,40 @@
 // From words to options.
-ghost use Rattle.std.specs.Prelude.{◌≡◌, ◌≤◌, ◌<◌, ◌^◌, ℕ, List, Some, IfOk, IfSome, IsSomeAnd, is_some, map, option_map, string_bytes};
+ghost use Rattle.std.specs.Prelude.{◌≡◌, ◌≤◌, ◌<◌, ◌^◌, ℕ, List, Some, IfOk, IfSome, IsSomeAnd, false, is_some, map, option_map, string_bytes};
 ghost use Rattle.std.specs.Str.Parse.{IsNumeral, without_leading_plus};
-ghost use Rattle.clap.specs.Words.{app_of, subcommand_of, subcommand_rows_of};
-ghost use Rattle.command_line.specs.Words.{file_max_in, file_max_text_of, home_in, home_of, is_taken, jedb, number_of};
+ghost use Rattle.clap.specs.Words.{app_of, rule_of, subcommand_of, subcommand_rows_of};
+ghost use Rattle.command_line.specs.Words.{file_max_in, file_max_option, file_max_text_of, home_in, home_of, home_option, is_taken, jedb, number_of};
 
 use crate::run_options::RunOptions;
 use clap::error::ErrorKind;
 use clap::{Arg, ArgMatches, Command, value_parser};
 use std::alloc::{AllocError, Global};
 
+// `--home DIR`.
+fn home<'a>(alloc: Global) -> Arg<'a>
+    ensures rule { rule_of result ≡ home_option }
+    ensures local { result.global ≡ false }
+{
+    Arg::new(alloc, "home").long("home").required(true)
+}
+
+// `--file-max N`.
+fn file_max<'a>(alloc: Global) -> Arg<'a>
+    ensures rule { rule_of result ≡ file_max_option }
+    ensures local { result.global ≡ false }
+{
+    Arg::new(alloc, "file-max")
+        .long("file-max")
+        .value_parser(value_parser!(u32).range(4_096..=1_073_741_824))
+        .default_value("10000000")
+}
+
 // The command line that the program has.
 fn command<'a>(alloc: Global) -> Result<Command<'a>, AllocError>
     ensures { IfOk result (λ command. app_of command ≡ jedb) }
 {
-    let home = Arg::new(alloc, "home").long("home").required(true);
-    let file_max = Arg::new(alloc, "file-max")
-        .long("file-max")
-        .value_parser(value_parser!(u32).range(4_096..=1_073_741_824))
-        .default_value("10000000");
-    let run = Command::new(alloc, "run").arg(home)?.arg(file_max)?;
+    let run = Command::new(alloc, "run")
+        .arg(home(alloc))?
+        .arg(file_max(alloc))?;
     let jedb = Command::new(alloc, "jedb")
         .no_binary_name(true)
         .subcommand_required(true);
