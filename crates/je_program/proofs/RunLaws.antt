@@ -154,18 +154,32 @@ logged_no_fault : (answer : Answer) → is_logged answer ≡ true → is_disk_fa
 logged_no_fault (Logged commit) h = refl
 logged_no_fault answer h = cc
 
+-- a count rose early or late
+rose_by_either : (before start begun after : ℕ) → before ≤ start → start ≤ begun → begun ≤ after → (a b : Bool) → (a ≡ true → Rose before start) → (b ≡ true → Rose begun after)
+    → (a || b) ≡ true → Rose before after
+rose_by_either before start begun after first steps ends true b old last h = rose_later before start after (old refl) (omega (arith, steps, ends))
+rose_by_either before start begun after first steps ends false true old last h = rose_earlier before begun after (omega (arith, first, steps)) (last refl) ends
+rose_by_either before start begun after first steps ends false false old last h = cc
+
+-- a call that was answered
+pub caused_answered : (before start after : ℕ) (journal : List Event) (session line : ℕ) (call : Call) (answer : Answer) → IsCaused before start journal → start ≤ after →
+    (answer ≡ DiskFault → Rose start after) → IsCaused before after (journal ++ Called session line call answer ∷ [])
+caused_answered before start after journal session line call answer caused steps rose = record {
+  never_falls = (let first : before ≤ start = caused.never_falls in omega (arith, first, steps));
+  fault = λ h. rose_by_either before start start after caused.never_falls (omega arith) steps (has_answer is_disk_fault journal) (is_disk_fault answer) caused.fault (λ e. rose (fault_is answer e))
+      (sym (has_answer-push is_disk_fault journal (Called session line call answer)) ∙ h);
+}
+
 -- a call that was logged, and its sync: only the sync's end can be a disk fault
 pub caused_synced : (before start mid begun after : ℕ) (journal : List Event) (session line : ℕ) (call : Call) (answer ending : Answer) → IsCaused before start journal →
     start ≤ mid → mid ≤ begun → begun ≤ after → is_logged answer ≡ true → (ending ≡ DiskFault → Rose begun after) →
     IsCaused before after (((journal ++ Called session line call answer ∷ []) ++ SyncBegin Done ∷ []) ++ SyncEnd ending ∷ [])
 caused_synced before start mid begun after journal session line call answer ending caused steps begins ends logged rose = record {
   never_falls = (let first : before ≤ start = caused.never_falls in omega (arith, first, steps, begins, ends));
-  fault = λ h. by_parts (has_answer is_disk_fault journal) (is_disk_fault ending) caused.fault (λ e. rose (fault_is ending e)) (sym parts ∙ h);
+  fault = λ h. rose_by_either before start begun after caused.never_falls (omega (arith, steps, begins)) ends
+      (has_answer is_disk_fault journal) (is_disk_fault ending) caused.fault (λ e. rose (fault_is ending e)) (sym parts ∙ h);
 }
   where
-    first : before ≤ start
-    first = caused.never_falls
-
     parts : has_answer is_disk_fault (((journal ++ Called session line call answer ∷ []) ++ SyncBegin Done ∷ []) ++ SyncEnd ending ∷ []) ≡ (has_answer is_disk_fault journal || is_disk_fault ending)
     parts =
         has_answer-push is_disk_fault ((journal ++ Called session line call answer ∷ []) ++ SyncBegin Done ∷ []) (SyncEnd ending)
@@ -177,8 +191,3 @@ caused_synced before start mid begun after journal session line call answer endi
         or_false_is : (b : Bool) → (b || false) ≡ b
         or_false_is true = refl
         or_false_is false = refl
-
-    by_parts : (a b : Bool) → (a ≡ true → Rose before start) → (b ≡ true → Rose begun after) → (a || b) ≡ true → Rose before after
-    by_parts true b old last h = rose_later before start after (old refl) (omega (arith, steps, begins, ends))
-    by_parts false true old last h = rose_earlier before begun after (omega (arith, first, steps, begins)) (last refl) ends
-    by_parts false false old last h = cc

@@ -89,7 +89,11 @@ impl<D: Disk> Environment<D> {
     {
         let txn = self.kept.last_txn + 1;
         let (entry, commit) = entries_of(alloc, txn, number, change)?;
-        self.log_both(alloc, number, totals, &entry, &commit)
+        let answer = self.log_both(alloc, number, totals, &entry, &commit);
+        // let go by name, each is one step of a proof, and not one for each kind of entry
+        drop(entry);
+        drop(commit);
+        answer
     }
 
     // Logs the entry of a change and the commit of its transaction. Want of memory leaves the environment as

@@ -1,4 +1,5 @@
-// One line of a script.
+// One line of a script. A call that is given up is let go by `drop`, which is one step of a proof; the end
+// of its scope would be one for each kind of call.
 ghost use Rattle.std.specs.Prelude.{◌≡◌, ◌≤◌, ◌<◌, ◌+◌, ◌++◌, ◌∷◌, [], ℕ, true, length, vec_len, vec_capacity, OnOk, OnErr, None};
 ghost use Rattle.script_text.specs.Grammar.{has_line};
 ghost use Rattle.je_disk.specs.Moments.{History, now};
@@ -55,8 +56,17 @@ pub fn give<D: Disk>(
     ensures line { OnOk result (lines_of journal.new.items ≡ lines_of journal.old.items ++ Session session line call ∷ []) }
     ensures err { OnErr result (journal.new.items ≡ journal.old.items) }
 {
-    journal.reserve(3)?;
-    let answer = environment.step(alloc, &call)?;
+    if journal.reserve(3).is_err() {
+        drop(call);
+        return Err(AllocError);
+    }
+    let answer = match environment.step(alloc, &call) {
+        Ok(answer) => answer,
+        Err(_) => {
+            drop(call);
+            return Err(AllocError);
+        }
+    };
     let logged = waits_for_sync(&answer);
     let event = Event::Call {
         session,

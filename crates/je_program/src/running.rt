@@ -65,6 +65,8 @@ fn give_line<D: Disk>(running: &mut Running<D>, alloc: Global, session: u8, line
         → HasGiven running.new.journal.items running.new.memory_ended running.new.stopped (lines ++ Session session line call ∷ []) }
 {
     if running.stopped[session as usize] {
+        // let go by name, it is one step of a proof, and not one for each kind of call
+        drop(call);
         return;
     }
     match give(
