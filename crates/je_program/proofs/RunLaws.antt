@@ -88,42 +88,54 @@ module _ {D : Type 0} where
       IsRunning most tells before buffer old journal st → GoesOn most tells middle longer mid (after_events (log_rule most) st journal) call (Ok answer) → is_logged answer ≡ true →
       ((s : Standing) → IsAt most tells middle longer mid s → s.fault ≡ None → IsAt most tells after written new (after_begin s DiskFault)) →
       IsRunning most tells after written new ((journal ++ Called session line call answer ∷ []) ++ SyncBegin DiskFault ∷ []) st
-  runs_unsynced most tells before middle after buffer longer written old mid new journal session line call (Logged commit) st running goes logged begins =
-      let st0 = after_events (log_rule most) st journal in
-      let st1 = after_call (log_rule most) st0 call (Logged commit) in
-      let begun = begins st1 goes.1 (logged_valid most st0.fault st0 call commit goes.0) in
-      let events : List Event = Called session line call (Logged commit) ∷ SyncBegin DiskFault ∷ [] in
-      let all : IsRunning most tells after written new (journal ++ events) st = record {
-        here = subst (λ (s : Standing). IsAt most tells after written new s) (sym (after_events-append (log_rule most) st journal events)) begun;
-        answers = answers-append (log_rule most) st journal events running.answers (goes.0, (inr refl, tt));
-        settled = each_comes_later-append settles journal events running.settled (refl, (tt, tt));
-      } in
-      let same : journal ++ events ≡ (journal ++ Called session line call (Logged commit) ∷ []) ++ SyncBegin DiskFault ∷ [] =
-      sym (append_assoc journal (Called session line call (Logged commit) ∷ []) (SyncBegin DiskFault ∷ [])) in
-      subst (λ (l : List Event). IsRunning most tells after written new l st) same all
-  runs_unsynced most tells before middle after buffer longer written old mid new journal session line call answer st running goes logged begins = cc
+  runs_unsynced most tells before middle after buffer longer written old mid new journal session line call answer st running goes logged begins =
+      let of = logged_is answer logged in
+      subst (λ (a : Answer). IsRunning most tells after written new ((journal ++ Called session line call a ∷ []) ++ SyncBegin DiskFault ∷ []) st) (sym of.1)
+      (of_commit of.0 (subst (λ (a : Answer). GoesOn most tells middle longer mid (after_events (log_rule most) st journal) call (Ok a)) of.1 goes))
+    where
+      of_commit : (commit : ℕ) → GoesOn most tells middle longer mid (after_events (log_rule most) st journal) call (Ok (Logged commit)) →
+          IsRunning most tells after written new ((journal ++ Called session line call (Logged commit) ∷ []) ++ SyncBegin DiskFault ∷ []) st
+      of_commit commit goes =
+          let st0 = after_events (log_rule most) st journal in
+          let st1 = after_call (log_rule most) st0 call (Logged commit) in
+          let begun = begins st1 goes.1 (logged_valid most st0.fault st0 call commit goes.0) in
+          let events : List Event = Called session line call (Logged commit) ∷ SyncBegin DiskFault ∷ [] in
+          let all : IsRunning most tells after written new (journal ++ events) st = record {
+            here = subst (λ (s : Standing). IsAt most tells after written new s) (sym (after_events-append (log_rule most) st journal events)) begun;
+            answers = answers-append (log_rule most) st journal events running.answers (goes.0, (inr refl, tt));
+            settled = each_comes_later-append settles journal events running.settled (refl, (tt, tt));
+          } in
+          let same : journal ++ events ≡ (journal ++ Called session line call (Logged commit) ∷ []) ++ SyncBegin DiskFault ∷ [] =
+          sym (append_assoc journal (Called session line call (Logged commit) ∷ []) (SyncBegin DiskFault ∷ [])) in
+          subst (λ (l : List Event). IsRunning most tells after written new l st) same all
 
   -- a call that was logged, and its sync
   pub runs_logged : (most : ℕ) (tells : Bool) (before middle after : State) (buffer longer synced : LogBuffer D) (old mid new : Kept) (journal : List Event) (session line : ℕ) (call : Call) (answer ending : Answer) (st : Standing) →
       IsRunning most tells before buffer old journal st → GoesOn most tells middle longer mid (after_events (log_rule most) st journal) call (Ok answer) → is_logged answer ≡ true →
       ((s : Standing) → IsAt most tells middle longer mid s → s.fault ≡ None → EndsSync most tells after synced new s ending) →
       IsRunning most tells after synced new (((journal ++ Called session line call answer ∷ []) ++ SyncBegin Done ∷ []) ++ SyncEnd ending ∷ []) st
-  runs_logged most tells before middle after buffer longer synced old mid new journal session line call (Logged commit) ending st running goes logged sync =
-      let st0 = after_events (log_rule most) st journal in
-      let st1 = after_call (log_rule most) st0 call (Logged commit) in
-      let ended = sync st1 goes.1 (logged_valid most st0.fault st0 call commit goes.0) in
-      let events : List Event = Called session line call (Logged commit) ∷ SyncBegin Done ∷ SyncEnd ending ∷ [] in
-      let number : commit ≡ st1.commits = goes.2 ∙ (goes.1).commits in
-      let all : IsRunning most tells after synced new (journal ++ events) st = record {
-        here = subst (λ (s : Standing). IsAt most tells after synced new s) (sym (after_events-append (log_rule most) st journal events)) ended.1;
-        answers = answers-append (log_rule most) st journal events running.answers (goes.0, (inl refl, (ended.0, tt)));
-        settled = each_comes_later-append settles journal events running.settled (ends_settled commit st1.commits ending number ended.0, (tt, (tt, tt)));
-      } in
-      let same : journal ++ events ≡ ((journal ++ Called session line call (Logged commit) ∷ []) ++ SyncBegin Done ∷ []) ++ SyncEnd ending ∷ [] =
-      sym (append_assoc journal (Called session line call (Logged commit) ∷ SyncBegin Done ∷ []) (SyncEnd ending ∷ []))
-      ∙ ap (λ (l : List Event). l ++ SyncEnd ending ∷ []) (sym (append_assoc journal (Called session line call (Logged commit) ∷ []) (SyncBegin Done ∷ []))) in
-      subst (λ (l : List Event). IsRunning most tells after synced new l st) same all
-  runs_logged most tells before middle after buffer longer synced old mid new journal session line call answer ending st running goes logged sync = cc
+  runs_logged most tells before middle after buffer longer synced old mid new journal session line call answer ending st running goes logged sync =
+      let of = logged_is answer logged in
+      subst (λ (a : Answer). IsRunning most tells after synced new (((journal ++ Called session line call a ∷ []) ++ SyncBegin Done ∷ []) ++ SyncEnd ending ∷ []) st) (sym of.1)
+      (of_commit of.0 (subst (λ (a : Answer). GoesOn most tells middle longer mid (after_events (log_rule most) st journal) call (Ok a)) of.1 goes))
+    where
+      of_commit : (commit : ℕ) → GoesOn most tells middle longer mid (after_events (log_rule most) st journal) call (Ok (Logged commit)) →
+          IsRunning most tells after synced new (((journal ++ Called session line call (Logged commit) ∷ []) ++ SyncBegin Done ∷ []) ++ SyncEnd ending ∷ []) st
+      of_commit commit goes =
+          let st0 = after_events (log_rule most) st journal in
+          let st1 = after_call (log_rule most) st0 call (Logged commit) in
+          let ended = sync st1 goes.1 (logged_valid most st0.fault st0 call commit goes.0) in
+          let events : List Event = Called session line call (Logged commit) ∷ SyncBegin Done ∷ SyncEnd ending ∷ [] in
+          let number : commit ≡ st1.commits = goes.2 ∙ (goes.1).commits in
+          let all : IsRunning most tells after synced new (journal ++ events) st = record {
+            here = subst (λ (s : Standing). IsAt most tells after synced new s) (sym (after_events-append (log_rule most) st journal events)) ended.1;
+            answers = answers-append (log_rule most) st journal events running.answers (goes.0, (inl refl, (ended.0, tt)));
+            settled = each_comes_later-append settles journal events running.settled (ends_settled commit st1.commits ending number ended.0, (tt, (tt, tt)));
+          } in
+          let same : journal ++ events ≡ ((journal ++ Called session line call (Logged commit) ∷ []) ++ SyncBegin Done ∷ []) ++ SyncEnd ending ∷ [] =
+          sym (append_assoc journal (Called session line call (Logged commit) ∷ SyncBegin Done ∷ []) (SyncEnd ending ∷ []))
+          ∙ ap (λ (l : List Event). l ++ SyncEnd ending ∷ []) (sym (append_assoc journal (Called session line call (Logged commit) ∷ []) (SyncBegin Done ∷ []))) in
+          subst (λ (l : List Event). IsRunning most tells after synced new l st) same all
 
   -- a run that begins
   pub runs_none : (most : ℕ) (tells : Bool) (state : State) (buffer : LogBuffer D) (kept : Kept) (st : Standing) → IsAt most tells state buffer kept st → IsRunning most tells state buffer kept [] st
