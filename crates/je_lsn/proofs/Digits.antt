@@ -1,5 +1,5 @@
 -- A file's name is read back as its number.
-use Rattle.std.proofs.Common.{◌≡◌, ◌≢◌, true, false, nat_eq, ℕ, ◌+◌, ◌*◌, ◌/◌, ◌%◌, ◌<◌, ◌≤◌, List, ap, sym, ◌∙◌, arith}
+use Rattle.std.proofs.Common.{◌≡◌, ◌≢◌, Bool, true, false, not, nat_eq, ℕ, ◌+◌, ◌-◌, ◌*◌, ◌/◌, ◌%◌, ◌<◌, ◌≤◌, List, refl, ap, sym, ◌∙◌, arith}
 use Rattle.std.specs.Cmp.Lexicographic.{bytes_decides}
 use lib.Pointwise.{pointwise}
 use Rattle.std.proofs.lemmas.Bool.Decides.{nat_tests}
@@ -9,6 +9,11 @@ use Rattle.je_lsn.specs.Naming.{digit, digit_value, name_of, number_of, last_fil
 pub digit_value-digit : (d : ℕ) → d < 16 → digit_value (digit d) ≡ d
 unfolding digit digit_value
 digit_value-digit d small = grind (arith, nat_tests)
+
+-- a digit above nine is spelled by a letter
+pub digit-letter : (d : ℕ) → 9 < d → 97 + (d - 10) ≡ digit d
+unfolding digit
+digit-letter d above = grind (arith, nat_tests)
 
 -- a number is made of its hexadecimal digits
 digits_sum : (f : ℕ) → f < 0x100000000 →
@@ -42,6 +47,14 @@ number_of-name_of f small =
 -- what a file's name reads as
 pub named_once : (name : List ℕ) (f : ℕ) → f ≤ last_file → name ≡ name_of f → number_of name ≡ f
 named_once name f small named = ap number_of named ∙ number_of-name_of f small
+
+-- two texts that a test did not tell apart are the same
+pub spelled_so : (own name : List ℕ) (differ : Bool) → differ ≡ not (pointwise nat_eq own name) → differ ≡ false → own ≡ name
+spelled_so own name differ is same = (bytes_decides own name).0 (not_false (pointwise nat_eq own name) (sym is ∙ same))
+  where
+    not_false : (b : Bool) → not b ≡ false → b ≡ true
+    not_false true e = refl
+    not_false false e = absurd cc
 
 -- a text that differs from the name of its own number is no file's name
 pub unnamed : (name own : List ℕ) → own ≡ name_of (number_of name) → pointwise nat_eq own name ≡ false →

@@ -63,7 +63,6 @@ fn number(name: &[u8]) -> u32
     high * 0x1_0000 + low
 }
 
-#[tactic(auto, using(crate::proofs::Digits::named_once))]
 /// The file whose name this is, up to the file 0xfffffffe; None for every other name, so for
 /// `ffffffff.jdb`, for upper-case digits, and for names of any other length or ending.
 pub fn parse_name(name: &[u8]) -> Option<FileNo>
