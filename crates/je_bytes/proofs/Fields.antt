@@ -1,7 +1,7 @@
 -- A field that is read is the field that was written, and what was written is read again, whatever follows it.
 use Rattle.std.proofs.Common.{◌≡◌, ℕ, zero, suc, ◌+◌, ◌^◌, ◌<◌, ◌≤◌, Bool, true, false, cond, ltb, List, ◌++◌, length, take, drop, Some, None, refl, sym, ap, subst, ◌∙◌, append_assoc, arith, inl, inr}
 use Rattle.std.specs.Int.{Width, w16, w32, w64, byte_len, from_be_bytes, to_be_bytes, bytes_high_first}
-use Rattle.std.proofs.lemmas.Bool.{cases_lt, ltb-false, le-ltb}
+use Rattle.std.proofs.lemmas.Bool.{cases_lt, ltb-false, le-ltb, lt-ltb}
 use Rattle.std.proofs.lemmas.List.{take_at, drop_at, take-append-drop, length-append, length-take, get_or-drop, get_or-take, get_or_past}
 use Rattle.std.proofs.lemmas.Nat.{be_bytes_2, be_bytes_4, be_bytes_8, from_be_bytes-to_be_bytes_2, from_be_bytes-to_be_bytes_4, from_be_bytes-to_be_bytes_8}
 use Rattle.je_bytes.specs.Reading.{AreBytes, run_in, number_in, IsReadAsWritten}
@@ -60,6 +60,18 @@ run_in-takes n bytes run rest are e =
     let long : n ≤ length bytes = ltb-false _ _ g.0 in
     let whole : Takes bytes (take n bytes) (drop n bytes) × (length (take n bytes) ≡ n) = (record { parts = sym (take-append-drop n bytes); rest_fits = AreBytes-drop n bytes are }, omega (arith, length-take n bytes)) in
     subst (λ (p : List ℕ × List ℕ). Takes bytes p.0 p.1 × (length p.0 ≡ n)) g.1 whole
+
+-- a number that was read from a run
+pub number_in-run : (w : Width) (n : ℕ) (bytes run rest : List ℕ) → run_in (byte_len w) bytes ≡ Some (run, rest) → n ≡ from_be_bytes w run → number_in w bytes ≡ Some (n, rest)
+number_in-run w n bytes run rest e is =
+    let g = read_past (ltb (length bytes) (byte_len w)) (take (byte_len w) bytes, drop (byte_len w) bytes) (run, rest) e in
+    let run-is : take (byte_len w) bytes ≡ run = ap (λ (p : List ℕ × List ℕ). p.0) g.1 in
+    let rest-is : drop (byte_len w) bytes ≡ rest = ap (λ (p : List ℕ × List ℕ). p.1) g.1 in
+    rw (g.0, run-is, rest-is, is) refl
+
+-- fewer bytes are left
+pub run_in-short : (n : ℕ) (left bytes : List ℕ) → left ≡ bytes → length left < n → run_in n bytes ≡ None
+run_in-short n left bytes is few = let short : ltb (length bytes) n ≡ true = lt-ltb _ _ (rw (← is) few) in rw short refl
 
 pub run_in-again : (run rest : List ℕ) → run_in (length run) (run ++ rest) ≡ Some (run, rest)
 run_in-again run rest =

@@ -3,11 +3,14 @@ use Rattle.std.proofs.Common.{◌≡◌, ℕ, ◌+◌, ◌%◌, ◌^◌, ◌<◌
 use Rattle.std.proofs.lemmas.List.{take-append-drop}
 use Rattle.je_bytes.specs.Adler.{adler32_of, sum_of, running_sum_of}
 
-pub sum_of-drop : (i : ℕ) (bytes : List ℕ) → i < length bytes → sum_of (drop i bytes) ≡ get_or bytes i 0 + sum_of (drop (i + 1) bytes)
-sum_of-drop i bytes h = rw (add-one, drop-cons bytes i 0) refl
+pub sum_of-next : (a i s : ℕ) (bytes : List ℕ) → i < length bytes → a + sum_of (drop i bytes) ≡ s → (a + get_or bytes i 0) + sum_of (drop (i + 1) bytes) ≡ s
+sum_of-next a i s bytes h is =
+    let e : sum_of (drop i bytes) ≡ get_or bytes i 0 + sum_of (drop (i + 1) bytes) = rw (add-one, drop-cons bytes i 0) refl in omega arith
 
-pub running_sum_of-drop : (a i : ℕ) (bytes : List ℕ) → i < length bytes → running_sum_of a (drop i bytes) ≡ (a + get_or bytes i 0) + running_sum_of (a + get_or bytes i 0) (drop (i + 1) bytes)
-running_sum_of-drop a i bytes h = rw (add-one, drop-cons bytes i 0) refl
+pub running_sum_of-next : (a b i s : ℕ) (bytes : List ℕ) → i < length bytes → b + running_sum_of a (drop i bytes) ≡ s
+    → (b + (a + get_or bytes i 0)) + running_sum_of (a + get_or bytes i 0) (drop (i + 1) bytes) ≡ s
+running_sum_of-next a b i s bytes h is =
+    let e : running_sum_of a (drop i bytes) ≡ (a + get_or bytes i 0) + running_sum_of (a + get_or bytes i 0) (drop (i + 1) bytes) = rw (add-one, drop-cons bytes i 0) refl in omega arith
 
 sum_of-append : (xs ys : List ℕ) → sum_of (xs ++ ys) ≡ sum_of xs + sum_of ys
 sum_of-append [] ys = omega arith

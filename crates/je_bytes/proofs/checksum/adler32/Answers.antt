@@ -1,4 +1,4 @@
-use Rattle.std.proofs.Common.{◌+◌, ◌%◌, ap, ◌∙◌, arith}
+use Rattle.std.proofs.Common.{◌+◌, ◌%◌, refl, ap, ◌∙◌, zero-add, arith}
 use Rattle.je_bytes.specs.Adler.{adler32_of, sum_of, running_sum_of}
 use Rattle.je_bytes.proofs.Sums.{sum_of-block, running_sum_of-block}
 use Rattle.je_bytes.proofs.checksum.adler32.Goals as goal
@@ -20,3 +20,17 @@ loop-rest-preserved c =
 pub returns : goal.returns
 unfolding adler32_of
 returns c = omega (arith, c.sums_after-a.ensures.first, c.sums_after-a.ensures.second, c.loop-rest.invariant.sum, c.loop-rest.invariant.running)
+
+pub loop-rest-init : goal.loop-rest-init
+loop-rest-init c = record {
+  sum = refl;
+  running = ap (λ n. n % 65521) (zero-add (running_sum_of 1 c.args.bytes.now));
+  sum_bound = omega arith;
+  running_bound = omega arith;
+}
+
+pub sums_after-requires-clause-short : goal.sums_after-requires-clause-short
+sums_after-requires-clause-short c = omega (arith, c.split_at.ensures.front_len)
+
+pub sums_after-a-requires-clause-short : goal.sums_after-a-requires-clause-short
+sums_after-a-requires-clause-short c = c.loop-rest-test.false
