@@ -1,13 +1,41 @@
 -- Steps of reading and writing, joined.
 use Rattle.std.proofs.Common.{◌≡◌, ◌<◌, ◌≤◌, ◌+◌, ℕ, List, [], ◌++◌, length, take, drop, Option, Some, None, Result, Ok, Err, OnErr, refl, sym, ap, ◌∙◌, subst, append_assoc, arith}
 use Rattle.std.proofs.lemmas.List.{append-nil, take-append-drop, take_all, take-take, take_at, drop_at, drop_all, drop-take}
-use Rattle.je_io.specs.Source.{Takes, TakesAll, Loses}
+use Rattle.std.proofs.Common.{◌-◌, ◌^◌, min, cond, false, ◌∷◌, length-take}
+use Rattle.std.specs.Result.{is_ok, is_err}
+use Rattle.je_io.specs.Faults.{Rose}
+use Rattle.je_io.specs.Source.{IsRead, Takes, TakesAll, Loses}
 use Rattle.je_io.specs.Sink.{Gains}
 
 -- what holds in any case holds after an error
 pub after_err : {A B : Type 0} {P : Type 0} (r : Result A B) → P → OnErr r P
 after_err (Ok x) p = tt
 after_err (Err e) p = p
+
+-- one fault more was counted
+pub rose : (before after : ℕ) → before < 2 ^ 64 → after ≡ min (before + 1) (2 ^ 64 - 1) → Rose before after
+rose before after fits is = grind arith
+
+-- what was put at the end of a vector
+pub put : {E : Type 0} (r : Result (Unit {0}) E) (new old bytes : List ℕ) → new ≡ cond (is_ok r) (old ++ bytes) old → is_err r ≡ false → new ≡ old ++ bytes
+put (Ok x) new old bytes e good = e
+put (Err x) new old bytes e good = absurd cc
+
+-- the front of a list was copied to the front of a piece
+pub front_read : (left back into front piece : List ℕ) (count : ℕ) → front ≡ take count left → back ≡ drop count left → piece ≡ front
+    → count ≤ length left → (count ≡ 0 → 0 < length into → length left ≡ 0) → IsRead left back into (piece ++ drop count into) count
+front_read left back into front piece count front-is back-is is long ended =
+    let piece-is : piece ≡ take count left = is ∙ front-is in
+    let len : length piece ≡ count = rw piece-is (omega (arith, length-take count left)) in
+    record {
+      taken = rw (take_at piece (drop count into) count len, piece-is, back-is) (sym (take-append-drop count left));
+      others = drop_at piece (drop count into) count len;
+      none_left = λ z room. empty left (ended z room);
+    }
+  where
+    empty : (xs : List ℕ) → length xs ≡ 0 → xs ≡ []
+    empty [] e = refl
+    empty (x ∷ xs) e = absurd (omega arith)
 
 -- nothing gained
 pub gains_none : (w : Option (List ℕ)) → Gains w w []
