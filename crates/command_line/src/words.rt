@@ -48,10 +48,14 @@ fn found_in<'a>(alloc: Global, words: &'a [String]) -> Result<Option<ArgMatches<
 {
     match command(alloc)?.try_get_matches_from(words) {
         Ok(found) => Ok(Some(found)),
-        Err(error) => match error.kind() {
-            ErrorKind::OutOfMemory => Err(AllocError),
-            _ => Ok(None),
-        },
+        Err(error) => {
+            let kind = error.kind();
+            drop(error);
+            match kind {
+                ErrorKind::OutOfMemory => Err(AllocError),
+                _ => Ok(None),
+            }
+        }
     }
 }
 

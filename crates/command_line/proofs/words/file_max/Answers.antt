@@ -1,4 +1,4 @@
-use Rattle.std.proofs.Common.{rules, ◌≡◌, ◌∙◌, ◌∷◌, [], ap, codes, Some}
+use Rattle.std.proofs.Common.{◌≡◌, ◌∙◌, ◌∷◌, [], ap, codes, Some}
 use Rattle.std.specs.Prelude.{pos}
 use Rattle.std.specs.Range.{range_inclusive_start, range_inclusive_end}
 use Rattle.clap.specs.Walk.{Rule, rule_of}
@@ -8,8 +8,8 @@ use Rattle.command_line.proofs.words.file_max.Goals as goal
 
 pub returns : goal.returns
 returns c =
-    let low : range_inclusive_start c.new-2.result ≡ pos 4096 = search rules in
-    let high : range_inclusive_end c.new-2.result ≡ pos 1073741824 = search rules in
+    let low : range_inclusive_start c.new-2.result ≡ pos 4096 = c.new-2.ensures.start in
+    let high : range_inclusive_end c.new-2.result ≡ pos 1073741824 = c.new-2.ensures.end in
     let bounds : c.range.result ≡ parser.Signed (pos 4096) (pos 1073741824) = rw (c.value_parser.ensures, low, high) at c.range.ensures in
     let checks : c.value_parser-2.result.value_parser ≡ Some (parser.Signed (pos 4096) (pos 1073741824)) =
     c.value_parser-2.ensures.given.1 ∙ ap (λ q. Some q) (c.value_parser-2.ensures.given.2 ∙ bounds) in

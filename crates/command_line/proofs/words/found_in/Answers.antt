@@ -1,20 +1,22 @@
 use Rattle.std.proofs.Common.{◌≡◌, ◌∙◌, ◌∷◌, ap, sym, subst, refl, true, false, inl, inr, List, [], ℕ, arith}
+use Rattle.std.proofs.lemmas.Result.{IfOk-from_err}
 use Rattle.clap.specs.Walk.{is_empty}
-use Rattle.clap.specs.Simple.{App}
+use Rattle.clap.specs.Simple.{App, HasMatchesOf, subcommand_of, subcommand_rows_of}
 use Rattle.clap.specs.Values.{kind_of}
 use Rattle.clap.specs.Kinds.{HasKind, Kinds}
 use Rattle.clap.specs.Faults.{fault_of, is_simple_and_free}
+use Rattle.clap.specs.declared.parser.matches.ArgMatches.{ArgMatches}
 use Rattle.clap.specs.declared.error.Error.{Error}
 use Rattle.clap.specs.declared.error.kind.ErrorKind.TheVariants.{OutOfMemory}
 use Rattle.command_line.specs.Words.{is_taken, jedb}
 use Rattle.command_line.proofs.words.found_in.Goals as goal
 
-is_simple : is_simple_and_free jedb ≡ true
-is_simple = refl
+is_free : is_simple_and_free jedb ≡ true
+is_free = refl
 
 taken : (app : App) (words : List (List ℕ)) → app ≡ jedb → (is_simple_and_free app ≡ true → fault_of app words ≡ []) → true ≡ is_taken words
 unfolding is_taken
-taken app words is no_fault = sym (ap is_empty (subst (λ (a : App). is_simple_and_free a ≡ true → fault_of a words ≡ []) is no_fault is_simple))
+taken app words is no_fault = sym (ap is_empty (subst (λ (a : App). is_simple_and_free a ≡ true → fault_of a words ≡ []) is no_fault is_free))
 
 some_kind : (kinds : Kinds) (error : Error) → (kind_of error ≡ OutOfMemory → ⊥) → HasKind kinds error → false ≡ is_empty kinds
 some_kind [] error other (inl memory) = absurd (other memory)
@@ -25,13 +27,28 @@ refused : (app : App) (words : List (List ℕ)) (error : Error) → app ≡ jedb
     → (is_simple_and_free app ≡ true → HasKind (fault_of app words) error) → false ≡ is_taken words
 unfolding is_taken
 refused app words error is other fault =
-    some_kind (fault_of jedb words) error other (subst (λ (a : App). is_simple_and_free a ≡ true → HasKind (fault_of a words) error) is fault is_simple)
+    some_kind (fault_of jedb words) error other (subst (λ (a : App). is_simple_and_free a ≡ true → HasKind (fault_of a words) error) is fault is_free)
+
+found : (app : App) (words : List (List ℕ)) (m : ArgMatches) → app ≡ jedb → HasMatchesOf app words m → subcommand_rows_of m ≡ subcommand_of jedb words
+found app words m is has = (subst (λ (a : App). HasMatchesOf a words m) is has refl).1
 
 pub returns-in-Ok-clause-taken : goal.returns-in-Ok-clause-taken
 returns-in-Ok-clause-taken c = taken _ _ c.in_ok-command.ensures c.in-Ok.ensures.kinds
 
-pub returns : goal.returns
-returns c = record {
-  taken = refused _ _ c.in-Err.error c.in_ok-command.ensures (λ memory. c.in_default.not-OutOfMemory (c.kind.ensures ∙ memory)) c.in-Err.ensures.kinds;
+pub returns-in-Ok-clause-found : goal.returns-in-Ok-clause-found
+returns-in-Ok-clause-found c = found _ _ c.in-Ok.found c.in_ok-command.ensures c.in-Ok.ensures.matches
+
+pub returns-in_err-command : goal.returns-in_err-command
+returns-in_err-command c = record {
+  taken = IfOk-from_err c.from_residual.result _ c.from_residual.ensures.0;
+  found = IfOk-from_err c.from_residual.result _ c.from_residual.ensures.0;
+}
+
+pub returns-in-OutOfMemory : goal.returns-in-OutOfMemory
+returns-in-OutOfMemory c = record { taken = tt; found = tt }
+
+pub returns-in_default : goal.returns-in_default
+returns-in_default c = record {
+  taken = refused _ _ c.in-Err.error c.in_ok-command.ensures (λ memory. c.in_default.not-OutOfMemory (c.kind-kind.ensures ∙ memory)) c.in-Err.ensures.kinds;
   found = tt;
 }
