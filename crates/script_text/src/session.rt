@@ -2,6 +2,9 @@
 ghost use Rattle.std.specs.Prelude.{◌≡◌};
 ghost use Rattle.script_text.specs.Grammar.{session_of, one_digit, two_digits, is_digit};
 
+// The greatest number of a session.
+const MOST_SESSION: u8 = 64;
+
 // The number of the session that a word names, if it names one.
 pub fn session_number(word: &[u8]) -> Option<u8>
     ensures { result ≡ session_of word.now }
@@ -36,5 +39,9 @@ fn long_name(letter: u8, tens: u8, ones: u8) -> Option<u8>
         return None;
     }
     let number = 10 * (tens - b'0') + (ones - b'0');
-    if number <= 64 { Some(number) } else { None }
+    if number <= MOST_SESSION {
+        Some(number)
+    } else {
+        None
+    }
 }
