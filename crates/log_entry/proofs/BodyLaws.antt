@@ -41,7 +41,7 @@ pub record IsBody (kind : ℕ) (bytes : List ℕ) (e : Entry) : Type 0 where
   pub kind_is : kind ≡ kind_of e
   pub is : bytes ≡ body_of e
 
-whole_read : {A : Type 0} (a : A) (rest : List ℕ) (y : A) → whole (a, rest) ≡ Some y → (rest ≡ []) × (a ≡ y)
+pub whole_read : {A : Type 0} (a : A) (rest : List ℕ) (y : A) → whole (a, rest) ≡ Some y → (rest ≡ []) × (a ≡ y)
 whole_read a rest y e =
     let g = test_held (eqb (length rest) 0) (Some a) y e in
     (nil_from_length rest (eqb-true _ _ g.0), some_is a y g.1)
@@ -280,7 +280,7 @@ commit_again bytes txn a = reads_on (number_in w64 bytes) _ (txn, []) _ a refl
 all_held : {A : Type 0} (p q r : Bool) (o : Option A) → p ≡ true → q ≡ true → r ≡ true → cond p (cond q (cond r o None) None) None ≡ o
 all_held p q r o is_p is_q is_r = rw (is_p, is_q, is_r) refl
 
-internal_again : (bytes one more rest : List ℕ) (db node level : ℕ) (slots : List ChildSlot) → number_in w32 bytes ≡ Some (db, one) → number_in w64 one ≡ Some (node, more) → byte_in more ≡ Some (level, rest)
+pub internal_again : (bytes one more rest : List ℕ) (db node level : ℕ) (slots : List ChildSlot) → number_in w32 bytes ≡ Some (db, one) → number_in w64 one ≡ Some (node, more) → byte_in more ≡ Some (level, rest)
     → counted_in w16 child_slot_in child_before 128 rest ≡ Some (slots, []) → 2 ≤ level → level ≤ 64 → 0 < length slots → internal_in bytes ≡ Some (In db node level slots)
 unfolding internal_in
 internal_again bytes one more rest db node level slots a b c d low high some =

@@ -1,9 +1,10 @@
 -- A field that is read is the field that was written, and what was written is read again, whatever follows it.
-use Rattle.std.proofs.Common.{◌≡◌, ℕ, zero, suc, ◌+◌, ◌^◌, ◌<◌, ◌≤◌, Bool, true, false, cond, eqb, leb, List, [], ◌∷◌, ◌++◌, length, Option, Some, None, refl, sym, ap, subst, ◌∙◌, append_assoc, arith}
-use Rattle.std.specs.Prelude.{◌&&◌, IfSome}
+use Rattle.std.proofs.Common.{◌≡◌, ℕ, zero, suc, ◌+◌, ◌^◌, ◌<◌, ◌≤◌, Bool, true, false, cond, eqb, leb, List, [], ◌∷◌, ◌++◌, length, Option, Some, None, Result, Ok, Err, refl, sym, ap, subst, ◌∙◌, append_assoc, arith}
+use Rattle.std.specs.Prelude.{◌&&◌, IfSome, IfOk}
+use Rattle.std.specs.Result.{result_ok}
 use Rattle.std.specs.Int.{Width, w16, w32, w64, to_be_bytes}
 use Rattle.std.specs.List.{AllByRecursion, flat_map}
-use Rattle.std.proofs.lemmas.Bool.{eqb-true, leb-true, le-leb}
+use Rattle.std.proofs.lemmas.Bool.{eqb-true, leb-true, le-leb, lt-leb}
 use Rattle.std.proofs.lemmas.List.{append-nil, length-append}
 use Rattle.je_order.specs.declared.name.Name.{Name}
 use Rattle.je_bytes.specs.Reading.{AreBytes, byte_in, number_in, run_in, IsReadAsWritten}
@@ -111,6 +112,14 @@ string_in-again : (text rest : List ℕ) → length text ≤ 4096 → string_in 
 unfolding string_in
 string_in-again text rest le =
     rw (number_in-again w16 (2 ^ 16) two_bytes (length text) (text ++ rest) (omega arith), le-leb _ _ le, run_in-again text rest) refl
+
+-- a string whose length is too great
+pub string_in-long : {E : Type 0} (bytes rest : List ℕ) (len : ℕ) (read : Result ℕ E) → result_ok read ≡ Some len → IfOk read (λ n. number_in w16 bytes ≡ Some (n, rest)) → 4096 < len → string_in bytes ≡ None
+unfolding string_in
+string_in-long bytes rest len (Ok n) is next long =
+    let same : n ≡ len = some_is n len is in
+    bind_is (number_in w16 bytes) (λ (l : ℕ × List ℕ). cond (leb l.0 4096) (run_in l.0 l.1) None) (n, rest) next ∙ ap (λ (t : Bool). cond t (run_in n rest) None) (lt-leb n 4096 (omega (arith, same)))
+string_in-long bytes rest len (Err e) is next long = absurd cc
 
 a_string : IsField (λ (text : List ℕ). length text ≤ 4096) string string_in
 a_string = record { takes = string_in-takes; again = string_in-again }
