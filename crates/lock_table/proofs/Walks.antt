@@ -1,6 +1,6 @@
 -- Walks along a list: what was found so far, and what the rest gives.
 use Rattle.std.proofs.Common.{◌≡◌, ◌<◌, ◌≤◌, ◌+◌, ℕ, Bool, true, false, cond, List, [], ◌∷◌, ◌++◌, length, get_or, drop, map, sym, ap, ◌∙◌, append_assoc}
-use Rattle.std.specs.List.{filter}
+use Rattle.std.specs.List.{filter, flat_map}
 use Rattle.std.proofs.lemmas.List.{append-nil, drop_all, drop_more}
 
 -- all items were seen
@@ -36,3 +36,14 @@ pub one_fails : {X Y : Type 0} (p : X → Bool) (f : X → Y) (xs : List X) (i :
 one_fails {X} {Y} p f xs i d found more all within so fails is =
     ap (λ (l : List Y). l ++ map f (filter p (drop (i + 1) xs))) is
     ∙ ap (λ (l : List X). found ++ map f l) (passes_from p xs i d false within fails) ∙ so
+
+-- one entry more of a list whose entries give lists
+pub gives_more : {X Y : Type 0} (f : X → List Y) (x : X) (before rest : List X) (found more all : List Y) → before ≡ x ∷ rest → found ++ flat_map f before ≡ all → more ≡ found ++ f x → more ++ flat_map f rest ≡ all
+gives_more {X} {Y} f x before rest found more all is so put =
+    ap (λ (l : List Y). l ++ flat_map f rest) put
+    ∙ append_assoc found (f x) (flat_map f rest)
+    ∙ ap (λ (l : List X). found ++ flat_map f l) (sym is) ∙ so
+
+-- no entry is left
+pub gives_all : {X Y : Type 0} (f : X → List Y) (rest : List X) (found all : List Y) → rest ≡ [] → found ++ flat_map f rest ≡ all → found ≡ all
+gives_all {X} {Y} f rest found all none so = sym (append-nil found) ∙ ap (λ (l : List X). found ++ flat_map f l) (sym none) ∙ so
