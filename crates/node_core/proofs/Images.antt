@@ -1,13 +1,14 @@
 -- A node's last full image, with what was changed since put in, is the image that it has now.
-use Rattle.std.proofs.Common.{◌≡◌, Bool, true, false, cond, not, ◌&&◌, List, [], ◌∷◌, map, Option, Some, None, is_eq, refl, sym, ap, subst, ◌∙◌, inl, inr, ◌⊎◌}
+use Rattle.std.proofs.Common.{◌≡◌, ℕ, Bool, true, false, cond, not, ◌&&◌, List, [], ◌∷◌, map, Option, Some, None, is_eq, refl, sym, ap, ap₂, subst, ◌∙◌, inl, inr, ◌⊎◌}
 use Rattle.std.specs.Prelude.{IsSome}
 use Rattle.je_order.specs.declared.name.Name.{Name}
 use Rattle.je_order.specs.Order.{name_cmp}
+use Rattle.node_core.specs.declared.slot.Slot.{Slot}
 use Rattle.node_core.specs.declared.slot.Marked.{Marked}
 use Rattle.node_core.specs.declared.node.Node.{Node}
 use Rattle.node_core.specs.Sorted.{Rises, at, put, put_all, without}
 use Rattle.node_core.specs.Changes.{is_committed, committed, changed, unmarked, shows, has_committed}
-use Rattle.node_core.specs.Nodes.{IsFullImage}
+use Rattle.node_core.specs.Nodes.{with_slot, IsFullImage}
 use Rattle.node_core.proofs.Order.{same, equal_of}
 use Rattle.node_core.proofs.Finding.{keep, or_else, at_put, at_filter, at_put_all, at_without, same_lists, rises_put, rises_filter, rises_put_all}
 use Rattle.node_core.proofs.Places.{rises_unmarked}
@@ -119,3 +120,12 @@ without_still image y n mid new same_node is h none full some =
     let none_here : has_committed y mid.slots ≡ false = subst (λ (k : Node). has_committed y k.slots ≡ false) (sym same_node) none in
     let full_here : IsFullImage image mid = subst (IsFullImage image) (sym same_node) full in
     subst (GoesOn image) (sym is) (without_goes_on image mid.slots y h none_here (full_here some))
+
+-- a node into which a slot was put
+pub with_slot_is : (n : Node) (s : Slot) (is_changed hides : Bool) (full : Option ℕ) (ms : List Marked) → is_changed ≡ is_committed s.version → ms ≡ put (record { slot = s; changed = is_changed }) n.slots
+    → hides ≡ (not (is_committed s.version) && has_committed s.name n.slots) → full ≡ cond hides None n.full
+    → (let m : Node = record { db = n.db; number = n.number; level = n.level; full = full; slots = ms } in m) ≡ with_slot s n
+with_slot_is n s is_changed hides full ms changed_is ms_are hides_is full_is =
+    let made : Option ℕ → List Marked → Node = λ f ks. record { db = n.db; number = n.number; level = n.level; full = f; slots = ks } in
+    let set : Bool → List Marked = λ b. put (record { slot = s; changed = b }) n.slots in
+    ap₂ made (full_is ∙ ap (λ (b : Bool). cond b None n.full) hides_is) (ms_are ∙ ap set changed_is)
