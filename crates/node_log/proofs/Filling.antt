@@ -1,8 +1,8 @@
 -- A node that is filled slot by slot.
-use Rattle.std.proofs.Common.{◌≡◌, ℕ, suc, ◌+◌, ◌<◌, ◌≤◌, Bool, true, false, cond, leb, List, [], ◌∷◌, ◌++◌, length, map, Option, Some, None, Ordering, Less, Equal, Greater, is_eq, refl, sym, ap, subst, ◌∙◌, append_assoc, arith}
-use Rattle.std.specs.Prelude.{if◌then◌else◌}
+use Rattle.std.proofs.Common.{◌≡◌, ℕ, suc, ◌+◌, ◌<◌, ◌≤◌, Bool, true, false, cond, eqb, leb, List, [], ◌∷◌, ◌++◌, length, map, Option, Some, None, Ordering, Less, Equal, Greater, is_eq, refl, sym, ap, subst, ◌∙◌, append_assoc, arith}
+use Rattle.std.specs.Prelude.{if◌then◌else◌, option_map}
 use Rattle.std.specs.Ordering.{match_ordering}
-use Rattle.std.proofs.lemmas.Bool.{lt-leb}
+use Rattle.std.proofs.lemmas.Bool.{lt-leb, eq-eqb, and_from}
 use Rattle.std.proofs.lemmas.List.{append-nil, length-map}
 use Rattle.je_order.specs.Order.{name_cmp}
 use Rattle.log_entry.specs.declared.child_slot.ChildSlot.{ChildSlot}
@@ -12,12 +12,12 @@ use Rattle.node_core.specs.declared.slot.Slot.{Slot}
 use Rattle.node_core.specs.declared.slot.Marked.{Marked}
 use Rattle.node_core.specs.declared.node.Node.{Node}
 use Rattle.node_core.specs.Sorted.{Rises, at, put, put_all}
-use Rattle.node_core.specs.Changes.{set_now, unmarked}
-use Rattle.node_log.specs.Slots.{slot_of_record, slot_of_child, fresh}
+use Rattle.node_core.specs.Changes.{changed, set_now, slots_in, unmarked}
+use Rattle.node_log.specs.Slots.{record_of, slot_of_record, slot_of_child, fresh}
 use Rattle.log_entry.specs.declared.entry.Entry.{Entry}
-use Rattle.log_entry.specs.declared.entry.Entry.TheVariants.{In, Bin}
+use Rattle.log_entry.specs.declared.entry.Entry.TheVariants.{In, Bin, BinDelta}
 use Rattle.node_core.specs.Nodes.{settled}
-use Rattle.node_log.specs.Images.{node_of, with_delta}
+use Rattle.node_log.specs.Images.{delta_of, node_of, with_delta, with_entry}
 use Rattle.node_log.proofs.Rising.{put_last, records_rise, children_rise}
 
 pub mapped : {A B C : Type 0} (f : B → C) (g : A → B) (xs : List A) → map f (map g xs) ≡ map (λ x. f (g x)) xs
@@ -127,3 +127,20 @@ with_some n new full rs slots room is room_is has_room db number level slots_are
     ∙ ap (λ (k : ℕ). let o : Option Node = Some (record { db = new.db; number = k; level = n.level; full = Some full; slots = all }) in o) (sym number)
     ∙ ap (λ (k : ℕ). let o : Option Node = Some (record { db = new.db; number = new.number; level = k; full = Some full; slots = all }) in o) (sym level)
     ∙ ap (λ (l : List Marked). let o : Option Node = Some (record { db = new.db; number = new.number; level = new.level; full = Some full; slots = l }) in o) (sym slots_are)
+
+-- a delta of the node itself
+pub entry_shown : (n : Node) (e : Entry) (db number full : ℕ) (rs held : List RecordSlot) → e ≡ BinDelta db number full rs → held ≡ rs → db ≡ n.db → number ≡ n.number → with_delta n full held ≡ with_entry n e
+entry_shown n e db number full rs held is held_is db_is number_is =
+    ap (with_delta n full) held_is
+    ∙ ap (λ (b : Bool). cond b (with_delta n full rs) None) (sym (and_from (eqb db n.db) (eqb number n.number) (eq-eqb db n.db db_is) (eq-eqb number n.number number_is)))
+    ∙ ap (with_entry n) (sym is)
+
+-- ---- a delta that is made
+
+pub delta_is : (n : Node) (full : ℕ) (slots : List Slot) (records : List RecordSlot) → n.level ≡ 1 → n.full ≡ Some full → slots ≡ slots_in (changed n.slots) → records ≡ map record_of slots
+    → (let o : Option Entry = Some (BinDelta n.db n.number full records) in o) ≡ delta_of n
+delta_is n full slots records level full_is slots_are records_are =
+    let shown : ℕ → Entry = λ f. BinDelta n.db n.number f (map record_of (slots_in (changed n.slots))) in
+    ap (λ (rs : List RecordSlot). let o : Option Entry = Some (BinDelta n.db n.number full rs) in o) (records_are ∙ ap (map record_of) slots_are)
+    ∙ ap (option_map shown) (sym full_is)
+    ∙ ap (λ (b : Bool). cond b (option_map shown n.full) None) (sym (eq-eqb n.level 1 level))
