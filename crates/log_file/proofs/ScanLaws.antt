@@ -1,6 +1,7 @@
 -- A scan that is under way, from entry to entry.
-use Rattle.std.proofs.Common.{◌≡◌, ℕ, ◌+◌, ◌≤◌, ◌^◌, ◌==◌, ◌&&◌, true, false, cond, List, [], ◌∷◌, ◌++◌, length, drop, refl, sym, ap, subst, ◌∙◌, append_assoc, arith, nat_lt, Bool, Some, None, length-drop}
-use Rattle.std.proofs.lemmas.Bool.{eqb-true}
+use Rattle.std.proofs.Common.{◌≡◌, ℕ, ◌+◌, ◌≤◌, ◌^◌, ◌==◌, ◌&&◌, true, false, cond, List, [], ◌∷◌, ◌++◌, length, drop, refl, sym, ap, ap₂, subst, ◌∙◌, append_assoc, arith, nat_lt, Bool, Option, Some, None, length-drop, ◌<◌}
+use Rattle.std.specs.Prelude.{SomeIff}
+use Rattle.std.proofs.lemmas.Bool.{eqb-true, eq-eqb, lt-ltb, le-ltb}
 use Rattle.std.proofs.lemmas.Option.{none-some, same_Some}
 use Rattle.std.proofs.lemmas.List.{append-nil, drop-drop}
 use Rattle.log_entry.specs.declared.entry.Entry.{Entry}
@@ -78,6 +79,18 @@ whole_goes_on bytes at last entry prev len end inside is size some = by_case (pr
     by_case true true same fit h =
         subst (λ (n : ℕ). IsNext bytes at last (record { entry = entry; end = n })) (sym (same_Some end (at + size_of entry) h))
         (fit_goes_on bytes at last entry len inside (is ∙ ap (λ (p : ℕ). Whole entry p len) (eqb-true prev last same)) size fit)
+
+-- where an entry ends that the run goes on with, by a sum that has to be below 2^32
+sum_is : (sum : Option ℕ) (end : ℕ) → SomeIff sum (end < 2 ^ 32) end → sum ≡ cond (nat_lt end (2 ^ 32)) (Some end) None
+sum_is None end past = ap (λ (b : Bool). cond b (Some end) None) (sym (le-ltb end (2 ^ 32) (omega (arith, past))))
+sum_is (Some n) end is = ap (λ (k : ℕ). let o : Option ℕ = Some k in o) is.1 ∙ ap (λ (b : Bool). cond b (Some end) None) (sym (lt-ltb end (2 ^ 32) is.0))
+
+pub end_is : (entry : Entry) (prev at last size : ℕ) (follows : Bool) (sum : Option ℕ) → prev ≡ last → follows ≡ may_follow entry → follows ≡ true → size ≡ size_of entry →
+    SomeIff sum (at + size < 2 ^ 32) (at + size) → sum ≡ end_in_run entry prev at last
+end_is entry prev at last size follows sum same is may size_is ends =
+    sum_is sum (at + size) ends
+    ∙ ap (λ (n : ℕ). cond (nat_lt (at + n) (2 ^ 32)) (Some (at + n)) None) size_is
+    ∙ ap₂ (λ (a : Bool) (b : Bool). cond (a && (b && nat_lt (at + size_of entry) (2 ^ 32))) (Some (at + size_of entry)) None) (sym (eq-eqb prev last same)) (sym may ∙ is)
 
 -- ---- the entries read so far
 

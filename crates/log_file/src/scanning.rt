@@ -60,7 +60,10 @@ fn next_entry(alloc: Global, bytes: &[u8], at: u32, last: u32) -> Result<Option<
     };
     match end_of(&entry, prev, at, last) {
         Some(end) => Ok(Some(Next { entry, end })),
-        None => Ok(None),
+        None => {
+            drop(entry);
+            Ok(None)
+        }
     }
 }
 
@@ -138,7 +141,11 @@ pub fn scan_bytes(alloc: Global, bytes: &[u8], f: FileNo) -> Result<Found, Alloc
     ensures { IfOk result (λ found. found ≡ found_in f.0 bytes.now) }
 {
     match decode(alloc, bytes)? {
-        Decoded::Whole { entry, prev, .. } => found_behind(alloc, bytes, f, &entry, prev),
+        Decoded::Whole { entry, prev, .. } => {
+            let found = found_behind(alloc, bytes, f, &entry, prev);
+            drop(entry);
+            found
+        }
         Decoded::Torn(_) => Ok(Found::Run(no_run(alloc))),
     }
 }
