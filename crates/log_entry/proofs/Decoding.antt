@@ -1,13 +1,25 @@
 -- How bytes are decoded, a step at a time.
-use Rattle.std.proofs.Common.{◌≡◌, ℕ, ◌+◌, ◌-◌, ◌<◌, ◌≤◌, Bool, true, false, cond, eqb, List, length, get_or, take, drop, Option, Some, None, refl, sym, ap, ◌∙◌, arith}
+use Rattle.std.proofs.Common.{◌≡◌, ℕ, ◌+◌, ◌-◌, ◌<◌, ◌≤◌, Bool, true, false, cond, eqb, List, length, get_or, take, drop, Option, Some, None, refl, sym, ap, ◌∙◌, length-drop, arith}
 use Rattle.std.specs.Int.{w32}
 use Rattle.std.proofs.lemmas.Bool.{lt-ltb, le-ltb, eq-eqb, ne_eqb}
+use Rattle.std.proofs.Math.Seq.{take-length}
 use Rattle.je_bytes.specs.Adler.{adler32_of}
 use Rattle.log_entry.specs.declared.entry.Entry.{Entry}
 use Rattle.log_entry.specs.declared.decoder.Decoded.TheVariants.{Whole, Torn as NotWhole}
 use Rattle.log_entry.specs.declared.decoder.Torn.TheVariants.{Short, BadSum, BadKind}
 use Rattle.log_entry.specs.Body.{entry_in}
 use Rattle.log_entry.specs.Reading.{number_at, known, whole_in, summed_in, decoded}
+
+-- ---- whether the checksum is right
+
+-- the bytes behind the checksum, as a part with an end
+rest_part : (bytes : List ℕ) → take (length bytes - 4) (drop 4 bytes) ≡ drop 4 bytes
+rest_part bytes = ap (λ (n : ℕ). take n (drop 4 bytes)) (sym (length-drop 4 bytes)) ∙ take-length (drop 4 bytes)
+
+pub sum_tested : (bytes : List ℕ) (len stands sum : ℕ) → stands ≡ number_at w32 0 bytes → sum ≡ adler32_of (take (10 + len) (take (length bytes - 4) (drop 4 bytes)))
+    → eqb stands sum ≡ eqb (number_at w32 0 bytes) (adler32_of (take (10 + len) (drop 4 bytes)))
+sum_tested bytes len stands sum is sum_is =
+    ap (λ (n : ℕ). eqb n sum) is ∙ ap (eqb (number_at w32 0 bytes)) (sum_is ∙ ap (λ (l : List ℕ). adler32_of (take (10 + len) l)) (rest_part bytes))
 
 -- ---- how long a body is
 
