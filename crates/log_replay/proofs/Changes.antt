@@ -1,11 +1,15 @@
 -- Several changes of records, one after another.
-use Rattle.std.proofs.Common.{◌≡◌, ℕ, List, [], ◌∷◌, ◌==◌, cond, ap, sym, map, ◌∙◌}
+use Rattle.std.proofs.Common.{◌≡◌, ℕ, List, [], ◌∷◌, ◌++◌, ◌==◌, Bool, true, false, cond, refl, ap, sym, map, ◌∙◌, Option, Result, arith}
+use Rattle.std.specs.Result.{OnOk}
+use Rattle.std.proofs.lemmas.Result.{on_ok_weaker}
+use Rattle.std.proofs.lemmas.Bool.Decides.{nat_tests}
+use Rattle.je_order.specs.declared.name.Name.{Name}
 use Rattle.log_entry.specs.declared.entry.Entry.TheVariants.{Commit}
 use Rattle.log_replay.specs.declared.pending_change.PendingChange.{PendingChange}
 use Rattle.log_replay.specs.Rows.{Row, Rows, RowChange, row_changed, rows_changed, rows_with}
 use Rattle.log_replay.specs.Replay.{Replay, replayed_entry, changes_of}
 use Rattle.log_replay.specs.Pending.{as_change, pending_in, StandsFor}
-use Rattle.log_replay.proofs.Waiting.{changes_of-others}
+use Rattle.log_replay.proofs.Waiting.{changes_of-others, changes_of-push}
 
 -- changes leave the same where they begin at the same
 pub rows_changed-same : (changes : List RowChange) (old new : Rows) → ((d : ℕ) → new d ≡ old d) → (d : ℕ) → rows_changed changes new d ≡ rows_changed changes old d
@@ -30,3 +34,24 @@ committed txn taken old_rows new_rows old_pending new_pending is rest made repla
       ∙ ap (λ (changes : List RowChange). cond (t == txn) [] changes) (stands.pending t)
       ∙ sym (changes_of-others t txn replay.pending);
 }
+
+-- a change waits behind those that wait for its commit
+pub waits : {T E : Type 0} (result : Result T E) (txn db : ℕ) (name : Name) (value : Option (List ℕ)) (rows : Rows) (old new : List (ℕ × List PendingChange)) (replay : Replay) →
+    StandsFor rows old replay →
+    OnOk result ((t : ℕ) → pending_in new t ≡ cond (t == txn) (pending_in old t ++ record { txn = t; db = db; name = name; value = value } ∷ []) (pending_in old t)) →
+    OnOk result (StandsFor rows new (record { rows = replay.rows; pending = replay.pending ++ record { txn = txn; db = db; name = name; value = value } ∷ [] }))
+waits result txn db name value rows old new replay stands =
+    on_ok_weaker result (λ (more : (t : ℕ) → pending_in new t ≡ cond (t == txn) (pending_in old t ++ change t ∷ []) (pending_in old t)). record {
+      rows = stands.rows;
+      pending = λ (t : ℕ). more t ∙ by_case t (t == txn) refl ∙ sym (changes_of-push t replay.pending (change txn));
+    })
+  where
+    change : ℕ → RowChange
+    change t = record { txn = t; db = db; name = name; value = value }
+
+    by_case : (t : ℕ) (b : Bool) → (t == txn) ≡ b →
+        cond b (pending_in old t ++ change t ∷ []) (pending_in old t) ≡ cond b (changes_of t replay.pending ++ change txn ∷ []) (changes_of t replay.pending)
+    by_case t true h =
+        let same : t ≡ txn = grind (arith, nat_tests) in
+        ap (λ (l : List RowChange). l ++ change t ∷ []) (stands.pending t) ∙ ap (λ (n : ℕ). changes_of t replay.pending ++ change n ∷ []) same
+    by_case t false h = stands.pending t

@@ -1,7 +1,16 @@
+use Rattle.std.proofs.Common.{None, Some, rules}
 use Rattle.std.proofs.lemmas.Result.{on_ok_weaker}
 use Rattle.log_replay.specs.Loading.{loaded}
-use Rattle.log_replay.proofs.Changes.{committed}
+use Rattle.log_replay.proofs.Changes.{committed, waits}
 use Rattle.log_replay.proofs.replaying.take_entry.Goals as goal
+
+pub returns-in-Put : goal.returns-in-Put
+returns-in-Put c replay stands =
+    rw c.in-Put.is (waits _ c.in-Put.txn.0 c.in-Put.db c.in-Put.name (Some c.in-Put.value) (loaded c.args.loading.now) c.args.pending.now _ replay stands (search rules))
+
+pub returns-in-Delete : goal.returns-in-Delete
+returns-in-Delete c replay stands =
+    rw c.in-Delete.is (waits _ c.in-Delete.txn.0 c.in-Delete.db c.in-Delete.name None (loaded c.args.loading.now) c.args.pending.now _ replay stands (search rules))
 
 pub returns-in-Commit : goal.returns-in-Commit
 returns-in-Commit c replay stands =
