@@ -22,3 +22,4 @@ pub mod Chances
 pub mod Left
 pub mod Passing
 pub mod KeptOpening
+pub mod Faults

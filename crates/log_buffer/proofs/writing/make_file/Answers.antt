@@ -2,6 +2,7 @@ use Rattle.std.proofs.Common.{ap, ◌∙◌}
 use Rattle.je_disk.specs.States.{created}
 use Rattle.log_buffer.proofs.Rooms.{on_ok}
 use Rattle.log_buffer.proofs.Passing.{made_synced, made_next}
+use Rattle.log_buffer.proofs.Faults.{fault_again, fault_then}
 use Rattle.log_buffer.proofs.writing.make_file.Goals as goal
 
 pub returns-clause-moments : goal.returns-clause-moments
@@ -23,3 +24,22 @@ returns-clause-read_out g c = c.create.ensures.read_out ∙ c.sync_now.ensures.r
 
 pub returns-clause-read_of : goal.returns-clause-read_of
 returns-clause-read_of g c = c.create.ensures.read_of ∙ c.sync_now.ensures.read_of
+
+pub returns-clause-cause : goal.returns-clause-cause
+returns-clause-cause g c =
+    let faults = g.D.Disk.faults in
+    fault_then (faults c.args.disk.now) (faults c.sync_now.new.self) (faults c.create.new.self) c.create.result c.in_ok-sync_now.ensures.cause.never_falls c.create.ensures.cause
+
+pub returns-in_err-sync_now-clause-cause : goal.returns-in_err-sync_now-clause-cause
+returns-in_err-sync_now-clause-cause g c =
+    let faults = g.D.Disk.faults in
+    fault_again (faults c.args.disk.now) (faults c.sync_now.new.self) c.from_residual.result c.in_err-sync_now.field-0.0 c.from_residual.ensures.1 c.in_err-sync_now.ensures.cause
+
+pub returns-in_err-sync_now-clause-sync_out : goal.returns-in_err-sync_now-clause-sync_out
+returns-in_err-sync_now-clause-sync_out g c = c.sync_now.ensures.sync_out
+
+pub returns-in_err-sync_now-clause-read_out : goal.returns-in_err-sync_now-clause-read_out
+returns-in_err-sync_now-clause-read_out g c = c.sync_now.ensures.read_out
+
+pub returns-in_err-sync_now-clause-read_of : goal.returns-in_err-sync_now-clause-read_of
+returns-in_err-sync_now-clause-read_of g c = c.sync_now.ensures.read_of

@@ -13,3 +13,15 @@ pub returns-clause-moments : goal.returns-clause-moments
 returns-clause-moments g c =
     let some = some_bytes c.args.bytes.now c.is_empty.result c.is_empty.ensures c.if-is_empty.false in
     λ told. put_passes c.args.f.0 c.args.bytes.now (g.D.Disk.history c.args.disk.now) (g.D.Disk.history c.append.new.self) some (c.append.ensures.moments told)
+
+pub returns-clause-cause : goal.returns-clause-cause
+returns-clause-cause g c = c.append.ensures.cause
+
+pub returns-clause-sync_out : goal.returns-clause-sync_out
+returns-clause-sync_out g c = c.append.ensures.sync_out
+
+pub returns-clause-read_out : goal.returns-clause-read_out
+returns-clause-read_out g c = c.append.ensures.read_out
+
+pub returns-clause-read_of : goal.returns-clause-read_of
+returns-clause-read_of g c = c.append.ensures.read_of

@@ -8,6 +8,7 @@ use Rattle.log_buffer.proofs.Pieces.{IsCut}
 use Rattle.log_buffer.proofs.Tails.{bytes_for_from}
 use Rattle.log_buffer.proofs.Written.{WrittenUpTo, put_reads, file_reads, written_first, written_next, written_all, pieced}
 use Rattle.log_buffer.proofs.KeptWriting.{GoesOn, through_first, goes_first, read_so_far, through_next, goes_next, tail_next, piece_some}
+use Rattle.log_buffer.proofs.Faults.{fault_again, fault_none, fault_then}
 use Rattle.log_buffer.proofs.writing.write_tail.Goals as goal
 
 pub loop-i-init : goal.loop-i-init
@@ -127,3 +128,17 @@ returns-clause-holds g c =
     (c.loop-i.invariant.goes told log removed least begun
     (subst (IsTailOf log (now (g.D.Disk.history c.args.disk.now)).reads (bytes_for c.args.tail.now.bytes.items c.args.tail.now.starts.items c.args.last)) same is)
     (subst (λ (n : ℕ). Holds log removed least begun n (now (g.D.Disk.history c.args.disk.now))) same h)).holds
+
+pub returns-in_err-write_behind-clause-cause : goal.returns-in_err-write_behind-clause-cause
+returns-in_err-write_behind-clause-cause g c =
+    let faults = g.D.Disk.faults in
+    fault_again (faults c.args.disk.now) (faults c.write_behind.new.disk) c.from_residual.result c.in_err-write_behind.field-0.0 c.from_residual.ensures.1 c.in_err-write_behind.ensures.cause
+
+pub returns-in_err-write_file-clause-cause : goal.returns-in_err-write_file-clause-cause
+returns-in_err-write_file-clause-cause g c =
+    let faults = g.D.Disk.faults in
+    fault_then (faults c.args.disk.now) (faults c.loop-i.disk) (faults c.write_file.new.disk) c.from_residual-in_err-write_file.result c.loop-i.invariant.never_falls
+    (fault_again (faults c.loop-i.disk) (faults c.write_file.new.disk) c.from_residual-in_err-write_file.result c.in_err-write_file.field-0.0 c.from_residual-in_err-write_file.ensures.1 c.in_err-write_file.ensures.cause)
+
+pub returns-clause-cause : goal.returns-clause-cause
+returns-clause-cause g c = fault_none (g.D.Disk.faults c.args.disk.now) (g.D.Disk.faults c.loop-i.disk) tt c.loop-i.invariant.never_falls

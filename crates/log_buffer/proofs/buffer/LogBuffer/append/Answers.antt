@@ -3,7 +3,7 @@ use Rattle.je_disk.specs.Moments.{now}
 use Rattle.je_lsn.specs.Naming.{last_file}
 use Rattle.log_entry.specs.Spelling.{size_of}
 use Rattle.log_buffer.specs.declared.place.Place.{Place}
-use Rattle.log_buffer.specs.Flip.{placed_at}
+use Rattle.log_buffer.specs.Flip.{placed_at, behind, lsn_of}
 use Rattle.log_buffer.specs.Buffer.{end_of, first_of, file_max_of}
 use Rattle.log_buffer.specs.Crash.{Holds, KeptThrough}
 use Rattle.log_buffer.specs.Log.{HasLog, log_with}
@@ -115,3 +115,27 @@ returns-clause-full g c =
     c.in_ok-place.ensures.place ∙ ap (λ (n : ℕ). placed_at old.file_max (end_of old) n) c.size-size.ensures.value in
     let low = subst (λ (p : Place). p.file ≤ last_file) at c.in_ok-place.ensures.file in
     λ works. (λ is. absurd cc, λ past. absurd (omega (arith, low, past)))
+
+pub returns-clause-end : goal.returns-clause-end
+returns-clause-end g c =
+    let old = c.args.self.now in
+    let e = c.args.entry.now in
+    let at : c.in_ok-place.place ≡ placed_at (file_max_of old) (end_of old) (size_of e) =
+    c.in_ok-place.ensures.place ∙ ap (λ (n : ℕ). placed_at old.file_max (end_of old) n) c.size-size.ensures.value in
+    c.write_long.ensures.end ∙ c.in_ok-put.ensures.end ∙ ap (λ (p : Place). behind p (size_of e)) at
+
+pub returns-clause-last : goal.returns-clause-last
+returns-clause-last g c =
+    let old = c.args.self.now in
+    let e = c.args.entry.now in
+    let at : c.in_ok-place.place ≡ placed_at (file_max_of old) (end_of old) (size_of e) =
+    c.in_ok-place.ensures.place ∙ ap (λ (n : ℕ). placed_at old.file_max (end_of old) n) c.size-size.ensures.value in
+    c.write_long.ensures.last ∙ c.in_ok-put.ensures.last ∙ ap (λ (p : Place). p.offset) at
+
+pub returns-clause-at : goal.returns-clause-at
+returns-clause-at g c =
+    let old = c.args.self.now in
+    let e = c.args.entry.now in
+    let at : c.in_ok-place.place ≡ placed_at (file_max_of old) (end_of old) (size_of e) =
+    c.in_ok-place.ensures.place ∙ ap (λ (n : ℕ). placed_at old.file_max (end_of old) n) c.size-size.ensures.value in
+    c.new.ensures ∙ ap lsn_of at

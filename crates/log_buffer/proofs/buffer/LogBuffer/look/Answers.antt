@@ -4,7 +4,7 @@ use Rattle.log_buffer.specs.Buffer.{tail_of}
 use Rattle.log_buffer.specs.Log.{Spells}
 use Rattle.log_buffer.proofs.OnlyRead.{read_none}
 use Rattle.log_buffer.proofs.Still.{tail_same}
-use Rattle.log_buffer.proofs.Causing.{cause_ok, cause_failed}
+use Rattle.log_buffer.proofs.Causing.{cause_ok, cause_failed, cause_memory, err_is}
 use Rattle.log_buffer.proofs.Fetched.{standing, on_disk, in_the_tail}
 use Rattle.log_buffer.proofs.buffer.LogBuffer.look.Goals as goal
 
@@ -57,3 +57,6 @@ returns-clause-only_read g c = read_none g.D.Disk.tells g.D.Disk.history g.D.Dis
 
 pub returns-clause-kept : goal.returns-clause-kept
 returns-clause-kept g c = tail_same c.args.self.now
+
+pub returns-in_err-found-clause-cause : goal.returns-in_err-found-clause-cause
+returns-in_err-found-clause-cause g c = cause_memory _ _ _ _ _ c.if-self.false c.if-self.false (le_refl _) (err_is _ _ c.from_residual.ensures.1)

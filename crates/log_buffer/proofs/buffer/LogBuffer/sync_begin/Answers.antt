@@ -1,4 +1,5 @@
-use Rattle.std.proofs.Common.{Some, length, refl, sym, ap, subst, arith}
+use Rattle.std.proofs.Common.{Some, length, refl, sym, ap, subst, arith, rules}
+use Rattle.std.specs.Result.{is_err}
 use Rattle.je_disk.specs.Moments.{now}
 use Rattle.je_disk.specs.States.{State}
 use Rattle.log_file.specs.Log.{entries_of}
@@ -6,7 +7,7 @@ use Rattle.log_buffer.specs.Buffer.{file_of, offset_of, last_of, first_of}
 use Rattle.log_buffer.specs.Crash.{Holds}
 use Rattle.log_buffer.proofs.KeptSyncs.{holds_begun, begun_through}
 use Rattle.log_buffer.proofs.Still.{log_still, tail_over}
-use Rattle.log_buffer.proofs.Causing.{cause_err, err_is, cause_then_ok, cause_then_fault}
+use Rattle.log_buffer.proofs.Causing.{cause_err, err_is, failed_not, cause_then_ok, cause_then_fault}
 use Rattle.log_buffer.proofs.buffer.LogBuffer.sync_begin.Goals as goal
 
 pub returns-in-Ok-clause-holds : goal.returns-in-Ok-clause-holds
@@ -46,3 +47,15 @@ returns-in-Err-clause-cause g c = cause_then_fault _ _ _ _ _ c.write_out.result 
 
 pub returns-in_err-write_out-clause-cause : goal.returns-in_err-write_out-clause-cause
 returns-in_err-write_out-clause-cause g c = cause_err _ _ _ _ _ _ c.write_out.result _ _ c.in_err-write_out.was (err_is _ _ c.from_residual.ensures.1) refl refl c.write_out.ensures.cause
+
+pub returns-in-Ok-clause-written : goal.returns-in-Ok-clause-written
+returns-in-Ok-clause-written g c = search rules
+
+pub returns-in-Ok-clause-whole : goal.returns-in-Ok-clause-whole
+returns-in-Ok-clause-whole g c = search rules
+
+pub returns-in-Ok-clause-still : goal.returns-in-Ok-clause-still
+returns-in-Ok-clause-still g c = λ failed. failed_not _ _ _ _ c.write_out.result _ (ap is_err c.in_ok-write_out.was) c.write_out.ensures.cause failed
+
+pub returns-in-Err-clause-still : goal.returns-in-Err-clause-still
+returns-in-Err-clause-still g c = λ failed. failed_not _ _ _ _ c.write_out.result _ (ap is_err c.in_ok-write_out.was) c.write_out.ensures.cause failed

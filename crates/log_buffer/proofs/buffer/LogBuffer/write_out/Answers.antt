@@ -1,5 +1,6 @@
-use Rattle.std.proofs.Common.{ℕ, [], length, refl, ap, subst, ◌∙◌, arith}
+use Rattle.std.proofs.Common.{◌≡◌, ◌≤◌, ◌+◌, ℕ, List, [], length, vec_capacity, refl, ap, subst, ◌∙◌, arith}
 use Rattle.je_disk.specs.Moments.{now}
+use Rattle.log_buffer.specs.Buffer.{room_for}
 use Rattle.log_buffer.specs.Crash.{Holds}
 use Rattle.log_buffer.proofs.KeptWriting.{tail_is}
 use Rattle.log_buffer.proofs.Tails.{bytes_for_none}
@@ -45,3 +46,28 @@ returns-in-Ok-clause-cause g c = cause_ok _ _ _ _ _ c.if-self.false refl c.write
 
 pub returns-in-Err-clause-cause : goal.returns-in-Err-clause-cause
 returns-in-Err-clause-cause g c = cause_fault _ _ _ _ _ c.if-self.false refl c.write_tail.ensures.cause.never_falls refl c.in-Err.ensures.cause.failed
+
+-- room that bytes leave when they go
+more_spare : (room bytes spare more : ℕ) → room ≤ spare → bytes + spare ≤ more → room ≤ more
+more_spare room bytes spare more le kept = omega arith
+
+-- room for files that begin, once none begins
+none_begun : (starts begun : List ℕ) (count most places : ℕ) → starts ≡ [] → places ≡ most → length begun + count ≤ most → length starts + count ≤ places
+none_begun starts begun count most places none same le = let len = ap length none in omega (arith, len)
+
+pub returns-in-Ok-clause-written : goal.returns-in-Ok-clause-written
+returns-in-Ok-clause-written g c =
+    let last = c.args.self.now.file.0 in
+    λ f. same_for [] [] c.clear.new.self.bytes.items c.clear.new.self.starts.items last f c.clear.ensures.bytes c.clear.ensures.starts ∙ bytes_for_none last f
+
+pub returns-in-Ok-clause-whole : goal.returns-in-Ok-clause-whole
+returns-in-Ok-clause-whole g c = λ log has told f. c.in-Ok.ensures.done told f ∙ has.told told f
+
+pub returns-in-Ok-clause-room : goal.returns-in-Ok-clause-room
+returns-in-Ok-clause-room g c =
+    let old = c.args.self.now.tail in
+    λ sizes room. record {
+      bytes = more_spare (room_for sizes) (length old.bytes.items) old.bytes.spare c.clear.new.self.bytes.spare room.bytes c.clear.ensures.spare;
+      files = none_begun c.clear.new.self.starts.items old.starts.items (length sizes) (vec_capacity old.starts) (vec_capacity c.clear.new.self.starts) c.clear.ensures.starts c.clear.ensures.capacity room.files;
+      each = room.each;
+    }
