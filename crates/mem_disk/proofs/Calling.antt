@@ -1,5 +1,9 @@
 -- How a call of the disk is counted, and how it fails.
-use Rattle.std.proofs.Common.{◌≡◌, ◌≤◌, ◌<◌, ◌⊎◌, ◌↔◌, ◌∙◌, ℕ, List, Contains, Result, Ok, Err, IsErr, IsErrAnd, IsErrOf, IfOk, OnOk, OnErr, refl, sym, ap, subst, arith}
+use Rattle.std.proofs.Common.{◌≡◌, ◌≤◌, ◌<◌, ◌⊎◌, ◌↔◌, ◌∙◌, ℕ, nat_eq, Bool, true, false, List, Contains, Result, Ok, Err, IsErr, IsErrAnd, IsErrOf, IfOk, OnOk, OnErr, inl, inr, refl, sym, ap, subst, arith}
+use Rattle.std.specs.Bool.{Decides}
+use Rattle.std.specs.List.{IsAnyAnswer}
+use Rattle.std.proofs.lemmas.Bool.Decides.{Decides-eqb}
+use Rattle.std.proofs.lemmas.List.Elements.{contains_decides, Decides-contains}
 use Rattle.je_disk.specs.Causes.{Rose, HasFault, HasCause}
 use Rattle.je_disk.specs.States.{State}
 use Rattle.je_disk.specs.Moments.{Passes}
@@ -31,6 +35,30 @@ not_failed x is other = cc
 -- a call that worked is no error
 worked : {P : Type 0} → IsErr {T = Unit {0}} {E = DiskErr} (Ok tt) → P
 worked h = cc
+
+-- whether the number of a call is listed, by the search in a copy of the list
+is_listed : (copy fails : List ℕ) (made : ℕ) (here : Bool) → copy ≡ fails → IsAnyAnswer (λ y b. nat_eq y made ≡ b) copy here → Decides here (Contains fails made)
+is_listed copy fails made here same found =
+    subst (λ (numbers : List ℕ). Decides here (Contains numbers made)) same (Decides-contains copy made here (contains_decides nat_eq Decides-eqb copy made here found))
+
+-- a call behind the stop fails
+pub fails_late : (fails : List ℕ) (stop made next : ℕ) → next ≡ made → stop < made → true ≡ true ↔ (Contains fails next ⊎ (stop < next))
+fails_late fails stop made next is late = (λ _. inr (subst (λ (n : ℕ). stop < n) (sym is) late), λ _. refl)
+
+-- a call that is listed fails
+pub fails_listed : (copy fails : List ℕ) (stop made next : ℕ) (here : Bool) → copy ≡ fails → IsAnyAnswer (λ y b. nat_eq y made ≡ b) copy here → here ≡ true → next ≡ made →
+    true ≡ true ↔ (Contains fails next ⊎ (stop < next))
+fails_listed copy fails stop made next here same found is at =
+    (λ _. inl (subst (λ (n : ℕ). Contains fails n) (sym at) ((is_listed copy fails made here same found).0 is)), λ _. refl)
+
+-- a call that is neither works
+pub works : (copy fails : List ℕ) (stop made : ℕ) (here : Bool) → copy ≡ fails → IsAnyAnswer (λ y b. nat_eq y made ≡ b) copy here → here ≡ false → made ≤ stop →
+    false ≡ true ↔ (Contains fails made ⊎ (stop < made))
+works copy fails stop made here same found is within = (λ h. cc, by_cause)
+  where
+    by_cause : Contains fails made ⊎ (stop < made) → false ≡ true
+    by_cause (inl listed) = sym is ∙ (is_listed copy fails made here same found).1 listed
+    by_cause (inr late) = absurd (omega arith)
 
 -- the call failed
 pub call_failed : {T : Type 0} (before after : ℕ) (e : DiskErr) (result : Result T DiskErr) → IsErr result → IsErrAnd result (λ x. x ≡ e) →

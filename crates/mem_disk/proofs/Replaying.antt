@@ -164,6 +164,23 @@ pub held_from-end : (before after : List Change) (files : List (FileNo × Vec �
 held_from-end before after files i goal past pushed held_so =
     ap replay pushed ∙ replay-push before Sync ∙ ap synced (subst (λ (xs : List (FileNo × Vec ℕ Global)). held_from (replay before) (listed xs) ≡ goal) (drop_of_length-le files past) held_so)
 
+-- one more copy of a file
+listed-push : (copies : List (FileNo × Vec ℕ Global)) (copy : FileNo × Vec ℕ Global) (rest : List (ℕ × List ℕ)) → listed (copies ++ copy ∷ []) ++ rest ≡ listed copies ++ ((copy.0.0, copy.1.items) ∷ rest)
+listed-push [] copy rest = refl
+listed-push (first ∷ copies) copy rest = ap (λ (files : List (ℕ × List ℕ)). (first.0.0, first.1.items) ∷ files) (listed-push copies copy rest)
+
+copies-push : (reads : Files) (before after : List (FileNo × Vec ℕ Global)) (f : ℕ) (ks : List ℕ) (bytes : Vec ℕ Global) (goal : List (ℕ × List ℕ)) →
+    bytes.items ≡ content reads f → after ≡ before ++ (record { 0 = f }, bytes) ∷ [] → listed before ++ files_at reads (f ∷ ks) ≡ goal → listed after ++ files_at reads ks ≡ goal
+copies-push reads before after f ks bytes goal is pushed so =
+    ap (λ (files : List (FileNo × Vec ℕ Global)). listed files ++ files_at reads ks) pushed ∙ listed-push before (record { 0 = f }, bytes) (files_at reads ks)
+    ∙ ap (λ (there : List ℕ). listed before ++ ((f, there) ∷ files_at reads ks)) is ∙ so
+
+pub copies-step : (reads : Files) (before after : List (FileNo × Vec ℕ Global)) (ks : List ℕ) (i : ℕ) (bytes : Vec ℕ Global) (goal : List (ℕ × List ℕ)) →
+    i < length ks → bytes.items ≡ content reads (get_or ks i 0) → after ≡ before ++ (record { 0 = get_or ks i 0 }, bytes) ∷ [] →
+    listed before ++ files_at reads (drop i ks) ≡ goal → listed after ++ files_at reads (drop (i + 1) ks) ≡ goal
+copies-step reads before after ks i bytes goal within is pushed so =
+    rw add-one (copies-push reads before after (get_or ks i 0) (drop (suc i) ks) bytes goal is pushed (subst (λ (rest : List ℕ). listed before ++ files_at reads rest ≡ goal) (drop-cons ks i 0 within) so))
+
 -- the numbers of files
 numbers-files_at : (reads : Files) (ks : List ℕ) → map {A = ℕ × List ℕ} {B = ℕ} (λ p. p.0) (files_at reads ks) ≡ ks
 numbers-files_at reads [] = refl
