@@ -4,21 +4,47 @@ ghost use Rattle.je_lsn.specs.Naming.{last_file};
 ghost use Rattle.log_entry.specs.Body.{IsEntry};
 ghost use Rattle.log_file.specs.Scan.{may_follow};
 
-use je_disk::{Disk, ReadJob, SyncJob};
+use Logged::{Commit, Put};
+use Step::{
+    Append, CommitInSync, EndsAt, Fill, IsDamaged, IsWrittenBefore, IsWrittenPast, Read, ReadFile,
+    Remove, Reserve, WriteOut,
+};
+use je_disk::{ReadJob, SyncJob};
 use je_lsn::{FileNo, Lsn};
 use je_order::{Name, Octets, TxnId};
 use log_buffer::{LogBuffer, LogErr};
 use log_entry::Entry;
 use mem_disk::MemDisk;
 use std::alloc::{AllocError, Global};
-use std::process::Abort;
-use std::test::Fail;
 
 // An entry that the examples append: a transaction's put of so many bytes, or its commit.
-#[derive(Clone, Copy, PartialEq, Eq)]
-enum Step {
+#[derive(Clone, Copy)]
+enum Logged {
     Put(u64, u16),
     Commit(u64),
+}
+
+// What is done to a buffer or asked of it. A place is a file and an offset in it.
+#[derive(Clone, Copy)]
+enum Step {
+    Reserve(&'static [u32]),
+    // an entry goes to this place
+    Append(Logged, u32, u32),
+    // a put of 4,000 bytes goes into each file from 0 on, up to this one
+    Fill(u32),
+    // a commit goes to this place while a sync is out that has written the files before
+    CommitInSync(u32, u32),
+    WriteOut,
+    // this entry stands there
+    Read(Logged, u32, u32),
+    IsDamaged(u32, u32),
+    // the file is on the disk with so many bytes
+    ReadFile(u32, usize),
+    Remove(u32),
+    EndsAt(u32, u32),
+    // the files before this one are written whole, and no other
+    IsWrittenBefore(u32),
+    IsWrittenPast(u32),
 }
 
 fn sevens(alloc: Global, len: u16) -> Result<Octets, AllocError>
@@ -45,33 +71,23 @@ fn put(alloc: Global, txn: u64, len: u16) -> Result<Entry, AllocError>
     })
 }
 
-fn entry_of(alloc: Global, step: Step) -> Result<Entry, AllocError>
+fn entry_of(alloc: Global, logged: Logged) -> Result<Entry, AllocError>
     ensures entry { IfOk result (λ entry. IsEntry entry) }
     ensures follows { IfOk result (λ entry. may_follow entry ≡ true) }
 {
-    match step {
-        Step::Put(txn, len) => put(alloc, txn, len),
-        Step::Commit(txn) => Ok(Entry::Commit { txn: TxnId(txn) }),
+    match logged {
+        Put(txn, len) => put(alloc, txn, len),
+        Commit(txn) => Ok(Entry::Commit { txn: TxnId(txn) }),
     }
 }
 
-fn step_of(entry: &Entry) -> Option<Step> {
-    match entry {
-        Entry::Put { txn, value, .. } => {
-            let len = u16::try_from(value.len()).ok()?;
-            Some(Step::Put(txn.0, len))
+fn is_logged(entry: &Entry, logged: Logged) -> bool {
+    match (entry, logged) {
+        (Entry::Put { txn, value, .. }, Put(by, len)) => {
+            txn.0 == by && value.len() == usize::from(len)
         }
-        Entry::Commit { txn } => Some(Step::Commit(txn.0)),
-        _ => None,
-    }
-}
-
-fn made(alloc: Global, disk: MemDisk, file: u32) -> Result<LogBuffer<MemDisk>, Fail>
-    requires { file ≤ last_file }
-{
-    match LogBuffer::create(alloc, disk, FileNo(file), 4_096) {
-        Ok(buffer) => Ok(buffer),
-        Err(_) => Err("memory".into()),
+        (Entry::Commit { txn }, Commit(by)) => txn.0 == by,
+        _ => false,
     }
 }
 
@@ -81,50 +97,106 @@ fn at(file: u32, offset: u32) -> Lsn
     Lsn::new(FileNo(file), offset)
 }
 
-fn append(alloc: Global, buffer: &mut LogBuffer<MemDisk>, step: Step) -> Result<Lsn, LogErr> {
-    let entry = entry_of(alloc, step)?;
+fn append(alloc: Global, buffer: &mut LogBuffer<MemDisk>, logged: Logged) -> Result<Lsn, LogErr> {
+    let entry = entry_of(alloc, logged)?;
     let place = buffer.append(&entry);
     drop(entry);
     place
 }
 
-// What stands at a place.
-fn read(
+fn fill(alloc: Global, buffer: &mut LogBuffer<MemDisk>, files: u32) -> Result<bool, LogErr> {
+    for f in 0..files {
+        if append(alloc, buffer, Put(1, 4_000))? != at(f, 26) {
+            return Ok(false);
+        }
+    }
+    Ok(true)
+}
+
+// Whether this entry stands at a place.
+fn reads(
     alloc: Global,
     buffer: &mut LogBuffer<MemDisk>,
     place: Lsn,
-) -> Result<Option<Step>, LogErr> {
+    logged: Logged,
+) -> Result<bool, LogErr> {
     let entry = buffer.read(alloc, place)?;
-    let step = step_of(&entry);
+    let same = is_logged(&entry, logged);
     drop(entry);
-    Ok(step)
+    Ok(same)
 }
 
-// An entry with its file and its offset.
-type Place = (Step, u32, u32);
-
-fn append_all(
-    rt: &impl Abort,
-    alloc: Global,
-    buffer: &mut LogBuffer<MemDisk>,
-    places: &[Place],
-) -> Result<(), LogErr> {
-    for (step, file, offset) in places {
-        assert!(rt; append(alloc, buffer, *step)? == at(*file, *offset));
-    }
-    Ok(())
+// Where a commit stands that comes while a sync is out, and the file that the sync had written then.
+fn commit_in_sync(buffer: &mut LogBuffer<MemDisk>) -> Result<(Lsn, FileNo), LogErr> {
+    let job = buffer.sync_begin()?;
+    let written = buffer.written();
+    let commit = Entry::Commit { txn: TxnId(1) };
+    let appended = buffer.append(&commit);
+    drop(commit);
+    let done = job.run();
+    buffer.sync_end(done)?;
+    Ok((appended?, written))
 }
 
-fn read_all(
-    rt: &impl Abort,
-    alloc: Global,
-    buffer: &mut LogBuffer<MemDisk>,
-    places: &[Place],
-) -> Result<(), LogErr> {
-    for (step, file, offset) in places {
-        assert!(rt; read(alloc, buffer, at(*file, *offset))? == Some(*step));
+// How many bytes a file has on the disk.
+fn file_len(alloc: Global, buffer: &mut LogBuffer<MemDisk>, f: u32) -> Result<usize, LogErr> {
+    let done = buffer.read_begin(FileNo(f))?.run();
+    let bytes = buffer.read_end(alloc, done)?;
+    let len = bytes.len();
+    drop(bytes);
+    Ok(len)
+}
+
+fn remove(buffer: &mut LogBuffer<MemDisk>, f: u32) -> Result<bool, LogErr> {
+    if f >= buffer.written().0 {
+        return Ok(false);
     }
-    Ok(())
+    buffer.remove(FileNo(f))?;
+    Ok(true)
+}
+
+// Whether the step comes as it says.
+fn comes(alloc: Global, buffer: &mut LogBuffer<MemDisk>, step: Step) -> Result<bool, LogErr> {
+    let done = match step {
+        Reserve(sizes) => buffer.reserve(sizes),
+        WriteOut => buffer.write_out(),
+        Append(logged, f, offset) => return Ok(append(alloc, buffer, logged)? == at(f, offset)),
+        Fill(files) => return fill(alloc, buffer, files),
+        CommitInSync(f, offset) => return Ok(commit_in_sync(buffer)? == (at(f, offset), FileNo(f))),
+        Read(logged, f, offset) => return reads(alloc, buffer, at(f, offset), logged),
+        IsDamaged(f, offset) => {
+            return Ok(reads(alloc, buffer, at(f, offset), Commit(0)) == Err(LogErr::Damaged));
+        }
+        ReadFile(f, len) => return Ok(file_len(alloc, buffer, f)? == len),
+        Remove(f) => return remove(buffer, f),
+        EndsAt(f, offset) => return Ok(buffer.end() == at(f, offset)),
+        IsWrittenBefore(f) => return Ok(buffer.written() == FileNo(f)),
+        IsWrittenPast(f) => return Ok(buffer.written() > FileNo(f)),
+    };
+    done?;
+    Ok(true)
+}
+
+fn come(alloc: Global, buffer: &mut LogBuffer<MemDisk>, steps: &[Step]) -> Result<bool, LogErr> {
+    for step in steps {
+        if !comes(alloc, buffer, *step)? {
+            return Ok(false);
+        }
+    }
+    Ok(true)
+}
+
+// A buffer over an empty disk, whose first file has this number.
+fn made(alloc: Global, file: u32) -> Result<LogBuffer<MemDisk>, AllocError>
+    requires { file ≤ last_file }
+{
+    match LogBuffer::create(alloc, MemDisk::new(alloc), FileNo(file), 4_096) {
+        Ok(buffer) => Ok(buffer),
+        Err(disk) => {
+            drop(disk);
+            Err(AllocError)
+        }
+    }
 }
 
 // The disk's files: the number of each, and its length.
@@ -145,150 +217,109 @@ fn close(alloc: Global, buffer: LogBuffer<MemDisk>) -> Result<Vec<(u32, usize)>,
     Ok(lengths?)
 }
 
-// 26 + 2,034 = 2,060; 2,060 + 2,034 = 4,094 still fits in 4,096; the third put goes into file 1.
-static FILLING: [Place; 3] = [
-    (Step::Put(1, 2_000), 0, 26),
-    (Step::Put(1, 2_000), 0, 2_060),
-    (Step::Put(1, 2_000), 1, 26),
-];
-
-fn fill(rt: &impl Abort, alloc: Global, buffer: &mut LogBuffer<MemDisk>) -> Result<(), LogErr> {
-    assert!(rt; buffer.end() == at(0, 26));
-    buffer.reserve(&[2_034, 2_034, 2_034])?;
-    append_all(rt, alloc, buffer, &FILLING)?;
-    read_all(rt, alloc, buffer, &FILLING)?;
-    assert!(rt; buffer.end() == at(1, 2_060) && buffer.written() == FileNo(0));
-    assert!(rt; read(alloc, buffer, at(1, 27)) == Err(LogErr::Damaged));
-    Ok(())
-}
-
-// Where a commit stands that comes while a sync is out, and the file that the sync had written then.
-fn commit_beside_sync(buffer: &mut LogBuffer<MemDisk>) -> Result<(Lsn, FileNo), LogErr> {
-    let job = buffer.sync_begin()?;
-    let written = buffer.written();
-    let commit = Entry::Commit { txn: TxnId(1) };
-    let appended = buffer.append(&commit);
-    drop(commit);
-    let done = job.run();
-    buffer.sync_end(done)?;
-    Ok((appended?, written))
-}
-
-static SYNCED: [Place; 3] = [
-    (Step::Put(1, 2_000), 0, 26),
-    (Step::Put(1, 2_000), 1, 26),
-    (Step::Commit(1), 1, 2_060),
-];
-
-fn read_file(alloc: Global, buffer: &mut LogBuffer<MemDisk>) -> Result<Vec<u8>, LogErr> {
-    let job = buffer.read_begin(FileNo(0))?;
-    let done = job.run();
-    buffer.read_end(alloc, done)
-}
-
-fn remove(rt: &impl Abort, buffer: &mut LogBuffer<MemDisk>) -> Result<(), LogErr> {
-    let written = buffer.written();
-    assert!(rt; written.0 > 0);
-    buffer.remove(FileNo(0))
-}
-
-fn go_through(
-    rt: &impl Abort,
+// Whether those are the files.
+fn leaves(
     alloc: Global,
-    buffer: &mut LogBuffer<MemDisk>,
-) -> Result<(), LogErr> {
-    fill(rt, alloc, buffer)?;
-    assert!(rt; commit_beside_sync(buffer)? == (at(1, 2_060), FileNo(1)));
-    read_all(rt, alloc, buffer, &SYNCED)?;
-    assert!(rt; read_file(alloc, buffer)?.len() == 4_094);
-    remove(rt, buffer)
+    buffer: LogBuffer<MemDisk>,
+    files: &[(u32, usize)],
+) -> Result<bool, LogErr> {
+    let left = close(alloc, buffer)?;
+    let same = left.as_slice() == files;
+    drop(left);
+    Ok(same)
+}
+
+// 26 + 2,034 = 2,060; 2,060 + 2,034 = 4,094 still fits in 4,096; the third put goes into file 1.
+static FILES: [Step; 17] = [
+    EndsAt(0, 26),
+    Reserve(&[2_034, 2_034, 2_034]),
+    Append(Put(1, 2_000), 0, 26),
+    Append(Put(1, 2_000), 0, 2_060),
+    Append(Put(1, 2_000), 1, 26),
+    Read(Put(1, 2_000), 0, 26),
+    Read(Put(1, 2_000), 0, 2_060),
+    Read(Put(1, 2_000), 1, 26),
+    EndsAt(1, 2_060),
+    IsWrittenBefore(0),
+    IsDamaged(1, 27),
+    CommitInSync(1, 2_060),
+    Read(Put(1, 2_000), 0, 26),
+    Read(Put(1, 2_000), 1, 26),
+    Read(Commit(1), 1, 2_060),
+    ReadFile(0, 4_094),
+    Remove(0),
+];
+
+fn goes_through(alloc: Global) -> Result<bool, LogErr> {
+    let mut buffer = made(alloc, 0)?;
+    let came = come(alloc, &mut buffer, &FILES);
+    // 26 + 2,034 + 22
+    let left = leaves(alloc, buffer, &[(1, 2_082)]);
+    Ok(came? && left?)
 }
 
 #[test]
-fn goes_through_files(rt: HostRuntime) -> Result<(), Fail> {
-    let alloc = rt.alloc();
-    let mut buffer = made(alloc, MemDisk::new(alloc), 0)?;
-    let done = go_through(&rt, alloc, &mut buffer);
-    let files = close(alloc, buffer);
-    done?;
-    // 26 + 2,034 + 22
-    assert!(rt; files?.as_slice() == [(1, 2_082)].as_slice());
-    Ok(())
+fn goes_through_files(rt: HostRuntime) {
+    assert!(rt; goes_through(rt.alloc()) == Ok(true));
 }
 
 // 26 + 60,034 passes 4,096, where the file holds its header alone; so the commit goes into file 4.
-fn write(alloc: Global, buffer: &mut LogBuffer<MemDisk>) -> Result<(), LogErr> {
-    append(alloc, buffer, Step::Put(2, 60_000))?;
-    append(alloc, buffer, Step::Commit(2))?;
-    buffer.write_out()
-}
-
-static RESUMED: [Place; 3] = [
-    (Step::Commit(2), 4, 26),
-    (Step::Commit(2), 4, 48),
-    (Step::Put(2, 60_000), 3, 26),
+static WRITTEN: [Step; 4] = [
+    Append(Put(2, 60_000), 3, 26),
+    Append(Commit(2), 4, 26),
+    WriteOut,
+    EndsAt(4, 48),
 ];
 
-fn go_on(rt: &impl Abort, alloc: Global, buffer: &mut LogBuffer<MemDisk>) -> Result<(), LogErr> {
-    assert!(rt; append(alloc, buffer, Step::Commit(2))? == at(4, 48));
-    read_all(rt, alloc, buffer, &RESUMED)
+static RESUMED: [Step; 4] = [
+    Append(Commit(2), 4, 48),
+    Read(Commit(2), 4, 26),
+    Read(Commit(2), 4, 48),
+    Read(Put(2, 60_000), 3, 26),
+];
+
+fn goes_on(alloc: Global) -> Result<bool, LogErr> {
+    let mut buffer = made(alloc, 3)?;
+    let came = come(alloc, &mut buffer, &WRITTEN);
+    let mut buffer = LogBuffer::resume(alloc, buffer.into_disk(), at(4, 48), 26, 4_096);
+    let went_on = come(alloc, &mut buffer, &RESUMED);
+    // 26 + 60,034, and 26 + 22 + 22
+    let left = leaves(alloc, buffer, &[(3, 60_060), (4, 70)]);
+    Ok(came? && went_on? && left?)
 }
 
 #[test]
-fn goes_on_after_a_resume(rt: HostRuntime) -> Result<(), Fail> {
-    let alloc = rt.alloc();
-    let mut buffer = made(alloc, MemDisk::new(alloc), 3)?;
-    let written = write(alloc, &mut buffer);
-    let end = at(4, 48);
-    assert!(rt; written == Ok(()) && buffer.end() == end);
-    let mut buffer = LogBuffer::resume(alloc, buffer.into_disk(), end, 26, 4_096);
-    let done = go_on(&rt, alloc, &mut buffer);
-    let files = close(alloc, buffer);
-    done?;
-    // 26 + 60,034, and 26 + 22 + 22
-    assert!(rt; files?.as_slice() == [(3, 60_060), (4, 70)].as_slice());
-    Ok(())
+fn goes_on_after_a_resume(rt: HostRuntime) {
+    assert!(rt; goes_on(rt.alloc()) == Ok(true));
 }
 
 // 400 puts of 4,034 bytes, each of which fills a file, are 1,613,600 bytes: the tail is written out on
 // the way.
-fn fill_many(
-    rt: &impl Abort,
-    alloc: Global,
-    buffer: &mut LogBuffer<MemDisk>,
-) -> Result<(), LogErr> {
-    for i in 0..400 {
-        assert!(rt; append(alloc, buffer, Step::Put(1, 4_000))? == at(i, 26));
-    }
-    Ok(())
-}
-
-static MANY: [Place; 2] = [
-    (Step::Put(1, 4_000), 100, 26),
-    (Step::Put(1, 4_000), 399, 26),
+static MANY: [Step; 4] = [
+    Fill(400),
+    IsWrittenPast(200),
+    Read(Put(1, 4_000), 100, 26),
+    Read(Put(1, 4_000), 399, 26),
 ];
 
-fn go_through_many(
-    rt: &impl Abort,
-    alloc: Global,
-    buffer: &mut LogBuffer<MemDisk>,
-) -> Result<(), LogErr> {
-    fill_many(rt, alloc, buffer)?;
-    assert!(rt; buffer.written() > FileNo(200));
-    read_all(rt, alloc, buffer, &MANY)
+fn are_long(files: &[(u32, usize)], want: usize) -> bool {
+    let mut same = true;
+    for (_, len) in files {
+        same = same && *len == want;
+    }
+    same
+}
+
+fn goes_through_many(alloc: Global) -> Result<bool, LogErr> {
+    let mut buffer = made(alloc, 0)?;
+    let came = come(alloc, &mut buffer, &MANY);
+    let files = close(alloc, buffer)?;
+    let long = files.len() == 400 && are_long(&files, 4_060);
+    drop(files);
+    Ok(came? && long)
 }
 
 #[test]
-fn writes_a_long_tail_out(rt: HostRuntime) -> Result<(), Fail> {
-    let alloc = rt.alloc();
-    let mut buffer = made(alloc, MemDisk::new(alloc), 0)?;
-    let done = go_through_many(&rt, alloc, &mut buffer);
-    let files = close(alloc, buffer);
-    done?;
-    let files = files?;
-    assert!(rt; files.len() == 400);
-    for (_, len) in &files {
-        assert!(rt; *len == 4_060);
-    }
-    Ok(())
+fn writes_a_long_tail_out(rt: HostRuntime) {
+    assert!(rt; goes_through_many(rt.alloc()) == Ok(true));
 }

@@ -11,7 +11,6 @@ use db_catalog::{
 use je_model::{Answer, Call, Change, Kind};
 use je_order::{List, Word, cmp_bytes, copy_of};
 use std::alloc::{AllocError, Global};
-use std::test::Fail;
 
 // A catalog with one plain database, which has no records.
 #[derive(Drop)]
@@ -111,9 +110,8 @@ fn makes_t(plan: &CatalogPlan) -> bool {
     is_t && matches!(plan.answer, Answer::Done)
 }
 
-#[test]
-fn plans_a_creation(rt: HostRuntime) -> Result<(), Fail> {
-    let alloc = rt.alloc();
+// Whether that is the plan of a creation.
+fn is_creation_planned(alloc: Global) -> Result<bool, AllocError> {
     let call = Call::Create {
         db: word(alloc, b"t")?,
         kind: Kind::Plain,
@@ -121,8 +119,12 @@ fn plans_a_creation(rt: HostRuntime) -> Result<(), Fail> {
     let found = planned(alloc, call)?;
     let is_made = makes_t(&found);
     drop(found);
-    assert!(rt; is_made);
-    Ok(())
+    Ok(is_made)
+}
+
+#[test]
+fn plans_a_creation(rt: HostRuntime) {
+    assert!(rt; is_creation_planned(rt.alloc()) == Ok(true));
 }
 
 // Whether the plan changes nothing, and names the database s alone.
@@ -136,13 +138,17 @@ fn names_s(plan: &CatalogPlan) -> bool {
     }
 }
 
-#[test]
-fn lists_the_names(rt: HostRuntime) -> Result<(), Fail> {
-    let found = planned(rt.alloc(), Call::List)?;
+// Whether that is the plan of a list.
+fn is_list_planned(alloc: Global) -> Result<bool, AllocError> {
+    let found = planned(alloc, Call::List)?;
     let is_named = names_s(&found);
     drop(found);
-    assert!(rt; is_named);
-    Ok(())
+    Ok(is_named)
+}
+
+#[test]
+fn lists_the_names(rt: HostRuntime) {
+    assert!(rt; is_list_planned(rt.alloc()) == Ok(true));
 }
 
 fn rename(alloc: Global) -> Result<Change, AllocError> {
@@ -152,27 +158,33 @@ fn rename(alloc: Global) -> Result<Change, AllocError> {
     })
 }
 
-// What is logged where `s` becomes `t`, and 9 is the next number.
-fn renamed(alloc: Global) -> Result<List<CatalogChange>, AllocError> {
+// Whether the name s goes, and t comes with its number.
+fn are_renamed(changes: &[CatalogChange]) -> bool {
+    let [
+        CatalogChange::Delete { db },
+        CatalogChange::Put { db: to, row },
+    ] = changes
+    else {
+        return false;
+    };
+    let named = db.as_slice() == b"s".as_slice() && to.as_slice() == b"t".as_slice();
+    named && *row == plain(5)
+}
+
+// Whether that is logged where `s` becomes `t`, and 9 is the next number.
+fn is_new_name_logged(alloc: Global) -> Result<bool, AllocError> {
     let view = view(alloc)?;
     let change = rename(alloc)?;
     let changes = catalog_changes(alloc, &view, 9, &change);
     drop(change);
-    changes
+    let changes = changes?;
+    let are_so = are_renamed(changes.as_slice());
+    drop(changes);
+    Ok(are_so)
 }
 
 // A renamed database keeps its number.
 #[test]
-fn logs_a_new_name(rt: HostRuntime) -> Result<(), Fail> {
-    let changes = renamed(rt.alloc())?;
-    let [
-        CatalogChange::Delete { db },
-        CatalogChange::Put { db: to, row },
-    ] = changes.as_slice()
-    else {
-        return Err(Fail::new("a name goes and another comes"));
-    };
-    assert!(rt; db.as_slice() == b"s".as_slice() && to.as_slice() == b"t".as_slice());
-    assert!(rt; *row == plain(5));
-    Ok(())
+fn logs_a_new_name(rt: HostRuntime) {
+    assert!(rt; is_new_name_logged(rt.alloc()) == Ok(true));
 }

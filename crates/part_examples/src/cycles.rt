@@ -1,70 +1,90 @@
 // Cycles in who waits for whom.
+use Step::{Checks, Contains, Finds, Insert};
 use je_order::TxnId;
 use std::alloc::{AllocError, Global};
-use std::process::Abort;
-use std::test::Fail;
 use waits_for::{Edges, check_cycle, find_cycle};
 
-fn insert_all(edges: &mut Edges, pairs: &[(u64, u64)]) -> Result<(), AllocError> {
-    for &(waiter, owner) in pairs {
-        edges.insert(TxnId(waiter), TxnId(owner))?;
-    }
-    Ok(())
+// What is done to who waits for whom, or asked of it.
+#[derive(Clone, Copy)]
+enum Step {
+    Insert(u64, u64),
+    Contains(u64, u64, bool),
+    // the cycle that is found through a transaction; none where it has no number
+    Finds(u64, &'static [TxnId]),
+    // whether these are a cycle
+    Checks(&'static [TxnId], bool),
 }
 
 // Whether the cycle that is found through a transaction is this one; where it has no number, whether
 // none is found.
 fn has_cycle(alloc: Global, edges: &Edges, txn: u64, want: &[TxnId]) -> Result<bool, AllocError> {
     match find_cycle(alloc, edges, TxnId(txn))? {
-        Some(cycle) => Ok(cycle.as_slice() == want),
+        Some(cycle) => {
+            let same = cycle.as_slice() == want;
+            drop(cycle);
+            Ok(same)
+        }
         None => Ok(want.is_empty()),
     }
 }
 
-static LINE: [(u64, u64); 2] = [(2, 3), (1, 2)];
+// Whether the step comes as it says.
+fn comes(alloc: Global, edges: &mut Edges, step: Step) -> Result<bool, AllocError> {
+    match step {
+        Insert(waiter, owner) => {
+            edges.insert(TxnId(waiter), TxnId(owner))?;
+            Ok(true)
+        }
+        Contains(waiter, owner, want) => { Ok(edges.contains(TxnId(waiter), TxnId(owner)) == want) }
+        Finds(txn, want) => has_cycle(alloc, edges, txn, want),
+        Checks(cycle, want) => Ok(check_cycle(edges, cycle) == want),
+    }
+}
 
-static BACK: [(u64, u64); 1] = [(3, 2)];
+fn come(alloc: Global, edges: &mut Edges, steps: &[Step]) -> Result<bool, AllocError> {
+    for step in steps {
+        if !comes(alloc, edges, *step)? {
+            return Ok(false);
+        }
+    }
+    Ok(true)
+}
 
-static TWO: [TxnId; 2] = [TxnId(3), TxnId(2)];
-
-fn close_line(rt: &impl Abort, alloc: Global, edges: &mut Edges) -> Result<(), AllocError> {
-    insert_all(edges, &LINE)?;
-    assert!(rt; edges.contains(TxnId(2), TxnId(3)) && !edges.contains(TxnId(3), TxnId(2)));
-    assert!(rt; has_cycle(alloc, edges, 2, &[])?);
-    insert_all(edges, &BACK)?;
-    assert!(rt; has_cycle(alloc, edges, 3, &TWO)?);
-    assert!(rt; has_cycle(alloc, edges, 1, &[])?);
-    Ok(())
+// Whether the steps come so where nobody waits yet.
+fn come_new(alloc: Global, steps: &[Step]) -> Result<bool, AllocError> {
+    let mut edges = Edges::new(alloc);
+    let came = come(alloc, &mut edges, steps);
+    drop(edges);
+    came
 }
 
 // Two that wait for each other, and one that waits for one of them.
-#[test]
-fn finds_the_cycle_of_two(rt: HostRuntime) -> Result<(), Fail> {
-    let alloc = rt.alloc();
-    let mut edges = Edges::new(alloc);
-    let done = close_line(&rt, alloc, &mut edges);
-    drop(edges);
-    Ok(done?)
-}
-
-static WAYS: [(u64, u64); 5] = [(1, 4), (1, 2), (2, 3), (3, 1), (4, 1)];
-
-static LESSER: [TxnId; 3] = [TxnId(1), TxnId(2), TxnId(3)];
-
-fn take_lesser(rt: &impl Abort, alloc: Global, edges: &mut Edges) -> Result<(), AllocError> {
-    insert_all(edges, &WAYS)?;
-    assert!(rt; has_cycle(alloc, edges, 1, &LESSER)?);
-    assert!(rt; check_cycle(edges, &LESSER));
-    assert!(rt; !check_cycle(edges, &[]) && !check_cycle(edges, &LESSER[..2]));
-    Ok(())
-}
+static TWO: [Step; 8] = [
+    Insert(2, 3),
+    Insert(1, 2),
+    Contains(2, 3, true),
+    Contains(3, 2, false),
+    Finds(2, &[]),
+    Insert(3, 2),
+    Finds(3, &[TxnId(3), TxnId(2)]),
+    Finds(1, &[]),
+];
 
 // Depth first, lesser numbers first.
+static WAYS: [Step; 9] = [
+    Insert(1, 4),
+    Insert(1, 2),
+    Insert(2, 3),
+    Insert(3, 1),
+    Insert(4, 1),
+    Finds(1, &[TxnId(1), TxnId(2), TxnId(3)]),
+    Checks(&[TxnId(1), TxnId(2), TxnId(3)], true),
+    Checks(&[], false),
+    Checks(&[TxnId(1), TxnId(2)], false),
+];
+
 #[test]
-fn takes_the_lesser_way(rt: HostRuntime) -> Result<(), Fail> {
-    let alloc = rt.alloc();
-    let mut edges = Edges::new(alloc);
-    let done = take_lesser(&rt, alloc, &mut edges);
-    drop(edges);
-    Ok(done?)
+fn finds_the_cycle_of_the_lesser_way(rt: HostRuntime) {
+    assert!(rt; come_new(rt.alloc(), &TWO) == Ok(true));
+    assert!(rt; come_new(rt.alloc(), &WAYS) == Ok(true));
 }

@@ -1,14 +1,19 @@
 // What every disk does, from a disk on which nothing was done yet.
-ghost use Rattle.std.specs.Prelude.{◌≡◌, None};
+ghost use Rattle.std.specs.Prelude.{◌≡◌};
 
+use Change::{Append, Create, Cut, Remove, Sync};
+use Step::{
+    Do, GiveReadUp, GiveSyncUp, IsLong, Lists, Mount, MountInSync, NoJob, ReadAround, Reads,
+    SyncAround,
+};
 use je_disk::{Disk, DiskErr, ReadDone, ReadJob, SyncDone, SyncJob};
 use je_lsn::FileNo;
 use std::alloc::Global;
-use std::process::Abort;
 
 /// What is done to a file, by its number, or to all of them.
 #[derive(Clone, Copy)]
-pub enum Step {
+pub enum Change {
+    Nothing,
     Append(u32, &'static [u8]),
     Create(u32),
     Cut(u32, u64),
@@ -16,248 +21,218 @@ pub enum Step {
     Sync,
 }
 
-fn take<D: Disk>(disk: &mut D, step: Step) -> Result<(), DiskErr>
-    requires { D.sync_out disk.old ≡ None }
-    ensures { D.read_out disk.new ≡ D.read_out disk.old }
+/// What is done to a disk, or asked of it.
+#[derive(Clone, Copy)]
+pub enum Step {
+    Mount,
+    Do(Change),
+    /// The disk has these files and no others.
+    Lists(&'static [FileNo]),
+    /// A file is so long.
+    IsLong(u32, u64),
+    /// So many bytes are read from a file's offset, and a piece of dots then holds these.
+    Reads(u32, u64, usize, &'static [u8]),
+    /// No job is out.
+    NoJob,
+    /// A sync job of this number, that runs after a change and is ended.
+    SyncAround(Change, u64),
+    /// A sync job of this number that is given up.
+    GiveSyncUp(u64),
+    /// The reading of a file that ends after a change, and what it gives.
+    ReadAround(u32, Change, &'static [u8]),
+    /// The reading of file 3 with this number, which is given up after bytes were read.
+    GiveReadUp(u64),
+    /// A sync job that is given up by a mount.
+    MountInSync,
+}
+
+/// A step, what comes of it, and how many faults there are then.
+pub type Row = (Step, Result<bool, DiskErr>, u64);
+
+/// What every disk does, and the name of a folder for it.
+pub static SCRIPTS: [(&str, &[Row]); 5] = [
+    (
+        "files",
+        &[
+            (Mount, Ok(true), 0),
+            (Lists(&[]), Ok(true), 0),
+            (IsLong(7, 0), Ok(true), 0),
+            (Do(Sync), Ok(true), 0),
+            (Do(Append(7, b"abc")), Ok(true), 0),
+            (Do(Append(7, b"de")), Ok(true), 0),
+            (Do(Create(2)), Ok(true), 0),
+            (Do(Create(7)), Ok(true), 0),
+            (Do(Sync), Ok(true), 0),
+            (Lists(&[FileNo(2), FileNo(7)]), Ok(true), 0),
+            (IsLong(7, 5), Ok(true), 0),
+            (IsLong(2, 0), Ok(true), 0),
+            (Reads(7, 3, 2, b"de.."), Ok(true), 0),
+            (Reads(7, 0, 4, b"abcd"), Ok(true), 0),
+            (Reads(9, 0, 0, b"...."), Ok(true), 0),
+        ],
+    ),
+    // Files are cut that are longer, as long, shorter or not there, and taken away.
+    (
+        "cuts",
+        &[
+            (Mount, Ok(true), 0),
+            (Do(Append(1, b"abcdef")), Ok(true), 0),
+            (Do(Append(2, b"xyz")), Ok(true), 0),
+            (Do(Cut(1, 4)), Ok(true), 0),
+            (Do(Cut(2, 3)), Ok(true), 0),
+            (Do(Cut(2, 9)), Ok(true), 0),
+            (Do(Cut(9, 0)), Ok(true), 0),
+            (Do(Remove(8)), Ok(true), 0),
+            (IsLong(1, 4), Ok(true), 0),
+            (IsLong(2, 3), Ok(true), 0),
+            (Do(Remove(2)), Ok(true), 0),
+            (Do(Append(1, b"gh")), Ok(true), 0),
+            (Lists(&[FileNo(1)]), Ok(true), 0),
+            (IsLong(2, 0), Ok(true), 0),
+            (Reads(1, 2, 4, b"cdgh"), Ok(true), 0),
+        ],
+    ),
+    // A sync job that runs while bytes are put, one that is given up, and one beside a sync.
+    (
+        "syncs",
+        &[
+            (NoJob, Ok(true), 0),
+            (SyncAround(Append(0, b"a"), 1), Ok(true), 0),
+            (NoJob, Ok(true), 0),
+            (IsLong(0, 1), Ok(true), 0),
+            (GiveSyncUp(2), Ok(true), 0),
+            (SyncAround(Sync, 3), Ok(true), 0),
+        ],
+    ),
+    // A read job that is given up, one that runs while another file grows, and a mount, which gives up the
+    // jobs that are out.
+    (
+        "reads",
+        &[
+            (Do(Append(3, b"abc")), Ok(true), 0),
+            (GiveReadUp(1), Ok(true), 0),
+            (ReadAround(3, Append(4, b"!"), b"abc"), Ok(true), 0),
+            (NoJob, Ok(true), 0),
+            (MountInSync, Ok(true), 0),
+            (NoJob, Ok(true), 0),
+        ],
+    ),
+    // A reading gives its file as it is when the reading ends.
+    (
+        "changes",
+        &[
+            (Do(Append(3, b"abc")), Ok(true), 0),
+            (Mount, Ok(true), 0),
+            (ReadAround(3, Append(3, b"de"), b"abcde"), Ok(true), 0),
+            (Mount, Ok(true), 0),
+            (ReadAround(3, Cut(3, 2), b"ab"), Ok(true), 0),
+            (Mount, Ok(true), 0),
+            (ReadAround(3, Remove(3), b""), Ok(true), 0),
+            (Mount, Ok(true), 0),
+            (ReadAround(3, Append(3, b"de"), b"de"), Ok(true), 0),
+        ],
+    ),
+];
+
+fn make<D: Disk>(disk: &mut D, change: Change) -> Result<(), DiskErr>
+    ensures sync_out { D.sync_out disk.new ≡ D.sync_out disk.old }
+    ensures read_out { D.read_out disk.new ≡ D.read_out disk.old }
 {
-    match step {
-        Step::Append(f, bytes) => disk.append(FileNo(f), bytes),
-        Step::Create(f) => disk.create(FileNo(f)),
-        Step::Cut(f, len) => disk.cut(FileNo(f), len),
-        Step::Remove(f) => disk.remove(FileNo(f)),
-        Step::Sync => disk.sync_now(),
-    }
-}
-
-/// Takes the steps while no sync job is out.
-pub fn take_all<D: Disk>(disk: &mut D, steps: &[Step]) -> Result<(), DiskErr> {
-    for step in steps {
-        if disk.sync_out().is_some() {
-            return Err(DiskErr::Failed);
+    match change {
+        Change::Nothing => Ok(()),
+        Change::Append(f, bytes) => disk.append(FileNo(f), bytes),
+        Change::Create(f) => disk.create(FileNo(f)),
+        Change::Cut(f, len) => {
+            if disk.sync_out().is_some() {
+                return Err(DiskErr::Failed);
+            }
+            disk.cut(FileNo(f), len)
         }
-        take(disk, *step)?;
+        Change::Remove(f) => disk.remove(FileNo(f)),
+        Change::Sync => disk.sync_now(),
     }
-    Ok(())
 }
 
-/// Whether the disk has these files and no others.
-pub fn lists<D: Disk>(alloc: Global, disk: &mut D, files: &[FileNo]) -> Result<bool, DiskErr> {
-    Ok(disk.list(alloc)?.as_slice() == files)
-}
-
-/// Whether each of these files is so long.
-pub fn are_long<D: Disk>(disk: &mut D, files: &[(u32, u64)]) -> Result<bool, DiskErr> {
-    for &(f, len) in files {
-        if disk.len(FileNo(f))? != len {
-            return Ok(false);
-        }
-    }
-    Ok(true)
-}
-
-/// Whether so many bytes are read from a file's offset, and what a piece of dots then holds.
-pub fn has_piece<D: Disk>(
-    disk: &mut D,
-    f: u32,
-    at: u64,
-    count: usize,
-    want: &[u8],
-) -> Result<bool, DiskErr> {
+fn reads<D: Disk>(disk: &mut D, f: u32, at: u64, count: usize, want: &[u8]) -> Result<bool, DiskErr>
+    ensures read_out { D.read_out disk.new ≡ D.read_out disk.old }
+{
     let mut piece = [b'.'; 4];
     Ok(disk.read(FileNo(f), at, &mut piece)? == count && piece.as_slice() == want)
 }
 
-static MADE: [Step; 6] = [
-    Step::Sync,
-    Step::Append(7, b"abc"),
-    Step::Append(7, b"de"),
-    Step::Create(2),
-    Step::Create(7),
-    Step::Sync,
-];
-
-// What is read of the files: at which offset, how many bytes, and what a piece then holds.
-static PIECES: [(u32, u64, usize, &[u8]); 3] = [
-    (7, 3, 2, b"de.."),
-    (7, 0, 4, b"abcd"),
-    (9, 0, 0, b"...."),
-];
-
-fn has_pieces<D: Disk>(disk: &mut D) -> Result<bool, DiskErr> {
-    for &(f, at, count, want) in &PIECES {
-        if !has_piece(disk, f, at, count, want)? {
-            return Ok(false);
-        }
-    }
-    Ok(true)
-}
-
-// The two files are there, and no other.
-fn has_made<D: Disk>(rt: &impl Abort, alloc: Global, disk: &mut D) -> Result<(), DiskErr> {
-    assert!(rt; lists(alloc, disk, &[FileNo(2), FileNo(7)])?);
-    assert!(rt; are_long(disk, &[(7, 5), (2, 0)])?);
-    assert!(rt; has_pieces(disk)?);
-    assert!(rt; disk.faults() == 0);
-    Ok(())
-}
-
-// Makes two files, reads one back, and finds no other.
-fn keeps_files<D: Disk>(rt: &impl Abort, alloc: Global, disk: &mut D) -> Result<(), DiskErr> {
-    disk.mount()?;
-    assert!(rt; lists(alloc, disk, &[])?);
-    assert!(rt; are_long(disk, &[(7, 0)])?);
-    take_all(disk, &MADE)?;
-    has_made(rt, alloc, disk)
-}
-
-static CUT: [Step; 7] = [
-    Step::Append(1, b"abcdef"),
-    Step::Append(2, b"xyz"),
-    Step::Cut(1, 4),
-    Step::Cut(2, 3),
-    Step::Cut(2, 9),
-    Step::Cut(9, 0),
-    Step::Remove(8),
-];
-
-static REMOVED: [Step; 2] = [Step::Remove(2), Step::Append(1, b"gh")];
-
-// Cuts files that are longer, as long, shorter or not there, and takes files away.
-fn cuts_and_removes<D: Disk>(rt: &impl Abort, alloc: Global, disk: &mut D) -> Result<(), DiskErr> {
-    disk.mount()?;
-    take_all(disk, &CUT)?;
-    assert!(rt; are_long(disk, &[(1, 4), (2, 3)])?);
-    take_all(disk, &REMOVED)?;
-    assert!(rt; lists(alloc, disk, &[FileNo(1)])?);
-    assert!(rt; are_long(disk, &[(2, 0)])?);
-    assert!(rt; has_piece(disk, 1, 2, 4, b"cdgh")?);
-    Ok(())
-}
-
-// A sync job that runs while bytes are put.
-fn ends_a_sync_job<D: Disk>(rt: &impl Abort, disk: &mut D) -> Result<(), DiskErr> {
-    assert!(rt; disk.sync_out().is_none());
+fn sync_around<D: Disk>(disk: &mut D, within: Change, number: u64) -> Result<bool, DiskErr> {
     let job = disk.begin_sync()?;
-    assert!(rt; job.number() == 1 && disk.sync_out() == Some(1));
-    let appended = disk.append(FileNo(0), b"a");
+    let begun = (job.number(), disk.sync_out());
+    let changed = make(disk, within);
     let done = job.run();
-    assert!(rt; done.number() == 1 && appended.is_ok());
+    let ended = done.number();
     disk.end_sync(done)?;
-    assert!(rt; disk.sync_out().is_none());
-    assert!(rt; are_long(disk, &[(0, 1)])?);
-    Ok(())
+    changed?;
+    Ok((begun, ended) == ((number, Some(number)), number))
 }
 
-// A sync job that is given up, and one beside a sync.
-fn syncs_beside_a_job<D: Disk>(rt: &impl Abort, disk: &mut D) -> Result<(), DiskErr> {
+fn give_sync_up<D: Disk>(disk: &mut D, number: u64) -> Result<bool, DiskErr> {
     disk.begin_sync()?.run().give_up();
-    assert!(rt; disk.sync_out() == Some(2));
-    let done = disk.begin_sync()?.run();
-    let synced = disk.sync_now();
-    assert!(rt; done.number() == 3 && synced.is_ok());
-    disk.end_sync(done)
+    Ok(disk.sync_out() == Some(number))
 }
 
-// A sync job that runs while bytes are put, one that is given up, and one beside a sync.
-fn syncs_by_jobs<D: Disk>(rt: &impl Abort, disk: &mut D) -> Result<(), DiskErr> {
-    ends_a_sync_job(rt, disk)?;
-    syncs_beside_a_job(rt, disk)
-}
-
-// A read job that is given up.
-fn gives_a_read_job_up<D: Disk>(rt: &impl Abort, disk: &mut D) -> Result<(), DiskErr> {
-    let job = disk.read_job(FileNo(3))?;
-    assert!(rt; job.number() == 1 && disk.read_out() == Some(1));
-    let found = has_piece(disk, 3, 1, 2, b"bc..");
-    let done = job.run();
-    assert!(rt; found == Ok(true) && done.number() == 1);
-    done.give_up();
-    Ok(())
-}
-
-// What a read job gives, while which another file grows.
-fn read_beside_append<D: Disk>(alloc: Global, disk: &mut D) -> Result<Vec<u8>, DiskErr> {
-    let done = disk.read_job(FileNo(3))?.run();
-    let appended = disk.append(FileNo(4), b"!");
+fn read_around<D: Disk>(
+    alloc: Global,
+    disk: &mut D,
+    f: u32,
+    within: Change,
+    want: &[u8],
+) -> Result<bool, DiskErr> {
+    let done = disk.read_job(FileNo(f))?.run();
+    let changed = make(disk, within);
     let bytes = disk.end_read(alloc, done)?;
-    appended?;
-    Ok(bytes)
+    let same = bytes.as_slice() == want;
+    drop(bytes);
+    changed?;
+    Ok(same)
 }
 
-// A read job that is given up, one that runs while another file grows, and a mount, which gives up the
-// jobs that are out.
-fn reads_by_jobs<D: Disk>(rt: &impl Abort, alloc: Global, disk: &mut D) -> Result<(), DiskErr> {
-    disk.append(FileNo(3), b"abc")?;
-    gives_a_read_job_up(rt, disk)?;
-    assert!(rt; read_beside_append(alloc, disk)?.as_slice() == b"abc".as_slice());
-    assert!(rt; disk.read_out().is_none());
+fn give_read_up<D: Disk>(disk: &mut D, number: u64) -> Result<bool, DiskErr> {
+    let job = disk.read_job(FileNo(3))?;
+    let begun = (job.number(), disk.read_out());
+    let found = reads(disk, 3, 1, 2, b"bc..");
+    let done = job.run();
+    let ended = done.number();
+    done.give_up();
+    Ok(found? && (begun, ended) == ((number, Some(number)), number))
+}
+
+fn mount_in_sync<D: Disk>(disk: &mut D) -> Result<(), DiskErr> {
     let job = disk.begin_sync()?;
     let mounted = disk.mount();
     job.run().give_up();
-    assert!(rt; mounted.is_ok() && disk.read_out().is_none() && disk.sync_out().is_none());
-    Ok(())
+    mounted
 }
 
-fn read_during<D: Disk>(alloc: Global, disk: &mut D, step: Step) -> Result<Vec<u8>, DiskErr> {
-    disk.mount()?;
-    let done = disk.read_job(FileNo(3))?.run();
-    let taken = take(disk, step);
-    let bytes = disk.end_read(alloc, done)?;
-    taken?;
-    Ok(bytes)
+fn take<D: Disk>(alloc: Global, disk: &mut D, step: Step) -> Result<bool, DiskErr> {
+    let done = match step {
+        Step::Mount => disk.mount(),
+        Step::Do(to_do) => make(disk, to_do),
+        Step::MountInSync => mount_in_sync(disk),
+        Step::Lists(files) => return Ok(disk.list(alloc)?.as_slice() == files),
+        Step::IsLong(f, len) => return Ok(disk.len(FileNo(f))? == len),
+        Step::Reads(f, at, count, want) => return reads(disk, f, at, count, want),
+        Step::NoJob => return Ok(disk.sync_out().is_none() && disk.read_out().is_none()),
+        Step::SyncAround(within, number) => return sync_around(disk, within, number),
+        Step::GiveSyncUp(number) => return give_sync_up(disk, number),
+        Step::ReadAround(f, within, want) => return read_around(alloc, disk, f, within, want),
+        Step::GiveReadUp(number) => return give_read_up(disk, number),
+    };
+    done?;
+    Ok(true)
 }
 
-static CHANGED: [(Step, &[u8]); 4] = [
-    (Step::Append(3, b"de"), b"abcde"),
-    (Step::Cut(3, 2), b"ab"),
-    (Step::Remove(3), b""),
-    (Step::Append(3, b"de"), b"de"),
-];
-
-// A reading gives its file as it is when the reading ends.
-fn reads_what_changes<D: Disk>(
-    rt: &impl Abort,
-    alloc: Global,
-    disk: &mut D,
-) -> Result<(), DiskErr> {
-    disk.append(FileNo(3), b"abc")?;
-    for &(step, want) in &CHANGED {
-        assert!(rt; read_during(alloc, disk, step)?.as_slice() == want);
+/// Whether of each step there comes what is wanted.
+pub fn come<D: Disk>(alloc: Global, disk: &mut D, rows: &[Row]) -> bool {
+    for (step, want, faults) in rows {
+        if take(alloc, disk, *step) != *want || disk.faults() != *faults {
+            return false;
+        }
     }
-    Ok(())
-}
-
-/// What every disk does, from a disk on which nothing was done yet.
-#[derive(Clone, Copy)]
-pub enum Deed {
-    KeepFiles,
-    CutAndRemove,
-    SyncByJobs,
-    ReadByJobs,
-    ReadWhatChanges,
-}
-
-/// Each of these, and the name of a folder for it.
-pub static DEEDS: [(Deed, &str); 5] = [
-    (Deed::KeepFiles, "files"),
-    (Deed::CutAndRemove, "cuts"),
-    (Deed::SyncByJobs, "syncs"),
-    (Deed::ReadByJobs, "reads"),
-    (Deed::ReadWhatChanges, "changes"),
-];
-
-/// The disk does this.
-pub fn does<D: Disk>(
-    rt: &impl Abort,
-    alloc: Global,
-    disk: &mut D,
-    deed: Deed,
-) -> Result<(), DiskErr> {
-    match deed {
-        Deed::KeepFiles => keeps_files(rt, alloc, disk),
-        Deed::CutAndRemove => cuts_and_removes(rt, alloc, disk),
-        Deed::SyncByJobs => syncs_by_jobs(rt, disk),
-        Deed::ReadByJobs => reads_by_jobs(rt, alloc, disk),
-        Deed::ReadWhatChanges => reads_what_changes(rt, alloc, disk),
-    }
+    true
 }

@@ -1,118 +1,112 @@
 // What a sync job of a folder syncs, by how many files and folders.
+use Step::{Append, AppendInJob, Cut, Due, GiveJobUp, Mount, Remove, Sync};
 use dir_disk::folder::Folder;
 use je_disk::{SyncDone, SyncJob};
 use je_lsn::FileNo;
 use std::io;
 use std::io::{Error, ErrorKind};
-use std::process::Abort;
-use std::test::Fail;
 
-// Begins a job, ends it as one that has worked or failed, and answers how much it was to sync.
-fn due(folder: &mut Folder<HostRuntime>, worked: bool) -> io::Result<usize> {
-    let job = folder.begin_sync(1)?;
-    let count = job.due();
-    job.run().give_up();
-    if folder.end_sync(worked).is_ok() != worked {
-        return Err(Error::from(ErrorKind::InvalidData));
-    }
-    Ok(count)
-}
-
-// What is done before a job begins.
+// What is done to a folder's files.
 #[derive(Clone, Copy)]
 enum Step {
-    Nothing,
-    Append(u32),
+    Append(u32, &'static [u8]),
     Cut(u32, u64),
-    RemoveTwo(u32, u32),
+    Remove(u32),
     Mount,
+    Sync,
+    // a job during which the file grows
+    AppendInJob(u32),
+    // a job that is given up
+    GiveJobUp,
+    // a job that ends as one that has worked or failed, and how much it is to sync
+    Due(bool, usize),
 }
 
-fn take(folder: &mut Folder<HostRuntime>, step: Step) -> io::Result<()> {
-    match step {
-        Step::Nothing => Ok(()),
-        Step::Append(f) => folder.append(FileNo(f), b"abc"),
-        Step::Cut(f, len) => folder.cut(FileNo(f), len),
-        Step::RemoveTwo(f, other) => {
-            folder.remove(FileNo(f))?;
-            folder.remove(FileNo(other))
-        }
-        Step::Mount => folder.mount(),
-    }
-}
-
-// Whether so much is due after a step.
-fn is_due(
-    folder: &mut Folder<HostRuntime>,
-    step: Step,
-    worked: bool,
-    want: usize,
-) -> io::Result<bool> {
-    take(folder, step)?;
-    Ok(due(folder, worked)? == want)
-}
-
-// The file, the folder and the folder's name at first, then what was written or cut. A job that failed
-// leaves all as it was. Where a file goes, the folder is due; after a mount the folder and its name are.
-static STEPS: [(Step, bool, usize); 9] = [
-    (Step::Nothing, true, 0),
-    (Step::Append(3), true, 3),
-    (Step::Nothing, true, 0),
-    (Step::Append(3), false, 1),
-    (Step::Cut(3, 9), true, 1),
-    (Step::Cut(3, 2), true, 1),
-    (Step::RemoveTwo(3, 9), true, 1),
-    (Step::Mount, true, 2),
-    (Step::Nothing, true, 0),
-];
-
-#[test]
-fn syncs_what_is_due(rt: HostRuntime) -> Result<(), Fail> {
-    let mut folder = Folder::new(&rt, "due")?;
-    for &(step, worked, want) in &STEPS {
-        assert!(rt; is_due(&mut folder, step, worked, want)?);
-    }
-    Ok(())
-}
-
-fn append(folder: &mut Folder<HostRuntime>, files: &[u32], bytes: &[u8]) -> io::Result<()> {
-    for f in files {
-        folder.append(FileNo(*f), bytes)?;
-    }
-    Ok(())
-}
-
-// A job with which a file grows.
-fn append_beside_a_job(folder: &mut Folder<HostRuntime>) -> io::Result<()> {
+fn append_in_job(folder: &mut Folder<HostRuntime>, f: u32) -> io::Result<()> {
     let job = folder.begin_sync(1)?;
-    let appended = append(folder, &[3], b"e");
+    let appended = folder.append(FileNo(f), b"e");
     job.run().give_up();
     folder.end_sync(true)?;
     appended
 }
 
-fn give_a_job_up(folder: &mut Folder<HostRuntime>) -> io::Result<()> {
+fn give_job_up(folder: &mut Folder<HostRuntime>) -> io::Result<()> {
     folder.begin_sync(2)?.run().give_up();
     folder.give_up_sync();
     Ok(())
 }
 
-fn write_since(rt: &impl Abort, folder: &mut Folder<HostRuntime>) -> io::Result<()> {
-    append(folder, &[3, 4], b"abc")?;
-    folder.sync()?;
-    append(folder, &[3, 4], b"d")?;
-    append_beside_a_job(folder)?;
-    assert!(rt; due(folder, true)? == 1);
-    append(folder, &[4], b"f")?;
-    give_a_job_up(folder)?;
-    folder.sync()?;
-    assert!(rt; due(folder, true)? == 0);
+// Begins a job, ends it as one that has worked or failed, and tells whether so much was to be synced.
+fn is_due(folder: &mut Folder<HostRuntime>, worked: bool, want: usize) -> io::Result<()> {
+    let job = folder.begin_sync(1)?;
+    let count = job.due();
+    job.run().give_up();
+    if folder.end_sync(worked).is_ok() != worked || count != want {
+        return Err(Error::from(ErrorKind::InvalidData));
+    }
     Ok(())
 }
 
-#[test]
-fn files_written_since_a_job_began_are_due_still(rt: HostRuntime) -> Result<(), Fail> {
-    let mut folder = Folder::new(&rt, "since")?;
-    write_since(&rt, &mut folder)?;
+fn take(folder: &mut Folder<HostRuntime>, step: Step) -> io::Result<()> {
+    match step {
+        Append(f, bytes) => folder.append(FileNo(f), bytes),
+        Cut(f, len) => folder.cut(FileNo(f), len),
+        Remove(f) => folder.remove(FileNo(f)),
+        Mount => folder.mount(),
+        Sync => folder.sync(),
+        AppendInJob(f) => append_in_job(folder, f),
+        GiveJobUp => give_job_up(folder),
+        Due(worked, want) => is_due(folder, worked, want),
+    }
+}
+
+// Takes the steps on a new folder of this path.
+fn take_all(rt: &HostRuntime, path: &str, steps: &[Step]) -> io::Result<()> {
+    let mut folder = Folder::new(rt, path)?;
+    for step in steps {
+        take(&mut folder, *step)?;
+    }
     Ok(())
+}
+
+// The file, the folder and the folder's name at first, then what was written or cut. A job that failed
+// leaves all as it was. Where a file goes, the folder is due; after a mount the folder and its name are.
+static STEPS: [Step; 16] = [
+    Due(true, 0),
+    Append(3, b"abc"),
+    Due(true, 3),
+    Due(true, 0),
+    Append(3, b"abc"),
+    Due(false, 1),
+    Cut(3, 9),
+    Due(true, 1),
+    Cut(3, 2),
+    Due(true, 1),
+    Remove(3),
+    Remove(9),
+    Due(true, 1),
+    Mount,
+    Due(true, 2),
+    Due(true, 0),
+];
+
+// A file that grows while a job is out is due still, and one that a job did not sync.
+static SINCE: [Step; 11] = [
+    Append(3, b"abc"),
+    Append(4, b"abc"),
+    Sync,
+    Append(3, b"d"),
+    Append(4, b"d"),
+    AppendInJob(3),
+    Due(true, 1),
+    Append(4, b"f"),
+    GiveJobUp,
+    Sync,
+    Due(true, 0),
+];
+
+#[test]
+fn syncs_what_is_due(rt: HostRuntime) {
+    assert!(rt; take_all(&rt, "due", &STEPS).is_ok());
+    assert!(rt; take_all(&rt, "since", &SINCE).is_ok());
 }

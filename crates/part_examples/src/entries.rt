@@ -10,7 +10,6 @@ use log_entry::{
     Decoded, Entry, Torn, decode, decode_at, encode_onto, one_spelling, runs_are_spellings, size,
 };
 use std::alloc::{AllocError, Global};
-use std::test::Fail;
 
 fn put(alloc: Global, txn: u64, db: u32, key: &[u8], value: &[u8]) -> Result<Entry, AllocError>
     requires key { length key.now ≤ 4096 }
@@ -53,66 +52,59 @@ fn entry_of(alloc: Global, number: usize) -> Result<Entry, AllocError>
     }
 }
 
-// Whether this stands at an offset of the file.
-fn is_at(alloc: Global, wanted: &Decoded, at: usize) -> Result<bool, AllocError>
-    requires { at ≤ 138 }
-{
-    let found = decode_at(alloc, first(), at)?;
-    let same = found == *wanted;
-    drop(found);
-    Ok(same)
-}
-
-// Whether the entry of this number stands at an offset of the file, with this prev field and this length.
-fn stands(
-    alloc: Global,
-    number: usize,
-    at: usize,
-    prev: u32,
-    len: usize,
-) -> Result<bool, AllocError>
-    requires { at ≤ 138 }
-{
-    let entry = entry_of(alloc, number)?;
-    let fits = size(&entry) as usize == len;
-    let wanted = Decoded::Whole { entry, prev, len };
-    let found = is_at(alloc, &wanted, at);
-    drop(wanted);
-    Ok(fits && found?)
-}
-
-#[test]
-fn decodes_a_file(rt: HostRuntime) -> Result<(), Fail> {
-    for &(number, at, prev, len) in &PLACES {
-        assert!(rt; at < 138 && stands(rt.alloc(), number, at, prev, len)?);
-    }
-    Ok(())
-}
-
-// Puts an entry of the file at the end.
+// Puts the entry of this number at the end, and answers how many bytes it is to take.
 fn put_onto(
     alloc: Global,
     bytes: &mut Vec<u8>,
     number: usize,
     prev: u32,
-) -> Result<(), AllocError> {
+) -> Result<usize, AllocError> {
     let entry = entry_of(alloc, number)?;
+    let len = size(&entry) as usize;
     let done = encode_onto(&entry, prev, bytes);
     drop(entry);
-    done
+    done?;
+    Ok(len)
+}
+
+// Puts what stands at an offset of the file at the end, and answers its prev field and its length; none
+// where no entry stands there.
+fn read_onto(
+    alloc: Global,
+    bytes: &mut Vec<u8>,
+    at: usize,
+) -> Result<Option<(u32, usize)>, AllocError>
+    requires { at ≤ 138 }
+{
+    match decode_at(alloc, first(), at)? {
+        Decoded::Whole { entry, prev, len } => {
+            let done = encode_onto(&entry, prev, bytes);
+            drop(entry);
+            done?;
+            Ok(Some((prev, len)))
+        }
+        Decoded::Torn(_) => Ok(None),
+    }
 }
 
 #[test]
-fn encodes_a_file(rt: HostRuntime) -> Result<(), Fail> {
-    let alloc = rt.alloc();
-    let mut bytes = Vec::new(alloc);
-    for &(number, _, prev, _) in &PLACES {
-        put_onto(alloc, &mut bytes, number, prev)?;
+fn decodes_a_file(rt: HostRuntime) {
+    let mut bytes = Vec::new(rt.alloc());
+    for &(_, at, prev, len) in &PLACES {
+        assert!(rt; at < 138 && read_onto(rt.alloc(), &mut bytes, at) == Ok(Some((prev, len))));
+    }
+    assert!(rt; bytes.as_slice() == first().as_slice());
+}
+
+#[test]
+fn encodes_a_file(rt: HostRuntime) {
+    let mut bytes = Vec::new(rt.alloc());
+    for &(number, _, prev, len) in &PLACES {
+        assert!(rt; put_onto(rt.alloc(), &mut bytes, number, prev) == Ok(len));
     }
     assert!(rt; bytes.as_slice() == first().as_slice());
     one_spelling();
     runs_are_spellings();
-    Ok(())
 }
 
 // The last entry of the file with one byte changed and, where `signed`, the checksum made anew.
@@ -140,29 +132,26 @@ pub fn torn(alloc: Global, bytes: &[u8]) -> Result<Option<Torn>, AllocError> {
     }
 }
 
-#[test]
-fn tells_that_bytes_are_short(rt: HostRuntime) -> Result<(), Fail> {
-    for cut in [0, 13, 14, 21] {
-        assert!(rt; torn(rt.alloc(), &first()[116..116 + cut])? == Some(Torn::Short));
-    }
-    Ok(())
-}
-
-// Which byte is changed to what, whether the checksum is made anew, and what that is then.
-static CHANGES: [(usize, u8, bool, Torn); 7] = [
-    (13, 9, false, Torn::Short),
-    (3, 0, false, Torn::BadSum),
-    (21, 3, false, Torn::BadSum),
-    (4, 6, true, Torn::BadKind),
-    (5, 1, true, Torn::BadKind),
-    (4, 3, true, Torn::BadKind),
-    (13, 7, true, Torn::BadSum),
+// How many bytes there are of that, which byte is changed to what, whether the checksum is made anew, and
+// why it is then no whole entry.
+static CHANGES: [(usize, usize, u8, bool, Torn); 11] = [
+    (0, 22, 0, false, Torn::Short),
+    (13, 22, 0, false, Torn::Short),
+    (14, 22, 0, false, Torn::Short),
+    (21, 22, 0, false, Torn::Short),
+    (22, 13, 9, false, Torn::Short),
+    (22, 3, 0, false, Torn::BadSum),
+    (22, 21, 3, false, Torn::BadSum),
+    (22, 4, 6, true, Torn::BadKind),
+    (22, 5, 1, true, Torn::BadKind),
+    (22, 4, 3, true, Torn::BadKind),
+    (22, 13, 7, true, Torn::BadSum),
 ];
 
 #[test]
-fn tells_why_none_is_whole(rt: HostRuntime) -> Result<(), Fail> {
-    for &(at, to, signed, why) in &CHANGES {
-        assert!(rt; torn(rt.alloc(), &changed(at, to, signed))? == Some(why));
+fn tells_why_none_is_whole(rt: HostRuntime) {
+    for &(len, at, to, signed, why) in &CHANGES {
+        let bytes = changed(at, to, signed);
+        assert!(rt; len < 23 && torn(rt.alloc(), &bytes[..len]) == Ok(Some(why)));
     }
-    Ok(())
 }

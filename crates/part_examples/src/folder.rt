@@ -1,76 +1,69 @@
 // A disk over a folder. Tests run in one folder, so that each has folders of its own in it.
-use crate::disks::{self, Step};
+use crate::disks::Change::{Append, Create, Cut, Nothing, Remove, Sync};
+use crate::disks::Step::{Do, Lists, Mount, NoJob, ReadAround, Reads, SyncAround};
+use crate::disks::{self, Row};
 use dir_disk::DirDisk;
-use je_disk::{Disk, DiskErr, ReadJob, SyncDone, SyncJob};
+use je_disk::{Disk, DiskErr, SyncDone, SyncJob};
 use je_lsn::FileNo;
-use std::alloc::Global;
+use std::alloc::AllocError;
 use std::os::unix::fs::symlink;
-use std::process::Abort;
 use std::sync::{Mutex, Wait};
 use std::test::Fail;
 use std::{fs, thread};
 
+// Whether of each step on a new disk over the folder there comes what is wanted.
+fn come(rt: &HostRuntime, path: &str, rows: &[Row]) -> Result<bool, AllocError> {
+    let mut disk = DirDisk::new(rt, path)?;
+    let came = disks::come(rt.alloc(), &mut disk, rows);
+    drop(disk);
+    Ok(came)
+}
+
 #[test]
-fn is_a_disk(rt: HostRuntime) -> Result<(), Fail> {
-    for (deed, path) in &disks::DEEDS {
-        disks::does(&rt, rt.alloc(), &mut DirDisk::new(&rt, path)?, *deed)?;
+fn is_a_disk(rt: HostRuntime) {
+    for (path, rows) in &disks::SCRIPTS {
+        assert!(rt; come(&rt, path, rows) == Ok(true));
     }
-    Ok(())
 }
 
-// Takes the steps on a disk over a folder.
-fn take_all(disk: &mut DirDisk<HostRuntime>, steps: &[Step]) -> Result<(), DiskErr> {
-    disks::take_all(disk, steps)
-}
-
-static KEPT: [Step; 5] = [
-    Step::Create(26),
-    Step::Append(3, b"abcde"),
-    Step::Append(6, b"z"),
-    Step::Sync,
-    Step::Remove(6),
+// Of the files that stay the disk lists no other, nor what is no log file.
+static KEPT: [Row; 6] = [
+    (Do(Create(26)), Ok(true), 0),
+    (Do(Append(3, b"abcde")), Ok(true), 0),
+    (Do(Append(6, b"z")), Ok(true), 0),
+    (Do(Sync), Ok(true), 0),
+    (Do(Remove(6)), Ok(true), 0),
+    (Lists(&[FileNo(3), FileNo(26)]), Ok(true), 0),
 ];
 
-// Whether the disk has the two files that stay, and no other.
-fn lists_two(alloc: Global, disk: &mut DirDisk<HostRuntime>) -> Result<bool, DiskErr> {
-    disks::lists(alloc, disk, &[FileNo(3), FileNo(26)])
-}
-
-// A disk on which those steps were taken, beside files that are no log files.
-fn keep(rt: &HostRuntime) -> Result<DirDisk<HostRuntime>, Fail> {
-    let mut disk = DirDisk::new(rt, "kept")?;
-    take_all(&mut disk, &KEPT)?;
-    fs::write(rt, "kept/notes.txt", "no log file")?;
-    fs::write(rt, "kept/0000000A.jdb", "no log file")?;
-    Ok(disk)
-}
-
 // A disk goes on with those files.
-fn goes_on(rt: &impl Abort, alloc: Global, disk: &mut DirDisk<HostRuntime>) -> Result<(), DiskErr> {
-    assert!(rt; lists_two(alloc, disk)?);
-    take_all(disk, &[Step::Append(3, b"!")])?;
-    assert!(rt; disks::has_piece(disk, 3, 4, 2, b"e!..")?);
-    Ok(())
-}
+static GONE_ON: [Row; 3] = [
+    (Lists(&[FileNo(3), FileNo(26)]), Ok(true), 0),
+    (Do(Append(3, b"!")), Ok(true), 0),
+    (Reads(3, 4, 2, b"e!.."), Ok(true), 0),
+];
 
 #[test]
 fn keeps_files_in_a_folder(rt: HostRuntime) -> Result<(), Fail> {
-    let mut disk = keep(&rt)?;
-    assert!(rt; lists_two(rt.alloc(), &mut disk)?);
-    drop(disk);
+    fs::create_dir(&rt, "kept")?;
+    fs::write(&rt, "kept/notes.txt", "no log file")?;
+    fs::write(&rt, "kept/0000000A.jdb", "no log file")?;
+    assert!(rt; come(&rt, "kept", &KEPT) == Ok(true));
     assert!(rt; fs::read_to_string(&rt, "kept/00000003.jdb")?.as_str() == "abcde");
     assert!(rt; !fs::exists(&rt, "kept/00000006.jdb")?);
-    goes_on(&rt, rt.alloc(), &mut DirDisk::new(&rt, "kept")?)?;
+    assert!(rt; come(&rt, "kept", &GONE_ON) == Ok(true));
     Ok(())
 }
+
+static ON_A_FILE: [Row; 2] = [
+    (Mount, Err(DiskErr::Failed), 1),
+    (Do(Append(0, b"x")), Err(DiskErr::Failed), 2),
+];
 
 #[test]
 fn is_no_disk_where_a_file_stands(rt: HostRuntime) -> Result<(), Fail> {
     fs::write(&rt, "no_folder", "a file")?;
-    let mut disk = DirDisk::new(&rt, "no_folder")?;
-    assert!(rt; disk.mount() == Err(DiskErr::Failed));
-    assert!(rt; disk.append(FileNo(0), b"x") == Err(DiskErr::Failed));
-    assert_eq!(rt; disk.faults(), 2);
+    assert!(rt; come(&rt, "no_folder", &ON_A_FILE) == Ok(true));
     Ok(())
 }
 
@@ -116,53 +109,39 @@ fn syncs_in_another_thread(rt: HostRuntime) -> Result<(), Fail> {
     Ok(())
 }
 
+static MADE: [Row; 2] = [(Do(Create(1)), Ok(true), 0), (Do(Sync), Ok(true), 0)];
+
 // A folder stands where a log file should.
-fn count_faults(
-    rt: &impl Abort,
-    alloc: Global,
-    disk: &mut DirDisk<HostRuntime>,
-) -> Result<(), DiskErr> {
-    for step in [Step::Cut(7, 0), Step::Remove(7)] {
-        assert!(rt; take_all(disk, &[step]) == Err(DiskErr::Failed));
-    }
-    let done = disk.read_job(FileNo(7))?.run();
-    assert!(rt; disk.end_read(alloc, done).err() == Some(DiskErr::Failed));
-    assert!(rt; disk.faults() == 3 && disk.read_out().is_none());
-    Ok(())
-}
+static FAULTS: [Row; 4] = [
+    (Do(Cut(7, 0)), Err(DiskErr::Failed), 1),
+    (Do(Remove(7)), Err(DiskErr::Failed), 2),
+    (ReadAround(7, Nothing, b""), Err(DiskErr::Failed), 3),
+    (NoJob, Ok(true), 3),
+];
 
 #[test]
 fn counts_faults(rt: HostRuntime) -> Result<(), Fail> {
-    let mut disk = DirDisk::new(&rt, "faults")?;
-    take_all(&mut disk, &[Step::Create(1), Step::Sync])?;
+    assert!(rt; come(&rt, "faults", &MADE) == Ok(true));
     fs::create_dir(&rt, "faults/00000007.jdb")?;
-    count_faults(&rt, rt.alloc(), &mut disk)?;
+    assert!(rt; come(&rt, "faults", &FAULTS) == Ok(true));
     Ok(())
 }
 
-// Why a sync by a job fails.
-fn sync_fault(disk: &mut DirDisk<HostRuntime>) -> Result<Option<DiskErr>, DiskErr> {
-    let done = disk.begin_sync()?.run();
-    Ok(disk.end_sync(done).err())
-}
-
-// A device that cannot be synced stands where a log file should.
-fn lose_a_sync(rt: &impl Abort, disk: &mut DirDisk<HostRuntime>) -> Result<(), DiskErr> {
-    disk.append(FileNo(8), b"x")?;
-    assert!(rt; sync_fault(disk)? == Some(DiskErr::Failed));
-    assert!(rt; disk.faults() == 1 && disk.sync_out().is_none());
-    disk.remove(FileNo(8))?;
-    // what the system let go it does not tell again
-    assert!(rt; disk.sync_now() == Err(DiskErr::Failed));
-    assert!(rt; sync_fault(disk)? == Some(DiskErr::Failed) && disk.faults() == 3);
-    Ok(())
-}
+// A device that cannot be synced stands where a log file should. What the system let go it does not tell
+// again.
+static LOST: [Row; 6] = [
+    (Do(Append(8, b"x")), Ok(true), 0),
+    (SyncAround(Nothing, 1), Err(DiskErr::Failed), 1),
+    (NoJob, Ok(true), 1),
+    (Do(Remove(8)), Ok(true), 1),
+    (Do(Sync), Err(DiskErr::Failed), 2),
+    (SyncAround(Nothing, 2), Err(DiskErr::Failed), 3),
+];
 
 #[test]
 fn trusts_no_sync_after_one_that_failed(rt: HostRuntime) -> Result<(), Fail> {
-    let mut disk = DirDisk::new(&rt, "lost")?;
-    take_all(&mut disk, &[Step::Create(1), Step::Sync])?;
+    assert!(rt; come(&rt, "lost", &MADE) == Ok(true));
     symlink(&rt, "/dev/null", "lost/00000008.jdb")?;
-    lose_a_sync(&rt, &mut disk)?;
+    assert!(rt; come(&rt, "lost", &LOST) == Ok(true));
     Ok(())
 }

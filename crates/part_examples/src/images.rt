@@ -1,12 +1,14 @@
 // The images of nodes, written and read back.
-use crate::slots::{name, put};
+use crate::nodes::Held::{self, Deleted, There, Unset};
+use crate::nodes::Step::{self, Put, Settle};
+use crate::nodes::{self, come};
+use crate::slots::name;
 use je_lsn::{FileNo, Lsn};
 use je_order::List;
 use log_entry::{Decoded, Entry, RecordSlot, decode};
-use node_core::{Marked, Node, Slot, Version};
+use node_core::{Marked, Node, Slot};
 use node_log::{from_entries, images_are_entries, nodes_are_read_back, to_delta, to_entry};
 use std::alloc::{AllocError, Global};
-use std::test::Fail;
 
 fn lsn(offset: u32) -> Lsn {
     Lsn::new(FileNo(0), offset)
@@ -23,21 +25,17 @@ fn records(alloc: Global, rows: &[(u8, Option<Lsn>)]) -> Result<List<RecordSlot>
 }
 
 // A BIN with a record, a slot that no image shows, and a deleted record.
-fn bin(alloc: Global) -> Result<Node, Fail> {
-    let mut node = Node::new(alloc, 3, 7, 1);
-    put(alloc, &mut node, b'a', Version::There(lsn(26)))?;
-    put(alloc, &mut node, b'b', Version::Unset)?;
-    put(alloc, &mut node, b'c', Version::Deleted)?;
-    Ok(node)
-}
+static BIN: [Step; 3] = [Put(b'a', There(26)), Put(b'b', Unset), Put(b'c', Deleted)];
 
-fn changed(alloc: Global) -> Result<Node, Fail> {
-    let mut node = bin(alloc)?;
-    node.settle(Some(lsn(90)));
-    put(alloc, &mut node, b'a', Version::Deleted)?;
-    put(alloc, &mut node, b'd', Version::There(lsn(120)))?;
-    Ok(node)
-}
+// The same, which was logged in full at offset 90 and then changed.
+static CHANGED: [Step; 6] = [
+    Put(b'a', There(26)),
+    Put(b'b', Unset),
+    Put(b'c', Deleted),
+    Settle(90),
+    Put(b'a', Deleted),
+    Put(b'd', There(120)),
+];
 
 fn is_record(slot: &RecordSlot, key: u8, lsn: Option<Lsn>) -> bool {
     let name = &slot.name;
@@ -104,12 +102,26 @@ fn has_delta(
 }
 
 #[test]
-fn shows_a_bin(rt: HostRuntime) -> Result<(), Fail> {
+fn shows_a_bin(rt: HostRuntime) {
     let alloc = rt.alloc();
-    let node = bin(alloc)?;
-    assert!(rt; is_shown_by(alloc, &node, &[(b'a', Some(lsn(26))), (b'c', None)])?);
-    assert!(rt; has_delta(alloc, &node, &[])? == None);
-    Ok(())
+    let mut node = Node::new(alloc, 3, 7, 1);
+    let came = come(alloc, &mut node, &BIN);
+    let shown = is_shown_by(alloc, &node, &[(b'a', Some(lsn(26))), (b'c', None)]);
+    let delta = has_delta(alloc, &node, &[]);
+    drop(node);
+    assert!(rt; came == Ok(true) && shown == Ok(true) && delta == Ok(None));
+}
+
+#[test]
+fn shows_a_delta(rt: HostRuntime) {
+    let alloc = rt.alloc();
+    let mut node = Node::new(alloc, 3, 7, 1);
+    let came = come(alloc, &mut node, &CHANGED);
+    let delta = has_delta(alloc, &node, &[(b'a', None), (b'd', Some(lsn(120)))]);
+    drop(node);
+    assert!(rt; came == Ok(true) && delta == Ok(Some(true)));
+    images_are_entries();
+    nodes_are_read_back();
 }
 
 fn delta(alloc: Global, node: u64) -> Result<Entry, AllocError> {
@@ -119,17 +131,6 @@ fn delta(alloc: Global, node: u64) -> Result<Entry, AllocError> {
         full: lsn(90),
         slots: records(alloc, &[(b'a', None), (b'd', Some(lsn(120)))])?,
     })
-}
-
-#[test]
-fn shows_a_delta(rt: HostRuntime) -> Result<(), Fail> {
-    let alloc = rt.alloc();
-    let node = changed(alloc)?;
-    let rows = [(b'a', None), (b'd', Some(lsn(120)))];
-    assert!(rt; has_delta(alloc, &node, &rows)? == Some(true));
-    images_are_entries();
-    nodes_are_read_back();
-    Ok(())
 }
 
 // The bytes of that BIN's entry: the records a and c, of which c is deleted.
@@ -158,54 +159,58 @@ fn read_with(alloc: Global, number: u64) -> Result<Option<Node>, AllocError> {
     node
 }
 
-fn is_slot(marked: &Marked, key: u8, version: Version, changed: bool) -> bool {
-    let Slot {
-        name,
-        version: found,
-    } = &marked.slot;
+fn is_slot(marked: &Marked, key: u8, held: Held, changed: bool) -> bool {
+    let Slot { name, version } = &marked.slot;
     let same = name.key.as_slice() == [key].as_slice() && name.dup.is_empty();
-    same && *found == version && marked.changed == changed
+    same && *version == nodes::version(held) && marked.changed == changed
 }
 
-// Whether the node's slots are these: the key, the version, and whether it counts as changed.
-fn has_slots(node: &Node, rows: &[(u8, Version, bool)]) -> bool {
+// Whether the node's slots are these: the key, what is held, and whether it counts as changed.
+fn has_slots(node: &Node, rows: &[(u8, Held, bool)]) -> bool {
     let mut same = node.slots.len() == rows.len();
-    for (marked, (key, version, changed)) in node.slots.as_slice().iter().zip(rows) {
-        same = same && is_slot(marked, *key, *version, *changed);
+    for (marked, (key, held, changed)) in node.slots.as_slice().iter().zip(rows) {
+        same = same && is_slot(marked, *key, *held, *changed);
     }
     same
 }
 
-#[test]
-fn reads_an_image(rt: HostRuntime) -> Result<(), Fail> {
-    let Some(node) = read(rt.alloc(), None)? else {
-        return Err("no node".into());
+// Whether a node was read with these slots, of which a delta may be to the image there.
+fn is_node(
+    read: Result<Option<Node>, AllocError>,
+    full: Option<Lsn>,
+    rows: &[(u8, Held, bool)],
+) -> bool {
+    let Ok(Some(node)) = read else {
+        return false;
     };
-    let rows = [
-        (b'a', Version::There(lsn(26)), false),
-        (b'c', Version::Deleted, false),
-    ];
-    assert!(rt; (node.db, node.number, node.level) == (3, 7, 1) && node.full == None);
-    assert!(rt; has_slots(&node, &rows));
-    Ok(())
+    let same = (node.db, node.number, node.level) == (3, 7, 1) && node.full == full;
+    let same = same && has_slots(&node, rows);
+    drop(node);
+    same
 }
 
-#[test]
-fn reads_an_image_with_a_delta(rt: HostRuntime) -> Result<(), Fail> {
-    let Some(node) = read_with(rt.alloc(), 7)? else {
-        return Err("no node".into());
-    };
-    let rows = [
-        (b'a', Version::Deleted, true),
-        (b'c', Version::Deleted, false),
-        (b'd', Version::There(lsn(120)), true),
-    ];
-    assert!(rt; node.full == Some(lsn(90)) && has_slots(&node, &rows));
-    Ok(())
+fn reads_none(alloc: Global) -> Result<bool, AllocError> {
+    match read_with(alloc, 8)? {
+        Some(node) => {
+            drop(node);
+            Ok(false)
+        }
+        None => Ok(true),
+    }
 }
 
+static READ: [(u8, Held, bool); 2] = [(b'a', There(26), false), (b'c', Deleted, false)];
+
+static READ_WITH: [(u8, Held, bool); 3] = [
+    (b'a', Deleted, true),
+    (b'c', Deleted, false),
+    (b'd', There(120), true),
+];
+
 #[test]
-fn reads_no_delta_of_another_node(rt: HostRuntime) -> Result<(), Fail> {
-    assert!(rt; read_with(rt.alloc(), 8)?.is_none());
-    Ok(())
+fn reads_images(rt: HostRuntime) {
+    assert!(rt; is_node(read(rt.alloc(), None), None, &READ));
+    assert!(rt; is_node(read_with(rt.alloc(), 7), Some(lsn(90)), &READ_WITH));
+    // the delta of another node
+    assert!(rt; reads_none(rt.alloc()) == Ok(true));
 }

@@ -1,12 +1,11 @@
 // The lock manager: deadlocks and their victims, and what it tells of locks.
 use crate::record_ids::record;
+use Step::{Asks, GiveBack, Grants, HasHolder, NobodyWaits, Release, Tells};
 use je_order::TxnId;
 use lock_mgr::{LockMgr, Requested};
-use lock_mode::LockType;
+use lock_mode::LockType::{self, Read, Write};
 use lock_table::RecordId;
 use std::alloc::{AllocError, Global};
-use std::process::Abort;
-use std::test::Fail;
 
 // What became of a request. Of one that closes cycles: its owner, how many victims there are, the first,
 // and how long its cycle is.
@@ -19,8 +18,20 @@ enum Came {
     WaitedAlready,
 }
 
-// A request of a transaction for the record of a key, whether it may wait, and what becomes of it.
-type Row = (u64, u8, LockType, bool, Came);
+// What is done to a manager or asked of it. A record goes by its key.
+#[derive(Clone, Copy)]
+enum Step {
+    // a request of a transaction, whether it may wait, and what becomes of it
+    Asks(TxnId, u8, LockType, bool, Came),
+    Release(TxnId),
+    // the transaction's wait is taken back, and its lock to read
+    GiveBack(TxnId, u8),
+    Grants(TxnId, bool),
+    NobodyWaits,
+    // whether the record is locked, and who writes it
+    Tells(u8, (bool, Option<TxnId>)),
+    HasHolder(u32, Option<TxnId>),
+}
 
 fn kind_of(answer: &Requested) -> Came {
     match answer {
@@ -51,50 +62,19 @@ fn requested_at(
     Ok(came)
 }
 
-// Whether this becomes of a request.
-fn comes(locks: &mut LockMgr, alloc: Global, row: Row) -> Result<bool, AllocError> {
-    let (txn, key, mode, wait, want) = row;
-    let at = record(alloc, key)?;
-    let came = requested_at(locks, alloc, TxnId(txn), &at, mode, wait);
-    drop(at);
-    Ok(came? == want)
-}
-
-fn request_all(
-    rt: &impl Abort,
+// What becomes of a request for the record of a key.
+fn requested(
     locks: &mut LockMgr,
     alloc: Global,
-    rows: &[Row],
-) -> Result<(), AllocError> {
-    for row in rows {
-        assert!(rt; comes(locks, alloc, *row)?);
-    }
-    Ok(())
-}
-
-static CROSSED: [Row; 4] = [
-    (2, b'a', LockType::Write, true, Came::Granted),
-    (3, b'b', LockType::Write, true, Came::Granted),
-    (2, b'b', LockType::Write, true, Came::Waiting),
-    (3, b'a', LockType::Write, true, Came::Victims(2, 1, 3, 2)),
-];
-
-fn cross(rt: &impl Abort, locks: &mut LockMgr, alloc: Global) -> Result<(), AllocError> {
-    request_all(rt, locks, alloc, &CROSSED)?;
-    locks.release_all(TxnId(3));
-    assert!(rt; locks.is_granted(TxnId(2)) && !locks.is_granted(TxnId(3)));
-    Ok(())
-}
-
-// Transactions 2 and 3 each write a record and then ask for the other's: 3 is the victim, and 2 gets
-// its lock once 3 has ended.
-#[test]
-fn deadlock_of_two(rt: HostRuntime) -> Result<(), Fail> {
-    let alloc = rt.alloc();
-    let mut locks = LockMgr::new(alloc);
-    let done = cross(&rt, &mut locks, alloc);
-    drop(locks);
-    Ok(done?)
+    txn: TxnId,
+    key: u8,
+    mode: LockType,
+    wait: bool,
+) -> Result<Came, AllocError> {
+    let at = record(alloc, key)?;
+    let came = requested_at(locks, alloc, txn, &at, mode, wait);
+    drop(at);
+    came
 }
 
 // Takes the transaction's wait back, and its lock to read.
@@ -106,37 +86,18 @@ fn give_back_reading(
 ) -> Result<(), AllocError> {
     let at = record(alloc, key)?;
     locks.cancel(txn);
-    if locks.held(txn, &at) == Some(LockType::Read) {
+    if locks.held(txn, &at) == Some(Read) {
         locks.give_back(txn, &at, None);
     }
     drop(at);
     Ok(())
 }
 
-static UPGRADES: [Row; 4] = [
-    (3, b'a', LockType::Read, true, Came::Granted),
-    (4, b'a', LockType::Read, true, Came::Granted),
-    (3, b'a', LockType::Write, true, Came::Waiting),
-    (4, b'a', LockType::Write, true, Came::Victims(3, 1, 4, 2)),
-];
-
-fn upgrade_both(rt: &impl Abort, locks: &mut LockMgr, alloc: Global) -> Result<(), AllocError> {
-    request_all(rt, locks, alloc, &UPGRADES)?;
-    give_back_reading(locks, alloc, TxnId(4), b'a')?;
-    assert!(rt; locks.is_granted(TxnId(3)));
-    assert!(rt; locks.waits(alloc)?.is_empty());
-    Ok(())
-}
-
-// Two readers of one record that both ask to write it: the later one is the victim, and the other is
-// granted once the victim's read lock is given back.
-#[test]
-fn deadlock_of_two_upgrades(rt: HostRuntime) -> Result<(), Fail> {
-    let alloc = rt.alloc();
-    let mut locks = LockMgr::new(alloc);
-    let done = upgrade_both(&rt, &mut locks, alloc);
-    drop(locks);
-    Ok(done?)
+fn nobody_waits(locks: &LockMgr, alloc: Global) -> Result<bool, AllocError> {
+    let waits = locks.waits(alloc)?;
+    let none = waits.is_empty();
+    drop(waits);
+    Ok(none)
 }
 
 // Whether the record of a key is locked, and who writes it.
@@ -147,24 +108,83 @@ fn told(locks: &LockMgr, alloc: Global, key: u8) -> Result<(bool, Option<TxnId>)
     Ok(told)
 }
 
-static WRITTEN: [Row; 3] = [
-    (2, b'a', LockType::Write, true, Came::Granted),
-    (4, b'a', LockType::Read, false, Came::NotAvailable),
-    (2, b'a', LockType::Write, true, Came::Granted),
+// Whether the step comes as it says.
+fn comes(locks: &mut LockMgr, alloc: Global, step: Step) -> Result<bool, AllocError> {
+    match step {
+        Asks(txn, key, mode, wait, want) => {
+            Ok(requested(locks, alloc, txn, key, mode, wait)? == want)
+        }
+        Release(txn) => {
+            locks.release_all(txn);
+            Ok(true)
+        }
+        GiveBack(txn, key) => {
+            give_back_reading(locks, alloc, txn, key)?;
+            Ok(true)
+        }
+        Grants(txn, want) => Ok(locks.is_granted(txn) == want),
+        NobodyWaits => nobody_waits(locks, alloc),
+        Tells(key, want) => Ok(told(locks, alloc, key)? == want),
+        HasHolder(place, want) => Ok(locks.holder_in(place) == want),
+    }
+}
+
+fn come(locks: &mut LockMgr, alloc: Global, steps: &[Step]) -> Result<bool, AllocError> {
+    for step in steps {
+        if !comes(locks, alloc, *step)? {
+            return Ok(false);
+        }
+    }
+    Ok(true)
+}
+
+// Whether the steps come so in a new manager.
+fn come_new(alloc: Global, steps: &[Step]) -> Result<bool, AllocError> {
+    let mut locks = LockMgr::new(alloc);
+    let came = come(&mut locks, alloc, steps);
+    drop(locks);
+    came
+}
+
+// Transactions 2 and 3 each write a record and then ask for the other's: 3 is the victim, and 2 gets
+// its lock once 3 has ended.
+static CROSSED: [Step; 7] = [
+    Asks(TxnId(2), b'a', Write, true, Came::Granted),
+    Asks(TxnId(3), b'b', Write, true, Came::Granted),
+    Asks(TxnId(2), b'b', Write, true, Came::Waiting),
+    Asks(TxnId(3), b'a', Write, true, Came::Victims(2, 1, 3, 2)),
+    Release(TxnId(3)),
+    Grants(TxnId(2), true),
+    Grants(TxnId(3), false),
 ];
 
-fn tell(rt: &impl Abort, locks: &mut LockMgr, alloc: Global) -> Result<(), AllocError> {
-    request_all(rt, locks, alloc, &WRITTEN)?;
-    assert!(rt; told(locks, alloc, b'a')? == (true, Some(TxnId(2))));
-    assert!(rt; locks.holder_in(1) == Some(TxnId(2)));
-    Ok(())
+// Two readers of one record that both ask to write it: the later one is the victim, and the other is
+// granted once the victim's read lock is given back.
+static UPGRADES: [Step; 7] = [
+    Asks(TxnId(3), b'a', Read, true, Came::Granted),
+    Asks(TxnId(4), b'a', Read, true, Came::Granted),
+    Asks(TxnId(3), b'a', Write, true, Came::Waiting),
+    Asks(TxnId(4), b'a', Write, true, Came::Victims(3, 1, 4, 2)),
+    GiveBack(TxnId(4), b'a'),
+    Grants(TxnId(3), true),
+    NobodyWaits,
+];
+
+static WRITTEN: [Step; 5] = [
+    Asks(TxnId(2), b'a', Write, true, Came::Granted),
+    Asks(TxnId(4), b'a', Read, false, Came::NotAvailable),
+    Asks(TxnId(2), b'a', Write, true, Came::Granted),
+    Tells(b'a', (true, Some(TxnId(2)))),
+    HasHolder(1, Some(TxnId(2))),
+];
+
+#[test]
+fn deadlocks_have_victims(rt: HostRuntime) {
+    assert!(rt; come_new(rt.alloc(), &CROSSED) == Ok(true));
+    assert!(rt; come_new(rt.alloc(), &UPGRADES) == Ok(true));
 }
 
 #[test]
-fn tells_of_the_locks(rt: HostRuntime) -> Result<(), Fail> {
-    let alloc = rt.alloc();
-    let mut locks = LockMgr::new(alloc);
-    let done = tell(&rt, &mut locks, alloc);
-    drop(locks);
-    Ok(done?)
+fn tells_of_the_locks(rt: HostRuntime) {
+    assert!(rt; come_new(rt.alloc(), &WRITTEN) == Ok(true));
 }

@@ -1,85 +1,87 @@
 // A disk in memory: its files at once, calls that fail, and what a crash keeps.
-use crate::disks::{self, Step};
-use je_disk::{Disk, DiskErr, SyncDone, SyncJob};
+use crate::disks::Change::{Append, Cut, Nothing, Remove, Sync};
+use crate::disks::Step::{Do, GiveSyncUp, IsLong, NoJob, Reads, SyncAround};
+use crate::disks::{self, Row};
+use je_disk::DiskErr;
 use je_lsn::FileNo;
 use mem_disk::MemDisk;
 use std::alloc::{AllocError, Global};
-use std::process::Abort;
-use std::test::Fail;
 
-#[test]
-fn is_a_disk(rt: HostRuntime) -> Result<(), Fail> {
-    let alloc = rt.alloc();
-    for (deed, _) in &disks::DEEDS {
-        disks::does(&rt, alloc, &mut MemDisk::new(alloc), *deed)?;
-    }
-    Ok(())
+// Whether of each step there comes what is wanted.
+fn come(alloc: Global, disk: &mut MemDisk, rows: &[Row]) -> bool {
+    disks::come(alloc, disk, rows)
 }
 
-// A step, why it fails, and how many faults there are then.
-type Row = (Step, Option<DiskErr>, u64);
-
-fn take_rows(rt: &impl Abort, disk: &mut MemDisk, rows: &[Row]) {
-    for (step, error, faults) in rows {
-        let taken = disks::take_all(disk, &[*step]);
-        assert!(rt; taken.err() == *error && disk.faults() == *faults);
+#[test]
+fn is_a_disk(rt: HostRuntime) {
+    let alloc = rt.alloc();
+    for (_, rows) in &disks::SCRIPTS {
+        assert!(rt; come(alloc, &mut MemDisk::new(alloc), rows));
     }
 }
 
 // Of these calls the second, the fourth and the fifth fail.
 static TOLD: [Row; 5] = [
-    (Step::Append(2, b"x"), None, 0),
-    (Step::Append(2, b"x"), Some(DiskErr::Failed), 1),
-    (Step::Append(2, b"y"), None, 1),
-    (Step::Cut(2, 0), Some(DiskErr::Failed), 2),
-    (Step::Remove(2), Some(DiskErr::Failed), 3),
+    (Do(Append(2, b"x")), Ok(true), 0),
+    (Do(Append(2, b"x")), Err(DiskErr::Failed), 1),
+    (Do(Append(2, b"y")), Ok(true), 1),
+    (Do(Cut(2, 0)), Err(DiskErr::Failed), 2),
+    (Do(Remove(2)), Err(DiskErr::Failed), 3),
 ];
 
-// A disk on which those calls were made.
-fn told(rt: &impl Abort, alloc: Global) -> Result<MemDisk, AllocError> {
+// A disk with the files that those calls left.
+static AGAIN: [Row; 2] = [
+    (IsLong(2, 2), Ok(true), 0),
+    (Reads(2, 0, 2, b"xy.."), Ok(true), 0),
+];
+
+// The first job does not begin, and the second does not end.
+static JOBS: [Row; 4] = [
+    (GiveSyncUp(1), Err(DiskErr::Failed), 1),
+    (NoJob, Ok(true), 1),
+    (SyncAround(Nothing, 1), Err(DiskErr::Failed), 2),
+    (NoJob, Ok(true), 2),
+];
+
+// Whether the steps come so where these calls fail, and then the others on a disk with the files that are left.
+fn come_failing(
+    alloc: Global,
+    calls: &[u64],
+    rows: &[Row],
+    others: &[Row],
+) -> Result<bool, AllocError> {
     let mut disk = MemDisk::new(alloc);
-    disk.fail_calls(alloc, &[2, 4, 5])?;
-    take_rows(rt, &mut disk, &TOLD);
-    Ok(disk)
+    let told = disk.fail_calls(alloc, calls);
+    let came = come(alloc, &mut disk, rows);
+    let files = disk.files(alloc);
+    drop(disk);
+    told?;
+    let mut again = MemDisk::with_files(alloc, files?)?;
+    let then_came = come(alloc, &mut again, others);
+    drop(again);
+    Ok(came && then_came)
 }
 
 #[test]
-fn fails_where_told(rt: HostRuntime) -> Result<(), Fail> {
-    let alloc = rt.alloc();
-    let files = told(&rt, alloc)?.files(alloc)?;
-    let mut again = MemDisk::with_files(alloc, files)?;
-    assert!(rt; disks::are_long(&mut again, &[(2, 2)])? && again.faults() == 0);
-    assert!(rt; disks::has_piece(&mut again, 2, 0, 2, b"xy..")?);
-    Ok(())
-}
-
-#[test]
-fn fails_to_begin_and_to_end_a_sync(rt: HostRuntime) -> Result<(), Fail> {
-    let alloc = rt.alloc();
-    let mut disk = MemDisk::new(alloc);
-    disk.fail_calls(alloc, &[1, 3])?;
-    match disk.begin_sync() {
-        Ok(job) => job.run().give_up(),
-        Err(e) => assert!(rt; e == DiskErr::Failed),
-    }
-    assert!(rt; disk.sync_out().is_none() && disk.faults() == 1);
-    let done = disk.begin_sync()?.run();
-    assert!(rt; disk.end_sync(done) == Err(DiskErr::Failed));
-    assert!(rt; disk.sync_out().is_none() && disk.faults() == 2);
-    Ok(())
+fn fails_where_told(rt: HostRuntime) {
+    assert!(rt; come_failing(rt.alloc(), &[2, 4, 5], &TOLD, &AGAIN) == Ok(true));
+    assert!(rt; come_failing(rt.alloc(), &[1, 3], &JOBS, &[]) == Ok(true));
 }
 
 // Calls 1 to 5 work; the fifth appends bytes that no sync made stable.
 static STOPPED: [Row; 8] = [
-    (Step::Append(1, b"abc"), None, 0),
-    (Step::Append(2, b"wxyz"), None, 0),
-    (Step::Sync, None, 0),
-    (Step::Cut(2, 1), None, 0),
-    (Step::Append(1, b"de"), None, 0),
-    (Step::Append(1, b"f"), Some(DiskErr::Failed), 1),
-    (Step::Remove(2), Some(DiskErr::Failed), 2),
-    (Step::Sync, Some(DiskErr::Failed), 3),
+    (Do(Append(1, b"abc")), Ok(true), 0),
+    (Do(Append(2, b"wxyz")), Ok(true), 0),
+    (Do(Sync), Ok(true), 0),
+    (Do(Cut(2, 1)), Ok(true), 0),
+    (Do(Append(1, b"de")), Ok(true), 0),
+    (Do(Append(1, b"f")), Err(DiskErr::Failed), 1),
+    (Do(Remove(2)), Err(DiskErr::Failed), 2),
+    (Do(Sync), Err(DiskErr::Failed), 3),
 ];
+
+// Where calls work again the files are as they were.
+static GOING: [Row; 2] = [(IsLong(1, 5), Ok(true), 3), (IsLong(2, 1), Ok(true), 3)];
 
 // What stays of each file, how many bytes may, and whether the file must or may be there.
 static MARKS: [(u32, &[u8], u64, bool, bool); 3] = [
@@ -108,13 +110,12 @@ fn has_marks(alloc: Global, disk: &MemDisk) -> Result<bool, AllocError> {
 }
 
 #[test]
-fn stops_and_tells_what_stays(rt: HostRuntime) -> Result<(), Fail> {
+fn stops_and_tells_what_stays(rt: HostRuntime) {
     let alloc = rt.alloc();
     let mut disk = MemDisk::new(alloc);
     disk.stop_after(5);
-    take_rows(&rt, &mut disk, &STOPPED);
-    assert!(rt; has_marks(alloc, &disk)?);
+    assert!(rt; come(alloc, &mut disk, &STOPPED));
+    assert!(rt; has_marks(alloc, &disk) == Ok(true));
     disk.stop_after(u64::MAX);
-    assert!(rt; disks::are_long(&mut disk, &[(1, 5), (2, 1)])?);
-    Ok(())
+    assert!(rt; come(alloc, &mut disk, &GOING));
 }

@@ -2,7 +2,6 @@
 use je_model::{Answer, Call, Kind, Store, eval};
 use je_order::{Octets, Word, copy_of};
 use std::alloc::{AllocError, Global};
-use std::test::Fail;
 
 // A call on a database, or on all of them.
 #[derive(Clone, Copy)]
@@ -22,35 +21,35 @@ fn octets(alloc: Global, text: &str) -> Result<Octets, AllocError> {
     Octets::from_slice(alloc, text.as_bytes())
 }
 
-fn put(alloc: Global, db: Word, key: &str, value: &str) -> Result<Call, AllocError> {
-    Ok(Call::Put {
-        db,
-        key: octets(alloc, key)?,
-        value: octets(alloc, value)?,
-    })
+// A put of a pair, that overwrites or not.
+fn put(
+    alloc: Global,
+    db: Word,
+    key: &str,
+    value: &str,
+    overwrites: bool,
+) -> Result<Call, AllocError> {
+    let key = octets(alloc, key)?;
+    let value = octets(alloc, value)?;
+    if overwrites {
+        Ok(Call::Put { db, key, value })
+    } else {
+        Ok(Call::PutNo { db, key, value })
+    }
 }
 
-fn put_no(alloc: Global, db: Word, key: &str, value: &str) -> Result<Call, AllocError> {
-    Ok(Call::PutNo {
-        db,
-        key: octets(alloc, key)?,
-        value: octets(alloc, value)?,
-    })
-}
-
-fn get(alloc: Global, db: Word, key: &str) -> Result<Call, AllocError> {
-    Ok(Call::Get {
-        db,
-        key: octets(alloc, key)?,
-        rmw: false,
-    })
-}
-
-fn delete(alloc: Global, db: Word, key: &str) -> Result<Call, AllocError> {
-    Ok(Call::Delete {
-        db,
-        key: octets(alloc, key)?,
-    })
+// A get of a key, or its deletion.
+fn get(alloc: Global, db: Word, key: &str, deletes: bool) -> Result<Call, AllocError> {
+    let key = octets(alloc, key)?;
+    if deletes {
+        Ok(Call::Delete { db, key })
+    } else {
+        Ok(Call::Get {
+            db,
+            key,
+            rmw: false,
+        })
+    }
 }
 
 // The call of a step on a database; a rename takes the other name.
@@ -64,10 +63,10 @@ fn call_of(alloc: Global, db: Word, to: Word, step: Step) -> Result<Call, AllocE
         Step::Remove => Ok(Call::Remove { db }),
         Step::Rename => Ok(Call::Rename { db, to }),
         Step::Truncate => Ok(Call::Truncate { db }),
-        Step::Put(key, value) => put(alloc, db, key, value),
-        Step::PutNo(key, value) => put_no(alloc, db, key, value),
-        Step::Get(key) => get(alloc, db, key),
-        Step::Delete(key) => delete(alloc, db, key),
+        Step::Put(key, value) => put(alloc, db, key, value, true),
+        Step::PutNo(key, value) => put(alloc, db, key, value, false),
+        Step::Get(key) => get(alloc, db, key, false),
+        Step::Delete(key) => get(alloc, db, key, true),
     }
 }
 
@@ -187,11 +186,17 @@ fn called(alloc: Global, db: u8, step: Step) -> Result<Call, AllocError> {
 }
 
 fn is_answer(alloc: Global, answer: &Answer, text: &str) -> Result<bool, AllocError> {
-    Ok(answer_text(alloc, answer)?.as_slice() == text.as_bytes())
+    let found = answer_text(alloc, answer)?;
+    let same = found.as_slice() == text.as_bytes();
+    drop(found);
+    Ok(same)
 }
 
 fn is_store(alloc: Global, store: &Store, text: &str) -> Result<bool, AllocError> {
-    Ok(store_text(alloc, store)?.as_slice() == text.as_bytes())
+    let found = store_text(alloc, store)?;
+    let same = found.as_slice() == text.as_bytes();
+    drop(found);
+    Ok(same)
 }
 
 fn evaluated(
@@ -232,20 +237,13 @@ fn first_other(alloc: Global, rows: &[Row]) -> Result<Option<usize>, AllocError>
 }
 
 #[test]
-fn evaluates_calls_on_records(rt: HostRuntime) -> Result<(), Fail> {
-    assert!(rt; first_other(rt.alloc(), &RECORDS)? == None);
-    Ok(())
+fn evaluates_calls(rt: HostRuntime) {
+    assert!(rt; first_other(rt.alloc(), &RECORDS) == Ok(None));
+    assert!(rt; first_other(rt.alloc(), &DATABASES) == Ok(None));
 }
 
 #[test]
-fn evaluates_calls_on_databases(rt: HostRuntime) -> Result<(), Fail> {
-    assert!(rt; first_other(rt.alloc(), &DATABASES)? == None);
-    Ok(())
-}
-
-#[test]
-fn copies_a_store(rt: HostRuntime) -> Result<(), Fail> {
+fn copies_a_store(rt: HostRuntime) {
     let store = Store::new(rt.alloc());
-    assert!(rt; copy_of(&store)? == store);
-    Ok(())
+    assert!(rt; copy_of(&store) == Ok(store));
 }

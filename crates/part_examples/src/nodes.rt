@@ -1,159 +1,202 @@
 // The slots of a node: in order, split, and as a delta shows them.
 use crate::slots::{name, put};
+use Held::{Deleted, There, Unset};
+use Step::{Finds, HasImage, HasKeys, HasNoImage, Holds, Put, Remove, Settle, Shows, Splits};
 use je_lsn::{FileNo, Lsn};
 use je_order::copy_of;
 use node_core::{Node, Slot, Version, slots_are_their_names};
 use std::alloc::{AllocError, Global};
-use std::test::Fail;
 
-fn at(offset: u32) -> Version {
-    Version::There(Lsn::new(FileNo(0), offset))
+/// What a slot holds of its record. The LSN is an offset of file 0, here and below.
+#[derive(Clone, Copy)]
+pub enum Held {
+    There(u32),
+    Unset,
+    Deleted,
+}
+
+/// What is done to a node or asked of it. A record goes by its key.
+#[derive(Clone, Copy)]
+pub enum Step {
+    Put(u8, Held),
+    Remove(u8),
+    Settle(u32),
+    HasKeys(&'static [u8]),
+    /// The record's place, and how many are below it.
+    Finds(u8, Option<usize>, usize),
+    /// What the slot at this place holds.
+    Holds(usize, Held),
+    /// A delta can be to the image there.
+    HasImage(u32),
+    HasNoImage,
+    /// A delta shows these records.
+    Shows(&'static [(u8, Held)]),
+    /// The node is split in `abc` and `de`, of which the upper one is number 7.
+    Splits,
+}
+
+fn at(offset: u32) -> Lsn {
+    Lsn::new(FileNo(0), offset)
+}
+
+pub fn version(held: Held) -> Version {
+    match held {
+        There(offset) => Version::There(at(offset)),
+        Unset => Version::Unset,
+        Deleted => Version::Deleted,
+    }
 }
 
 // Whether the keys of the node's slots are these bytes, in order.
 fn has_keys(node: &Node, keys: &[u8]) -> bool {
-    let mut same = node.slots.len() == keys.len();
+    let mut same = node.slots.len() == keys.len() && node.slots.is_empty() == keys.is_empty();
     for (marked, key) in node.slots.as_slice().iter().zip(keys) {
         same = same && marked.slot.name.key.as_slice() == [*key].as_slice();
     }
     same
 }
 
-fn found(alloc: Global, node: &Node, key: u8) -> Result<Option<usize>, AllocError> {
-    let name = name(alloc, key)?;
-    Ok(node.find(&name))
-}
-
-fn rank(alloc: Global, node: &Node, key: u8) -> Result<usize, AllocError> {
-    let name = name(alloc, key)?;
-    Ok(node.slots.rank(&name))
-}
-
-fn remove(alloc: Global, node: &mut Node, key: u8) -> Result<(), AllocError> {
+fn remove(alloc: Global, node: &mut Node, key: u8) -> Result<bool, AllocError> {
     let name = name(alloc, key)?;
     node.remove_slot(&name);
-    Ok(())
+    drop(name);
+    Ok(true)
 }
 
-// Slots that are put, the third once more.
-static PUTS: [(u8, u32); 6] = [
-    (b'c', 40),
-    (b'a', 26),
-    (b'e', 62),
-    (b'b', 84),
-    (b'd', 98),
-    (b'c', 120),
-];
+fn found(alloc: Global, node: &Node, key: u8) -> Result<(Option<usize>, usize), AllocError> {
+    let name = name(alloc, key)?;
+    let found = (node.find(&name), node.slots.rank(&name));
+    drop(name);
+    Ok(found)
+}
 
-fn fill(alloc: Global, node: &mut Node) -> Result<(), Fail> {
-    for &(key, offset) in &PUTS {
-        put(alloc, node, key, at(offset))?;
+fn holds(node: &Node, at: usize, held: Held) -> bool {
+    match node.slots.as_slice().get(at) {
+        Some(marked) => marked.slot.version == version(held),
+        None => false,
     }
-    Ok(())
 }
 
-#[test]
-fn keeps_slots_in_order(rt: HostRuntime) -> Result<(), Fail> {
-    let alloc = rt.alloc();
-    let mut node = Node::new(alloc, 1, 2, 1);
-    assert!(rt; node.slots.is_empty() && found(alloc, &node, b'c')?.is_none());
-    fill(alloc, &mut node)?;
-    assert!(rt; has_keys(&node, b"abcde") && found(alloc, &node, b'c')? == Some(2));
-    assert!(rt; rank(alloc, &node, b'd')? == 3);
-    assert!(rt; node.slots.as_slice().get(2).map(|m| m.slot.version) == Some(at(120)));
-    Ok(())
+fn is_slot(slot: &Slot, key: u8, held: Held) -> bool {
+    slot.version == version(held) && slot.name.key.as_slice() == [key].as_slice()
 }
 
-// Whether the node is split in these two, of which the upper one is number 7.
-fn splits(alloc: Global, node: &mut Node) -> Result<bool, AllocError> {
-    let upper = node.split(7)?;
-    let same = has_keys(node, b"abc") && has_keys(&upper, b"de") && node.number == 2;
-    Ok(same && (upper.number, upper.db, upper.level) == (7, 1, 1))
+fn is_copied(slot: &Slot) -> Result<bool, AllocError> {
+    let copy = copy_of(slot)?;
+    let same = copy == *slot;
+    drop(copy);
+    Ok(same)
 }
 
-#[test]
-fn splits_and_removes(rt: HostRuntime) -> Result<(), Fail> {
-    let alloc = rt.alloc();
-    let mut node = Node::new(alloc, 1, 2, 1);
-    fill(alloc, &mut node)?;
-    assert!(rt; splits(alloc, &mut node)?);
-    remove(alloc, &mut node, b'b')?;
-    remove(alloc, &mut node, b'x')?;
-    assert!(rt; has_keys(&node, b"ac"));
-    slots_are_their_names();
-    Ok(())
-}
-
-fn is_slot(slot: &Slot, key: u8, version: Version) -> bool {
-    slot.version == version && slot.name.key.as_slice() == [key].as_slice()
-}
-
-fn are_slots(slots: &[Slot], rows: &[(u8, Version)]) -> bool {
+// Whether the slots are these records, and copies of them are the same.
+fn are_slots(slots: &[Slot], rows: &[(u8, Held)]) -> Result<bool, AllocError> {
     let mut same = slots.len() == rows.len();
-    for (slot, (key, version)) in slots.iter().zip(rows) {
-        same = same && is_slot(slot, *key, *version);
+    for (slot, (key, held)) in slots.iter().zip(rows) {
+        same = same && is_slot(slot, *key, *held) && is_copied(slot)?;
     }
+    Ok(same)
+}
+
+fn shows(alloc: Global, node: &Node, rows: &[(u8, Held)]) -> Result<bool, AllocError> {
+    let changed = node.changed_slots(alloc)?;
+    let same = are_slots(changed.as_slice(), rows);
+    drop(changed);
     same
 }
 
-fn are_copied(slots: &[Slot]) -> Result<bool, AllocError> {
-    for slot in slots {
-        if copy_of(slot)? != *slot {
+fn splits(node: &mut Node) -> Result<bool, AllocError> {
+    let upper = node.split(7)?;
+    let parted = has_keys(node, b"abc") && has_keys(&upper, b"de");
+    let numbered = (node.number, upper.number, upper.db, upper.level) == (2, 7, 1, 1);
+    drop(upper);
+    Ok(parted && numbered)
+}
+
+// Whether the step comes as it says.
+fn comes(alloc: Global, node: &mut Node, step: Step) -> Result<bool, AllocError> {
+    match step {
+        Put(key, held) => put(alloc, node, key, version(held)),
+        Remove(key) => remove(alloc, node, key),
+        Settle(offset) => {
+            node.settle(Some(at(offset)));
+            Ok(true)
+        }
+        HasKeys(keys) => Ok(has_keys(node, keys)),
+        Finds(key, place, rank) => Ok(found(alloc, node, key)? == (place, rank)),
+        Holds(place, held) => Ok(holds(node, place, held)),
+        HasImage(offset) => Ok(node.full == Some(at(offset))),
+        HasNoImage => Ok(node.full.is_none()),
+        Shows(rows) => shows(alloc, node, rows),
+        Splits => splits(node),
+    }
+}
+
+/// Whether each step comes as it says.
+pub fn come(alloc: Global, node: &mut Node, steps: &[Step]) -> Result<bool, AllocError> {
+    for step in steps {
+        if !comes(alloc, node, *step)? {
             return Ok(false);
         }
     }
     Ok(true)
 }
 
-// The image at offset 200.
-fn image() -> Option<Lsn> {
-    Some(Lsn::new(FileNo(0), 200))
-}
+// The third slot is put once more. Of the names that are removed the second has no slot.
+static ORDERED: [Step; 16] = [
+    HasKeys(b""),
+    Finds(b'c', None, 0),
+    Put(b'c', There(40)),
+    Put(b'a', There(26)),
+    Put(b'e', There(62)),
+    Put(b'b', There(84)),
+    Put(b'd', There(98)),
+    Put(b'c', There(120)),
+    HasKeys(b"abcde"),
+    Finds(b'c', Some(2), 2),
+    Finds(b'd', Some(3), 3),
+    Holds(2, There(120)),
+    Splits,
+    Remove(b'b'),
+    Remove(b'x'),
+    HasKeys(b"ac"),
+];
 
-// A node of three records that was logged in full.
-fn settled(alloc: Global) -> Result<Node, Fail> {
+// Three records are logged in full at offset 200, and then changed.
+static SHOWN: [Step; 16] = [
+    Put(b'a', There(26)),
+    Put(b'b', There(62)),
+    Put(b'd', There(98)),
+    Settle(200),
+    Shows(&[]),
+    Put(b'c', Unset),
+    Put(b'd', There(240)),
+    Put(b'a', Deleted),
+    Remove(b'c'),
+    Shows(&[(b'a', Deleted), (b'd', There(240))]),
+    HasImage(200),
+    // no delta can show that a committed slot was lost, nor that it is unset
+    Remove(b'a'),
+    HasNoImage,
+    Settle(200),
+    Put(b'b', Unset),
+    HasNoImage,
+];
+
+// Whether the steps come so on a new node.
+fn come_new(alloc: Global, steps: &[Step]) -> Result<bool, AllocError> {
     let mut node = Node::new(alloc, 1, 2, 1);
-    for (key, offset) in [(b'a', 26), (b'b', 62), (b'd', 98)] {
-        put(alloc, &mut node, key, at(offset))?;
-    }
-    node.settle(image());
-    Ok(node)
-}
-
-// Whether a delta shows these slots, and copies of them are the same.
-fn shows(alloc: Global, node: &Node, rows: &[(u8, Version)]) -> Result<bool, AllocError> {
-    let changed = node.changed_slots(alloc)?;
-    Ok(are_slots(changed.as_slice(), rows) && are_copied(changed.as_slice())?)
-}
-
-fn change(alloc: Global, node: &mut Node) -> Result<(), Fail> {
-    put(alloc, node, b'c', Version::Unset)?;
-    put(alloc, node, b'd', at(240))?;
-    put(alloc, node, b'a', Version::Deleted)?;
-    Ok(remove(alloc, node, b'c')?)
+    let came = come(alloc, &mut node, steps);
+    drop(node);
+    came
 }
 
 #[test]
-fn tells_what_a_delta_shows(rt: HostRuntime) -> Result<(), Fail> {
-    let alloc = rt.alloc();
-    let mut node = settled(alloc)?;
-    assert!(rt; shows(alloc, &node, &[])?);
-    change(alloc, &mut node)?;
-    let rows = [(b'a', Version::Deleted), (b'd', at(240))];
-    assert!(rt; shows(alloc, &node, &rows)? && node.full == image());
-    Ok(())
+fn keeps_slots_in_order(rt: HostRuntime) {
+    assert!(rt; come_new(rt.alloc(), &ORDERED) == Ok(true));
+    slots_are_their_names();
 }
 
-// No delta can show that a committed slot was lost.
 #[test]
-fn tells_that_no_delta_shows_it(rt: HostRuntime) -> Result<(), Fail> {
-    let alloc = rt.alloc();
-    let mut node = settled(alloc)?;
-    change(alloc, &mut node)?;
-    remove(alloc, &mut node, b'a')?;
-    assert!(rt; node.full == None);
-    node.settle(image());
-    put(alloc, &mut node, b'b', Version::Unset)?;
-    assert!(rt; node.full == None);
-    Ok(())
+fn tells_what_a_delta_shows(rt: HostRuntime) {
+    assert!(rt; come_new(rt.alloc(), &SHOWN) == Ok(true));
 }

@@ -6,7 +6,6 @@ use je_model::{Store, Totals};
 use log_replay::{Finding, LogRead, Replayed, new_environment, read_log};
 use mem_disk::MemDisk;
 use std::alloc::Global;
-use std::test::Fail;
 
 // What a log of files from number 0 on comes to.
 fn read(alloc: Global, files: &[&[u8]]) -> Result<LogRead, DiskErr> {
@@ -56,23 +55,30 @@ fn is_whole(whole: &Replayed) -> bool {
         && (whole.rows.count(0), whole.rows.count(1)) == (1, 2)
 }
 
-#[test]
-fn replays_what_is_committed(rt: HostRuntime) -> Result<(), Fail> {
-    let files = [first().as_slice(), second().as_slice()];
-    let LogRead::Read(log) = read(rt.alloc(), &files)? else {
-        return Err(Fail::new("two files are a log"));
+// Whether the replay, without the last commit, found the database alone.
+fn is_without_commit(part: &Replayed) -> bool {
+    has_t(&part.opening, &[]) && part.last_txn == 2
+}
+
+// Whether both files are replayed so, or the first without its last commit.
+fn is_replayed(alloc: Global, files: &[&[u8]]) -> Result<bool, DiskErr> {
+    let LogRead::Read(log) = read(alloc, files)? else {
+        return Ok(false);
     };
-    assert!(rt; is_whole(&log.replayed));
-    Ok(())
+    let same = if files.len() == 2 {
+        is_whole(&log.replayed)
+    } else {
+        is_without_commit(&log.replayed)
+    };
+    drop(log);
+    Ok(same)
 }
 
 #[test]
-fn replays_no_change_without_its_commit(rt: HostRuntime) -> Result<(), Fail> {
-    let LogRead::Read(log) = read(rt.alloc(), &[&first()[..116]])? else {
-        return Err(Fail::new("a log without the last commit"));
-    };
-    assert!(rt; has_t(&log.replayed.opening, &[]) && log.replayed.last_txn == 2);
-    Ok(())
+fn replays_what_is_committed(rt: HostRuntime) {
+    let files = [first().as_slice(), second().as_slice()];
+    assert!(rt; is_replayed(rt.alloc(), &files) == Ok(true));
+    assert!(rt; is_replayed(rt.alloc(), &[&first()[..116]]) == Ok(true));
 }
 
 #[test]
@@ -82,7 +88,7 @@ fn begins_with_nothing(rt: HostRuntime) {
 }
 
 #[test]
-fn finds_the_first_wrong_record(rt: HostRuntime) -> Result<(), Fail> {
+fn finds_the_first_wrong_record(rt: HostRuntime) {
     let alloc = rt.alloc();
     // the database t with number 0; a record a with the dup x; the databases t and u with one number
     let number_0 =
@@ -91,8 +97,7 @@ fn finds_the_first_wrong_record(rt: HostRuntime) -> Result<(), Fail> {
         b"\x0c\xb3\x01\x31\x01\x00\x00\x00\x00\x00\x00\x00\x00\x0c\x4a\x45\x4c\x47\x00\x00\x00\x01\x00\x00\x00\x00\x06\x14\x00\x90\x02\x00\x00\x00\x00\x00\x00\x00\x00\x16\x00\x00\x00\x00\x00\x00\x00\x01\x00\x00\x00\x00\x00\x01\x74\x00\x00\x00\x00\x00\x01\x00\x06\x15\x01\x0c\x02\x00\x00\x00\x00\x1a\x00\x00\x00\x12\x00\x00\x00\x00\x00\x00\x00\x01\x00\x00\x00\x01\x00\x01\x61\x00\x01\x78\x03\xdb\x00\x4d\x05\x00\x00\x00\x00\x3e\x00\x00\x00\x08\x00\x00\x00\x00\x00\x00\x00\x01";
     let twice =
         b"\x0c\xb3\x01\x31\x01\x00\x00\x00\x00\x00\x00\x00\x00\x0c\x4a\x45\x4c\x47\x00\x00\x00\x01\x00\x00\x00\x00\x06\x14\x00\x90\x02\x00\x00\x00\x00\x00\x00\x00\x00\x16\x00\x00\x00\x00\x00\x00\x00\x01\x00\x00\x00\x00\x00\x01\x74\x00\x00\x00\x00\x00\x01\x00\x08\xda\x00\xab\x02\x00\x00\x00\x00\x1a\x00\x00\x00\x16\x00\x00\x00\x00\x00\x00\x00\x01\x00\x00\x00\x00\x00\x01\x75\x00\x00\x00\x00\x00\x01\x00\x03\xdb\x00\x4d\x05\x00\x00\x00\x00\x3e\x00\x00\x00\x08\x00\x00\x00\x00\x00\x00\x00\x01";
-    assert!(rt; is_wrong_at(alloc, number_0, 26)?);
-    assert!(rt; is_wrong_at(alloc, with_dup, 62)?);
-    assert!(rt; is_wrong_at(alloc, twice, 62)?);
-    Ok(())
+    assert!(rt; is_wrong_at(alloc, number_0, 26) == Ok(true));
+    assert!(rt; is_wrong_at(alloc, with_dup, 62) == Ok(true));
+    assert!(rt; is_wrong_at(alloc, twice, 62) == Ok(true));
 }

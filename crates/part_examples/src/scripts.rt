@@ -3,7 +3,6 @@ use je_model::{Call, Given, Kind};
 use je_order::{Octets, Word};
 use script_text::{ParseErr, parse};
 use std::alloc::{AllocError, Global};
-use std::test::Fail;
 
 // The calls of the script below, which starts with line 3.
 fn call_at(alloc: Global, line: u32) -> Result<Call, AllocError> {
@@ -56,14 +55,18 @@ fn are_given(alloc: Global, lines: &[Given]) -> Result<bool, AllocError> {
 }
 
 // Each form, in a script with a comment, an empty line and no feed at its end.
-#[test]
-fn reads_each_form(rt: HostRuntime) -> Result<(), Fail> {
-    let alloc = rt.alloc();
+fn reads_forms(alloc: Global) -> Result<bool, ParseErr> {
     let text =
         b"# a test\n\ns1 create t plain\ns64 put t 00fF -\ns9 get t 0a\ns10 get t - rmw\ns2 delete t aB";
     let plan = parse(alloc, text)?;
-    assert!(rt; are_given(alloc, plan.lines.as_slice())?);
-    Ok(())
+    let same = are_given(alloc, plan.lines.as_slice());
+    drop(plan);
+    Ok(same?)
+}
+
+#[test]
+fn reads_each_form(rt: HostRuntime) {
+    assert!(rt; reads_forms(rt.alloc()) == Ok(true));
 }
 
 // Scripts with a bad line, and the number of the first one.
@@ -97,9 +100,8 @@ static BAD: [(&[u8], u32); 25] = [
 
 // The first bad line, and what makes it bad.
 #[test]
-fn names_the_first_bad_line(rt: HostRuntime) -> Result<(), Fail> {
+fn names_the_first_bad_line(rt: HostRuntime) {
     for &(text, line) in &BAD {
         assert!(rt; parse(rt.alloc(), text).err() == Some(ParseErr::BadScript { line }));
     }
-    Ok(())
 }

@@ -3,7 +3,6 @@ use je_order::{Name, Octets};
 use node_core::slots::MOST_SLOTS;
 use node_core::{Node, Slot, Version};
 use std::alloc::{AllocError, Global};
-use std::test::Fail;
 
 /// The name of this one byte.
 pub fn name(alloc: Global, key: u8) -> Result<Name, AllocError> {
@@ -13,12 +12,12 @@ pub fn name(alloc: Global, key: u8) -> Result<Name, AllocError> {
     })
 }
 
-/// Puts a version of the record with this key into the node.
-pub fn put(alloc: Global, node: &mut Node, key: u8, version: Version) -> Result<(), Fail> {
-    let name = name(alloc, key)?;
+/// Puts a version of the record with this key into the node, where that has room.
+pub fn put(alloc: Global, node: &mut Node, key: u8, version: Version) -> Result<bool, AllocError> {
     if node.slots.len() >= MOST_SLOTS {
-        return Err("no room".into());
+        return Ok(false);
     }
+    let name = name(alloc, key)?;
     node.put_slot(Slot { name, version })?;
-    Ok(())
+    Ok(true)
 }

@@ -1,181 +1,175 @@
 // The lock table: phantoms wait, and upgrades are given back.
 use crate::record_ids::record;
+use Step::{Ask, Blocks, Cancel, GiveBack, Grants, HasHolder, Release, Tells, Waits};
 use je_order::TxnId;
-use lock_mode::LockType;
-use lock_table::{Asked, LockTable, RecordId};
+use lock_mode::LockType::{self, RangeInsert, RangeRead, Read, Write};
+use lock_table::{Asked, LockTable};
 use std::alloc::{AllocError, Global};
-use std::process::Abort;
-use std::test::Fail;
 
-// What a transaction asks of the record of a key, and the owner that it then waits for.
-type Row = (u64, u8, LockType, Option<u64>);
+// What is done to a table or asked of it. A record goes by its key.
+#[derive(Clone, Copy)]
+enum Step {
+    // what a transaction asks, and the owner that it then waits for
+    Ask(u64, u8, LockType, Option<TxnId>),
+    Release(TxnId),
+    Cancel(TxnId),
+    // a lock to write is made one to read
+    GiveBack(TxnId, u8),
+    Grants(TxnId, bool),
+    // whether the record is locked, who writes it, and what the transaction holds
+    Tells(u8, TxnId, (bool, Option<TxnId>, Option<LockType>)),
+    // who waits, and for whom
+    Waits(&'static [(TxnId, TxnId)]),
+    // for whom the transaction waits
+    Blocks(TxnId, &'static [TxnId]),
+    HasHolder(u32, Option<TxnId>),
+}
 
-// Whether it is granted, or waits for this owner, as wanted.
-fn asks_so(table: &mut LockTable, alloc: Global, row: Row) -> Result<bool, AllocError> {
-    let (txn, key, mode, owner) = row;
+fn asks(
+    table: &mut LockTable,
+    alloc: Global,
+    txn: u64,
+    key: u8,
+    mode: LockType,
+) -> Result<Asked, AllocError> {
     if table.waits_now(TxnId(txn)) {
-        return Ok(false);
+        return Err(AllocError);
     }
     let at = record(alloc, key)?;
     let asked = table.ask(alloc, TxnId(txn), &at, mode);
     drop(at);
-    match asked? {
-        Asked::Granted => Ok(owner.is_none()),
-        Asked::Blocked { owner: found } => Ok(owner == Some(found.0)),
+    asked
+}
+
+fn is_owner(asked: Asked, owner: Option<TxnId>) -> bool {
+    match asked {
+        Asked::Granted => owner.is_none(),
+        Asked::Blocked { owner: found } => owner == Some(found),
     }
 }
 
-// Each row comes as wanted.
-fn ask_all(
-    rt: &impl Abort,
-    table: &mut LockTable,
-    alloc: Global,
-    rows: &[Row],
-) -> Result<(), AllocError> {
-    for row in rows {
-        assert!(rt; asks_so(table, alloc, *row)?);
+fn give_back(table: &mut LockTable, alloc: Global, txn: TxnId, key: u8) -> Result<(), AllocError> {
+    let at = record(alloc, key)?;
+    if table.held(txn, &at) == Some(Write) {
+        table.give_back(txn, &at, Some(Read));
     }
+    drop(at);
     Ok(())
 }
 
-// Of the record of a key: whether it is locked, who writes it, and what a transaction holds.
 fn told(
     table: &LockTable,
     alloc: Global,
-    txn: u64,
     key: u8,
+    txn: TxnId,
 ) -> Result<(bool, Option<TxnId>, Option<LockType>), AllocError> {
     let at = record(alloc, key)?;
     let told = (
         table.is_locked(&at),
         table.is_write_locked(&at),
-        table.held(TxnId(txn), &at),
+        table.held(txn, &at),
     );
     drop(at);
     Ok(told)
 }
 
-// Whether no transaction waits.
-fn nobody_waits(table: &LockTable, alloc: Global) -> Result<bool, AllocError> {
+fn waits(table: &LockTable, alloc: Global, want: &[(TxnId, TxnId)]) -> Result<bool, AllocError> {
     let waits = table.waits(alloc)?;
-    let none = waits.is_empty();
+    let same = waits.as_slice() == want;
     drop(waits);
-    Ok(none)
+    Ok(same)
 }
 
-// Whether one transaction waits, for one other.
-fn waits_alone(
+fn blocks(
     table: &LockTable,
     alloc: Global,
     waiter: TxnId,
-    owner: TxnId,
+    want: &[TxnId],
 ) -> Result<bool, AllocError> {
-    let waits = table.waits(alloc)?;
-    let alone = waits.as_slice() == [(waiter, owner)].as_slice();
-    drop(waits);
     let blockers = table.blockers(alloc, waiter)?;
-    let blocked = blockers.as_slice() == [owner].as_slice();
+    let same = blockers.as_slice() == want;
     drop(blockers);
-    Ok(alone && blocked)
+    Ok(same)
+}
+
+// Whether the step comes as it says.
+fn comes(table: &mut LockTable, alloc: Global, step: Step) -> Result<bool, AllocError> {
+    match step {
+        Ask(txn, key, mode, owner) => Ok(is_owner(asks(table, alloc, txn, key, mode)?, owner)),
+        Release(txn) => {
+            table.release_all(txn);
+            Ok(true)
+        }
+        Cancel(txn) => {
+            table.cancel(txn);
+            Ok(true)
+        }
+        GiveBack(txn, key) => {
+            give_back(table, alloc, txn, key)?;
+            Ok(true)
+        }
+        Grants(txn, want) => Ok(table.is_granted(txn) == want),
+        Tells(key, txn, want) => Ok(told(table, alloc, key, txn)? == want),
+        Waits(want) => waits(table, alloc, want),
+        Blocks(waiter, want) => blocks(table, alloc, waiter, want),
+        HasHolder(place, want) => Ok(table.holder_in(place) == want),
+    }
+}
+
+fn come(table: &mut LockTable, alloc: Global, steps: &[Step]) -> Result<bool, AllocError> {
+    for step in steps {
+        if !comes(table, alloc, *step)? {
+            return Ok(false);
+        }
+    }
+    Ok(true)
+}
+
+// Whether the steps come so on a new table.
+fn come_new(alloc: Global, steps: &[Step]) -> Result<bool, AllocError> {
+    let mut table = LockTable::new(alloc);
+    let came = come(&mut table, alloc, steps);
+    drop(table);
+    came
 }
 
 // Transaction 4 reads a and c as ranges; 5 writes the new record b, and waits at c until 4 ends.
-static PHANTOM: [Row; 4] = [
-    (4, b'a', LockType::RangeRead, None),
-    (4, b'c', LockType::RangeRead, None),
-    (5, b'b', LockType::Write, None),
-    (5, b'c', LockType::RangeInsert, Some(4)),
+static PHANTOM: [Step; 16] = [
+    Ask(4, b'a', RangeRead, None),
+    Ask(4, b'c', RangeRead, None),
+    Ask(5, b'b', Write, None),
+    Ask(5, b'c', RangeInsert, Some(TxnId(4))),
+    Waits(&[(TxnId(5), TxnId(4))]),
+    Blocks(TxnId(5), &[TxnId(4)]),
+    Grants(TxnId(5), false),
+    Tells(b'b', TxnId(5), (true, Some(TxnId(5)), Some(Write))),
+    Tells(b'c', TxnId(5), (true, None, None)),
+    HasHolder(1, Some(TxnId(4))),
+    HasHolder(0, None),
+    Release(TxnId(4)),
+    Grants(TxnId(5), true),
+    Tells(b'c', TxnId(5), (false, None, None)),
+    Tells(b'b', TxnId(5), (true, Some(TxnId(5)), Some(Write))),
+    HasHolder(1, Some(TxnId(5))),
 ];
-
-fn wait_for_phantom(
-    rt: &impl Abort,
-    table: &mut LockTable,
-    alloc: Global,
-) -> Result<(), AllocError> {
-    ask_all(rt, table, alloc, &PHANTOM)?;
-    assert!(rt; waits_alone(table, alloc, TxnId(5), TxnId(4))?);
-    assert!(rt; !table.is_granted(TxnId(5)));
-    assert!(rt; told(table, alloc, 5, b'b')? == (true, Some(TxnId(5)), Some(LockType::Write)));
-    assert!(rt; told(table, alloc, 5, b'c')? == (true, None, None));
-    assert!(rt; table.holder_in(1) == Some(TxnId(4)));
-    assert!(rt; table.holder_in(0).is_none());
-    Ok(())
-}
-
-#[test]
-fn phantom_waits(rt: HostRuntime) -> Result<(), Fail> {
-    let alloc = rt.alloc();
-    let mut table = LockTable::new(alloc);
-    let done = wait_for_phantom(&rt, &mut table, alloc);
-    drop(table);
-    Ok(done?)
-}
-
-fn grant_phantom(rt: &impl Abort, table: &mut LockTable, alloc: Global) -> Result<(), AllocError> {
-    ask_all(rt, table, alloc, &PHANTOM)?;
-    table.release_all(TxnId(4));
-    assert!(rt; table.is_granted(TxnId(5)));
-    assert!(rt; told(table, alloc, 5, b'c')? == (false, None, None));
-    assert!(rt; told(table, alloc, 5, b'b')? == (true, Some(TxnId(5)), Some(LockType::Write)));
-    assert!(rt; table.holder_in(1) == Some(TxnId(5)));
-    Ok(())
-}
-
-#[test]
-fn phantom_is_granted(rt: HostRuntime) -> Result<(), Fail> {
-    let alloc = rt.alloc();
-    let mut table = LockTable::new(alloc);
-    let done = grant_phantom(&rt, &mut table, alloc);
-    drop(table);
-    Ok(done?)
-}
-
-// Makes a lock to write one to read.
-fn give_back_writing(
-    table: &mut LockTable,
-    alloc: Global,
-    txn: TxnId,
-    key: u8,
-) -> Result<(), AllocError> {
-    let at = record(alloc, key)?;
-    if table.held(txn, &at) == Some(LockType::Write) {
-        table.give_back(txn, &at, Some(LockType::Read));
-    }
-    drop(at);
-    Ok(())
-}
-
-static UPGRADED: [Row; 3] = [
-    (1, b'a', LockType::Read, None),
-    (1, b'a', LockType::Write, None),
-    (2, b'a', LockType::Read, Some(1)),
-];
-
-static AGAIN: [Row; 1] = [(2, b'a', LockType::Read, Some(1))];
-
-fn give_back_upgrade(
-    rt: &impl Abort,
-    table: &mut LockTable,
-    alloc: Global,
-) -> Result<(), AllocError> {
-    ask_all(rt, table, alloc, &UPGRADED)?;
-    table.cancel(TxnId(2));
-    assert!(rt; !table.is_granted(TxnId(2)));
-    assert!(rt; nobody_waits(table, alloc)?);
-    ask_all(rt, table, alloc, &AGAIN)?;
-    give_back_writing(table, alloc, TxnId(1), b'a')?;
-    assert!(rt; told(table, alloc, 1, b'a')? == (true, None, Some(LockType::Read)));
-    assert!(rt; table.is_granted(TxnId(2)));
-    Ok(())
-}
 
 // A lock that was upgraded is given back, and the reader that waited is granted. It has asked, given up
 // and asked again.
+static UPGRADE: [Step; 10] = [
+    Ask(1, b'a', Read, None),
+    Ask(1, b'a', Write, None),
+    Ask(2, b'a', Read, Some(TxnId(1))),
+    Cancel(TxnId(2)),
+    Grants(TxnId(2), false),
+    Waits(&[]),
+    Ask(2, b'a', Read, Some(TxnId(1))),
+    GiveBack(TxnId(1), b'a'),
+    Tells(b'a', TxnId(1), (true, None, Some(Read))),
+    Grants(TxnId(2), true),
+];
+
 #[test]
-fn gives_back_an_upgrade(rt: HostRuntime) -> Result<(), Fail> {
-    let alloc = rt.alloc();
-    let mut table = LockTable::new(alloc);
-    let done = give_back_upgrade(&rt, &mut table, alloc);
-    drop(table);
-    Ok(done?)
+fn grants_what_is_free(rt: HostRuntime) {
+    assert!(rt; come_new(rt.alloc(), &PHANTOM) == Ok(true));
+    assert!(rt; come_new(rt.alloc(), &UPGRADE) == Ok(true));
 }

@@ -2,7 +2,6 @@
 use je_order::{Bound, List, Name, Octets, TxnId, Word, cmp_bytes, cmp_name, copy_of};
 use std::alloc::{AllocError, Global};
 use std::cmp::Ordering;
-use std::test::Fail;
 
 // Unsigned bytes, a proper prefix first: the examples of the order in the Getting Started Guide.
 static ORDERED: [(&[u8], &[u8], Ordering); 5] = [
@@ -54,27 +53,28 @@ fn are_bounds(bounds: &List<Bound>) -> Result<bool, AllocError> {
     Ok(same)
 }
 
-#[test]
-fn makes_a_name(rt: HostRuntime) -> Result<(), Fail> {
-    let name = name(rt.alloc())?;
+fn makes_whole(alloc: Global) -> Result<bool, AllocError> {
+    let name = name(alloc)?;
     let whole = is_name(&name);
     drop(name);
-    assert!(rt; whole?);
-    assert!(rt; TxnId(1) < TxnId(2));
-    Ok(())
+    whole
 }
 
-#[test]
-fn makes_bounds(rt: HostRuntime) -> Result<(), Fail> {
-    let alloc = rt.alloc();
+fn makes_both(alloc: Global) -> Result<bool, AllocError> {
     let name = name(alloc)?;
     let mut bounds = List::from_vec(List::new(alloc).into_vec());
     let put = put_bounds(&mut bounds, name);
     let whole = are_bounds(&bounds);
     drop(bounds);
     put?;
-    assert!(rt; whole?);
-    Ok(())
+    whole
+}
+
+#[test]
+fn makes_names_and_bounds(rt: HostRuntime) {
+    assert!(rt; makes_whole(rt.alloc()) == Ok(true));
+    assert!(rt; makes_both(rt.alloc()) == Ok(true));
+    assert!(rt; TxnId(1) < TxnId(2));
 }
 
 static NOT_WORDS: [&[u8]; 4] = [b"", b"T", b"a b", &[b'a'; 65]];
@@ -91,11 +91,10 @@ fn is_copied(alloc: Global, text: &[u8]) -> Result<bool, AllocError> {
 }
 
 #[test]
-fn takes_names_of_databases(rt: HostRuntime) -> Result<(), Fail> {
+fn takes_names_of_databases(rt: HostRuntime) {
     assert!(rt; Word::is_word(b"t_9"));
     for &text in &NOT_WORDS {
         assert!(rt; !Word::is_word(text));
     }
-    assert!(rt; is_copied(rt.alloc(), b"people")?);
-    Ok(())
+    assert!(rt; is_copied(rt.alloc(), b"people") == Ok(true));
 }

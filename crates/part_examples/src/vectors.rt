@@ -3,86 +3,57 @@
 ghost use Rattle.log_entry.specs.Body.{IsEntry};
 
 use crate::entries::torn;
+use Fields::{Bin, BinDelta, CkptEnd, CkptStart, Delete, FileSummary, In, Migrated};
 use byteorder::{BigEndian, ByteOrder};
 use je_bytes::adler32;
-use je_lsn::{FileNo, Lsn};
-use je_order::{List, Name, Octets, TxnId};
+use je_lsn::Lsn;
+use je_order::Name;
 use log_entry::{ChildSlot, Decoded, Entry, FileUsage, RecordSlot, Root, Torn, decode, encode};
 use std::alloc::{AllocError, Global};
-use std::test::Fail;
 
-fn name(alloc: Global, key: &[u8], dup: &[u8]) -> Result<Name, AllocError> {
-    Ok(Name {
-        key: Octets::from_slice(alloc, key)?,
-        dup: Octets::from_slice(alloc, dup)?,
-    })
+// A key and a dup.
+type Key = (&'static [u8], &'static [u8]);
+
+// The fields of an entry, in its order. An LSN is a number.
+#[derive(Clone, Copy)]
+enum Fields {
+    Delete(u64, u32, Key),
+    Migrated(u32, Key, &'static [u8]),
+    In(u32, u64, u8, &'static [(Key, u64)]),
+    Bin(u32, u64, &'static [(Key, Option<u64>)]),
+    BinDelta(u32, u64, u64, &'static [(Key, Option<u64>)]),
+    CkptStart(u64),
+    CkptEnd(u64, u64, u64, u64, u64, u32, Option<u64>, &'static [(u32, u64)]),
+    FileSummary(&'static [(u32, u64, u64)]),
 }
 
-fn lsn(file: u32, offset: u32) -> Lsn {
-    Lsn::new(FileNo(file), offset)
-}
-
-fn is_spelled(alloc: Global, entry: &Entry, prev: u32, bytes: &[u8]) -> Result<bool, AllocError>
-    requires { IsEntry entry.now }
-{
-    Ok(encode(alloc, entry, prev)?.as_slice() == bytes)
-}
-
-fn spells(alloc: Global, bytes: &[u8], want: &Entry, want_prev: u32) -> Result<bool, AllocError> {
-    match decode(alloc, bytes)? {
-        Decoded::Whole { entry, prev, len } => {
-            let same = entry == *want && prev == want_prev && len == bytes.len();
-            let spelled = is_spelled(alloc, &entry, prev, bytes);
-            drop(entry);
-            Ok(same && spelled?)
-        }
-        Decoded::Torn(_) => Ok(false),
-    }
-}
-
-// Whether the bytes are this entry with this prev field, read and written.
-fn spell(alloc: Global, bytes: &[u8], want: Entry, prev: u32) -> Result<bool, AllocError> {
-    let spelled = spells(alloc, bytes, &want, prev);
-    drop(want);
-    spelled
-}
-
-#[test]
-fn spells_a_delete(rt: HostRuntime) -> Result<(), Fail> {
-    let alloc = rt.alloc();
-    let bytes = b"\x06\x23\x01\x5c\x03\x00\x00\x00\x00\x05\x00\x00\x00\x13\
+// What an entry is, its prev field, and its spelling.
+static VECTORS: [(Fields, u32, &[u8]); 9] = [
+    (
+        Delete(7, 3, (b"k", b"dd")),
+        5,
+        b"\x06\x23\x01\x5c\x03\x00\x00\x00\x00\x05\x00\x00\x00\x13\
 \x00\x00\x00\x00\x00\x00\x00\x07\
 \x00\x00\x00\x03\
-\x00\x01\x6b\x00\x02\x64\x64";
-    let entry = Entry::Delete {
-        txn: TxnId(7),
-        db: 3,
-        name: name(alloc, b"k", b"dd")?,
-    };
-    assert!(rt; spell(alloc, bytes, entry, 5)?);
-    Ok(())
-}
-
-#[test]
-fn spells_a_migrated_record(rt: HostRuntime) -> Result<(), Fail> {
-    let alloc = rt.alloc();
-    let bytes = b"\x08\x00\x01\xfb\x04\x00\x00\x00\x00\x1a\x00\x00\x00\x0c\
+\x00\x01\x6b\x00\x02\x64\x64",
+    ),
+    (
+        Migrated(3, (b"a", b""), b"xyz"),
+        26,
+        b"\x08\x00\x01\xfb\x04\x00\x00\x00\x00\x1a\x00\x00\x00\x0c\
 \x00\x00\x00\x03\
 \x00\x01\x61\x00\x00\
-\x78\x79\x7a";
-    let entry = Entry::Migrated {
-        db: 3,
-        name: name(alloc, b"a", b"")?,
-        value: Octets::from_slice(alloc, b"xyz")?,
-    };
-    assert!(rt; spell(alloc, bytes, entry, 26)?);
-    Ok(())
-}
-
-#[test]
-fn spells_an_in(rt: HostRuntime) -> Result<(), Fail> {
-    let alloc = rt.alloc();
-    let bytes = b"\x1e\xc1\x01\x7b\x07\x00\x00\x00\x00\x3e\x00\x00\x00\x29\
+\x78\x79\x7a",
+    ),
+    (
+        In(
+            3,
+            9,
+            2,
+            &[((b"", b""), 0x100), ((b"m", b"q"), 0x1_0000_001a)],
+        ),
+        62,
+        b"\x1e\xc1\x01\x7b\x07\x00\x00\x00\x00\x3e\x00\x00\x00\x29\
 \x00\x00\x00\x03\
 \x00\x00\x00\x00\x00\x00\x00\x09\
 \x02\
@@ -90,42 +61,20 @@ fn spells_an_in(rt: HostRuntime) -> Result<(), Fail> {
 \x00\x00\x00\x00\
 \x00\x00\x00\x00\x00\x00\x01\x00\
 \x00\x01\x6d\x00\x01\x71\
-\x00\x00\x00\x01\x00\x00\x00\x1a";
-    let mut slots = List::new(alloc);
-    for (key, dup, child) in [
-        (b"".as_slice(), b"".as_slice(), lsn(0, 0x100)),
-        (b"m", b"q", lsn(1, 0x1a)),
-    ] {
-        let name = name(alloc, key, dup)?;
-        slots.push(ChildSlot { name, child })?;
-    }
-    let entry = Entry::In {
-        db: 3,
-        node: 9,
-        level: 2,
-        slots,
-    };
-    assert!(rt; spell(alloc, bytes, entry, 62)?);
-    Ok(())
-}
-
-// Records by key and dup, and where each was put; none where it was deleted.
-fn records(
-    alloc: Global,
-    rows: &[(&[u8], &[u8], Option<Lsn>)],
-) -> Result<List<RecordSlot>, AllocError> {
-    let mut slots = List::new(alloc);
-    for (key, dup, lsn) in rows {
-        let name = name(alloc, key, dup)?;
-        slots.push(RecordSlot { name, lsn: *lsn })?;
-    }
-    Ok(slots)
-}
-
-#[test]
-fn spells_a_bin(rt: HostRuntime) -> Result<(), Fail> {
-    let alloc = rt.alloc();
-    let bytes = b"\x55\xad\x02\xa9\x08\x00\x00\x00\x00\x62\x00\x00\x00\x39\
+\x00\x00\x00\x01\x00\x00\x00\x1a",
+    ),
+    (
+        Bin(
+            3,
+            2,
+            &[
+                ((b"a", b""), Some(84)),
+                ((b"b", b""), None),
+                ((b"b", b"c"), Some(0x2_0000_001a)),
+            ],
+        ),
+        98,
+        b"\x55\xad\x02\xa9\x08\x00\x00\x00\x00\x62\x00\x00\x00\x39\
 \x00\x00\x00\x03\
 \x00\x00\x00\x00\x00\x00\x00\x02\
 \x00\x03\
@@ -134,50 +83,29 @@ fn spells_a_bin(rt: HostRuntime) -> Result<(), Fail> {
 \x00\x01\x62\x00\x00\
 \x01\x00\x00\x00\x00\x00\x00\x00\x00\
 \x00\x01\x62\x00\x01\x63\
-\x00\x00\x00\x00\x02\x00\x00\x00\x1a";
-    let rows: [(&[u8], &[u8], Option<Lsn>); 3] = [
-        (b"a", b"", Some(lsn(0, 84))),
-        (b"b", b"", None),
-        (b"b", b"c", Some(lsn(2, 26))),
-    ];
-    let slots = records(alloc, &rows)?;
-    let entry = Entry::Bin {
-        db: 3,
-        node: 2,
-        slots,
-    };
-    assert!(rt; spell(alloc, bytes, entry, 98)?);
-    Ok(())
-}
-
-#[test]
-fn spells_a_delta(rt: HostRuntime) -> Result<(), Fail> {
-    let alloc = rt.alloc();
-    let bytes = b"\x26\x0c\x01\x72\x09\x00\x00\x00\x00\x78\x00\x00\x00\x24\
+\x00\x00\x00\x00\x02\x00\x00\x00\x1a",
+    ),
+    (
+        BinDelta(3, 2, 98, &[((b"b", b""), None)]),
+        120,
+        b"\x26\x0c\x01\x72\x09\x00\x00\x00\x00\x78\x00\x00\x00\x24\
 \x00\x00\x00\x03\
 \x00\x00\x00\x00\x00\x00\x00\x02\
 \x00\x00\x00\x00\x00\x00\x00\x62\
 \x00\x01\
 \x00\x01\x62\x00\x00\
-\x01\x00\x00\x00\x00\x00\x00\x00\x00";
-    let slots = records(alloc, &[(b"b", b"", None)])?;
-    let entry = Entry::BinDelta {
-        db: 3,
-        node: 2,
-        full: lsn(0, 98),
-        slots,
-    };
-    assert!(rt; spell(alloc, bytes, entry, 120)?);
-    Ok(())
-}
-
-#[test]
-fn spells_a_checkpoint(rt: HostRuntime) -> Result<(), Fail> {
-    let alloc = rt.alloc();
-    let bytes = b"\x0b\x3b\x00\xe0\x0a\x00\x00\x00\x00\xc8\x00\x00\x00\x08\
-\x00\x00\x00\x00\x00\x00\x00\x05";
-    assert!(rt; spell(alloc, bytes, Entry::CkptStart { number: 5 }, 200)?);
-    let bytes = b"\xa2\x97\x02\xf5\x0b\x00\x00\x00\x00\xde\x00\x00\x00\x4e\
+\x01\x00\x00\x00\x00\x00\x00\x00\x00",
+    ),
+    (
+        CkptStart(5),
+        200,
+        b"\x0b\x3b\x00\xe0\x0a\x00\x00\x00\x00\xc8\x00\x00\x00\x08\
+\x00\x00\x00\x00\x00\x00\x00\x05",
+    ),
+    (
+        CkptEnd(5, 200, 26, 7, 9, 3, None, &[(0, 300), (3, 400)]),
+        222,
+        b"\xa2\x97\x02\xf5\x0b\x00\x00\x00\x00\xde\x00\x00\x00\x4e\
 \x00\x00\x00\x00\x00\x00\x00\x05\
 \x00\x00\x00\x00\x00\x00\x00\xc8\
 \x00\x00\x00\x00\x00\x00\x00\x1a\
@@ -189,54 +117,24 @@ fn spells_a_checkpoint(rt: HostRuntime) -> Result<(), Fail> {
 \x00\x00\x00\x00\
 \x00\x00\x00\x00\x00\x00\x01\x2c\
 \x00\x00\x00\x03\
-\x00\x00\x00\x00\x00\x00\x01\x90";
-    let mut roots = List::new(alloc);
-    roots.push(Root {
-        db: 0,
-        image: lsn(0, 300),
-    })?;
-    roots.push(Root {
-        db: 3,
-        image: lsn(0, 400),
-    })?;
-    let entry = Entry::CkptEnd {
-        number: 5,
-        start: lsn(0, 200),
-        redo: lsn(0, 26),
-        last_txn: TxnId(7),
-        last_node: 9,
-        last_db: 3,
-        summary: None,
-        roots,
-    };
-    assert!(rt; spell(alloc, bytes, entry, 222)?);
-    Ok(())
-}
-
-#[test]
-fn spells_a_summary(rt: HostRuntime) -> Result<(), Fail> {
-    let alloc = rt.alloc();
-    let bytes = b"\x1f\x93\x01\x67\x0c\x00\x00\x00\x00\x1a\x00\x00\x00\x2c\
+\x00\x00\x00\x00\x00\x00\x01\x90",
+    ),
+    (
+        FileSummary(&[(0, 4_096, 100), (3, 5_000, 0)]),
+        26,
+        b"\x1f\x93\x01\x67\x0c\x00\x00\x00\x00\x1a\x00\x00\x00\x2c\
 \x00\x00\x00\x02\
 \x00\x00\x00\x00\
 \x00\x00\x00\x00\x00\x00\x10\x00\
 \x00\x00\x00\x00\x00\x00\x00\x64\
 \x00\x00\x00\x03\
 \x00\x00\x00\x00\x00\x00\x13\x88\
-\x00\x00\x00\x00\x00\x00\x00\x00";
-    let mut files = List::new(alloc);
-    files.push(FileUsage {
-        file: FileNo(0),
-        total: 4_096,
-        live: 100,
-    })?;
-    files.push(FileUsage {
-        file: FileNo(3),
-        total: 5_000,
-        live: 0,
-    })?;
-    assert!(rt; spell(alloc, bytes, Entry::FileSummary { files }, 26)?);
-    let bytes = b"\x66\x5d\x02\x5b\x0b\x00\x00\x00\x00\xde\x00\x00\x00\x36\
+\x00\x00\x00\x00\x00\x00\x00\x00",
+    ),
+    (
+        CkptEnd(5, 200, 26, 7, 9, 3, Some(0x1_0000_0040), &[]),
+        222,
+        b"\x66\x5d\x02\x5b\x0b\x00\x00\x00\x00\xde\x00\x00\x00\x36\
 \x00\x00\x00\x00\x00\x00\x00\x05\
 \x00\x00\x00\x00\x00\x00\x00\xc8\
 \x00\x00\x00\x00\x00\x00\x00\x1a\
@@ -244,19 +142,151 @@ fn spells_a_summary(rt: HostRuntime) -> Result<(), Fail> {
 \x00\x00\x00\x00\x00\x00\x00\x09\
 \x00\x00\x00\x03\
 \x00\x00\x00\x01\x00\x00\x00\x40\
-\x00\x00";
-    let entry = Entry::CkptEnd {
-        number: 5,
-        start: lsn(0, 200),
-        redo: lsn(0, 26),
-        last_txn: TxnId(7),
-        last_node: 9,
-        last_db: 3,
-        summary: Some(lsn(1, 0x40)),
-        roots: List::new(alloc),
+\x00\x00",
+    ),
+];
+
+fn is_name(name: &Name, key: Key) -> bool {
+    name.key.as_slice() == key.0 && name.dup.as_slice() == key.1
+}
+
+fn are_children(slots: &[ChildSlot], rows: &[(Key, u64)]) -> bool {
+    let mut same = slots.len() == rows.len();
+    for (slot, (key, child)) in slots.iter().zip(rows) {
+        same = same && is_name(&slot.name, *key) && slot.child.as_u64() == *child;
+    }
+    same
+}
+
+fn is_place(lsn: Option<Lsn>, want: Option<u64>) -> bool {
+    match (lsn, want) {
+        (Some(lsn), Some(number)) => lsn.as_u64() == number,
+        (None, None) => true,
+        _ => false,
+    }
+}
+
+// Records by key and dup, and where each was put; none where it was deleted.
+fn are_records(slots: &[RecordSlot], rows: &[(Key, Option<u64>)]) -> bool {
+    let mut same = slots.len() == rows.len();
+    for (slot, (key, lsn)) in slots.iter().zip(rows) {
+        same = same && is_name(&slot.name, *key) && is_place(slot.lsn, *lsn);
+    }
+    same
+}
+
+fn are_roots(roots: &[Root], rows: &[(u32, u64)]) -> bool {
+    let mut same = roots.len() == rows.len();
+    for (root, (db, image)) in roots.iter().zip(rows) {
+        same = same && root.db == *db && root.image.as_u64() == *image;
+    }
+    same
+}
+
+fn are_usages(files: &[FileUsage], rows: &[(u32, u64, u64)]) -> bool {
+    let mut same = files.len() == rows.len();
+    for (usage, row) in files.iter().zip(rows) {
+        same = same && (usage.file.0, usage.total, usage.live) == *row;
+    }
+    same
+}
+
+// Whether an image, or the start of a checkpoint, has these fields.
+fn is_image(entry: &Entry, fields: Fields) -> bool {
+    match (entry, fields) {
+        (
+            Entry::In {
+                db,
+                node,
+                level,
+                slots,
+            },
+            In(of, number, at, rows),
+        ) => { (*db, *node, *level) == (of, number, at) && are_children(slots.as_slice(), rows) }
+        (Entry::Bin { db, node, slots }, Bin(of, number, rows)) => {
+            (*db, *node) == (of, number) && are_records(slots.as_slice(), rows)
+        }
+        (
+            Entry::BinDelta {
+                db,
+                node,
+                full,
+                slots,
+            },
+            BinDelta(of, number, image, rows),
+        ) => {
+            let same = (*db, *node, full.as_u64()) == (of, number, image);
+            same && are_records(slots.as_slice(), rows)
+        }
+        _ => false,
+    }
+}
+
+// Whether the end of a checkpoint has these fields.
+fn is_end(entry: &Entry, fields: Fields) -> bool {
+    let CkptEnd(count, begun, from, txn, of, base, usage, rows) = fields else {
+        return false;
     };
-    assert!(rt; spell(alloc, bytes, entry, 222)?);
-    Ok(())
+    let Entry::CkptEnd {
+        number,
+        start,
+        redo,
+        last_txn,
+        last_node,
+        last_db,
+        summary,
+        roots,
+    } = entry
+    else {
+        return false;
+    };
+    let same = (*number, start.as_u64(), redo.as_u64()) == (count, begun, from);
+    let drawn = (last_txn.0, *last_node, *last_db) == (txn, of, base);
+    same && drawn && is_place(*summary, usage) && are_roots(roots.as_slice(), rows)
+}
+
+fn is_entry(entry: &Entry, fields: Fields) -> bool {
+    match (entry, fields) {
+        (Entry::Delete { txn, db, name }, Delete(by, of, key)) => {
+            (txn.0, *db) == (by, of) && is_name(name, key)
+        }
+        (Entry::Migrated { db, name, value }, Migrated(of, key, bytes)) => {
+            *db == of && is_name(name, key) && value.as_slice() == bytes
+        }
+        (Entry::CkptStart { number }, CkptStart(count)) => *number == count,
+        (Entry::FileSummary { files }, FileSummary(rows)) => are_usages(files.as_slice(), rows),
+        (Entry::CkptEnd { .. }, _) => is_end(entry, fields),
+        _ => is_image(entry, fields),
+    }
+}
+
+fn is_spelled(alloc: Global, entry: &Entry, prev: u32, bytes: &[u8]) -> Result<bool, AllocError>
+    requires { IsEntry entry.now }
+{
+    let spelling = encode(alloc, entry, prev)?;
+    let same = spelling.as_slice() == bytes;
+    drop(spelling);
+    Ok(same)
+}
+
+// Whether the bytes are that entry with this prev field, read and written.
+fn spells(alloc: Global, bytes: &[u8], fields: Fields, want: u32) -> Result<bool, AllocError> {
+    match decode(alloc, bytes)? {
+        Decoded::Whole { entry, prev, len } => {
+            let same = is_entry(&entry, fields) && (prev, len) == (want, bytes.len());
+            let spelled = is_spelled(alloc, &entry, prev, bytes);
+            drop(entry);
+            Ok(same && spelled?)
+        }
+        Decoded::Torn(_) => Ok(false),
+    }
+}
+
+#[test]
+fn spells_each_kind(rt: HostRuntime) {
+    for &(fields, prev, bytes) in &VECTORS {
+        assert!(rt; spells(rt.alloc(), bytes, fields, prev) == Ok(true));
+    }
 }
 
 // A body with a header that has the right length and checksum.
@@ -268,6 +298,13 @@ fn framed(alloc: Global, kind: u8, body: &[u8]) -> Result<Vec<u8>, AllocError> {
     let sum = adler32(&bytes[4..]);
     BigEndian::write_u32(&mut bytes, sum);
     Ok(bytes)
+}
+
+fn why_torn(alloc: Global, kind: u8, body: &[u8]) -> Result<Option<Torn>, AllocError> {
+    let bytes = framed(alloc, kind, body)?;
+    let why = torn(alloc, &bytes);
+    drop(bytes);
+    why
 }
 
 // A body that a field puts out of its kind's limits: of an IN its level or that it has no child; of a BIN
@@ -312,10 +349,8 @@ static BODIES: [(u8, &[u8]); 11] = [
 ];
 
 #[test]
-fn finds_bodies_of_no_kind(rt: HostRuntime) -> Result<(), Fail> {
+fn finds_bodies_of_no_kind(rt: HostRuntime) {
     for &(kind, body) in &BODIES {
-        let bytes = framed(rt.alloc(), kind, body)?;
-        assert!(rt; torn(rt.alloc(), &bytes)? == Some(Torn::BadKind));
+        assert!(rt; why_torn(rt.alloc(), kind, body) == Ok(Some(Torn::BadKind)));
     }
-    Ok(())
 }

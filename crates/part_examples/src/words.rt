@@ -1,7 +1,6 @@
 // The words of the command line.
 use command_line::parse;
 use std::alloc::{AllocError, Global};
-use std::test::Fail;
 
 // The words of a line, which single blanks part.
 fn split(alloc: Global, line: &str) -> Result<Vec<String>, AllocError> {
@@ -79,30 +78,32 @@ fn gives(alloc: Global, line: &str, home: &str, file_max: u32) -> Result<bool, A
     }
 }
 
+fn are_wrong(alloc: Global, words: &[String]) -> Result<bool, AllocError> {
+    Ok(parse(alloc, words)?.is_none())
+}
+
 fn is_wrong(alloc: Global, line: &str) -> Result<bool, AllocError> {
     let words = split(alloc, line)?;
-    Ok(parse(alloc, words.as_slice())?.is_none())
+    let wrong = are_wrong(alloc, words.as_slice());
+    drop(words);
+    wrong
 }
 
 #[test]
-fn right_words_give_the_options(rt: HostRuntime) -> Result<(), Fail> {
+fn right_words_give_the_options(rt: HostRuntime) {
     for &(line, home, file_max) in &RIGHT {
-        assert!(rt; gives(rt.alloc(), line, home, file_max)?, "{line}");
+        assert!(rt;
+            gives(rt.alloc(), line, home, file_max) == Ok(true),
+            "{line}"
+        );
     }
-    Ok(())
 }
 
 #[test]
-fn other_words_are_wrong(rt: HostRuntime) -> Result<(), Fail> {
-    for line in &WRONG {
-        assert!(rt; is_wrong(rt.alloc(), line)?, "{line}");
-    }
-    Ok(())
-}
-
-#[test]
-fn no_words_are_wrong(rt: HostRuntime) -> Result<(), Fail> {
+fn other_words_are_wrong(rt: HostRuntime) {
     let none: [String; 0] = [];
-    assert!(rt; parse(rt.alloc(), none.as_slice())?.is_none());
-    Ok(())
+    assert!(rt; are_wrong(rt.alloc(), none.as_slice()) == Ok(true));
+    for line in &WRONG {
+        assert!(rt; is_wrong(rt.alloc(), line) == Ok(true), "{line}");
+    }
 }
