@@ -9,7 +9,9 @@ use Rattle.std.proofs.lemmas.Bool.Decides.{nat_tests}
 use Rattle.std.proofs.lemmas.List.{take_all}
 use Rattle.std.proofs.lemmas.Map.Keys.{IsStrictlyIncreasing-from_sorted, sorted_from_strictly_increasing}
 use Rattle.je_bytes.specs.Reading.{AreBytes}
+use Rattle.je_disk.specs.Moments.{History, Passes, now}
 use Rattle.je_disk.specs.States.{Files, State, IsListing, content, put_at}
+use Rattle.je_disk.proofs.Moments.{passes_then, passes_weaken}
 use Rattle.je_lsn.specs.declared.file_no.FileNo.{FileNo}
 use Rattle.je_model.specs.declared.store.Store.{Store}
 use Rattle.je_model.specs.Answers.{Standing}
@@ -448,3 +450,10 @@ module _ {D : Type 0} where
   opened_along most tells files a b buffer other o p k l state log store kept h =
       subst (λ (x : Kept). IsOpened most tells files b other p x) kept (subst (λ (x : Store). IsOpened most tells files b other x k) store
       (subst (λ (x : LogBuffer D). IsOpened most tells files b x o k) log (subst (λ (x : State). IsOpened most tells files x buffer o k) state h)))
+
+-- a call that passes nothing new goes on from a state that is still the one at entry
+pub passes_on : (entry middle new : History) → now middle ≡ now entry → Passes entry middle (λ s. s ≡ now entry) → Passes middle new (λ s. s ≡ now middle)
+  → Passes entry new (λ s. s ≡ now entry)
+passes_on entry middle new same first second =
+  passes_then entry middle new (λ (s : State). s ≡ now entry) first
+  (passes_weaken middle new (λ (s : State). s ≡ now middle) (λ (s : State). s ≡ now entry) (λ s is. is ∙ same) second)

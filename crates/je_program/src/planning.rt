@@ -1,10 +1,12 @@
-// What a call comes to.
+// What a call comes to. A change that is given up is let go by `drop`, which is one step of a proof; the end
+// of its scope would be one for each kind of change.
 ghost use Rattle.std.specs.Prelude.{option_copied, nat_lt, if◌then◌else◌, None, true, ◌≡◌, ◌≤◌, ◌<◌, ◌+◌, ◌^◌, ◌∷◌, length, IsTrue, Some, [], IfOk, option_map};
 ghost use Rattle.je_model.specs.Evaluation.{plain_name as name_of_key, database_named};
 ghost use Rattle.je_model.specs.Answers.{or_refusal, too_long, made_by};
 ghost use Rattle.je_model.specs.declared.answer.Answer.TheVariants.{TooLong};
 ghost use Rattle.je_order.specs.Words.{is_word};
-ghost use Rattle.log_replay.specs.Rows.{rows_in};
+ghost use Rattle.log_replay.specs.Rows.{rows_in, data_at};
+ghost use Rattle.je_model.specs.declared.change.Change.TheVariants.{Set, Unset};
 ghost use Rattle.script_text.specs.Grammar.{has_line};
 ghost use Rattle.log_buffer.specs.Flip.{end_after_all};
 ghost use Rattle.log_entry.specs.Spelling.{size_of};
@@ -77,13 +79,25 @@ pub fn end_of_transaction(end: Place, file_max: u32, size: u32) -> Option<Place>
     Some(last)
 }
 
+// What the record of that key holds, in the database of that number; None where there is no such record.
+fn data_of<'a>(
+    kept: &'a Kept,
+    alloc: Global,
+    number: u32,
+    key: &[u8],
+) -> Result<Option<&'a [u8]>, AllocError>
+    ensures { IfOk result (λ found. option_copied found ≡ data_at (name_of_key key.now) (rows_in kept.now.rows number)) }
+{
+    let name = SortKey::plain(alloc, key)?;
+    Ok(kept.rows.get(number, &name))
+}
+
 // The number of the database of that name.
 fn number_of(kept: &Kept, alloc: Global, db: &Word) -> Result<Option<u32>, AllocError>
     ensures word { IsTrue (is_word db.now) }
     ensures number { IfOk result (λ number. number ≡ number_named (rows_in kept.now.rows) db.now) }
 {
-    let name = SortKey::plain(alloc, db.as_slice())?;
-    match kept.rows.get(0, &name) {
+    match data_of(kept, alloc, 0, db.as_slice())? {
         Some(found) => Ok(Some(number_in_record(found))),
         None => Ok(None),
     }
@@ -98,6 +112,7 @@ fn log_with_room(kept: &Kept, number: u32, change: Change, totals: Totals) -> Pl
 {
     let _no_number_is_drawn = kept.last_db;
     if end_of_transaction(kept.end, kept.file_max, entry_size(&change)).is_none() {
+        drop(change);
         return Planned::Answered(Answer::LogFull);
     }
     Planned::Logs {
@@ -115,6 +130,7 @@ fn log_creation(kept: &Kept, change: Change, totals: Totals) -> Planned
     ensures { result ≡ logs_with_room kept.now (kept.now.last_db + 1) change totals }
 {
     if end_of_transaction(kept.end, kept.file_max, entry_size(&change)).is_none() {
+        drop(change);
         return Planned::Answered(Answer::LogFull);
     }
     match kept.last_db.checked_add(1) {
@@ -123,7 +139,10 @@ fn log_creation(kept: &Kept, change: Change, totals: Totals) -> Planned
             change,
             totals,
         },
-        None => Planned::Answered(Answer::IdsEnded),
+        None => {
+            drop(change);
+            Planned::Answered(Answer::IdsEnded)
+        }
     }
 }
 
@@ -145,8 +164,7 @@ fn plan_get(kept: &Kept, alloc: Global, number: u32, key: &Octets) -> Result<Pla
     if let Some(length) = long_key(key) {
         return Ok(Planned::Answered(Answer::TooLong { length }));
     }
-    let name = SortKey::plain(alloc, key.as_slice())?;
-    match kept.rows.get(number, &name) {
+    match data_of(kept, alloc, number, key.as_slice())? {
         None => Ok(Planned::Answered(Answer::NotFound)),
         Some(value) => Ok(Planned::Answered(Answer::Rec {
             key: copy_of(key)?,
@@ -178,6 +196,22 @@ fn count_with(records: u64, old: Option<&[u8]>) -> Result<u64, AllocError>
     }
 }
 
+// The change that puts a record.
+fn setting(
+    alloc: Global,
+    db: &Word,
+    key: &Octets,
+    value: &Octets,
+) -> Result<Change, AllocError>
+    ensures { IfOk result (λ change. change ≡ Set db.now (name_of_key key.now) value.now) }
+{
+    Ok(Change::Set {
+        db: copy_of(db)?,
+        at: plain_name(alloc, key.as_slice())?,
+        value: copy_of(value)?,
+    })
+}
+
 fn plan_put(
     kept: &Kept,
     alloc: Global,
@@ -192,18 +226,24 @@ fn plan_put(
     if let Some(length) = long_record(key, value) {
         return Ok(Planned::Answered(Answer::TooLong { length }));
     }
-    let name = SortKey::plain(alloc, key.as_slice())?;
-    let records = count_with(kept.totals.records, kept.rows.get(number, &name))?;
-    let change = Change::Set {
-        db: copy_of(db)?,
-        at: plain_name(alloc, key.as_slice())?,
-        value: copy_of(value)?,
-    };
+    let old = data_of(kept, alloc, number, key.as_slice())?;
+    let records = count_with(kept.totals.records, old)?;
+    let change = setting(alloc, db, key, value)?;
     let totals = Totals {
         databases: kept.totals.databases,
         records,
     };
     Ok(log_with_room(kept, number, change, totals))
+}
+
+// The change that deletes a record.
+fn unsetting(alloc: Global, db: &Word, key: &Octets) -> Result<Change, AllocError>
+    ensures { IfOk result (λ change. change ≡ Unset db.now (name_of_key key.now)) }
+{
+    Ok(Change::Unset {
+        db: copy_of(db)?,
+        at: plain_name(alloc, key.as_slice())?,
+    })
 }
 
 fn plan_delete(
@@ -219,24 +259,15 @@ fn plan_delete(
     if let Some(length) = long_key(key) {
         return Ok(Planned::Answered(Answer::TooLong { length }));
     }
-    let name = SortKey::plain(alloc, key.as_slice())?;
-    if kept.rows.get(number, &name).is_none() {
+    if data_of(kept, alloc, number, key.as_slice())?.is_none() {
         return Ok(Planned::Answered(Answer::NotFound));
     }
-    let db = copy_of(db)?;
+    let change = unsetting(alloc, db, key)?;
     let totals = Totals {
         databases: kept.totals.databases,
         records: kept.totals.records.saturating_sub(1),
     };
-    Ok(log_with_room(
-        kept,
-        number,
-        Change::Unset {
-            db,
-            at: plain_name(alloc, key.as_slice())?,
-        },
-        totals,
-    ))
+    Ok(log_with_room(kept, number, change, totals))
 }
 
 fn plan_create(kept: &Kept, alloc: Global, db: &Word, kind: &Kind) -> Result<Planned, AllocError>

@@ -1,4 +1,4 @@
-use Rattle.std.proofs.Common.{[], None, sym, ◌∙◌}
+use Rattle.std.proofs.Common.{[], None, inl, refl, sym, ◌∙◌}
 use Rattle.je_disk.specs.Moments.{now}
 use Rattle.je_program.proofs.BothLaws.{as_told}
 use Rattle.je_program.proofs.attempt.close.Goals as goal
@@ -20,3 +20,6 @@ returns-in_default-Err-2-clause-crash g c = λ told held least keeps.
     let buffer = c.args.log in
     let k = keeps (sym c.has_failed.ensures ∙ c.if-has_failed.false) in
     c.close.ensures.crash told held [] least None (as_told g.D.Disk.tells (now (g.D.Disk.history buffer.disk)) buffer held told k.has) k.holds
+
+pub returns-in_default-Ok-clause-cause : goal.returns-in_default-Ok-clause-cause
+returns-in_default-Ok-clause-cause g c = inl refl

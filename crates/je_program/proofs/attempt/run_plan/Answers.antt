@@ -5,7 +5,7 @@ use Rattle.je_model.specs.declared.plan.Given.{Given}
 use Rattle.je_model.specs.declared.store.Store.{Store}
 use Rattle.je_model.specs.Journal.{lines_of}
 use Rattle.log_buffer.specs.Buffer.{disk_of}
-use Rattle.je_program.specs.Crash.{ImagesMean, IsSafeProgram, log_after, log_opened}
+use Rattle.je_program.specs.Crash.{ImagesMean, KeepsEntry, IsSafeProgram, log_after, log_opened}
 use Rattle.je_program.specs.Environment.{IsAt}
 use Rattle.je_program.specs.Program.{totals_of, final_store, MeanStore, EndsBy, ClosesRun}
 use Rattle.je_program.specs.Run.{HasRun, IsFront, of_session}
@@ -106,3 +106,9 @@ returns-in-Ok-clause-crash g c = λ told is_opened.
     } in
     subst (λ (s : Store). IsSafeProgram c.args.file_max (history c.args.disk) (history f.result.disk) s f.result.journal.items f.result.cause) (sym f.ensures.opening)
     (subst (λ (l : List Event). IsSafeProgram c.args.file_max (history c.args.disk) (history f.result.disk) c.in-Ok.opened.opening l f.result.cause) (sym f.ensures.journal) run)
+
+pub returns-in-Err-clause-crash_unopened : goal.returns-in-Err-clause-crash_unopened
+returns-in-Err-clause-crash_unopened g c = λ told opened. subst (λ d. KeepsEntry (g.D.Disk.history c.args.disk) (g.D.Disk.history d)) (sym c.unopened.ensures.disk) (c.in-Err.ensures.stopped_entry told)
+
+pub returns-in-Err-clause-unopened : goal.returns-in-Err-clause-unopened
+returns-in-Err-clause-unopened g c = λ opened. (c.unopened.ensures.opening, c.unopened.ensures.journal)

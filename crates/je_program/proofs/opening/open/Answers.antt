@@ -37,3 +37,18 @@ returns-in-Ok-clause-stopped g c =
     (λ s. StopsBy g.D.Disk.tells reads (faults c.args.disk) (faults s.disk) s.cause)
     (λ s stops later. stops_earlier g.D.Disk.tells reads (faults c.args.disk) (faults mounted) (faults s.disk) s.cause c.read_disk.ensures.never_falls later stops)
     (c.go_on.ensures.stopped reads) c.go_on.ensures.stopped_faults
+
+pub returns-in-Ok-clause-opened : goal.returns-in-Ok-clause-opened
+returns-in-Ok-clause-opened g c = c.go_on.ensures.opened (now (g.D.Disk.history c.args.disk)).reads c.in-Ok.ensures.read (λ told. ap (λ s. s.reads) (c.read_disk.ensures.same told))
+
+pub returns-in-Ok-clause-crash : goal.returns-in-Ok-clause-crash
+returns-in-Ok-clause-crash g c = λ told. c.go_on.ensures.crash told (now (g.D.Disk.history c.args.disk)).reads c.in-Ok.ensures.read (ap (λ s. s.reads) (c.read_disk.ensures.same told))
+
+pub returns-in-Ok-clause-bounds : goal.returns-in-Ok-clause-bounds
+returns-in-Ok-clause-bounds g c = c.go_on.ensures.bounds
+
+pub returns-in-Err-clause-stopped : goal.returns-in-Err-clause-stopped
+returns-in-Err-clause-stopped g c = c.in-Err.ensures.stops
+
+pub returns-in-Err-clause-stopped_faults : goal.returns-in-Err-clause-stopped_faults
+returns-in-Err-clause-stopped_faults g c = c.read_disk.ensures.never_falls

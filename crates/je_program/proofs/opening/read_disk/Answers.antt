@@ -4,7 +4,7 @@ use Rattle.je_disk.specs.States.{Files, IsListing}
 use Rattle.log_replay.specs.declared.log_read.LogRead.{LogRead}
 use Rattle.log_replay.specs.declared.log_read.LogRead.TheVariants.{Read, Found}
 use Rattle.log_replay.specs.Answer.{IsReadingOf}
-use Rattle.je_program.proofs.OpeningLaws.{finding_told, read_small, reading_along}
+use Rattle.je_program.proofs.OpeningLaws.{finding_told, passes_on, read_small, reading_along}
 use Rattle.je_program.proofs.opening.read_disk.Goals as goal
 
 pub returns-in-Read-clause-read : goal.returns-in-Read-clause-read
@@ -44,3 +44,56 @@ returns-clause-stops g c = λ t.
       are = reading.listed t (subst (λ (f : Files). IsListing f files) (mounted t) (c.in_ok-files.ensures.listed t));
       reads = finding_told tells reading.held c.in-Found.finding reading.answer t;
     }
+
+pub returns-in_err-mount-clause-same : goal.returns-in_err-mount-clause-same
+returns-in_err-mount-clause-same g c = c.mount.ensures.same
+
+pub returns-in_err-files-clause-same : goal.returns-in_err-files-clause-same
+returns-in_err-files-clause-same g c = λ t. c.list.ensures.same t ∙ c.mount.ensures.same t
+
+pub returns-in_err-read-clause-same : goal.returns-in_err-read-clause-same
+returns-in_err-read-clause-same g c = λ t. c.read_log.ensures.same t ∙ (c.list.ensures.same t ∙ c.mount.ensures.same t)
+
+pub returns-in-Read-clause-same : goal.returns-in-Read-clause-same
+returns-in-Read-clause-same g c = λ t. c.read_log.ensures.same t ∙ (c.list.ensures.same t ∙ c.mount.ensures.same t)
+
+pub returns-clause-same : goal.returns-clause-same
+returns-clause-same g c = λ t. c.read_log.ensures.same t ∙ (c.list.ensures.same t ∙ c.mount.ensures.same t)
+
+pub returns-in_err-mount-clause-never_falls : goal.returns-in_err-mount-clause-never_falls
+returns-in_err-mount-clause-never_falls g c = c.mount.ensures.cause.never_falls
+
+pub returns-in_err-mount-clause-moments : goal.returns-in_err-mount-clause-moments
+returns-in_err-mount-clause-moments g c = c.mount.ensures.moments
+
+pub returns-in_err-files-clause-moments : goal.returns-in_err-files-clause-moments
+returns-in_err-files-clause-moments g c = λ t.
+    passes_on (g.D.Disk.history c.args.disk.now) (g.D.Disk.history c.mount.new.self) (g.D.Disk.history c.list.new.self) (c.mount.ensures.same t)
+    (c.mount.ensures.moments t) (c.list.ensures.moments t)
+
+pub returns-in_err-read-clause-moments : goal.returns-in_err-read-clause-moments
+returns-in_err-read-clause-moments g c = λ t.
+    let history = g.D.Disk.history in
+    let entry = history c.args.disk.now in
+    let listed = history c.list.new.self in
+    passes_on entry listed (history c.read_log.new.disk) (c.list.ensures.same t ∙ c.mount.ensures.same t)
+    (passes_on entry (history c.mount.new.self) listed (c.mount.ensures.same t) (c.mount.ensures.moments t) (c.list.ensures.moments t)) (c.read_log.ensures.moments t)
+
+pub returns-in-Read-clause-moments : goal.returns-in-Read-clause-moments
+returns-in-Read-clause-moments g c = λ t.
+    let history = g.D.Disk.history in
+    let entry = history c.args.disk.now in
+    let listed = history c.list.new.self in
+    passes_on entry listed (history c.read_log.new.disk) (c.list.ensures.same t ∙ c.mount.ensures.same t)
+    (passes_on entry (history c.mount.new.self) listed (c.mount.ensures.same t) (c.mount.ensures.moments t) (c.list.ensures.moments t)) (c.read_log.ensures.moments t)
+
+pub returns-clause-moments : goal.returns-clause-moments
+returns-clause-moments g c = λ t.
+    let history = g.D.Disk.history in
+    let entry = history c.args.disk.now in
+    let listed = history c.list.new.self in
+    passes_on entry listed (history c.read_log.new.disk) (c.list.ensures.same t ∙ c.mount.ensures.same t)
+    (passes_on entry (history c.mount.new.self) listed (c.mount.ensures.same t) (c.mount.ensures.moments t) (c.list.ensures.moments t)) (c.read_log.ensures.moments t)
+
+pub returns-in-Read-clause-none_out : goal.returns-in-Read-clause-none_out
+returns-in-Read-clause-none_out g c = c.read_log.ensures.jobs.0 ∙ (c.list.ensures.sync_out ∙ c.mount.ensures.sync_out)

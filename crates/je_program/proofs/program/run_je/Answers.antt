@@ -29,3 +29,57 @@ returns-clause-unreadable_found g c = λ bytes plan finding taken left short pla
     (λ f is. a.ensures.unreadable f is told)
     (λ opened. (let starts = (a.ensures.run opened).3.starts in (_, record { held = starts.held; are = starts.told told; reads = starts.means })))
     a.ensures.caused.failed
+
+pub returns-clause-usage : goal.returns-clause-usage
+returns-clause-usage g c = c.work-attempt.ensures.usage
+
+pub returns-clause-usage_found : goal.returns-clause-usage_found
+returns-clause-usage_found g c = c.work-attempt.ensures.wrong
+
+pub returns-clause-untouched : goal.returns-clause-untouched
+returns-clause-untouched g c = c.work-attempt.ensures.untouched
+
+pub returns-clause-read_whole : goal.returns-clause-read_whole
+returns-clause-read_whole g c = c.work-attempt.ensures.script
+
+pub returns-clause-runs : goal.returns-clause-runs
+returns-clause-runs g c = c.work-attempt.ensures.runs
+
+pub returns-clause-given : goal.returns-clause-given
+returns-clause-given g c = c.work-attempt.ensures.given
+
+pub returns-clause-run : goal.returns-clause-run
+returns-clause-run g c = c.work-attempt.ensures.run
+
+pub returns-clause-unopened : goal.returns-clause-unopened
+returns-clause-unopened g c = c.work-attempt.ensures.unopened
+
+pub returns-clause-ends : goal.returns-clause-ends
+returns-clause-ends g c = c.work-attempt.ensures.ends
+
+pub returns-clause-files : goal.returns-clause-files
+returns-clause-files g c = c.work-attempt.ensures.files
+
+pub returns-clause-crash : goal.returns-clause-crash
+returns-clause-crash g c = c.work-attempt.ensures.crash
+
+pub returns-clause-crash_unopened : goal.returns-clause-crash_unopened
+returns-clause-crash_unopened g c = c.work-attempt.ensures.crash_unopened
+
+pub returns-clause-unreadable : goal.returns-clause-unreadable
+returns-clause-unreadable g c = c.work-attempt.ensures.unreadable
+
+pub returns-clause-disk_faults : goal.returns-clause-disk_faults
+returns-clause-disk_faults g c = c.work-attempt.ensures.caused.never_falls
+
+pub returns-clause-disk_failed : goal.returns-clause-disk_failed
+returns-clause-disk_failed g c = c.work-attempt.ensures.caused.failed
+
+pub returns-clause-faults : goal.returns-clause-faults
+returns-clause-faults g c = c.work-attempt.ensures.caused.fault
+
+pub returns-clause-input_faults : goal.returns-clause-input_faults
+returns-clause-input_faults g c = c.work-attempt.ensures.source
+
+pub returns-clause-output_faults : goal.returns-clause-output_faults
+returns-clause-output_faults g c = c.write_output-status.ensures.never_falls
