@@ -453,7 +453,7 @@ module _ {D : Type 0} where
 
 -- a call that passes nothing new goes on from a state that is still the one at entry
 pub passes_on : (entry middle new : History) → now middle ≡ now entry → Passes entry middle (λ s. s ≡ now entry) → Passes middle new (λ s. s ≡ now middle)
-  → Passes entry new (λ s. s ≡ now entry)
+    → Passes entry new (λ s. s ≡ now entry)
 passes_on entry middle new same first second =
-  passes_then entry middle new (λ (s : State). s ≡ now entry) first
-  (passes_weaken middle new (λ (s : State). s ≡ now middle) (λ (s : State). s ≡ now entry) (λ s is. is ∙ same) second)
+    passes_then entry middle new (λ (s : State). s ≡ now entry) first
+    (passes_weaken middle new (λ (s : State). s ≡ now middle) (λ (s : State). s ≡ now entry) (λ s is. is ∙ same) second)

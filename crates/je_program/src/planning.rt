@@ -197,12 +197,7 @@ fn count_with(records: u64, old: Option<&[u8]>) -> Result<u64, AllocError>
 }
 
 // The change that puts a record.
-fn setting(
-    alloc: Global,
-    db: &Word,
-    key: &Octets,
-    value: &Octets,
-) -> Result<Change, AllocError>
+fn setting(alloc: Global, db: &Word, key: &Octets, value: &Octets) -> Result<Change, AllocError>
     ensures { IfOk result (λ change. change ≡ Set db.now (name_of_key key.now) value.now) }
 {
     Ok(Change::Set {
