@@ -1,4 +1,4 @@
-use Rattle.std.proofs.Common.{[], Some, Err, length, ap}
+use Rattle.std.proofs.Common.{[], Some, Err, length, ap, rules}
 use Rattle.je_disk.specs.Moments.{now}
 use Rattle.je_disk.specs.States.{State}
 use Rattle.log_buffer.specs.Buffer.{disk_of}
@@ -34,3 +34,6 @@ returns-in-Err-clause-crash g c = λ told most st log start journal here none gu
     not_ended_safely most st log start (g.D.Disk.history (disk_of old)) (g.D.Disk.history (disk_of new)) old new journal (Some (length (entries_of held))) guarded
     (c.sync_end.ensures.crash told held [] guarded.least (length (entries_of held)) (as_told g.D.Disk.tells (state (disk_of old)) old held told keeping.has) keeping.holds)
     (c.in-Err.ensures.cause.failed.1 (ap Err c.in-Err.ensures.by_fault))
+
+pub returns-in-Ok-clause-ends : goal.returns-in-Ok-clause-ends
+returns-in-Ok-clause-ends g c = search rules
