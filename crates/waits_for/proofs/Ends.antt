@@ -1,5 +1,7 @@
 -- How the search ends: with a cycle along its steps, or with no edge left and so no cycle.
-use Rattle.std.proofs.Common.{◌≡◌, ℕ, ◌-◌, ◌++◌, take, Bool, true, false, List, [], ◌∷◌, refl, sym, ◌∙◌, ◌⊎◌, ⊎_elim}
+use Rattle.std.proofs.Common.{◌≡◌, ℕ, ◌-◌, ◌++◌, take, Bool, true, false, not, List, [], ◌∷◌, reverse, Some, refl, ap, sym, ◌∙◌, subst, ◌⊎◌, ⊎_elim}
+use Rattle.std.specs.List.{slice_get}
+use Rattle.std.proofs.lemmas.List.{reverse-append}
 use Rattle.std.specs.BTreeMap.{BTreeMap}
 use Rattle.std.proofs.lemmas.Bool.{and_parts, or_cases, or_from, both_ways, false_from_ne_true, false≢true}
 use Rattle.je_order.specs.declared.txn_id.TxnId.{TxnId}
@@ -51,3 +53,21 @@ none_left edges from seen w list h = no_cycle edges from (has seen) (closed_walk
 -- an empty vector: nothing was popped
 pub nothing_popped : {X : Type 0} (xs ys : List X) (n : ℕ) → xs ≡ ys ++ [] → ys ≡ take (n - 1) xs → n ≡ 0 → xs ≡ []
 nothing_popped xs ys n a b e = let d : ys ≡ [] = rw e at b in a ∙ rw d refl
+
+-- the steps back to the first, turned round, are a list that begins with it
+turned : (from : TxnId) (path items : List TxnId) → items ≡ reverse (path ++ (from ∷ [])) → items ≡ from ∷ reverse path
+turned from path items is = is ∙ reverse-append path (from ∷ [])
+
+pub path_start : (from : TxnId) (path items : List TxnId) → items ≡ reverse (path ++ (from ∷ [])) → slice_get items 0 ≡ Some from
+path_start from path items is = ap (λ (xs : List TxnId). slice_get xs 0) (turned from path items is)
+
+-- and that is a cycle
+pub closed_path : (edges : List (TxnId × TxnId)) (from at : TxnId) (path items : List TxnId) → items ≡ reverse (path ++ (from ∷ [])) → false ≡ not (is_same at from)
+    → leads_to edges from at (reverse path) ≡ true → is_cycle edges items ≡ true
+closed_path edges from at path items is back leads =
+    let there : at ≡ from = same_is at from (not_false (is_same at from) back) in
+    ap (is_cycle edges) (turned from path items is) ∙ subst (λ (t : TxnId). leads_to edges from t (reverse path) ≡ true) there leads
+  where
+    not_false : (b : Bool) → false ≡ not b → b ≡ true
+    not_false true e = refl
+    not_false false e = absurd cc

@@ -16,3 +16,9 @@ returns-clause-none c = λ list h.
     let e : c.loop-x.todo.items ≡ [] = nothing_popped c.loop-x.todo.items c.pop.new.self.items _ c.in_default.ensures.items c.in_default.ensures.rest c.in_default.ensures.cases.0 in
     let w : IsWalk c.args.edges.now c.args.from c.loop-x.seen [] = rw e at c.loop-x.invariant in
     none_left c.args.edges.now c.args.from c.loop-x.seen w list h
+
+pub returns-then-eq-clause-none : goal.returns-then-eq-clause-none
+returns-then-eq-clause-none c = tt
+
+pub follow-requires-clause-other : goal.follow-requires-clause-other
+follow-requires-clause-other c = sym c.eq.ensures ∙ c.if-eq.false
