@@ -97,16 +97,22 @@ fn at(file: u32, offset: u32) -> Lsn
     Lsn::new(FileNo(file), offset)
 }
 
-fn append(alloc: Global, buffer: &mut LogBuffer<MemDisk>, logged: Logged) -> Result<Lsn, LogErr> {
+// Whether the entry goes to that place.
+fn appends(
+    alloc: Global,
+    buffer: &mut LogBuffer<MemDisk>,
+    logged: Logged,
+    place: Lsn,
+) -> Result<bool, LogErr> {
     let entry = entry_of(alloc, logged)?;
-    let place = buffer.append(&entry);
+    let found = buffer.append(&entry);
     drop(entry);
-    place
+    Ok(found? == place)
 }
 
 fn fill(alloc: Global, buffer: &mut LogBuffer<MemDisk>, files: u32) -> Result<bool, LogErr> {
     for f in 0..files {
-        if append(alloc, buffer, Put(1, 4_000))? != at(f, 26) {
+        if !appends(alloc, buffer, Put(1, 4_000), at(f, 26))? {
             return Ok(false);
         }
     }
@@ -126,8 +132,8 @@ fn reads(
     Ok(same)
 }
 
-// Where a commit stands that comes while a sync is out, and the file that the sync had written then.
-fn commit_in_sync(buffer: &mut LogBuffer<MemDisk>) -> Result<(Lsn, FileNo), LogErr> {
+// Whether a commit goes to that place that comes while a sync is out, which has written the files before.
+fn commits_in_sync(buffer: &mut LogBuffer<MemDisk>, f: u32, offset: u32) -> Result<bool, LogErr> {
     let job = buffer.sync_begin()?;
     let written = buffer.written();
     let commit = Entry::Commit { txn: TxnId(1) };
@@ -135,16 +141,21 @@ fn commit_in_sync(buffer: &mut LogBuffer<MemDisk>) -> Result<(Lsn, FileNo), LogE
     drop(commit);
     let done = job.run();
     buffer.sync_end(done)?;
-    Ok((appended?, written))
+    Ok((appended?, written) == (at(f, offset), FileNo(f)))
 }
 
-// How many bytes a file has on the disk.
-fn file_len(alloc: Global, buffer: &mut LogBuffer<MemDisk>, f: u32) -> Result<usize, LogErr> {
+// Whether a file has so many bytes on the disk.
+fn is_long(
+    alloc: Global,
+    buffer: &mut LogBuffer<MemDisk>,
+    f: u32,
+    want: usize,
+) -> Result<bool, LogErr> {
     let done = buffer.read_begin(FileNo(f))?.run();
     let bytes = buffer.read_end(alloc, done)?;
     let len = bytes.len();
     drop(bytes);
-    Ok(len)
+    Ok(len == want)
 }
 
 fn remove(buffer: &mut LogBuffer<MemDisk>, f: u32) -> Result<bool, LogErr> {
@@ -155,26 +166,29 @@ fn remove(buffer: &mut LogBuffer<MemDisk>, f: u32) -> Result<bool, LogErr> {
     Ok(true)
 }
 
+fn done(made: Result<(), LogErr>) -> Result<bool, LogErr> {
+    made?;
+    Ok(true)
+}
+
 // Whether the step comes as it says.
 fn comes(alloc: Global, buffer: &mut LogBuffer<MemDisk>, step: Step) -> Result<bool, LogErr> {
-    let done = match step {
-        Reserve(sizes) => buffer.reserve(sizes),
-        WriteOut => buffer.write_out(),
-        Append(logged, f, offset) => return Ok(append(alloc, buffer, logged)? == at(f, offset)),
-        Fill(files) => return fill(alloc, buffer, files),
-        CommitInSync(f, offset) => return Ok(commit_in_sync(buffer)? == (at(f, offset), FileNo(f))),
-        Read(logged, f, offset) => return reads(alloc, buffer, at(f, offset), logged),
+    match step {
+        Reserve(sizes) => done(buffer.reserve(sizes)),
+        Append(logged, f, offset) => appends(alloc, buffer, logged, at(f, offset)),
+        Fill(files) => fill(alloc, buffer, files),
+        CommitInSync(f, offset) => commits_in_sync(buffer, f, offset),
+        WriteOut => done(buffer.write_out()),
+        Read(logged, f, offset) => reads(alloc, buffer, at(f, offset), logged),
         IsDamaged(f, offset) => {
-            return Ok(reads(alloc, buffer, at(f, offset), Commit(0)) == Err(LogErr::Damaged));
+            Ok(reads(alloc, buffer, at(f, offset), Commit(0)) == Err(LogErr::Damaged))
         }
-        ReadFile(f, len) => return Ok(file_len(alloc, buffer, f)? == len),
-        Remove(f) => return remove(buffer, f),
-        EndsAt(f, offset) => return Ok(buffer.end() == at(f, offset)),
-        IsWrittenBefore(f) => return Ok(buffer.written() == FileNo(f)),
-        IsWrittenPast(f) => return Ok(buffer.written() > FileNo(f)),
-    };
-    done?;
-    Ok(true)
+        ReadFile(f, len) => is_long(alloc, buffer, f, len),
+        Remove(f) => remove(buffer, f),
+        EndsAt(f, offset) => Ok(buffer.end() == at(f, offset)),
+        IsWrittenBefore(f) => Ok(buffer.written() == FileNo(f)),
+        IsWrittenPast(f) => Ok(buffer.written() > FileNo(f)),
+    }
 }
 
 fn come(alloc: Global, buffer: &mut LogBuffer<MemDisk>, steps: &[Step]) -> Result<bool, LogErr> {

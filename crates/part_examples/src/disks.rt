@@ -209,22 +209,36 @@ fn mount_in_sync<D: Disk>(disk: &mut D) -> Result<(), DiskErr> {
     mounted
 }
 
-fn take<D: Disk>(alloc: Global, disk: &mut D, step: Step) -> Result<bool, DiskErr> {
-    let done = match step {
-        Step::Mount => disk.mount(),
-        Step::Do(to_do) => make(disk, to_do),
-        Step::MountInSync => mount_in_sync(disk),
-        Step::Lists(files) => return Ok(disk.list(alloc)?.as_slice() == files),
-        Step::IsLong(f, len) => return Ok(disk.len(FileNo(f))? == len),
-        Step::Reads(f, at, count, want) => return reads(disk, f, at, count, want),
-        Step::NoJob => return Ok(disk.sync_out().is_none() && disk.read_out().is_none()),
-        Step::SyncAround(within, number) => return sync_around(disk, within, number),
-        Step::GiveSyncUp(number) => return give_sync_up(disk, number),
-        Step::ReadAround(f, within, want) => return read_around(alloc, disk, f, within, want),
-        Step::GiveReadUp(number) => return give_read_up(disk, number),
-    };
-    done?;
+fn lists<D: Disk>(alloc: Global, disk: &mut D, want: &[FileNo]) -> Result<bool, DiskErr> {
+    let files = disk.list(alloc)?;
+    let same = files.as_slice() == want;
+    drop(files);
+    Ok(same)
+}
+
+fn is_long<D: Disk>(disk: &mut D, f: u32, want: u64) -> Result<bool, DiskErr> {
+    Ok(disk.len(FileNo(f))? == want)
+}
+
+fn done(made: Result<(), DiskErr>) -> Result<bool, DiskErr> {
+    made?;
     Ok(true)
+}
+
+fn take<D: Disk>(alloc: Global, disk: &mut D, step: Step) -> Result<bool, DiskErr> {
+    match step {
+        Step::Mount => done(disk.mount()),
+        Step::Do(change) => done(make(disk, change)),
+        Step::Lists(files) => lists(alloc, disk, files),
+        Step::IsLong(f, len) => is_long(disk, f, len),
+        Step::Reads(f, at, count, want) => reads(disk, f, at, count, want),
+        Step::NoJob => Ok((disk.sync_out(), disk.read_out()) == (None, None)),
+        Step::SyncAround(change, number) => sync_around(disk, change, number),
+        Step::GiveSyncUp(number) => give_sync_up(disk, number),
+        Step::ReadAround(f, change, want) => read_around(alloc, disk, f, change, want),
+        Step::GiveReadUp(number) => give_read_up(disk, number),
+        Step::MountInSync => done(mount_in_sync(disk)),
+    }
 }
 
 /// Whether of each step there comes what is wanted.

@@ -1,6 +1,6 @@
 // The lock manager: deadlocks and their victims, and what it tells of locks.
 use crate::record_ids::record;
-use Step::{Asks, GiveBack, Grants, HasHolder, NobodyWaits, Release, Tells};
+use Step::{Ask, GiveBack, Grants, HasHolder, NobodyWaits, Release, Tells};
 use je_order::TxnId;
 use lock_mgr::{LockMgr, Requested};
 use lock_mode::LockType::{self, Read, Write};
@@ -22,7 +22,7 @@ enum Came {
 #[derive(Clone, Copy)]
 enum Step {
     // a request of a transaction, whether it may wait, and what becomes of it
-    Asks(TxnId, u8, LockType, bool, Came),
+    Ask(TxnId, u8, LockType, bool, Came),
     Release(TxnId),
     // the transaction's wait is taken back, and its lock to read
     GiveBack(TxnId, u8),
@@ -62,35 +62,31 @@ fn requested_at(
     Ok(came)
 }
 
-// What becomes of a request for the record of a key.
-fn requested(
+// Whether that becomes of a request for the record of a key.
+fn asks(
     locks: &mut LockMgr,
     alloc: Global,
     txn: TxnId,
     key: u8,
     mode: LockType,
     wait: bool,
-) -> Result<Came, AllocError> {
+    want: Came,
+) -> Result<bool, AllocError> {
     let at = record(alloc, key)?;
     let came = requested_at(locks, alloc, txn, &at, mode, wait);
     drop(at);
-    came
+    Ok(came? == want)
 }
 
 // Takes the transaction's wait back, and its lock to read.
-fn give_back_reading(
-    locks: &mut LockMgr,
-    alloc: Global,
-    txn: TxnId,
-    key: u8,
-) -> Result<(), AllocError> {
+fn gives_back(locks: &mut LockMgr, alloc: Global, txn: TxnId, key: u8) -> Result<bool, AllocError> {
     let at = record(alloc, key)?;
     locks.cancel(txn);
     if locks.held(txn, &at) == Some(Read) {
         locks.give_back(txn, &at, None);
     }
     drop(at);
-    Ok(())
+    Ok(true)
 }
 
 fn nobody_waits(locks: &LockMgr, alloc: Global) -> Result<bool, AllocError> {
@@ -100,31 +96,31 @@ fn nobody_waits(locks: &LockMgr, alloc: Global) -> Result<bool, AllocError> {
     Ok(none)
 }
 
-// Whether the record of a key is locked, and who writes it.
-fn told(locks: &LockMgr, alloc: Global, key: u8) -> Result<(bool, Option<TxnId>), AllocError> {
+// Whether the record of a key is locked, and who writes it, as wanted.
+fn tells(
+    locks: &LockMgr,
+    alloc: Global,
+    key: u8,
+    want: (bool, Option<TxnId>),
+) -> Result<bool, AllocError> {
     let at = record(alloc, key)?;
     let told = (locks.is_locked(&at), locks.is_write_locked(&at));
     drop(at);
-    Ok(told)
+    Ok(told == want)
 }
 
 // Whether the step comes as it says.
 fn comes(locks: &mut LockMgr, alloc: Global, step: Step) -> Result<bool, AllocError> {
     match step {
-        Asks(txn, key, mode, wait, want) => {
-            Ok(requested(locks, alloc, txn, key, mode, wait)? == want)
-        }
+        Ask(txn, key, mode, wait, want) => asks(locks, alloc, txn, key, mode, wait, want),
         Release(txn) => {
             locks.release_all(txn);
             Ok(true)
         }
-        GiveBack(txn, key) => {
-            give_back_reading(locks, alloc, txn, key)?;
-            Ok(true)
-        }
+        GiveBack(txn, key) => gives_back(locks, alloc, txn, key),
         Grants(txn, want) => Ok(locks.is_granted(txn) == want),
         NobodyWaits => nobody_waits(locks, alloc),
-        Tells(key, want) => Ok(told(locks, alloc, key)? == want),
+        Tells(key, want) => tells(locks, alloc, key, want),
         HasHolder(place, want) => Ok(locks.holder_in(place) == want),
     }
 }
@@ -149,10 +145,10 @@ fn come_new(alloc: Global, steps: &[Step]) -> Result<bool, AllocError> {
 // Transactions 2 and 3 each write a record and then ask for the other's: 3 is the victim, and 2 gets
 // its lock once 3 has ended.
 static CROSSED: [Step; 7] = [
-    Asks(TxnId(2), b'a', Write, true, Came::Granted),
-    Asks(TxnId(3), b'b', Write, true, Came::Granted),
-    Asks(TxnId(2), b'b', Write, true, Came::Waiting),
-    Asks(TxnId(3), b'a', Write, true, Came::Victims(2, 1, 3, 2)),
+    Ask(TxnId(2), b'a', Write, true, Came::Granted),
+    Ask(TxnId(3), b'b', Write, true, Came::Granted),
+    Ask(TxnId(2), b'b', Write, true, Came::Waiting),
+    Ask(TxnId(3), b'a', Write, true, Came::Victims(2, 1, 3, 2)),
     Release(TxnId(3)),
     Grants(TxnId(2), true),
     Grants(TxnId(3), false),
@@ -161,19 +157,19 @@ static CROSSED: [Step; 7] = [
 // Two readers of one record that both ask to write it: the later one is the victim, and the other is
 // granted once the victim's read lock is given back.
 static UPGRADES: [Step; 7] = [
-    Asks(TxnId(3), b'a', Read, true, Came::Granted),
-    Asks(TxnId(4), b'a', Read, true, Came::Granted),
-    Asks(TxnId(3), b'a', Write, true, Came::Waiting),
-    Asks(TxnId(4), b'a', Write, true, Came::Victims(3, 1, 4, 2)),
+    Ask(TxnId(3), b'a', Read, true, Came::Granted),
+    Ask(TxnId(4), b'a', Read, true, Came::Granted),
+    Ask(TxnId(3), b'a', Write, true, Came::Waiting),
+    Ask(TxnId(4), b'a', Write, true, Came::Victims(3, 1, 4, 2)),
     GiveBack(TxnId(4), b'a'),
     Grants(TxnId(3), true),
     NobodyWaits,
 ];
 
 static WRITTEN: [Step; 5] = [
-    Asks(TxnId(2), b'a', Write, true, Came::Granted),
-    Asks(TxnId(4), b'a', Read, false, Came::NotAvailable),
-    Asks(TxnId(2), b'a', Write, true, Came::Granted),
+    Ask(TxnId(2), b'a', Write, true, Came::Granted),
+    Ask(TxnId(4), b'a', Read, false, Came::NotAvailable),
+    Ask(TxnId(2), b'a', Write, true, Came::Granted),
     Tells(b'a', (true, Some(TxnId(2)))),
     HasHolder(1, Some(TxnId(2))),
 ];

@@ -45,8 +45,8 @@ fn orders_and_prints_places(rt: HostRuntime) {
     let later = Lsn::new(FileNo(0x1a), 0xb0);
     assert!(rt; first < later);
     assert!(rt; copy_of(&later) == Ok(later));
-    assert!(rt; later.as_u64() == 0x1a_0000_00b0);
-    assert!(rt; later.file() == FileNo(26) && later.offset() == 176);
+    let told = (later.as_u64(), later.file(), later.offset());
+    assert!(rt; told == (0x1a_0000_00b0, FileNo(26), 176));
     assert!(rt; prints(rt.alloc(), later, "0x1a/0xb0") == Ok(true));
     assert!(rt; prints(rt.alloc(), Lsn::new(FileNo(0), 0), "0x0/0x0") == Ok(true));
 }

@@ -63,11 +63,18 @@ fn remove(alloc: Global, node: &mut Node, key: u8) -> Result<bool, AllocError> {
     Ok(true)
 }
 
-fn found(alloc: Global, node: &Node, key: u8) -> Result<(Option<usize>, usize), AllocError> {
+// Whether the record has this place, and so many are below it.
+fn finds(
+    alloc: Global,
+    node: &Node,
+    key: u8,
+    place: Option<usize>,
+    rank: usize,
+) -> Result<bool, AllocError> {
     let name = name(alloc, key)?;
     let found = (node.find(&name), node.slots.rank(&name));
     drop(name);
-    Ok(found)
+    Ok(found == (place, rank))
 }
 
 fn holds(node: &Node, at: usize, held: Held) -> bool {
@@ -122,7 +129,7 @@ fn comes(alloc: Global, node: &mut Node, step: Step) -> Result<bool, AllocError>
             Ok(true)
         }
         HasKeys(keys) => Ok(has_keys(node, keys)),
-        Finds(key, place, rank) => Ok(found(alloc, node, key)? == (place, rank)),
+        Finds(key, place, rank) => finds(alloc, node, key, place, rank),
         Holds(place, held) => Ok(holds(node, place, held)),
         HasImage(offset) => Ok(node.full == Some(at(offset))),
         HasNoImage => Ok(node.full.is_none()),

@@ -10,7 +10,7 @@ use std::alloc::{AllocError, Global};
 #[derive(Clone, Copy)]
 enum Step {
     // what a transaction asks, and the owner that it then waits for
-    Ask(u64, u8, LockType, Option<TxnId>),
+    Ask(TxnId, u8, LockType, Option<TxnId>),
     Release(TxnId),
     Cancel(TxnId),
     // a lock to write is made one to read
@@ -25,44 +25,49 @@ enum Step {
     HasHolder(u32, Option<TxnId>),
 }
 
+// Whether that is granted, or waits for this owner.
 fn asks(
     table: &mut LockTable,
     alloc: Global,
-    txn: u64,
+    txn: TxnId,
     key: u8,
     mode: LockType,
-) -> Result<Asked, AllocError> {
-    if table.waits_now(TxnId(txn)) {
-        return Err(AllocError);
+    owner: Option<TxnId>,
+) -> Result<bool, AllocError> {
+    if table.waits_now(txn) {
+        return Ok(false);
     }
     let at = record(alloc, key)?;
-    let asked = table.ask(alloc, TxnId(txn), &at, mode);
+    let asked = table.ask(alloc, txn, &at, mode);
     drop(at);
-    asked
-}
-
-fn is_owner(asked: Asked, owner: Option<TxnId>) -> bool {
-    match asked {
-        Asked::Granted => owner.is_none(),
-        Asked::Blocked { owner: found } => owner == Some(found),
+    match asked? {
+        Asked::Granted => Ok(owner.is_none()),
+        Asked::Blocked { owner: found } => Ok(owner == Some(found)),
     }
 }
 
-fn give_back(table: &mut LockTable, alloc: Global, txn: TxnId, key: u8) -> Result<(), AllocError> {
+fn gives_back(
+    table: &mut LockTable,
+    alloc: Global,
+    txn: TxnId,
+    key: u8,
+) -> Result<bool, AllocError> {
     let at = record(alloc, key)?;
     if table.held(txn, &at) == Some(Write) {
         table.give_back(txn, &at, Some(Read));
     }
     drop(at);
-    Ok(())
+    Ok(true)
 }
 
-fn told(
+// Whether the record is locked, who writes it, and what the transaction holds, as wanted.
+fn tells(
     table: &LockTable,
     alloc: Global,
     key: u8,
     txn: TxnId,
-) -> Result<(bool, Option<TxnId>, Option<LockType>), AllocError> {
+    want: (bool, Option<TxnId>, Option<LockType>),
+) -> Result<bool, AllocError> {
     let at = record(alloc, key)?;
     let told = (
         table.is_locked(&at),
@@ -70,7 +75,7 @@ fn told(
         table.held(txn, &at),
     );
     drop(at);
-    Ok(told)
+    Ok(told == want)
 }
 
 fn waits(table: &LockTable, alloc: Global, want: &[(TxnId, TxnId)]) -> Result<bool, AllocError> {
@@ -95,7 +100,7 @@ fn blocks(
 // Whether the step comes as it says.
 fn comes(table: &mut LockTable, alloc: Global, step: Step) -> Result<bool, AllocError> {
     match step {
-        Ask(txn, key, mode, owner) => Ok(is_owner(asks(table, alloc, txn, key, mode)?, owner)),
+        Ask(txn, key, mode, owner) => asks(table, alloc, txn, key, mode, owner),
         Release(txn) => {
             table.release_all(txn);
             Ok(true)
@@ -104,12 +109,9 @@ fn comes(table: &mut LockTable, alloc: Global, step: Step) -> Result<bool, Alloc
             table.cancel(txn);
             Ok(true)
         }
-        GiveBack(txn, key) => {
-            give_back(table, alloc, txn, key)?;
-            Ok(true)
-        }
+        GiveBack(txn, key) => gives_back(table, alloc, txn, key),
         Grants(txn, want) => Ok(table.is_granted(txn) == want),
-        Tells(key, txn, want) => Ok(told(table, alloc, key, txn)? == want),
+        Tells(key, txn, want) => tells(table, alloc, key, txn, want),
         Waits(want) => waits(table, alloc, want),
         Blocks(waiter, want) => blocks(table, alloc, waiter, want),
         HasHolder(place, want) => Ok(table.holder_in(place) == want),
@@ -135,10 +137,10 @@ fn come_new(alloc: Global, steps: &[Step]) -> Result<bool, AllocError> {
 
 // Transaction 4 reads a and c as ranges; 5 writes the new record b, and waits at c until 4 ends.
 static PHANTOM: [Step; 16] = [
-    Ask(4, b'a', RangeRead, None),
-    Ask(4, b'c', RangeRead, None),
-    Ask(5, b'b', Write, None),
-    Ask(5, b'c', RangeInsert, Some(TxnId(4))),
+    Ask(TxnId(4), b'a', RangeRead, None),
+    Ask(TxnId(4), b'c', RangeRead, None),
+    Ask(TxnId(5), b'b', Write, None),
+    Ask(TxnId(5), b'c', RangeInsert, Some(TxnId(4))),
     Waits(&[(TxnId(5), TxnId(4))]),
     Blocks(TxnId(5), &[TxnId(4)]),
     Grants(TxnId(5), false),
@@ -156,13 +158,13 @@ static PHANTOM: [Step; 16] = [
 // A lock that was upgraded is given back, and the reader that waited is granted. It has asked, given up
 // and asked again.
 static UPGRADE: [Step; 10] = [
-    Ask(1, b'a', Read, None),
-    Ask(1, b'a', Write, None),
-    Ask(2, b'a', Read, Some(TxnId(1))),
+    Ask(TxnId(1), b'a', Read, None),
+    Ask(TxnId(1), b'a', Write, None),
+    Ask(TxnId(2), b'a', Read, Some(TxnId(1))),
     Cancel(TxnId(2)),
     Grants(TxnId(2), false),
     Waits(&[]),
-    Ask(2, b'a', Read, Some(TxnId(1))),
+    Ask(TxnId(2), b'a', Read, Some(TxnId(1))),
     GiveBack(TxnId(1), b'a'),
     Tells(b'a', TxnId(1), (true, None, Some(Read))),
     Grants(TxnId(2), true),
