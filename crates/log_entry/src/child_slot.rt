@@ -10,7 +10,7 @@ use std::alloc::{AllocError, Global};
 use std::cmp::Ordering;
 
 /// A child of an IN: the least name that the child may hold, and where the child's last image stands.
-#[derive(Drop, PartialEq, Eq)]
+#[derive(Drop)]
 pub struct ChildSlot {
     pub name: Name,
     pub child: Lsn,

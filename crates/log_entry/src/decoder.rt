@@ -15,7 +15,7 @@ use je_bytes::adler32;
 use std::alloc::{AllocError, Global};
 
 /// What bytes begin with.
-#[derive(Drop, PartialEq, Eq)]
+#[derive(Drop)]
 pub enum Decoded {
     /// An entry, its prev field, and how many bytes its spelling has. Other bytes may follow.
     Whole { entry: Entry, prev: u32, len: usize },

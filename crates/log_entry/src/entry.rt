@@ -5,7 +5,7 @@ use je_order::{List, Name, Octets, TxnId};
 
 /// A log entry. A transaction's changes count once its `Commit` is in the log. What each kind holds, and
 /// its limits, are this project's own.
-#[derive(Drop, PartialEq, Eq)]
+#[derive(Drop)]
 pub enum Entry {
     /// The first entry of a file: the format's version and the file's own number.
     FileHeader {

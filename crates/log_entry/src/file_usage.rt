@@ -7,7 +7,7 @@ use je_lsn::FileNo;
 use std::alloc::{AllocError, Global};
 
 /// How many bytes a log file has, and how many of them are live.
-#[derive(Clone, Copy, PartialEq, Eq)]
+#[derive(Clone, Copy)]
 pub struct FileUsage {
     pub file: FileNo,
     pub total: u64,

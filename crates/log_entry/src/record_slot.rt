@@ -10,7 +10,7 @@ use std::alloc::{AllocError, Global};
 use std::cmp::Ordering;
 
 /// A record of a BIN: its name, and where its last committed change stands; None where it was deleted.
-#[derive(Drop, PartialEq, Eq)]
+#[derive(Drop)]
 pub struct RecordSlot {
     pub name: Name,
     pub lsn: Option<Lsn>,

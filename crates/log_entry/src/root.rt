@@ -8,7 +8,7 @@ use je_lsn::Lsn;
 use std::alloc::{AllocError, Global};
 
 /// Where the last image of the root of a database's tree stands.
-#[derive(Clone, Copy, PartialEq, Eq)]
+#[derive(Clone, Copy)]
 pub struct Root {
     pub db: u32,
     pub image: Lsn,
