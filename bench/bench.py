@@ -126,10 +126,12 @@ class Row:
 
 @dataclass
 class Opened:
-    """What opening came to at one size: net seconds and bytes, how many files there are, the greatest one's bytes."""
+    """What opening came to at one size: net seconds, in all and at each turn, net bytes, how many files there are, the
+    greatest one's bytes."""
 
     size: int
     seconds: float
+    turns: list
     memory: int
     files: int
     greatest: int
@@ -219,18 +221,39 @@ class Growing:
                 for work, whole, base in works]
 
 
+class Opening:
+    """The opening of a log of so many records, and what each turn of it took. A turn opens as many records at each size."""
+
+    def __init__(self, bench, system, folder, size):
+        self.bench, self.system, self.size = bench, system, size
+        self.runs = bench.sizes.opened[-1] // size  # in a turn
+        self.before, self.opened = Turns(), Turns()
+        self.bare, self.home = fresh(folder), fresh(folder)
+        say(f"{system.name}: {size:,} puts in {folder}")
+        for home in (self.bare, self.home):
+            system.run(home, create_scripts(bench.work, ["t"]), bench.work)
+        system.run(self.home, put_scripts(bench.work, records_of(size), ["t"]), bench.work)
+
+    def take_turn(self, turn):
+        say(f"{self.system.name}: opening {self.size:,} records, turn {turn}")
+        for turns, home in ((self.before, self.bare), (self.opened, self.home)):
+            done = Ran()
+            for _ in range(self.runs):
+                done.add(self.system.run(home, [self.bench.empty], self.bench.work))
+            turns.take(done, self.runs)
+
+    def row(self):
+        files = [os.path.getsize(os.path.join(self.home, name)) for name in os.listdir(self.home)]
+        turns = [seconds_over(*times) for times in zip(self.opened.times, self.before.times)]
+        return Opened(self.size, net(self.opened, self.before), turns, self.opened.peak - self.before.peak, len(files), max(files))
+
+
 class Bench:
     def __init__(self, systems, sizes, work):
         self.systems = systems
         self.sizes = sizes
         self.work = work
         self.empty = empty_script(work)
-
-    def base(self, system, home):
-        """Runs of an empty script on a folder."""
-        turns = Turns()
-        take_turns(self.sizes.repeats, [lambda turn: turns.take(system.run(home, [self.empty], self.work))])
-        return turns
 
     def growth(self, folder, turns):
         """Puts, gets and reopening. The sizes take turns, so that the load of a shared machine falls on all of them."""
@@ -262,20 +285,10 @@ class Bench:
         return [(names, net(wrote, base), net(opened, base)) for names, base, wrote, opened in found]
 
     def opening(self, folder):
-        """Opening logs of many files: of each size its records, net seconds, net memory, files, greatest file."""
-        system = self.systems[0]
-        found = []
-        for size in self.sizes.opened:
-            say(f"{system.name}: opening {size:,} records")
-            home = fresh(folder)
-            system.run(home, create_scripts(self.work, ["t"]), self.work)
-            before = self.base(system, home)
-            system.run(home, put_scripts(self.work, records_of(size), ["t"]), self.work)
-            opened = self.base(system, home)
-            files = [os.path.getsize(os.path.join(home, name)) for name in os.listdir(home)]
-            shutil.rmtree(home)
-            found.append(Opened(size, net(opened, before), opened.peak - before.peak, len(files), max(files)))
-        return found
+        """Opening logs of many files. The sizes take turns here too."""
+        works = [Opening(self, self.systems[0], folder, size) for size in self.sizes.opened]
+        take_turns(self.sizes.turns, [work.take_turn for work in works])
+        return [work.row() for work in works]
 
     def many_files(self, folder):
         """The same puts among few files and among many: the files that they leave, and net seconds."""
@@ -314,6 +327,11 @@ def steady_exponent(rows):
     """The median of the exponents of the turns, one for each turn of all sizes: a busy moment bends the one of its turn alone."""
     sizes = [row.size for row in rows]
     return statistics.median(exponent(zip(sizes, times)) for times in zip(*(row.turns for row in rows)))
+
+
+def exponents(rows):
+    """The exponent of the turns and that of the least times, each with what it is of."""
+    return ("of the turns", steady_exponent(rows)), ("of the least times", exponent([(row.size, row.seconds) for row in rows]))
 
 
 def say(text):
@@ -356,7 +374,7 @@ def print_growth(title, rows, systems, smallest, goals, in_memory):
     for system in systems:
         for work in ("put", "get", "reopen"):
             mine = [row for row in rows if row.system == system.name and row.work == work]
-            for measure, value in (("of the turns", steady_exponent(mine)), ("of the least times", exponent([(row.size, row.seconds) for row in mine]))):
+            for measure, value in exponents(mine):
                 mark = goals.mark(f"{title}, {work}, exponent {measure}", value, most=MOST_EXPONENT) if system is systems[0] else ""
                 print(f"exponent of {work} {measure}, {system.name}: {value:.2f}{mark}")
     if in_memory:
@@ -384,10 +402,10 @@ def print_opening(found, goals):
     lines = [[f"{one.size:,}", str(one.files), f"{one.seconds:.3f}", f"{one.size / one.seconds:,.0f}",
               f"{(one.memory - one.greatest) / one.size:,.0f}"] for one in found]
     table(["records", "files", "net s", "records/s", "bytes/record"], lines)
-    value = exponent([(one.size, one.seconds) for one in found])
     last = found[-1]
     memory = (last.memory - last.greatest) / last.size
-    print(f"exponent of opening: {value:.2f}{goals.mark('opening, exponent', value, most=MOST_EXPONENT)}")
+    for measure, value in exponents(found):
+        print(f"exponent of opening {measure}: {value:.2f}{goals.mark('opening, exponent ' + measure, value, most=MOST_EXPONENT)}")
     print(f"seconds to open {last.size:,} records: {last.seconds:.2f}{goals.mark('opening, seconds', last.seconds, most=MOST_OPENING)}")
     print(f"bytes a record, beside one file: {memory:,.0f}{goals.mark('opening, memory', memory, most=MOST_OPENING_MEMORY)}\n")
 
