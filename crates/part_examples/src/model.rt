@@ -1,5 +1,6 @@
 // Calls on a store, their answers and the stores after them.
-use je_model::{Answer, Call, Kind, Store, eval};
+use je_eval::eval;
+use je_model::{Answer, Call, Kind, Store};
 use je_order::{Octets, Word, copy_of};
 use std::alloc::{AllocError, Global};
 

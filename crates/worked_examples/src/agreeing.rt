@@ -1,6 +1,7 @@
 // The program's answers beside the plain program's.
 use crate::fixture::run_script;
-use je_model::{Answer, Call, Event, Store, eval};
+use je_eval::eval;
+use je_model::{Answer, Call, Event, Store};
 use mem_disk::MemDisk;
 use std::alloc::{AllocError, Global};
 use std::process::Abort;
