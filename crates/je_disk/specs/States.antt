@@ -1,5 +1,5 @@
 -- What a disk holds: its files as they read, and what a crash keeps of each.
-use Rattle.std.specs.Prelude.{◌≡◌, ◌≤◌, ◌++◌, ◌==◌, ◌↔◌, ◌⊎◌, if◌then◌else◌, ℕ, Bool, true, false, Option, Some, None, IsSome, unwrap_or, List, [], length, take, max, map, nat_lt, Contains}
+use Rattle.std.specs.Prelude.{◌≡◌, ◌++◌, ◌==◌, ◌↔◌, ◌⊎◌, if◌then◌else◌, ℕ, Bool, true, false, Option, Some, None, IsSome, unwrap_or, List, [], length, take, max, map, nat_lt, Contains}
 use Rattle.std.specs.Option.{option_map}
 use Rattle.std.specs.List.Sorted.{IsStrictlyIncreasing}
 use Rattle.je_lsn.specs.declared.file_no.FileNo.{FileNo}
@@ -119,10 +119,10 @@ job_ended s = record { reads = s.reads; marks = unwrap_or s.job s.marks; job = N
 abbrev pub IsEither : State → State → State → Type 0
 IsEither before after s = (s ≡ before) ⊎ (s ≡ after)
 
--- an append was not begun, or put some bytes there, at most as many as were given
+-- an append was not begun, or put the first of the given bytes there
 abbrev pub IsPartOfAppend : ℕ → List ℕ → State → State → Type 0
 IsPartOfAppend f bytes before s =
-    (s ≡ before) ⊎ ((part : List ℕ) × (length part ≤ length bytes) × (s ≡ appended f part before))
+    (s ≡ before) ⊎ ((part : List ℕ) × (rest : List ℕ) × (bytes ≡ part ++ rest) × (s ≡ appended f part before))
 
 -- the numbers of files rise
 abbrev pub IsRising : List FileNo → Type 0

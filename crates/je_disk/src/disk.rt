@@ -89,7 +89,7 @@ pub trait Disk {
         ensures cause { HasFault (faults self.old) (faults self.new) result };
 
     /// Puts bytes at the end of a file, and makes the file where it is not there. A call that fails may
-    /// leave some bytes there, at most as many as were given.
+    /// leave some of them there, from the first one on.
     fn append(&mut self, f: FileNo, bytes: &[u8]) -> Result<(), DiskErr>
         ensures done { tells ≡ true → OnOk result (now (history self.new) ≡ appended f.0 bytes.now (now (history self.old))) }
         ensures moments { tells ≡ true → Passes (history self.old) (history self.new) (IsPartOfAppend f.0 bytes.now (now (history self.old))) }

@@ -1,36 +1,33 @@
--- What is found of a file where no entry matches by chance; and files that were only cut short.
-use Rattle.std.proofs.Common.{◌≡◌, ℕ, zero, suc, ◌+◌, ◌-◌, ◌<◌, ◌≤◌, ◌^◌, ◌==◌, Bool, true, false, List, [], ◌∷◌, ◌++◌, Some, length, take, drop, cond, refl, sym, ap, ap₂, subst, ◌∙◌, arith, length-append, ◌⊎◌, inl, inr}
+-- What is found of a file where no entry matches by chance, and of one that was only cut short.
+use Rattle.std.proofs.Common.{◌≡◌, ℕ, ◌+◌, ◌-◌, ◌<◌, ◌≤◌, ◌^◌, ◌==◌, ◌&&◌, not, nat_lt, Bool, true, false, List, [], ◌∷◌, ◌++◌, Some, length, take, drop, cond, refl, sym, ap, ap₂, subst, ◌∙◌, append_assoc, arith, length-append, ◌⊎◌, inl, inr}
 use Rattle.je_bytes.specs.Reading.{AreBytes}
 use Rattle.std.proofs.lemmas.Bool.Decides.{nat_tests}
 use Rattle.std.proofs.lemmas.Bool.{cases_order, eqb-true}
-use Rattle.std.proofs.lemmas.List.{append-nil, drop-take, drop_at, drop_all, length-take, take-append-drop}
+use Rattle.std.proofs.lemmas.List.{append-nil, drop-take, drop_all, length-take, take-append-drop}
 use Rattle.std.specs.List.{AllByRecursion}
 use Rattle.std.specs.Map.{lookup}
+use Rattle.je_disk.specs.States.{content}
 use Rattle.log_entry.specs.declared.entry.Entry.{Entry}
 use Rattle.log_entry.specs.declared.entry.Entry.TheVariants.{FileHeader}
 use Rattle.log_entry.specs.declared.decoder.Decoded.{Decoded}
 use Rattle.log_entry.specs.declared.decoder.Decoded.TheVariants.{Whole, Torn as NotWhole}
 use Rattle.log_entry.specs.Body.{IsEntry}
-use Rattle.log_entry.specs.Spelling.{spelling, size_of}
+use Rattle.log_entry.specs.Spelling.{size_of}
 use Rattle.log_entry.specs.Reading.{decoded}
-use Rattle.log_entry.specs.Run.{spelled, run_on, last_from, Run as RawRun}
-use Rattle.log_entry.proofs.ReadingLaws.{decoded-append, decoded-long, decoded-again, length-spelling, found as found_whole}
+use Rattle.log_entry.specs.Run.{run_on, last_from, Run as RawRun}
+use Rattle.log_entry.proofs.ReadingLaws.{decoded-append, found as found_whole}
 use Rattle.log_entry.proofs.RunLaws.{run_on-whole, run_on-torn, run_on-other}
 use Rattle.log_file.specs.declared.file_run.FileRun.{FileRun}
-use Rattle.log_file.specs.declared.found.Found.TheVariants.{Run}
-use Rattle.log_file.specs.Scan.{may_follow, sizes_of, front, run_with, no_run, entries_behind, found_in, found_by}
-use Rattle.log_file.specs.Log.{Log, AreFileEntries, file_bytes}
-use Rattle.log_file.proofs.SpelledLaws.{front-append, sizes-append}
+use Rattle.log_file.specs.declared.found.Found.{Found}
+use Rattle.log_file.specs.declared.found.Found.TheVariants.{Run, VersionUnknown, Damaged}
+use Rattle.log_file.specs.Scan.{may_follow, sizes_of, front, run_with, no_run, entries_behind, found_in, found_by, found_first}
+use Rattle.log_file.specs.Log.{Log, AreFileEntries, entries_found, file_bytes}
+use Rattle.log_file.proofs.SpelledLaws.{sizes-append}
 use Rattle.log_file.proofs.FoundLaws.{found-spelled, behind-spelled}
-use Rattle.log_buffer.specs.Chance.{AreAppended, CutsHaveNoChance}
+use Rattle.log_buffer.specs.Crash.{HoldsPrefix}
+use Rattle.log_buffer.specs.Chance.{AppendedHaveNoChance, AreAppended, CutsHaveNoChance, IsFoundOf, IsFrontOf, ReadsHaveNoChance}
 
--- ---- a file that was cut short
-
-nothing_whole : (e : Entry) (prev len : ℕ) → decoded [] ≡ Whole e prev len → ⊥
-nothing_whole e prev len is = let long = decoded-long [] e prev len is in let a = long.0 in let b = long.1 in omega (arith, a, b)
-
-whole_same : (a b : Entry) (p q m n : ℕ) → Whole a p m ≡ Whole b q n → (a ≡ b) × (p ≡ q) × (m ≡ n)
-whole_same a b p q m n is = let x : a ≡ b = cc in let y : p ≡ q = cc in let z : m ≡ n = cc in (x, y, z)
+-- ---- bytes that were cut short
 
 drop_cut : (m n : ℕ) (xs : List ℕ) → drop m (take n xs) ≡ take (n - m) (drop m xs)
 drop_cut m n xs = by_order (cases_order m n) where
@@ -42,27 +39,6 @@ drop_cut m n xs = by_order (cases_order m n) where
   by_order (inr (inl lt)) = ap (λ (k : ℕ). drop m (take k xs)) (let e : n ≡ m + (n - m) = omega arith in e) ∙ drop-take m (n - m) xs
   by_order (inr (inr gt)) = far (omega arith)
 
-cut_appended : (prev at n : ℕ) (es : List Entry) → AllByRecursion IsEntry es → prev < 2 ^ 32 → at + sizes_of es < 2 ^ 32 → AreAppended prev at es (take n (spelled prev at es))
-cut_appended prev at n [] all small ends = λ found len is. nothing_whole found prev len (ap decoded (sym (nil n)) ∙ is)
-  where
-    nil : (k : ℕ) → take k (spelled prev at []) ≡ []
-    nil zero = refl
-    nil (suc k) = refl
-cut_appended prev at n (e ∷ es) all small ends = λ found field len is.
-    let rest = spelled at (at + size_of e) es in
-    let all_bytes = spelling e prev ++ rest in
-    let same : Whole found field len ≡ Whole e prev (size_of e) =
-    sym (decoded-append (take n all_bytes) (drop n all_bytes) found field len is) ∙ ap decoded (take-append-drop n all_bytes) ∙ decoded-again e prev rest all.0 small in
-    let parts = whole_same found e field prev len (size_of e) same in
-    let left : drop (size_of e) (take n all_bytes) ≡ take (n - size_of e) rest =
-    drop_cut (size_of e) n all_bytes ∙ ap (take (n - size_of e)) (drop_at (spelling e prev) rest (size_of e) (length-spelling e prev)) in (
-      parts.0,
-      parts.1,
-      subst (λ (k : ℕ). AreAppended at (at + k) es (drop k (take n all_bytes))) (sym parts.2)
-          (subst (AreAppended at (at + size_of e) es) (sym left)
-          (cut_appended at (at + size_of e) (n - size_of e) es all.1 (omega (arith, ends)) (omega (arith, ends)))),
-    )
-
 pub log_file_at : (log : Log) (f : ℕ) (es : List Entry) → AllByRecursion (λ file. (file.0 < 2 ^ 32) × AreFileEntries file.1) log → lookup (λ n. n == f) log ≡ Some es → (f < 2 ^ 32) × AreFileEntries es
 log_file_at [] f es all found = absurd cc
 log_file_at (file ∷ log) f es all found = by_case (file.0 == f) refl found (log_file_at log f es all.1) where
@@ -73,19 +49,7 @@ log_file_at (file ∷ log) f es all found = by_case (file.0 == f) refl found (lo
   by_case true is some more = here file (eqb-true _ _ is) (let e : file.1 ≡ es = cc in e) all.0
   by_case false is rest more = more rest
 
-pub cuts_have_no_chance : CutsHaveNoChance
-cuts_have_no_chance log image is cut f entries found =
-    let ok = log_file_at log f entries is.each found in
-    let short = cut f entries found in
-    subst (AreAppended 0 0 (FileHeader 1 f ∷ entries)) (sym short.1)
-    (let ends = ok.1.ends in let lt = ok.0 in cut_appended 0 0 short.0 (FileHeader 1 f ∷ entries) ((omega arith, lt), ok.1.entries) (omega arith) (omega (arith, ends)))
-
 -- ---- what is found of a file
-
--- the first of these entries
-pub record IsFrontOf (all front : List Entry) : Type 0 where
-  pub more : List Entry
-  pub is : all ≡ front ++ more
 
 front_none : (es : List Entry) → IsFrontOf es []
 front_none es = record { more = es; is = refl }
@@ -121,34 +85,128 @@ entries_front a b are = record {
   ends = let ends = are.ends in let sizes = sizes-append a b in omega (arith, ends, sizes);
 }
 
-front_all : (at : ℕ) (es : List Entry) → AllByRecursion (λ e. may_follow e ≡ true) es → at + sizes_of es < 2 ^ 32 → front at es ≡ es
-front_all at es follow ends = ap (front at) (sym (append-nil es)) ∙ front-append at es [] follow ends ∙ append-nil es
+-- ---- the first of some entries
 
--- a file has a run, whose entries are the first of those that were appended
-pub record IsLeftOf (f : ℕ) (entries : List Entry) (bytes : List ℕ) : Type 0 where
-  pub run : FileRun
-  pub found : found_in f bytes ≡ Run run
-  pub more : List Entry
-  pub is : entries ≡ run.entries ++ more
+front_whole : (es : List Entry) → IsFrontOf es es
+front_whole es = record { more = []; is = sym (append-nil es) }
 
-pub left_of : (f : ℕ) (entries : List Entry) (bytes : List ℕ) → AreBytes bytes → AreFileEntries entries → AreAppended 0 0 (FileHeader 1 f ∷ entries) bytes → IsLeftOf f entries bytes
-left_of f entries bytes are ok so = by_decoded (decoded bytes) refl where
+front_through : (a b c : List Entry) → IsFrontOf a b → IsFrontOf b c → IsFrontOf a c
+front_through a b c first second = record {
+  more = second.more ++ first.more;
+  is = first.is ∙ ap (λ (l : List Entry). l ++ first.more) second.is ∙ append_assoc c second.more first.more;
+}
+
+-- what may follow a header is the first of the entries
+front_of : (at : ℕ) (es : List Entry) → IsFrontOf es (front at es)
+front_of at [] = front_none []
+front_of at (e ∷ es) = by_test (may_follow e && nat_lt (at + size_of e) (2 ^ 32)) (front_of (at + size_of e) es) where
+  by_test : (t : Bool) → IsFrontOf es (front (at + size_of e) es) → IsFrontOf (e ∷ es) (cond t (e ∷ front (at + size_of e) es) [])
+  by_test true rest = record { more = rest.more; is = ap (λ (l : List Entry). e ∷ l) rest.is }
+  by_test false rest = front_none (e ∷ es)
+
+-- and of fewer entries no more may follow
+front_fewer : (at : ℕ) (es more : List Entry) → IsFrontOf (front at (es ++ more)) (front at es)
+front_fewer at [] more = front_none (front at more)
+front_fewer at (e ∷ es) more = by_test (may_follow e && nat_lt (at + size_of e) (2 ^ 32)) (front_fewer (at + size_of e) es more) where
+  by_test : (t : Bool) → IsFrontOf (front (at + size_of e) (es ++ more)) (front (at + size_of e) es) →
+      IsFrontOf (cond t (e ∷ front (at + size_of e) (es ++ more)) []) (cond t (e ∷ front (at + size_of e) es) [])
+  by_test true rest = record { more = rest.more; is = ap (λ (l : List Entry). e ∷ l) rest.is }
+  by_test false rest = front_none []
+
+-- ---- a file that was cut short
+
+whole_again : (n : ℕ) (bytes : List ℕ) (e : Entry) (field len : ℕ) → decoded (take n bytes) ≡ Whole e field len → decoded bytes ≡ Whole e field len
+whole_again n bytes e field len is = ap decoded (sym (take-append-drop n bytes)) ∙ decoded-append (take n bytes) (drop n bytes) e field len is
+
+cut_step : (prev at n len : ℕ) (bytes : List ℕ) (e : Entry) (es : List Entry) → decoded (take n bytes) ≡ Whole e prev len → IsFrontOf es (run_on at (at + len) (take (n - len) (drop len bytes))).entries →
+    IsFrontOf (e ∷ es) (run_on prev at (take n bytes)).entries
+cut_step prev at n len bytes e es is rest =
+    let behind = subst (λ (x : List ℕ). IsFrontOf es (run_on at (at + len) x).entries) (sym (drop_cut len n bytes)) rest in
+    subst (λ (r : RawRun). IsFrontOf (e ∷ es) r.entries) (sym (run_on-whole prev at (take n bytes) e len is)) (record { more = behind.more; is = ap (λ (l : List Entry). e ∷ l) behind.is })
+
+-- its run has the first of the entries
+cut_run : (es : List Entry) (prev at n : ℕ) (bytes : List ℕ) → (run_on prev at bytes).entries ≡ es → IsFrontOf es (run_on prev at (take n bytes)).entries
+cut_run [] prev at n bytes is = by_decoded (decoded (take n bytes)) refl where
+  by_test : (e : Entry) (field len : ℕ) → decoded (take n bytes) ≡ Whole e field len → (b : Bool) → (field == prev) ≡ b → IsFrontOf [] (run_on prev at (take n bytes)).entries
+  by_test e field len first true same =
+      let whole : decoded bytes ≡ Whole e prev len = whole_again n bytes e field len first ∙ ap (λ (k : ℕ). Whole e k len) (eqb-true _ _ same) in
+      absurd (let some : e ∷ (run_on at (at + len) (drop len bytes)).entries ≡ [] = sym (ap (λ (r : RawRun). r.entries) (run_on-whole prev at bytes e len whole)) ∙ is in cc)
+  by_test e field len first false other = subst (λ (r : RawRun). IsFrontOf [] r.entries) (sym (run_on-other prev at (take n bytes) e field len first other)) (front_none [])
+
+  by_decoded : (d : Decoded) → decoded (take n bytes) ≡ d → IsFrontOf [] (run_on prev at (take n bytes)).entries
+  by_decoded (NotWhole torn) first = subst (λ (r : RawRun). IsFrontOf [] r.entries) (sym (run_on-torn prev at (take n bytes) torn first)) (front_none [])
+  by_decoded (Whole e field len) first = by_test e field len first (field == prev) refl
+cut_run (x ∷ es) prev at n bytes is = by_decoded (λ len so. cut_run es at (at + len) (n - len) (drop len bytes) so) (decoded (take n bytes)) refl where
+  parts : (a b : Entry) (as_ bs : List Entry) → a ∷ as_ ≡ b ∷ bs → (a ≡ b) × (as_ ≡ bs)
+  parts a b as_ bs same = let head : a ≡ b = cc in let rest : as_ ≡ bs = cc in (head, rest)
+
+  by_test : ((len : ℕ) → (run_on at (at + len) (drop len bytes)).entries ≡ es → IsFrontOf es (run_on at (at + len) (take (n - len) (drop len bytes))).entries) → (e : Entry) (field len : ℕ) →
+      decoded (take n bytes) ≡ Whole e field len → (b : Bool) → (field == prev) ≡ b → IsFrontOf (x ∷ es) (run_on prev at (take n bytes)).entries
+  by_test goes e field len first true same =
+      let here : decoded (take n bytes) ≡ Whole e prev len = first ∙ ap (λ (k : ℕ). Whole e k len) (eqb-true _ _ same) in
+      let whole : decoded bytes ≡ Whole e prev len = whole_again n bytes e prev len here in
+      let both = parts e x (run_on at (at + len) (drop len bytes)).entries es (sym (ap (λ (r : RawRun). r.entries) (run_on-whole prev at bytes e len whole)) ∙ is) in
+      subst (λ (y : Entry). IsFrontOf (y ∷ es) (run_on prev at (take n bytes)).entries) both.0 (cut_step prev at n len bytes e es here (goes len both.1))
+  by_test goes e field len first false other = subst (λ (r : RawRun). IsFrontOf (x ∷ es) r.entries) (sym (run_on-other prev at (take n bytes) e field len first other)) (front_none (x ∷ es))
+
+  by_decoded : ((len : ℕ) → (run_on at (at + len) (drop len bytes)).entries ≡ es → IsFrontOf es (run_on at (at + len) (take (n - len) (drop len bytes))).entries) → (d : Decoded) →
+      decoded (take n bytes) ≡ d → IsFrontOf (x ∷ es) (run_on prev at (take n bytes)).entries
+  by_decoded goes (NotWhole torn) first = subst (λ (r : RawRun). IsFrontOf (x ∷ es) r.entries) (sym (run_on-torn prev at (take n bytes) torn first)) (front_none (x ∷ es))
+  by_decoded goes (Whole e field len) first = by_test goes e field len first (field == prev) refl
+
+behind_cut : (n : ℕ) (bytes : List ℕ) → IsFrontOf (entries_behind bytes) (entries_behind (take n bytes))
+behind_cut n bytes =
+    let all : List Entry = (run_on 0 26 (drop 26 bytes)).entries in
+    let some : List Entry = (run_on 0 26 (drop 26 (take n bytes))).entries in
+    let cut : IsFrontOf all some = subst (λ (x : List ℕ). IsFrontOf all (run_on 0 26 x).entries) (sym (drop_cut 26 n bytes)) (cut_run all 0 26 (n - 26) (drop 26 bytes) refl) in
+    subst (λ (l : List Entry). IsFrontOf (front 26 l) (front 26 some)) (sym cut.is) (front_fewer 26 some cut.more)
+
+-- what is found is a run of the first of these entries
+record IsRunOf (entries : List Entry) (found : Found) : Type 0 where
+  run : FileRun
+  found_is : found ≡ Run run
+  more : List Entry
+  is : entries ≡ run.entries ++ more
+
+run_same : (a b : FileRun) → Run a ≡ Run b → a ≡ b
+run_same a b is = cc
+
+cut_first : (f n prev : ℕ) (bytes : List ℕ) (run : FileRun) (e : Entry) → found_first f bytes prev e ≡ Run run → IsRunOf run.entries (found_first f (take n bytes) prev e)
+cut_first f n prev bytes run (FileHeader version file) is = by_test (prev == 0) (version == 1) (file == f) is where
+  by_test : (a b c : Bool) → cond (not a) Damaged (cond (not b) (VersionUnknown version) (cond c (Run (run_with (entries_behind bytes))) Damaged)) ≡ Run run →
+      IsRunOf run.entries (cond (not a) Damaged (cond (not b) (VersionUnknown version) (cond c (Run (run_with (entries_behind (take n bytes)))) Damaged)))
+  by_test false b c h = absurd cc
+  by_test true false c h = absurd cc
+  by_test true true false h = absurd cc
+  by_test true true true h =
+      let cut = behind_cut n bytes in
+      record { run = run_with (entries_behind (take n bytes)); found_is = refl; more = cut.more; is = sym (ap (λ (r : FileRun). r.entries) (run_same (run_with (entries_behind bytes)) run h)) ∙ cut.is }
+cut_first f n prev bytes run e is = record { run = run; found_is = is; more = []; is = sym (append-nil run.entries) }
+
+-- a file with a run that was cut short has a run of the first of its entries
+pub cut_prefix : (f n : ℕ) (bytes : List ℕ) (run : FileRun) → found_in f bytes ≡ Run run → HoldsPrefix f run.entries (take n bytes)
+cut_prefix f n bytes run is = by_decoded (decoded (take n bytes)) refl where
+  by_decoded : (d : Decoded) → decoded (take n bytes) ≡ d → HoldsPrefix f run.entries (take n bytes)
+  by_decoded (NotWhole torn) first = record { run = no_run; found = ap (found_by f (take n bytes)) first; more = run.entries; is = refl }
+  by_decoded (Whole e prev len) first =
+      let cut = cut_first f n prev bytes run e (sym (ap (found_by f bytes) (whole_again n bytes e prev len first)) ∙ is) in
+      record { run = cut.run; found = ap (found_by f (take n bytes)) first ∙ cut.found_is; more = cut.more; is = cut.is }
+
+-- ---- a file in which no entry reads as a whole one but those that were appended
+
+appended_prefix : (f : ℕ) (entries : List Entry) (bytes : List ℕ) → AreBytes bytes → AreAppended 0 0 (FileHeader 1 f ∷ entries) bytes → HoldsPrefix f entries bytes
+appended_prefix f entries bytes are so = by_decoded (decoded bytes) refl where
   headed : (n : ℕ) → decoded bytes ≡ Whole (FileHeader 1 f) 0 n → found_in f bytes ≡ Run (run_with (entries_behind bytes))
   headed n is =
       let same : (f == f) ≡ true = grind (arith, nat_tests) in
       ap (found_by f bytes) is ∙ rw same refl
 
-  with_front : (n : ℕ) → decoded bytes ≡ Whole (FileHeader 1 f) 0 n → IsFrontOf entries (run_on 0 26 (drop 26 bytes)).entries → IsLeftOf f entries bytes
-  with_front n is run = record {
-    run = run_with (entries_behind bytes);
-    found = headed n is;
-    more = run.more;
-    is = run.is ∙ ap (λ (l : List Entry). l ++ run.more) (sym (front_all 26 (run_on 0 26 (drop 26 bytes)).entries first.follow first.ends));
-  } where
-    first : AreFileEntries (run_on 0 26 (drop 26 bytes)).entries
-    first = entries_front (run_on 0 26 (drop 26 bytes)).entries run.more (subst AreFileEntries run.is ok)
+  with_front : (n : ℕ) → decoded bytes ≡ Whole (FileHeader 1 f) 0 n → IsFrontOf entries (run_on 0 26 (drop 26 bytes)).entries → HoldsPrefix f entries bytes
+  with_front n is run =
+      let all = front_through entries (run_on 0 26 (drop 26 bytes)).entries (entries_behind bytes) run (front_of 26 (run_on 0 26 (drop 26 bytes)).entries) in
+      record { run = run_with (entries_behind bytes); found = headed n is; more = all.more; is = all.is }
 
-  by_decoded : (d : Decoded) → decoded bytes ≡ d → IsLeftOf f entries bytes
+  by_decoded : (d : Decoded) → decoded bytes ≡ d → HoldsPrefix f entries bytes
   by_decoded (NotWhole torn) is = record { run = no_run; found = ap (found_by f bytes) is; more = entries; is = refl }
   by_decoded (Whole e prev n) is =
       let a = so e prev n is in
@@ -157,8 +215,47 @@ left_of f entries bytes are ok so = by_decoded (decoded bytes) refl where
       let header : decoded bytes ≡ Whole (FileHeader 1 f) 0 n = is ∙ ap (λ (x : Entry). Whole x prev n) a.0 ∙ ap (λ (k : ℕ). Whole (FileHeader 1 f) k n) a.1 in
       with_front n header (run_appended 0 26 entries (drop 26 bytes) (subst (λ (k : ℕ). AreAppended 0 (0 + k) entries (drop k bytes)) size a.2))
 
-run_same : (a b : FileRun) → Run a ≡ Run b → a ≡ b
-run_same a b is = cc
+-- ---- images that meet the premise
+
+-- what the disk reads has a run, and the image one of the first of its entries
+meets : (f : ℕ) (read bytes : List ℕ) (run : FileRun) → found_in f read ≡ Run run → HoldsPrefix f run.entries bytes → IsFoundOf (found_in f read) (found_in f bytes)
+meets f read bytes run is holds =
+    subst (λ (x : Found). IsFoundOf x (found_in f bytes)) (sym is) (subst (λ (x : Found). IsFoundOf (Run run) x) (sym holds.found) (record { more = holds.more; is = holds.is }))
+
+pub reads_have_no_chance : ReadsHaveNoChance
+reads_have_no_chance reads f = same (found_in f (content reads f)) where
+  same : (found : Found) → IsFoundOf found found
+  same (Run run) = front_whole run.entries
+  same (VersionUnknown version) = refl
+  same Damaged = refl
+
+pub cuts_have_no_chance : CutsHaveNoChance
+cuts_have_no_chance reads image runs cut f =
+    let short = cut f in
+    let here = runs f in
+    meets f (content reads f) (content image f) here.run here.found (subst (HoldsPrefix f here.run.entries) (sym short.1) (cut_prefix f short.0 (content reads f) here.run here.found))
+
+pub appended_have_no_chance : AppendedHaveNoChance
+appended_have_no_chance reads image runs appended f =
+    let here = runs f in
+    let so = appended f in
+    meets f (content reads f) (content image f) here.run here.found
+    (appended_prefix f here.run.entries (content image f) so.0 (subst (λ (x : Found). AreAppended 0 0 (FileHeader 1 f ∷ entries_found x) (content image f)) here.found so.1))
+
+-- an image that meets it holds a prefix of what the disk holds a prefix of
+pub found_left : (f : ℕ) (entries : List Entry) (read bytes : List ℕ) → HoldsPrefix f entries read → IsFoundOf (found_in f read) (found_in f bytes) → HoldsPrefix f entries bytes
+found_left f entries read bytes holds is = by_found (found_in f bytes) refl (subst (λ (x : Found). IsFoundOf x (found_in f bytes)) holds.found is) where
+  by_found : (found : Found) → found_in f bytes ≡ found → IsFoundOf (Run holds.run) found → HoldsPrefix f entries bytes
+  by_found (Run run) there first = record {
+    run = run;
+    found = there;
+    more = first.more ++ holds.more;
+    is = holds.is ∙ ap (λ (l : List Entry). l ++ holds.more) first.is ∙ append_assoc run.entries first.more holds.more;
+  }
+  by_found (VersionUnknown version) there same = absurd cc
+  by_found Damaged there same = absurd cc
+
+-- ---- entries that are kept
 
 -- a file that begins with entries has at least these
 pub left_kept : (f : ℕ) (kept : List Entry) (bytes rest : List ℕ) (run : FileRun) → f < 2 ^ 32 → AreFileEntries kept → bytes ≡ file_bytes f kept ++ rest → found_in f bytes ≡ Run run → length kept ≤ length run.entries

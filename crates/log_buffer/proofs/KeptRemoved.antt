@@ -14,7 +14,7 @@ use Rattle.je_disk.proofs.Moments.{passes_weaken}
 use Rattle.log_entry.specs.declared.entry.Entry.{Entry}
 use Rattle.log_file.specs.Log.{Log, IsLog, AreFileEntries, entries_of, file_bytes, files_of_log}
 use Rattle.log_buffer.specs.Log.{log_without, log_of, log_upto}
-use Rattle.log_buffer.specs.Crash.{IsWhole, KeepsFront, KeepsFile, KeepsLog, KeepsFrom, KeepsJob, Holds, KeptThrough}
+use Rattle.log_buffer.specs.Crash.{IsWhole, KeepsFront, KeepsFile, KeepsLog, KeepsFrom, KeepsJob, Holds}
 use Rattle.log_buffer.proofs.Logs.{AreBelow}
 use Rattle.log_buffer.proofs.Splits.{below_at, lookup_under, entries-append}
 use Rattle.log_buffer.proofs.Kept.{mark_same, mark_other}
@@ -251,7 +251,7 @@ removed_keeps log gone least f begun first before s is less h (inr same) =
     subst (λ (t : State). KeepsLog (log_without f log) (log_of f log ++ gone) (least - length (entries_of (log_of f log))) t.marks) (sym same) (holds_removed log gone least f begun first first before is less refl h).kept.keeps
 
 pub removed_through : (log gone : Log) (least f : ℕ) (begun : Option ℕ) (first : ℕ) (old new : History) → IsLog log → length (entries_of (log_upto f log)) < least → Holds log gone least begun first (now old)
-    → Passes old new (IsEither (now old) (removed f (now old))) → KeptThrough old new (log_without f log) (log_of f log ++ gone) (least - length (entries_of (log_of f log)))
+    → Passes old new (IsEither (now old) (removed f (now old))) → Passes old new (λ s. KeepsLog (log_without f log) (log_of f log ++ gone) (least - length (entries_of (log_of f log))) s.marks)
 removed_through log gone least f begun first old new is less h passes =
     passes_weaken old new (IsEither (now old) (removed f (now old))) (λ s. KeepsLog (log_without f log) (log_of f log ++ gone) (least - length (entries_of (log_of f log))) s.marks)
     (λ s either. removed_keeps log gone least f begun first (now old) s is less h either) passes

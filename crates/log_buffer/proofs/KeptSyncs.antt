@@ -12,9 +12,10 @@ use Rattle.log_file.specs.Log.{Log, IsLog, entries_of, file_bytes, files_of_log}
 use Rattle.log_buffer.specs.Log.{EndsAt, HasLog, ReadAs}
 use Rattle.log_buffer.specs.declared.buffer.LogBuffer.{LogBuffer}
 use Rattle.log_buffer.specs.Buffer.{file_of, offset_of, last_of, first_of}
-use Rattle.log_buffer.specs.Crash.{KeepsFront, KeepsLog, KeepsFrom, WillKeep, Holds, KeptThrough}
+use Rattle.log_buffer.specs.Crash.{KeepsFront, KeepsLog, KeepsFrom, WillKeep, Holds, HoldPrefixes, KeepsRead, KeptThrough}
 use Rattle.log_buffer.proofs.Logs.{below_last, lookup_last, lookup_push}
 use Rattle.log_buffer.proofs.Kept.{keeps_less, kept_stable}
+use Rattle.log_buffer.proofs.Prefixes.{read_prefixes}
 use Rattle.log_buffer.proofs.Splits.{count_part, entries-append}
 
 -- the count of a log's entries, by its last file
@@ -57,15 +58,19 @@ holds_begun log removed least file offset last first begun s is ends le read h =
   };
 }
 
-begun_keeps : (log removed : Log) (least : ℕ) (before s : State) → IsEither before (job_begun before) s → KeepsLog log removed least before.marks → KeepsLog log removed least s.marks
-begun_keeps log removed least before s (inl is) k = subst (λ (t : State). KeepsLog log removed least t.marks) (sym is) k
-begun_keeps log removed least before s (inr is) k = subst (λ (t : State). KeepsLog log removed least t.marks) (sym is) k
+-- a disk that keeps a log and can go on
+kept_read : (log removed : Log) (least first : ℕ) (begun : Option ℕ) (s : State) → HoldPrefixes log s.reads → Holds log removed least begun first s → KeepsRead log removed least s
+kept_read log removed least first begun s prefixes h = record { keeps = h.kept.keeps; read = h.kept.read; prefixes = prefixes }
 
-pub begun_through : (log removed : Log) (least first : ℕ) (begun : Option ℕ) (h old new : History) → KeptThrough h old log removed least → Holds log removed least begun first (now old) → Passes old new (IsEither (now old) (job_begun (now old)))
-    → KeptThrough h new log removed least
-begun_through log removed least first begun h old new through holds passes =
-    passes_then h old new (λ s. KeepsLog log removed least s.marks) through
-    (passes_weaken old new (IsEither (now old) (job_begun (now old))) (λ s. KeepsLog log removed least s.marks) (λ s either. begun_keeps log removed least (now old) s either holds.kept.keeps) passes)
+begun_keeps : (log removed : Log) (least : ℕ) (before s : State) → IsEither before (job_begun before) s → KeepsRead log removed least before → KeepsRead log removed least s
+begun_keeps log removed least before s (inl is) k = subst (KeepsRead log removed least) (sym is) k
+begun_keeps log removed least before s (inr is) k = subst (KeepsRead log removed least) (sym is) (record { keeps = k.keeps; read = k.read; prefixes = k.prefixes })
+
+pub begun_through : (log removed : Log) (least first : ℕ) (begun : Option ℕ) (h old new : History) → KeptThrough h old log removed least → HoldPrefixes log (now old).reads → Holds log removed least begun first (now old)
+    → Passes old new (IsEither (now old) (job_begun (now old))) → KeptThrough h new log removed least
+begun_through log removed least first begun h old new through prefixes holds passes =
+    passes_then h old new (KeepsRead log removed least) through
+    (passes_weaken old new (IsEither (now old) (job_begun (now old))) (KeepsRead log removed least) (λ s either. begun_keeps log removed least (now old) s either (kept_read log removed least first begun (now old) prefixes holds)) passes)
 
 -- ---- the end of a sync
 
@@ -78,36 +83,44 @@ holds_ended log removed least first n s h = record {
   job = tt;
 }
 
-ended_keeps : (log removed : Log) (least first n : ℕ) (before s : State) → Holds log removed least (Some n) first before → IsEither before (job_ended before) s → KeepsLog log removed least s.marks
-ended_keeps log removed least first n before s h (inl is) = subst (λ (t : State). KeepsLog log removed least t.marks) (sym is) h.kept.keeps
-ended_keeps log removed least first n before s h (inr is) =
-    subst (λ (t : State). KeepsLog log removed least t.marks) (sym is)
-    (keeps_less log removed least n (job_ended before).marks h.job.no_less (holds_ended log removed least first n before h).kept.keeps)
+ended_keeps : (log removed : Log) (least first n : ℕ) (before s : State) → HoldPrefixes log before.reads → Holds log removed least (Some n) first before → IsEither before (job_ended before) s → KeepsRead log removed least s
+ended_keeps log removed least first n before s prefixes h (inl is) = subst (KeepsRead log removed least) (sym is) (kept_read log removed least first (Some n) before prefixes h)
+ended_keeps log removed least first n before s prefixes h (inr is) =
+    let ended = holds_ended log removed least first n before h in
+    subst (KeepsRead log removed least) (sym is) (record { keeps = keeps_less log removed least n (job_ended before).marks h.job.no_less ended.kept.keeps; read = ended.kept.read; prefixes = prefixes })
 
-pub ended_through : (log removed : Log) (least first n : ℕ) (old new : History) → Holds log removed least (Some n) first (now old) → Passes old new (IsEither (now old) (job_ended (now old))) → KeptThrough old new log removed least
-ended_through log removed least first n old new h passes =
-    passes_weaken old new (IsEither (now old) (job_ended (now old))) (λ s. KeepsLog log removed least s.marks) (λ s either. ended_keeps log removed least first n (now old) s h either) passes
+pub ended_through : (log removed : Log) (least first n : ℕ) (old new : History) → HoldPrefixes log (now old).reads → Holds log removed least (Some n) first (now old) → Passes old new (IsEither (now old) (job_ended (now old))) → KeptThrough old new log removed least
+ended_through log removed least first n old new prefixes h passes =
+    passes_weaken old new (IsEither (now old) (job_ended (now old))) (KeepsRead log removed least) (λ s either. ended_keeps log removed least first n (now old) s prefixes h either) passes
 
 -- ---- a sync at the end
 
+-- a log that was written whole, all stable
+whole_read : (log removed : Log) (file offset last first : ℕ) (s : State) → IsLog log → EndsAt log file offset last → first ≤ file → ((g : ℕ) → s.reads g ≡ files_of_log log g) → KeepsRead log removed (length (entries_of log)) (synced s)
+whole_read log removed file offset last first s is ends le read =
+    let whole = whole_kept log removed file offset last first s.reads is ends le read in
+    record { keeps = whole.keeps; read = whole.read; prefixes = read_prefixes log s.reads is read }
+
 synced_keeps : (log removed : Log) (least file offset last first : ℕ) (begun : Option ℕ) (before s : State) → IsLog log → EndsAt log file offset last → first ≤ file → ((g : ℕ) → before.reads g ≡ files_of_log log g)
-    → Holds log removed least begun first before → IsEither before (synced before) s → KeepsLog log removed least s.marks
-synced_keeps log removed least file offset last first begun before s is ends le read h (inl same) = subst (λ (t : State). KeepsLog log removed least t.marks) (sym same) h.kept.keeps
+    → Holds log removed least begun first before → IsEither before (synced before) s → KeepsRead log removed least s
+synced_keeps log removed least file offset last first begun before s is ends le read h (inl same) =
+    subst (KeepsRead log removed least) (sym same) (kept_read log removed least first begun before (read_prefixes log before.reads is read) h)
 synced_keeps log removed least file offset last first begun before s is ends le read h (inr same) =
-    subst (λ (t : State). KeepsLog log removed least t.marks) (sym same)
-    (keeps_less log removed least (length (entries_of log)) (synced_marks before.reads) (count_kept log removed least before.marks h.kept.keeps) (whole_kept log removed file offset last first before.reads is ends le read).keeps)
+    let whole = whole_read log removed file offset last first before is ends le read in
+    subst (KeepsRead log removed least) (sym same)
+    (record { keeps = keeps_less log removed least (length (entries_of log)) (synced_marks before.reads) (count_kept log removed least before.marks h.kept.keeps) whole.keeps; read = whole.read; prefixes = whole.prefixes })
 
 pub synced_through : (log removed : Log) (least file offset last first : ℕ) (begun : Option ℕ) (h old new : History) → IsLog log → EndsAt log file offset last → first ≤ file → ((g : ℕ) → (now old).reads g ≡ files_of_log log g)
     → KeptThrough h old log removed least → Holds log removed least begun first (now old) → Passes old new (IsEither (now old) (synced (now old))) → KeptThrough h new log removed least
 synced_through log removed least file offset last first begun h old new is ends le read through holds passes =
-    passes_then h old new (λ s. KeepsLog log removed least s.marks) through
-    (passes_weaken old new (IsEither (now old) (synced (now old))) (λ s. KeepsLog log removed least s.marks) (λ s either. synced_keeps log removed least file offset last first begun (now old) s is ends le read holds either) passes)
+    passes_then h old new (KeepsRead log removed least) through
+    (passes_weaken old new (IsEither (now old) (synced (now old))) (KeepsRead log removed least) (λ s either. synced_keeps log removed least file offset last first begun (now old) s is ends le read holds either) passes)
 
 -- ---- calls that change nothing
 
-pub same_through : (log removed : Log) (least first : ℕ) (begun : Option ℕ) (old new : History) → Passes old new (λ s. s ≡ now old) → Holds log removed least begun first (now old) → KeptThrough old new log removed least
-same_through log removed least first begun old new passes h =
-    passes_weaken old new (λ s. s ≡ now old) (λ s. KeepsLog log removed least s.marks) (λ s is. subst (λ (t : State). KeepsLog log removed least t.marks) (sym is) h.kept.keeps) passes
+pub same_through : (log removed : Log) (least first : ℕ) (begun : Option ℕ) (old new : History) → Passes old new (λ s. s ≡ now old) → HoldPrefixes log (now old).reads → Holds log removed least begun first (now old) → KeptThrough old new log removed least
+same_through log removed least first begun old new passes prefixes h =
+    passes_weaken old new (λ s. s ≡ now old) (KeepsRead log removed least) (λ s is. subst (KeepsRead log removed least) (sym is) (kept_read log removed least first begun (now old) prefixes h)) passes
 
 -- ---- a log that is closed
 
@@ -119,10 +132,10 @@ closed_through (Ok v) tells log removed least begun h old new buffer ok told has
 closed_through (Err e) tells log removed least begun h old new buffer ok told has holds read through passes = absurd cc
 
 pub closed_keeps : {T E D : Type 0} (r : Result T E) (tells : Bool) (log : Log) (old new : History) (buffer : LogBuffer D) → is_err r ≡ false → tells ≡ true → OnOk r (HasLog tells (now old) buffer log) → OnOk r (ReadAs tells (now old).reads log)
-    → now new ≡ synced (now old) → KeepsLog log [] (length (entries_of log)) (now new).marks
+    → now new ≡ synced (now old) → KeepsRead log [] (length (entries_of log)) (now new)
 closed_keeps (Ok v) tells log old new buffer ok told has read done =
-    subst (λ (s : State). KeepsLog log [] (length (entries_of log)) s.marks) (sym done)
-    (whole_kept log [] (file_of buffer) (offset_of buffer) (last_of buffer) (file_of buffer) (now old).reads has.is_log has.ends (omega arith) (read told)).keeps
+    subst (KeepsRead log [] (length (entries_of log))) (sym done)
+    (whole_read log [] (file_of buffer) (offset_of buffer) (last_of buffer) (file_of buffer) (now old) has.is_log has.ends (omega arith) (read told))
 closed_keeps (Err e) tells log old new buffer ok told has read done = absurd cc
 
 pub closed_whole : {T E U F : Type 0} (r : Result T E) (r' : Result U F) (tells : Bool) (log : Log) (s t : State) → is_err r ≡ false → OnOk r (ReadAs tells s.reads log) → (tells ≡ true → OnOk r' (t ≡ synced s)) → OnOk r' (ReadAs tells t.reads log)

@@ -8,7 +8,7 @@ use Rattle.je_disk.proofs.Moments.{passes_weaken, passes_then}
 use Rattle.log_entry.specs.declared.entry.Entry.{Entry}
 use Rattle.log_file.specs.Log.{Log, IsLog, file_bytes, files_of_log}
 use Rattle.log_buffer.specs.Buffer.{joined, tail_of, first_of}
-use Rattle.log_buffer.specs.Crash.{KeepsLog, Holds, KeptThrough}
+use Rattle.log_buffer.specs.Crash.{Holds, HoldPrefixes, KeepsRead, KeptThrough}
 use Rattle.log_buffer.specs.Writing.{IsTailOf, IsPutBehind, IsPutNext, put_behind}
 use Rattle.log_buffer.proofs.Kept.{IsUnfinished, holds_appended, holds_created, holds_next, ReadUpTo}
 use Rattle.log_buffer.specs.Tail.{bytes_for, piece_of, start_of, stop_of}
@@ -17,10 +17,11 @@ use Rattle.log_buffer.specs.Log.{HasLog}
 use Rattle.log_buffer.proofs.Tails.{bytes_for_from}
 use Rattle.log_buffer.proofs.Pieces.{IsCut, begun_has_bytes, stop_within}
 use Rattle.std.proofs.lemmas.List.{length-drop, length-take}
+use Rattle.log_buffer.proofs.Prefixes.{created_prefixes, grown_prefixes, tail_prefixes, upto_prefixes}
 use Rattle.log_buffer.proofs.Written.{WrittenUpTo, put_same}
 
-keeps_at : (log removed : Log) (least first : ℕ) (begun : Option ℕ) (s t : State) → t ≡ s → Holds log removed least begun first s → KeepsLog log removed least t.marks
-keeps_at log removed least first begun s t is h = subst (λ (u : State). KeepsLog log removed least u.marks) (sym is) h.kept.keeps
+keeps_at : (log removed : Log) (least first : ℕ) (begun : Option ℕ) (s t : State) → t ≡ s → HoldPrefixes log s.reads → Holds log removed least begun first s → KeepsRead log removed least t
+keeps_at log removed least first begun s t is prefixes h = subst (KeepsRead log removed least) (sym is) (record { keeps = h.kept.keeps; read = h.kept.read; prefixes = prefixes })
 
 -- a file whose rest is in the tail
 unfinished : (log : Log) (reads : Files) (f : ℕ) (bytes : List ℕ) → IsLog log → 0 < length bytes → joined (reads f) bytes ≡ files_of_log log f → IsUnfinished log reads f
@@ -58,10 +59,11 @@ pub record GoesOn (log removed : Log) (least : ℕ) (begun : Option ℕ) (old ne
   pub through : KeptThrough old new log removed least
   pub holds : Holds log removed least begun first (now new)
 
-part_keeps : (log removed : Log) (least f : ℕ) (begun : Option ℕ) (bytes : List ℕ) (s t : State) → IsUnfinished log s.reads f → Holds log removed least begun f s → IsPartOfAppend f bytes s t → KeepsLog log removed least t.marks
-part_keeps log removed least f begun bytes s t un h (inl is) = keeps_at log removed least f begun s t is h
-part_keeps log removed least f begun bytes s t un h (inr part) =
-    keeps_at log removed least f begun (appended f part.0 s) t part.2 (holds_appended log removed least f begun s part.0 un h)
+part_keeps : (log removed : Log) (least f : ℕ) (begun : Option ℕ) (bytes : List ℕ) (s t : State) → IsUnfinished log s.reads f → joined (s.reads f) bytes ≡ files_of_log log f → HoldPrefixes log s.reads → Holds log removed least begun f s
+    → IsPartOfAppend f bytes s t → KeepsRead log removed least t
+part_keeps log removed least f begun bytes s t un told prefixes h (inl is) = keeps_at log removed least f begun s t is prefixes h
+part_keeps log removed least f begun bytes s t un told prefixes h (inr part) =
+    keeps_at log removed least f begun (appended f part.0 s) t part.3 (grown_prefixes log f bytes part.0 part.1 s un.is_log prefixes part.2 told) (holds_appended log removed least f begun s part.0 un h)
 
 -- the rest of the first file is being written
 unfinished_first : (log : Log) (first : ℕ) (reads : Files) (tail : ℕ → List ℕ) (bytes : List ℕ) → bytes ≡ tail first → IsTailOf log reads tail first → 0 < length bytes → IsUnfinished log reads first
@@ -70,8 +72,9 @@ unfinished_first log first reads tail bytes piece is some = unfinished log reads
 pub through_first : (log removed : Log) (least first : ℕ) (begun : Option ℕ) (old new : History) (tail : ℕ → List ℕ) (bytes : List ℕ) → bytes ≡ tail first → IsTailOf log (now old).reads tail first
     → Holds log removed least begun first (now old) → Passes old new (IsPutBehind first bytes (now old)) → KeptThrough old new log removed least
 through_first log removed least first begun old new tail bytes piece is h passes =
-    passes_weaken old new (IsPutBehind first bytes (now old)) (λ s. KeepsLog log removed least s.marks)
-    (λ s put. part_keeps log removed least first begun bytes (now old) s (unfinished_first log first (now old).reads tail bytes piece is put.some) h put.part) passes
+    passes_weaken old new (IsPutBehind first bytes (now old)) (KeepsRead log removed least)
+    (λ s put. part_keeps log removed least first begun bytes (now old) s (unfinished_first log first (now old).reads tail bytes piece is put.some) (ap (joined ((now old).reads first)) piece ∙ is.told first)
+    (tail_prefixes log (now old).reads tail is.is_log is.told) h put.part) passes
 
 pub goes_first : (log removed : Log) (least first : ℕ) (begun : Option ℕ) (old new : History) (tail : ℕ → List ℕ) (bytes : List ℕ) → bytes ≡ tail first → IsTailOf log (now old).reads tail first
     → Holds log removed least begun first (now old) → Passes old new (IsPutBehind first bytes (now old)) → now new ≡ put_behind first bytes (now old) → GoesOn log removed least begun old new first
@@ -105,19 +108,27 @@ module _ (log removed : Log) (least n next : ℕ) (begun : Option ℕ) (h old : 
   made : Holds log removed least begun next (created next (synced (now old)))
   made = holds_created log removed least next begun (synced (now old)) un_next done
 
-  un_made : IsUnfinished log (created next (synced (now old))).reads next
-  un_made = unfinished log (created next (synced (now old))).reads next bytes is some
-      (ap (λ (o : Option (List ℕ)). joined o bytes) (made_reads ((now old).reads next) next (synced (now old)) none) ∙ made_joined bytes some ∙ told)
+  told_made : joined ((created next (synced (now old))).reads next) bytes ≡ files_of_log log next
+  told_made = ap (λ (o : Option (List ℕ)). joined o bytes) (made_reads ((now old).reads next) next (synced (now old)) none) ∙ made_joined bytes some ∙ told
 
-  keeps : (s : State) → IsPutNext next bytes (now old) s → KeepsLog log removed least s.marks
-  keeps s (inl (inl same)) = keeps_at log removed least n begun (now old) s same goes.holds
-  keeps s (inl (inr same)) = keeps_at log removed least next begun (synced (now old)) s same done
-  keeps s (inr (inl (inl same))) = keeps_at log removed least next begun (synced (now old)) s same done
-  keeps s (inr (inl (inr same))) = keeps_at log removed least next begun (created next (synced (now old))) s same made
-  keeps s (inr (inr part)) = part_keeps log removed least next begun bytes (created next (synced (now old))) s un_made made part
+  un_made : IsUnfinished log (created next (synced (now old))).reads next
+  un_made = unfinished log (created next (synced (now old))).reads next bytes is some told_made
+
+  prefixes : HoldPrefixes log (now old).reads
+  prefixes = upto_prefixes log n (now old).reads is read
+
+  prefixes_made : HoldPrefixes log (created next (synced (now old))).reads
+  prefixes_made = created_prefixes log next (synced (now old)) prefixes
+
+  keeps : (s : State) → IsPutNext next bytes (now old) s → KeepsRead log removed least s
+  keeps s (inl (inl same)) = keeps_at log removed least n begun (now old) s same prefixes goes.holds
+  keeps s (inl (inr same)) = keeps_at log removed least next begun (synced (now old)) s same prefixes done
+  keeps s (inr (inl (inl same))) = keeps_at log removed least next begun (synced (now old)) s same prefixes done
+  keeps s (inr (inl (inr same))) = keeps_at log removed least next begun (created next (synced (now old))) s same prefixes_made made
+  keeps s (inr (inr part)) = part_keeps log removed least next begun bytes (created next (synced (now old))) s un_made told_made prefixes_made made part
 
   pub through_next : (new : History) → Passes old new (IsPutNext next bytes (now old)) → KeptThrough h new log removed least
-  through_next new passes = passes_then h old new (λ s. KeepsLog log removed least s.marks) goes.through (passes_weaken old new (IsPutNext next bytes (now old)) (λ s. KeepsLog log removed least s.marks) keeps passes)
+  through_next new passes = passes_then h old new (KeepsRead log removed least) goes.through (passes_weaken old new (IsPutNext next bytes (now old)) (KeepsRead log removed least) keeps passes)
 
   pub goes_next : (new : History) → Passes old new (IsPutNext next bytes (now old)) → now new ≡ appended next bytes (created next (synced (now old))) → GoesOn log removed least begun h new next
   goes_next new passes state = record {

@@ -10,12 +10,9 @@ use Rattle.std.specs.List.{AllByRecursion}
 use Rattle.std.specs.List.Sorted.{IsStrictlySortedBy, IsStrictlyIncreasing}
 use Rattle.std.specs.Map.{lookup}
 use Rattle.je_disk.specs.States.{State, Files, Mark, content}
-use Rattle.je_disk.specs.Images.{IsFileImage, IsImage}
+use Rattle.je_disk.specs.Images.{IsFileImage, AreFileImages}
 use Rattle.je_disk.proofs.Images.{stable_is}
 use Rattle.log_entry.specs.declared.entry.Entry.{Entry}
-use Rattle.log_entry.specs.declared.decoder.Decoded.TheVariants.{Torn as NotWhole}
-use Rattle.log_entry.specs.declared.decoder.Torn.TheVariants.{Short}
-use Rattle.log_entry.specs.Reading.{decoded}
 use Rattle.log_file.specs.declared.file_run.FileRun.{FileRun}
 use Rattle.log_file.specs.declared.found.Found.{Found}
 use Rattle.log_file.specs.declared.found.Found.TheVariants.{Run}
@@ -23,13 +20,13 @@ use Rattle.log_file.specs.Scan.{found_in, run_with}
 use Rattle.log_file.specs.Log.{Log, IsLog, AreFiles, AreFileEntries, file_bytes, files_of_log, entries_of, entries_found, log_in}
 use Rattle.log_file.proofs.SpelledLaws.{length-file_bytes}
 use Rattle.log_file.proofs.FilesLaws.{Rises, AreAbove as AllAbove, are_one_list, spelled_files, are_spelled_files, log_in-spelled}
-use Rattle.log_file.proofs.FoundLaws.{are_found_again}
-use Rattle.log_buffer.specs.Crash.{KeepsFront, KeepsFile, KeepsLog}
+use Rattle.log_buffer.specs.Crash.{KeepsFront, KeepsFile, KeepsLog, HoldsPrefix, HoldPrefixes, entries_at}
 use Rattle.log_buffer.specs.Chance.{NoChanceMatch, if_logged, among, AreFirst, HasRun, IsAllRun, AreWholeButLast, IsRemoved, IsWithin, LeavesLog, KeptIsLeft}
 use Rattle.log_buffer.proofs.Logs.{AreBelow, below_more, lookup_none}
 use Rattle.log_buffer.proofs.Splits.{below_at, lookup_at, lookup_under, lookup_back, lookup_front, lookup_here, lookup_past, entries-append, entries_parted}
 use Rattle.log_buffer.proofs.Kept.{read_whole}
-use Rattle.log_buffer.proofs.Chances.{log_file_at, IsLeftOf, left_of, left_kept, entries_front}
+use Rattle.log_buffer.proofs.Chances.{log_file_at, found_left, left_kept, entries_front}
+use Rattle.log_buffer.proofs.Prefixes.{found_alone}
 
 -- ---- numbers that rise
 
@@ -117,14 +114,6 @@ not_there gone at f mark (Some bytes) (inr was) leaves =
 some_same : {X : Type 0} (x y : X) → (let o : Option X = Some x in o) ≡ Some y → x ≡ y
 some_same x y is = cc
 
-nothing_torn : decoded [] ≡ NotWhole Short
-unfolding decoded
-nothing_torn = refl
-
--- a file that was spelled, with nothing behind it
-found_alone : (f : ℕ) (entries : List Entry) → f < 2 ^ 32 → AreFileEntries entries → found_in f (file_bytes f entries) ≡ Run (run_with entries)
-found_alone f entries lt ok = ap (found_in f) (sym (append-nil (file_bytes f entries))) ∙ are_found_again f entries [] Short lt ok nothing_torn
-
 all_run : (f : ℕ) (entries : List Entry) (bytes : List ℕ) → f < 2 ^ 32 → AreFileEntries entries → bytes ≡ file_bytes f entries → IsAllRun (f, bytes)
 all_run f entries bytes lt ok is = record {
   run = run_with entries;
@@ -138,7 +127,7 @@ all_run f entries bytes lt ok is = record {
 abbrev no_entries : Option (List Entry)
 no_entries = None
 
-module _ (log gone : Log) (least : ℕ) (state : State) (image : Files) (is : IsLog log) (k : KeepsLog log gone least state.marks) (img : IsImage state image) (no_chance : NoChanceMatch log image) where
+module _ (log gone : Log) (least : ℕ) (state : State) (image : Files) (is : IsLog log) (k : KeepsLog log gone least state.marks) (holds : HoldPrefixes log state.reads) (img : AreFileImages state.marks image) (no_chance : NoChanceMatch state.reads image) where
   parts : IsLog (k.before ++ (k.at, k.kept ++ k.more) ∷ k.after)
   parts = subst IsLog k.log_is is
 
@@ -160,8 +149,8 @@ module _ (log gone : Log) (least : ℕ) (state : State) (image : Files) (is : Is
   -- what the image has of a file that is not the one being written
   other : (f : ℕ) → f ≢ k.at → (o : Option (List Entry)) → lookup (λ n. n == f) k.before ≡ o → (image f ≡ option_map (file_bytes f) o) ⊎ ((o ≡ None) × IsBack gone k.at f (image f))
   other f apart (Some es) some =
-      inl (read_whole state.marks image f (file_bytes f es) img.files (subst (λ (x : Option (List Entry)). KeepsFile gone k.at f (option_map (file_bytes f) x) (state.marks f)) some (k.others f apart)))
-  other f apart None none = by_there (not_there gone k.at f (state.marks f) (image f) (subst (λ (x : Option (List Entry)). KeepsFile gone k.at f (option_map (file_bytes f) x) (state.marks f)) none (k.others f apart)) (img.files f)) where
+      inl (read_whole state.marks image f (file_bytes f es) img (subst (λ (x : Option (List Entry)). KeepsFile gone k.at f (option_map (file_bytes f) x) (state.marks f)) some (k.others f apart)))
+  other f apart None none = by_there (not_there gone k.at f (state.marks f) (image f) (subst (λ (x : Option (List Entry)). KeepsFile gone k.at f (option_map (file_bytes f) x) (state.marks f)) none (k.others f apart)) (img f)) where
     by_there : (image f ≡ None) ⊎ IsBack gone k.at f (image f) → (image f ≡ None) ⊎ ((no_entries ≡ None) × IsBack gone k.at f (image f))
     by_there (inl away) = inl away
     by_there (inr back) = inr (refl, back)
@@ -223,7 +212,7 @@ module _ (log gone : Log) (least : ℕ) (state : State) (image : Files) (is : Is
   } where
     nothing : (k.kept ≡ []) ⊎ KeepsFront (file_bytes k.at k.kept) (state.marks k.at) → k.kept ≡ []
     nothing (inl empty) = empty
-    nothing (inr front) = absurd (let must = front.there in let gone_there = subst (IsFileImage (state.marks k.at)) none (img.files k.at) in cc)
+    nothing (inr front) = absurd (let must = front.there in let gone_there = subst (IsFileImage (state.marks k.at)) none (img k.at) in cc)
 
     reads_are : (f : ℕ) → (f ≡ k.at) ⊎ ((f < k.at) ⊎ (k.at < f)) → among log image f ≡ files_of_log k.before f
     reads_are f (inl same) = ap (among log image) same ∙ among_at ∙ none ∙ sym (ap (option_map (file_bytes k.at)) (lookup_none k.before k.at below)) ∙ ap (files_of_log k.before) (sym same)
@@ -238,7 +227,7 @@ module _ (log gone : Log) (least : ℕ) (state : State) (image : Files) (is : Is
 
   -- ---- where it is there
 
-  first_with : (held : List (ℕ × List ℕ)) (bytes : List ℕ) → AreFiles (among log image) held → image k.at ≡ Some bytes → (left : IsLeftOf k.at (k.kept ++ k.more) bytes) → length k.kept ≤ length left.run.entries → AreFirst log least held
+  first_with : (held : List (ℕ × List ℕ)) (bytes : List ℕ) → AreFiles (among log image) held → image k.at ≡ Some bytes → (left : HoldsPrefix k.at (k.kept ++ k.more) bytes) → length k.kept ≤ length left.run.entries → AreFirst log least held
   first_with held bytes are some left count = record {
     more = left.more ++ entries_of k.after;
     entries = ap entries_of k.log_is
@@ -292,15 +281,17 @@ module _ (log gone : Log) (least : ℕ) (state : State) (image : Files) (is : Is
 
   -- ---- the file being written
 
-  left_at : (bytes : List ℕ) → image k.at ≡ Some bytes → IsLeftOf k.at (k.kept ++ k.more) bytes
+  left_at : (bytes : List ℕ) → image k.at ≡ Some bytes → HoldsPrefix k.at (k.kept ++ k.more) bytes
   left_at bytes some =
       let there : content image k.at ≡ bytes = ap (λ (o : Option (List ℕ)). unwrap_or o []) some in
-      subst (IsLeftOf k.at (k.kept ++ k.more)) there (left_of k.at (k.kept ++ k.more) (content image k.at) (img.bytes k.at) ok_at.1 (no_chance k.at (k.kept ++ k.more) found_at))
+      let entries : entries_at log k.at ≡ k.kept ++ k.more = ap (λ (o : Option (List Entry)). unwrap_or o []) found_at in
+      subst (HoldsPrefix k.at (k.kept ++ k.more)) there
+      (subst (λ (es : List Entry). HoldsPrefix k.at es (content image k.at)) entries (found_left k.at (entries_at log k.at) (content state.reads k.at) (content image k.at) (holds k.at) (no_chance k.at)))
 
   count_at : (bytes : List ℕ) (run : FileRun) → image k.at ≡ Some bytes → found_in k.at bytes ≡ Run run → (k.kept ≡ []) ⊎ KeepsFront (file_bytes k.at k.kept) (state.marks k.at) → length k.kept ≤ length run.entries
   count_at bytes run some found (inl empty) = let none = ap length empty in omega (arith, none)
   count_at bytes run some found (inr front) =
-      let leaves = subst (IsFileImage (state.marks k.at)) some (img.files k.at) in
+      let leaves = subst (IsFileImage (state.marks k.at)) some (img k.at) in
       let begins : bytes ≡ (state.marks k.at).stable ++ drop (length (state.marks k.at).stable) bytes = sym (take-append-drop (length (state.marks k.at).stable) bytes) ∙ ap (λ (x : List ℕ). x ++ drop (length (state.marks k.at).stable) bytes) leaves.front in
       let whole : bytes ≡ file_bytes k.at k.kept ++ (front.rest ++ drop (length (state.marks k.at).stable) bytes) =
       begins ∙ ap (λ (x : List ℕ). x ++ drop (length (state.marks k.at).stable) bytes) front.stable ∙ append_assoc (file_bytes k.at k.kept) front.rest (drop (length (state.marks k.at).stable) bytes) in
@@ -389,4 +380,4 @@ module _ (log gone : Log) (least : ℕ) (state : State) (image : Files) (is : Is
   leaves = record { first = first_files; whole = whole_files; others = not_logged; within = not_above }
 
 pub kept_is_left : KeptIsLeft
-kept_is_left log gone least state image is k img no_chance = leaves log gone least state image is k img no_chance
+kept_is_left log gone least state image is k img no_chance = leaves log gone least state image is k.keeps k.prefixes img no_chance

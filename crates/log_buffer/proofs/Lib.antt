@@ -14,11 +14,12 @@ pub mod OnlyRead
 pub mod Causing
 pub mod Splits
 pub mod Kept
+pub mod Chances
+pub mod Prefixes
 pub mod KeptWriting
 pub mod KeptSyncs
 pub mod KeptGrowing
 pub mod KeptRemoved
-pub mod Chances
 pub mod Left
 pub mod Passing
 pub mod KeptOpening

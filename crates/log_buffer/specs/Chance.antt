@@ -1,28 +1,33 @@
 -- What a crash leaves of a log, where no torn entry passes for a whole one.
 use Rattle.std.specs.Prelude.{◌≡◌, ◌≢◌, ◌⊎◌, ◌≤◌, ◌<◌, ◌+◌, ◌==◌, ℕ, Option, Some, None, List, [], ◌∷◌, ◌++◌, length, map, take, drop}
 use Rattle.std.specs.Map.{lookup}
+use Rattle.je_bytes.specs.Reading.{AreBytes}
 use Rattle.je_disk.specs.States.{Files, Mark, State, content, cut, synced_mark}
-use Rattle.je_disk.specs.Images.{IsImage}
+use Rattle.je_disk.specs.Images.{AreFileImages}
 use Rattle.log_entry.specs.declared.entry.Entry.{Entry}
 use Rattle.log_entry.specs.declared.entry.Entry.TheVariants.{FileHeader}
 use Rattle.log_entry.specs.declared.decoder.Decoded.TheVariants.{Whole}
 use Rattle.log_entry.specs.Reading.{decoded}
 use Rattle.log_file.specs.declared.file_run.FileRun.{FileRun}
+use Rattle.log_file.specs.declared.found.Found.{Found}
 use Rattle.log_file.specs.declared.found.Found.TheVariants.{Run}
 use Rattle.log_file.specs.Scan.{found_in}
-use Rattle.log_file.specs.Log.{Log, IsLog, AreFiles, file_bytes, files_of_log, entries_of, log_in}
-use Rattle.log_buffer.specs.Crash.{KeepsLog, KeepsFront}
+use Rattle.log_file.specs.Log.{Log, IsLog, AreFiles, file_bytes, files_of_log, entries_found, entries_of, log_in}
+use Rattle.log_buffer.specs.Crash.{KeepsLog, KeepsFront, KeepsRead}
 
--- each whole entry of a file's bytes from an offset on is the one that was appended there, and none goes on behind the last of them
-abbrev pub AreAppended : ℕ → ℕ → List Entry → List ℕ → Type 0
-AreAppended prev at [] bytes = (found : Entry) (len : ℕ) → decoded bytes ≡ Whole found prev len → ⊥
-AreAppended prev at (entry ∷ entries) bytes =
-    (found : Entry) (field len : ℕ) → decoded bytes ≡ Whole found field len → (found ≡ entry) × (field ≡ prev) × AreAppended at (at + len) entries (drop len bytes)
+-- the first of these entries
+pub record IsFrontOf (all front : List Entry) : Type 0 where
+  pub more : List Entry
+  pub is : all ≡ front ++ more
 
--- no checksum matches by chance: in each of the log's files, what reads as a whole entry was appended there
-abbrev pub NoChanceMatch : Log → Files → Type 0
-NoChanceMatch log image =
-    (f : ℕ) (entries : List Entry) → lookup (λ n. n == f) log ≡ Some entries → AreAppended 0 0 (FileHeader 1 f ∷ entries) (content image f)
+-- what is found of a file in an image, beside what the disk reads there: a run of the first of the entries that are read, or else the same
+abbrev pub IsFoundOf : Found → Found → Type 0
+IsFoundOf (Run read) (Run run) = IsFrontOf read.entries run.entries
+IsFoundOf read found = found ≡ read
+
+-- No checksum matches by chance: in each file the valid prefix of the image consists of the first entries of the valid prefix that the disk reads there, or the two are found the same.
+abbrev pub NoChanceMatch : Files → Files → Type 0
+NoChanceMatch reads image = (f : ℕ) → IsFoundOf (found_in f (content reads f)) (found_in f (content image f))
 
 -- what is there of a file, if the log has it
 abbrev pub if_logged : {A B : Type 0} → Option A → Option B → Option B
@@ -78,16 +83,40 @@ pub record LeavesLog (log removed : Log) (least : ℕ) (image : Files) : Type 0 
 
 -- what a crash keeps of a log is in each image
 abbrev pub KeptIsLeft : Type 0
-KeptIsLeft = (log removed : Log) (least : ℕ) (state : State) (image : Files) → IsLog log → KeepsLog log removed least state.marks → IsImage state image → NoChanceMatch log image
+KeptIsLeft = (log removed : Log) (least : ℕ) (state : State) (image : Files) → IsLog log → KeepsRead log removed least state → AreFileImages state.marks image → NoChanceMatch state.reads image
     → LeavesLog log removed least image
 
--- files that were cut short and not changed otherwise
-abbrev pub AreCutShort : Log → Files → Type 0
-AreCutShort log image = (f : ℕ) (entries : List Entry) → lookup (λ n. n == f) log ≡ Some entries → (len : ℕ) × (content image f ≡ take len (file_bytes f entries))
+-- ---- which images meet the premise
 
--- files that were only cut short have no entry that matches by chance
+-- what the disk reads meets it, whatever that is
+abbrev pub ReadsHaveNoChance : Type 0
+ReadsHaveNoChance = (reads : Files) → NoChanceMatch reads reads
+
+-- each file has a header, or ends within it, and no other damage
+abbrev pub HaveRuns : Files → Type 0
+HaveRuns reads = (f : ℕ) → HasRun (f, content reads f)
+
+-- files that were cut short and not changed otherwise
+abbrev pub AreCutShort : Files → Files → Type 0
+AreCutShort reads image = (f : ℕ) → (len : ℕ) × (content image f ≡ take len (content reads f))
+
+-- files that were only cut short meet it
 abbrev pub CutsHaveNoChance : Type 0
-CutsHaveNoChance = (log : Log) (image : Files) → IsLog log → AreCutShort log image → NoChanceMatch log image
+CutsHaveNoChance = (reads image : Files) → HaveRuns reads → AreCutShort reads image → NoChanceMatch reads image
+
+-- each whole entry of a file's bytes from an offset on is the one of these that was appended there, and none goes on behind the last of them
+abbrev pub AreAppended : ℕ → ℕ → List Entry → List ℕ → Type 0
+AreAppended prev at [] bytes = (found : Entry) (len : ℕ) → decoded bytes ≡ Whole found prev len → ⊥
+AreAppended prev at (entry ∷ entries) bytes =
+    (found : Entry) (field len : ℕ) → decoded bytes ≡ Whole found field len → (found ≡ entry) × (field ≡ prev) × AreAppended at (at + len) entries (drop len bytes)
+
+-- in each file of an image what reads as a whole entry was appended there: it is the header, or one of the entries that the disk reads
+abbrev pub HaveAppended : Files → Files → Type 0
+HaveAppended reads image = (f : ℕ) → AreBytes (content image f) × AreAppended 0 0 (FileHeader 1 f ∷ entries_found (found_in f (content reads f))) (content image f)
+
+-- files in which no torn entry reads as a whole one meet it
+abbrev pub AppendedHaveNoChance : Type 0
+AppendedHaveNoChance = (reads image : Files) → HaveRuns reads → HaveAppended reads image → NoChanceMatch reads image
 
 -- ---- as a log is opened
 

@@ -1,10 +1,13 @@
 -- What a crash keeps of a log.
-use Rattle.std.specs.Prelude.{◌≡◌, ◌≢◌, ◌≤◌, ◌<◌, ◌+◌, ◌==◌, ◌⊎◌, ℕ, true, false, Option, Some, None, List, [], ◌∷◌, ◌++◌, length}
+use Rattle.std.specs.Prelude.{◌≡◌, ◌≢◌, ◌≤◌, ◌<◌, ◌+◌, ◌==◌, ◌⊎◌, ℕ, true, false, Option, Some, None, unwrap_or, List, [], ◌∷◌, ◌++◌, length}
 use Rattle.std.specs.Map.{lookup}
-use Rattle.je_disk.specs.States.{Files, Mark, State}
+use Rattle.je_disk.specs.States.{Files, Mark, State, content}
 use Rattle.je_disk.specs.Moments.{History, Passes}
 use Rattle.je_disk.specs.Images.{AreFileImages}
 use Rattle.log_entry.specs.declared.entry.Entry.{Entry}
+use Rattle.log_file.specs.declared.file_run.FileRun.{FileRun}
+use Rattle.log_file.specs.declared.found.Found.TheVariants.{Run}
+use Rattle.log_file.specs.Scan.{found_in}
 use Rattle.log_file.specs.Log.{Log, AreFileEntries, file_bytes, files_of_log, entries_of}
 
 -- a crash keeps a file, and these bytes at its front
@@ -49,11 +52,32 @@ pub record KeepsLog (log removed : Log) (least : ℕ) (marks : ℕ → Mark) : T
   pub others : (f : ℕ) → f ≢ at → KeepsFile removed at f (files_of_log before f) (marks f)
   pub at_least : least ≤ length (entries_of before) + length kept
 
--- at each moment since, a crash keeps at least so many of the log's entries
-abbrev pub KeptThrough : History → History → Log → Log → ℕ → Type 0
-KeptThrough old new log removed least = Passes old new (λ s. KeepsLog log removed least s.marks)
+-- the entries that a log has in a file, none where it does not have the file
+abbrev pub entries_at : Log → ℕ → List Entry
+entries_at log f = unwrap_or (lookup (λ n. n == f) log) []
 
--- the same of a disk that can go on from there: no file below `first` is being written, and what the files read as is one of the images
+-- the valid prefix of a file's bytes consists of the first of these entries
+pub record HoldsPrefix (f : ℕ) (entries : List Entry) (bytes : List ℕ) : Type 0 where
+  pub run : FileRun
+  pub found : found_in f bytes ≡ Run run
+  pub more : List Entry
+  pub is : entries ≡ run.entries ++ more
+
+-- each file reads as a prefix of what the log has in it, apart from bytes behind that are no valid entry
+abbrev pub HoldPrefixes : Log → Files → Type 0
+HoldPrefixes log reads = (f : ℕ) → HoldsPrefix f (entries_at log f) (content reads f)
+
+-- A crash keeps at least so many of the log's entries; what the files read as is one of the images that a crash may leave, and they hold prefixes of the log.
+pub record KeepsRead (log removed : Log) (least : ℕ) (state : State) : Type 0 where
+  pub keeps : KeepsLog log removed least state.marks
+  pub read : AreFileImages state.marks state.reads
+  pub prefixes : HoldPrefixes log state.reads
+
+-- the same at each moment since
+abbrev pub KeptThrough : History → History → Log → Log → ℕ → Type 0
+KeptThrough old new log removed least = Passes old new (KeepsRead log removed least)
+
+-- A crash keeps a log, and the disk can go on from there: no file below `first` is being written, and what the files read as is one of the images
 pub record KeepsFrom (log removed : Log) (least first : ℕ) (reads : Files) (marks : ℕ → Mark) : Type 0 where
   pub keeps : KeepsLog log removed least marks
   pub first_is : first ≤ keeps.at

@@ -1,5 +1,5 @@
 // What holds of all logs that entries are appended to.
-ghost use Rattle.log_buffer.specs.Chance.{KeptIsLeft, CutsHaveNoChance, CutsKeep};
+ghost use Rattle.log_buffer.specs.Chance.{AppendedHaveNoChance, CutsHaveNoChance, CutsKeep, KeptIsLeft, ReadsHaveNoChance};
 ghost use Rattle.log_buffer.specs.Laws.{AppendedIsLast, AreBounded, NeverFalls, AppendsJoin};
 
 /// An entry that is appended is the log's last one, and stands where it was placed.
@@ -15,11 +15,15 @@ pub fn files_are_bounded()
     ensures joins { AppendsJoin }
 {}
 
-/// What a crash keeps of a log is in each image of the disk where no torn entry's checksum matches by
-/// chance; in files that were only cut short none does. A log whose last file has a torn end is kept
-/// whole, before the end is cut off and afterwards.
+/// What a crash keeps of a log is in each image of the disk where no checksum matches by chance: where each
+/// file's valid prefix consists of the first entries that the disk reads there. What the disk reads is such
+/// an image, whatever it is; so are files that were only cut short, and files in which no torn entry reads
+/// as a whole one. A log whose last file has a torn end is kept whole, before the end is cut off and
+/// afterwards.
 pub fn kept_is_left()
     ensures left { KeptIsLeft }
+    ensures reads { ReadsHaveNoChance }
     ensures cuts { CutsHaveNoChance }
+    ensures appended { AppendedHaveNoChance }
     ensures opening { CutsKeep }
 {}

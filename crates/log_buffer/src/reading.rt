@@ -8,7 +8,7 @@ ghost use Rattle.log_buffer.specs.Buffer.{disk_of, end_of, file_of, first_of, ba
 ghost use Rattle.log_buffer.specs.Flip.{lsn_of};
 ghost use Rattle.log_buffer.specs.Log.{HasLog, Spells, StandsAt, log_without, log_of, log_upto};
 ghost use Rattle.log_buffer.specs.Reads.{IsOnlyRead};
-ghost use Rattle.log_buffer.specs.Crash.{Holds, KeptThrough};
+ghost use Rattle.log_buffer.specs.Crash.{Holds, KeepsLog, KeptThrough};
 ghost use Rattle.log_buffer.specs.Causes.{HasCause, FailsByFault};
 
 use crate::fetching::{entry_at, entry_in};
@@ -195,7 +195,7 @@ impl<D: Disk> LogBuffer<D> {
         ensures log { (log : Log) → HasLog D.tells (now (D.history (disk_of self.old))) self.old log → OnOk result (HasLog D.tells (now (D.history (disk_of self.new))) self.new (log_without f.0 log)) }
         ensures crash { D.tells ≡ true → (log removed : Log) (least : ℕ) (begun : Option ℕ) → HasLog D.tells (now (D.history (disk_of self.old))) self.old log → Holds log removed least begun (first_of self.old) (now (D.history (disk_of self.old)))
             → length (entries_of (log_upto f.0 log)) < least
-            → KeptThrough (D.history (disk_of self.old)) (D.history (disk_of self.new)) (log_without f.0 log) (log_of f.0 log ++ removed) (least - length (entries_of (log_of f.0 log))) }
+            → Passes (D.history (disk_of self.old)) (D.history (disk_of self.new)) (λ s. KeepsLog (log_without f.0 log) (log_of f.0 log ++ removed) (least - length (entries_of (log_of f.0 log))) s.marks) }
         ensures holds { D.tells ≡ true → (log removed : Log) (least : ℕ) (begun : Option ℕ) → HasLog D.tells (now (D.history (disk_of self.old))) self.old log → Holds log removed least begun (first_of self.old) (now (D.history (disk_of self.old)))
             → length (entries_of (log_upto f.0 log)) < least
             → OnOk result (Holds (log_without f.0 log) (log_of f.0 log ++ removed) (least - length (entries_of (log_of f.0 log))) (option_map (λ n. n - length (entries_of (log_of f.0 log))) begun) (first_of self.new) (now (D.history (disk_of self.new)))) }

@@ -6,7 +6,7 @@ ghost use Rattle.je_disk.specs.States.{synced, synced_marks, IsEither};
 ghost use Rattle.log_file.specs.Log.{Log, entries_of};
 ghost use Rattle.log_buffer.specs.Buffer.{disk_of, first_of, end_of, last_of, file_max_of, has_failed, IsWritten, KeepsTail};
 ghost use Rattle.log_buffer.specs.Log.{HasLog, ReadAs};
-ghost use Rattle.log_buffer.specs.Crash.{KeepsLog, Holds, KeptThrough};
+ghost use Rattle.log_buffer.specs.Crash.{KeepsRead, Holds, KeptThrough};
 ghost use Rattle.log_buffer.specs.Causes.{HasCause, FailsByFault};
 
 use crate::{LogBuffer, LogErr};
@@ -82,7 +82,7 @@ impl<D: Disk> LogBuffer<D> {
         ensures stable { D.tells ≡ true → OnOk result.1 ((now (D.history result.0)).marks ≡ synced_marks (now (D.history result.0)).reads) }
         ensures crash { D.tells ≡ true → (log removed : Log) (least : ℕ) (begun : Option ℕ) → HasLog D.tells (now (D.history (disk_of self))) self log → Holds log removed least begun (first_of self) (now (D.history (disk_of self)))
             → KeptThrough (D.history (disk_of self)) (D.history result.0) log removed least }
-        ensures kept { D.tells ≡ true → (log : Log) → HasLog D.tells (now (D.history (disk_of self))) self log → OnOk result.1 (KeepsLog log [] (length (entries_of log)) (now (D.history result.0)).marks) }
+        ensures kept { D.tells ≡ true → (log : Log) → HasLog D.tells (now (D.history (disk_of self))) self log → OnOk result.1 (KeepsRead log [] (length (entries_of log)) (now (D.history result.0))) }
         ensures by_fault { FailsByFault result.1 }
         ensures never_falls { D.faults (disk_of self) ≤ D.faults result.0 }
         ensures fault { has_failed self ≡ false → OnErr result.1 (Rose (D.faults (disk_of self)) (D.faults result.0)) }

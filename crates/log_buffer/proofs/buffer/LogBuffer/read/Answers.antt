@@ -7,6 +7,7 @@ use Rattle.log_buffer.specs.declared.error.LogErr.{LogErr}
 use Rattle.log_buffer.specs.Buffer.{first_of}
 use Rattle.log_buffer.specs.Crash.{Holds}
 use Rattle.log_buffer.proofs.KeptSyncs.{same_through}
+use Rattle.log_buffer.proofs.Prefixes.{told_prefixes}
 use Rattle.log_buffer.proofs.Still.{log_still}
 use Rattle.log_buffer.proofs.Causing.{found_is, found_not_full, cause_found}
 use Rattle.log_buffer.proofs.buffer.LogBuffer.read.Goals as goal
@@ -24,10 +25,10 @@ returns-clause-holds g c =
     (subst (Holds log removed least begun (first_of c.args.self.now)) (sym (c.look.ensures.only_read.same told)) h)
 
 pub returns-in_err-look-clause-crash : goal.returns-in_err-look-clause-crash
-returns-in_err-look-clause-crash g c = λ told log removed least begun has h. same_through log removed least (first_of c.args.self.now) begun _ _ (c.look.ensures.only_read.moments told) h
+returns-in_err-look-clause-crash g c = λ told log removed least begun has h. same_through log removed least (first_of c.args.self.now) begun _ _ (c.look.ensures.only_read.moments told) (told_prefixes g.D.Disk.tells _ c.args.self.now log told has) h
 
 pub returns-clause-crash : goal.returns-clause-crash
-returns-clause-crash g c = λ told log removed least begun has h. same_through log removed least (first_of c.args.self.now) begun _ _ (c.look.ensures.only_read.moments told) h
+returns-clause-crash g c = λ told log removed least begun has h. same_through log removed least (first_of c.args.self.now) begun _ _ (c.look.ensures.only_read.moments told) (told_prefixes g.D.Disk.tells _ c.args.self.now log told has) h
 
 pub returns-clause-found : goal.returns-clause-found
 returns-clause-found g c =

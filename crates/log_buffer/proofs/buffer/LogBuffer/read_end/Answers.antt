@@ -3,6 +3,7 @@ use Rattle.je_disk.specs.States.{State}
 use Rattle.log_buffer.specs.Buffer.{first_of}
 use Rattle.log_buffer.specs.Crash.{Holds}
 use Rattle.log_buffer.proofs.KeptSyncs.{same_through}
+use Rattle.log_buffer.proofs.Prefixes.{told_prefixes}
 use Rattle.log_buffer.proofs.Still.{log_still, tail_over, tail_same}
 use Rattle.log_buffer.proofs.Causing.{cause_ok, cause_failed, cause_judged, judged_not}
 use Rattle.log_buffer.proofs.buffer.LogBuffer.read_end.Goals as goal
@@ -12,7 +13,7 @@ returns-in-Ok-clause-log g c =
     λ log has. log_still g.D.Disk.tells _ _ c.args.self.now _ log (λ told. ap (λ (s : State). s.reads) (c.end_read.ensures.same told)) (tail_over c.args.self.now) has
 
 pub returns-in-Ok-clause-crash : goal.returns-in-Ok-clause-crash
-returns-in-Ok-clause-crash g c = λ told log removed least begun has h. same_through log removed least (first_of c.args.self.now) begun _ _ (c.end_read.ensures.moments told) h
+returns-in-Ok-clause-crash g c = λ told log removed least begun has h. same_through log removed least (first_of c.args.self.now) begun _ _ (c.end_read.ensures.moments told) (told_prefixes g.D.Disk.tells _ c.args.self.now log told has) h
 
 pub returns-in-Ok-clause-holds : goal.returns-in-Ok-clause-holds
 returns-in-Ok-clause-holds g c = λ told log removed least begun has h. subst (Holds log removed least begun (first_of c.args.self.now)) (sym (c.end_read.ensures.same told)) h
@@ -25,7 +26,7 @@ returns-in-Err-clause-log g c =
     λ log has. log_still g.D.Disk.tells _ _ c.args.self.now _ log (λ told. ap (λ (s : State). s.reads) (c.end_read.ensures.same told)) (tail_over c.args.self.now) has
 
 pub returns-in-Err-clause-crash : goal.returns-in-Err-clause-crash
-returns-in-Err-clause-crash g c = λ told log removed least begun has h. same_through log removed least (first_of c.args.self.now) begun _ _ (c.end_read.ensures.moments told) h
+returns-in-Err-clause-crash g c = λ told log removed least begun has h. same_through log removed least (first_of c.args.self.now) begun _ _ (c.end_read.ensures.moments told) (told_prefixes g.D.Disk.tells _ c.args.self.now log told has) h
 
 pub returns-in-Err-clause-holds : goal.returns-in-Err-clause-holds
 returns-in-Err-clause-holds g c = λ told log removed least begun has h. subst (Holds log removed least begun (first_of c.args.self.now)) (sym (c.end_read.ensures.same told)) h

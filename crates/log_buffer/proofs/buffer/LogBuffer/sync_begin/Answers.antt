@@ -6,6 +6,7 @@ use Rattle.log_file.specs.Log.{entries_of}
 use Rattle.log_buffer.specs.Buffer.{file_of, offset_of, last_of, first_of}
 use Rattle.log_buffer.specs.Crash.{Holds}
 use Rattle.log_buffer.proofs.KeptSyncs.{holds_begun, begun_through}
+use Rattle.log_buffer.proofs.Prefixes.{told_prefixes}
 use Rattle.log_buffer.proofs.Still.{log_still, tail_over}
 use Rattle.log_buffer.proofs.Causing.{cause_err, err_is, failed_not, cause_then_ok, cause_then_fault}
 use Rattle.log_buffer.proofs.buffer.LogBuffer.sync_begin.Goals as goal
@@ -30,14 +31,16 @@ returns-in-Ok-clause-crash g c =
     let written = c.write_out.new.self in
     λ told log removed least begun has h.
     begun_through log removed least (first_of written) begun (g.D.Disk.history c.args.self.now.disk) (g.D.Disk.history written.disk) (g.D.Disk.history c.begin_sync.new.self)
-    (c.write_out.ensures.crash told log removed least begun has h) (c.in_ok-write_out.ensures.holds told log removed least begun has h) (c.begin_sync.ensures.moments told)
+    (c.write_out.ensures.crash told log removed least begun has h) (told_prefixes g.D.Disk.tells _ written log told (c.in_ok-write_out.ensures.log log has)) (c.in_ok-write_out.ensures.holds told log removed least begun has h)
+    (c.begin_sync.ensures.moments told)
 
 pub returns-in-Err-clause-crash : goal.returns-in-Err-clause-crash
 returns-in-Err-clause-crash g c =
     let written = c.write_out.new.self in
     λ told log removed least begun has h.
     begun_through log removed least (first_of written) begun (g.D.Disk.history c.args.self.now.disk) (g.D.Disk.history written.disk) (g.D.Disk.history c.begin_sync.new.self)
-    (c.write_out.ensures.crash told log removed least begun has h) (c.in_ok-write_out.ensures.holds told log removed least begun has h) (c.begin_sync.ensures.moments told)
+    (c.write_out.ensures.crash told log removed least begun has h) (told_prefixes g.D.Disk.tells _ written log told (c.in_ok-write_out.ensures.log log has)) (c.in_ok-write_out.ensures.holds told log removed least begun has h)
+    (c.begin_sync.ensures.moments told)
 
 pub returns-in-Ok-clause-cause : goal.returns-in-Ok-clause-cause
 returns-in-Ok-clause-cause g c = cause_then_ok _ _ _ _ _ c.write_out.result _ _ c.in_ok-write_out.was c.write_out.ensures.cause c.begin_sync.ensures.cause.never_falls

@@ -4,6 +4,7 @@ use Rattle.je_disk.specs.Moments.{now}
 use Rattle.log_buffer.specs.Buffer.{first_of}
 use Rattle.log_buffer.specs.Crash.{Holds}
 use Rattle.log_buffer.proofs.KeptSyncs.{holds_ended, ended_through}
+use Rattle.log_buffer.proofs.Prefixes.{told_prefixes}
 use Rattle.log_buffer.proofs.Still.{log_still, tail_over, tail_same}
 use Rattle.log_buffer.proofs.Causing.{cause_ok, cause_failed, cause_fault}
 use Rattle.log_buffer.proofs.buffer.LogBuffer.sync_end.Goals as goal
@@ -19,13 +20,13 @@ returns-in-Ok-clause-log g c =
     λ log has. log_still g.D.Disk.tells (now (g.D.Disk.history c.args.self.now.disk)) _ c.args.self.now _ log (λ told. ap (λ (s : State). s.reads) (c.in-Ok.ensures.done told)) (tail_over c.args.self.now) has
 
 pub returns-in-Ok-clause-crash : goal.returns-in-Ok-clause-crash
-returns-in-Ok-clause-crash g c = λ told log removed least begun has h. ended_through log removed least (first_of c.args.self.now) begun (g.D.Disk.history c.args.self.now.disk) (g.D.Disk.history c.end_sync.new.self) h (c.end_sync.ensures.moments told)
+returns-in-Ok-clause-crash g c = λ told log removed least begun has h. ended_through log removed least (first_of c.args.self.now) begun (g.D.Disk.history c.args.self.now.disk) (g.D.Disk.history c.end_sync.new.self) (told_prefixes g.D.Disk.tells _ c.args.self.now log told has) h (c.end_sync.ensures.moments told)
 
 pub returns-in-Ok-clause-kept : goal.returns-in-Ok-clause-kept
 returns-in-Ok-clause-kept g c = tail_over c.args.self.now
 
 pub returns-in-Err-clause-crash : goal.returns-in-Err-clause-crash
-returns-in-Err-clause-crash g c = λ told log removed least begun has h. ended_through log removed least (first_of c.args.self.now) begun (g.D.Disk.history c.args.self.now.disk) (g.D.Disk.history c.end_sync.new.self) h (c.end_sync.ensures.moments told)
+returns-in-Err-clause-crash g c = λ told log removed least begun has h. ended_through log removed least (first_of c.args.self.now) begun (g.D.Disk.history c.args.self.now.disk) (g.D.Disk.history c.end_sync.new.self) (told_prefixes g.D.Disk.tells _ c.args.self.now log told has) h (c.end_sync.ensures.moments told)
 
 pub returns-in-Err-clause-kept : goal.returns-in-Err-clause-kept
 returns-in-Err-clause-kept g c = tail_over c.args.self.now

@@ -1,13 +1,11 @@
-use Rattle.std.proofs.Common.{ℕ, ◌≤◌, arith, inr, refl, ap, ◌∙◌, length}
+use Rattle.std.proofs.Common.{[], inr, refl, sym, ap, ◌∙◌}
+use Rattle.std.proofs.lemmas.List.{append-nil}
 use Rattle.je_disk.proofs.Moments.{passes_none}
 use Rattle.mem_disk.specs.declared.change.Change.TheVariants.{Append}
 use Rattle.mem_disk.specs.Replay.{history_of}
 use Rattle.mem_disk.proofs.Calling.{call_failed, no_fault, late_fault, due_at, no_ok, at_error, passes_same}
 use Rattle.mem_disk.proofs.Replaying.{pushed_now, pushed_passes}
 use Rattle.mem_disk.proofs.memory.MemDiskDisk.append.Goals as goal
-
-whole : (n : ℕ) → n ≤ n
-whole n = omega arith
 
 pub returns-in_err-call : goal.returns-in_err-call
 returns-in_err-call c = record {
@@ -26,7 +24,7 @@ returns-in_err-call c = record {
 pub returns-in-Ok : goal.returns-in-Ok
 returns-in-Ok c = record {
   done = pushed_now _ _ (Append c.args.f c.args.bytes.now) c.in-Ok.ensures.ok;
-  moments = pushed_passes _ _ (Append c.args.f c.args.bytes.now) _ c.in-Ok.ensures.ok (inr (c.args.bytes.now, whole (length c.args.bytes.now), refl));
+  moments = pushed_passes _ _ (Append c.args.f c.args.bytes.now) _ c.in-Ok.ensures.ok (inr (c.args.bytes.now, [], sym (append-nil c.args.bytes.now), refl));
   sync_out = refl;
   read_out = refl;
   read_of = refl;

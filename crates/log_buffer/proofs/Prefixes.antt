@@ -1,0 +1,173 @@
+-- The files of a disk hold prefixes of the log, at each moment at which it is written.
+use Rattle.std.proofs.Common.{◌≡◌, ℕ, ◌+◌, ◌<◌, ◌≤◌, ◌^◌, ◌==◌, Bool, true, false, cond, List, [], ◌∷◌, ◌++◌, Option, Some, None, length, take, refl, sym, ap, subst, ◌∙◌, append_assoc, arith, option_map, ◌⊎◌, inl, inr}
+use Rattle.std.specs.Prelude.{unwrap_or}
+use Rattle.std.specs.Map.{lookup}
+use Rattle.std.proofs.lemmas.Bool.{cases_lt, eqb-true}
+use Rattle.std.proofs.lemmas.List.{append-nil, take_at}
+use Rattle.je_disk.specs.States.{State, Files, appended, appended_by, content, created, created_by}
+use Rattle.log_entry.specs.declared.entry.Entry.{Entry}
+use Rattle.log_entry.specs.declared.decoder.Decoded.TheVariants.{Torn as NotWhole}
+use Rattle.log_entry.specs.declared.decoder.Torn.TheVariants.{Short}
+use Rattle.log_entry.specs.Reading.{decoded}
+use Rattle.log_file.specs.declared.found.Found.TheVariants.{Run}
+use Rattle.log_file.specs.Scan.{found_by, found_in, no_run, run_with}
+use Rattle.log_file.specs.Log.{Log, IsLog, AreFileEntries, file_bytes, files_of_log}
+use Rattle.log_file.proofs.FoundLaws.{are_found_again}
+use Rattle.log_buffer.specs.declared.buffer.LogBuffer.{LogBuffer}
+use Rattle.log_buffer.specs.Buffer.{joined, tail_of}
+use Rattle.log_buffer.specs.Crash.{HoldsPrefix, HoldPrefixes, entries_at}
+use Rattle.log_buffer.specs.Log.{HasLog, log_with}
+use Rattle.log_buffer.specs.Writing.{IsTailOf}
+use Rattle.log_buffer.proofs.Chances.{cut_prefix, log_file_at}
+use Rattle.log_buffer.proofs.Kept.{ReadUpTo}
+
+-- ---- one file
+
+pub nothing_torn : decoded [] ≡ NotWhole Short
+unfolding decoded
+nothing_torn = refl
+
+-- a file that was spelled, with nothing behind it
+pub found_alone : (f : ℕ) (entries : List Entry) → f < 2 ^ 32 → AreFileEntries entries → found_in f (file_bytes f entries) ≡ Run (run_with entries)
+found_alone f entries lt ok = ap (found_in f) (sym (append-nil (file_bytes f entries))) ∙ are_found_again f entries [] Short lt ok nothing_torn
+
+empty_prefix : (f : ℕ) (entries : List Entry) → HoldsPrefix f entries []
+empty_prefix f entries = record { run = no_run; found = ap (found_by f []) nothing_torn; more = entries; is = refl }
+
+-- what a log has in a file begins with these bytes, or they are none
+abbrev IsCutOf : Log → ℕ → List ℕ → Type 0
+IsCutOf log f bytes = (bytes ≡ []) ⊎ ((es : List Entry) × (rest : List ℕ) × (lookup (λ n. n == f) log ≡ Some es) × (file_bytes f es ≡ bytes ++ rest))
+
+cut_holds : (log : Log) (f : ℕ) (bytes : List ℕ) → IsLog log → IsCutOf log f bytes → HoldsPrefix f (entries_at log f) bytes
+cut_holds log f bytes is (inl none) = subst (HoldsPrefix f (entries_at log f)) (sym none) (empty_prefix f (entries_at log f))
+cut_holds log f bytes is (inr cut) =
+    let ok = log_file_at log f cut.0 is.each cut.2 in
+    let front : take (length bytes) (file_bytes f cut.0) ≡ bytes = ap (take (length bytes)) cut.3 ∙ take_at bytes cut.1 (length bytes) refl in
+    subst (λ (es : List Entry). HoldsPrefix f es bytes) (sym (ap (λ (o : Option (List Entry)). unwrap_or o []) cut.2))
+    (subst (HoldsPrefix f cut.0) front (cut_prefix f (length bytes) (file_bytes f cut.0) (run_with cut.0) (found_alone f cut.0 ok.0 ok.1)))
+
+-- a file and what follows it in the tail are all that the log has there, or it has none
+record IsNone (log : Log) (f : ℕ) (there tail : List ℕ) : Type 0 where
+  there_is : there ≡ []
+  tail_is : tail ≡ []
+
+record IsAll (log : Log) (f : ℕ) (there tail : List ℕ) : Type 0 where
+  entries : List Entry
+  found : lookup (λ n. n == f) log ≡ Some entries
+  is : file_bytes f entries ≡ there ++ tail
+
+joined_all : (log : Log) (f : ℕ) (there : Option (List ℕ)) (tail : List ℕ) → joined there tail ≡ files_of_log log f → IsNone log f (unwrap_or there []) tail ⊎ IsAll log f (unwrap_or there []) tail
+joined_all log f there tail is = by_parts (lookup (λ n. n == f) log) tail refl is where
+  some_same : (x y : List ℕ) → (let o : Option (List ℕ) = Some x in o) ≡ Some y → x ≡ y
+  some_same x y e = cc
+
+  by_parts : (o : Option (List Entry)) (t : List ℕ) → lookup (λ n. n == f) log ≡ o → joined there t ≡ option_map (file_bytes f) o → IsNone log f (unwrap_or there []) t ⊎ IsAll log f (unwrap_or there []) t
+  by_parts None [] e same = inl (record { there_is = ap (λ (x : Option (List ℕ)). unwrap_or x []) same; tail_is = refl })
+  by_parts None (b ∷ t) e same = absurd cc
+  by_parts (Some es) [] e same = inr (record { entries = es; found = e; is = sym (ap (λ (x : Option (List ℕ)). unwrap_or x []) same) ∙ sym (append-nil (unwrap_or there [])) })
+  by_parts (Some es) (b ∷ t) e same = inr (record { entries = es; found = e; is = sym (some_same (unwrap_or there [] ++ b ∷ t) (file_bytes f es) same) })
+
+joined_cut : (log : Log) (f : ℕ) (there : Option (List ℕ)) (tail : List ℕ) → joined there tail ≡ files_of_log log f → IsCutOf log f (unwrap_or there [])
+joined_cut log f there tail is = by_all (joined_all log f there tail is) where
+  by_all : IsNone log f (unwrap_or there []) tail ⊎ IsAll log f (unwrap_or there []) tail → IsCutOf log f (unwrap_or there [])
+  by_all (inl none) = inl none.there_is
+  by_all (inr all) = inr (all.entries, tail, all.found, all.is)
+
+-- the same with the first of the bytes that are to follow it
+part_cut : (log : Log) (f : ℕ) (there : Option (List ℕ)) (bytes part rest : List ℕ) → bytes ≡ part ++ rest → joined there bytes ≡ files_of_log log f → IsCutOf log f (unwrap_or there [] ++ part)
+part_cut log f there bytes part rest parts is = by_all (joined_all log f there bytes is) where
+  no_part : (p : List ℕ) → [] ≡ p ++ rest → p ≡ []
+  no_part [] e = refl
+  no_part (b ∷ p) e = absurd cc
+
+  by_all : IsNone log f (unwrap_or there []) bytes ⊎ IsAll log f (unwrap_or there []) bytes → IsCutOf log f (unwrap_or there [] ++ part)
+  by_all (inl none) = inl (ap (λ (x : List ℕ). x ++ part) none.there_is ∙ no_part part (sym none.tail_is ∙ parts))
+  by_all (inr all) = inr (all.entries, rest, all.found, all.is ∙ ap (λ (x : List ℕ). unwrap_or there [] ++ x) parts ∙ sym (append_assoc (unwrap_or there []) part rest))
+
+-- ---- all files
+
+pub tail_prefixes : (log : Log) (reads : Files) (tail : ℕ → List ℕ) → IsLog log → ((f : ℕ) → joined (reads f) (tail f) ≡ files_of_log log f) → HoldPrefixes log reads
+tail_prefixes log reads tail is told f = cut_holds log f (content reads f) is (joined_cut log f (reads f) (tail f) (told f))
+
+-- files that read as a log
+pub read_prefixes : (log : Log) (reads : Files) → IsLog log → ((f : ℕ) → reads f ≡ files_of_log log f) → HoldPrefixes log reads
+read_prefixes log reads is read = tail_prefixes log reads (λ _. []) is read
+
+-- the files below a buffer that has a log
+pub told_prefixes : {D : Type 0} (tells : Bool) (state : State) (buffer : LogBuffer D) (log : Log) → tells ≡ true → HasLog tells state buffer log → HoldPrefixes log state.reads
+told_prefixes tells state buffer log told has = tail_prefixes log state.reads (tail_of buffer) has.is_log (has.told told)
+
+-- files of which the first ones are whole and the others are not there
+pub upto_prefixes : (log : Log) (n : ℕ) (reads : Files) → IsLog log → ReadUpTo log n reads → HoldPrefixes log reads
+upto_prefixes log n reads is read f = by_order (cases_lt n f) where
+  by_order : (n < f) ⊎ (f ≤ n) → HoldsPrefix f (entries_at log f) (content reads f)
+  by_order (inl past) = subst (HoldsPrefix f (entries_at log f)) (sym (ap (λ (o : Option (List ℕ)). unwrap_or o []) (read.beyond f past))) (empty_prefix f (entries_at log f))
+  by_order (inr within) = cut_holds log f (content reads f) is (joined_cut log f (reads f) [] (read.upto f within))
+
+-- an empty file was made
+pub created_prefixes : (log : Log) (f : ℕ) (s : State) → HoldPrefixes log s.reads → HoldPrefixes log (created f s).reads
+created_prefixes log f s holds g = by_there (s.reads f) where
+  by_file : (b : Bool) → HoldsPrefix g (entries_at log g) (unwrap_or (cond b (Some []) (s.reads g)) [])
+  by_file true = empty_prefix g (entries_at log g)
+  by_file false = holds g
+
+  by_there : (there : Option (List ℕ)) → HoldsPrefix g (entries_at log g) (content (created_by there f s).reads g)
+  by_there None = by_file (g == f)
+  by_there (Some there) = holds g
+
+appended_content : (f : ℕ) (part : List ℕ) (s : State) (g : ℕ) → content (appended f part s).reads g ≡ cond (g == f) (content s.reads f ++ part) (content s.reads g)
+appended_content f part s g = by_there (s.reads f) where
+  by_file : (b : Bool) (x : List ℕ) → unwrap_or (cond b (Some x) (s.reads g)) [] ≡ cond b x (content s.reads g)
+  by_file true x = refl
+  by_file false x = refl
+
+  by_there : (there : Option (List ℕ)) → content (appended_by there f part s).reads g ≡ cond (g == f) (unwrap_or there [] ++ part) (content s.reads g)
+  by_there None = by_file (g == f) part
+  by_there (Some there) = by_file (g == f) (there ++ part)
+
+-- the first of the bytes that are to follow a file were put there
+pub grown_prefixes : (log : Log) (f : ℕ) (bytes part rest : List ℕ) (s : State) → IsLog log → HoldPrefixes log s.reads → bytes ≡ part ++ rest → joined (s.reads f) bytes ≡ files_of_log log f →
+    HoldPrefixes log (appended f part s).reads
+grown_prefixes log f bytes part rest s is holds parts told g = subst (HoldsPrefix g (entries_at log g)) (sym (appended_content f part s g)) (by_file (g == f) refl) where
+  here : HoldsPrefix f (entries_at log f) (content s.reads f ++ part)
+  here = cut_holds log f (content s.reads f ++ part) is (part_cut log f (s.reads f) bytes part rest parts told)
+
+  by_file : (b : Bool) → (g == f) ≡ b → HoldsPrefix g (entries_at log g) (cond b (content s.reads f ++ part) (content s.reads g))
+  by_file true same = subst (λ (n : ℕ). HoldsPrefix n (entries_at log n) (content s.reads f ++ part)) (sym (eqb-true _ _ same)) here
+  by_file false other = holds g
+
+-- ---- a longer log
+
+-- a log with an entry more has what it had in each file, and maybe more behind
+record HasMore (f : ℕ) (log longer : Log) : Type 0 where
+  more : List Entry
+  is : entries_at longer f ≡ entries_at log f ++ more
+
+more_at : (f : ℕ) (entry : Entry) (log : Log) (g : ℕ) → HasMore g log (log_with f entry log)
+more_at f entry [] g = record { more = entries_at ((f, entry ∷ []) ∷ []) g; is = refl }
+more_at f entry (file ∷ log) g = by_file (file.0 == f) refl (more_at f entry log g) where
+  others : Option (List Entry)
+  others = lookup (λ n. n == g) log
+
+  in_file : (b : Bool) → unwrap_or (cond b (Some (file.1 ++ entry ∷ [])) others) [] ≡ unwrap_or (cond b (Some file.1) others) [] ++ cond b (entry ∷ []) []
+  in_file true = refl
+  in_file false = sym (append-nil (unwrap_or others []))
+
+  behind : (rest : HasMore g log (log_with f entry log)) → (b : Bool) →
+      unwrap_or (cond b (Some file.1) (lookup (λ n. n == g) (log_with f entry log))) [] ≡ unwrap_or (cond b (Some file.1) others) [] ++ cond b [] rest.more
+  behind rest true = sym (append-nil file.1)
+  behind rest false = rest.is
+
+  by_file : (b : Bool) → (file.0 == f) ≡ b → HasMore g log (log_with f entry log) → HasMore g (file ∷ log) (cond b ((f, file.1 ++ entry ∷ []) ∷ log) (file ∷ log_with f entry log))
+  by_file true same rest = record {
+    more = cond (file.0 == g) (entry ∷ []) [];
+    is = subst (λ (n : ℕ). unwrap_or (cond (n == g) (Some (file.1 ++ entry ∷ [])) others) [] ≡ unwrap_or (cond (file.0 == g) (Some file.1) others) [] ++ cond (file.0 == g) (entry ∷ []) []) (eqb-true _ _ same)
+        (in_file (file.0 == g));
+  }
+  by_file false other rest = record { more = cond (file.0 == g) [] rest.more; is = behind rest (file.0 == g) }
+
+pub prefixes_grow : (f : ℕ) (entry : Entry) (log : Log) (reads : Files) → HoldPrefixes log reads → HoldPrefixes (log_with f entry log) reads
+prefixes_grow f entry log reads holds g =
+    let here = holds g in
+    let more = more_at f entry log g in
+    record { run = here.run; found = here.found; more = here.more ++ more.more; is = more.is ∙ ap (λ (l : List Entry). l ++ more.more) here.is ∙ append_assoc here.run.entries here.more more.more }
