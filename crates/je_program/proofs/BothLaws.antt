@@ -11,19 +11,36 @@ use Rattle.log_file.specs.Scan.{may_follow}
 use Rattle.log_buffer.specs.declared.buffer.LogBuffer.{LogBuffer}
 use Rattle.log_buffer.specs.declared.place.Place.{Place}
 use Rattle.log_buffer.specs.Buffer.{end_of, file_max_of, first_of, last_of}
-use Rattle.log_buffer.specs.Crash.{Holds, KeepsLog, KeptThrough}
+use Rattle.log_buffer.specs.Crash.{Holds, KeepsRead, KeptThrough}
 use Rattle.log_buffer.specs.Flip.{end_after, end_after_all, placed_at}
 use Rattle.log_buffer.specs.Log.{HasLog, log_with}
+use Rattle.log_buffer.proofs.Prefixes.{prefixes_grow}
 use Rattle.je_program.specs.declared.kept.TheConstants.{LAST_FILE}
-use Rattle.je_program.specs.Crash.{IsKeeping, log_with_all}
+use Rattle.je_program.specs.Guarded.{IsKeeping, log_with_all}
 use Rattle.je_program.proofs.GrownLaws.{IsLongerByBoth, longer_by_both}
+
+-- a log with one entry is kept, and so is the log with both
+second_read : (most : ℕ) (end : Place) (a b : Entry) (log : Log) (least : ℕ) (s : State) → IsLongerByBoth most end a b log → KeepsRead (log_with (placed_at most end (size_of a)).file a log) [] least s →
+    KeepsRead (log_with_all most end (a ∷ b ∷ []) log) [] least s
+second_read most end a b log least s both k = record {
+  keeps = both.keeps_second least s.marks k.keeps;
+  read = k.read;
+  prefixes = prefixes_grow (placed_at most (end_after most end (size_of a)) (size_of b)).file b (log_with (placed_at most end (size_of a)).file a log) s.reads k.prefixes;
+}
+
+pub both_read : (most : ℕ) (end : Place) (a b : Entry) (log : Log) (least : ℕ) (s : State) → IsLongerByBoth most end a b log → KeepsRead log [] least s → KeepsRead (log_with_all most end (a ∷ b ∷ []) log) [] least s
+both_read most end a b log least s both k = second_read most end a b log least s both (record {
+  keeps = both.keeps_first least s.marks k.keeps;
+  read = k.read;
+  prefixes = prefixes_grow (placed_at most end (size_of a)).file a log s.reads k.prefixes;
+})
 
 -- through an append of the first entry alone
 pub first_through : (most : ℕ) (end : Place) (a b : Entry) (log : Log) (least : ℕ) (old new : History) → IsLongerByBoth most end a b log →
     KeptThrough old new (log_with (placed_at most end (size_of a)).file a log) [] least → KeptThrough old new (log_with_all most end (a ∷ b ∷ []) log) [] least
 first_through most end a b log least old new both through =
-    passes_weaken old new (λ (s : State). KeepsLog (log_with (placed_at most end (size_of a)).file a log) [] least s.marks) (λ (s : State). KeepsLog (log_with_all most end (a ∷ b ∷ []) log) [] least s.marks)
-    (λ s k. both.keeps_second least s.marks k) through
+    passes_weaken old new (KeepsRead (log_with (placed_at most end (size_of a)).file a log) [] least) (KeepsRead (log_with_all most end (a ∷ b ∷ []) log) [] least)
+    (λ s k. second_read most end a b log least s both k) through
 
 -- the log with the second entry too, by the numbers that the buffer has then
 pub second_is : (most m : ℕ) (end e : Place) (a b : Entry) (log : Log) → m ≡ most → e ≡ end_after most end (size_of a) →
@@ -36,7 +53,7 @@ second_is most m end e a b log max at =
 pub both_through : (most : ℕ) (end : Place) (a b : Entry) (log longer : Log) (least : ℕ) (old middle new : History) → IsLongerByBoth most end a b log → longer ≡ log_with_all most end (a ∷ b ∷ []) log →
     KeptThrough old middle (log_with (placed_at most end (size_of a)).file a log) [] least → KeptThrough middle new longer [] least → KeptThrough old new (log_with_all most end (a ∷ b ∷ []) log) [] least
 both_through most end a b log longer least old middle new both same first second =
-    passes_then old middle new (λ (s : State). KeepsLog (log_with_all most end (a ∷ b ∷ []) log) [] least s.marks)
+    passes_then old middle new (KeepsRead (log_with_all most end (a ∷ b ∷ []) log) [] least)
     (first_through most end a b log least old middle both first) (subst (λ (l : Log). KeptThrough middle new l [] least) same second)
 
 module _ {D : Type 0} where

@@ -26,7 +26,7 @@ use Rattle.log_entry.specs.declared.entry.Entry.TheVariants.{Commit}
 use Rattle.log_file.specs.Log.{Log, entries_of}
 use Rattle.log_buffer.specs.declared.buffer.LogBuffer.{LogBuffer}
 use Rattle.log_buffer.specs.declared.place.Place.{Place}
-use Rattle.log_buffer.specs.Crash.{KeepsLog, KeptThrough}
+use Rattle.log_buffer.specs.Crash.{KeepsRead, KeptThrough}
 use Rattle.log_buffer.specs.Buffer.{has_failed, last_of}
 use Rattle.log_buffer.specs.Flip.{end_after_all}
 use Rattle.log_buffer.specs.Log.{EndsAt}
@@ -41,7 +41,8 @@ use Rattle.crash_meaning.specs.Recovery.{Recovers, commits_in}
 use Rattle.crash_meaning.proofs.Recoveries.{commits-front, longer_logs_recover}
 use Rattle.je_program.specs.declared.kept.Kept.{Kept}
 use Rattle.je_program.specs.Environment.{IsAt, IsAtEnd, IsValid, log_rule, place_of, log_end_of}
-use Rattle.je_program.specs.Crash.{log_with_all, number_for, entries_for, log_by, log_by_call, log_after, AreSafeEvents, Follows, IsKept, IsKeeping, IsGuarded, GoesOnSafely, LogsSafely}
+use Rattle.je_program.specs.Crash.{AreSafeEvents, Follows}
+use Rattle.je_program.specs.Guarded.{log_with_all, number_for, entries_for, log_by, log_by_call, log_after, IsKept, IsKeeping, IsGuarded, GoesOnSafely, LogsSafely}
 use Rattle.je_program.specs.Logging.{entries_logged}
 use Rattle.je_program.specs.Planning.{IsLogged}
 use Rattle.je_program.specs.declared.kept.TheConstants.{LAST_FILE}
@@ -49,8 +50,9 @@ use Rattle.je_program.specs.Steps.{GoesOn, LogsChange}
 use Rattle.je_program.proofs.GrownLaws.{IsLongerByBoth, longer_by_both}
 use Rattle.je_program.proofs.LoggingLaws.{sizes_are}
 use Rattle.je_program.proofs.RunLaws.{logged_valid}
-use Rattle.je_program.proofs.GuardLaws.{one_log}
-use Rattle.je_program.proofs.SafeLaws.{guarded_on, log_after-append, attempts-push}
+use Rattle.je_program.proofs.BothLaws.{both_read}
+use Rattle.je_program.proofs.GuardLaws.{keeping_read, one_log}
+use Rattle.je_program.proofs.SafeLaws.{fault_stands, guarded_on, log_after-append, attempts-push}
 
 -- ---- the log with the call's transaction
 
@@ -119,7 +121,7 @@ module _ {D : Type 0} where
         synced = subst (λ (n : ℕ). synced_of journal ≤ n)
             (sym (ap (commits_in (length (entries_of log)) g.least) entries
             ∙ commits-front (length (entries_of log)) g.least (entries_of now_log) (entry_of (kept.last_txn + 1) number change ∷ Commit (record { 0 = kept.last_txn + 1 }) ∷ [])
-            (count_kept now_log [] g.least (now history).marks g.kept.keeps)))
+            (count_kept now_log [] g.least (now history).marks g.kept.keeps.keeps)))
             g.kept.synced;
       }
 
@@ -128,14 +130,14 @@ module _ {D : Type 0} where
       (g : IsGuarded most st log start old buffer journal None) → IsAttempted most st log journal call change grown g.least →
       ((l : Log) → log_by most (after_events (log_rule most) st journal) event l ≡ log_by_call most (after_events (log_rule most) st journal) call l) →
       ((s : Store) → attempt_of s event ≡ (evaluation call s).changes ∷ []) → durable_by event ≡ 0 →
-      KeptThrough old new grown [] g.least → KeepsLog grown [] g.least (now new).marks →
+      KeptThrough old new grown [] g.least → KeepsRead grown [] g.least (now new) →
       ((after_event (log_rule most) (after_events (log_rule most) st journal) event).fault ≡ None → IsKeeping (now new) longer grown g.least None
       × ((after_event (log_rule most) (after_events (log_rule most) st journal) event).store ≡ all_changed (change ∷ []) (after_events (log_rule most) st journal).store)
       × ((after_events (log_rule most) st journal).fault ≡ None)
       × ((after_event (log_rule most) (after_events (log_rule most) st journal) event).commits ≡ (after_events (log_rule most) st journal).commits + 1)) →
-      (has_failed longer ≡ false → (after_event (log_rule most) (after_events (log_rule most) st journal) event).fault ≡ None) →
+      (has_failed longer ≡ false → (after_event (log_rule most) (after_events (log_rule most) st journal) event).fault ≡ None) → (after_events (log_rule most) st journal).fault ≡ None →
       IsGuarded most st log start new longer (journal ++ event ∷ []) None
-  guarded_attempt most st log start old new buffer longer journal event call change grown g is by_event attempt durable through keeps works stops =
+  guarded_attempt most st log start old new buffer longer journal event call change grown g is by_event attempt durable through keeps works stops none =
       let all : List Event = journal ++ event ∷ [] in
       let base : ℕ = length (entries_of log) in
       let standing : Standing = after_events (log_rule most) st journal in
@@ -153,7 +155,7 @@ module _ {D : Type 0} where
       (subst (λ (l : Log). KeptThrough old new l [] g.least) (sym log_is) through)
       (subst (λ (l : Log). synced_of journal ≤ commits_in base g.least (entries_of l)) (sym log_is) is.synced)
       (omega arith)
-      (subst (λ (l : Log). KeepsLog l [] g.least (now new).marks) (sym log_is) keeps)
+      (subst (λ (l : Log). KeepsRead l [] g.least (now new)) (sym log_is) keeps)
       (omega (arith, durable))
       (λ fault. let w = works (subst (λ (s : Standing). s.fault ≡ None) stands fault) in let before = g.works w.2 in record {
         keeping = subst (λ (l : Log). IsKeeping (now new) longer l g.least None) (sym log_is) w.0;
@@ -165,6 +167,7 @@ module _ {D : Type 0} where
             ∙ sym (length-append (attempts_of st.store journal) ((change ∷ []) ∷ [])) ∙ ap length (sym attempts);
       })
       (λ ok. subst (λ (s : Standing). s.fault ≡ None) (sym stands) (stops ok))
+      (λ fault. absurd (fault_stands most st journal fault none))
 
 -- the last moment, where time may have stood still
 pub passes_now : (old new : History) (P : State → Type 0) → Passes old new P → P (now old) → P (now new)
@@ -182,7 +185,7 @@ module _ {D : Type 0} where
   guarded_along most st log start old new buffer other journal same g keeping valid = record {
     since = subst (λ (h : History). Follows start h) (sym same) g.since;
     begins = g.begins;
-    events = subst (λ (h : History). AreSafeEvents most st log h (λ from over. from ≡ h.moment) start.moment [] journal) (sym same) g.events;
+    events = subst (λ (h : History). AreSafeEvents st.store h (λ from over. from ≡ h.moment) start.moment [] journal) (sym same) g.events;
     least = g.least;
     kept = subst (λ (h : History). IsKept most st log g.least (now h) journal) (sym same) g.kept;
     works = λ none. let w = g.works none in record { keeping = keeping; store = w.store; commits = w.commits };
@@ -208,17 +211,21 @@ module _ {D : Type 0} where
       let keeping = safely.1 (λ e. cc) in
       guarded_attempt most st log start old new buffer longer journal (Called session line call (Logged commit)) call change
       (log_with_all kept.file_max kept.end (entries_logged (kept.last_txn + 1) number change) (log_after most st journal log)) g is
-      (λ l. refl) (λ s. refl) refl safely.0 keeping.holds.kept.keeps
+      (λ l. refl) (λ s. refl) refl safely.0
+      (keeping_read (now new) longer (log_with_all kept.file_max kept.end (entries_logged (kept.last_txn + 1) number change) (log_after most st journal log)) g.least None keeping)
       (λ fault. (keeping, ap (λ (cs : List Change). all_changed cs (after_events (log_rule most) st journal).store) is.changes, none, refl))
       (λ ok. none)
+      none
   goes_on_safely most st log start old new buffer longer kept after journal session line call number change totals tells (Ok DiskFault) here none g logged both changes safely =
       let grown : Log = log_with_all kept.file_max kept.end (entries_logged (kept.last_txn + 1) number change) (log_after most st journal log) in
       guarded_attempt most st log start old new buffer longer journal (Called session line call DiskFault) call change grown g
       (attempted most st log start old buffer kept journal call number change totals here none g logged both)
       (λ l. refl) (λ s. refl) refl safely.0
-      (passes_now old new (λ (s : State). KeepsLog grown [] g.least s.marks) safely.0 (both.keeps_second g.least (now old).marks (both.keeps_first g.least (now old).marks g.kept.keeps)))
+      (passes_now old new (KeepsRead grown [] g.least) safely.0
+      (both_read kept.file_max kept.end (entry_of (kept.last_txn + 1) number change) (Commit (record { 0 = kept.last_txn + 1 })) (log_after most st journal log) g.least (now old) both g.kept.keeps))
       (λ fault. absurd cc)
       (λ ok. absurd (safely.2 ok refl))
+      none
   goes_on_safely most st log start old new buffer longer kept after journal session line call number change totals tells (Ok answer) here none g logged both changes safely = absurd changes
   goes_on_safely most st log start old new buffer longer kept after journal session line call number change totals tells (Err error) here none g logged both changes safely =
       guarded_along most st log start old new buffer longer journal safely.0 g safely.1 none

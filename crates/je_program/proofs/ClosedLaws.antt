@@ -1,5 +1,5 @@
 -- A guarded run that was closed, and one that begins.
-use Rattle.std.proofs.Common.{◌≡◌, ℕ, ◌≤◌, true, List, [], None, length, refl, ap, sym, ◌∙◌, subst, arith}
+use Rattle.std.proofs.Common.{◌≡◌, ℕ, ◌≤◌, Bool, true, false, List, [], None, length, refl, ap, sym, ◌∙◌, subst, arith}
 use Rattle.std.proofs.lemmas.List.{append-nil, take_all}
 use Rattle.je_disk.specs.States.{Files, State}
 use Rattle.je_disk.specs.Moments.{History, now}
@@ -9,11 +9,11 @@ use Rattle.je_model.specs.declared.event.Event.{Event}
 use Rattle.je_model.specs.declared.store.Store.{Store}
 use Rattle.je_model.specs.Store.{store_after}
 use Rattle.je_model.specs.Answers.{Standing, after_events}
-use Rattle.je_model.specs.Journal.{attempts_of}
+use Rattle.je_model.specs.Journal.{attempts_of, has_answer, is_disk_fault}
 use Rattle.log_file.specs.Log.{Log, entries_of}
 use Rattle.log_buffer.specs.declared.buffer.LogBuffer.{LogBuffer}
-use Rattle.log_buffer.specs.Buffer.{file_of, first_of, last_of, offset_of}
-use Rattle.log_buffer.specs.Crash.{Holds, KeepsLog, KeptThrough}
+use Rattle.log_buffer.specs.Buffer.{file_of, first_of, has_failed, last_of, offset_of}
+use Rattle.log_buffer.specs.Crash.{Holds, KeepsRead, KeptThrough}
 use Rattle.log_buffer.specs.Log.{HasLog}
 use Rattle.log_buffer.proofs.Left.{kept_is_left}
 use Rattle.log_replay.specs.Kept.{IsKept as KeepsRecords}
@@ -22,23 +22,28 @@ use Rattle.crash_meaning.specs.Reading.{HasNoGap}
 use Rattle.crash_meaning.specs.Recovery.{Recovers, IsRecovered, commits_in}
 use Rattle.crash_meaning.proofs.Recoveries.{images_recover, logs_recover}
 use Rattle.je_program.specs.declared.kept.Kept.{Kept}
-use Rattle.je_program.specs.Crash.{log_after, IsSafeRun, IsGuarded, ImagesMean}
+use Rattle.je_program.specs.Crash.{IsSafeRun, ImagesMean}
+use Rattle.je_program.specs.Guarded.{log_after, IsGuarded}
 use Rattle.je_program.specs.Environment.{IsAt, IsValid, IsWhole, log_rule}
 use Rattle.je_program.specs.Program.{MeanStore}
 use Rattle.je_program.proofs.FinishLaws.{small_files}
-use Rattle.je_program.proofs.GuardLaws.{one_log}
-use Rattle.je_program.proofs.SafeLaws.{goes_on, safe, none_more}
+use Rattle.je_program.proofs.GuardLaws.{keeping_read, one_log}
+use Rattle.je_program.proofs.SafeLaws.{fault_stands, goes_on, safe, none_more}
 
 module _ {D : Type 0} where
-  -- a run that was closed
+  -- a run that was closed; one whose buffer has failed was let go
   pub closed_safely : (most : ℕ) (st : Standing) (log : Log) (start : History) (old new : History) (buffer : LogBuffer D) (journal : List Event) → (g : IsGuarded most st log start old buffer journal None) →
-      KeptThrough old new (log_after most st journal log) [] g.least → IsSafeRun most st log start new journal
-  closed_safely most st log start old new buffer journal g through = record {
-    since = goes_on start old new (λ (s : State). KeepsLog (log_after most st journal log) [] g.least s.marks) g.since through;
+      KeptThrough old new (log_after most st journal log) [] g.least → (has_failed buffer ≡ true → new ≡ old) → IsSafeRun st.store start new journal
+  closed_safely most st log start old new buffer journal g through same = record {
+    since = goes_on start old new (KeepsRead (log_after most st journal log) [] g.least) g.since through;
     begins = g.begins;
-    events = none_more most st log old new (λ (s : State). KeepsLog (log_after most st journal log) [] g.least s.marks) start.moment [] journal through g.events
-        (λ k lo hi. safe most st log g.least journal [] journal (new.state_at k) (sym (append-nil journal)) g.kept.from g.kept.gap g.kept.recovers g.kept.synced (through.each k lo hi));
-  }
+    events = none_more st.store old new (KeepsRead (log_after most st journal log) [] g.least) start.moment [] journal through g.events
+        (λ k lo hi. safe most st log g.least journal [] journal (new.state_at k) (sym (append-nil journal)) g.kept.from g.kept.gap g.kept.recovers g.kept.synced (through.each k lo hi))
+        (by_failed (has_failed buffer) refl);
+  } where
+    by_failed : (b : Bool) → has_failed buffer ≡ b → has_answer is_disk_fault journal ≡ true → new.moment ≤ old.moment
+    by_failed true failed fault = let at : new.moment ≡ old.moment = ap (λ (h : History). h.moment) (same failed) in omega (arith, at)
+    by_failed false works fault = absurd (fault_stands most st journal fault (g.stops works))
 
 -- all of the transactions are there
 pub all_recovered : (opening store : Store) (least : ℕ) (image : Files) (transactions : List (List Change)) → length transactions ≤ least → store_after opening transactions ≡ store → IsRecovered opening least transactions image → MeanStore image store
@@ -49,8 +54,8 @@ all_recovered opening store least image transactions all same is =
 module _ {D : Type 0} where
   -- a run that was closed without a fault: a crash keeps all of its log, and each image means its store
   pub closed_images : (most : ℕ) (st : Standing) (log : Log) (start : History) (history : History) (state : State) (buffer : LogBuffer D) (journal : List Event) → (g : IsGuarded most st log start history buffer journal None) →
-      (after_events (log_rule most) st journal).fault ≡ None → KeepsLog (log_after most st journal log) [] (length (entries_of (log_after most st journal log))) state.marks →
-      ImagesMean (log_after most st journal log) state (after_events (log_rule most) st journal).store
+      (after_events (log_rule most) st journal).fault ≡ None → KeepsRead (log_after most st journal log) [] (length (entries_of (log_after most st journal log))) state →
+      ImagesMean state (after_events (log_rule most) st journal).store
   closed_images most st log start history state buffer journal g none keeps = λ image is chance.
       let now_log : Log = log_after most st journal log in
       let base : ℕ = length (entries_of log) in
@@ -58,7 +63,7 @@ module _ {D : Type 0} where
       all_recovered st.store (after_events (log_rule most) st journal).store (commits_in base (length (entries_of now_log)) (entries_of now_log)) image (attempts_of st.store journal)
       (let all = g.kept.recovers.all in omega arith) w.store
       (images_recover st.store base (length (entries_of now_log)) (attempts_of st.store journal) now_log image g.kept.gap g.kept.recovers g.kept.recovers.within
-      (kept_is_left now_log [] (length (entries_of now_log)) state image g.kept.gap.is_log keeps is chance))
+      (kept_is_left now_log [] (length (entries_of now_log)) state image g.kept.gap.is_log keeps.keeps keeps.prefixes is.files chance))
 
   -- a run that begins
   pub guarded_none : (most : ℕ) (st : Standing) (log : Log) (history : History) (buffer : LogBuffer D) (kept : Kept) → IsAt most true (now history) buffer kept st → st.fault ≡ None → st.commits ≡ 0 →
@@ -74,12 +79,13 @@ module _ {D : Type 0} where
       let recovers : Recovers st.store (length (entries_of log)) [] (entries_of log) =
       subst (λ (s : Store). Recovers s (length (entries_of log)) [] (entries_of log)) v.made
       (logs_recover (entries_of log) (rows_in kept.rows) kept.last_txn kept.last_db (subst (λ (l : Log). KeepsRecords (entries_of l) (rows_in kept.rows) kept.last_txn kept.last_db) same v.records)) in
+      let keeps : KeepsRead log [] (length (entries_of log)) (now history) = keeping_read (now history) buffer log (length (entries_of log)) None (record { has = has; whole = gap.whole; holds = holds }) in
       record {
         since = passes_none history (λ (s : State). Unit {0});
-        begins = safe most st log (length (entries_of log)) [] [] [] (now history) refl (omega arith) gap recovers (omega arith) holds.kept.keeps;
+        begins = safe most st log (length (entries_of log)) [] [] [] (now history) refl (omega arith) gap recovers (omega arith) keeps;
         events = refl;
         least = length (entries_of log);
-        kept = record { from = omega arith; gap = gap; recovers = recovers; synced = omega arith; keeps = holds.kept.keeps };
+        kept = record { from = omega arith; gap = gap; recovers = recovers; synced = omega arith; keeps = keeps };
         works = λ valid. record { keeping = record { has = has; whole = gap.whole; holds = holds }; store = refl; commits = commits };
         stops = λ ok. none;
       }

@@ -1,5 +1,6 @@
 -- What a crash leaves of an environment while it is opened.
 use Rattle.std.proofs.Common.{◌≡◌, ◌≢◌, ℕ, ◌<◌, ◌≤◌, ◌^◌, ◌==◌, nat_lt, cond, Bool, true, false, List, [], ◌∷◌, ◌++◌, Option, Some, None, IfSome, Result, Ok, Err, option_map, refl, ap, sym, ◌∙◌, subst, ◌⊎◌, inl, inr, arith, length, take, drop}
+use Rattle.std.specs.Prelude.{unwrap_or}
 use Rattle.std.specs.List.{AllByRecursion}
 use Rattle.std.specs.List.Sorted.{IsStrictlyIncreasing}
 use Rattle.std.specs.Map.{lookup}
@@ -14,23 +15,25 @@ use Rattle.je_disk.proofs.Moments.{passes_none, passes_then, passes_weaken}
 use Rattle.je_model.specs.declared.store.Store.{Store}
 use Rattle.log_entry.specs.declared.entry.Entry.{Entry}
 use Rattle.log_file.specs.declared.file_run.FileRun.{FileRun}
-use Rattle.log_file.specs.declared.found.Found.TheVariants.{Run}
+use Rattle.log_file.specs.declared.found.Found.{Found}
+use Rattle.log_file.specs.declared.found.Found.TheVariants.{Run, VersionUnknown as OtherVersion, Damaged as NoHeader}
 use Rattle.log_file.specs.Laws.{AreSpelledBack}
 use Rattle.log_file.specs.Log.{AreFiles, Log, entries_found, entries_of, file_bytes, files_of_log, log_in}
 use Rattle.log_file.specs.Scan.{found_in}
 use Rattle.log_file.proofs.FilesLaws.{are_one_list}
 use Rattle.log_file.proofs.FoundLaws.{are_spelled_back}
-use Rattle.log_buffer.specs.Chance.{IsKeptByCut, LastIsKept}
-use Rattle.log_buffer.specs.Crash.{KeepsLog}
+use Rattle.log_buffer.specs.Chance.{HasRun, IsKeptByCut, LastIsKept}
+use Rattle.log_buffer.specs.Crash.{KeepsLog, HoldsPrefix, HoldPrefixes, entries_at}
 use Rattle.log_buffer.proofs.KeptOpening.{cuts_keep}
 use Rattle.log_buffer.proofs.Left.{kept_is_left}
+use Rattle.log_buffer.proofs.Prefixes.{cut_prefixes, empty_prefix}
 use Rattle.log_replay.specs.declared.finding.Finding.{Finding}
 use Rattle.log_replay.specs.declared.last_file.LastFile.{LastFile}
 use Rattle.log_replay.specs.declared.log_read.ReadLog.{ReadLog}
 use Rattle.log_replay.specs.Answer.{IsLogOf}
 use Rattle.log_replay.specs.Kept.{IsKept}
 use Rattle.log_replay.specs.Meaning.{Meaning}
-use Rattle.log_replay.specs.Reading.{finding_in, gap_in, reading_of}
+use Rattle.log_replay.specs.Reading.{finding_at, finding_in, gap_in, reading_of}
 use Rattle.log_replay.specs.Rows.{rows_in}
 use Rattle.log_replay.specs.UnderWay.{IsLastOf, IsTailOf}
 use Rattle.log_replay.proofs.LogLaws.{kept_opened}
@@ -38,14 +41,13 @@ use Rattle.crash_meaning.specs.Reading.{HasNoGap}
 use Rattle.crash_meaning.specs.Recovery.{Recovers, commits_in}
 use Rattle.crash_meaning.proofs.Recoveries.{images_recover, logs_recover}
 use Rattle.je_program.specs.declared.kept.TheConstants.{LAST_FILE}
-use Rattle.je_program.specs.Crash.{ImagesMean, KeepsEntry, NothingPending, log_opened}
+use Rattle.je_program.specs.Crash.{ImagesMean, IsTailCut, KeepsEntry, NothingPending, ReadAsAtEntry}
 use Rattle.je_program.specs.Opening.{IsSettled, IsSettling, StartsLog, WasRead, cut_off, start_of}
 use Rattle.je_program.proofs.CallLaws.{passes_now}
 use Rattle.je_program.proofs.ClosedLaws.{all_recovered}
 use Rattle.je_program.proofs.FileLaws.{front_reads, headless, log_is, lookup-last}
 use Rattle.je_program.proofs.FinishLaws.{small_files}
-use Rattle.je_program.proofs.OpenedLaws.{log_from_is}
-use Rattle.je_program.proofs.OpeningLaws.{File, all_last, are_files, below_last, entries_from, first_log, full_front, log_from, no_finding, none_is, numbers, rising_of, settled_last, settled_other, starts_log, whole_from}
+use Rattle.je_program.proofs.OpeningLaws.{File, all_last, are_files, below_last, entries_from, first_log, full_front, log_from, no_finding, none_is, numbers, or_parts, rising_of, settled_last, settled_other, starts_log, whole_from}
 
 -- ---- the rest that is cut off
 
@@ -281,6 +283,114 @@ kept_settling s x r w pending is = by_tail r.tail refl w.reading.answer.tail pen
     by_tail (Some last) e tail (inl before) is = kept_last last (log_in held) s x before (rest_read s.reads r w last e tail) is
     by_tail (Some last) e tail (inr here) is = kept_now_last last (log_in held) s x here (rest_read s.reads r w last e tail) is
 
+-- ---- what its files read as
+
+-- files that were read without a finding have runs
+all_runs : (held : List File) → finding_in held ≡ None → AllByRecursion HasRun held
+all_runs [] none = tt
+all_runs (file ∷ held) none =
+    let parts = or_parts (finding_at (length held == 0) file.0 (length file.1) (found_in file.0 file.1)) (finding_in held) none in
+    (by_found (found_in file.0 file.1) refl parts.0, all_runs held parts.1)
+  where
+    by_found : (found : Found) → found_in file.0 file.1 ≡ found → finding_at (length held == 0) file.0 (length file.1) found ≡ None → HasRun file
+    by_found (Run run) is h = record { run = run; found = is }
+    by_found (OtherVersion version) is h = cc
+    by_found NoHeader is h = cc
+
+-- such files hold what their log has in them
+prefixes_in : (held : List File) (f : ℕ) → AllByRecursion HasRun held → HoldsPrefix f (entries_at (log_in held) f) (unwrap_or (lookup (λ n. n == f) held) [])
+prefixes_in [] f all = empty_prefix f []
+prefixes_in (file ∷ held) f all = by_file (file.0 == f) refl (prefixes_in held f all.1)
+  where
+    here : HasRun file → HoldsPrefix file.0 (entries_found (found_in file.0 file.1)) file.1
+    here is = record { run = is.run; found = is.found; more = []; is = ap entries_found is.found ∙ sym (append-nil is.run.entries) }
+
+    by_file : (b : Bool) → (file.0 == f) ≡ b → HoldsPrefix f (unwrap_or (lookup (λ n. n == f) (log_in held)) []) (unwrap_or (lookup (λ n. n == f) held) []) →
+        HoldsPrefix f (unwrap_or (cond b (Some (entries_found (found_in file.0 file.1))) (lookup (λ n. n == f) (log_in held))) []) (unwrap_or (cond b (Some file.1) (lookup (λ n. n == f) held)) [])
+    by_file true same rest = subst (λ (n : ℕ). HoldsPrefix n (entries_found (found_in file.0 file.1)) file.1) (eqb-true _ _ same) (here all.0)
+    by_file false other rest = rest
+
+-- the log that was read, at each moment at which it is settled
+prefixes_settling : (s x : State) (r : ReadLog) (w : WasRead true s.reads r) → IsSettling r.tail s x → HoldPrefixes (log_from r.tail w.reading.held) x.reads
+prefixes_settling s x r w is = by_tail r.tail refl w.reading.answer.tail is
+  where
+    held : List File
+    held = w.reading.held
+
+    told : AreFiles s.reads held
+    told = w.reading.listed refl (w.listed refl)
+
+    none : finding_in held ≡ None
+    none = (no_finding held _ w.reading.answer.meaning).0
+
+    entry : HoldPrefixes (log_in held) s.reads
+    entry f = subst (λ (o : Option (List ℕ)). HoldsPrefix f (entries_at (log_in held) f) (unwrap_or o [])) (told.each f) (prefixes_in held f (all_runs held none))
+
+    by_states : (tail : Option LastFile) (log : Log) → HoldPrefixes log s.reads → HoldPrefixes log (cut_off tail s).reads → IsSettling tail s x → HoldPrefixes log x.reads
+    by_states tail log before behind (inl (inl same)) = subst (λ (y : State). HoldPrefixes log y.reads) (sym same) before
+    by_states tail log before behind (inl (inr same)) = subst (λ (y : State). HoldPrefixes log y.reads) (sym same) behind
+    by_states tail log before behind (inr same) = subst (λ (y : State). HoldPrefixes log y.reads) (sym same) behind
+
+    by_tail : (tail : Option LastFile) → r.tail ≡ tail → IsTailOf held tail → IsSettling tail s x → HoldPrefixes (log_from tail held) x.reads
+    by_tail None e empty settling =
+        let first : HoldPrefixes ((0, []) ∷ []) s.reads =
+        λ f. subst (λ (o : Option (List ℕ)). HoldsPrefix f (entries_at ((0, []) ∷ []) f) (unwrap_or o [])) (ap (λ (h : List File). lookup (λ n. n == f) h) (sym empty) ∙ told.each f) (empty_prefix f (entries_at ((0, []) ∷ []) f)) in
+        by_states None ((0, []) ∷ []) first first settling
+    by_tail (Some last) e tail settling = by_states (Some last) (log_in held) entry (by_test (nat_lt last.end last.len)) settling
+      where
+        by_test : (b : Bool) → HoldPrefixes (log_in held) (cond b (cut last.file.0 last.end s) s).reads
+        by_test true = cut_prefixes (log_in held) last.file.0 last.end s entry
+        by_test false = entry
+
+lookup_above : (front : List File) (f g : ℕ) (bytes : List ℕ) → AllByRecursion (λ (file : File). file.0 < f) front → f < g → lookup (λ n. n == g) (front ++ (f, bytes) ∷ []) ≡ None
+lookup_above [] f g bytes below above = ap (λ (b : Bool). cond b (Some bytes) None) (let t : (f == g) ≡ false = grind (arith, nat_tests) in t)
+lookup_above (file ∷ front) f g bytes below above =
+    ap (λ (b : Bool). cond b (Some file.1) (lookup (λ n. n == g) (front ++ (f, bytes) ∷ []))) (let under : file.0 < f = below.0 in let t : (file.0 == g) ≡ false = grind (arith, nat_tests) in t)
+    ∙ lookup_above front f g bytes below.1 above
+
+-- the last file that was read, cut off behind its run
+tail_cut : (reads : Files) (held : List File) (last : LastFile) → AreFiles reads held → IsLastOf held last → IsTailCut reads last.file.0 (option_map (take last.end) (reads last.file.0))
+tail_cut reads held last told is = record {
+  run = record { entries = entries_found (found_in last.file.0 is.bytes); last = last.last; end = last.end };
+  found = ap (λ (o : Option (List ℕ)). found_in last.file.0 (unwrap_or o [])) there ∙ is.found;
+  last = λ g above. sym (told.each g) ∙ ap (λ (h : List File). lookup (λ n. n == g) h) is.parts ∙ lookup_above is.before last.file.0 g is.bytes below above;
+  cut = refl;
+} where
+  below : AllByRecursion (λ (file : File). file.0 < last.file.0) is.before
+  below = below_last is.before (last.file.0, is.bytes) (subst (λ (h : List File). IsStrictlyIncreasing (numbers h)) is.parts told.rising)
+
+  there : reads last.file.0 ≡ Some is.bytes
+  there = sym (told.each last.file.0) ∙ ap (λ (h : List File). lookup (λ n. n == last.file.0) h) is.parts ∙ lookup-last is.before last.file.0 is.bytes (none_is is.before (last.file.0, is.bytes) below)
+
+-- at each moment at which it is settled, the files read as at entry, but for a torn tail
+read_settling : (s x : State) (r : ReadLog) (w : WasRead true s.reads r) → IsSettling r.tail s x → ReadAsAtEntry s.reads x.reads
+read_settling s x r w is f = by_tail r.tail w.reading.answer.tail is
+  where
+    held : List File
+    held = w.reading.held
+
+    told : AreFiles s.reads held
+    told = w.reading.listed refl (w.listed refl)
+
+    by_states : (tail : Option LastFile) → (((cut_off tail s).reads f ≡ s.reads f) ⊎ IsTailCut s.reads f ((cut_off tail s).reads f)) → IsSettling tail s x → (x.reads f ≡ s.reads f) ⊎ IsTailCut s.reads f (x.reads f)
+    by_states tail behind (inl (inl same)) = inl (ap (λ (y : State). y.reads f) same)
+    by_states tail behind (inl (inr same)) = subst (λ (y : State). (y.reads f ≡ s.reads f) ⊎ IsTailCut s.reads f (y.reads f)) (sym same) behind
+    by_states tail behind (inr same) = subst (λ (y : State). (y.reads f ≡ s.reads f) ⊎ IsTailCut s.reads f (y.reads f)) (sym same) behind
+
+    by_tail : (tail : Option LastFile) → IsTailOf held tail → IsSettling tail s x → (x.reads f ≡ s.reads f) ⊎ IsTailCut s.reads f (x.reads f)
+    by_tail None empty settling = by_states None (inl refl) settling
+    by_tail (Some last) tail settling =
+        by_states (Some last) (subst (λ (o : Option (List ℕ)). (o ≡ s.reads f) ⊎ IsTailCut s.reads f o) (sym (settles (Some last) s f)) (by_test (nat_lt last.end last.len))) settling
+      where
+        by_file : (b : Bool) → (f == last.file.0) ≡ b → (cond b (option_map (take last.end) (s.reads last.file.0)) (s.reads f) ≡ s.reads f) ⊎ IsTailCut s.reads f (cond b (option_map (take last.end) (s.reads last.file.0)) (s.reads f))
+        by_file true same = inr (subst (λ (n : ℕ). IsTailCut s.reads n (option_map (take last.end) (s.reads last.file.0))) (sym (eqb-true _ _ same)) (tail_cut s.reads held last told tail))
+        by_file false other = inl refl
+
+        by_test : (b : Bool) → (cond b (put_at s.reads last.file.0 (option_map (take last.end) (s.reads last.file.0)) f) (s.reads f) ≡ s.reads f)
+            ⊎ IsTailCut s.reads f (cond b (put_at s.reads last.file.0 (option_map (take last.end) (s.reads last.file.0)) f) (s.reads f))
+        by_test true = by_file (f == last.file.0) refl
+        by_test false = inl refl
+
 -- ---- what its images mean
 
 -- a log that was read has no gap
@@ -308,13 +418,13 @@ read_whole reads r w = by_tail r.tail refl w.reading.answer.tail
         }
 
 -- images of a disk that keeps a whole log mean the store of its records
-images_mean : (log : Log) (store : Store) (s : State) → HasNoGap log → Recovers store (length (entries_of log)) [] (entries_of log) → KeepsLog log [] (length (entries_of log)) s.marks → ImagesMean log s store
-images_mean log store s gap recovers keeps = λ image is chance.
+images_mean : (log : Log) (store : Store) (s : State) → HasNoGap log → Recovers store (length (entries_of log)) [] (entries_of log) → KeepsLog log [] (length (entries_of log)) s.marks → HoldPrefixes log s.reads → ImagesMean s store
+images_mean log store s gap recovers keeps prefixes = λ image is chance.
     let all : ℕ = length (entries_of log) in
     all_recovered store store (commits_in all all (entries_of log)) image [] (omega arith) refl
-    (images_recover store all all [] log image gap recovers (omega arith) (kept_is_left log [] all s image gap.is_log keeps is chance))
+    (images_recover store all all [] log image gap recovers (omega arith) (kept_is_left log [] all s image gap.is_log keeps prefixes is.files chance))
 
-read_means : (s x : State) (r : ReadLog) (w : WasRead true s.reads r) → NothingPending s ⊎ NothingPending x → IsSettling r.tail s x → ImagesMean (log_from r.tail w.reading.held) x r.replayed.opening
+read_means : (s x : State) (r : ReadLog) (w : WasRead true s.reads r) → NothingPending s ⊎ NothingPending x → IsSettling r.tail s x → ImagesMean x r.replayed.opening
 read_means s x r w pending is =
     let log : Log = log_from r.tail w.reading.held in
     let answer : IsLogOf w.reading.held r = w.reading.answer in
@@ -323,7 +433,7 @@ read_means s x r w pending is =
     (kept_opened (entries_of (log_in w.reading.held)) r.replayed answer.replay) in
     images_mean log r.replayed.opening x (read_whole s.reads r w)
     (subst (λ (store : Store). Recovers store (length (entries_of log)) [] (entries_of log)) answer.replay.store (logs_recover (entries_of log) (rows_in r.replayed.rows) r.replayed.last_txn r.replayed.last_db kept))
-    (kept_settling s x r w pending is)
+    (kept_settling s x r w pending is) (prefixes_settling s x r w is)
 
 store_of_meaning : (held : List File) (a b : Meaning) → reading_of held ≡ Ok a → reading_of held ≡ Ok b → a.store ≡ b.store
 store_of_meaning held a b first second = ap (store_in a.store) (sym first ∙ second)
@@ -338,6 +448,7 @@ store_of_meaning held a b first second = ap (store_in a.store) (sym first ∙ se
 pub entry_settled : (old new : History) (reads : Files) (r : ReadLog) → WasRead true reads r → (now old).reads ≡ reads → Passes old new (IsSettling r.tail (now old)) → KeepsEntry old new
 entry_settled old new reads r read same passes = record {
   since = passes_weaken old new (IsSettling r.tail (now old)) (λ (s : State). Unit {0}) (λ s p. tt) passes;
+  reads = λ k lo hi. read_settling (now old) (new.state_at k) r w (by_order k lo hi (cases_order k old.moment));
   images = λ pending held meaning are is k lo hi. at_state held meaning are is (new.state_at k) (inl pending) (by_order k lo hi (cases_order k old.moment));
   at_end = λ pending held meaning are is. at_state held meaning are is (now new) (inr pending) (passes_now old new (IsSettling r.tail (now old)) passes (inl (inl refl)));
 } where
@@ -348,13 +459,12 @@ entry_settled old new reads r read same passes = record {
   one_list held are = are_one_list (now old).reads w.reading.held held (w.reading.listed refl (w.listed refl)) are
 
   at_state : (held : List File) (meaning : Meaning) → AreFiles (now old).reads held → reading_of held ≡ Ok meaning → (x : State) → NothingPending (now old) ⊎ NothingPending x →
-      IsSettling r.tail (now old) x → ImagesMean (log_opened held) x meaning.store
+      IsSettling r.tail (now old) x → ImagesMean x meaning.store
   at_state held meaning are is x pending settling =
-      subst (λ (l : Log). ImagesMean l x meaning.store) (log_from_is r.tail w.reading.held w.reading.answer.tail ∙ ap log_opened (one_list held are))
-      (subst (λ (store : Store). ImagesMean (log_from r.tail w.reading.held) x store)
+      subst (λ (store : Store). ImagesMean x store)
       (store_of_meaning held (record { store = r.replayed.opening; last_txn = r.replayed.last_txn; last_db = r.replayed.last_db }) meaning
       (subst (λ (h : List File). reading_of h ≡ Ok (record { store = r.replayed.opening; last_txn = r.replayed.last_txn; last_db = r.replayed.last_db })) (one_list held are) w.reading.answer.meaning) is)
-      (read_means (now old) x r w pending settling))
+      (read_means (now old) x r w pending settling)
 
   by_order : (k : ℕ) → old.moment ≤ k → k ≤ new.moment → (k ≡ old.moment) ⊎ ((k < old.moment) ⊎ (old.moment < k)) → IsSettling r.tail (now old) (new.state_at k)
   by_order k lo hi (inl at) = inl (inl (ap (λ n. new.state_at n) at ∙ passes.keeps old.moment (omega arith)))
@@ -368,8 +478,8 @@ image_reads None (Some bytes) is = let allowed = is.allowed in cc
 image_reads (Some there) None is = cc
 image_reads (Some there) (Some bytes) is = ap (λ (x : List ℕ). Some x) (sym is.front ∙ take_all (length there) bytes is.within)
 
-pub still_means : (log : Log) (s : State) (held : List File) (meaning : Meaning) → NothingPending s → AreFiles s.reads held → reading_of held ≡ Ok meaning → ImagesMean log s meaning.store
-still_means log s held meaning pending are reads = λ image is chance. (
+pub still_means : (s : State) (held : List File) (meaning : Meaning) → NothingPending s → AreFiles s.reads held → reading_of held ≡ Ok meaning → ImagesMean s meaning.store
+still_means s held meaning pending are reads = λ image is chance. (
   meaning,
   record {
     held = held;
@@ -379,10 +489,15 @@ still_means log s held meaning pending are reads = λ image is chance. (
   refl,
 )
 
+-- what reads so at entry reads so
+read_entry : (entry reads : Files) → reads ≡ entry → ReadAsAtEntry entry reads
+read_entry entry reads same f = inl (ap (λ (files : Files). files f) same)
+
 -- time went on, and nothing was done before
 pub entry_later : (a b c : History) → Passes a b (λ (s : State). s ≡ now a) → now b ≡ now a → KeepsEntry b c → KeepsEntry a c
 entry_later a b c passes same later = record {
   since = passes_then a b c (λ (s : State). Unit {0}) (passes_weaken a b (λ (s : State). s ≡ now a) (λ (s : State). Unit {0}) (λ s p. tt) passes) later.since;
+  reads = λ k lo hi. reads_at k lo hi (cases_lt k b.moment);
   images = λ pending held meaning are is k lo hi. by_order pending held meaning are is k lo hi (cases_lt k b.moment);
   at_end = λ pending held meaning are is. later.at_end pending held meaning (subst (λ (s : State). AreFiles s.reads held) (sym same) are) is;
 } where
@@ -391,10 +506,14 @@ entry_later a b c passes same later = record {
   still k lo hi (inr (inl before)) = absurd (omega (arith, lo, before))
   still k lo hi (inr (inr behind)) = later.since.keeps k (omega (arith, hi)) ∙ passes.each k behind (omega (arith, hi))
 
-  by_order : NothingPending (now a) → (held : List File) (meaning : Meaning) → AreFiles (now a).reads held → reading_of held ≡ Ok meaning → (k : ℕ) → a.moment ≤ k → k ≤ c.moment →
-      (k < b.moment) ⊎ (b.moment ≤ k) → ImagesMean (log_opened held) (c.state_at k) meaning.store
+  reads_at : (k : ℕ) → a.moment ≤ k → k ≤ c.moment → (k < b.moment) ⊎ (b.moment ≤ k) → ReadAsAtEntry (now a).reads (c.state_at k).reads
+  reads_at k lo hi (inl early) = read_entry (now a).reads (c.state_at k).reads (ap (λ (s : State). s.reads) (still k lo early (cases_order k a.moment)))
+  reads_at k lo hi (inr late) = subst (λ (s : State). ReadAsAtEntry s.reads (c.state_at k).reads) same (later.reads k late hi)
+
+  by_order : NothingPending (now a) → (held : List (ℕ × List ℕ)) (meaning : Meaning) → AreFiles (now a).reads held → reading_of held ≡ Ok meaning → (k : ℕ) → a.moment ≤ k → k ≤ c.moment →
+      (k < b.moment) ⊎ (b.moment ≤ k) → ImagesMean (c.state_at k) meaning.store
   by_order pending held meaning are is k lo hi (inl early) =
-      subst (λ (s : State). ImagesMean (log_opened held) s meaning.store) (sym (still k lo early (cases_order k a.moment))) (still_means (log_opened held) (now a) held meaning pending are is)
+      subst (λ (s : State). ImagesMean s meaning.store) (sym (still k lo early (cases_order k a.moment))) (still_means (now a) held meaning pending are is)
   by_order pending held meaning are is k lo hi (inr late) =
       later.images (subst NothingPending (sym same) pending) held meaning (subst (λ (s : State). AreFiles s.reads held) (sym same) are) is k late hi
 
@@ -402,10 +521,11 @@ entry_later a b c passes same later = record {
 pub entry_none : (h : History) → KeepsEntry h h
 entry_none h = record {
   since = passes_none h (λ (s : State). Unit {0});
+  reads = λ k lo hi. let at : k ≡ h.moment = omega (arith, lo, hi) in read_entry (now h).reads (h.state_at k).reads (ap (λ n. (h.state_at n).reads) at);
   images = λ pending held meaning are is k lo hi.
       let at : k ≡ h.moment = omega (arith, lo, hi) in
-      subst (λ n. ImagesMean (log_opened held) (h.state_at n) meaning.store) (sym at) (still_means (log_opened held) (now h) held meaning pending are is);
-  at_end = λ pending held meaning are is. still_means (log_opened held) (now h) held meaning pending are is;
+      subst (λ n. ImagesMean (h.state_at n) meaning.store) (sym at) (still_means (now h) held meaning pending are is);
+  at_end = λ pending held meaning are is. still_means (now h) held meaning pending are is;
 }
 
 -- time went on, and nothing was done

@@ -19,7 +19,7 @@ use Rattle.log_buffer.proofs.Splits.{below_at}
 use Rattle.log_buffer.proofs.KeptGrowing.{last_is}
 use Rattle.crash_meaning.specs.Reading.{HasNoGap}
 use Rattle.je_program.specs.declared.kept.TheConstants.{LAST_FILE}
-use Rattle.je_program.specs.Crash.{log_with_all}
+use Rattle.je_program.specs.Guarded.{log_with_all}
 use Rattle.je_program.specs.Environment.{IsWhole}
 use Rattle.je_program.proofs.AppendLaws.{Grows, grows}
 use Rattle.je_program.proofs.FinishLaws.{small_files}

@@ -13,19 +13,20 @@ use Rattle.je_model.specs.declared.event.Event.TheVariants.{Call as Called}
 use Rattle.je_model.specs.declared.store.Store.{Store}
 use Rattle.je_model.specs.Store.{store_after}
 use Rattle.je_model.specs.Answers.{Standing, after_call, after_event, after_events}
-use Rattle.je_model.specs.Journal.{attempt_of, attempts_of, durable_by, is_disk_fault, is_logged, synced_of}
+use Rattle.je_model.specs.Journal.{attempt_of, attempts_of, durable_by, has_answer, is_disk_fault, is_logged, synced_of}
 use Rattle.je_model.proofs.Journal.{after_events-append}
 use Rattle.log_file.specs.Log.{Log, AreFiles, entries_of, files_of_log}
 use Rattle.log_file.proofs.FilesLaws.{are_spelled_files, logs_are_found, spelled_files}
 use Rattle.log_buffer.specs.declared.buffer.LogBuffer.{LogBuffer}
 use Rattle.log_buffer.specs.Buffer.{disk_of, first_of, has_failed, IsUnchanged}
-use Rattle.log_buffer.specs.Crash.{Holds, KeepsLog, KeptThrough}
+use Rattle.log_buffer.specs.Crash.{Holds, KeepsRead, KeptThrough}
 use Rattle.log_buffer.specs.Log.{HasLog}
 use Rattle.log_buffer.proofs.Keeping.{log_kept}
+use Rattle.log_buffer.proofs.Prefixes.{told_prefixes}
 use Rattle.crash_meaning.specs.Reading.{HasNoGap}
 use Rattle.crash_meaning.specs.Recovery.{Recovers, commits_in}
 use Rattle.je_program.specs.Environment.{log_rule}
-use Rattle.je_program.specs.Crash.{log_by, log_by_answer, log_after, IsKeeping, IsGuarded, LogsSafely}
+use Rattle.je_program.specs.Guarded.{log_by, log_by_answer, log_after, IsKeeping, IsGuarded, LogsSafely}
 use Rattle.je_program.specs.Planning.{IsPlain}
 use Rattle.je_program.proofs.SafeLaws.{guarded_on, log_after-append, attempts-push}
 
@@ -39,6 +40,10 @@ module _ {D : Type 0} where
       let are : AreFiles reads (spelled_files a) = are_spelled_files reads a has_a.is_log.rising (λ f. refl) in
       sym (logs_are_found reads (spelled_files a) a has_a.is_log are (λ f. refl))
       ∙ logs_are_found reads (spelled_files a) b has_b.is_log are (λ f. sym (has_a.told refl f) ∙ has_b.told refl f)
+
+  -- what a crash keeps of a buffer's log
+  pub keeping_read : (state : State) (buffer : LogBuffer D) (log : Log) (least : ℕ) (begun : Option ℕ) → IsKeeping state buffer log least begun → KeepsRead log [] least state
+  keeping_read state buffer log least begun keeping = record { keeps = keeping.holds.kept.keeps; read = keeping.holds.kept.read; prefixes = told_prefixes true state buffer log refl keeping.has }
 
   -- a buffer that is unchanged keeps its log
   pub keeping_unchanged : (state_of : D → State) (old new : LogBuffer D) (log : Log) (least : ℕ) (begun : Option ℕ) → IsUnchanged old new →
@@ -68,13 +73,14 @@ module _ {D : Type 0} where
   pub guarded_same : (most : ℕ) (st : Standing) (log : Log) (start : History) (old new : History) (buffer longer : LogBuffer D) (journal : List Event) (event : Event) (before begun : Option ℕ) (least : ℕ) →
       (g : IsGuarded most st log start old buffer journal before) →
       log_by most (after_events (log_rule most) st journal) event (log_after most st journal log) ≡ log_after most st journal log → ((s : Store) → attempt_of s event ≡ []) →
-      KeptThrough old new (log_after most st journal log) [] g.least → g.least ≤ least → KeepsLog (log_after most st journal log) [] least (now new).marks →
+      KeptThrough old new (log_after most st journal log) [] g.least → g.least ≤ least → KeepsRead (log_after most st journal log) [] least (now new) →
       durable_by event ≤ commits_in (length (entries_of log)) least (entries_of (log_after most st journal log)) →
       ((after_event (log_rule most) (after_events (log_rule most) st journal) event).fault ≡ None →
       StaysWorking most st log least (now new) longer journal begun (after_event (log_rule most) (after_events (log_rule most) st journal) event)) →
       (has_failed longer ≡ false → (after_event (log_rule most) (after_events (log_rule most) st journal) event).fault ≡ None) →
+      (has_answer is_disk_fault journal ≡ true → new.moment ≤ old.moment) →
       IsGuarded most st log start new longer (journal ++ event ∷ []) begun
-  guarded_same most st log start old new buffer longer journal event before begun least g same none through rises keeps durable works stops =
+  guarded_same most st log start old new buffer longer journal event before begun least g same none through rises keeps durable works stops still =
       let all : List Event = journal ++ event ∷ [] in
       let base : ℕ = length (entries_of log) in
       let log_is : log_after most st all log ≡ log_after most st journal log = log_after-append most st journal (event ∷ []) log ∙ same in
@@ -90,7 +96,7 @@ module _ {D : Type 0} where
       (subst (λ (l : Log). KeptThrough old new l [] g.least) (sym log_is) through)
       (subst (λ (l : Log). synced_of journal ≤ commits_in base g.least (entries_of l)) (sym log_is) g.kept.synced)
       rises
-      (subst (λ (l : Log). KeepsLog l [] least (now new).marks) (sym log_is) keeps)
+      (subst (λ (l : Log). KeepsRead l [] least (now new)) (sym log_is) keeps)
       (subst (λ (l : Log). durable_by event ≤ commits_in base least (entries_of l)) (sym log_is) durable)
       (λ fault. let w = works (subst (λ (s : Standing). s.fault ≡ None) stands fault) in record {
         keeping = subst (λ (l : Log). IsKeeping (now new) longer l least begun) (sym log_is) w.keeping;
@@ -98,6 +104,7 @@ module _ {D : Type 0} where
         commits = ap (λ (s : Standing). s.commits) stands ∙ w.commits ∙ ap length (sym attempts);
       })
       (λ ok. subst (λ (s : Standing). s.fault ≡ None) (sym stands) (stops ok))
+      still
 
 -- ---- answers that commit nothing
 
@@ -148,3 +155,4 @@ module _ {D : Type 0} where
       (omega arith)
       (λ fault. let w = g.works (sym as_before.fault ∙ fault) in record { keeping = w.keeping; store = w.store ∙ sym as_before.store; commits = as_before.commits ∙ w.commits })
       (λ ok. as_before.fault ∙ g.stops ok)
+      (λ fault. omega arith)

@@ -16,7 +16,7 @@ use Rattle.log_replay.specs.declared.log_read.ReadLog.{ReadLog}
 use Rattle.log_replay.specs.UnderWay.{IsTailOf}
 use Rattle.log_replay.proofs.FilesLaws.{entries_of-append}
 use Rattle.je_program.specs.declared.kept.Kept.{Kept}
-use Rattle.je_program.specs.Crash.{log_opened, IsOpenedSafely}
+use Rattle.je_program.specs.Guarded.{log_opened, IsOpenedSafely}
 use Rattle.je_program.specs.Opening.{WasRead, IsOpenedAt, kept_at_start, start_of}
 use Rattle.je_program.specs.Run.{StartsAt}
 use Rattle.je_program.proofs.ClosedLaws.{guarded_none}

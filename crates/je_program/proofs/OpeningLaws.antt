@@ -62,7 +62,7 @@ numbers held = map (λ (file : File). file.0) held
 
 -- ---- no finding
 
-or_parts : {A : Type 0} (a b : Option A) → or_else a b ≡ None → (a ≡ None) × (b ≡ None)
+pub or_parts : {A : Type 0} (a b : Option A) → or_else a b ≡ None → (a ≡ None) × (b ≡ None)
 or_parts None b h = (refl, h)
 or_parts (Some x) b h = cc
 

@@ -1,6 +1,5 @@
 -- A guarded run goes on by a sync.
 use Rattle.std.proofs.Common.{◌≡◌, ℕ, true, false, List, [], ◌∷◌, ◌++◌, Option, Some, None, length, refl, sym, ◌∙◌, arith}
-use Rattle.je_disk.specs.States.{State}
 use Rattle.je_disk.specs.Moments.{History, now}
 use Rattle.je_model.specs.declared.answer.Answer.TheVariants.{Done, Durable, DiskFault}
 use Rattle.je_model.specs.declared.event.Event.{Event}
@@ -9,13 +8,14 @@ use Rattle.je_model.specs.Answers.{Standing, after_events}
 use Rattle.log_file.specs.Log.{Log, entries_of}
 use Rattle.log_buffer.specs.declared.buffer.LogBuffer.{LogBuffer}
 use Rattle.log_buffer.specs.Buffer.{has_failed}
-use Rattle.log_buffer.specs.Crash.{KeepsLog, KeptThrough}
+use Rattle.log_buffer.specs.Crash.{KeepsRead, KeptThrough}
 use Rattle.log_buffer.proofs.KeptSyncs.{count_kept}
 use Rattle.crash_meaning.specs.Recovery.{commits_in}
 use Rattle.je_program.specs.Environment.{log_rule}
-use Rattle.je_program.specs.Crash.{log_after, IsKeeping, IsGuarded, BeginsSafely}
+use Rattle.je_program.specs.Guarded.{log_after, IsKeeping, IsGuarded, BeginsSafely}
 use Rattle.je_program.proofs.CallLaws.{passes_now}
-use Rattle.je_program.proofs.GuardLaws.{guarded_same}
+use Rattle.je_program.proofs.GuardLaws.{guarded_same, keeping_read}
+use Rattle.je_program.proofs.SafeLaws.{fault_stands}
 
 module _ {D : Type 0} where
   -- a sync began
@@ -26,14 +26,15 @@ module _ {D : Type 0} where
   begun_safely most st log start old new buffer longer journal none g through keeping =
       let w = g.works none in
       guarded_same most st log start old new buffer longer journal (SyncBegin Done) None (Some (length (entries_of (log_after most st journal log)))) g.least g refl (λ s. refl) through (omega arith)
-      keeping.holds.kept.keeps (omega arith) (λ fault. record { keeping = keeping; store = w.store; commits = w.commits }) (λ ok. none)
+      (keeping_read (now new) longer (log_after most st journal log) g.least (Some (length (entries_of (log_after most st journal log)))) keeping) (omega arith)
+      (λ fault. record { keeping = keeping; store = w.store; commits = w.commits }) (λ ok. none) (λ fault. absurd (fault_stands most st journal fault none))
 
   -- a sync could not begin
-  pub not_begun_safely : (most : ℕ) (st : Standing) (log : Log) (start : History) (old new : History) (buffer longer : LogBuffer D) (journal : List Event) →
+  pub not_begun_safely : (most : ℕ) (st : Standing) (log : Log) (start : History) (old new : History) (buffer longer : LogBuffer D) (journal : List Event) → (after_events (log_rule most) st journal).fault ≡ None →
       (g : IsGuarded most st log start old buffer journal None) → KeptThrough old new (log_after most st journal log) [] g.least → has_failed longer ≡ true → BeginsSafely most st log start new longer journal false
-  not_begun_safely most st log start old new buffer longer journal g through failed =
+  not_begun_safely most st log start old new buffer longer journal none g through failed =
       guarded_same most st log start old new buffer longer journal (SyncBegin DiskFault) None None g.least g refl (λ s. refl) through (omega arith)
-      (passes_now old new (λ (s : State). KeepsLog (log_after most st journal log) [] g.least s.marks) through g.kept.keeps) (omega arith) (λ fault. absurd cc) (λ ok. absurd cc)
+      (passes_now old new (KeepsRead (log_after most st journal log) [] g.least) through g.kept.keeps) (omega arith) (λ fault. absurd cc) (λ ok. absurd cc) (λ fault. absurd (fault_stands most st journal fault none))
 
   -- a sync ended, and made all commits durable
   pub ended_safely : (most : ℕ) (st : Standing) (log : Log) (start : History) (commits : ℕ) (old new : History) (buffer longer : LogBuffer D) (journal : List Event) → (after_events (log_rule most) st journal).fault ≡ None →
@@ -46,12 +47,13 @@ module _ {D : Type 0} where
       let now_log : Log = log_after most st journal log in
       let all : commits ≡ commits_in (length (entries_of log)) (length (entries_of now_log)) (entries_of now_log) = count ∙ w.commits ∙ sym g.kept.recovers.all in
       guarded_same most st log start old new buffer longer journal (SyncEnd (Durable commits)) (Some (length (entries_of now_log))) None (length (entries_of now_log)) g refl (λ s. refl) through
-      (count_kept now_log [] g.least (now old).marks g.kept.keeps) keeping.holds.kept.keeps (omega (arith, all)) (λ fault. record { keeping = keeping; store = w.store; commits = w.commits }) (λ ok. none)
+      (count_kept now_log [] g.least (now old).marks g.kept.keeps.keeps) (keeping_read (now new) longer now_log (length (entries_of now_log)) None keeping) (omega (arith, all))
+      (λ fault. record { keeping = keeping; store = w.store; commits = w.commits }) (λ ok. none) (λ fault. absurd (fault_stands most st journal fault none))
 
   -- the disk failed as it ended
-  pub not_ended_safely : (most : ℕ) (st : Standing) (log : Log) (start : History) (old new : History) (buffer longer : LogBuffer D) (journal : List Event) (begun : Option ℕ) →
+  pub not_ended_safely : (most : ℕ) (st : Standing) (log : Log) (start : History) (old new : History) (buffer longer : LogBuffer D) (journal : List Event) (begun : Option ℕ) → (after_events (log_rule most) st journal).fault ≡ None →
       (g : IsGuarded most st log start old buffer journal begun) → KeptThrough old new (log_after most st journal log) [] g.least → has_failed longer ≡ true →
       IsGuarded most st log start new longer (journal ++ SyncEnd DiskFault ∷ []) None
-  not_ended_safely most st log start old new buffer longer journal begun g through failed =
+  not_ended_safely most st log start old new buffer longer journal begun none g through failed =
       guarded_same most st log start old new buffer longer journal (SyncEnd DiskFault) begun None g.least g refl (λ s. refl) through (omega arith)
-      (passes_now old new (λ (s : State). KeepsLog (log_after most st journal log) [] g.least s.marks) through g.kept.keeps) (omega arith) (λ fault. absurd cc) (λ ok. absurd cc)
+      (passes_now old new (KeepsRead (log_after most st journal log) [] g.least) through g.kept.keeps) (omega arith) (λ fault. absurd cc) (λ ok. absurd cc) (λ fault. absurd (fault_stands most st journal fault none))

@@ -1,215 +1,102 @@
 -- What a crash leaves of an environment while it runs.
-use Rattle.std.specs.Prelude.{ℕ, ◌≡◌, ◌≢◌, ◌≤◌, ◌<◌, ◌+◌, ◌++◌, ◌∷◌, [], List, Option, None, Some, Result, Ok, Err, Bool, true, false, length, unwrap_or}
-use Rattle.std.specs.declared.alloc.AllocError.{AllocError}
-use Rattle.je_disk.specs.States.{Files, State, synced_mark, synced_marks}
+use Rattle.std.specs.Prelude.{ℕ, ◌≡◌, ◌≤◌, ◌<◌, ◌⊎◌, ◌++◌, ◌∷◌, [], List, Option, None, Ok, true, take, option_map}
+use Rattle.je_disk.specs.States.{Files, State, content, synced_mark, synced_marks}
 use Rattle.je_disk.specs.Images.{IsImage}
 use Rattle.je_disk.specs.Moments.{History, Passes, now}
-use Rattle.je_model.specs.declared.answer.Answer.{Answer}
-use Rattle.je_model.specs.declared.answer.Answer.TheVariants.{Done, Logged, DiskFault}
-use Rattle.je_model.specs.declared.call.Call.{Call}
-use Rattle.je_model.specs.declared.change.Change.{Change}
-use Rattle.je_model.specs.declared.change.Change.TheVariants.{Set, Unset, Make, Remove, Rename, Empty}
 use Rattle.je_model.specs.declared.event.Event.{Event}
-use Rattle.je_model.specs.declared.event.Event.TheVariants.{Call as Called, SyncBegin}
 use Rattle.je_model.specs.declared.store.Store.{Store}
-use Rattle.je_model.specs.Store.{store_after}
-use Rattle.je_model.specs.Answers.{Standing, after_event, after_events}
-use Rattle.je_model.specs.Evaluation.{evaluation}
-use Rattle.je_model.specs.Journal.{attempts_of, synced_of}
-use Rattle.log_entry.specs.declared.entry.Entry.{Entry}
-use Rattle.log_entry.specs.Spelling.{size_of}
-use Rattle.log_file.specs.Log.{AreFiles, Log, entries_of, log_in}
-use Rattle.log_buffer.specs.declared.buffer.LogBuffer.{LogBuffer}
-use Rattle.log_buffer.specs.declared.place.Place.{Place}
-use Rattle.log_buffer.specs.Buffer.{first_of, has_failed}
+use Rattle.je_model.specs.Journal.{attempts_of, has_answer, is_disk_fault, synced_of}
+use Rattle.log_file.specs.declared.file_run.FileRun.{FileRun}
+use Rattle.log_file.specs.declared.found.Found.TheVariants.{Run}
+use Rattle.log_file.specs.Log.{AreFiles}
+use Rattle.log_file.specs.Scan.{found_in}
 use Rattle.log_buffer.specs.Chance.{NoChanceMatch}
-use Rattle.log_buffer.specs.Crash.{Holds, KeepsLog, KeptThrough}
-use Rattle.log_buffer.specs.Flip.{placed_at, end_after}
-use Rattle.log_buffer.specs.Log.{HasLog, log_with}
 use Rattle.log_replay.specs.Meaning.{Meaning}
 use Rattle.log_replay.specs.Reading.{reading_of}
-use Rattle.log_replay.specs.Replay.{replayed, nothing_replayed}
-use Rattle.log_replay.specs.Rows.{Rows}
-use Rattle.crash_meaning.specs.Reading.{HasNoGap}
-use Rattle.crash_meaning.specs.Recovery.{Recovers, IsRecovered, commits_in}
+use Rattle.crash_meaning.specs.Recovery.{IsRecovered}
 use Rattle.je_program.specs.declared.cause.Cause.{Cause}
 use Rattle.je_program.specs.declared.cause.Cause.TheVariants.{Done as AllDone}
-use Rattle.je_program.specs.declared.kept.Kept.{Kept}
-use Rattle.je_program.specs.Environment.{log_rule, place_of, IsAt, IsWhole}
-use Rattle.je_program.specs.Logging.{entries_logged}
-use Rattle.je_program.specs.Planning.{number_named}
 use Rattle.je_program.specs.Program.{MeanStore, final_store}
-use Rattle.je_program.specs.Run.{StartsAt}
-
--- ---- the log that a journal leaves
-
--- the log that files are opened as; where there is none, it begins with file 0
-abbrev pub log_opened : List (ℕ × List ℕ) → Log
-log_opened [] = (0, []) ∷ []
-log_opened (file ∷ held) = log_in (file ∷ held)
-
--- a log that ends here, with entries more, each in its last file or in a next one
-abbrev pub log_with_all : ℕ → Place → List Entry → Log → Log
-log_with_all most end [] log = log
-log_with_all most end (entry ∷ entries) log =
-    log_with_all most (end_after most end (size_of entry)) entries (log_with (placed_at most end (size_of entry)).file entry log)
-
--- the number of the database that a change is in: the one that the catalog has, or the next one for a database that is made or emptied
-abbrev pub number_for : Rows → ℕ → Change → ℕ
-number_for rows last_db (Set db at value) = unwrap_or (number_named rows db) 0
-number_for rows last_db (Unset db at) = unwrap_or (number_named rows db) 0
-number_for rows last_db (Make db kind) = last_db + 1
-number_for rows last_db (Remove db) = unwrap_or (number_named rows db) 0
-number_for rows last_db (Rename db to) = unwrap_or (number_named rows db) 0
-number_for rows last_db (Empty db) = last_db + 1
-
--- the entries of a transaction with the changes of a call, of which there is one at most
-abbrev pub entries_for : Rows → Standing → List Change → List Entry
-entries_for rows st [] = []
-entries_for rows st (change ∷ changes) = entries_logged (st.last_txn + 1) (number_for rows st.last_db change) change
-
--- the log with the transaction of a call
-abbrev pub log_by_call : ℕ → Standing → Call → Log → Log
-log_by_call most st call log =
-    log_with_all most (place_of st.log_end) (entries_for (replayed (entries_of log) nothing_replayed).rows st (evaluation call st.store).changes) log
-
--- the same where the call was logged, or was to be logged and met a disk fault
-abbrev pub log_by_answer : ℕ → Standing → Call → Answer → Log → Log
-log_by_answer most st call (Logged commit) log = log_by_call most st call log
-log_by_answer most st call DiskFault log = log_by_call most st call log
-log_by_answer most st call answer log = log
-
--- the log after an event, and after several
-abbrev pub log_by : ℕ → Standing → Event → Log → Log
-log_by most st (Called session line call answer) log = log_by_answer most st call answer log
-log_by most st event log = log
-
-abbrev pub log_after : ℕ → Standing → List Event → Log → Log
-log_after most st [] log = log
-log_after most st (event ∷ events) log = log_after most (after_event (log_rule most) st event) events (log_by most st event log)
-
--- ---- what an image means
 
 -- one history goes on as the other, whatever came
 abbrev pub Follows : History → History → Type 0
 Follows old new = Passes old new (λ s. Unit {0})
 
--- Each image of a disk where no checksum matches by chance means the opening store changed by the first attempted commits, at least
--- the synced ones: of a run that began at this standing with this log, and some events of which are over while one may be under way.
-pub record IsSafe (most : ℕ) (st : Standing) (log : Log) (over under_way : List Event) (state : State) : Type 0 where
-  pub images : (image : Files) → IsImage state image → NoChanceMatch (log_after most st (over ++ under_way) log) image
-      → IsRecovered st.store (synced_of over) (attempts_of st.store (over ++ under_way)) image
+-- Of a run that began with this store, some events are over while one may be under way. What the disk reads, and each image in which no
+-- checksum matches by chance, means the opening store changed by the first attempted commits, at least the synced ones.
+pub record IsSafe (opening : Store) (over under_way : List Event) (state : State) : Type 0 where
+  pub read : IsRecovered opening (synced_of over) (attempts_of opening (over ++ under_way)) state.reads
+  pub images : (image : Files) → IsImage state image → NoChanceMatch state.reads image → IsRecovered opening (synced_of over) (attempts_of opening (over ++ under_way)) image
 
--- each image of the disk where no checksum matches by chance means this store
-abbrev pub ImagesMean : Log → State → Store → Type 0
-ImagesMean log state store = (image : Files) → IsImage state image → NoChanceMatch log image → MeanStore image store
+-- where one of these events met a disk fault, the disk's state is from one moment to another what it was at the first
+abbrev pub IsStillAfterFault : History → ℕ → ℕ → List Event → Type 0
+IsStillAfterFault history from to over = has_answer is_disk_fault over ≡ true → (k : ℕ) → from < k → k ≤ to → history.state_at k ≡ history.state_at from
+
+-- An event begins behind one moment and ends at another: at each moment between them, and behind it, the disk is safe; behind a fault it stands still.
+pub record IsSafeEvent (opening : Store) (history : History) (from to : ℕ) (over : List Event) (event : Event) : Type 0 where
+  pub later : from ≤ to
+  pub within : to ≤ history.moment
+  pub during : (k : ℕ) → from < k → k ≤ to → IsSafe opening over (event ∷ []) (history.state_at k)
+  pub behind : IsSafe opening (over ++ event ∷ []) [] (history.state_at to)
+  pub still : IsStillAfterFault history from to over
+
+-- events end at moments one after another, each safe, and this holds of the last moment and of all events
+abbrev pub AreSafeEvents : Store → History → (ℕ → List Event → Type 0) → ℕ → List Event → List Event → Type 0
+AreSafeEvents opening history Last from over [] = Last from over
+AreSafeEvents opening history Last from over (event ∷ events) =
+    (to : ℕ) × IsSafeEvent opening history from to over event × AreSafeEvents opening history Last to (over ++ event ∷ []) events
+
+-- from a moment on no event is under way, and the disk is safe; behind a fault it stands still
+pub record IsSafeBehind (opening : Store) (history : History) (from : ℕ) (over : List Event) : Type 0 where
+  pub safe : (k : ℕ) → from < k → k ≤ history.moment → IsSafe opening over [] (history.state_at k)
+  pub still : IsStillAfterFault history from history.moment over
+
+-- A run that began behind this history, with this store: the disk is safe as it began, at each moment of the events of its journal, and at
+-- each moment behind them.
+pub record IsSafeRun (opening : Store) (start : History) (history : History) (journal : List Event) : Type 0 where
+  pub since : Follows start history
+  pub begins : IsSafe opening [] [] (now start)
+  pub events : AreSafeEvents opening history (IsSafeBehind opening history) start.moment [] journal
+
+-- ---- from entry on
+
+-- each image of the disk in which no checksum matches by chance means this store
+abbrev pub ImagesMean : State → Store → Type 0
+ImagesMean state store = (image : Files) → IsImage state image → NoChanceMatch state.reads image → MeanStore image store
 
 -- nothing is pending: a crash keeps what the files read as, and nothing else
 abbrev pub NothingPending : State → Type 0
 NothingPending state = (f : ℕ) → state.marks f ≡ synced_mark (state.reads f)
 
--- The files at entry meant a store. Where nothing was pending then, they mean it still at each moment since, whatever image a crash leaves;
--- and where nothing is pending at the end, they mean it at the end.
+-- what followed the valid prefix of the last file was cut off
+pub record IsTailCut (entry : Files) (f : ℕ) (file : Option (List ℕ)) : Type 0 where
+  pub run : FileRun
+  pub found : found_in f (content entry f) ≡ Run run
+  pub last : (g : ℕ) → f < g → entry g ≡ None
+  pub cut : file ≡ option_map (take run.end) (entry f)
+
+-- each file reads as it did at entry, but for a torn tail of the last one that was cut off
+abbrev pub ReadAsAtEntry : Files → Files → Type 0
+ReadAsAtEntry entry reads = (f : ℕ) → (reads f ≡ entry f) ⊎ IsTailCut entry f (reads f)
+
+-- At each moment since entry each file reads as it did at entry, but for a torn tail. The files at entry meant a store: where nothing was
+-- pending then, they mean it still at each moment since, whatever image a crash leaves; and where nothing is pending at the end, they mean
+-- it at the end.
 pub record KeepsEntry (old new : History) : Type 0 where
   pub since : Follows old new
+  pub reads : (k : ℕ) → old.moment ≤ k → k ≤ new.moment → ReadAsAtEntry (now old).reads (new.state_at k).reads
   pub images : NothingPending (now old) → (held : List (ℕ × List ℕ)) (meaning : Meaning) → AreFiles (now old).reads held → reading_of held ≡ Ok meaning
-      → (k : ℕ) → old.moment ≤ k → k ≤ new.moment → ImagesMean (log_opened held) (new.state_at k) meaning.store
+      → (k : ℕ) → old.moment ≤ k → k ≤ new.moment → ImagesMean (new.state_at k) meaning.store
   pub at_end : NothingPending (now new) → (held : List (ℕ × List ℕ)) (meaning : Meaning) → AreFiles (now old).reads held → reading_of held ≡ Ok meaning
-      → ImagesMean (log_opened held) (now new) meaning.store
+      → ImagesMean (now new) meaning.store
 
--- An event begins behind one moment and ends at another: at each moment between them, and behind it, the disk is safe.
-pub record IsSafeEvent (most : ℕ) (st : Standing) (log : Log) (history : History) (from to : ℕ) (over : List Event) (event : Event) : Type 0 where
-  pub later : from ≤ to
-  pub within : to ≤ history.moment
-  pub during : (k : ℕ) → from < k → k ≤ to → IsSafe most st log over (event ∷ []) (history.state_at k)
-  pub behind : IsSafe most st log (over ++ event ∷ []) [] (history.state_at to)
+-- ---- a whole program
 
--- events end at moments one after another, each safe, and this holds of the last moment and of all events
-abbrev pub AreSafeEvents : ℕ → Standing → Log → History → (ℕ → List Event → Type 0) → ℕ → List Event → List Event → Type 0
-AreSafeEvents most st log history Last from over [] = Last from over
-AreSafeEvents most st log history Last from over (event ∷ events) =
-    (to : ℕ) × IsSafeEvent most st log history from to over event × AreSafeEvents most st log history Last to (over ++ event ∷ []) events
-
--- from a moment on no event is under way, and the disk is safe
-abbrev pub IsSafeBehind : ℕ → Standing → Log → History → ℕ → List Event → Type 0
-IsSafeBehind most st log history from over = (k : ℕ) → from < k → k ≤ history.moment → IsSafe most st log over [] (history.state_at k)
-
--- A run that began behind this history, with this standing and this log: the disk is safe as it began, at each moment of the events of
--- its journal, and at each moment behind them.
-pub record IsSafeRun (most : ℕ) (st : Standing) (log : Log) (start : History) (history : History) (journal : List Event) : Type 0 where
-  pub since : Follows start history
-  pub begins : IsSafe most st log [] [] (now start)
-  pub events : AreSafeEvents most st log history (IsSafeBehind most st log history) start.moment [] journal
-
--- ---- what the parts of a run keep
-
--- what a run has kept so far of the log that its journal leaves
-pub record IsKept (most : ℕ) (st : Standing) (log : Log) (least : ℕ) (state : State) (journal : List Event) : Type 0 where
-  pub from : length (entries_of log) ≤ least
-  pub gap : HasNoGap (log_after most st journal log)
-  pub recovers : Recovers st.store (length (entries_of log)) (attempts_of st.store journal) (entries_of (log_after most st journal log))
-  pub synced : synced_of journal ≤ commits_in (length (entries_of log)) least (entries_of (log_after most st journal log))
-  pub keeps : KeepsLog (log_after most st journal log) [] least state.marks
-
-module _ {D : Type 0} where
-  -- the buffer has this log; a crash keeps at least so many of its entries, and more once a sync that is out has ended
-  pub record IsKeeping (state : State) (buffer : LogBuffer D) (log : Log) (least : ℕ) (begun : Option ℕ) : Type 0 where
-    pub has : HasLog true state buffer log
-    pub whole : IsWhole log
-    pub holds : Holds log [] least begun (first_of buffer) state
-
-  -- a valid environment at the end of a journal: its buffer has the journal's log, and the journal's commits are those attempted
-  pub record IsWorking (most : ℕ) (st : Standing) (log : Log) (least : ℕ) (state : State) (buffer : LogBuffer D) (journal : List Event) (begun : Option ℕ) : Type 0 where
-    pub keeping : IsKeeping state buffer (log_after most st journal log) least begun
-    pub store : store_after st.store (attempts_of st.store journal) ≡ (after_events (log_rule most) st journal).store
-    pub commits : (after_events (log_rule most) st journal).commits ≡ length (attempts_of st.store journal)
-
-  -- a run under way whose disk was safe at each moment of it; a buffer that works has met no fault
-  pub record IsGuarded (most : ℕ) (st : Standing) (log : Log) (start : History) (history : History) (buffer : LogBuffer D) (journal : List Event) (begun : Option ℕ) : Type 0 where
-    pub since : Follows start history
-    pub begins : IsSafe most st log [] [] (now start)
-    pub events : AreSafeEvents most st log history (λ from over. from ≡ history.moment) start.moment [] journal
-    pub least : ℕ
-    pub kept : IsKept most st log least (now history) journal
-    pub works : (after_events (log_rule most) st journal).fault ≡ None → IsWorking most st log least (now history) buffer journal begun
-    pub stops : has_failed buffer ≡ false → (after_events (log_rule most) st journal).fault ≡ None
-
-  -- a change was logged, or the disk failed: at each moment since a crash keeps so many entries of the longer log, and the buffer has it
-  -- unless the disk failed; where there was no memory, all is as it was
-  abbrev pub LogsSafely : History → History → LogBuffer D → Log → Log → ℕ → Result Answer AllocError → Type 0
-  LogsSafely old new buffer log longer least (Ok answer) = KeptThrough old new longer [] least × (answer ≢ DiskFault → IsKeeping (now new) buffer longer least None) × (has_failed buffer ≡ false → answer ≢ DiskFault)
-  LogsSafely old new buffer log longer least (Err error) = (new ≡ old) × IsKeeping (now new) buffer log least None
-
-  -- a call was answered, and the run goes on with it in its journal; or there was no memory, and it goes on without it
-  abbrev pub GoesOnSafely : ℕ → Standing → Log → History → History → LogBuffer D → List Event → ℕ → ℕ → Call → Result Answer AllocError → Type 0
-  GoesOnSafely most st log start history buffer journal session line call (Ok answer) = IsGuarded most st log start history buffer (journal ++ Called session line call answer ∷ []) None
-  GoesOnSafely most st log start history buffer journal session line call (Err error) = IsGuarded most st log start history buffer journal None
-
-  -- a sync began, of all entries of the log, or the disk failed
-  abbrev pub BeginsSafely : ℕ → Standing → Log → History → History → LogBuffer D → List Event → Bool → Type 0
-  BeginsSafely most st log start history buffer journal true =
-      IsGuarded most st log start history buffer (journal ++ SyncBegin Done ∷ []) (Some (length (entries_of (log_after most st journal log))))
-  BeginsSafely most st log start history buffer journal false = IsGuarded most st log start history buffer (journal ++ SyncBegin DiskFault ∷ []) None
-
-  -- a buffer that works has this log, and a crash keeps at least so many of its entries
-  abbrev pub KeepsIfWorks : Bool → State → LogBuffer D → Log → ℕ → Type 0
-  KeepsIfWorks failed state buffer log least = failed ≡ false → IsKeeping state buffer log least None
-
-  -- an environment was opened: all is stable, the disk is safe, and a crash keeps all of the log that the files at entry were opened as
-  pub record IsOpenedSafely (most : ℕ) (files : Files) (opening : Store) (history : History) (buffer : LogBuffer D) (kept : Kept) : Type 0 where
-    pub st : Standing
-    pub starts : StartsAt true files opening st
-    pub here : IsAt most true (now history) buffer kept st
-    pub stable : (now history).marks ≡ synced_marks (now history).reads
-    pub guarded : IsGuarded most st (log_opened starts.held) history history buffer [] None
-
--- A program's run began at the end of the sync with which the files at entry were opened, and was safe from there on; where nothing was
--- pending at entry, the disk was safe from entry on. Where all was done, each image at the end means the final store.
-pub record IsSafeProgram (most : ℕ) (old history : History) (opening : Store) (journal : List Event) (cause : Cause) : Type 0 where
-  pub st : Standing
-  pub starts : StartsAt true (now old).reads opening st
+-- A program's run began at the end of the sync with which the files at entry were opened, and was safe from there on; before it the files
+-- of entry were kept. Where all was done, each image at the end means the final store.
+pub record IsSafeProgram (old history : History) (opening : Store) (journal : List Event) (cause : Cause) : Type 0 where
   pub start : History
   pub stable : (now start).marks ≡ synced_marks (now start).reads
   pub before : KeepsEntry old start
-  pub run : IsSafeRun most st (log_opened starts.held) start history journal
-  pub ends : cause ≡ AllDone → ImagesMean (log_after most st journal (log_opened starts.held)) (now history) (final_store opening journal)
+  pub run : IsSafeRun opening start history journal
+  pub ends : cause ≡ AllDone → ImagesMean (now history) (final_store opening journal)

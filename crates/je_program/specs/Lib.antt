@@ -8,3 +8,4 @@ pub mod Opening
 pub mod Program
 pub mod Reading
 pub mod Crash
+pub mod Guarded

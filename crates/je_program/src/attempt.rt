@@ -7,14 +7,15 @@ ghost use Rattle.command_line.specs.Words.{file_max_in, is_taken};
 ghost use Rattle.je_disk.specs.Moments.{History, now};
 ghost use Rattle.log_buffer.specs.Buffer.{disk_of, has_failed};
 ghost use Rattle.log_buffer.specs.Log.{HasLog, ReadAs};
-ghost use Rattle.log_buffer.specs.Crash.{KeepsLog, KeptThrough};
+ghost use Rattle.log_buffer.specs.Crash.{KeepsRead, KeptThrough};
 ghost use Rattle.log_file.specs.Log.{Log, entries_of};
 ghost use Rattle.log_replay.specs.declared.finding.Finding.{Finding as Found};
 ghost use Rattle.je_model.specs.Answers.{Standing, after_events};
 ghost use Rattle.je_model.specs.Journal.{lines_of};
 ghost use Rattle.je_model.specs.Store.{no_databases};
 ghost use Rattle.je_program.specs.declared.cause.Cause.{Cause as Why};
-ghost use Rattle.je_program.specs.Crash.{ImagesMean, IsGuarded, IsSafeProgram, IsSafeRun, KeepsEntry, KeepsIfWorks, log_after};
+ghost use Rattle.je_program.specs.Crash.{ImagesMean, IsSafeProgram, IsSafeRun, KeepsEntry};
+ghost use Rattle.je_program.specs.Guarded.{IsGuarded, KeepsIfWorks};
 ghost use Rattle.je_program.specs.Environment.{log_rule};
 ghost use Rattle.je_program.specs.Files.{HasFinding};
 ghost use Rattle.je_program.specs.Program.{ClosesBy, ClosesRun, EndsBy, IsGivenTo, IsStopped, MeanStore, ReadsPlan, RunsIf, final_store, is_before_disk, totals_of};
@@ -74,7 +75,8 @@ fn close<D: Disk>(log: LogBuffer<D>, cause: Cause) -> (D, Cause)
     ensures written { (held : Log) → HasLog D.tells (now (D.history (disk_of log))) log held → has_failed log ≡ false → result.1 ≡ Why.Done
         → ReadAs D.tells (now (D.history result.0)).reads held }
     ensures crash { D.tells ≡ true → (held : Log) (least : ℕ) → KeepsIfWorks (has_failed log) (now (D.history (disk_of log))) log held least → KeptThrough (D.history (disk_of log)) (D.history result.0) held [] least }
-    ensures kept { D.tells ≡ true → (held : Log) → HasLog D.tells (now (D.history (disk_of log))) log held → has_failed log ≡ false → result.1 ≡ Why.Done → KeepsLog held [] (length (entries_of held)) (now (D.history result.0)).marks }
+    ensures kept { D.tells ≡ true → (held : Log) → HasLog D.tells (now (D.history (disk_of log))) log held → has_failed log ≡ false → result.1 ≡ Why.Done → KeepsRead held [] (length (entries_of held)) (now (D.history result.0)) }
+    ensures still { has_failed log ≡ true → result.0 ≡ disk_of log }
     ensures cause { ClosesBy (D.faults (disk_of log)) (D.faults result.0) cause result.1 }
     ensures never_falls { D.faults (disk_of log) ≤ D.faults result.0 }
 {
@@ -110,10 +112,10 @@ fn finish<D: Disk>(running: Running<D>, opening: Store) -> Attempt<D>
     ensures caused { (before : ℕ) → IsCaused before (D.faults (disk_of running.environment.log)) running.journal.items → ClosesRun before (D.faults result.disk) running.journal.items result.cause }
     ensures crash { D.tells ≡ true → (most : ℕ) (start : History) (st : Standing) (log : Log) → IsRunning most D.tells (now (D.history (disk_of running.environment.log))) running.environment.log running.environment.kept running.journal.items st
         → IsGuarded most st log start (D.history (disk_of running.environment.log)) running.environment.log running.journal.items None
-        → IsSafeRun most st log start (D.history result.disk) running.journal.items }
+        → IsSafeRun st.store start (D.history result.disk) running.journal.items }
     ensures crash_end { D.tells ≡ true → (most : ℕ) (start : History) (st : Standing) (log : Log) → IsRunning most D.tells (now (D.history (disk_of running.environment.log))) running.environment.log running.environment.kept running.journal.items st
         → IsGuarded most st log start (D.history (disk_of running.environment.log)) running.environment.log running.journal.items None → st.fault ≡ None → result.cause ≡ Why.Done
-        → ImagesMean (log_after most st running.journal.items log) (now (D.history result.disk)) (after_events (log_rule most) st running.journal.items).store }
+        → ImagesMean (now (D.history result.disk)) (after_events (log_rule most) st running.journal.items).store }
     ensures totals { (most : ℕ) (st : Standing) → IsRunning most D.tells (now (D.history (disk_of running.environment.log))) running.environment.log running.environment.kept running.journal.items st
         → result.totals ≡ totals_of (after_events (log_rule most) st running.journal.items).store }
     ensures files { (most : ℕ) (st : Standing) → IsRunning most D.tells (now (D.history (disk_of running.environment.log))) running.environment.log running.environment.kept running.journal.items st
@@ -146,7 +148,7 @@ pub fn run_plan<D: Disk>(alloc: Global, disk: D, file_max: u32, plan: RunPlan) -
     ensures runs { RunsIf result.cause result.opened }
     ensures after_reading { is_before_disk result.cause ≡ false }
     ensures run { result.opened ≡ true → (st : Standing) × HasRun file_max D.tells (now (D.history disk)).reads result.opening result.journal.items st }
-    ensures crash { D.tells ≡ true → result.opened ≡ true → IsSafeProgram file_max (D.history disk) (D.history result.disk) result.opening result.journal.items result.cause }
+    ensures crash { D.tells ≡ true → result.opened ≡ true → IsSafeProgram (D.history disk) (D.history result.disk) result.opening result.journal.items result.cause }
     ensures crash_unopened { D.tells ≡ true → result.opened ≡ false → KeepsEntry (D.history disk) (D.history result.disk) }
     ensures unopened { result.opened ≡ false → (result.opening ≡ no_databases) × (result.journal.items ≡ []) }
     ensures unreadable { (finding : Found) → result.cause ≡ Why.Unreadable finding → D.tells ≡ true → HasFinding (now (D.history disk)).reads finding }
@@ -186,7 +188,7 @@ pub fn work<D: Disk, S: Source>(
     ensures untouched { is_before_disk result.cause ≡ true → result.disk ≡ disk }
     ensures runs { RunsIf result.cause result.opened }
     ensures run { result.opened ≡ true → (file_max : ℕ) × (st : Standing) × (file_max_in (map string_bytes words.now) ≡ Some file_max) × HasRun file_max D.tells (now (D.history disk)).reads result.opening result.journal.items st }
-    ensures crash { D.tells ≡ true → result.opened ≡ true → (file_max : ℕ) × (file_max_in (map string_bytes words.now) ≡ Some file_max) × IsSafeProgram file_max (D.history disk) (D.history result.disk) result.opening result.journal.items result.cause }
+    ensures crash { D.tells ≡ true → result.opened ≡ true → IsSafeProgram (D.history disk) (D.history result.disk) result.opening result.journal.items result.cause }
     ensures crash_unopened { D.tells ≡ true → result.opened ≡ false → KeepsEntry (D.history disk) (D.history result.disk) }
     ensures unopened { result.opened ≡ false → (result.opening ≡ no_databases) × (result.journal.items ≡ []) }
     ensures unreadable { (finding : Found) → result.cause ≡ Why.Unreadable finding → D.tells ≡ true → HasFinding (now (D.history disk)).reads finding }

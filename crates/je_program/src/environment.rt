@@ -11,7 +11,7 @@ ghost use Rattle.log_buffer.specs.Buffer.{disk_of, has_failed};
 ghost use Rattle.log_entry.specs.Body.{IsEntry};
 ghost use Rattle.log_file.specs.Log.{Log, entries_of};
 ghost use Rattle.log_replay.specs.Logging.{entry_of as entry_of_change};
-ghost use Rattle.je_program.specs.Crash.{BeginsSafely, GoesOnSafely, IsGuarded, IsKeeping, LogsSafely, log_after, log_with_all};
+ghost use Rattle.je_program.specs.Guarded.{BeginsSafely, GoesOnSafely, IsGuarded, IsKeeping, LogsSafely, log_after, log_with_all};
 ghost use Rattle.je_program.specs.Environment.{IsAt, IsAtEnd, log_rule};
 ghost use Rattle.je_program.specs.Logging.{IsTransaction, entries_logged};
 ghost use Rattle.je_program.specs.Planning.{end_behind};

@@ -14,7 +14,7 @@ ghost use Rattle.log_file.specs.Log.{Log};
 ghost use Rattle.log_file.specs.Scan.{may_follow};
 ghost use Rattle.log_replay.specs.Rows.{rows_in};
 ghost use Rattle.log_replay.specs.Logging.{entry_of as entry_of_change};
-ghost use Rattle.je_program.specs.Crash.{IsKeeping, log_with_all};
+ghost use Rattle.je_program.specs.Guarded.{IsKeeping, log_with_all};
 ghost use Rattle.je_program.specs.Logging.{IsTransaction, rows_after};
 ghost use Rattle.je_program.specs.Steps.{GainsEntries};
 ghost use Rattle.je_program.specs.declared.kept.TheConstants.{LAST_FILE};

@@ -7,7 +7,8 @@ ghost use Rattle.log_buffer.specs.Buffer.{disk_of, end_of, file_max_of, first_of
 ghost use Rattle.log_buffer.specs.Crash.{Holds};
 ghost use Rattle.log_buffer.specs.Log.{HasLog};
 ghost use Rattle.log_file.specs.Log.{Log, entries_of};
-ghost use Rattle.je_program.specs.Crash.{IsOpenedSafely, KeepsEntry};
+ghost use Rattle.je_program.specs.Crash.{KeepsEntry};
+ghost use Rattle.je_program.specs.Guarded.{IsOpenedSafely};
 ghost use Rattle.je_program.specs.Opening.{IsOpened, IsSettled, IsSettling, StartsLog, StopsBy, WasRead, cut_off, kept_at_start, start_of};
 ghost use Rattle.je_program.specs.Steps.{CanGoOn};
 ghost use Rattle.je_program.specs.declared.kept.TheConstants.{LAST_FILE};

@@ -8,7 +8,7 @@ ghost use Rattle.log_file.specs.Log.{Log};
 ghost use Rattle.je_model.specs.Answers.{Standing};
 ghost use Rattle.je_model.specs.declared.plan.Given.{Given as Line};
 ghost use Rattle.je_model.specs.declared.plan.Given.TheVariants.{Session};
-ghost use Rattle.je_program.specs.Crash.{IsGuarded};
+ghost use Rattle.je_program.specs.Guarded.{IsGuarded};
 ghost use Rattle.je_program.specs.Environment.{IsAt};
 ghost use Rattle.je_program.specs.Run.{IsRunning, IsCaused, HasGiven};
 ghost use Rattle.je_program.specs.Steps.{CanGoOn};

@@ -380,4 +380,4 @@ module _ (log gone : Log) (least : ℕ) (state : State) (image : Files) (is : Is
   leaves = record { first = first_files; whole = whole_files; others = not_logged; within = not_above }
 
 pub kept_is_left : KeptIsLeft
-kept_is_left log gone least state image is k img no_chance = leaves log gone least state image is k.keeps k.prefixes img no_chance
+kept_is_left log gone least state image is k holds img no_chance = leaves log gone least state image is k holds img no_chance

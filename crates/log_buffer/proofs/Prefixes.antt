@@ -4,7 +4,9 @@ use Rattle.std.specs.Prelude.{unwrap_or}
 use Rattle.std.specs.Map.{lookup}
 use Rattle.std.proofs.lemmas.Bool.{cases_lt, eqb-true}
 use Rattle.std.proofs.lemmas.List.{append-nil, take_at}
-use Rattle.je_disk.specs.States.{State, Files, appended, appended_by, content, created, created_by}
+use Rattle.std.specs.Option.{option_map as mapped}
+use Rattle.je_disk.specs.States.{State, Files, appended, appended_by, content, created, created_by, cut}
+use Rattle.je_disk.proofs.Effects.{cut-reads}
 use Rattle.log_entry.specs.declared.entry.Entry.{Entry}
 use Rattle.log_entry.specs.declared.decoder.Decoded.TheVariants.{Torn as NotWhole}
 use Rattle.log_entry.specs.declared.decoder.Torn.TheVariants.{Short}
@@ -31,8 +33,14 @@ nothing_torn = refl
 pub found_alone : (f : ℕ) (entries : List Entry) → f < 2 ^ 32 → AreFileEntries entries → found_in f (file_bytes f entries) ≡ Run (run_with entries)
 found_alone f entries lt ok = ap (found_in f) (sym (append-nil (file_bytes f entries))) ∙ are_found_again f entries [] Short lt ok nothing_torn
 
-empty_prefix : (f : ℕ) (entries : List Entry) → HoldsPrefix f entries []
+pub empty_prefix : (f : ℕ) (entries : List Entry) → HoldsPrefix f entries []
 empty_prefix f entries = record { run = no_run; found = ap (found_by f []) nothing_torn; more = entries; is = refl }
+
+-- a prefix that was cut
+prefix_cut : (f n : ℕ) (entries : List Entry) (bytes : List ℕ) → HoldsPrefix f entries bytes → HoldsPrefix f entries (take n bytes)
+prefix_cut f n entries bytes holds =
+    let cut = cut_prefix f n bytes holds.run holds.found in
+    record { run = cut.run; found = cut.found; more = cut.more ++ holds.more; is = holds.is ∙ ap (λ (l : List Entry). l ++ holds.more) cut.is ∙ append_assoc cut.run.entries cut.more holds.more }
 
 -- what a log has in a file begins with these bytes, or they are none
 abbrev IsCutOf : Log → ℕ → List ℕ → Type 0
@@ -114,6 +122,19 @@ created_prefixes log f s holds g = by_there (s.reads f) where
   by_there : (there : Option (List ℕ)) → HoldsPrefix g (entries_at log g) (content (created_by there f s).reads g)
   by_there None = by_file (g == f)
   by_there (Some there) = holds g
+
+-- a file was cut
+pub cut_prefixes : (log : Log) (f n : ℕ) (s : State) → HoldPrefixes log s.reads → HoldPrefixes log (cut f n s).reads
+cut_prefixes log f n s holds g =
+    subst (λ (o : Option (List ℕ)). HoldsPrefix g (entries_at log g) (unwrap_or o [])) (sym (cut-reads f g n s)) (by_file (g == f) refl)
+  where
+    shorter : (o : Option (List ℕ)) → HoldsPrefix f (entries_at log f) (unwrap_or o []) → HoldsPrefix f (entries_at log f) (unwrap_or (mapped (take n) o) [])
+    shorter None here = here
+    shorter (Some there) here = prefix_cut f n (entries_at log f) there here
+
+    by_file : (b : Bool) → (g == f) ≡ b → HoldsPrefix g (entries_at log g) (unwrap_or (cond b (mapped (take n) (s.reads f)) (s.reads g)) [])
+    by_file true same = subst (λ (m : ℕ). HoldsPrefix m (entries_at log m) (unwrap_or (mapped (take n) (s.reads f)) [])) (sym (eqb-true _ _ same)) (shorter (s.reads f) (holds f))
+    by_file false other = holds g
 
 appended_content : (f : ℕ) (part : List ℕ) (s : State) (g : ℕ) → content (appended f part s).reads g ≡ cond (g == f) (content s.reads f ++ part) (content s.reads g)
 appended_content f part s g = by_there (s.reads f) where

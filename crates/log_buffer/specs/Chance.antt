@@ -13,7 +13,7 @@ use Rattle.log_file.specs.declared.found.Found.{Found}
 use Rattle.log_file.specs.declared.found.Found.TheVariants.{Run}
 use Rattle.log_file.specs.Scan.{found_in}
 use Rattle.log_file.specs.Log.{Log, IsLog, AreFiles, file_bytes, files_of_log, entries_found, entries_of, log_in}
-use Rattle.log_buffer.specs.Crash.{KeepsLog, KeepsFront, KeepsRead}
+use Rattle.log_buffer.specs.Crash.{KeepsLog, KeepsFront, HoldPrefixes}
 
 -- the first of these entries
 pub record IsFrontOf (all front : List Entry) : Type 0 where
@@ -83,8 +83,8 @@ pub record LeavesLog (log removed : Log) (least : ℕ) (image : Files) : Type 0 
 
 -- what a crash keeps of a log is in each image
 abbrev pub KeptIsLeft : Type 0
-KeptIsLeft = (log removed : Log) (least : ℕ) (state : State) (image : Files) → IsLog log → KeepsRead log removed least state → AreFileImages state.marks image → NoChanceMatch state.reads image
-    → LeavesLog log removed least image
+KeptIsLeft = (log removed : Log) (least : ℕ) (state : State) (image : Files) → IsLog log → KeepsLog log removed least state.marks → HoldPrefixes log state.reads → AreFileImages state.marks image
+    → NoChanceMatch state.reads image → LeavesLog log removed least image
 
 -- ---- which images meet the premise
 

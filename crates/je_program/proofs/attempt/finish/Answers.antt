@@ -1,9 +1,10 @@
+use Rattle.std.proofs.Common.{ap}
 use Rattle.je_disk.specs.Moments.{now}
 use Rattle.je_model.specs.Answers.{after_events}
 use Rattle.log_buffer.specs.Buffer.{file_of, offset_of, last_of}
 use Rattle.log_replay.specs.Rows.{rows_in}
 use Rattle.je_program.specs.Environment.{log_rule}
-use Rattle.je_program.specs.Crash.{log_after}
+use Rattle.je_program.specs.Guarded.{log_after}
 use Rattle.je_program.proofs.BothLaws.{as_told}
 use Rattle.je_program.proofs.ClosedLaws.{closed_images, closed_safely}
 use Rattle.je_program.proofs.FinishLaws.{closes_run, done_without_fault, valid_afterwards, files_mean}
@@ -33,6 +34,7 @@ returns-clause-crash g c = λ told most start st log running guarded.
     let r = c.args.running in
     closed_safely most st log start (g.D.Disk.history r.environment.log.disk) (g.D.Disk.history c.close-disk.result.0) r.environment.log r.journal.items guarded
     (c.close-disk.ensures.crash told (log_after most st r.journal.items log) guarded.least (λ works. (guarded.works (guarded.stops works)).keeping))
+    (λ failed. ap (λ d. g.D.Disk.history d) (c.close-disk.ensures.still failed))
 
 pub returns-clause-crash_end : goal.returns-clause-crash_end
 returns-clause-crash_end g c = λ told most start st log running guarded none done.

@@ -5,7 +5,8 @@ use Rattle.je_model.specs.declared.plan.Given.{Given}
 use Rattle.je_model.specs.declared.store.Store.{Store}
 use Rattle.je_model.specs.Journal.{lines_of}
 use Rattle.log_buffer.specs.Buffer.{disk_of}
-use Rattle.je_program.specs.Crash.{ImagesMean, KeepsEntry, IsSafeProgram, log_after, log_opened}
+use Rattle.je_program.specs.Crash.{ImagesMean, IsSafeRun, KeepsEntry, IsSafeProgram}
+use Rattle.je_program.specs.Guarded.{log_opened}
 use Rattle.je_program.specs.Environment.{IsAt}
 use Rattle.je_program.specs.Program.{totals_of, final_store, MeanStore, EndsBy, ClosesRun}
 use Rattle.je_program.specs.Run.{HasRun, IsFront, of_session}
@@ -94,18 +95,16 @@ returns-in-Ok-clause-crash g c = λ told is_opened.
     subst (λ (t : Bool). IsAt c.args.file_max t (now (history (disk_of env.log))) env.log env.kept at.st) (sym told) at.here in
     let running = c.run-running.ensures.runs c.args.file_max at.st here in
     let guarded = c.run-running.ensures.crash told c.args.file_max at.st held start here at.guarded in
-    let run : IsSafeProgram c.args.file_max (history c.args.disk) (history f.result.disk) c.in-Ok.opened.opening j f.result.cause = record {
-      st = at.st;
-      starts = at.starts;
+    let run : IsSafeProgram (history c.args.disk) (history f.result.disk) c.in-Ok.opened.opening j f.result.cause = record {
       start = start;
       stable = at.stable;
       before = c.in-Ok.ensures.entry told;
-      run = f.ensures.crash told c.args.file_max start at.st held running guarded;
-      ends = λ done. subst (λ (s : Store). ImagesMean (log_after c.args.file_max at.st j held) (now (history f.result.disk)) s) (final_is c.args.file_max at.st c.in-Ok.opened.opening j at.starts.store)
+      run = subst (λ (s : Store). IsSafeRun s start (history f.result.disk) j) at.starts.store (f.ensures.crash told c.args.file_max start at.st held running guarded);
+      ends = λ done. subst (λ (s : Store). ImagesMean (now (history f.result.disk)) s) (final_is c.args.file_max at.st c.in-Ok.opened.opening j at.starts.store)
           (f.ensures.crash_end told c.args.file_max start at.st held running guarded at.starts.fault done);
     } in
-    subst (λ (s : Store). IsSafeProgram c.args.file_max (history c.args.disk) (history f.result.disk) s f.result.journal.items f.result.cause) (sym f.ensures.opening)
-    (subst (λ (l : List Event). IsSafeProgram c.args.file_max (history c.args.disk) (history f.result.disk) c.in-Ok.opened.opening l f.result.cause) (sym f.ensures.journal) run)
+    subst (λ (s : Store). IsSafeProgram (history c.args.disk) (history f.result.disk) s f.result.journal.items f.result.cause) (sym f.ensures.opening)
+    (subst (λ (l : List Event). IsSafeProgram (history c.args.disk) (history f.result.disk) c.in-Ok.opened.opening l f.result.cause) (sym f.ensures.journal) run)
 
 pub returns-in-Err-clause-crash_unopened : goal.returns-in-Err-clause-crash_unopened
 returns-in-Err-clause-crash_unopened g c = λ told opened. subst (λ d. KeepsEntry (g.D.Disk.history c.args.disk) (g.D.Disk.history d)) (sym c.unopened.ensures.disk) (c.in-Err.ensures.stopped_entry told)

@@ -11,7 +11,7 @@ pub returns-in-Ok-clause-run : goal.returns-in-Ok-clause-run
 returns-in-Ok-clause-run g c = λ opened. (let r = c.run_plan.ensures.run opened in (c.in-Ok.field-0.file_max, r.0, c.in-Ok.ensures.file_max, r.1))
 
 pub returns-in-Ok-clause-crash : goal.returns-in-Ok-clause-crash
-returns-in-Ok-clause-crash g c = λ told opened. (c.in-Ok.field-0.file_max, c.in-Ok.ensures.file_max, c.run_plan.ensures.crash told opened)
+returns-in-Ok-clause-crash g c = c.run_plan.ensures.crash
 
 pub returns-in-Ok-clause-crash_unopened : goal.returns-in-Ok-clause-crash_unopened
 returns-in-Ok-clause-crash_unopened g c = c.run_plan.ensures.crash_unopened

@@ -12,7 +12,7 @@ use Rattle.je_model.specs.declared.plan.Given.TheVariants.{Session}
 use Rattle.std.proofs.lemmas.List.{append-nil}
 use Rattle.je_model.proofs.Journal.{after_events-append, lines_of-append}
 use Rattle.log_file.specs.Log.{Log, entries_of}
-use Rattle.je_program.specs.Crash.{IsGuarded, log_after}
+use Rattle.je_program.specs.Guarded.{IsGuarded, log_after}
 use Rattle.je_program.specs.Environment.{IsAt, log_rule}
 use Rattle.je_program.specs.Run.{IsCaused, IsRunning}
 use Rattle.je_program.proofs.CallLaws.{logged_none}

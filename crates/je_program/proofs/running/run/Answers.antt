@@ -3,7 +3,7 @@ use Rattle.std.specs.Vec.Iter.{into_iter_items}
 use Rattle.je_disk.specs.Moments.{now}
 use Rattle.log_buffer.specs.Buffer.{disk_of}
 use Rattle.je_model.specs.declared.event.Event.{Event}
-use Rattle.je_program.specs.Crash.{IsGuarded}
+use Rattle.je_program.specs.Guarded.{IsGuarded}
 use Rattle.je_program.specs.Run.{IsRunning, IsCaused, HasGiven}
 use Rattle.je_program.proofs.RunLaws.{runs_none, caused_none}
 use Rattle.je_program.proofs.GivenLaws.{given_none, first_line}

@@ -6,7 +6,7 @@ use Rattle.log_buffer.specs.Buffer.{disk_of}
 use Rattle.je_model.specs.Answers.{Standing}
 use Rattle.script_text.specs.Grammar.{is_line}
 use Rattle.log_file.specs.Log.{Log}
-use Rattle.je_program.specs.Crash.{IsGuarded}
+use Rattle.je_program.specs.Guarded.{IsGuarded}
 use Rattle.je_program.specs.Environment.{IsAt}
 use Rattle.je_program.specs.Run.{IsRunning, IsCaused, HasGiven}
 use Rattle.je_program.specs.Steps.{CanGoOn}

@@ -2,7 +2,7 @@ use Rattle.std.proofs.Common.{[], None, Err, ap}
 use Rattle.je_disk.specs.Moments.{now}
 use Rattle.je_disk.specs.States.{State}
 use Rattle.log_buffer.specs.Buffer.{disk_of}
-use Rattle.je_program.specs.Crash.{log_after}
+use Rattle.je_program.specs.Guarded.{log_after}
 use Rattle.je_program.proofs.BothLaws.{as_told, of_told}
 use Rattle.je_program.proofs.SyncLaws.{begun_safely, not_begun_safely}
 use Rattle.je_program.proofs.environment.Environment.begin_sync.Goals as goal
@@ -30,6 +30,6 @@ returns-in-Err-clause-crash g c = λ told most st log start journal none guarded
     let new = c.sync_begin.new.self in
     let held = log_after most st journal log in
     let keeping = (guarded.works none).keeping in
-    not_begun_safely most st log start (g.D.Disk.history (disk_of old)) (g.D.Disk.history (disk_of new)) old new journal guarded
+    not_begun_safely most st log start (g.D.Disk.history (disk_of old)) (g.D.Disk.history (disk_of new)) old new journal none guarded
     (c.sync_begin.ensures.crash told held [] guarded.least None (as_told g.D.Disk.tells (state (disk_of old)) old held told keeping.has) keeping.holds)
     (c.in-Err.ensures.cause.failed.1 (ap Err c.in-Err.ensures.by_fault))

@@ -3,7 +3,7 @@ use Rattle.je_disk.specs.Moments.{now}
 use Rattle.je_disk.specs.States.{State}
 use Rattle.log_buffer.specs.Buffer.{disk_of}
 use Rattle.log_file.specs.Log.{entries_of}
-use Rattle.je_program.specs.Crash.{log_after}
+use Rattle.je_program.specs.Guarded.{log_after}
 use Rattle.je_program.proofs.BothLaws.{as_told, of_told}
 use Rattle.je_program.proofs.SyncLaws.{ended_safely, not_ended_safely}
 use Rattle.je_program.proofs.environment.Environment.end_sync.Goals as goal
@@ -31,7 +31,7 @@ returns-in-Err-clause-crash g c = λ told most st log start journal here none gu
     let new = c.sync_end.new.self in
     let held = log_after most st journal log in
     let keeping = (guarded.works none).keeping in
-    not_ended_safely most st log start (g.D.Disk.history (disk_of old)) (g.D.Disk.history (disk_of new)) old new journal (Some (length (entries_of held))) guarded
+    not_ended_safely most st log start (g.D.Disk.history (disk_of old)) (g.D.Disk.history (disk_of new)) old new journal (Some (length (entries_of held))) none guarded
     (c.sync_end.ensures.crash told held [] guarded.least (length (entries_of held)) (as_told g.D.Disk.tells (state (disk_of old)) old held told keeping.has) keeping.holds)
     (c.in-Err.ensures.cause.failed.1 (ap Err c.in-Err.ensures.by_fault))
 

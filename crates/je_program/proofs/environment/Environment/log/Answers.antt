@@ -3,7 +3,7 @@ use Rattle.log_buffer.specs.Buffer.{disk_of}
 use Rattle.log_entry.specs.declared.entry.Entry.{Entry}
 use Rattle.log_entry.specs.declared.entry.Entry.TheVariants.{Commit}
 use Rattle.log_entry.specs.Body.{IsEntry}
-use Rattle.je_program.specs.Crash.{LogsSafely, log_with_all}
+use Rattle.je_program.specs.Guarded.{LogsSafely, log_with_all}
 use Rattle.je_program.proofs.environment.Environment.log.Goals as goal
 
 pub log_both-answer-requires-clause-logs : goal.log_both-answer-requires-clause-logs

@@ -4,7 +4,7 @@ use Rattle.log_buffer.specs.Buffer.{disk_of}
 use Rattle.je_model.specs.declared.answer.Answer.TheVariants.{IdsEnded, Invalid}
 use Rattle.je_program.specs.declared.planning.Planned.TheVariants.{Answered, Logs}
 use Rattle.je_program.specs.Planning.{IsLogged}
-use Rattle.je_program.specs.Crash.{log_after}
+use Rattle.je_program.specs.Guarded.{log_after}
 use Rattle.je_model.specs.Answers.{after_events}
 use Rattle.je_program.specs.Environment.{IsAt, log_rule}
 use Rattle.je_program.proofs.CallLaws.{both_logged, goes_on_safely, goes_nowhere}
