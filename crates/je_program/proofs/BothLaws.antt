@@ -1,8 +1,8 @@
 -- Two appends of a transaction, and what a crash keeps through them.
 use Rattle.std.proofs.Common.{◌≡◌, ℕ, ◌≤◌, Bool, true, [], ◌∷◌, None, ap, sym, ◌∙◌, subst}
 use Rattle.je_disk.specs.States.{State}
-use Rattle.je_disk.specs.Moments.{History}
-use Rattle.je_disk.proofs.Moments.{passes_weaken, passes_then}
+use Rattle.je_disk.specs.Moments.{History, now}
+use Rattle.je_disk.proofs.Moments.{passes_weaken}
 use Rattle.log_entry.specs.declared.entry.Entry.{Entry}
 use Rattle.log_entry.specs.Body.{IsEntry}
 use Rattle.log_entry.specs.Spelling.{size_of}
@@ -11,10 +11,11 @@ use Rattle.log_file.specs.Scan.{may_follow}
 use Rattle.log_buffer.specs.declared.buffer.LogBuffer.{LogBuffer}
 use Rattle.log_buffer.specs.declared.place.Place.{Place}
 use Rattle.log_buffer.specs.Buffer.{end_of, file_max_of, first_of, last_of}
-use Rattle.log_buffer.specs.Crash.{Holds, KeepsRead, KeptThrough}
+use Rattle.log_buffer.specs.Crash.{Holds, IsKeptSince, KeepsRead, KeptThrough}
 use Rattle.log_buffer.specs.Flip.{end_after, end_after_all, placed_at}
 use Rattle.log_buffer.specs.Log.{HasLog, log_with}
 use Rattle.log_buffer.proofs.Prefixes.{prefixes_grow}
+use Rattle.log_buffer.proofs.Staying.{kept_then}
 use Rattle.je_program.specs.declared.kept.TheConstants.{LAST_FILE}
 use Rattle.je_program.specs.Guarded.{IsKeeping, log_with_all}
 use Rattle.je_program.proofs.GrownLaws.{IsLongerByBoth, longer_by_both}
@@ -39,8 +40,8 @@ both_read most end a b log least s both k = second_read most end a b log least s
 pub first_through : (most : ℕ) (end : Place) (a b : Entry) (log : Log) (least : ℕ) (old new : History) → IsLongerByBoth most end a b log →
     KeptThrough old new (log_with (placed_at most end (size_of a)).file a log) [] least → KeptThrough old new (log_with_all most end (a ∷ b ∷ []) log) [] least
 first_through most end a b log least old new both through =
-    passes_weaken old new (KeepsRead (log_with (placed_at most end (size_of a)).file a log) [] least) (KeepsRead (log_with_all most end (a ∷ b ∷ []) log) [] least)
-    (λ s k. second_read most end a b log least s both k) through
+    passes_weaken old new (IsKeptSince (log_with (placed_at most end (size_of a)).file a log) [] least (now old).reads) (IsKeptSince (log_with_all most end (a ∷ b ∷ []) log) [] least (now old).reads)
+    (λ s k. record { kept = second_read most end a b log least s both k.kept; stay = k.stay }) through
 
 -- the log with the second entry too, by the numbers that the buffer has then
 pub second_is : (most m : ℕ) (end e : Place) (a b : Entry) (log : Log) → m ≡ most → e ≡ end_after most end (size_of a) →
@@ -53,7 +54,7 @@ second_is most m end e a b log max at =
 pub both_through : (most : ℕ) (end : Place) (a b : Entry) (log longer : Log) (least : ℕ) (old middle new : History) → IsLongerByBoth most end a b log → longer ≡ log_with_all most end (a ∷ b ∷ []) log →
     KeptThrough old middle (log_with (placed_at most end (size_of a)).file a log) [] least → KeptThrough middle new longer [] least → KeptThrough old new (log_with_all most end (a ∷ b ∷ []) log) [] least
 both_through most end a b log longer least old middle new both same first second =
-    passes_then old middle new (KeepsRead (log_with_all most end (a ∷ b ∷ []) log) [] least)
+    kept_then (log_with_all most end (a ∷ b ∷ []) log) [] least old middle new
     (first_through most end a b log least old middle both first) (subst (λ (l : Log). KeptThrough middle new l [] least) same second)
 
 module _ {D : Type 0} where

@@ -26,11 +26,12 @@ use Rattle.log_entry.specs.declared.entry.Entry.TheVariants.{Commit}
 use Rattle.log_file.specs.Log.{Log, entries_of}
 use Rattle.log_buffer.specs.declared.buffer.LogBuffer.{LogBuffer}
 use Rattle.log_buffer.specs.declared.place.Place.{Place}
-use Rattle.log_buffer.specs.Crash.{KeepsRead, KeptThrough}
+use Rattle.log_buffer.specs.Crash.{FilesStay, KeepsRead, KeptThrough}
 use Rattle.log_buffer.specs.Buffer.{has_failed, last_of}
 use Rattle.log_buffer.specs.Flip.{end_after_all}
 use Rattle.log_buffer.specs.Log.{EndsAt}
 use Rattle.log_buffer.proofs.KeptSyncs.{count_kept}
+use Rattle.log_buffer.proofs.Staying.{read_through}
 use Rattle.log_replay.specs.Kept.{IsKept as KeepsRecords, MayBeLogged, entries_with}
 use Rattle.log_replay.specs.Logging.{entry_of}
 use Rattle.log_replay.proofs.LoggedLaws.{follows-entry_of}
@@ -190,6 +191,7 @@ module _ {D : Type 0} where
     kept = subst (λ (h : History). IsKept most st log g.least (now h) journal) (sym same) g.kept;
     works = λ none. let w = g.works none in record { keeping = keeping; store = w.store; commits = w.commits };
     stops = λ ok. valid;
+    files = subst (λ (h : History). (k : ℕ) → start.moment ≤ k → k ≤ h.moment → FilesStay (now start).reads (h.state_at k).reads) (sym same) g.files;
   }
 
   -- a call found no memory, and all is as it was
@@ -221,7 +223,7 @@ module _ {D : Type 0} where
       guarded_attempt most st log start old new buffer longer journal (Called session line call DiskFault) call change grown g
       (attempted most st log start old buffer kept journal call number change totals here none g logged both)
       (λ l. refl) (λ s. refl) refl safely.0
-      (passes_now old new (KeepsRead grown [] g.least) safely.0
+      (passes_now old new (KeepsRead grown [] g.least) (read_through grown [] g.least old new safely.0)
       (both_read kept.file_max kept.end (entry_of (kept.last_txn + 1) number change) (Commit (record { 0 = kept.last_txn + 1 })) (log_after most st journal log) g.least (now old) both g.kept.keeps))
       (λ fault. absurd cc)
       (λ ok. absurd (safely.2 ok refl))

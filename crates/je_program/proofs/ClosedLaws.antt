@@ -13,9 +13,10 @@ use Rattle.je_model.specs.Journal.{attempts_of, has_answer, is_disk_fault}
 use Rattle.log_file.specs.Log.{Log, entries_of}
 use Rattle.log_buffer.specs.declared.buffer.LogBuffer.{LogBuffer}
 use Rattle.log_buffer.specs.Buffer.{file_of, first_of, has_failed, last_of, offset_of}
-use Rattle.log_buffer.specs.Crash.{Holds, KeepsRead, KeptThrough}
+use Rattle.log_buffer.specs.Crash.{Holds, IsKeptSince, KeepsRead, KeptThrough}
 use Rattle.log_buffer.specs.Log.{HasLog}
 use Rattle.log_buffer.proofs.Left.{kept_is_left}
+use Rattle.log_buffer.proofs.Staying.{stay_same}
 use Rattle.log_replay.specs.Kept.{IsKept as KeepsRecords}
 use Rattle.log_replay.specs.Rows.{rows_in}
 use Rattle.crash_meaning.specs.Reading.{HasNoGap}
@@ -28,18 +29,19 @@ use Rattle.je_program.specs.Environment.{IsAt, IsValid, IsWhole, log_rule}
 use Rattle.je_program.specs.Program.{MeanStore}
 use Rattle.je_program.proofs.FinishLaws.{small_files}
 use Rattle.je_program.proofs.GuardLaws.{keeping_read, one_log}
-use Rattle.je_program.proofs.SafeLaws.{fault_stands, goes_on, safe, none_more}
+use Rattle.je_program.proofs.SafeLaws.{fault_stands, files_on, goes_on, safe, none_more}
 
 module _ {D : Type 0} where
   -- a run that was closed; one whose buffer has failed was let go
   pub closed_safely : (most : ℕ) (st : Standing) (log : Log) (start : History) (old new : History) (buffer : LogBuffer D) (journal : List Event) → (g : IsGuarded most st log start old buffer journal None) →
       KeptThrough old new (log_after most st journal log) [] g.least → (has_failed buffer ≡ true → new ≡ old) → IsSafeRun st.store start new journal
   closed_safely most st log start old new buffer journal g through same = record {
-    since = goes_on start old new (KeepsRead (log_after most st journal log) [] g.least) g.since through;
+    since = goes_on start old new (IsKeptSince (log_after most st journal log) [] g.least (now old).reads) g.since through;
     begins = g.begins;
-    events = none_more st.store old new (KeepsRead (log_after most st journal log) [] g.least) start.moment [] journal through g.events
-        (λ k lo hi. safe most st log g.least journal [] journal (new.state_at k) (sym (append-nil journal)) g.kept.from g.kept.gap g.kept.recovers g.kept.synced (through.each k lo hi))
+    events = none_more st.store old new (IsKeptSince (log_after most st journal log) [] g.least (now old).reads) start.moment [] journal through g.events
+        (λ k lo hi. safe most st log g.least journal [] journal (new.state_at k) (sym (append-nil journal)) g.kept.from g.kept.gap g.kept.recovers g.kept.synced (through.each k lo hi).kept)
         (by_failed (has_failed buffer) refl);
+    files = files_on (log_after most st journal log) g.least start old new g.since.later g.files through;
   } where
     by_failed : (b : Bool) → has_failed buffer ≡ b → has_answer is_disk_fault journal ≡ true → new.moment ≤ old.moment
     by_failed true failed fault = let at : new.moment ≡ old.moment = ap (λ (h : History). h.moment) (same failed) in omega (arith, at)
@@ -88,4 +90,5 @@ module _ {D : Type 0} where
         kept = record { from = omega arith; gap = gap; recovers = recovers; synced = omega arith; keeps = keeps };
         works = λ valid. record { keeping = record { has = has; whole = gap.whole; holds = holds }; store = refl; commits = commits };
         stops = λ ok. none;
+        files = λ k lo hi. let at : k ≡ history.moment = omega (arith, lo, hi) in stay_same (now history).reads (history.state_at k).reads (ap (λ n. (history.state_at n).reads) at);
       }

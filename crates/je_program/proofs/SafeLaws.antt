@@ -1,6 +1,7 @@
 -- A run whose disk was safe so far, one event later.
-use Rattle.std.proofs.Common.{◌≡◌, ℕ, ◌<◌, ◌≤◌, ◌||◌, Bool, max, true, false, true≢false, List, [], ◌∷◌, ◌++◌, None, Option, length, refl, ap, sym, ◌∙◌, subst, arith, append_assoc}
+use Rattle.std.proofs.Common.{◌≡◌, ℕ, ◌<◌, ◌≤◌, ◌||◌, Bool, max, true, false, true≢false, List, [], ◌∷◌, ◌++◌, None, Option, length, refl, ap, sym, ◌∙◌, subst, arith, append_assoc, ◌⊎◌, inl, inr}
 use Rattle.std.specs.Prelude.{is_some}
+use Rattle.std.proofs.lemmas.Bool.{cases_lt}
 use Rattle.std.proofs.lemmas.List.{append-nil}
 use Rattle.je_disk.specs.States.{Files, State}
 use Rattle.je_disk.specs.Images.{AreFileImages}
@@ -19,10 +20,11 @@ use Rattle.log_file.specs.Log.{Log, entries_of}
 use Rattle.log_buffer.specs.declared.buffer.LogBuffer.{LogBuffer}
 use Rattle.log_buffer.specs.Buffer.{has_failed}
 use Rattle.log_buffer.specs.Chance.{NoChanceMatch}
-use Rattle.log_buffer.specs.Crash.{KeepsRead, KeptThrough}
+use Rattle.log_buffer.specs.Crash.{FilesStay, IsKeptSince, KeepsRead, KeptThrough}
 use Rattle.log_buffer.proofs.Chances.{reads_have_no_chance}
 use Rattle.log_buffer.proofs.Left.{kept_is_left}
 use Rattle.log_buffer.proofs.KeptSyncs.{count_kept}
+use Rattle.log_buffer.proofs.Staying.{stay_then}
 use Rattle.crash_meaning.specs.Reading.{HasNoGap}
 use Rattle.crash_meaning.specs.Recovery.{Recovers, IsRecovered, commits_in}
 use Rattle.crash_meaning.proofs.Recoveries.{images_recover, commits_rise}
@@ -145,6 +147,16 @@ synced-push : (journal : List Event) (event : Event) → synced_of (journal ++ e
 synced-push [] event = omega arith
 synced-push (first ∷ journal) event = omega (arith, synced-push journal event)
 
+-- ---- files
+
+-- the files that were there as a run began are there further on
+pub files_on : (log : Log) (least : ℕ) (start old new : History) → start.moment ≤ old.moment → ((k : ℕ) → start.moment ≤ k → k ≤ old.moment → FilesStay (now start).reads (old.state_at k).reads) → KeptThrough old new log [] least →
+    (k : ℕ) → start.moment ≤ k → k ≤ new.moment → FilesStay (now start).reads (new.state_at k).reads
+files_on log least start old new later files through k lo hi = by_order (cases_lt old.moment k) where
+  by_order : (old.moment < k) ⊎ (k ≤ old.moment) → FilesStay (now start).reads (new.state_at k).reads
+  by_order (inl behind) = stay_then (now start).reads (now old).reads (new.state_at k).reads (files old.moment later (omega arith)) (through.each k behind hi).stay
+  by_order (inr within) = subst (λ (s : State). FilesStay (now start).reads s.reads) (sym (through.keeps k within)) (files k lo within)
+
 -- ---- a disk fault
 
 faulted : (most : ℕ) (st : Standing) (event : Event) → is_some st.fault ≡ true → is_some (after_event (log_rule most) st event).fault ≡ true
@@ -203,14 +215,15 @@ module _ {D : Type 0} where
       let synced_now : synced_of all ≤ commits_in (length (entries_of log)) least (entries_of (log_after most st all log)) =
       omega (arith, synced-push journal event, synced, more, durable) in
       record {
-        since = goes_on start old new (KeepsRead (log_after most st all log) [] g.least) g.since through;
+        since = goes_on start old new (IsKeptSince (log_after most st all log) [] g.least (now old).reads) g.since through;
         begins = g.begins;
-        events = one_more st.store old new (KeepsRead (log_after most st all log) [] g.least) start.moment [] journal event through g.events
-            (λ k lo hi. safe most st log g.least journal (event ∷ []) all (new.state_at k) refl from gap recovers synced (through.each k lo hi))
+        events = one_more st.store old new (IsKeptSince (log_after most st all log) [] g.least (now old).reads) start.moment [] journal event through g.events
+            (λ k lo hi. safe most st log g.least journal (event ∷ []) all (new.state_at k) refl from gap recovers synced (through.each k lo hi).kept)
             (safe most st log least all [] all (now new) (sym (append-nil all)) from_now gap recovers synced_now keeps)
             still;
         least = least;
         kept = record { from = from_now; gap = gap; recovers = recovers; synced = synced_now; keeps = keeps };
         works = works;
         stops = stops;
+        files = files_on (log_after most st all log) g.least start old new g.since.later g.files through;
       }

@@ -10,6 +10,7 @@ use Rattle.log_buffer.specs.declared.buffer.LogBuffer.{LogBuffer}
 use Rattle.log_buffer.specs.Buffer.{has_failed}
 use Rattle.log_buffer.specs.Crash.{KeepsRead, KeptThrough}
 use Rattle.log_buffer.proofs.KeptSyncs.{count_kept}
+use Rattle.log_buffer.proofs.Staying.{read_through}
 use Rattle.crash_meaning.specs.Recovery.{commits_in}
 use Rattle.je_program.specs.Environment.{log_rule}
 use Rattle.je_program.specs.Guarded.{log_after, IsKeeping, IsGuarded, BeginsSafely}
@@ -34,7 +35,7 @@ module _ {D : Type 0} where
       (g : IsGuarded most st log start old buffer journal None) → KeptThrough old new (log_after most st journal log) [] g.least → has_failed longer ≡ true → BeginsSafely most st log start new longer journal false
   not_begun_safely most st log start old new buffer longer journal none g through failed =
       guarded_same most st log start old new buffer longer journal (SyncBegin DiskFault) None None g.least g refl (λ s. refl) through (omega arith)
-      (passes_now old new (KeepsRead (log_after most st journal log) [] g.least) through g.kept.keeps) (omega arith) (λ fault. absurd cc) (λ ok. absurd cc) (λ fault. absurd (fault_stands most st journal fault none))
+      (passes_now old new (KeepsRead (log_after most st journal log) [] g.least) (read_through (log_after most st journal log) [] g.least old new through) g.kept.keeps) (omega arith) (λ fault. absurd cc) (λ ok. absurd cc) (λ fault. absurd (fault_stands most st journal fault none))
 
   -- a sync ended, and made all commits durable
   pub ended_safely : (most : ℕ) (st : Standing) (log : Log) (start : History) (commits : ℕ) (old new : History) (buffer longer : LogBuffer D) (journal : List Event) → (after_events (log_rule most) st journal).fault ≡ None →
@@ -56,4 +57,4 @@ module _ {D : Type 0} where
       IsGuarded most st log start new longer (journal ++ SyncEnd DiskFault ∷ []) None
   not_ended_safely most st log start old new buffer longer journal begun none g through failed =
       guarded_same most st log start old new buffer longer journal (SyncEnd DiskFault) begun None g.least g refl (λ s. refl) through (omega arith)
-      (passes_now old new (KeepsRead (log_after most st journal log) [] g.least) through g.kept.keeps) (omega arith) (λ fault. absurd cc) (λ ok. absurd cc) (λ fault. absurd (fault_stands most st journal fault none))
+      (passes_now old new (KeepsRead (log_after most st journal log) [] g.least) (read_through (log_after most st journal log) [] g.least old new through) g.kept.keeps) (omega arith) (λ fault. absurd cc) (λ ok. absurd cc) (λ fault. absurd (fault_stands most st journal fault none))

@@ -11,6 +11,7 @@ use Rattle.log_file.specs.declared.found.Found.TheVariants.{Run}
 use Rattle.log_file.specs.Log.{AreFiles}
 use Rattle.log_file.specs.Scan.{found_in}
 use Rattle.log_buffer.specs.Chance.{NoChanceMatch}
+use Rattle.log_buffer.specs.Crash.{FilesStay}
 use Rattle.log_replay.specs.Meaning.{Meaning}
 use Rattle.log_replay.specs.Reading.{reading_of}
 use Rattle.crash_meaning.specs.Recovery.{IsRecovered}
@@ -52,11 +53,12 @@ pub record IsSafeBehind (opening : Store) (history : History) (from : ℕ) (over
   pub still : IsStillAfterFault history from history.moment over
 
 -- A run that began behind this history, with this store: the disk is safe as it began, at each moment of the events of its journal, and at
--- each moment behind them.
+-- each moment behind them. Each file that was there as it began is there at each moment.
 pub record IsSafeRun (opening : Store) (start : History) (history : History) (journal : List Event) : Type 0 where
   pub since : Follows start history
   pub begins : IsSafe opening [] [] (now start)
   pub events : AreSafeEvents opening history (IsSafeBehind opening history) start.moment [] journal
+  pub files : (k : ℕ) → start.moment ≤ k → k ≤ history.moment → FilesStay (now start).reads (history.state_at k).reads
 
 -- ---- from entry on
 

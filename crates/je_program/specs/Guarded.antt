@@ -21,7 +21,7 @@ use Rattle.log_file.specs.Log.{Log, entries_of, log_in}
 use Rattle.log_buffer.specs.declared.buffer.LogBuffer.{LogBuffer}
 use Rattle.log_buffer.specs.declared.place.Place.{Place}
 use Rattle.log_buffer.specs.Buffer.{first_of, has_failed}
-use Rattle.log_buffer.specs.Crash.{Holds, KeepsRead, KeptThrough}
+use Rattle.log_buffer.specs.Crash.{FilesStay, Holds, KeepsRead, KeptThrough}
 use Rattle.log_buffer.specs.Flip.{placed_at, end_after}
 use Rattle.log_buffer.specs.Log.{HasLog, log_with}
 use Rattle.log_replay.specs.Replay.{replayed, nothing_replayed}
@@ -114,6 +114,7 @@ module _ {D : Type 0} where
     pub kept : IsKept most st log least (now history) journal
     pub works : (after_events (log_rule most) st journal).fault ≡ None → IsWorking most st log least (now history) buffer journal begun
     pub stops : has_failed buffer ≡ false → (after_events (log_rule most) st journal).fault ≡ None
+    pub files : (k : ℕ) → start.moment ≤ k → k ≤ history.moment → FilesStay (now start).reads (history.state_at k).reads
 
   -- a change was logged, or the disk failed: at each moment since a crash keeps so many entries of the longer log, and the buffer has it
   -- unless the disk failed; where there was no memory, all is as it was

@@ -86,13 +86,13 @@ pub fn run_je<D: Disk, S: Source, K: Sink>(
     ensures acknowledged { result.cause ≡ Why.Done → AllAcknowledged result.journal.items }
     ensures files { result.cause ≡ Why.Done → D.tells ≡ true → MeanStore (now (D.history result.disk)).reads (final_store result.opening result.journal.items) }
 
-    // At each moment from the end of the opening's own sync on, what the disk reads, and each image of the disk in
-    // which no checksum matches by chance, means the opening store changed by the first of the attempted commits,
-    // at least the synced ones; behind a disk fault the disk stands still; where all was done, each image at the
-    // end means the final store. From entry until then, and at each moment where nothing was opened, each file
-    // reads as it did at entry, but for a torn tail of the last one that was cut off. Each image then means what
-    // the files at entry mean, if they mean something: at each moment where nothing was pending at entry, and at
-    // the end where nothing is pending then.
+    // A run: at each moment from the end of the opening's own sync on, what the disk reads, and each image of the
+    // disk in which no checksum matches by chance, means the opening store changed by the first of the attempted
+    // commits, at least the synced ones. Behind a disk fault the disk stands still. Each file stays. Where all was
+    // done, each image at the end means the final store.
+    // From entry until then, and at each moment where nothing was opened: each file reads as it did at entry, but
+    // for a torn tail of the last one that was cut off. Where the files at entry mean a store, each image means it
+    // too, if nothing was pending at entry; and each image at the end does, if nothing is pending then.
     ensures crash { D.tells ≡ true → result.opened ≡ true → IsSafeProgram (D.history disk) (D.history result.disk) result.opening result.journal.items result.cause }
     ensures crash_unopened { D.tells ≡ true → result.opened ≡ false → KeepsEntry (D.history disk) (D.history result.disk) }
 

@@ -6,16 +6,17 @@ use Rattle.std.proofs.lemmas.List.{append-nil}
 use Rattle.je_disk.specs.States.{State, Files, Mark, synced, synced_mark, synced_marks, job_begun, job_ended, IsEither}
 use Rattle.je_disk.specs.Moments.{History, Passes, now}
 use Rattle.je_disk.proofs.Images.{image_synced}
-use Rattle.je_disk.proofs.Moments.{passes_weaken, passes_then}
+use Rattle.je_disk.proofs.Moments.{passes_weaken}
 use Rattle.log_entry.specs.declared.entry.Entry.{Entry}
 use Rattle.log_file.specs.Log.{Log, IsLog, entries_of, file_bytes, files_of_log}
 use Rattle.log_buffer.specs.Log.{EndsAt, HasLog, ReadAs}
 use Rattle.log_buffer.specs.declared.buffer.LogBuffer.{LogBuffer}
 use Rattle.log_buffer.specs.Buffer.{file_of, offset_of, last_of, first_of}
-use Rattle.log_buffer.specs.Crash.{KeepsFront, KeepsLog, KeepsFrom, WillKeep, Holds, HoldPrefixes, KeepsRead, KeptThrough}
+use Rattle.log_buffer.specs.Crash.{FilesStay, KeepsFront, KeepsLog, KeepsFrom, WillKeep, Holds, HoldPrefixes, IsKeptSince, KeepsRead, KeptThrough}
 use Rattle.log_buffer.proofs.Logs.{below_last, lookup_last, lookup_push}
 use Rattle.log_buffer.proofs.Kept.{keeps_less, kept_stable}
 use Rattle.log_buffer.proofs.Prefixes.{read_prefixes}
+use Rattle.log_buffer.proofs.Staying.{kept_then, stay_same}
 use Rattle.log_buffer.proofs.Splits.{count_part, entries-append}
 
 -- the count of a log's entries, by its last file
@@ -58,6 +59,11 @@ holds_begun log removed least file offset last first begun s is ends le read h =
   };
 }
 
+-- files stay where they read as before
+stay_either : (before after s : State) → after.reads ≡ before.reads → IsEither before after s → FilesStay before.reads s.reads
+stay_either before after s same (inl is) = stay_same before.reads s.reads (ap (λ (t : State). t.reads) is)
+stay_either before after s same (inr is) = stay_same before.reads s.reads (ap (λ (t : State). t.reads) is ∙ same)
+
 -- a disk that keeps a log and can go on
 kept_read : (log removed : Log) (least first : ℕ) (begun : Option ℕ) (s : State) → HoldPrefixes log s.reads → Holds log removed least begun first s → KeepsRead log removed least s
 kept_read log removed least first begun s prefixes h = record { keeps = h.kept.keeps; read = h.kept.read; prefixes = prefixes }
@@ -69,8 +75,12 @@ begun_keeps log removed least before s (inr is) k = subst (KeepsRead log removed
 pub begun_through : (log removed : Log) (least first : ℕ) (begun : Option ℕ) (h old new : History) → KeptThrough h old log removed least → HoldPrefixes log (now old).reads → Holds log removed least begun first (now old)
     → Passes old new (IsEither (now old) (job_begun (now old))) → KeptThrough h new log removed least
 begun_through log removed least first begun h old new through prefixes holds passes =
-    passes_then h old new (KeepsRead log removed least) through
-    (passes_weaken old new (IsEither (now old) (job_begun (now old))) (KeepsRead log removed least) (λ s either. begun_keeps log removed least (now old) s either (kept_read log removed least first begun (now old) prefixes holds)) passes)
+    kept_then log removed least h old new through
+    (passes_weaken old new (IsEither (now old) (job_begun (now old))) (IsKeptSince log removed least (now old).reads)
+    (λ s either. record {
+      kept = begun_keeps log removed least (now old) s either (kept_read log removed least first begun (now old) prefixes holds);
+      stay = stay_either (now old) (job_begun (now old)) s refl either;
+    }) passes)
 
 -- ---- the end of a sync
 
@@ -91,7 +101,8 @@ ended_keeps log removed least first n before s prefixes h (inr is) =
 
 pub ended_through : (log removed : Log) (least first n : ℕ) (old new : History) → HoldPrefixes log (now old).reads → Holds log removed least (Some n) first (now old) → Passes old new (IsEither (now old) (job_ended (now old))) → KeptThrough old new log removed least
 ended_through log removed least first n old new prefixes h passes =
-    passes_weaken old new (IsEither (now old) (job_ended (now old))) (KeepsRead log removed least) (λ s either. ended_keeps log removed least first n (now old) s prefixes h either) passes
+    passes_weaken old new (IsEither (now old) (job_ended (now old))) (IsKeptSince log removed least (now old).reads)
+    (λ s either. record { kept = ended_keeps log removed least first n (now old) s prefixes h either; stay = stay_either (now old) (job_ended (now old)) s refl either }) passes
 
 -- ---- a sync at the end
 
@@ -113,14 +124,16 @@ synced_keeps log removed least file offset last first begun before s is ends le 
 pub synced_through : (log removed : Log) (least file offset last first : ℕ) (begun : Option ℕ) (h old new : History) → IsLog log → EndsAt log file offset last → first ≤ file → ((g : ℕ) → (now old).reads g ≡ files_of_log log g)
     → KeptThrough h old log removed least → Holds log removed least begun first (now old) → Passes old new (IsEither (now old) (synced (now old))) → KeptThrough h new log removed least
 synced_through log removed least file offset last first begun h old new is ends le read through holds passes =
-    passes_then h old new (KeepsRead log removed least) through
-    (passes_weaken old new (IsEither (now old) (synced (now old))) (KeepsRead log removed least) (λ s either. synced_keeps log removed least file offset last first begun (now old) s is ends le read holds either) passes)
+    kept_then log removed least h old new through
+    (passes_weaken old new (IsEither (now old) (synced (now old))) (IsKeptSince log removed least (now old).reads)
+    (λ s either. record { kept = synced_keeps log removed least file offset last first begun (now old) s is ends le read holds either; stay = stay_either (now old) (synced (now old)) s refl either }) passes)
 
 -- ---- calls that change nothing
 
 pub same_through : (log removed : Log) (least first : ℕ) (begun : Option ℕ) (old new : History) → Passes old new (λ s. s ≡ now old) → HoldPrefixes log (now old).reads → Holds log removed least begun first (now old) → KeptThrough old new log removed least
 same_through log removed least first begun old new passes prefixes h =
-    passes_weaken old new (λ s. s ≡ now old) (KeepsRead log removed least) (λ s is. subst (KeepsRead log removed least) (sym is) (kept_read log removed least first begun (now old) prefixes h)) passes
+    passes_weaken old new (λ s. s ≡ now old) (IsKeptSince log removed least (now old).reads)
+    (λ s is. record { kept = subst (KeepsRead log removed least) (sym is) (kept_read log removed least first begun (now old) prefixes h); stay = stay_same (now old).reads s.reads (ap (λ (t : State). t.reads) is) }) passes
 
 -- ---- a log that is closed
 

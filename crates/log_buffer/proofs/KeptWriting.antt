@@ -4,11 +4,11 @@ use Rattle.std.specs.Prelude.{unwrap_or}
 use Rattle.std.specs.Map.{lookup}
 use Rattle.je_disk.specs.States.{State, Files, created, created_by, appended, synced, IsPartOfAppend}
 use Rattle.je_disk.specs.Moments.{History, Passes, now}
-use Rattle.je_disk.proofs.Moments.{passes_weaken, passes_then}
+use Rattle.je_disk.proofs.Moments.{passes_weaken}
 use Rattle.log_entry.specs.declared.entry.Entry.{Entry}
 use Rattle.log_file.specs.Log.{Log, IsLog, file_bytes, files_of_log}
 use Rattle.log_buffer.specs.Buffer.{joined, tail_of, first_of}
-use Rattle.log_buffer.specs.Crash.{Holds, HoldPrefixes, KeepsRead, KeptThrough}
+use Rattle.log_buffer.specs.Crash.{Holds, HoldPrefixes, IsKeptSince, KeepsRead, KeptThrough}
 use Rattle.log_buffer.specs.Writing.{IsTailOf, IsPutBehind, IsPutNext, put_behind}
 use Rattle.log_buffer.proofs.Kept.{IsUnfinished, holds_appended, holds_created, holds_next, ReadUpTo}
 use Rattle.log_buffer.specs.Tail.{bytes_for, piece_of, start_of, stop_of}
@@ -18,6 +18,7 @@ use Rattle.log_buffer.proofs.Tails.{bytes_for_from}
 use Rattle.log_buffer.proofs.Pieces.{IsCut, begun_has_bytes, stop_within}
 use Rattle.std.proofs.lemmas.List.{length-drop, length-take}
 use Rattle.log_buffer.proofs.Prefixes.{created_prefixes, grown_prefixes, tail_prefixes, upto_prefixes}
+use Rattle.log_buffer.proofs.Staying.{kept_then, stay_next, stay_part}
 use Rattle.log_buffer.proofs.Written.{WrittenUpTo, put_same}
 
 keeps_at : (log removed : Log) (least first : ℕ) (begun : Option ℕ) (s t : State) → t ≡ s → HoldPrefixes log s.reads → Holds log removed least begun first s → KeepsRead log removed least t
@@ -72,9 +73,12 @@ unfinished_first log first reads tail bytes piece is some = unfinished log reads
 pub through_first : (log removed : Log) (least first : ℕ) (begun : Option ℕ) (old new : History) (tail : ℕ → List ℕ) (bytes : List ℕ) → bytes ≡ tail first → IsTailOf log (now old).reads tail first
     → Holds log removed least begun first (now old) → Passes old new (IsPutBehind first bytes (now old)) → KeptThrough old new log removed least
 through_first log removed least first begun old new tail bytes piece is h passes =
-    passes_weaken old new (IsPutBehind first bytes (now old)) (KeepsRead log removed least)
-    (λ s put. part_keeps log removed least first begun bytes (now old) s (unfinished_first log first (now old).reads tail bytes piece is put.some) (ap (joined ((now old).reads first)) piece ∙ is.told first)
-    (tail_prefixes log (now old).reads tail is.is_log is.told) h put.part) passes
+    passes_weaken old new (IsPutBehind first bytes (now old)) (IsKeptSince log removed least (now old).reads)
+    (λ s put. record {
+      kept = part_keeps log removed least first begun bytes (now old) s (unfinished_first log first (now old).reads tail bytes piece is put.some) (ap (joined ((now old).reads first)) piece ∙ is.told first)
+          (tail_prefixes log (now old).reads tail is.is_log is.told) h put.part;
+      stay = stay_part first bytes (now old) s put.part;
+    }) passes
 
 pub goes_first : (log removed : Log) (least first : ℕ) (begun : Option ℕ) (old new : History) (tail : ℕ → List ℕ) (bytes : List ℕ) → bytes ≡ tail first → IsTailOf log (now old).reads tail first
     → Holds log removed least begun first (now old) → Passes old new (IsPutBehind first bytes (now old)) → now new ≡ put_behind first bytes (now old) → GoesOn log removed least begun old new first
@@ -128,7 +132,8 @@ module _ (log removed : Log) (least n next : ℕ) (begun : Option ℕ) (h old : 
   keeps s (inr (inr part)) = part_keeps log removed least next begun bytes (created next (synced (now old))) s un_made told_made prefixes_made made part
 
   pub through_next : (new : History) → Passes old new (IsPutNext next bytes (now old)) → KeptThrough h new log removed least
-  through_next new passes = passes_then h old new (KeepsRead log removed least) goes.through (passes_weaken old new (IsPutNext next bytes (now old)) (KeepsRead log removed least) keeps passes)
+  through_next new passes = kept_then log removed least h old new goes.through
+      (passes_weaken old new (IsPutNext next bytes (now old)) (IsKeptSince log removed least (now old).reads) (λ s put. record { kept = keeps s put; stay = stay_next next bytes (now old) s put }) passes)
 
   pub goes_next : (new : History) → Passes old new (IsPutNext next bytes (now old)) → now new ≡ appended next bytes (created next (synced (now old))) → GoesOn log removed least begun h new next
   goes_next new passes state = record {

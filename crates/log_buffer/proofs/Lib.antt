@@ -16,6 +16,7 @@ pub mod Splits
 pub mod Kept
 pub mod Chances
 pub mod Prefixes
+pub mod Staying
 pub mod KeptWriting
 pub mod KeptSyncs
 pub mod KeptGrowing

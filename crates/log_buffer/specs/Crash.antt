@@ -1,8 +1,8 @@
 -- What a crash keeps of a log.
-use Rattle.std.specs.Prelude.{◌≡◌, ◌≢◌, ◌≤◌, ◌<◌, ◌+◌, ◌==◌, ◌⊎◌, ℕ, true, false, Option, Some, None, unwrap_or, List, [], ◌∷◌, ◌++◌, length}
+use Rattle.std.specs.Prelude.{◌≡◌, ◌≢◌, ◌≤◌, ◌<◌, ◌+◌, ◌==◌, ◌⊎◌, ℕ, true, false, Option, Some, None, IsSome, unwrap_or, List, [], ◌∷◌, ◌++◌, length}
 use Rattle.std.specs.Map.{lookup}
 use Rattle.je_disk.specs.States.{Files, Mark, State, content}
-use Rattle.je_disk.specs.Moments.{History, Passes}
+use Rattle.je_disk.specs.Moments.{History, Passes, now}
 use Rattle.je_disk.specs.Images.{AreFileImages}
 use Rattle.log_entry.specs.declared.entry.Entry.{Entry}
 use Rattle.log_file.specs.declared.file_run.FileRun.{FileRun}
@@ -73,9 +73,18 @@ pub record KeepsRead (log removed : Log) (least : ℕ) (state : State) : Type 0 
   pub read : AreFileImages state.marks state.reads
   pub prefixes : HoldPrefixes log state.reads
 
--- the same at each moment since
+-- each file that was there is there
+abbrev pub FilesStay : Files → Files → Type 0
+FilesStay before after = (f : ℕ) → IsSome (before f) → IsSome (after f)
+
+-- the same, and each file of before is there
+pub record IsKeptSince (log removed : Log) (least : ℕ) (before : Files) (state : State) : Type 0 where
+  pub kept : KeepsRead log removed least state
+  pub stay : FilesStay before state.reads
+
+-- at each moment since, a crash keeps at least so many of the log's entries, and each file is there that was there before
 abbrev pub KeptThrough : History → History → Log → Log → ℕ → Type 0
-KeptThrough old new log removed least = Passes old new (KeepsRead log removed least)
+KeptThrough old new log removed least = Passes old new (IsKeptSince log removed least (now old).reads)
 
 -- A crash keeps a log, and the disk can go on from there: no file below `first` is being written, and what the files read as is one of the images
 pub record KeepsFrom (log removed : Log) (least first : ℕ) (reads : Files) (marks : ℕ → Mark) : Type 0 where
