@@ -1,10 +1,9 @@
 -- What the files read as stays one of the images.
-use Rattle.std.proofs.Common.{◌≡◌, ◌≢◌, ◌≤◌, ◌<◌, ◌+◌, ◌==◌, if◌then◌else◌, ℕ, Bool, true, false, List, [], ◌++◌, Option, Some, None, length, take, max, refl, sym, ap, subst, ◌∙◌, arith, length-append}
+use Rattle.std.proofs.Common.{◌≡◌, ◌≤◌, ◌==◌, if◌then◌else◌, ℕ, Bool, true, false, List, [], ◌++◌, Option, Some, None, length, take, refl, sym, ap, ◌∙◌, arith}
 use Rattle.std.proofs.lemmas.List.{take-append-le, length-take}
 use Rattle.std.proofs.Math.ListN.{drop_of_length-le, take-append-drop}
 use Rattle.std.proofs.lemmas.List.{append-nil}
-use Rattle.std.proofs.lemmas.Bool.{eqb-true}
-use Rattle.je_disk.specs.States.{Files, Mark, put_at, marked, begun, grown, dropped, synced_mark}
+use Rattle.je_disk.specs.States.{Files, Mark, put_at, marked, begun, grown, synced_mark}
 use Rattle.je_disk.specs.Images.{Leaves, IsFileImage, AreFileImages}
 
 -- a file and its mark were changed

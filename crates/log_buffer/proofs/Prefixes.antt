@@ -1,5 +1,5 @@
 -- The files of a disk hold prefixes of the log, at each moment at which it is written.
-use Rattle.std.proofs.Common.{◌≡◌, ℕ, ◌+◌, ◌<◌, ◌≤◌, ◌^◌, ◌==◌, Bool, true, false, cond, List, [], ◌∷◌, ◌++◌, Option, Some, None, length, take, refl, sym, ap, subst, ◌∙◌, append_assoc, arith, option_map, ◌⊎◌, inl, inr}
+use Rattle.std.proofs.Common.{◌≡◌, ℕ, ◌<◌, ◌≤◌, ◌^◌, ◌==◌, Bool, true, false, cond, List, [], ◌∷◌, ◌++◌, Option, Some, None, length, take, refl, sym, ap, subst, ◌∙◌, append_assoc, option_map, ◌⊎◌, inl, inr}
 use Rattle.std.specs.Prelude.{unwrap_or}
 use Rattle.std.specs.Map.{lookup}
 use Rattle.std.proofs.lemmas.Bool.{cases_lt, eqb-true}
@@ -19,7 +19,6 @@ use Rattle.log_buffer.specs.declared.buffer.LogBuffer.{LogBuffer}
 use Rattle.log_buffer.specs.Buffer.{joined, tail_of}
 use Rattle.log_buffer.specs.Crash.{HoldsPrefix, HoldPrefixes, entries_at}
 use Rattle.log_buffer.specs.Log.{HasLog, log_with}
-use Rattle.log_buffer.specs.Writing.{IsTailOf}
 use Rattle.log_buffer.proofs.Chances.{cut_prefix, log_file_at}
 use Rattle.log_buffer.proofs.Kept.{ReadUpTo}
 
