@@ -6,7 +6,7 @@ use Rattle.std.proofs.lemmas.Bool.{both_ways, cases_Bool, cond-true, cond-false,
 use Rattle.std.proofs.lemmas.List.Folds.{list_any-append}
 use Rattle.je_order.specs.declared.txn_id.TxnId.{TxnId}
 use Rattle.lock_mode.specs.declared.lock_type.LockType.{LockType}
-use Rattle.waits_for.specs.Cycles.{is_in, is_cycle_by}
+use Rattle.waits_for.specs.Cycles.{is_in, closes_by}
 use Rattle.lock_table.specs.declared.lock.Lock.{Lock}
 use Rattle.lock_table.specs.declared.record_id.RecordId.{RecordId}
 use Rattle.lock_table.specs.Locks.{is_same, is_of, has_lock, held_by, is_blocking, is_blocked, waited_for, without, with_lock, after_ask, after_cancel, after_release, after_give_back, WasHeld}
@@ -103,7 +103,7 @@ free_victims v w vs s l p a = record { sound = s; free = none_after (waits v) (w
         (m.0, waits_from v x y k.at (p x k.at k.pending) m.1)
 
 -- the wait that might close cycles is taken back
-pub free_taken : (v w : Locks) (t : TxnId) → IsLockTable w → ((list : List TxnId) → is_cycle_by (waits v) list ≡ true → is_in t list ≡ true) → ((r : RecordId) → locks_at r w ≡ after_cancel t (locks_at r v)) → ((x : TxnId) → pending_at x w ≡ cond (is_same t x && is_waiting t v) None (pending_at x v)) → NoDeadlock w
+pub free_taken : (v w : Locks) (t : TxnId) → IsLockTable w → ((list : List TxnId) → closes_by (waits v) list ≡ true → is_in t list ≡ true) → ((r : RecordId) → locks_at r w ≡ after_cancel t (locks_at r v)) → ((x : TxnId) → pending_at x w ≡ cond (is_same t x && is_waiting t v) None (pending_at x v)) → NoDeadlock w
 free_taken v w t s th l p = record { sound = s; free = none }
   where
     within : (x y : TxnId) → waits w x y ≡ true → waits v x y ≡ true
@@ -115,7 +115,7 @@ free_taken v w t s th l p = record { sound = s; free = none }
 
     none : HasNoCycle (waits w)
     none [] = refl
-    none (x ∷ xs) = false_from_ne_true (is_cycle_by (waits w) (x ∷ xs)) (λ h.
+    none (x ∷ xs) = false_from_ne_true (closes_by (waits w) (x ∷ xs)) (λ h.
         let m = th (x ∷ xs) (within_cycle (waits v) (waits w) within (x ∷ xs) h) in let z = on_cycle (waits w) t x x xs h m in both_ways (waits w t z.0) (gone z.0) z.1)
 
 pub free_same : (v w : Locks) → NoDeadlock v → IsLockTable w → IsSameTable v w → NoDeadlock w
@@ -170,7 +170,7 @@ put_waits v w at a p x y = ⊎_elim
     own = ap (is_in y) list ∙ sym (cond-true (is_same a.txn a.txn) (is_in y (map (λ (o : Lock). o.txn) (filter (is_blocking a) (locks_at at v).0))) (waits v a.txn y) (same_itself a.txn))
 
 -- each cycle that there is goes through the one that asked
-pub put_through : (v w : Locks) (at : RecordId) (a : Lock) → NoDeadlock v → IsPut v w at a → (list : List TxnId) → is_cycle_by (waits w) list ≡ true → is_in a.txn list ≡ true
+pub put_through : (v w : Locks) (at : RecordId) (a : Lock) → NoDeadlock v → IsPut v w at a → (list : List TxnId) → closes_by (waits w) list ≡ true → is_in a.txn list ≡ true
 put_through v w at a n p list h = apart_cycle (waits v) (waits w) a.txn (λ x y e k. sym (ap (is_in y) (put_others v w at a p x e)) ∙ k) n.free list h
 
 -- a wait that was put down is taken back

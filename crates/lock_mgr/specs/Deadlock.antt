@@ -5,7 +5,7 @@ use Rattle.std.specs.declared.option.Option.TheVariants.{None, Some}
 use Rattle.std.specs.List.{list_all, filter}
 use Rattle.std.specs.Prelude.{nat_le}
 use Rattle.je_order.specs.declared.txn_id.TxnId.{TxnId}
-use Rattle.waits_for.specs.Cycles.{is_same, is_in, is_cycle_by}
+use Rattle.waits_for.specs.Cycles.{is_same, is_in, closes_by, is_cycle_by}
 use Rattle.lock_table.specs.declared.lock.Lock.{Lock}
 use Rattle.lock_table.specs.declared.record_id.RecordId.{RecordId}
 use Rattle.lock_table.specs.Locks.{is_blocking, after_cancel}
@@ -21,9 +21,9 @@ waits v x y = is_in y (waits_for x v)
 abbrev pub waits_with : Lock → RecordId → Locks → TxnId → TxnId → Bool
 waits_with w at v x y = cond (is_same w.txn x) (is_in y (map (λ o. o.txn) (filter (is_blocking w) (locks_at at v).0))) (waits v x y)
 
--- nobody waits for himself by way of others
+-- nobody waits for himself by way of others, whoever is named twice on the way
 abbrev pub HasNoCycle : (TxnId → TxnId → Bool) → Type 0
-HasNoCycle R = (list : List TxnId) → is_cycle_by R list ≡ false
+HasNoCycle R = (list : List TxnId) → closes_by R list ≡ false
 
 -- what holds of the locks after every call: they are a lock table's, and nobody waits for himself by way of others
 pub record NoDeadlock (v : Locks) : Type 0 where

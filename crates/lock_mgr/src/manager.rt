@@ -3,7 +3,7 @@ ghost use Rattle.std.specs.Prelude.{◌≡◌, ◌&&◌, ◌∷◌, ◌++◌, �
 ghost use Rattle.std.specs.Option.{IfSome, IsSome, is_some, option_map_or};
 ghost use Rattle.je_order.specs.declared.txn_id.TxnId.{TxnId};
 ghost use Rattle.lock_mode.specs.declared.lock_type.LockType.{LockType};
-ghost use Rattle.waits_for.specs.Cycles.{is_in, is_edge, is_cycle_by};
+ghost use Rattle.waits_for.specs.Cycles.{is_in, is_edge, closes_by};
 ghost use Rattle.lock_table.specs.declared.record_id.RecordId.{RecordId};
 ghost use Rattle.lock_table.specs.Locks.{is_same, lock_of, held_by, blocker, is_blocked, writer_in, after_ask, after_cancel, after_release, after_give_back, WasHeld};
 ghost use Rattle.lock_table.specs.Records.{is_record};
@@ -193,7 +193,7 @@ fn blocked_in(
 ) -> Result<Requested, AllocError>
     requires sound { IsLockTable table.old }
     requires waiting { is_waiting txn table.old ≡ true }
-    requires through { (list : List TxnId) → is_cycle_by (waits table.old) list ≡ true → is_in txn list ≡ true }
+    requires through { (list : List TxnId) → closes_by (waits table.old) list ≡ true → is_in txn list ≡ true }
     ensures owner { IfOk result (λ answer. owner_of answer ≡ Some owner) }
     ensures waits { IfOk result (λ answer. is_some (victims_in answer) ≡ wait) }
     ensures victims { IfOk result (λ answer. IfSome (victims_in answer) (AreVictims (waits table.old))) }
@@ -241,7 +241,7 @@ fn victims_now(
     table: &LockTable,
     txn: TxnId,
 ) -> Result<List<(TxnId, List<TxnId>)>, AllocError>
-    requires { (list : List TxnId) → is_cycle_by (waits table.now) list ≡ true → is_in txn list ≡ true }
+    requires { (list : List TxnId) → closes_by (waits table.now) list ≡ true → is_in txn list ≡ true }
     ensures { IfOk result (AreVictims (waits table.now)) }
 {
     let edges = reach(alloc, table, txn)?;

@@ -4,8 +4,8 @@ use je_order::{List, TxnId};
 /// What became of a request. `owner` is the least owner that it conflicts with. `Waiting`: it waits.
 /// `NotAvailable`: it was not to wait, and nothing is asked any more. `Victims`: it waits, and its wait
 /// closed cycles; each victim's wait was taken back, one after another, and stands here with the cycle
-/// as the waits stood: each waits for the next and the last for the first. The asking transaction may
-/// be among them.
+/// as the waits stood: each waits for the next, the last for the first, and none is named twice. The
+/// asking transaction may be among them.
 #[derive(Debug, Drop)]
 pub enum Requested {
     Granted,

@@ -71,7 +71,7 @@ static TWO: [Step; 8] = [
 ];
 
 // Depth first, lesser numbers first.
-static WAYS: [Step; 9] = [
+static WAYS: [Step; 10] = [
     Insert(1, 4),
     Insert(1, 2),
     Insert(2, 3),
@@ -81,6 +81,8 @@ static WAYS: [Step; 9] = [
     Checks(&[TxnId(1), TxnId(2), TxnId(3)], true),
     Checks(&[], false),
     Checks(&[TxnId(1), TxnId(2)], false),
+    // a way that goes through the first one twice
+    Checks(&[TxnId(1), TxnId(4), TxnId(1), TxnId(2), TxnId(3)], false),
 ];
 
 #[test]

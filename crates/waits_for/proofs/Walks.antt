@@ -11,7 +11,7 @@ use Rattle.std.proofs.lemmas.Bool.Decides.{nat_tests}
 use Rattle.je_order.specs.declared.txn_id.TxnId.{TxnId}
 use Rattle.waits_for.specs.declared.search.Step.{Step}
 use Rattle.waits_for.specs.Cycles.{is_same, is_pair, is_edge, is_from}
-use Rattle.waits_for.specs.Walk.{txn_cmp, has, IsTree, IsWalk, left}
+use Rattle.waits_for.specs.Walk.{txn_cmp, has, rank_of, IsTree, IsWalk, left}
 use Rattle.waits_for.proofs.Members.{same_is, same_either, pair_is, any_reverse, length_reverse, all_append, all_front, all_back, all_reverse, all_map, any_row, row_real}
 
 pub at_same : (x y : TxnId) → is_eq (txn_cmp x y) ≡ is_same x y
@@ -151,7 +151,7 @@ none_in_empty seen e q = ap (λ es. is_some (lookup (is_at (txn_cmp q)) es)) e
 
 -- the step before was taken earlier
 pub ranks_fall : (edges : List (TxnId × TxnId)) (from : TxnId) (seen : BTreeMap TxnId Step) (x : TxnId) (s : Step) → IsTree edges from seen → is_same x from ≡ false → Some s ≡ get txn_cmp seen x
-    → option_map_or (λ (t : Step). t.rank) (get txn_cmp seen s.before) 0 < option_map_or (λ (t : Step). t.rank) (get txn_cmp seen x) 0
+    → rank_of seen s.before < rank_of seen x
 ranks_fall edges from seen x s t f g = rw (← g) (falls (get txn_cmp seen s.before) refl)
   where
     there : has seen s.before ≡ true

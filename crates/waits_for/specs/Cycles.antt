@@ -1,5 +1,5 @@
 -- Waits-for edges as a list of pairs (who waits, for whom), and cycles by that relation.
-use Rattle.std.specs.Prelude.{Bool, false, not, ◌&&◌, ◌==◌, List, [], ◌∷◌}
+use Rattle.std.specs.Prelude.{Bool, true, false, not, ◌&&◌, ◌==◌, List, [], ◌∷◌}
 use Rattle.std.specs.List.{list_any, filter}
 use Rattle.je_order.specs.declared.txn_id.TxnId.{TxnId}
 
@@ -24,22 +24,35 @@ abbrev pub leads_by : (TxnId → TxnId → Bool) → TxnId → TxnId → List Tx
 leads_by waits first x [] = waits x first
 leads_by waits first x (y ∷ ys) = waits x y && leads_by waits first y ys
 
--- a cycle of a relation: a list, not empty, in which each is related to the next and the last to the first
+-- a list, not empty, in which each is related to the next and the last to the first
+abbrev pub closes_by : (TxnId → TxnId → Bool) → List TxnId → Bool
+closes_by waits [] = false
+closes_by waits (x ∷ xs) = leads_by waits x x xs
+
+-- x is in the list
+abbrev pub is_in : TxnId → List TxnId → Bool
+is_in x list = list_any (is_same x) list
+
+-- no transaction is in the list twice
+abbrev pub names_each_once : List TxnId → Bool
+names_each_once [] = true
+names_each_once (x ∷ xs) = not (is_in x xs) && names_each_once xs
+
+-- a cycle of a relation: each is related to the next and the last to the first, and none is named twice
 abbrev pub is_cycle_by : (TxnId → TxnId → Bool) → List TxnId → Bool
-is_cycle_by waits [] = false
-is_cycle_by waits (x ∷ xs) = leads_by waits x x xs
+is_cycle_by waits list = closes_by waits list && names_each_once list
 
 -- from x on each waits for the next, and the last for the first
 abbrev pub leads_to : List (TxnId × TxnId) → TxnId → TxnId → List TxnId → Bool
 leads_to edges = leads_by (is_edge edges)
 
--- a cycle: each waits for the next and the last for the first
+-- each waits for the next and the last for the first
+abbrev pub closes : List (TxnId × TxnId) → List TxnId → Bool
+closes edges = closes_by (is_edge edges)
+
+-- a cycle: each waits for the next and the last for the first, and none is named twice
 abbrev pub is_cycle : List (TxnId × TxnId) → List TxnId → Bool
 is_cycle edges = is_cycle_by (is_edge edges)
-
--- x is in the list
-abbrev pub is_in : TxnId → List TxnId → Bool
-is_in x list = list_any (is_same x) list
 
 -- the edges without those of one waiter
 abbrev pub edges_without : TxnId → List (TxnId × TxnId) → List (TxnId × TxnId)

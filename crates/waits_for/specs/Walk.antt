@@ -1,7 +1,7 @@
 -- What holds while the search for a cycle goes on.
 use Rattle.std.specs.Prelude.{◌≡◌, ℕ, ◌+◌, ◌<◌, Bool, true, false, not, List, length, Some, ◌⊎◌}
 use Rattle.std.specs.List.{list_any, filter, AllByRecursion}
-use Rattle.std.specs.Option.{is_some}
+use Rattle.std.specs.Option.{is_some, option_map_or}
 use Rattle.std.specs.declared.cmp.Ordering.{Ordering}
 use Rattle.std.specs.Ordering.{nat_cmp}
 use Rattle.std.specs.BTreeMap.{BTreeMap, get, btree_map_len}
@@ -16,6 +16,10 @@ txn_cmp x y = nat_cmp x.0 y.0
 -- x was seen
 abbrev pub has : BTreeMap TxnId Step → TxnId → Bool
 has seen x = is_some (get txn_cmp seen x)
+
+-- how many were seen before x was
+abbrev pub rank_of : BTreeMap TxnId Step → TxnId → ℕ
+rank_of seen x = option_map_or (λ s. s.rank) (get txn_cmp seen x) 0
 
 -- the steps lead back to the first transaction, each along an edge to one that was seen earlier
 pub record IsTree (edges : List (TxnId × TxnId)) (from : TxnId) (seen : BTreeMap TxnId Step) : Type 0 where

@@ -3,7 +3,7 @@ ghost use Rattle.std.specs.Prelude.{◌≡◌, ◌+◌, ◌<◌, ◌∷◌, [], 
 ghost use Rattle.std.specs.Option.{IfSome, IfNone};
 ghost use Rattle.std.specs.List.{slice_get};
 ghost use Rattle.je_order.specs.declared.txn_id.TxnId.{TxnId};
-ghost use Rattle.waits_for.specs.Cycles.{is_edge, is_cycle, is_in, is_same};
+ghost use Rattle.waits_for.specs.Cycles.{is_edge, closes, is_cycle, is_in, is_same};
 ghost use Rattle.waits_for.specs.Walk.{has, IsTree, IsWalk, left};
 
 use crate::Edges;
@@ -18,9 +18,10 @@ struct Step {
     rank: usize,
 }
 
-/// A cycle through the transaction, from it on, or None exactly where there is none. It looks only at
-/// what the transaction waits for by way of others. The first one found depth first is the answer,
-/// lesser numbers first. The one error is want of memory.
+/// A cycle through the transaction, from it on, or None exactly where there is none. A cycle names no
+/// transaction twice; where the answer is None, no list that names one twice leads back to it either.
+/// The search looks only at what the transaction waits for by way of others. The first cycle found
+/// depth first is the answer, lesser numbers first. The one error is out of memory.
 pub fn find_cycle(
     alloc: Global,
     edges: &Edges,
@@ -28,7 +29,7 @@ pub fn find_cycle(
 ) -> Result<Option<Vec<TxnId>>, AllocError>
     ensures found { IfOk result (λ found. IfSome found (λ list. is_cycle edges.now list.items ≡ true)) }
     ensures first { IfOk result (λ found. IfSome found (λ list. slice_get list.items 0 ≡ Some from)) }
-    ensures none { IfOk result (λ found. IfNone found ((list : List TxnId) → is_cycle edges.now list ≡ true → is_in from list ≡ false)) }
+    ensures none { IfOk result (λ found. IfNone found ((list : List TxnId) → closes edges.now list ≡ true → is_in from list ≡ false)) }
 {
     let mut seen = BTreeMap::new(alloc);
     let mut todo = begin(alloc, edges, from, &mut seen)?;
