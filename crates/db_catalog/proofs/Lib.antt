@@ -1,1 +1,2 @@
 pub mod CatalogLaws
+pub mod PlanningLaws

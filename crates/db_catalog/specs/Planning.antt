@@ -1,6 +1,7 @@
 -- What a call on the catalog comes to, and the catalog's records that a change logs.
-use Rattle.std.specs.Prelude.{ℕ, ◌∷◌, [], List, Option, Some, None, Bool, true, false}
+use Rattle.std.specs.Prelude.{ℕ, ◌≡◌, ◌∷◌, [], List, Option, Some, None, Bool, true, false}
 use Rattle.je_model.specs.declared.store.Store.{Store}
+use Rattle.je_model.specs.declared.store.Database.{Database}
 use Rattle.je_model.specs.declared.store.Kind.{Kind}
 use Rattle.je_model.specs.declared.store.Kind.TheVariants.{Plain}
 use Rattle.je_model.specs.declared.call.Call.{Call}
@@ -8,6 +9,7 @@ use Rattle.je_model.specs.declared.call.Call.TheVariants.{Create, List as Lists,
 use Rattle.je_model.specs.declared.change.Change.{Change}
 use Rattle.je_model.specs.declared.change.Change.TheVariants.{Set, Unset, Make, Remove, Rename, Empty}
 use Rattle.je_model.specs.declared.answer.Answer.{Answer}
+use Rattle.je_model.specs.Store.{database_of}
 use Rattle.je_model.specs.Evaluation.{Outcome, answers, evaluation}
 use Rattle.je_model.specs.Answers.{or_refusal, catalog_refusal, length_refusal}
 use Rattle.db_catalog.specs.declared.db_record.DbRecord.{DbRecord}
@@ -38,6 +40,15 @@ outcome_of call store = outcome_unless (or_refusal (catalog_refusal call store) 
 abbrev pub kind_in_catalog : Kind → DbKind
 kind_in_catalog Plain = PlainRecord
 
+-- the record that a catalog has for a database: of its kind, under some number; none where there is no database
+abbrev pub IsRecordOf : Option Database → Option DbRecord → Type 0
+IsRecordOf None found = found ≡ None
+IsRecordOf (Some d) found = (number : ℕ) × (found ≡ Some (record { number = number; kind = kind_in_catalog d.kind }))
+
+-- a catalog has a record for each database of the store, of its kind, and no other
+abbrev pub IsCatalogOf : Store → (List ℕ → Option DbRecord) → Type 0
+IsCatalogOf store record_of = (name : List ℕ) → IsRecordOf (database_of name store) (record_of name)
+
 -- a record with another number
 abbrev pub renumbered : ℕ → DbRecord → DbRecord
 renumbered number r = record { number = number; kind = r.kind }
@@ -61,3 +72,15 @@ logged_as record_of number (Make db kind) = Put db (record { number = number; ki
 logged_as record_of number (Remove db) = Delete db ∷ []
 logged_as record_of number (Rename db to) = moved db to (record_of db)
 logged_as record_of number (Empty db) = renewed db number (record_of db)
+
+-- the same for a change that a call makes on a store: a renamed database's record goes, and comes under the new name with the
+-- number that it had; an emptied one's comes with the number; both have the database's kind
+abbrev pub IsCatalogLog : Store → ℕ → Change → List CatalogChange → Type 0
+IsCatalogLog store number (Set db at value) logged = logged ≡ []
+IsCatalogLog store number (Unset db at) logged = logged ≡ []
+IsCatalogLog store number (Make db kind) logged = logged ≡ Put db (record { number = number; kind = kind_in_catalog kind }) ∷ []
+IsCatalogLog store number (Remove db) logged = logged ≡ Delete db ∷ []
+IsCatalogLog store number (Rename db to) logged =
+    (d : Database) × (old : ℕ) × (database_of db store ≡ Some d) × (logged ≡ Delete db ∷ Put to (record { number = old; kind = kind_in_catalog d.kind }) ∷ [])
+IsCatalogLog store number (Empty db) logged =
+    (d : Database) × (database_of db store ≡ Some d) × (logged ≡ Put db (record { number = number; kind = kind_in_catalog d.kind }) ∷ [])

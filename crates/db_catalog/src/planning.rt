@@ -1,8 +1,9 @@
 // What a call on the catalog comes to.
 ghost use Rattle.std.specs.Prelude.{◌≡◌, ◌∷◌, [], true, IfOk};
 ghost use Rattle.je_model.specs.Evaluation.{answers, changes_by};
+ghost use Rattle.je_model.specs.declared.call.Call.{Call as Planned};
 ghost use Rattle.je_model.specs.declared.call.Call.TheVariants.{Create, List as Lists, Remove as Removes, Rename as Renames, Truncate};
-ghost use Rattle.db_catalog.specs.Planning.{is_catalog_call, outcome_of, logged_as, kind_in_catalog, moved, renewed};
+ghost use Rattle.db_catalog.specs.Planning.{is_catalog_call, outcome_of, logged_as, kind_in_catalog, moved, renewed, IsCatalogLog};
 
 use crate::{CatalogChange, CatalogView, DbKind, DbRecord};
 use je_model::{Answer, Call, Change, Kind, MOST_DATABASES};
@@ -188,8 +189,21 @@ fn log_truncation(
 
 /// The changes of the catalog's records that log a change, in order; none where it changes records of
 /// another database. A database that is made or emptied gets the number, which is to be the next one;
-/// a renamed one keeps its own. The one error is want of memory.
+/// a renamed one keeps its own. A rename that was planned on what the view sees logs two changes, and
+/// any other planned change of the catalog logs one. The one error is out of memory.
 pub fn catalog_changes<V: CatalogView>(
+    alloc: Global,
+    view: &V,
+    number: u32,
+    change: &Change,
+) -> Result<List<CatalogChange>, AllocError>
+    ensures exact { IfOk result (λ logged. logged ≡ logged_as (V.record_of view.now) number change.now) }
+    ensures planned { IfOk result (λ logged. (call : Planned) → (outcome_of call (V.seen view.now)).changes ≡ change.now ∷ [] → IsCatalogLog (V.seen view.now) number change.now logged) }
+{
+    changes_of(alloc, view, number, change)
+}
+
+fn changes_of<V: CatalogView>(
     alloc: Global,
     view: &V,
     number: u32,

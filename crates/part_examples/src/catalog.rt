@@ -32,10 +32,13 @@ impl CatalogView for OneDatabase {
     ghost use Rattle.je_model.specs.declared.store.Kind.TheVariants.{Plain};
     ghost use Rattle.je_model.specs.Store.{is_same};
     ghost use Rattle.db_catalog.specs.declared.db_kind.DbKind.TheVariants.{Plain as PlainRecord};
+    ghost use Rattle.part_examples.proofs.CatalogLaw.{one_record};
 
     ghost seen = { λ v. record { databases = record { name = v.name; kind = Plain; pairs = [] } ∷ [] } };
 
     ghost record_of = { λ v name. if is_same v.name name then Some (record { number = v.number; kind = PlainRecord }) else None };
+
+    ghost laws = { λ v name. one_record (is_same v.name name) v.name v.number };
 
     fn has(&self, _alloc: Global, name: &Word) -> Result<bool, AllocError> {
         if self.is_named(name) {

@@ -1,5 +1,5 @@
 use Rattle.std.proofs.Common.{rules}
-use Rattle.db_catalog.proofs.planning.catalog_changes.Goals as goal
+use Rattle.db_catalog.proofs.planning.changes_of.Goals as goal
 
 pub returns-in_ok-copy_of-in-Remove : goal.returns-in_ok-copy_of-in-Remove
 returns-in_ok-copy_of-in-Remove g c = search rules
