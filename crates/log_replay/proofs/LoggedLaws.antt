@@ -1,5 +1,5 @@
 -- What one more transaction in a log leaves, and how long the log is then.
-use Rattle.std.proofs.Common.{◌≡◌, ℕ, ◌+◌, ◌<◌, ◌≤◌, List, [], ◌∷◌, ◌++◌, Bool, true, false, not, ◌==◌, refl, ap, ap₂, sym, ◌∙◌, subst, arith, append-nil}
+use Rattle.std.proofs.Common.{◌≡◌, ℕ, ◌+◌, ◌<◌, ◌≤◌, List, [], ◌∷◌, ◌++◌, Bool, true, false, not, ◌==◌, Option, Some, map, refl, ap, ap₂, sym, ◌∙◌, subst, arith, append-nil}
 use Rattle.std.specs.List.{AllByRecursion}
 use Rattle.std.specs.Ordering.{is_eq}
 use Rattle.je_order.specs.Order.{name_cmp}
@@ -10,6 +10,10 @@ use Rattle.log_entry.specs.declared.entry.Entry.{Entry}
 use Rattle.log_entry.specs.declared.entry.Entry.TheVariants.{Commit}
 use Rattle.log_entry.specs.Spelling.{size_of}
 use Rattle.log_file.specs.Scan.{may_follow}
+use Rattle.db_catalog.specs.declared.db_record.DbRecord.{DbRecord}
+use Rattle.db_catalog.specs.declared.db_kind.DbKind.TheVariants.{Plain as PlainRecord}
+use Rattle.db_catalog.specs.declared.catalog_change.CatalogChange.TheVariants.{Put as PutRecord}
+use Rattle.db_catalog.specs.Planning.{moved, renewed}
 use Rattle.je_model.specs.declared.change.Change.{Change}
 use Rattle.je_model.specs.declared.change.Change.TheVariants.{Set, Unset, Make, Remove, Rename, Empty}
 use Rattle.je_model.specs.declared.store.Kind.TheVariants.{Plain}
@@ -17,7 +21,8 @@ use Rattle.je_model.specs.Store.{changed}
 use Rattle.je_model.specs.Evaluation.{plain_name}
 use Rattle.log_replay.specs.Rows.{Row, Rows, no_rows, RowChange, row_changed, rows_changed, number_in, numbers_of, is_environment, IsRising, store_of}
 use Rattle.log_replay.specs.Replay.{Replay, nothing_replayed, changes_of, changes_of_others, replayed_entry, replayed}
-use Rattle.log_replay.specs.Logging.{entry_of, logged_bytes}
+use Rattle.log_replay.specs.Logging.{catalog_entry, entries_of, entry_of}
+use Rattle.log_replay.specs.Laws.{AreLoggedFirst, FirstEntry}
 use Rattle.log_replay.specs.Kept.{IsOfBefore, IsKept, row_change_of, HasNumber, MayBeLogged, last_db_after, entries_with}
 use Rattle.log_replay.proofs.ListLaws.{all_weaker, all_of_map, all_to_map, filter-all, filter-none, found}
 use Rattle.log_replay.proofs.RowLaws.{row_of_data, rising-nil}
@@ -36,9 +41,24 @@ size_of-entry_of txn number (Remove db) = refl
 size_of-entry_of txn number (Rename db to) = refl
 size_of-entry_of txn number (Empty db) = refl
 
--- how many bytes a transaction of one change takes
-pub size-logged : (txn number : ℕ) (change : Change) → size_of (entry_of txn number change) + size_of (Commit (record { 0 = txn })) ≡ logged_bytes (change ∷ [])
-size-logged txn number change = omega (arith, size_of-entry_of txn number change)
+-- what the catalog's only change is logged as
+only : (record_of : List ℕ → Option DbRecord) (txn number : ℕ) (change : Change) → entries_of record_of txn number change ≡ entry_of txn number change ∷ [] →
+    FirstEntry record_of txn number change
+only record_of txn number change is = ([], is, λ one. refl)
+
+-- the entries of a change in a catalog of plain databases begin with that one, and a rename has one more
+pub first_entries : AreLoggedFirst
+first_entries record_of plain txn number (Set db at value) = only record_of txn number (Set db at value) refl
+first_entries record_of plain txn number (Unset db at) = only record_of txn number (Unset db at) refl
+first_entries record_of plain txn number (Make db kind) = only record_of txn number (Make db kind) refl
+first_entries record_of plain txn number (Remove db) = only record_of txn number (Remove db) refl
+first_entries record_of plain txn number (Rename db to) = (
+  catalog_entry txn (PutRecord to (record { number = (plain db).0; kind = PlainRecord })) ∷ [],
+  ap (λ (r : Option DbRecord). map (catalog_entry txn) (moved db to r)) (plain db).1,
+  λ one. absurd one,
+)
+first_entries record_of plain txn number (Empty db) =
+    only record_of txn number (Empty db) (ap (λ (r : Option DbRecord). map (catalog_entry txn) (renewed db number r)) (plain db).1)
 
 -- a change's entry may stand behind a file's header
 pub follows-entry_of : (txn number : ℕ) (change : Change) → may_follow (entry_of txn number change) ≡ true

@@ -29,15 +29,14 @@ pub record IsKept (entries : List Entry) (rows : Rows) (last_txn last_db : ℕ) 
   pub unused : (db : ℕ) → last_db < db → rows db ≡ []
   pub numbers : AllByRecursion (λ n. n ≤ last_db) (numbers_of rows)
 
--- a change of records that logs a change of the store, by a transaction, in the database of that number
+-- the first change of records that logs a change of the store, by a transaction, in the database of that number
 abbrev pub row_change_of : ℕ → ℕ → Change → RowChange
 row_change_of txn number (Set db at value) = record { txn = txn; db = number; name = at; value = Some value }
 row_change_of txn number (Unset db at) = record { txn = txn; db = number; name = at; value = None }
 row_change_of txn number (Make db kind) =
     record { txn = txn; db = 0; name = plain_name db; value = Some (record_bytes (record { number = number; kind = kind_in_catalog kind })) }
 row_change_of txn number (Remove db) = record { txn = txn; db = 0; name = plain_name db; value = None }
-row_change_of txn number (Rename db to) =
-    record { txn = txn; db = 0; name = plain_name to; value = Some (record_bytes (record { number = number; kind = PlainRecord })) }
+row_change_of txn number (Rename db to) = record { txn = txn; db = 0; name = plain_name db; value = None }
 row_change_of txn number (Empty db) =
     record { txn = txn; db = 0; name = plain_name db; value = Some (record_bytes (record { number = number; kind = PlainRecord })) }
 

@@ -1,31 +1,47 @@
 -- The entries that a transaction's changes are logged as.
-use Rattle.std.specs.Prelude.{ℕ, ◌+◌, ◌∷◌, [], List}
+use Rattle.std.specs.Prelude.{ℕ, ◌∷◌, [], List, Option, Some, map}
 use Rattle.log_entry.specs.declared.entry.Entry.{Entry}
-use Rattle.log_entry.specs.declared.entry.Entry.TheVariants.{Put, Delete, Commit}
-use Rattle.log_entry.specs.Spelling.{size_of}
+use Rattle.log_entry.specs.declared.entry.Entry.TheVariants.{Put, Delete}
+use Rattle.db_catalog.specs.declared.db_record.DbRecord.{DbRecord}
 use Rattle.db_catalog.specs.declared.db_kind.DbKind.TheVariants.{Plain as PlainRecord}
+use Rattle.db_catalog.specs.declared.catalog_change.CatalogChange.{CatalogChange}
+use Rattle.db_catalog.specs.declared.catalog_change.CatalogChange.TheVariants.{Put as PutRecord, Delete as DeleteRecord}
 use Rattle.db_catalog.specs.Catalog.{record_bytes}
-use Rattle.db_catalog.specs.Planning.{kind_in_catalog}
+use Rattle.db_catalog.specs.Planning.{kind_in_catalog, logged_as}
 use Rattle.je_model.specs.declared.change.Change.{Change}
 use Rattle.je_model.specs.declared.change.Change.TheVariants.{Set, Unset, Make, Remove, Rename, Empty}
 use Rattle.je_model.specs.Evaluation.{plain_name}
 
--- the entry of a change, by a transaction, in the database of that number; a new database gets the number. No transaction
--- removes, renames or empties a database yet: a rename takes one more entry, which takes the old name out
+-- the entry of a change of the catalog's records, by a transaction
+abbrev pub catalog_entry : ℕ → CatalogChange → Entry
+catalog_entry txn (PutRecord db row) = Put (record { 0 = txn }) 0 (plain_name db) (record_bytes row)
+catalog_entry txn (DeleteRecord db) = Delete (record { 0 = txn }) 0 (plain_name db)
+
+-- the entries of a change, by a transaction: one for a record's change, in the database of that number; for any other change
+-- those of the catalog's records that log it, where a database that is made or emptied gets the number
+abbrev pub entries_of : (List ℕ → Option DbRecord) → ℕ → ℕ → Change → List Entry
+entries_of record_of txn number (Set db at value) = Put (record { 0 = txn }) number at value ∷ []
+entries_of record_of txn number (Unset db at) = Delete (record { 0 = txn }) number at ∷ []
+entries_of record_of txn number (Make db kind) = map (catalog_entry txn) (logged_as record_of number (Make db kind))
+entries_of record_of txn number (Remove db) = map (catalog_entry txn) (logged_as record_of number (Remove db))
+entries_of record_of txn number (Rename db to) = map (catalog_entry txn) (logged_as record_of number (Rename db to))
+entries_of record_of txn number (Empty db) = map (catalog_entry txn) (logged_as record_of number (Empty db))
+
+-- a catalog in which each name is that of a plain database
+abbrev pub plain_catalog : List ℕ → Option DbRecord
+plain_catalog name = Some (record { number = 0; kind = PlainRecord })
+
+-- the first of them, in a catalog of plain databases
 abbrev pub entry_of : ℕ → ℕ → Change → Entry
 entry_of txn number (Set db at value) = Put (record { 0 = txn }) number at value
 entry_of txn number (Unset db at) = Delete (record { 0 = txn }) number at
 entry_of txn number (Make db kind) =
     Put (record { 0 = txn }) 0 (plain_name db) (record_bytes (record { number = number; kind = kind_in_catalog kind }))
 entry_of txn number (Remove db) = Delete (record { 0 = txn }) 0 (plain_name db)
-entry_of txn number (Rename db to) = Put (record { 0 = txn }) 0 (plain_name to) (record_bytes (record { number = number; kind = PlainRecord }))
+entry_of txn number (Rename db to) = Delete (record { 0 = txn }) 0 (plain_name db)
 entry_of txn number (Empty db) = Put (record { 0 = txn }) 0 (plain_name db) (record_bytes (record { number = number; kind = PlainRecord }))
 
--- how many bytes of log changes take, without a commit; no number changes an entry's length
-abbrev pub entries_bytes : List Change → ℕ
-entries_bytes [] = 0
-entries_bytes (change ∷ changes) = size_of (entry_of 0 0 change) + entries_bytes changes
-
--- how many bytes of log a transaction's changes take, its commit included
-abbrev pub logged_bytes : List Change → ℕ
-logged_bytes changes = entries_bytes changes + size_of (Commit (record { 0 = 0 }))
+-- one entry logs the change; a rename takes two
+abbrev pub HasOneEntry : Change → Type 0
+HasOneEntry (Rename db to) = ⊥
+HasOneEntry change = Unit {0}

@@ -30,7 +30,7 @@ mod table;
 
 pub use finding::Finding;
 pub use last_file::LastFile;
-pub use laws::logs_are_read;
+pub use laws::{changes_are_logged, logs_are_read};
 pub use log_read::{LogRead, ReadLog};
 pub use numbers::number_of;
 pub use reading::read_log;
