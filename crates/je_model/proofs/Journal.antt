@@ -1,14 +1,12 @@
 -- One more event at a journal's end.
-use Rattle.std.proofs.Common.{◌≡◌, ℕ, List, [], ◌∷◌, ◌++◌, ◌||◌, Bool, IsTrue, refl, ap, sym, ◌∙◌, append_assoc}
-use Rattle.std.specs.List.{list_any}
-use Rattle.std.proofs.lemmas.List.Folds.{list_any-append}
+use Rattle.std.proofs.Common.{◌≡◌, ℕ, List, [], ◌∷◌, ◌++◌, inl, inr, ⊎_elim, refl, ap, sym, ◌∙◌, append_assoc}
 use Rattle.je_model.specs.declared.store.Store.{Store}
 use Rattle.je_model.specs.declared.change.Change.{Change}
 use Rattle.je_model.specs.declared.event.Event.{Event}
 use Rattle.je_model.specs.declared.event.Event.TheVariants.{Call as Called, SyncBegin, SyncEnd}
 use Rattle.je_model.specs.declared.answer.Answer.TheVariants.{Logged, DiskFault}
 use Rattle.je_model.specs.Store.{store_after, all_changed}
-use Rattle.je_model.specs.Journal.{commit_of, commits_of, EachComesLater, ComesLater, lines_of, line_of}
+use Rattle.je_model.specs.Journal.{commit_of, commits_of, IsSyncedBy, IsSyncedAtOnce, AreSyncedAtOnce, lines_of, line_of}
 use Rattle.je_model.specs.Answers.{LogRule, Standing, IsAnswered, AnswersAsModel, after_event, after_events}
 
 -- where the environment stands after two journals, one after the other
@@ -53,17 +51,15 @@ pub lines_of-append : (before after : List Event) → lines_of (before ++ after)
 lines_of-append [] after = refl
 lines_of-append (event ∷ events) after = ap (λ l. line_of event ++ l) (lines_of-append events after) ∙ sym (append_assoc (line_of event) (lines_of events) (lines_of after))
 
-list_any-more : (test : Event → Bool) (before after : List Event) → IsTrue (list_any test before) → IsTrue (list_any test (before ++ after))
-list_any-more test before after h = list_any-append test before after ∙ ap (λ b. b || list_any test after) h
+-- the sync of a commit still follows it at once when more events come
+synced_by-more : (commit : ℕ) (later more : List Event) → IsSyncedBy commit later → IsSyncedBy commit (later ++ more)
+synced_by-more commit later more h = (h.0 ++ more, ⊎_elim (λ e. inl (ap (λ l. l ++ more) e)) (λ f. inr (⊎_elim (λ e. inl (ap (λ l. l ++ more) e)) (λ e. inr (ap (λ l. l ++ more) e)) f)) h.1)
 
--- what comes later still does when more events come
-comes_later-more : (test : ℕ → Event → Bool) (event : Event) (later more : List Event) → ComesLater test event later → ComesLater test event (later ++ more)
-comes_later-more test (Called session line call (Logged commit)) later more h = list_any-more (test commit) later more h
-comes_later-more test event later more h = tt
+synced-more : (event : Event) (later more : List Event) → IsSyncedAtOnce event later → IsSyncedAtOnce event (later ++ more)
+synced-more (Called session line call (Logged commit)) later more h = synced_by-more commit later more h
+synced-more event later more h = tt
 
--- what comes later does so in two journals, one after the other
-pub each_comes_later-append : (test : ℕ → Event → Bool) (before after : List Event) →
-    EachComesLater test before → EachComesLater test after → EachComesLater test (before ++ after)
-each_comes_later-append test [] after b a = a
-each_comes_later-append test (event ∷ events) after b a =
-    (comes_later-more test event events after b.0, each_comes_later-append test events after b.1 a)
+-- commits that are synced at once are so in two journals, one after the other
+pub synced-append : (before after : List Event) → AreSyncedAtOnce before → AreSyncedAtOnce after → AreSyncedAtOnce (before ++ after)
+synced-append [] after b a = a
+synced-append (event ∷ events) after b a = (synced-more event events after b.0, synced-append events after b.1 a)

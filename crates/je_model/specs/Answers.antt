@@ -130,20 +130,22 @@ abbrev pub MayAnswer : Answer → Answer → Type 0
 MayAnswer (Logged commit) answer = (answer ≡ Logged commit) ⊎ (answer ≡ DiskFault)
 MayAnswer due answer = answer ≡ due
 
--- a sync begins, or fails before it does
-abbrev pub MayBeginSync : Answer → Type 0
-MayBeginSync answer = (answer ≡ Done) ⊎ (answer ≡ DiskFault)
+-- a sync begins, or fails before it does; after a fault it is Invalid
+abbrev pub MayBeginSync : Option Fault → Answer → Type 0
+MayBeginSync None answer = (answer ≡ Done) ⊎ (answer ≡ DiskFault)
+MayBeginSync (Some fault) answer = answer ≡ Invalid fault
 
--- a sync covers the commits before its beginning, or fails
-abbrev pub MayEndSync : Option ℕ → Answer → Type 0
-MayEndSync None answer = ⊥
-MayEndSync (Some commits) answer = (answer ≡ Durable commits) ⊎ (answer ≡ DiskFault)
+-- a sync covers the commits before its beginning, or fails; after a fault it is Invalid
+abbrev pub MayEndSync : Option Fault → Option ℕ → Answer → Type 0
+MayEndSync None None answer = ⊥
+MayEndSync None (Some commits) answer = (answer ≡ Durable commits) ⊎ (answer ≡ DiskFault)
+MayEndSync (Some fault) begun answer = answer ≡ Invalid fault
 
 -- an event answers what it may
 abbrev pub IsAnswered : LogRule → Standing → Event → Type 0
 IsAnswered rule st (Called session line call answer) = MayAnswer (answer_to rule st call) answer
-IsAnswered rule st (SyncBegin answer) = MayBeginSync answer
-IsAnswered rule st (SyncEnd answer) = MayEndSync st.begun answer
+IsAnswered rule st (SyncBegin answer) = MayBeginSync st.fault answer
+IsAnswered rule st (SyncEnd answer) = MayEndSync st.fault st.begun answer
 
 -- where the environment stands after a call with that answer
 abbrev pub after_call : LogRule → Standing → Call → Answer → Standing
@@ -168,6 +170,7 @@ after_sync st answer = st
 
 abbrev pub after_begin : Standing → Answer → Standing
 after_begin st DiskFault = record st { fault = Some Disk }
+after_begin st (Invalid first) = st
 after_begin st answer = record st { begun = Some st.commits }
 
 -- where the environment stands after an event

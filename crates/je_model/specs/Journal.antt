@@ -1,10 +1,10 @@
 -- What a journal of events has committed (Getting Started with Transaction Processing).
-use Rattle.std.specs.Prelude.{ℕ, ◌++◌, ◌∷◌, [], List, Bool, true, false, nat_le, max, ◌||◌, IsTrue}
+use Rattle.std.specs.Prelude.{ℕ, ◌≡◌, ◌⊎◌, ◌++◌, ◌∷◌, [], List, Bool, true, false, nat_le, max, ◌||◌, IsTrue}
 use Rattle.std.specs.List.{list_any, flat_map}
 use Rattle.je_model.specs.declared.store.Store.{Store}
 use Rattle.je_model.specs.declared.change.Change.{Change}
 use Rattle.je_model.specs.declared.answer.Answer.{Answer}
-use Rattle.je_model.specs.declared.answer.Answer.TheVariants.{Logged, Durable, DiskFault, LogFull, IdsEnded}
+use Rattle.je_model.specs.declared.answer.Answer.TheVariants.{Done, Logged, Durable, DiskFault, LogFull, IdsEnded}
 use Rattle.je_model.specs.declared.event.Event.{Event}
 use Rattle.je_model.specs.declared.event.Event.TheVariants.{Call as Called, SyncBegin, SyncEnd}
 use Rattle.je_model.specs.declared.plan.Given.{Given}
@@ -85,9 +85,20 @@ EachComesLater test (event ∷ events) = ComesLater test event events × EachCom
 abbrev pub AllAcknowledged : List Event → Type 0
 AllAcknowledged journal = EachComesLater acknowledges journal
 
--- each commit is acknowledged later in the journal, or followed by a disk fault
-abbrev pub AllSettled : List Event → Type 0
-AllSettled journal = EachComesLater settles journal
+-- behind a commit stand its sync's beginning and end, or the disk fault that came in the place of one of them
+abbrev pub IsSyncedBy : ℕ → List Event → Type 0
+IsSyncedBy commit later =
+    (more : List Event) × ((later ≡ SyncBegin Done ∷ SyncEnd (Durable commit) ∷ more) ⊎ (later ≡ SyncBegin Done ∷ SyncEnd DiskFault ∷ more) ⊎ (later ≡ SyncBegin DiskFault ∷ more))
+
+-- where an event is a commit, its sync follows it at once
+abbrev pub IsSyncedAtOnce : Event → List Event → Type 0
+IsSyncedAtOnce (Called session line call (Logged commit)) later = IsSyncedBy commit later
+IsSyncedAtOnce event later = Unit {0}
+
+-- each commit's sync follows it at once
+abbrev pub AreSyncedAtOnce : List Event → Type 0
+AreSyncedAtOnce [] = Unit {0}
+AreSyncedAtOnce (event ∷ events) = IsSyncedAtOnce event events × AreSyncedAtOnce events
 
 -- the line of a script that an event was given by, if any
 abbrev pub line_of : Event → List Given

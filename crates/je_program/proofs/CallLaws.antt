@@ -49,7 +49,7 @@ use Rattle.je_program.specs.Planning.{IsLogged}
 use Rattle.je_program.specs.declared.kept.TheConstants.{LAST_FILE}
 use Rattle.je_program.specs.Steps.{GoesOn, LogsChange}
 use Rattle.je_program.proofs.GrownLaws.{IsLongerByBoth, longer_by_both}
-use Rattle.je_program.proofs.LoggingLaws.{sizes_are}
+use Rattle.je_program.proofs.LoggingLaws.{one_entry, sizes_are}
 use Rattle.je_program.proofs.RunLaws.{logged_valid}
 use Rattle.je_program.proofs.BothLaws.{both_read}
 use Rattle.je_program.proofs.GuardLaws.{keeping_read, one_log}
@@ -240,7 +240,7 @@ module _ {D : Type 0} where
       longer_by_both kept.file_max kept.end (last_of buffer) (entry_of (kept.last_txn + 1) number change) (Commit (record { 0 = kept.last_txn + 1 })) log
       (subst (λ (m : ℕ). m ≤ 2 ^ 30) at_end.file_max buffer.max) keeping.has.is_log (subst (λ (p : Place). EndsAt log p.file p.offset (last_of buffer)) at_end.end keeping.has.ends) keeping.whole
       (logged.entry (kept.last_txn + 1) (omega (arith, below)), omega (arith, below)) (follows-entry_of (kept.last_txn + 1) number change, refl)
-      (subst (λ (s : List ℕ). (end_after_all kept.file_max kept.end s).file ≤ LAST_FILE) (sym (sizes_are (kept.last_txn + 1) number change)) logged.room)
+      (subst (λ (s : List ℕ). (end_after_all kept.file_max kept.end s).file ≤ LAST_FILE) (sym (sizes_are (kept.last_txn + 1) number change (one_entry (rows_in kept.rows) kept.last_db number change logged.may))) logged.room)
 
   -- where a call was logged, the model stands at a valid environment
   pub logged_none : (most : ℕ) (tells : Bool) (state : State) (buffer : LogBuffer D) (kept : Kept) (st : Standing) (call : Call) (answer : Answer) →

@@ -1,6 +1,6 @@
 -- The end of a run.
-use Rattle.std.proofs.Common.{◌≡◌, ◌≢◌, ℕ, ◌-◌, ◌^◌, ◌<◌, ◌≤◌, ◌||◌, Bool, true, false, List, [], ◌∷◌, ◌++◌, length, None, refl, ap, sym, ◌∙◌, subst, inl, inr, ⊎_elim, arith}
-use Rattle.std.proofs.lemmas.Bool.{cases_Bool, cases_lt, cond-true, cond-false}
+use Rattle.std.proofs.Common.{◌≡◌, ◌≢◌, ℕ, ◌-◌, ◌^◌, ◌<◌, ◌≤◌, ◌||◌, nat_le, Bool, true, false, List, [], ◌∷◌, ◌++◌, length, None, refl, ap, sym, ◌∙◌, subst, inl, inr, ⊎_elim, arith}
+use Rattle.std.proofs.lemmas.Bool.{cases_Bool, cases_lt, cond-true, cond-false, le-leb, or_left, true≢false}
 use Rattle.std.specs.List.{AllByRecursion, list_any}
 use Rattle.je_disk.specs.Causes.{Rose}
 use Rattle.je_disk.specs.States.{State, Files}
@@ -9,10 +9,10 @@ use Rattle.je_model.specs.declared.totals.Totals.{Totals}
 use Rattle.je_model.specs.declared.event.Event.{Event}
 use Rattle.je_model.specs.declared.event.Event.TheVariants.{Call as Called, SyncBegin, SyncEnd}
 use Rattle.je_model.specs.declared.answer.Answer.{Answer}
-use Rattle.je_model.specs.declared.answer.Answer.TheVariants.{Logged, LogFull as LogFullAnswer, IdsEnded as IdsEndedAnswer, DiskFault}
+use Rattle.je_model.specs.declared.answer.Answer.TheVariants.{Done as Synced, Logged, Durable, LogFull as LogFullAnswer, IdsEnded as IdsEndedAnswer, DiskFault}
 use Rattle.je_model.specs.Store.{store_after}
 use Rattle.je_model.specs.Answers.{Standing, after_event, after_events}
-use Rattle.je_model.specs.Journal.{answer_of, is_disk_fault, has_answer, settles, acknowledges, AllSettled, AllAcknowledged, ComesLater, commits_of}
+use Rattle.je_model.specs.Journal.{answer_of, is_disk_fault, has_answer, acknowledges, AllAcknowledged, AreSyncedAtOnce, ComesLater, IsSyncedAtOnce, IsSyncedBy, commits_of}
 use Rattle.je_model.proofs.Journal.{store-after_events}
 use Rattle.log_buffer.specs.declared.buffer.LogBuffer.{LogBuffer}
 use Rattle.je_lsn.specs.Naming.{last_file}
@@ -94,27 +94,26 @@ pub final_is : (most : ℕ) (st : Standing) (opening : Store) (journal : List Ev
 final_is most st opening journal same =
     store-after_events (log_rule most) st journal ∙ ap (λ (s : Store). store_after s (commits_of s journal)) same
 
--- without a disk fault, what settles a commit acknowledges it
-acknowledges_any : (commit : ℕ) (later : List Event) → has_answer is_disk_fault later ≡ false → list_any (settles commit) later ≡ true → list_any (acknowledges commit) later ≡ true
-acknowledges_any commit [] none h = h
-acknowledges_any commit (event ∷ events) none h =
-    let parts = or_false (is_disk_fault (answer_of event)) (has_answer is_disk_fault events) none in
-    acknowledges_or (acknowledges commit event) (is_disk_fault (answer_of event)) (list_any (settles commit) events) (list_any (acknowledges commit) events) parts.0 h
-    (acknowledges_any commit events parts.1) where
-      acknowledges_or : (a f s r : Bool) → f ≡ false → ((a || f) || s) ≡ true → (s ≡ true → r ≡ true) → (a || r) ≡ true
-      acknowledges_or true f s r none h later = refl
-      acknowledges_or false true s r none h later = cc
-      acknowledges_or false false s r none h later = later h
+-- without a disk fault, the sync that follows a commit at once acknowledges it
+acknowledged_by : (commit : ℕ) (later : List Event) → has_answer is_disk_fault later ≡ false → IsSyncedBy commit later → list_any (acknowledges commit) later ≡ true
+acknowledged_by commit later none h =
+    ⊎_elim
+    (λ (e : later ≡ SyncBegin Synced ∷ SyncEnd (Durable commit) ∷ h.0). ap (list_any (acknowledges commit)) e ∙ or_left (nat_le commit commit) (list_any (acknowledges commit) h.0) (le-leb commit commit (omega arith)))
+    (λ f. ⊎_elim
+    (λ (e : later ≡ SyncBegin Synced ∷ SyncEnd DiskFault ∷ h.0). absurd (true≢false (sym (ap (has_answer is_disk_fault) e) ∙ none)))
+    (λ (e : later ≡ SyncBegin DiskFault ∷ h.0). absurd (true≢false (sym (ap (has_answer is_disk_fault) e) ∙ none)))
+    f)
+    h.1
 
-later_acknowledged : (event : Event) (later : List Event) → has_answer is_disk_fault later ≡ false → ComesLater settles event later → ComesLater acknowledges event later
-later_acknowledged (Called session line call (Logged commit)) later none h = acknowledges_any commit later none h
+later_acknowledged : (event : Event) (later : List Event) → has_answer is_disk_fault later ≡ false → IsSyncedAtOnce event later → ComesLater acknowledges event later
+later_acknowledged (Called session line call (Logged commit)) later none h = acknowledged_by commit later none h
 later_acknowledged event later none h = tt
 
-pub all_acknowledged : (journal : List Event) → has_answer is_disk_fault journal ≡ false → AllSettled journal → AllAcknowledged journal
-all_acknowledged [] none settled = tt
-all_acknowledged (event ∷ events) none settled =
+pub all_acknowledged : (journal : List Event) → has_answer is_disk_fault journal ≡ false → AreSyncedAtOnce journal → AllAcknowledged journal
+all_acknowledged [] none synced = tt
+all_acknowledged (event ∷ events) none synced =
     let parts = or_false (is_disk_fault (answer_of event)) (has_answer is_disk_fault events) none in
-    (later_acknowledged event events parts.1 settled.0, all_acknowledged events parts.1 settled.1)
+    (later_acknowledged event events parts.1 synced.0, all_acknowledged events parts.1 synced.1)
 
 -- a count that rose before a later moment, or after an earlier one, rose
 pub rose_later : (before mid after : ℕ) → Rose before mid → mid ≤ after → Rose before after
@@ -225,7 +224,7 @@ caused_earlier before mid after journal earlier caused = record {
 }
 
 -- where a run is done, each commit is acknowledged
-pub done_acknowledged : (journal : List Event) (cause : Cause) → cause ≡ Done → EndsBy journal cause → AllSettled journal → AllAcknowledged journal
+pub done_acknowledged : (journal : List Event) (cause : Cause) → cause ≡ Done → EndsBy journal cause → AreSyncedAtOnce journal → AllAcknowledged journal
 done_acknowledged journal cause done ends settled =
     ⊎_elim
     (λ (e : cause ≡ cause_of_journal journal). all_acknowledged journal (no_fault_of_cause journal (sym e ∙ done)) settled)

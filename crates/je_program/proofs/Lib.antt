@@ -21,4 +21,5 @@ pub mod SyncLaws
 pub mod BothLaws
 pub mod ClosedLaws
 pub mod OpenedLaws
+pub mod UntouchedLaws
 pub mod EntryLaws

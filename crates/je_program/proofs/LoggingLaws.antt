@@ -7,6 +7,7 @@ use Rattle.je_lsn.specs.Naming.{last_file}
 use Rattle.je_model.specs.declared.answer.Answer.{Answer}
 use Rattle.je_model.specs.declared.change.Change.{Change}
 use Rattle.je_model.specs.declared.change.Change.TheVariants.{Set, Unset, Make, Remove, Rename, Empty}
+use Rattle.je_model.specs.declared.store.Kind.TheVariants.{Plain}
 use Rattle.je_model.specs.declared.totals.Totals.{Totals}
 use Rattle.log_entry.specs.declared.entry.Entry.{Entry}
 use Rattle.log_entry.specs.declared.entry.Entry.TheVariants.{Commit}
@@ -23,9 +24,8 @@ use Rattle.log_buffer.specs.Flip.{end_after, end_after_all, lsn_of, placed_at}
 use Rattle.log_buffer.specs.Log.{HasLog, log_with}
 use Rattle.log_buffer.proofs.Keeping.{log_kept}
 use Rattle.log_replay.specs.Rows.{Rows, row_changed}
-use Rattle.log_replay.specs.Kept.{row_change_of}
-use Rattle.log_replay.specs.Logging.{entry_of}
-use Rattle.log_replay.proofs.LoggedLaws.{size_of-entry_of}
+use Rattle.log_replay.specs.Kept.{MayBeLogged, row_change_of}
+use Rattle.log_replay.specs.Logging.{HasOneEntry, entry_of}
 use Rattle.je_program.specs.declared.kept.Kept.{Kept}
 use Rattle.je_program.specs.declared.kept.TheConstants.{LAST_FILE}
 use Rattle.je_program.specs.Environment.{logged_sizes}
@@ -33,7 +33,7 @@ use Rattle.je_program.specs.Logging.{IsSame, rows_after}
 use Rattle.je_program.specs.Planning.{end_behind}
 use Rattle.je_program.specs.Steps.{CanGoOn, GainsEntries, KeepsLog, LogsChange}
 use Rattle.je_program.proofs.AppendLaws.{grows}
-use Rattle.je_program.proofs.FlipLaws.{end_after_bound, end_rises, file_rises}
+use Rattle.je_program.proofs.FlipLaws.{end_rises, file_rises, logged_bound}
 
 -- ---- results
 
@@ -132,9 +132,19 @@ rows_after_is txn number (Remove db) rows d = refl
 rows_after_is txn number (Rename db to) rows d = refl
 rows_after_is txn number (Empty db) rows d = refl
 
+-- a change that may be logged has one entry
+pub one_entry : (rows : Rows) (last_db number : ℕ) (change : Change) → MayBeLogged rows last_db number change → HasOneEntry change
+one_entry rows last_db number (Rename db to) may = absurd may
+one_entry rows last_db number change may = tt
+
 -- the sizes of its entries
-pub sizes_are : (txn number : ℕ) (change : Change) → size_of (entry_of txn number change) ∷ size_of (Commit (record { 0 = txn })) ∷ [] ≡ logged_sizes (change ∷ [])
-sizes_are txn number change = ap (λ (n : ℕ). n ∷ 22 ∷ []) (size_of-entry_of txn number change)
+pub sizes_are : (txn number : ℕ) (change : Change) → HasOneEntry change → size_of (entry_of txn number change) ∷ size_of (Commit (record { 0 = txn })) ∷ [] ≡ logged_sizes (change ∷ [])
+sizes_are txn number (Set db at value) one = refl
+sizes_are txn number (Unset db at) one = refl
+sizes_are txn number (Make db Plain) one = refl
+sizes_are txn number (Remove db) one = refl
+sizes_are txn number (Rename db to) one = absurd one
+sizes_are txn number (Empty db) one = refl
 
 -- the end of the log behind it, where there is one
 pub end_found : (end here : Place) → Some here ≡ (if nat_lt LAST_FILE end.file then None else Some end) → here ≡ end
@@ -150,7 +160,7 @@ pub can_go_on : (old new : Kept) (number : ℕ) (change : Change) → CanGoOn ol
 can_go_on old new number change can room small end max commits last = record {
   file = subst (λ (p : Place). p.file ≤ LAST_FILE) (sym end) room;
   offset = subst (λ (p : Place). p.offset < 2 ^ 32) (sym end)
-      (end_after_bound old.file_max (end_after old.file_max old.end (size_of (entry_of 0 0 change))) 22 can.file_max (omega arith));
+      (logged_bound old.file_max (change ∷ []) old.end can.file_max);
   file_max = let bound = can.file_max in omega (arith, bound, max);
   commits =
       let few = can.commits in

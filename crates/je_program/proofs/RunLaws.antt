@@ -1,7 +1,5 @@
 -- A run goes on by one line of its script.
 use Rattle.std.proofs.Common.{◌≡◌, ℕ, ◌≤◌, ◌||◌, Bool, true, false, List, [], ◌∷◌, ◌++◌, Option, Some, None, Ok, refl, ap, sym, ◌∙◌, subst, ⊎_elim, inl, inr, append_assoc, arith}
-use Rattle.std.proofs.lemmas.Bool.Decides.{nat_tests}
-use Rattle.std.specs.List.{list_any}
 use Rattle.std.proofs.lemmas.List.Folds.{list_any-append}
 use Rattle.je_disk.specs.Causes.{Rose}
 use Rattle.je_disk.specs.States.{State}
@@ -10,10 +8,10 @@ use Rattle.je_model.specs.declared.event.Event.{Event}
 use Rattle.je_model.specs.declared.event.Event.TheVariants.{Call as Called, SyncBegin, SyncEnd}
 use Rattle.je_model.specs.declared.answer.Answer.{Answer}
 use Rattle.je_model.specs.declared.answer.Answer.TheVariants.{Done, Logged, Durable, DiskFault}
-use Rattle.je_model.specs.Answers.{Standing, IsAnswered, MayAnswer, MayEndSync, answer_after, after_begin, after_event, after_events, after_call}
+use Rattle.je_model.specs.Answers.{Standing, IsAnswered, MayAnswer, MayBeginSync, MayEndSync, answer_after, after_begin, after_event, after_events, after_call}
 use Rattle.je_model.specs.declared.answer.Fault.{Fault}
-use Rattle.je_model.specs.Journal.{answer_of, has_answer, is_disk_fault, is_logged, settles, EachComesLater}
-use Rattle.je_model.proofs.Journal.{after_events-append, answers-append, answers-push, each_comes_later-append}
+use Rattle.je_model.specs.Journal.{answer_of, has_answer, is_disk_fault, is_logged, AreSyncedAtOnce, IsSyncedBy}
+use Rattle.je_model.proofs.Journal.{after_events-append, answers-append, answers-push, synced-append}
 use Rattle.log_buffer.specs.declared.buffer.LogBuffer.{LogBuffer}
 use Rattle.log_buffer.specs.Buffer.{has_failed}
 use Rattle.je_program.specs.declared.kept.Kept.{Kept}
@@ -23,7 +21,7 @@ use Rattle.je_program.specs.Steps.{EndsSync, GoesOn}
 use Rattle.je_program.proofs.FinishLaws.{rose_earlier, rose_later}
 
 -- a call that was not logged waits for nothing
-not_waiting : (session line : ℕ) (call : Call) (answer : Answer) → is_logged answer ≡ false → EachComesLater settles (Called session line call answer ∷ [])
+not_waiting : (session line : ℕ) (call : Call) (answer : Answer) → is_logged answer ≡ false → AreSyncedAtOnce (Called session line call answer ∷ [])
 not_waiting session line call (Logged commit) h = cc
 not_waiting session line call answer h = (tt, tt)
 
@@ -42,17 +40,17 @@ module _ {D : Type 0} where
   pub runs_on : (most : ℕ) (tells : Bool) (before after : State) (buffer longer : LogBuffer D) (old new : Kept) (journal : List Event) (event : Event) (st : Standing) →
       IsRunning most tells before buffer old journal st →
       IsAnswered (log_rule most) (after_events (log_rule most) st journal) event → IsAt most tells after longer new (after_event (log_rule most) (after_events (log_rule most) st journal) event) →
-      EachComesLater settles (event ∷ []) → IsRunning most tells after longer new (journal ++ event ∷ []) st
-  runs_on most tells before after buffer longer old new journal event st running answered here settled = record {
+      AreSyncedAtOnce (event ∷ []) → IsRunning most tells after longer new (journal ++ event ∷ []) st
+  runs_on most tells before after buffer longer old new journal event st running answered here synced = record {
     here = subst (λ (s : Standing). IsAt most tells after longer new s) (sym (after_events-append (log_rule most) st journal (event ∷ []))) here;
     answers = answers-push (log_rule most) st journal event running.answers answered;
-    settled = each_comes_later-append settles journal (event ∷ []) running.settled settled;
+    synced = synced-append journal (event ∷ []) running.synced synced;
   }
 
   -- no event more: a call found no memory
   pub runs_same : (most : ℕ) (tells : Bool) (before after : State) (buffer longer : LogBuffer D) (old new : Kept) (journal : List Event) (st : Standing) →
       IsRunning most tells before buffer old journal st → IsAt most tells after longer new (after_events (log_rule most) st journal) → IsRunning most tells after longer new journal st
-  runs_same most tells before after buffer longer old new journal st running here = record { here = here; answers = running.answers; settled = running.settled }
+  runs_same most tells before after buffer longer old new journal st running here = record { here = here; answers = running.answers; synced = running.synced }
 
   -- where a call was logged, the model stands at a valid environment, whose log buffer works
   pub logged_at_work : (most : ℕ) (tells : Bool) (state : State) (buffer : LogBuffer D) (kept : Kept) (st : Standing) (call : Call) (answer : Answer) →
@@ -73,14 +71,15 @@ module _ {D : Type 0} where
   runs_plain most tells before after buffer longer old new journal session line call answer st running goes plain =
       runs_on most tells before after buffer longer old new journal (Called session line call answer) st running goes.0 goes.1 (not_waiting session line call answer plain)
 
--- the end of a sync settles the commit that it covers
-ends_settled : (commit commits : ℕ) (ending : Answer) → commit ≡ commits → MayEndSync (Some commits) ending → list_any (settles commit) (SyncBegin Done ∷ SyncEnd ending ∷ []) ≡ true
-ends_settled commit commits ending is ends =
-    ⊎_elim
-    (λ (e : ending ≡ Durable commits). subst (λ (a : Answer). list_any (settles commit) (SyncBegin Done ∷ SyncEnd a ∷ []) ≡ true) (sym e)
-    (subst (λ c. list_any (settles c) (SyncBegin Done ∷ SyncEnd (Durable commits) ∷ []) ≡ true) (sym is) (grind (arith, nat_tests))))
-    (λ (e : ending ≡ DiskFault). subst (λ (a : Answer). list_any (settles commit) (SyncBegin Done ∷ SyncEnd a ∷ []) ≡ true) (sym e) refl)
-    ends
+-- a sync of the commits so far follows the last one at once
+ends_synced : (commit commits : ℕ) (ending : Answer) → commit ≡ commits → MayEndSync None (Some commits) ending → IsSyncedBy commit (SyncBegin Done ∷ SyncEnd ending ∷ [])
+ends_synced commit commits ending is ends = (
+  [],
+  ⊎_elim
+      (λ (e : ending ≡ Durable commits). inl (ap (λ (a : Answer). SyncBegin Done ∷ SyncEnd a ∷ []) (e ∙ ap Durable (sym is))))
+      (λ (e : ending ≡ DiskFault). inr (inl (ap (λ (a : Answer). SyncBegin Done ∷ SyncEnd a ∷ []) e)))
+      ends,
+)
 
 module _ {D : Type 0} where
   -- a call that was logged, and a sync that could not begin
@@ -98,12 +97,13 @@ module _ {D : Type 0} where
       of_commit commit goes =
           let st0 = after_events (log_rule most) st journal in
           let st1 = after_call (log_rule most) st0 call (Logged commit) in
-          let begun = begins st1 goes.1 (logged_valid most st0.fault st0 call commit goes.0) in
+          let valid = logged_valid most st0.fault st0 call commit goes.0 in
+          let begun = begins st1 goes.1 valid in
           let events : List Event = Called session line call (Logged commit) ∷ SyncBegin DiskFault ∷ [] in
           let all : IsRunning most tells after written new (journal ++ events) st = record {
             here = subst (λ (s : Standing). IsAt most tells after written new s) (sym (after_events-append (log_rule most) st journal events)) begun;
-            answers = answers-append (log_rule most) st journal events running.answers (goes.0, (inr refl, tt));
-            settled = each_comes_later-append settles journal events running.settled (refl, (tt, tt));
+            answers = answers-append (log_rule most) st journal events running.answers (goes.0, (subst (λ (f : Option Fault). MayBeginSync f DiskFault) (sym valid) (inr refl), tt));
+            synced = synced-append journal events running.synced (([], inr (inr refl)), (tt, tt));
           } in
           let same : journal ++ events ≡ (journal ++ Called session line call (Logged commit) ∷ []) ++ SyncBegin DiskFault ∷ [] =
           sym (append_assoc journal (Called session line call (Logged commit) ∷ []) (SyncBegin DiskFault ∷ [])) in
@@ -124,13 +124,17 @@ module _ {D : Type 0} where
       of_commit commit goes =
           let st0 = after_events (log_rule most) st journal in
           let st1 = after_call (log_rule most) st0 call (Logged commit) in
-          let ended = sync st1 goes.1 (logged_valid most st0.fault st0 call commit goes.0) in
+          let valid = logged_valid most st0.fault st0 call commit goes.0 in
+          let ended = sync st1 goes.1 valid in
           let events : List Event = Called session line call (Logged commit) ∷ SyncBegin Done ∷ SyncEnd ending ∷ [] in
           let number : commit ≡ st1.commits = goes.2 ∙ (goes.1).commits in
           let all : IsRunning most tells after synced new (journal ++ events) st = record {
             here = subst (λ (s : Standing). IsAt most tells after synced new s) (sym (after_events-append (log_rule most) st journal events)) ended.1;
-            answers = answers-append (log_rule most) st journal events running.answers (goes.0, (inl refl, (ended.0, tt)));
-            settled = each_comes_later-append settles journal events running.settled (ends_settled commit st1.commits ending number ended.0, (tt, (tt, tt)));
+            answers = answers-append (log_rule most) st journal events running.answers (
+              goes.0,
+              (subst (λ (f : Option Fault). MayBeginSync f Done) (sym valid) (inl refl), (subst (λ (f : Option Fault). MayEndSync f (Some st1.commits) ending) (sym valid) ended.0, tt)),
+            );
+            synced = synced-append journal events running.synced (ends_synced commit st1.commits ending number ended.0, (tt, (tt, tt)));
           } in
           let same : journal ++ events ≡ ((journal ++ Called session line call (Logged commit) ∷ []) ++ SyncBegin Done ∷ []) ++ SyncEnd ending ∷ [] =
           sym (append_assoc journal (Called session line call (Logged commit) ∷ SyncBegin Done ∷ []) (SyncEnd ending ∷ []))
@@ -139,7 +143,7 @@ module _ {D : Type 0} where
 
   -- a run that begins
   pub runs_none : (most : ℕ) (tells : Bool) (state : State) (buffer : LogBuffer D) (kept : Kept) (st : Standing) → IsAt most tells state buffer kept st → IsRunning most tells state buffer kept [] st
-  runs_none most tells state buffer kept st here = record { here = here; answers = tt; settled = tt }
+  runs_none most tells state buffer kept st here = record { here = here; answers = tt; synced = tt }
 
 pub caused_none : (faults : ℕ) → IsCaused faults faults []
 caused_none faults = record { never_falls = omega arith; fault = λ h. cc }

@@ -1,5 +1,5 @@
 -- An open environment beside the model: its log, what it keeps in memory, and where the model stands.
-use Rattle.std.specs.Prelude.{ℕ, ◌≡◌, ◌≤◌, ◌+◌, ◌*◌, ◌^◌, ◌∷◌, [], List, None, Bool, false, length, map}
+use Rattle.std.specs.Prelude.{ℕ, ◌≡◌, ◌≤◌, ◌+◌, ◌*◌, ◌^◌, ◌∷◌, ◌++◌, [], List, None, Bool, false, length, map}
 use Rattle.je_disk.specs.States.{State}
 use Rattle.je_model.specs.declared.change.Change.{Change}
 use Rattle.je_model.specs.declared.store.Store.{Store}
@@ -15,15 +15,16 @@ use Rattle.log_buffer.specs.Flip.{end_after_all}
 use Rattle.log_buffer.specs.Log.{HasLog}
 use Rattle.log_replay.specs.Rows.{rows_in, store_of}
 use Rattle.log_replay.specs.Kept.{IsKept}
-use Rattle.log_replay.specs.Logging.{entry_of}
+use Rattle.log_replay.specs.Logging.{entries_of as entries_of_change, plain_catalog}
 use Rattle.log_replay.specs.Reading.{gap_in}
 use Rattle.je_program.specs.declared.kept.Kept.{Kept}
 use Rattle.je_program.specs.declared.kept.TheConstants.{LAST_FILE}
 
--- the sizes of the entries that a transaction's changes are logged as, its commit last; no number changes an entry's size
+-- the sizes of the entries that a transaction's changes are logged as, its commit last, where each database is plain; no number
+-- changes an entry's size
 abbrev pub logged_sizes : List Change → List ℕ
 logged_sizes [] = size_of (Commit (record { 0 = 0 })) ∷ []
-logged_sizes (change ∷ changes) = size_of (entry_of 0 0 change) ∷ logged_sizes changes
+logged_sizes (change ∷ changes) = map size_of (entries_of_change plain_catalog 0 0 change) ++ logged_sizes changes
 
 -- a place as the model has it, and back
 abbrev pub log_end_of : Place → LogEnd

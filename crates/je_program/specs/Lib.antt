@@ -1,4 +1,5 @@
 pub mod Files
+pub mod Untouched
 pub mod Environment
 pub mod Planning
 pub mod Logging

@@ -9,7 +9,7 @@ use Rattle.je_model.specs.declared.event.Event.{Event}
 use Rattle.je_model.specs.declared.plan.Given.{Given}
 use Rattle.je_model.specs.declared.plan.Given.TheVariants.{Session}
 use Rattle.je_model.specs.Answers.{Standing, AnswersAsModel, after_events}
-use Rattle.je_model.specs.Journal.{AllSettled, answer_of, is_disk_fault, has_answer, lines_of}
+use Rattle.je_model.specs.Journal.{AreSyncedAtOnce, answer_of, is_disk_fault, has_answer, lines_of}
 use Rattle.log_buffer.specs.declared.buffer.LogBuffer.{LogBuffer}
 use Rattle.log_file.specs.Log.{AreFiles}
 use Rattle.log_replay.specs.Reading.{reading_of}
@@ -36,19 +36,19 @@ module _ {D : Type 0} where
   pub record IsRunning (most : ℕ) (tells : Bool) (state : State) (buffer : LogBuffer D) (kept : Kept) (journal : List Event) (st : Standing) : Type 0 where
     pub here : IsAt most tells state buffer kept (after_events (log_rule most) st journal)
     pub answers : AnswersAsModel (log_rule most) st journal
-    pub settled : AllSettled journal
+    pub synced : AreSyncedAtOnce journal
 
 -- since the disk's count stood at `before` it never fell, and it rose where the journal has a disk fault
 pub record IsCaused (before after : ℕ) (journal : List Event) : Type 0 where
   pub never_falls : before ≤ after
   pub fault : has_answer is_disk_fault journal ≡ true → Rose before after
 
--- a run took place on an environment with these files: each answer is the model's on the opening store, and each commit
--- is acknowledged later, or followed by a disk fault
+-- a run took place on an environment with these files: each answer is the model's on the opening store, and each commit's
+-- sync follows it at once
 pub record HasRun (most : ℕ) (tells : Bool) (files : Files) (opening : Store) (journal : List Event) (st : Standing) : Type 0 where
   pub starts : StartsAt tells files opening st
   pub answers : AnswersAsModel (log_rule most) st journal
-  pub settled : AllSettled journal
+  pub synced_at_once : AreSyncedAtOnce journal
 
 -- the cause that a journal's first answer of LogFull or IdsEnded gives
 abbrev pub cause_of_answer : Answer → Cause → Cause

@@ -1,5 +1,5 @@
 -- What one step of an environment does, beside the model.
-use Rattle.std.specs.Prelude.{ℕ, ◌≡◌, ◌≤◌, ◌<◌, ◌+◌, ◌^◌, ◌++◌, List, Some, Bool, Result, Ok, Err, IfOk}
+use Rattle.std.specs.Prelude.{ℕ, ◌≡◌, ◌≤◌, ◌<◌, ◌+◌, ◌^◌, ◌++◌, List, None, Some, Bool, Result, Ok, Err, IfOk}
 use Rattle.std.specs.declared.alloc.AllocError.{AllocError}
 use Rattle.je_disk.specs.Causes.{Rose}
 use Rattle.je_disk.specs.States.{State}
@@ -74,12 +74,12 @@ module _ {D : Type 0} where
 
   -- a sync began, or the disk failed
   abbrev pub BeginsSync : ℕ → Bool → State → LogBuffer D → Kept → Standing → Answer → Type 0
-  BeginsSync most tells state buffer kept st answer = MayBeginSync answer × IsAt most tells state buffer kept (after_begin st answer)
+  BeginsSync most tells state buffer kept st answer = MayBeginSync None answer × IsAt most tells state buffer kept (after_begin st answer)
 
   -- a sync made the commits so far durable, or the disk failed
   abbrev pub EndsSync : ℕ → Bool → State → LogBuffer D → Kept → Standing → Answer → Type 0
   EndsSync most tells state buffer kept st answer =
-      MayEndSync (Some st.commits) answer × IsAt most tells state buffer kept (after_sync (record st { begun = Some st.commits }) answer)
+      MayEndSync None (Some st.commits) answer × IsAt most tells state buffer kept (after_sync (record st { begun = Some st.commits }) answer)
 
 -- the count of the disk's faults never falls, and rose where the answer is a disk fault
 pub record HasCause (before after : ℕ) (result : Result Answer AllocError) : Type 0 where

@@ -17,6 +17,7 @@ ghost use Rattle.je_program.specs.declared.cause.Cause.{Cause as Why};
 ghost use Rattle.je_program.specs.Crash.{ImagesMean, IsSafeProgram, IsSafeRun, KeepsEntry};
 ghost use Rattle.je_program.specs.Guarded.{IsGuarded, KeepsIfWorks};
 ghost use Rattle.je_program.specs.Environment.{log_rule};
+ghost use Rattle.je_program.specs.Untouched.{LeavesUnreadable};
 ghost use Rattle.je_program.specs.Files.{HasFinding};
 ghost use Rattle.je_program.specs.Program.{ClosesBy, ClosesRun, EndsBy, IsGivenTo, IsStopped, MeanStore, ReadsPlan, RunsIf, final_store, is_before_disk, totals_of};
 ghost use Rattle.je_program.specs.Run.{HasRun, IsCaused, IsFront, IsRunning, cause_of_journal, of_session};
@@ -158,6 +159,7 @@ pub fn run_plan<D: Disk>(alloc: Global, disk: D, file_max: u32, plan: RunPlan) -
     ensures caused { ClosesRun (D.faults disk) (D.faults result.disk) result.journal.items result.cause }
     ensures totals { result.opened ≡ true → result.totals ≡ totals_of (final_store result.opening result.journal.items) }
     ensures files { result.cause ≡ Why.Done → D.tells ≡ true → MeanStore (now (D.history result.disk)).reads (final_store result.opening result.journal.items) }
+    ensures left_alone { D.tells ≡ true → LeavesUnreadable result.cause (D.history disk) (D.history result.disk) }
 {
     match open(alloc, disk, file_max) {
         Ok(opened) => {
@@ -197,6 +199,7 @@ pub fn work<D: Disk, S: Source>(
     ensures totals { result.opened ≡ true → result.totals ≡ totals_of (final_store result.opening result.journal.items) }
     ensures files { result.cause ≡ Why.Done → D.tells ≡ true → MeanStore (now (D.history result.disk)).reads (final_store result.opening result.journal.items) }
     ensures source { S.faults input.old ≤ S.faults input.new }
+    ensures left_alone { D.tells ≡ true → LeavesUnreadable result.cause (D.history disk) (D.history result.disk) }
 {
     match read_task(alloc, words, input) {
         Ok(Task { file_max, plan }) => run_plan(alloc, disk, file_max, plan),

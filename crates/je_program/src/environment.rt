@@ -10,7 +10,7 @@ ghost use Rattle.je_model.specs.declared.event.Event.TheVariants.{SyncEnd};
 ghost use Rattle.log_buffer.specs.Buffer.{disk_of, has_failed};
 ghost use Rattle.log_entry.specs.Body.{IsEntry};
 ghost use Rattle.log_file.specs.Log.{Log, entries_of};
-ghost use Rattle.log_replay.specs.Logging.{entry_of as entry_of_change};
+ghost use Rattle.log_replay.specs.Logging.{HasOneEntry, entry_of as entry_of_change};
 ghost use Rattle.je_program.specs.Guarded.{BeginsSafely, GoesOnSafely, IsGuarded, IsKeeping, LogsSafely, log_after, log_with_all};
 ghost use Rattle.je_program.specs.Environment.{IsAt, IsAtEnd, log_rule};
 ghost use Rattle.je_program.specs.Logging.{IsTransaction, entries_logged};
@@ -79,6 +79,7 @@ impl<D: Disk> Environment<D> {
         requires bounds { CanGoOn self.old.kept }
         requires works { IsAtEnd self.old.log self.old.kept }
         requires numbers { self.old.kept.last_txn < 2 ^ 63 - 1 }
+        requires one { HasOneEntry change }
         requires entry { IsEntry (entry_of_change (self.old.kept.last_txn + 1) number change) }
         requires room { (end_behind self.old.kept change).file ≤ LAST_FILE }
         ensures logs { LogsChange D.tells (now (D.history (disk_of self.old.log))) (now (D.history (disk_of self.new.log))) self.old.log self.new.log self.old.kept self.new.kept number change totals result }

@@ -13,7 +13,7 @@ ghost use Rattle.log_entry.specs.Spelling.{size_of};
 ghost use Rattle.log_file.specs.Log.{Log};
 ghost use Rattle.log_file.specs.Scan.{may_follow};
 ghost use Rattle.log_replay.specs.Rows.{rows_in};
-ghost use Rattle.log_replay.specs.Logging.{entry_of as entry_of_change};
+ghost use Rattle.log_replay.specs.Logging.{HasOneEntry, entry_of as entry_of_change};
 ghost use Rattle.je_program.specs.Guarded.{IsKeeping, log_with_all};
 ghost use Rattle.je_program.specs.Logging.{IsTransaction, rows_after};
 ghost use Rattle.je_program.specs.Steps.{GainsEntries};
@@ -51,8 +51,9 @@ fn creation(
     })
 }
 
-/// The entry that logs a change, by a transaction, in the database of that number.
+/// The entry that logs a change, by a transaction, in the database of that number. A rename takes two.
 pub fn entry_of(alloc: Global, txn: u64, number: u32, change: Change) -> Result<Entry, AllocError>
+    requires { HasOneEntry change }
     ensures { IfOk result (λ entry. entry ≡ entry_of_change txn number change) }
 {
     match change {
@@ -73,8 +74,8 @@ pub fn entry_of(alloc: Global, txn: u64, number: u32, change: Change) -> Result<
             db: 0,
             name: plain_name(alloc, db.as_slice())?,
         }),
-        Change::Rename { to, .. } => creation(alloc, txn, number, &to, &Kind::Plain),
         Change::Empty { db } => creation(alloc, txn, number, &db, &Kind::Plain),
+        Change::Rename { .. } => unreachable!(),
     }
 }
 
@@ -85,6 +86,7 @@ pub fn entries_of(
     number: u32,
     change: Change,
 ) -> Result<(Entry, Entry), AllocError>
+    requires { HasOneEntry change }
     ensures { IfOk result (λ e. IsTransaction txn number change e.0 e.1) }
 {
     let entry = entry_of(alloc, txn, number, change)?;

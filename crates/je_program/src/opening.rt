@@ -1,13 +1,14 @@
 // Opening an environment over a disk.
 ghost use Rattle.std.specs.Prelude.{◌≡◌, ◌≤◌, [], true, false, None, ℕ, length, IfSome, IfOk, IfErr, OnOk};
 ghost use Rattle.je_disk.specs.Causes.{HasFault};
-ghost use Rattle.je_disk.specs.Moments.{Passes, now};
+ghost use Rattle.je_disk.specs.Moments.{History, Passes, now};
 ghost use Rattle.je_disk.specs.States.{Files as Reads, IsEither, synced_marks};
 ghost use Rattle.log_buffer.specs.Buffer.{disk_of, end_of, file_max_of, first_of, has_failed};
 ghost use Rattle.log_buffer.specs.Crash.{Holds};
 ghost use Rattle.log_buffer.specs.Log.{HasLog};
 ghost use Rattle.log_file.specs.Log.{Log, entries_of};
 ghost use Rattle.je_program.specs.Crash.{KeepsEntry};
+ghost use Rattle.je_program.specs.Untouched.{LeavesUnreadable};
 ghost use Rattle.je_program.specs.Guarded.{IsOpenedSafely};
 ghost use Rattle.je_program.specs.Opening.{IsOpened, IsSettled, IsSettling, StartsLog, StopsBy, WasRead, cut_off, kept_at_start, start_of};
 ghost use Rattle.je_program.specs.Steps.{CanGoOn};
@@ -209,6 +210,7 @@ fn go_on<D: Disk>(
         → IfErr result (λ stopped. KeepsEntry (D.history disk) (D.history stopped.disk)) }
     ensures stopped { (reads : Reads) → IfErr result (λ stopped. StopsBy D.tells reads (D.faults disk) (D.faults stopped.disk) stopped.cause) }
     ensures stopped_faults { IfErr result (λ stopped. D.faults disk ≤ D.faults stopped.disk) }
+    ensures left_alone { IfErr result (λ stopped. (old new : History) → LeavesUnreadable stopped.cause old new) }
 {
     let mut disk = disk;
     if settle(&mut disk, read.tail).is_err() {
@@ -239,6 +241,7 @@ pub fn open<D: Disk>(alloc: Global, disk: D, file_max: u32) -> Result<Opened<D>,
     ensures stopped_entry { D.tells ≡ true → IfErr result (λ stopped. KeepsEntry (D.history disk) (D.history stopped.disk)) }
     ensures stopped { IfErr result (λ stopped. StopsBy D.tells (now (D.history disk)).reads (D.faults disk) (D.faults stopped.disk) stopped.cause) }
     ensures stopped_faults { IfErr result (λ stopped. D.faults disk ≤ D.faults stopped.disk) }
+    ensures left_alone { D.tells ≡ true → IfErr result (λ stopped. LeavesUnreadable stopped.cause (D.history disk) (D.history stopped.disk)) }
 {
     let mut disk = disk;
     match read_disk(alloc, &mut disk) {

@@ -10,8 +10,9 @@ ghost use Rattle.je_model.specs.declared.change.Change.TheVariants.{Set, Unset};
 ghost use Rattle.script_text.specs.Grammar.{has_line};
 ghost use Rattle.log_buffer.specs.Flip.{end_after_all};
 ghost use Rattle.log_entry.specs.Spelling.{size_of};
-ghost use Rattle.log_replay.specs.Logging.{entry_of};
+ghost use Rattle.log_replay.specs.Logging.{HasOneEntry, entry_of};
 ghost use Rattle.je_program.specs.declared.kept.TheConstants.{COMMIT_SIZE, LAST_FILE};
+ghost use Rattle.je_program.specs.Environment.{logged_sizes};
 ghost use Rattle.je_program.specs.Planning.{IsPlace, number_named, logs_with_room, planned_create, planned_put, planned_get, planned_delete, planned_of, records_with};
 
 use crate::kept::{COMMIT_SIZE, Kept, LAST_FILE};
@@ -45,10 +46,11 @@ pub fn plain_name(alloc: Global, key: &[u8]) -> Result<Name, AllocError>
     })
 }
 
-// How many bytes the entry has that logs this change.
+// How many bytes the one entry has that logs this change.
 fn entry_size(change: &Change) -> u32
-    requires { size_of (entry_of 0 0 change.now) < 2 ^ 32 }
-    ensures { result ≡ size_of (entry_of 0 0 change.now) }
+    requires one { HasOneEntry change.now }
+    requires small { size_of (entry_of 0 0 change.now) < 2 ^ 32 }
+    ensures { logged_sizes (change.now ∷ []) ≡ result ∷ COMMIT_SIZE ∷ [] }
 {
     match change {
         Change::Set { at, value, .. } => {
@@ -57,7 +59,7 @@ fn entry_size(change: &Change) -> u32
         Change::Unset { at, .. } => 30 + at.key.len() as u32 + at.dup.len() as u32,
         Change::Make { db, .. } | Change::Empty { db } => 35 + db.len() as u32,
         Change::Remove { db } => 30 + db.len() as u32,
-        Change::Rename { to, .. } => 35 + to.len() as u32,
+        Change::Rename { .. } => unreachable!(),
     }
 }
 
@@ -105,6 +107,7 @@ fn number_of(kept: &Kept, alloc: Global, db: &Word) -> Result<Option<u32>, Alloc
 
 // A change of a database that is there is logged where there is room for it.
 fn log_with_room(kept: &Kept, number: u32, change: Change, totals: Totals) -> Planned
+    requires one { HasOneEntry change }
     requires small { size_of (entry_of 0 0 change) < 2 ^ 32 }
     requires place { IsPlace kept.now.end }
     requires none_made { made_by (change ∷ []) ≡ 0 }
@@ -124,6 +127,7 @@ fn log_with_room(kept: &Kept, number: u32, change: Change, totals: Totals) -> Pl
 
 // A database is made where there is room for its record, and then a number for it.
 fn log_creation(kept: &Kept, change: Change, totals: Totals) -> Planned
+    requires one { HasOneEntry change }
     requires small { size_of (entry_of 0 0 change) < 2 ^ 32 }
     requires place { IsPlace kept.now.end }
     requires one_made { made_by (change ∷ []) ≡ 1 }

@@ -13,6 +13,7 @@ ghost use Rattle.script_text.specs.Grammar.{plan_of};
 ghost use Rattle.je_program.specs.declared.cause.Cause.{Cause as Why};
 ghost use Rattle.je_program.specs.declared.reading.TheConstants.{MOST_INPUT};
 ghost use Rattle.je_program.specs.Crash.{IsSafeProgram, KeepsEntry};
+ghost use Rattle.je_program.specs.Untouched.{IsUntouched};
 ghost use Rattle.je_program.specs.Files.{HasFinding, Means};
 ghost use Rattle.je_program.specs.Program.{EndsBy, IsGivenTo, IsWritten, MeanStore, ReadsPlan, RunsIf, final_store, is_before_disk, output_text};
 ghost use Rattle.je_program.specs.Run.{HasRun, cause_of_room};
@@ -73,7 +74,11 @@ pub fn run_je<D: Disk, S: Source, K: Sink>(
     ensures disk_failed { result.cause ≡ Why.Disk → Rose (D.faults disk) (D.faults result.disk) }
     ensures unreadable { (finding : Found) → result.cause ≡ Why.Unreadable finding → D.tells ≡ true → HasFinding (now (D.history disk)).reads finding }
 
-    // A run: its journal holds the script's lines, and each answer is the model's on the opening store.
+    // Where the files at entry cannot be opened, the disk's state is at each moment what it was.
+    ensures unreadable_untouched { (finding : Found) → result.cause ≡ Why.Unreadable finding → D.tells ≡ true → IsUntouched (D.history disk) (D.history result.disk) }
+
+    // A run: its journal holds the script's lines, each answer is the model's on the opening store, and
+    // each commit's sync follows it at once.
     ensures runs { RunsIf result.cause result.opened }
     ensures given { result.opened ≡ true → (plan : RunPlan) × IsGivenTo (S.left input.old) (S.left input.new) result.journal.items result.cause plan }
     ensures run { result.opened ≡ true → (file_max : ℕ) × (st : Standing) × (file_max_in (map string_bytes words.now) ≡ Some file_max) × HasRun file_max D.tells (now (D.history disk)).reads result.opening result.journal.items st }

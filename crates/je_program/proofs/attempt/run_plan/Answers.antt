@@ -11,6 +11,9 @@ use Rattle.je_program.specs.Environment.{IsAt}
 use Rattle.je_program.specs.Program.{totals_of, final_store, MeanStore, EndsBy, ClosesRun}
 use Rattle.je_program.specs.Run.{HasRun, IsFront, of_session}
 use Rattle.je_program.proofs.FinishLaws.{ran_cause, runs_if, ran_after_reading, ran_not_unreadable, ends_by, final_is, caused_earlier}
+use Rattle.je_program.specs.declared.cause.Cause.{Cause}
+use Rattle.je_program.specs.Untouched.{LeavesUnreadable}
+use Rattle.je_program.proofs.UntouchedLaws.{ran_alone}
 use Rattle.je_program.proofs.attempt.run_plan.Goals as goal
 
 pub returns-in-Ok-clause-runs : goal.returns-in-Ok-clause-runs
@@ -29,7 +32,7 @@ returns-in-Ok-clause-run g c = λ opened.
     let at = c.in-Ok.ensures.opened.1 in
     let running = c.run-running.ensures.runs c.args.file_max st at.here in
     let files = (now (g.D.Disk.history c.args.disk)).reads in
-    let run : HasRun c.args.file_max g.D.Disk.tells files c.in-Ok.opened.opening c.run-running.result.journal.items st = record { starts = at.starts; answers = running.answers; settled = running.settled } in (
+    let run : HasRun c.args.file_max g.D.Disk.tells files c.in-Ok.opened.opening c.run-running.result.journal.items st = record { starts = at.starts; answers = running.answers; synced_at_once = running.synced } in (
       st,
       subst (λ (s : Store). HasRun c.args.file_max g.D.Disk.tells files s c.finish.result.journal.items st) (sym c.finish.ensures.opening)
           (subst (λ (j : List Event). HasRun c.args.file_max g.D.Disk.tells files c.in-Ok.opened.opening j st) (sym c.finish.ensures.journal) run),
@@ -108,6 +111,17 @@ returns-in-Ok-clause-crash g c = λ told is_opened.
 
 pub returns-in-Err-clause-crash_unopened : goal.returns-in-Err-clause-crash_unopened
 returns-in-Err-clause-crash_unopened g c = λ told opened. subst (λ d. KeepsEntry (g.D.Disk.history c.args.disk) (g.D.Disk.history d)) (sym c.unopened.ensures.disk) (c.in-Err.ensures.stopped_entry told)
+
+pub returns-in-Ok-clause-left_alone : goal.returns-in-Ok-clause-left_alone
+returns-in-Ok-clause-left_alone g c = λ told.
+    let f = c.finish in
+    ran_alone f.result.cause (g.D.Disk.history c.args.disk) (g.D.Disk.history f.result.disk) (ran_cause c.run-running.result.journal.items c.run-running.result.memory_ended f.result.cause f.ensures.memory f.ensures.ends)
+
+pub returns-in-Err-clause-left_alone : goal.returns-in-Err-clause-left_alone
+returns-in-Err-clause-left_alone g c = λ told.
+    let history = g.D.Disk.history in
+    subst (λ (why : Cause). LeavesUnreadable why (history c.args.disk) (history c.unopened.result.disk)) (sym c.unopened.ensures.cause)
+    (subst (λ d. LeavesUnreadable c.in-Err.field-0.cause (history c.args.disk) (history d)) (sym c.unopened.ensures.disk) (c.in-Err.ensures.left_alone told))
 
 pub returns-in-Err-clause-unopened : goal.returns-in-Err-clause-unopened
 returns-in-Err-clause-unopened g c = λ opened. (c.unopened.ensures.opening, c.unopened.ensures.journal)

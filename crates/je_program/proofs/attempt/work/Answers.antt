@@ -1,4 +1,16 @@
+use Rattle.std.proofs.Common.{sym, subst}
+use Rattle.je_program.specs.Untouched.{LeavesUnreadable}
+use Rattle.je_program.proofs.UntouchedLaws.{left_alone, untouched_itself}
 use Rattle.je_program.proofs.attempt.work.Goals as goal
+
+pub returns-in-Ok-clause-left_alone : goal.returns-in-Ok-clause-left_alone
+returns-in-Ok-clause-left_alone g c = c.run_plan.ensures.left_alone
+
+pub returns-in-Err-clause-left_alone : goal.returns-in-Err-clause-left_alone
+returns-in-Err-clause-left_alone g c = λ told.
+    let history = g.D.Disk.history in
+    let cause = c.unopened.result.cause in
+    subst (λ d. LeavesUnreadable cause (history c.args.disk) (history d)) (sym c.unopened.ensures.disk) (left_alone cause (history c.args.disk) (history c.args.disk) (untouched_itself (history c.args.disk)))
 
 pub returns-in-Ok-clause-given : goal.returns-in-Ok-clause-given
 returns-in-Ok-clause-given g c = λ opened.

@@ -6,7 +6,19 @@ use Rattle.log_buffer.specs.Buffer.{disk_of}
 use Rattle.je_program.specs.Crash.{KeepsEntry}
 use Rattle.je_program.proofs.EntryLaws.{entry_later, entry_still}
 use Rattle.je_program.proofs.OpenedLaws.{if_ok_map, if_err_map}
+use Rattle.je_disk.specs.Moments.{History}
+use Rattle.je_program.specs.Untouched.{LeavesUnreadable}
+use Rattle.je_program.proofs.UntouchedLaws.{left_alone}
 use Rattle.je_program.proofs.opening.open.Goals as goal
+
+pub returns-in-Ok-clause-left_alone : goal.returns-in-Ok-clause-left_alone
+returns-in-Ok-clause-left_alone g c = λ told.
+    let history = g.D.Disk.history in
+    if_err_map c.go_on.result (λ s. (old new : History) → LeavesUnreadable s.cause old new) (λ s. LeavesUnreadable s.cause (history c.args.disk) (history s.disk)) (λ s alone. alone (history c.args.disk) (history s.disk)) c.go_on.ensures.left_alone
+
+pub returns-in-Err-clause-left_alone : goal.returns-in-Err-clause-left_alone
+returns-in-Err-clause-left_alone g c = λ told.
+    left_alone c.in-Err.cause (g.D.Disk.history c.args.disk) (g.D.Disk.history c.read_disk.new.disk) (record { same = c.read_disk.ensures.same told; moments = c.read_disk.ensures.moments told })
 
 pub returns-in-Ok-clause-entry : goal.returns-in-Ok-clause-entry
 returns-in-Ok-clause-entry g c = λ told.

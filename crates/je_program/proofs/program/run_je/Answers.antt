@@ -1,14 +1,21 @@
 use Rattle.je_disk.specs.Moments.{now}
 use Rattle.je_program.proofs.EndLaws.{completes, finds}
 use Rattle.je_program.proofs.FinishLaws.{done_acknowledged, done_is_no_memory, done_opened}
+use Rattle.std.proofs.Common.{subst}
+use Rattle.je_program.specs.Untouched.{LeavesUnreadable}
 use Rattle.je_program.proofs.program.run_je.Goals as goal
+
+pub returns-clause-unreadable_untouched : goal.returns-clause-unreadable_untouched
+returns-clause-unreadable_untouched g c = λ finding is told.
+    let a = c.work-attempt in
+    subst (λ why. LeavesUnreadable why (g.D.Disk.history c.args.disk) (g.D.Disk.history a.result.disk)) is (a.ensures.left_alone told)
 
 pub returns-clause-acknowledged : goal.returns-clause-acknowledged
 returns-clause-acknowledged g c = λ done.
     let a = c.work-attempt in
     let opened = done_opened a.result.cause a.result.opened done a.ensures.runs in
     let run = a.ensures.run opened in
-    done_acknowledged a.result.journal.items a.result.cause done (a.ensures.ends opened (done_is_no_memory a.result.cause done)) run.3.settled
+    done_acknowledged a.result.journal.items a.result.cause done (a.ensures.ends opened (done_is_no_memory a.result.cause done)) run.3.synced_at_once
 
 pub returns-clause-complete : goal.returns-clause-complete
 returns-clause-complete g c = λ bytes plan meaning taken left short plans told means.

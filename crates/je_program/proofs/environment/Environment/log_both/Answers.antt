@@ -44,7 +44,7 @@ returns-in-Ok-clause-logs g c = λ change is.
     let txn = old.kept.last_txn + 1 in
     let entry : c.args.entry.now ≡ entry_of txn c.args.number change = is.0 in
     let commit : c.args.commit.now ≡ Commit (record { 0 = txn }) = is.1 in
-    let sizes : size_of c.args.entry.now ∷ 22 ∷ [] ≡ logged_sizes (change ∷ []) = ap (λ (e : Entry). size_of e ∷ 22 ∷ []) entry ∙ sizes_are txn c.args.number change in
+    let sizes : size_of c.args.entry.now ∷ 22 ∷ [] ≡ logged_sizes (change ∷ []) = ap (λ (e : Entry). size_of e ∷ 22 ∷ []) entry ∙ sizes_are txn c.args.number change is.2 in
     let end : c.unwrap-end.result ≡ end_behind old.kept change =
     end_found (end_after_all old.kept.file_max old.kept.end (c.size-size.result ∷ 22 ∷ [])) c.unwrap-end.result (sym c.unwrap-end.ensures ∙ c.end_of_transaction.ensures)
     ∙ end_along old.kept.file_max old.kept.file_max old.kept.end old.kept.end (c.size-size.result ∷ 22 ∷ []) (logged_sizes (change ∷ [])) refl refl
@@ -81,7 +81,7 @@ returns-in-Ok-clause-bounds g c =
     let change = c.requires.logs.0 in
     let txn = old.kept.last_txn + 1 in
     let entry : c.args.entry.now ≡ entry_of txn c.args.number change = c.requires.logs.1.0 in
-    let sizes : size_of c.args.entry.now ∷ 22 ∷ [] ≡ logged_sizes (change ∷ []) = ap (λ (e : Entry). size_of e ∷ 22 ∷ []) entry ∙ sizes_are txn c.args.number change in
+    let sizes : size_of c.args.entry.now ∷ 22 ∷ [] ≡ logged_sizes (change ∷ []) = ap (λ (e : Entry). size_of e ∷ 22 ∷ []) entry ∙ sizes_are txn c.args.number change c.requires.logs.1.2 in
     let end : c.unwrap-end.result ≡ end_behind old.kept change =
     end_found (end_after_all old.kept.file_max old.kept.end (c.size-size.result ∷ 22 ∷ [])) c.unwrap-end.result (sym c.unwrap-end.ensures ∙ c.end_of_transaction.ensures)
     ∙ end_along old.kept.file_max old.kept.file_max old.kept.end old.kept.end (c.size-size.result ∷ 22 ∷ []) (logged_sizes (change ∷ [])) refl refl

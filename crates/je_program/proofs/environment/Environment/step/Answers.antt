@@ -9,6 +9,8 @@ use Rattle.je_model.specs.Answers.{after_events}
 use Rattle.je_program.specs.Environment.{IsAt, log_rule}
 use Rattle.je_program.proofs.CallLaws.{both_logged, goes_on_safely, goes_nowhere}
 use Rattle.je_program.proofs.GuardLaws.{guarded_quiet, plain_no_fault, plain_unlogged}
+use Rattle.log_replay.specs.Rows.{rows_in}
+use Rattle.je_program.proofs.LoggingLaws.{one_entry}
 use Rattle.je_program.proofs.GoesOnLaws.{plan_of, answered_goes_on, logged_goes_on}
 use Rattle.je_program.proofs.environment.Environment.step.Goals as goal
 
@@ -20,6 +22,15 @@ log-requires-clause-entry g c κs within =
     plan_of c.requires.here.0 g.D.Disk.tells (now (g.D.Disk.history (disk_of log))) log kept c.requires.here.1 c.args.call.now (Logs c.in-Logs.number c.in-Logs.change c.in-Logs.totals)
     c.requires.here.2 c.in_default.is c.requires.bounds.last_db c.in_ok-answer.ensures.word c.requires.line (sym c.in-Logs.is ∙ c.in_ok-answer.ensures.planned) in
     logged.entry (kept.last_txn + 1) (omega arith)
+
+pub log-requires-clause-one : goal.log-requires-clause-one
+log-requires-clause-one g c κs within =
+    let kept = c.args.self.now.kept in
+    let log = c.args.self.now.log in
+    let logged : IsLogged kept c.requires.here.1 c.args.call.now c.in-Logs.number c.in-Logs.change c.in-Logs.totals =
+    plan_of c.requires.here.0 g.D.Disk.tells (now (g.D.Disk.history (disk_of log))) log kept c.requires.here.1 c.args.call.now (Logs c.in-Logs.number c.in-Logs.change c.in-Logs.totals)
+    c.requires.here.2 c.in_default.is c.requires.bounds.last_db c.in_ok-answer.ensures.word c.requires.line (sym c.in-Logs.is ∙ c.in_ok-answer.ensures.planned) in
+    one_entry (rows_in kept.rows) kept.last_db c.in-Logs.number c.in-Logs.change logged.may
 
 pub log-requires-clause-room : goal.log-requires-clause-room
 log-requires-clause-room g c κs within =
