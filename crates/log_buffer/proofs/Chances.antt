@@ -125,8 +125,8 @@ cut_step prev at n len bytes e es is rest =
     subst (λ (r : RawRun). IsFrontOf (e ∷ es) r.entries) (sym (run_on-whole prev at (take n bytes) e len is)) (record { more = behind.more; is = ap (λ (l : List Entry). e ∷ l) behind.is })
 
 -- its run has the first of the entries
-cut_run : (es : List Entry) (prev at n : ℕ) (bytes : List ℕ) → (run_on prev at bytes).entries ≡ es → IsFrontOf es (run_on prev at (take n bytes)).entries
-cut_run [] prev at n bytes is = by_decoded (decoded (take n bytes)) refl where
+cut_front : (es : List Entry) (prev at n : ℕ) (bytes : List ℕ) → (run_on prev at bytes).entries ≡ es → IsFrontOf es (run_on prev at (take n bytes)).entries
+cut_front [] prev at n bytes is = by_decoded (decoded (take n bytes)) refl where
   by_test : (e : Entry) (field len : ℕ) → decoded (take n bytes) ≡ Whole e field len → (b : Bool) → (field == prev) ≡ b → IsFrontOf [] (run_on prev at (take n bytes)).entries
   by_test e field len first true same =
       let whole : decoded bytes ≡ Whole e prev len = whole_again n bytes e field len first ∙ ap (λ (k : ℕ). Whole e k len) (eqb-true _ _ same) in
@@ -136,7 +136,7 @@ cut_run [] prev at n bytes is = by_decoded (decoded (take n bytes)) refl where
   by_decoded : (d : Decoded) → decoded (take n bytes) ≡ d → IsFrontOf [] (run_on prev at (take n bytes)).entries
   by_decoded (NotWhole torn) first = subst (λ (r : RawRun). IsFrontOf [] r.entries) (sym (run_on-torn prev at (take n bytes) torn first)) (front_none [])
   by_decoded (Whole e field len) first = by_test e field len first (field == prev) refl
-cut_run (x ∷ es) prev at n bytes is = by_decoded (λ len so. cut_run es at (at + len) (n - len) (drop len bytes) so) (decoded (take n bytes)) refl where
+cut_front (x ∷ es) prev at n bytes is = by_decoded (λ len so. cut_front es at (at + len) (n - len) (drop len bytes) so) (decoded (take n bytes)) refl where
   parts : (a b : Entry) (as_ bs : List Entry) → a ∷ as_ ≡ b ∷ bs → (a ≡ b) × (as_ ≡ bs)
   parts a b as_ bs same = let head : a ≡ b = cc in let rest : as_ ≡ bs = cc in (head, rest)
 
@@ -158,7 +158,7 @@ behind_cut : (n : ℕ) (bytes : List ℕ) → IsFrontOf (entries_behind bytes) (
 behind_cut n bytes =
     let all : List Entry = (run_on 0 26 (drop 26 bytes)).entries in
     let some : List Entry = (run_on 0 26 (drop 26 (take n bytes))).entries in
-    let cut : IsFrontOf all some = subst (λ (x : List ℕ). IsFrontOf all (run_on 0 26 x).entries) (sym (drop_cut 26 n bytes)) (cut_run all 0 26 (n - 26) (drop 26 bytes) refl) in
+    let cut : IsFrontOf all some = subst (λ (x : List ℕ). IsFrontOf all (run_on 0 26 x).entries) (sym (drop_cut 26 n bytes)) (cut_front all 0 26 (n - 26) (drop 26 bytes) refl) in
     subst (λ (l : List Entry). IsFrontOf (front 26 l) (front 26 some)) (sym cut.is) (front_fewer 26 some cut.more)
 
 -- what is found is a run of the first of these entries
