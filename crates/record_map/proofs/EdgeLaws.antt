@@ -1,5 +1,5 @@
 -- What lies on either side of an edge.
-use Rattle.std.proofs.Common.{◌≡◌, List, [], ◌∷◌, ◌++◌, Bool, false, Option, None, Some, filter, refl, ap, sym, ◌∙◌, cond}
+use Rattle.std.proofs.Common.{◌≡◌, List, [], ◌∷◌, ◌++◌, None, Some, filter, refl, ap, sym, ◌∙◌}
 use Rattle.je_order.specs.Edges.{Edge, is_below, is_between}
 use Rattle.je_order.specs.Edges.Edge.{First, End}
 use Rattle.je_order.specs.declared.name.Name.{Name}
