@@ -10,3 +10,5 @@ pub mod Marking
 pub mod Logging
 -- what a checkpoint's images lack
 pub mod Covering
+-- images that are made of a node's content
+pub mod Contents

@@ -67,7 +67,7 @@ over_low row low n there = record { there = there; below = same_up low low refl;
 -- ---- each name has a node over it
 
 -- a name that is found is a key, or is behind one
-found_behind : (low q : Name) (row : NodeRow) → AllByRecursion (λ y. name_cmp low y ≡ Less) (keys_of row) → IsSome (value_at q row) → name_cmp low q ≡ Less
+pub found_behind : (low q : Name) (row : NodeRow) → AllByRecursion (λ y. name_cmp low y ≡ Less) (keys_of row) → IsSome (value_at q row) → name_cmp low q ≡ Less
 found_behind low q [] all there = absurd (true≢false (sym there))
 found_behind low q (e ∷ row) all there = by_name (same_or_other q e.0) (found_behind low q row all.1)
   where
@@ -76,10 +76,10 @@ found_behind low q (e ∷ row) all there = by_name (same_or_other q e.0) (found_
     by_name (inr apart) rest = rest (subst IsSome (other_stays q e.0 (Some e.1) (value_at q row) apart) there)
 
 -- the first entry, and what is behind it
-first_is : (e : Name × Node) (row : NodeRow) → value_at e.0 (e ∷ row) ≡ Some e.1
+pub first_is : (e : Name × Node) (row : NodeRow) → value_at e.0 (e ∷ row) ≡ Some e.1
 first_is e row = same_gets e.0 (Some e.1) (value_at e.0 row)
 
-first_or_rest : (e : Name × Node) (row : NodeRow) (q : Name) → IsSome (value_at q (e ∷ row)) → (q ≡ e.0) ⊎ IsSome (value_at q row)
+pub first_or_rest : (e : Name × Node) (row : NodeRow) (q : Name) → IsSome (value_at q (e ∷ row)) → (q ≡ e.0) ⊎ IsSome (value_at q row)
 first_or_rest e row q there = by_name (same_or_other q e.0)
   where
     by_name : (q ≡ e.0) ⊎ (is_eq (name_cmp q e.0) ≡ false) → (q ≡ e.0) ⊎ IsSome (value_at q row)

@@ -24,7 +24,7 @@ lsn_in (Some slot) = slot.lsn
 
 -- what the image of a BIN shows for a name; of another entry nothing
 abbrev pub record_in : Option Entry → Name → Option ℕ
-record_in (Some (Bin db node slots)) x = lsn_in (find (λ slot. is_eq (name_cmp slot.name x)) slots)
+record_in (Some (Bin db node slots)) x = lsn_in (find (λ slot. is_eq (name_cmp x slot.name)) slots)
 record_in entry x = None
 
 -- the image of the child over a name: that of the last slot up to it, which is the first slot where no other is

@@ -1,11 +1,13 @@
 -- What holds of every tree of a log, step by step.
 use Rattle.std.specs.Prelude.{◌≡◌, ◌<◌, ◌≤◌, ◌-◌, ◌⊎◌, ◌++◌, ℕ, zero, suc, List, Option, Some, None, IsSome, length}
 use Rattle.je_order.specs.declared.name.Name.{Name}
-use Rattle.record_map.specs.Cells.{value_at}
+use Rattle.record_map.specs.declared.cell.Cell.{Cell}
+use Rattle.record_map.specs.Cells.{value_at, IsRising}
 use Rattle.tree_nodes.specs.declared.node.Node.{Node}
 use Rattle.tree_nodes.specs.Nodes.{NodeRow, least, IsOver}
 use Rattle.tree_nodes.specs.Levels.{row_of, AreParts, HasPutAt, HasRaised}
-use Rattle.in_tree.specs.Images.{Placed, shown, shows, IsRead}
+use Rattle.in_tree.specs.Images.{Placed, entry_at, shown, shows, IsRead}
+use Rattle.in_tree.specs.Content.{held_by, bin_image, in_image}
 use Rattle.in_tree.specs.Trees.{IsTreeOf, IsBehind, IsMark, IsImageOf, IsHandedOn}
 
 -- a longer log is a log of the tree, whatever it got
@@ -43,3 +45,15 @@ TreesAreCovered = (es : Placed) (base redo : ℕ) (newest : Name → ℕ) (rows 
     AreParts rows → base ≤ redo → ((level : ℕ) (x : Name) (e : Name × Node) → IsOver (row_of rows level) x e → (f : ℕ) → e.1.from ≡ Some f → redo ≤ f) →
     IsTreeOf es base newest rows held →
     (level : ℕ) (x : Name) (e : Name × Node) → IsOver (row_of rows level) x e → (shown es level e.1.last x ≡ held x) ⊎ (redo ≤ newest x)
+
+-- the image of a BIN that is made of the cells within it has the BIN's content
+abbrev pub BinImagesShowCells : Type 0
+BinImagesShowCells = (es : Placed) (rows : List NodeRow) (cells : List (Name × Cell)) (db number at : ℕ) (low : Name) (n : Node) →
+    IsRising cells → entry_at es at ≡ Some (bin_image db number low (row_of rows 0) cells) → IsImageOf es rows (held_by cells) 0 (low, n) at
+
+-- the image of an IN that is made of its children has the IN's content, where each child has an image
+abbrev pub InImagesShowChildren : Type 0
+InImagesShowChildren = (es : Placed) (rows : List NodeRow) (held : Name → Option ℕ) (db number of_level level at : ℕ) (low : Name) (n : Node) →
+    AreParts rows → value_at low (row_of rows (suc level)) ≡ Some n →
+    ((x : Name) (c : Name × Node) → IsOver (row_of rows level) x c → (lsn : ℕ) × (c.1.last ≡ Some lsn) × IsRead es level lsn x) →
+    entry_at es at ≡ Some (in_image db number of_level low (row_of rows (suc level)) (row_of rows level)) → IsImageOf es rows held (suc level) (low, n) at

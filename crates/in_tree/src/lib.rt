@@ -7,4 +7,4 @@
 
 pub mod laws;
 
-pub use laws::{trees_are_covered, trees_fit_their_log};
+pub use laws::{images_show_their_nodes, trees_are_covered, trees_fit_their_log};
