@@ -69,7 +69,7 @@ within row x e over = ap₂ (λ (a b : Bool). not a && b) over.below (by_high (f
         by_test false h = absurd (less_not_up e.0 f.0 (less_from_ge (name_cmp e.0 f.0) found.0) (over.most f.0 found.1 h))
 
 -- a name before one that is within is within too, from the low on
-between_before : (low x y : Name) (upto : Edge) → IsUpTo low y → IsUpTo y x → is_between (At low) upto x ≡ true → is_between (At low) upto y ≡ true
+pub between_before : (low x y : Name) (upto : Edge) → IsUpTo low y → IsUpTo y x → is_between (At low) upto x ≡ true → is_between (At low) upto y ≡ true
 between_before low x y upto from up h = ap₂ (λ (a b : Bool). not a && b) from (by_edge upto (second (not (is_gt (name_cmp low x))) (is_below upto x) h))
   where
     second : (a b : Bool) → (a && b) ≡ true → b ≡ true
@@ -103,7 +103,7 @@ between_before low x y upto from up h = ap₂ (λ (a b : Bool). not a && b) from
     by_edge End e = refl
 
 -- what is found among those that pass a test
-passed_found : {V : Type 0} (p : Name → Bool) (row : List (Name × V)) (x : Name) → p x ≡ true → value_at x (filter (λ e. p e.0) row) ≡ value_at x row
+pub passed_found : {V : Type 0} (p : Name → Bool) (row : List (Name × V)) (x : Name) → p x ≡ true → value_at x (filter (λ e. p e.0) row) ≡ value_at x row
 passed_found p [] x h = refl
 passed_found {V} p (e ∷ row) x h = by_test (p e.0) refl (passed_found p row x h) (same_or_other x e.0)
   where
@@ -113,7 +113,7 @@ passed_found {V} p (e ∷ row) x h = by_test (p e.0) refl (passed_found p row x 
     by_test false is rest (inl same) = absurd (true≢false (sym h ∙ ap p same ∙ is))
     by_test false is rest (inr apart) = rest ∙ sym (other_stays x e.0 (Some e.1) (value_at x row) apart)
 
-passed_is : {V : Type 0} (p : Name → Bool) (row : List (Name × V)) (x : Name) → IsSome (value_at x (filter (λ e. p e.0) row)) → IsSome (value_at x row)
+pub passed_is : {V : Type 0} (p : Name → Bool) (row : List (Name × V)) (x : Name) → IsSome (value_at x (filter (λ e. p e.0) row)) → IsSome (value_at x row)
 passed_is p [] x h = h
 passed_is {V} p (e ∷ row) x h = by_test (p e.0) (passed_is p row x) h
   where

@@ -10,5 +10,7 @@ pub mod Marking
 pub mod Logging
 -- what a checkpoint's images lack
 pub mod Covering
--- images that are made of a node's content
+-- the image of a BIN, made of its cells
 pub mod Contents
+-- the image of an IN, made of its children
+pub mod Children

@@ -86,47 +86,59 @@ first_or_rest e row q there = by_name (same_or_other q e.0)
     by_name (inl same) = inl same
     by_name (inr apart) = inr (subst IsSome (other_stays q e.0 (Some e.1) (value_at q row) apart) there)
 
--- of rising lows, the first of which is up to a name, one is over it
-over_from : (e : Name × Node) (row : NodeRow) (x : Name) → IsStrictlySortedBy name_cmp (keys_of (e ∷ row)) → IsUpTo e.0 x → (f : Name × Node) × IsOver (e ∷ row) x f
+-- the node over a name among those behind the first is over it among all
+pub over_more : (e f : Name × Node) (row : NodeRow) (x : Name) (o : Name × Node) → IsStrictlySortedBy name_cmp (keys_of (e ∷ f ∷ row)) → IsOver (f ∷ row) x o → IsOver (e ∷ f ∷ row) x o
 unfolding IsStrictlySortedBy
-over_from e [] x up below = (e, record { there = first_is e []; below = below; most = λ q there _. alone q (first_or_rest e [] q there) })
+over_more e f row x o up over =
+    let less : name_cmp e.0 o.0 ≡ Less = found_behind e.0 o.0 (f ∷ row) up.0 (there_is (f ∷ row) o.0 o.1 over.there) in
+    record {
+      there = apart_there less (same_or_other o.0 e.0);
+      below = over.below;
+      most = λ q there h. by_place less q (first_or_rest e (f ∷ row) q there) h;
+    }
   where
-    alone : (q : Name) → (q ≡ e.0) ⊎ IsSome (value_at {V = Node} q []) → IsUpTo q e.0
-    alone q (inl same) = same_up q e.0 same
-    alone q (inr none) = absurd (true≢false (sym none))
-over_from e (f ∷ row) x up below = by_test (is_gt (name_cmp f.0 x)) refl (λ h. over_from f row x up.1 h)
+    apart_there : name_cmp e.0 o.0 ≡ Less → (o.0 ≡ e.0) ⊎ (is_eq (name_cmp o.0 e.0) ≡ false) → value_at o.0 (e ∷ f ∷ row) ≡ Some o.1
+    apart_there less (inl same) = absurd (less_not_up e.0 o.0 less (same_up o.0 e.0 same))
+    apart_there less (inr apart) = other_stays o.0 e.0 (Some e.1) (value_at o.0 (f ∷ row)) apart ∙ over.there
+
+    by_place : name_cmp e.0 o.0 ≡ Less → (q : Name) → (q ≡ e.0) ⊎ IsSome (value_at q (f ∷ row)) → IsUpTo q x → IsUpTo q o.0
+    by_place less q (inl same) h = subst (λ (y : Name). IsUpTo y o.0) (sym same) (less_up e.0 o.0 less)
+    by_place less q (inr there) h = over.most q there h
+
+-- the first node is over a name that is below the second one's low
+pub over_first : (e f : Name × Node) (row : NodeRow) (x : Name) → IsStrictlySortedBy name_cmp (keys_of (e ∷ f ∷ row)) → IsUpTo e.0 x → is_gt (name_cmp f.0 x) ≡ true → IsOver (e ∷ f ∷ row) x e
+unfolding IsStrictlySortedBy
+over_first e f row x up below more = record {
+  there = first_is e (f ∷ row);
+  below = below;
+  most = λ q there h. none_behind q (first_or_rest e (f ∷ row) q there) h;
+}
   where
-    behind : (o : Name × Node) → IsOver (f ∷ row) x o → IsOver (e ∷ f ∷ row) x o
-    behind o over =
-        let less : name_cmp e.0 o.0 ≡ Less = found_behind e.0 o.0 (f ∷ row) up.0 (there_is (f ∷ row) o.0 o.1 over.there) in
-        record {
-          there = apart_there less;
-          below = over.below;
-          most = λ q there h. by_place q (first_or_rest e (f ∷ row) q there) h less;
-        }
-      where
-        apart_there : name_cmp e.0 o.0 ≡ Less → value_at o.0 (e ∷ f ∷ row) ≡ Some o.1
-        apart_there less = by_name (same_or_other o.0 e.0)
-          where
-            by_name : (o.0 ≡ e.0) ⊎ (is_eq (name_cmp o.0 e.0) ≡ false) → value_at o.0 (e ∷ f ∷ row) ≡ Some o.1
-            by_name (inl same) = absurd (less_not_up e.0 o.0 less (same_up o.0 e.0 same))
-            by_name (inr apart) = other_stays o.0 e.0 (Some e.1) (value_at o.0 (f ∷ row)) apart ∙ over.there
-
-        by_place : (q : Name) → (q ≡ e.0) ⊎ IsSome (value_at q (f ∷ row)) → IsUpTo q x → name_cmp e.0 o.0 ≡ Less → IsUpTo q o.0
-        by_place q (inl same) h less = subst (λ (y : Name). IsUpTo y o.0) (sym same) (less_up e.0 o.0 less)
-        by_place q (inr there) h less = over.most q there h
-
-    none_behind : is_gt (name_cmp f.0 x) ≡ true → (q : Name) → (q ≡ e.0) ⊎ IsSome (value_at q (f ∷ row)) → IsUpTo q x → IsUpTo q e.0
-    none_behind more q (inl same) h = same_up q e.0 same
-    none_behind more q (inr there) h = absurd (true≢false (sym more ∙ by_place (first_or_rest f row q there)))
+    none_behind : (q : Name) → (q ≡ e.0) ⊎ IsSome (value_at q (f ∷ row)) → IsUpTo q x → IsUpTo q e.0
+    none_behind q (inl same) h = same_up q e.0 same
+    none_behind q (inr there) h = absurd (true≢false (sym more ∙ by_place (first_or_rest f row q there)))
       where
         by_place : (q ≡ f.0) ⊎ IsSome (value_at q row) → IsUpTo f.0 x
         by_place (inl same) = subst (λ (y : Name). IsUpTo y x) same h
         by_place (inr behind_) = up_trans f.0 q x (less_up f.0 q (found_behind f.0 q row up.1.0 behind_)) h
 
+-- the only node is over each name from its low on
+pub over_only : (e : Name × Node) (x : Name) → IsUpTo e.0 x → IsOver (e ∷ []) x e
+over_only e x below = record { there = first_is e []; below = below; most = λ q there _. alone q (first_or_rest e [] q there) }
+  where
+    alone : (q : Name) → (q ≡ e.0) ⊎ IsSome (value_at {V = Node} q []) → IsUpTo q e.0
+    alone q (inl same) = same_up q e.0 same
+    alone q (inr none) = absurd (true≢false (sym none))
+
+-- of rising lows, the first of which is up to a name, one is over it
+over_from : (e : Name × Node) (row : NodeRow) (x : Name) → IsStrictlySortedBy name_cmp (keys_of (e ∷ row)) → IsUpTo e.0 x → (f : Name × Node) × IsOver (e ∷ row) x f
+unfolding IsStrictlySortedBy
+over_from e [] x up below = (e, over_only e x below)
+over_from e (f ∷ row) x up below = by_test (is_gt (name_cmp f.0 x)) refl (λ h. over_from f row x up.1 h)
+  where
     by_test : (t : Bool) → is_gt (name_cmp f.0 x) ≡ t → (IsUpTo f.0 x → (o : Name × Node) × IsOver (f ∷ row) x o) → (o : Name × Node) × IsOver (e ∷ f ∷ row) x o
-    by_test true more rest = (e, record { there = first_is e (f ∷ row); below = below; most = λ q there h. none_behind more q (first_or_rest e (f ∷ row) q there) h })
-    by_test false up_to rest = let found = rest up_to in (found.0, behind found.0 found.1)
+    by_test true more rest = (e, over_first e f row x up below more)
+    by_test false up_to rest = let found = rest up_to in (found.0, over_more e f row x found.0 up found.1)
 
 pub is_over : (row : NodeRow) (x : Name) → IsRising row → IsSome (value_at least row) → (e : Name × Node) × IsOver row x e
 unfolding IsStrictlySortedBy

@@ -1,5 +1,5 @@
 // What holds of every tree of a log.
-ghost use Rattle.in_tree.specs.Laws.{TreesStayInLongerLogs, TreesAreSplitAndMarked, TreesAreCommitted, TreesAreLogged, TreesAreRaised, TreesAreCovered, BinImagesShowCells};
+ghost use Rattle.in_tree.specs.Laws.{TreesStayInLongerLogs, TreesAreSplitAndMarked, TreesAreCommitted, TreesAreLogged, TreesAreRaised, TreesAreCovered, BinImagesShowCells, InImagesShowChildren};
 
 /// Each step of a tree and its log keeps that the tree fits the log: the log gets an entry of any kind; a
 /// node is marked, or split by a copy of it that takes part of its names; records are committed whose BINs are marked; a
@@ -18,7 +18,9 @@ pub fn trees_are_covered()
     ensures { TreesAreCovered }
 {}
 
-/// The image that is made of a BIN's cells shows what is committed of them.
+/// The image that is made of a BIN's cells shows what is committed of them; the image that is made of an IN's children shows what
+/// their images show, where each of them has one.
 pub fn images_show_their_nodes()
-    ensures { BinImagesShowCells }
+    ensures bins { BinImagesShowCells }
+    ensures ins { InImagesShowChildren }
 {}
