@@ -14,3 +14,5 @@ pub mod Covering
 pub mod Contents
 -- the image of an IN, made of its children
 pub mod Children
+-- changes of records
+pub mod Records

@@ -1,4 +1,4 @@
 pub mod Images
-pub mod Trees
 pub mod Content
+pub mod Trees
 pub mod Laws

@@ -1,10 +1,15 @@
 -- How a tree stands to the log: what its nodes' last images show, and which nodes are behind.
-use Rattle.std.specs.Prelude.{◌≡◌, ◌<◌, ◌≤◌, ◌⊎◌, ℕ, zero, suc, List, Option, Some, None}
+use Rattle.std.specs.Prelude.{◌≡◌, ◌<◌, ◌≤◌, ◌⊎◌, ℕ, zero, suc, List, Option, Some, None, if◌then◌else◌}
+use Rattle.std.specs.Ordering.{is_eq}
+use Rattle.je_order.specs.Order.{name_cmp}
 use Rattle.je_order.specs.declared.name.Name.{Name}
 use Rattle.tree_nodes.specs.declared.node.Node.{Node}
 use Rattle.tree_nodes.specs.Nodes.{NodeRow, IsOver}
 use Rattle.tree_nodes.specs.Levels.{row_of}
+use Rattle.record_map.specs.declared.cell.Cell.{Cell}
+use Rattle.record_map.specs.Cells.{value_at, fresh}
 use Rattle.in_tree.specs.Images.{Placed, shown, shows, IsRead}
+use Rattle.in_tree.specs.Content.{held_by}
 
 -- a node is marked for a name: the log has a committed change of the name at the mark or behind it, or the
 -- mark is older than this life of the environment, which begins at `base`
@@ -39,3 +44,16 @@ pub record IsImageOf (es : Placed) (rows : List NodeRow) (held : Name → Option
 abbrev pub IsHandedOn : List NodeRow → ℕ → Name → Node → Type 0
 IsHandedOn rows level low node =
     (p : Name × Node) → IsOver (row_of rows (suc level)) low p → (f : ℕ) → node.from ≡ Some f → (g : ℕ) × (p.1.from ≡ Some g) × (g ≤ f)
+
+-- a database's tree fits a log: of what its cells hold
+abbrev pub IsTree : Placed → ℕ → (Name → ℕ) → List NodeRow → List (Name × Cell) → Type 0
+IsTree es base newest rows cells = IsTreeOf es base newest rows (held_by cells)
+
+-- the cell of a name, or one of which nothing is committed
+abbrev pub cell_or_fresh : Option Cell → Cell
+cell_or_fresh None = fresh
+cell_or_fresh (Some cell) = cell
+
+-- the cells with one of a name that was not there made fresh
+abbrev pub HasCell : List (Name × Cell) → List (Name × Cell) → Name → Cell → Type 0
+HasCell old new name cell = (x : Name) → value_at x new ≡ (if is_eq (name_cmp name x) then Some cell else value_at x old)

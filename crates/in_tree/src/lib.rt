@@ -5,6 +5,8 @@
 //! lack is behind its redo LSN.
 #![tactic(auto)]
 
+pub mod db_tree;
 pub mod laws;
 
+pub use db_tree::DbTree;
 pub use laws::{images_show_their_nodes, trees_are_covered, trees_fit_their_log};

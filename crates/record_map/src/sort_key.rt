@@ -6,7 +6,7 @@ ghost use Rattle.record_map.specs.Held.{padded_to};
 
 use crate::held_name::{HEAD, HeldName, SHORT};
 use crate::padded::padded;
-use je_order::{Name, Octets, cmp_bytes};
+use je_order::{Name, Octets, cmp_bytes, copy_of};
 use std::alloc::{AllocError, Global};
 use std::cmp::Ordering;
 use std::marker::Model;
@@ -107,6 +107,17 @@ impl SortKey {
             key: Octets::from_slice(alloc, self.key())?,
             dup: Octets::from_slice(alloc, self.dup())?,
         })
+    }
+
+    /// The same name. It takes memory where the key has more than 22 bytes, or the dup any.
+    pub fn copy(&self, alloc: Global) -> Result<SortKey, AllocError>
+        ensures { IfOk result (λ copy. copy ≡ self.now) }
+    {
+        let held = match &self.held {
+            HeldName::Short(len, bytes) => return Ok(short(&bytes[..*len as usize])),
+            HeldName::Long(_, name) => copy_of(&**name)?,
+        };
+        SortKey::new(alloc, held)
     }
 
     // The key's first bytes, with zeros behind fewer.
