@@ -1,5 +1,5 @@
 -- Images that are made of a node's content show it.
-use Rattle.std.proofs.Common.{◌≡◌, ◌⊎◌, ℕ, zero, suc, List, [], ◌∷◌, ◌++◌, Bool, true, false, cond, not, ◌&&◌, Option, None, Some, IsSome, filter, option_map, flat_map, find, refl, ap, ap₂, sym, subst, ◌∙◌, inl, inr, Ordering, Less, Equal, Greater, is_eq, is_gt, is_lt}
+use Rattle.std.proofs.Common.{◌≡◌, ◌⊎◌, ℕ, zero, suc, List, [], ◌∷◌, ◌++◌, Bool, true, false, cond, not, ◌&&◌, Option, None, Some, IsSome, filter, option_map, flat_map, find, refl, ap, ap₂, sym, subst, ◌∙◌, inl, inr, Ordering, Less, Equal, Greater, is_eq, is_gt, is_lt, Bor, IfSome, option_copied}
 use Rattle.std.specs.Ordering.{is_ge, is_le}
 use Rattle.std.specs.List.{AllByRecursion}
 use Rattle.std.specs.List.Sorted.{IsStrictlySortedBy}
@@ -52,6 +52,19 @@ first_passes {V} p (f ∷ row) e h = by_test (p f.0) refl (first_passes p row e)
         let same : f ≡ e = same_Some f e h in
         (subst (λ (g : Name × V). p g.0 ≡ true) same is, subst (λ (g : Name × V). IsSome (value_at g.0 (f ∷ row))) same (subst IsSome (sym (same_gets f.0 (Some f.1) (value_at f.0 row))) refl))
     by_test false is rest h = let found = rest h in (found.0, by_name (same_or_other e.0 f.0) found.1)
+
+-- the low behind one is above it
+pub above_low : (low high : Name) (row : NodeRow) → low_behind low row ≡ Some high → name_cmp low high ≡ Less
+above_low low high row is = by_first (first_of (from_edge (Behind low) row)) refl is
+  where
+    by_first : (o : Option (Name × Node)) → first_of (from_edge (Behind low) row) ≡ o → option_map (λ (f : Name × Node). f.0) o ≡ Some high → name_cmp low high ≡ Less
+    by_first None first h = absurd (none-some high h)
+    by_first (Some f) first h =
+        subst (λ (y : Name). name_cmp low y ≡ Less) (same_Some f.0 high h) (less_from_ge (name_cmp low f.0) (first_passes (is_between (Behind low) End) row f first).0)
+
+pub above_if_some : (o : Option (Bor Name)) (low : Name) (row : NodeRow) → option_copied o ≡ low_behind low row → IfSome o (λ h. name_cmp low h.now ≡ Less)
+above_if_some None low row is = tt
+above_if_some (Some h) low row is = above_low low h.now row (sym is)
 
 -- a name that a node is over is between the node's low and the one behind
 pub within : (row : NodeRow) (x : Name) (e : Name × Node) → IsOver row x e → is_between (At e.0) (upper_edge (low_behind e.0 row)) x ≡ true

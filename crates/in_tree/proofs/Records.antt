@@ -4,14 +4,17 @@ use Rattle.std.proofs.lemmas.Option.{same_Some}
 use Rattle.je_order.specs.Order.{name_cmp}
 use Rattle.je_order.specs.declared.name.Name.{Name}
 use Rattle.record_map.specs.declared.cell.Cell.{Cell}
-use Rattle.record_map.specs.Cells.{value_at, fresh}
+use Rattle.node_core.specs.declared.slot.Version.{Version}
+use Rattle.node_core.specs.declared.slot.Version.TheVariants.{There, Deleted, Unset}
+use Rattle.node_core.specs.Changes.{is_committed}
+use Rattle.record_map.specs.Cells.{value_at, fresh, with_write}
 use Rattle.record_map.proofs.NameLaws.{same_or_other, name_same, other_stays, same_gets}
 use Rattle.tree_nodes.specs.declared.node.Node.{Node}
 use Rattle.tree_nodes.specs.Nodes.{NodeRow, IsUpTo, IsOver, HasPut, earlier, marked}
 use Rattle.tree_nodes.specs.Levels.{row_of, HasPutAt, HasMarkedAt}
 use Rattle.in_tree.specs.Images.{Placed}
 use Rattle.in_tree.specs.Content.{held_by, lsn_of, lsn_under}
-use Rattle.in_tree.specs.Trees.{IsTreeOf, IsBehind, IsMark, IsTree, HasCell, cell_or_fresh}
+use Rattle.in_tree.specs.Trees.{IsTreeOf, IsBehind, IsMark, IsTree, HasCell, cell_or_fresh, given_up}
 use Rattle.in_tree.proofs.Order.{same_up}
 use Rattle.in_tree.proofs.Over.{over_low, over_once}
 use Rattle.in_tree.proofs.Marking.{marked_or_split, committed}
@@ -127,3 +130,38 @@ made_and_changed old mid new name cell change has changed x = changed x ∙ by_n
         ∙ has x
         ∙ other_stays name x (Some cell) (value_at x old) apart
         ∙ sym (other_stays name x (Some (change cell)) (value_at x old) apart)
+
+-- ---- changes that are given up
+
+pub nothing_given : (cells : List (Name × Cell)) (name : Name) → value_at name cells ≡ None →
+    (x : Name) → value_at x cells ≡ cond (is_eq (name_cmp name x)) (given_up (value_at name cells)) (value_at x cells)
+nothing_given cells name none x = by_name (same_or_other name x)
+  where
+    here : given_up (value_at name cells) ≡ value_at name cells
+    here = ap given_up none ∙ sym none
+
+    by_name : (name ≡ x) ⊎ (is_eq (name_cmp name x) ≡ false) → value_at x cells ≡ cond (is_eq (name_cmp name x)) (given_up (value_at name cells)) (value_at x cells)
+    by_name (inl same) =
+        subst (λ (y : Name). value_at y cells ≡ cond (is_eq (name_cmp name y)) (given_up (value_at name cells)) (value_at y cells)) same
+        (sym here ∙ sym (same_gets name (given_up (value_at name cells)) (value_at name cells)))
+    by_name (inr apart) = sym (other_stays name x (given_up (value_at name cells)) (value_at x cells) apart)
+
+given_holds : (o : Option Cell) → lsn_under (given_up o) ≡ lsn_under o
+given_holds None = refl
+given_holds (Some cell) = by_version cell.version refl
+  where
+    by_version : (v : Version) → cell.version ≡ v → lsn_under (cond (is_committed cell.version) (Some (with_write None cell)) None) ≡ lsn_of cell.version
+    by_version (There lsn) is = ap (λ (k : Version). lsn_under (cond (is_committed k) (Some (with_write None cell)) None)) is
+    by_version Deleted is = ap (λ (k : Version). lsn_under (cond (is_committed k) (Some (with_write None cell)) None)) is
+    by_version Unset is = ap (λ (k : Version). lsn_under (cond (is_committed k) (Some (with_write None cell)) None)) is ∙ sym (ap lsn_of is)
+
+pub gives_up : (es : Placed) (base : ℕ) (newest : Name → ℕ) (rows : List NodeRow) (old new : List (Name × Cell)) (name : Name) →
+    ((x : Name) → value_at x new ≡ cond (is_eq (name_cmp name x)) (given_up (value_at name old)) (value_at x old)) → IsTree es base newest rows old → IsTree es base newest rows new
+gives_up es base newest rows old new name has tree =
+    committed es base newest rows (held_by old) (held_by new) (λ x e over. inl (by_name x (same_or_other name x))) tree
+  where
+    by_name : (x : Name) → (name ≡ x) ⊎ (is_eq (name_cmp name x) ≡ false) → held_by new x ≡ held_by old x
+    by_name x (inl is) =
+        subst (λ (y : Name). held_by new y ≡ held_by old y) is
+        (ap lsn_under (has name ∙ same_gets name (given_up (value_at name old)) (value_at name old)) ∙ given_holds (value_at name old))
+    by_name x (inr apart) = held_apart old new name (given_up (value_at name old)) has x apart

@@ -7,7 +7,8 @@ use Rattle.tree_nodes.specs.declared.node.Node.{Node}
 use Rattle.tree_nodes.specs.Nodes.{NodeRow, IsOver}
 use Rattle.tree_nodes.specs.Levels.{row_of}
 use Rattle.record_map.specs.declared.cell.Cell.{Cell}
-use Rattle.record_map.specs.Cells.{value_at, fresh}
+use Rattle.node_core.specs.Changes.{is_committed}
+use Rattle.record_map.specs.Cells.{value_at, fresh, with_write}
 use Rattle.in_tree.specs.Images.{Placed, shown, shows, IsRead}
 use Rattle.in_tree.specs.Content.{held_by}
 
@@ -57,3 +58,8 @@ cell_or_fresh (Some cell) = cell
 -- the cells with one of a name that was not there made fresh
 abbrev pub HasCell : List (Name × Cell) → List (Name × Cell) → Name → Cell → Type 0
 HasCell old new name cell = (x : Name) → value_at x new ≡ (if is_eq (name_cmp name x) then Some cell else value_at x old)
+
+-- what a name has when its change is given up: a cell of which nothing is committed goes
+abbrev pub given_up : Option Cell → Option Cell
+given_up None = None
+given_up (Some cell) = if is_committed cell.version then Some (with_write None cell) else None
