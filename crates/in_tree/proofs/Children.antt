@@ -1,5 +1,5 @@
 -- The image of an IN that is made of its children shows what their images show.
-use Rattle.std.proofs.Common.{◌≡◌, ◌⊎◌, ◌++◌, ℕ, zero, suc, List, [], ◌∷◌, Bool, true, false, cond, not, Option, None, Some, IsSome, filter, refl, ap, sym, subst, ◌∙◌, inl, inr, Ordering, Less, Equal, Greater, is_eq, is_gt}
+use Rattle.std.proofs.Common.{◌≡◌, ◌⊎◌, ◌++◌, ℕ, suc, List, [], ◌∷◌, Bool, true, false, cond, not, Option, None, Some, IsSome, filter, refl, ap, sym, subst, ◌∙◌, inl, inr, Ordering, Less, Equal, Greater, is_eq, is_gt}
 use Rattle.std.specs.Ordering.{is_le}
 use Rattle.std.specs.List.Sorted.{IsStrictlySortedBy}
 use Rattle.std.specs.Map.{keys_of}
@@ -11,7 +11,6 @@ use Rattle.je_order.specs.Order.{name_cmp}
 use Rattle.je_order.specs.Edges.{is_between}
 use Rattle.je_order.specs.Edges.Edge.{At}
 use Rattle.je_order.specs.declared.name.Name.{Name}
-use Rattle.log_entry.specs.declared.child_slot.ChildSlot.{ChildSlot}
 use Rattle.log_entry.specs.declared.entry.Entry.{Entry}
 use Rattle.record_map.specs.Cells.{value_at, upper_edge}
 use Rattle.record_map.proofs.NameLaws.{same_or_other, other_stays}
@@ -20,7 +19,6 @@ use Rattle.tree_nodes.specs.Nodes.{NodeRow, IsUpTo, IsOver, low_behind}
 use Rattle.tree_nodes.specs.Levels.{row_of}
 use Rattle.in_tree.specs.Images.{Placed, entry_at, child_in, child_over, child_behind, shows, shown, IsRead}
 use Rattle.in_tree.specs.Content.{child_slot_for, child_slots}
-use Rattle.in_tree.specs.Trees.{IsImageOf}
 use Rattle.in_tree.specs.Laws.{InImagesShowChildren}
 use Rattle.in_tree.proofs.Order.{less_up, same_up, less_not_up, up_trans}
 use Rattle.in_tree.proofs.Over.{there_is, over_once, over_low, over_more, over_first, over_only, found_behind, first_is, first_or_rest}
@@ -86,13 +84,17 @@ child_is e (f ∷ row) x lsn up below images is =
     by_test : (next : (k : ℕ) × (f.1.last ≡ Some k)) → (t : Bool) → is_gt (name_cmp f.0 x) ≡ t →
         (IsUpTo f.0 x → (o : Name × Node) × IsOver (f ∷ row) x o × (Some (child_behind x next.0 (child_slots row)) ≡ o.1.last)) →
         (o : Name × Node) × IsOver (e ∷ f ∷ row) x o × (Some (child_behind x lsn (child_slots (f ∷ row))) ≡ o.1.last)
-    by_test next true more rest =
-        (e, over_first e f row x up below more,
-        ap Some (step next.0 next.1 ∙ ap (λ (t : Bool). cond t (child_behind x next.0 (child_slots row)) lsn) (le_from_gt (name_cmp f.0 x) ∙ ap not more)) ∙ sym is)
+    by_test next true more rest = (
+      e,
+      over_first e f row x up below more,
+      ap Some (step next.0 next.1 ∙ ap (λ (t : Bool). cond t (child_behind x next.0 (child_slots row)) lsn) (le_from_gt (name_cmp f.0 x) ∙ ap not more)) ∙ sym is,
+    )
     by_test next false up_to rest =
-        let found = rest up_to in
-        (found.0, over_more e f row x found.0 up found.1,
-        ap Some (step next.0 next.1 ∙ ap (λ (t : Bool). cond t (child_behind x next.0 (child_slots row)) lsn) (le_from_gt (name_cmp f.0 x) ∙ ap not up_to)) ∙ found.2)
+        let found = rest up_to in (
+          found.0,
+          over_more e f row x found.0 up found.1,
+          ap Some (step next.0 next.1 ∙ ap (λ (t : Bool). cond t (child_behind x next.0 (child_slots row)) lsn) (le_from_gt (name_cmp f.0 x) ∙ ap not up_to)) ∙ found.2,
+        )
 
 -- the child that the slots of a level show for a name is that of the node over it
 child_found : (row : NodeRow) (x low : Name) (c : Name × Node) → IsStrictlySortedBy name_cmp (keys_of row) → IsSome (value_at low row) → IsUpTo low x → HaveImages row → IsOver row x c →
@@ -148,10 +150,10 @@ ins_show es rows held db number of_level level at low n are there imaged is = re
         let low_up : IsUpTo low c.0 = lower.most low low_there over.below in
         ap (λ (o : Option Entry). child_in o x) is
         ∙ among_passed (is_between (At low) upto) (row_of rows level) x low c (are.rising level)
-          (between_before low x low upto (same_up low low refl) over.below x_passes) low_there over.below
-          (between_before low x c.0 upto low_up lower.below x_passes)
-          (λ f at_f. let image = imaged f.0 f (over_low (row_of rows level) f.0 f.1 at_f) in (image.0, image.1))
-          lower
+        (between_before low x low upto (same_up low low refl) over.below x_passes) low_there over.below
+        (between_before low x c.0 upto low_up lower.below x_passes)
+        (λ f at_f. let image = imaged f.0 f (over_low (row_of rows level) f.0 f.1 at_f) in (image.0, image.1))
+        lower
 
     reads : (x : Name) → IsOver (row_of rows (suc level)) x (low, n) → (c : Name × Node) × IsOver (row_of rows level) x c → IsRead es (suc level) at x
     reads x over child =

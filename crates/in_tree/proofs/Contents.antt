@@ -1,34 +1,30 @@
 -- Images that are made of a node's content show it.
-use Rattle.std.proofs.Common.{◌≡◌, ◌⊎◌, ℕ, zero, suc, List, [], ◌∷◌, ◌++◌, Bool, true, false, cond, not, ◌&&◌, Option, None, Some, IsSome, filter, option_map, flat_map, find, refl, ap, ap₂, sym, subst, ◌∙◌, inl, inr, Ordering, Less, Equal, Greater, is_eq, is_gt, is_lt, Bor, IfSome, option_copied}
-use Rattle.std.specs.Ordering.{is_ge, is_le}
+use Rattle.std.proofs.Common.{◌≡◌, ◌⊎◌, List, [], ◌∷◌, ◌++◌, Bool, true, false, cond, not, ◌&&◌, Option, None, Some, IsSome, filter, option_map, find, refl, ap, ap₂, sym, subst, ◌∙◌, inl, inr, Ordering, Less, Equal, Greater, is_eq, is_gt, Bor, IfSome, option_copied}
+use Rattle.std.specs.Ordering.{is_ge}
 use Rattle.std.specs.List.{AllByRecursion}
 use Rattle.std.specs.List.Sorted.{IsStrictlySortedBy}
 use Rattle.std.specs.Map.{keys_of}
-use Rattle.std.specs.Option.{option_and_then}
 use Rattle.std.proofs.lemmas.Bool.{true≢false}
 use Rattle.std.proofs.lemmas.Option.{none-some, same_Some}
 use Rattle.je_order.specs.Order.{name_cmp}
 use Rattle.je_order.specs.Edges.{Edge, is_below, is_between}
 use Rattle.je_order.specs.Edges.Edge.{At, Behind, End}
 use Rattle.je_order.specs.declared.name.Name.{Name}
-use Rattle.log_entry.specs.declared.child_slot.ChildSlot.{ChildSlot}
 use Rattle.log_entry.specs.declared.record_slot.RecordSlot.{RecordSlot}
 use Rattle.log_entry.specs.declared.entry.Entry.{Entry}
 use Rattle.node_core.specs.declared.slot.Version.{Version}
 use Rattle.node_core.specs.declared.slot.Version.TheVariants.{There, Deleted, Unset}
 use Rattle.record_map.specs.declared.cell.Cell.{Cell}
 use Rattle.record_map.specs.Held.{names_are_ordered}
-use Rattle.record_map.specs.Cells.{value_at, IsRising, first_of, from_edge, between_edges, upper_edge}
+use Rattle.record_map.specs.Cells.{value_at, first_of, from_edge, upper_edge}
 use Rattle.record_map.proofs.NameLaws.{same_or_other, name_same, other_stays, same_gets}
 use Rattle.tree_nodes.specs.declared.node.Node.{Node}
 use Rattle.tree_nodes.specs.Nodes.{NodeRow, IsUpTo, IsOver, low_behind}
-use Rattle.tree_nodes.specs.Levels.{row_of, AreParts}
-use Rattle.in_tree.specs.Images.{Placed, entry_at, record_in, lsn_in, child_in, child_over, child_behind, shows, shown, IsBin, IsRead}
-use Rattle.in_tree.specs.Content.{held_by, lsn_of, lsn_under, slot_for, record_slots, child_slot_for, child_slots, bin_image, in_image}
-use Rattle.in_tree.specs.Trees.{IsImageOf}
-use Rattle.in_tree.specs.Laws.{BinImagesShowCells, InImagesShowChildren}
-use Rattle.in_tree.proofs.Order.{up_cases, less_up, same_up, less_not_up, up_trans}
-use Rattle.in_tree.proofs.Over.{there_is, over_once, over_low, found_behind, first_is, first_or_rest}
+use Rattle.tree_nodes.specs.Levels.{row_of}
+use Rattle.in_tree.specs.Images.{record_in, lsn_in, IsBin}
+use Rattle.in_tree.specs.Content.{held_by, lsn_of, lsn_under, slot_for, record_slots}
+use Rattle.in_tree.specs.Laws.{BinImagesShowCells}
+use Rattle.in_tree.proofs.Order.{up_cases, less_not_up, up_trans}
 
 -- ---- what lies between a low and the one behind it
 

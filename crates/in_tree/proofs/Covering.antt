@@ -1,11 +1,11 @@
 -- What the images of a tree lack is behind each redo LSN that no mark is below.
-use Rattle.std.proofs.Common.{◌≡◌, ◌≤◌, ◌<◌, ◌⊎◌, ℕ, zero, suc, List, Option, Some, ap, sym, ◌∙◌, inl, inr, arith}
+use Rattle.std.proofs.Common.{◌≡◌, ◌≤◌, ◌<◌, ◌⊎◌, ℕ, zero, suc, Some, ◌∙◌, inl, inr, arith}
 use Rattle.je_order.specs.declared.name.Name.{Name}
 use Rattle.tree_nodes.specs.declared.node.Node.{Node}
-use Rattle.tree_nodes.specs.Nodes.{NodeRow, IsOver}
-use Rattle.tree_nodes.specs.Levels.{row_of, AreParts}
-use Rattle.in_tree.specs.Images.{Placed, shown}
-use Rattle.in_tree.specs.Trees.{IsTreeOf, IsBehind}
+use Rattle.tree_nodes.specs.Nodes.{IsOver}
+use Rattle.tree_nodes.specs.Levels.{row_of}
+use Rattle.in_tree.specs.Images.{shown}
+use Rattle.in_tree.specs.Trees.{IsBehind}
 use Rattle.in_tree.specs.Laws.{TreesAreCovered}
 use Rattle.in_tree.proofs.Over.{there_is}
 use Rattle.in_tree.proofs.Logging.{child_is_over}

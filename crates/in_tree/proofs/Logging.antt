@@ -1,19 +1,18 @@
 -- An image of a node, and a new root, keep that a tree fits its log.
-use Rattle.std.proofs.Common.{◌≡◌, ◌≤◌, ◌<◌, ◌-◌, ◌⊎◌, ℕ, zero, suc, List, [], Option, None, Some, IsSome, Bool, true, false, cond, length, refl, ap, sym, subst, ◌∙◌, inl, inr, arith, is_eq}
+use Rattle.std.proofs.Common.{◌≡◌, ◌≤◌, ◌<◌, ◌⊎◌, ℕ, zero, suc, List, [], Option, None, Some, IsSome, Bool, true, false, cond, length, ap, sym, subst, ◌∙◌, inl, inr, arith, is_eq}
 use Rattle.std.proofs.lemmas.Bool.{cases_eq, cases_order}
 use Rattle.std.proofs.lemmas.Option.{none-some, same_Some}
 use Rattle.std.proofs.lemmas.List.{get_or_past}
 use Rattle.je_order.specs.Order.{name_cmp}
 use Rattle.je_order.specs.declared.name.Name.{Name}
 use Rattle.record_map.specs.Cells.{value_at}
-use Rattle.record_map.proofs.NameLaws.{same_or_other, other_stays, same_gets}
 use Rattle.tree_nodes.specs.declared.node.Node.{Node}
-use Rattle.tree_nodes.specs.Nodes.{NodeRow, least, IsUpTo, IsOver, HasPut}
-use Rattle.tree_nodes.specs.Levels.{row_of, AreParts, HasPutAt, HasRaised}
+use Rattle.tree_nodes.specs.Nodes.{NodeRow, least, IsOver}
+use Rattle.tree_nodes.specs.Levels.{row_of, AreParts}
 use Rattle.in_tree.specs.Images.{Placed, shown, shows, IsRead}
-use Rattle.in_tree.specs.Trees.{IsTreeOf, IsBehind, IsImageOf, IsHandedOn, ShowsContent}
+use Rattle.in_tree.specs.Trees.{IsTreeOf, IsBehind, ShowsContent}
 use Rattle.in_tree.specs.Laws.{TreesAreLogged, TreesAreRaised}
-use Rattle.in_tree.proofs.Order.{up_trans, same_up}
+use Rattle.in_tree.proofs.Order.{up_trans}
 use Rattle.tree_nodes.proofs.LevelLaws.{is_level}
 use Rattle.in_tree.proofs.Over.{over_put, over_low, there_is, is_over}
 

@@ -1,14 +1,14 @@
 -- What images show is the same in a longer log.
-use Rattle.std.proofs.Common.{◌≡◌, ◌==◌, ◌≤◌, ◌<◌, ◌⊎◌, ◌++◌, ℕ, zero, suc, List, [], ◌∷◌, Bool, true, false, cond, Option, None, Some, refl, ap, sym, subst, ◌∙◌, inl, inr, arith}
+use Rattle.std.proofs.Common.{◌≡◌, ◌==◌, ◌≤◌, ◌<◌, ◌⊎◌, ◌++◌, ℕ, zero, suc, [], ◌∷◌, Bool, true, false, cond, Option, None, Some, refl, ap, sym, subst, ◌∙◌, inl, inr, arith}
 use Rattle.std.specs.Option.{option_and_then}
-use Rattle.std.proofs.lemmas.Option.{none-some, same_Some}
+use Rattle.std.proofs.lemmas.Option.{none-some}
 use Rattle.je_order.specs.declared.name.Name.{Name}
 use Rattle.log_entry.specs.declared.entry.Entry.{Entry}
 use Rattle.tree_nodes.specs.declared.node.Node.{Node}
-use Rattle.tree_nodes.specs.Nodes.{NodeRow, IsOver}
+use Rattle.tree_nodes.specs.Nodes.{IsOver}
 use Rattle.tree_nodes.specs.Levels.{row_of}
 use Rattle.in_tree.specs.Images.{Placed, entry_at, record_in, child_in, shows, shown, IsBin, IsRead}
-use Rattle.in_tree.specs.Trees.{IsTreeOf, IsBehind}
+use Rattle.in_tree.specs.Trees.{IsBehind}
 use Rattle.in_tree.specs.Laws.{TreesStayInLongerLogs}
 
 -- an entry that is there stays

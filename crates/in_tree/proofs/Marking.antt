@@ -1,11 +1,11 @@
 -- A mark, a split and a commit keep that a tree fits its log.
-use Rattle.std.proofs.Common.{◌≡◌, ◌≤◌, ◌<◌, ◌⊎◌, ℕ, zero, suc, List, Option, None, Some, refl, ap, sym, subst, ◌∙◌, inl, inr, arith}
+use Rattle.std.proofs.Common.{◌≡◌, ◌≤◌, ◌<◌, ◌⊎◌, ℕ, suc, List, Option, refl, ap, sym, subst, ◌∙◌, inl, inr, arith}
 use Rattle.std.proofs.lemmas.Bool.{cases_eq}
 use Rattle.je_order.specs.declared.name.Name.{Name}
 use Rattle.tree_nodes.specs.declared.node.Node.{Node}
-use Rattle.tree_nodes.specs.Nodes.{NodeRow, IsOver, HasPut}
-use Rattle.tree_nodes.specs.Levels.{row_of, HasPutAt}
-use Rattle.in_tree.specs.Images.{Placed, shown, IsRead}
+use Rattle.tree_nodes.specs.Nodes.{NodeRow, IsOver}
+use Rattle.tree_nodes.specs.Levels.{row_of}
+use Rattle.in_tree.specs.Images.{Placed, shown}
 use Rattle.in_tree.specs.Trees.{IsTreeOf, IsBehind, IsMark}
 use Rattle.in_tree.specs.Laws.{TreesAreSplitAndMarked, TreesAreCommitted}
 use Rattle.in_tree.proofs.Over.{over_put}

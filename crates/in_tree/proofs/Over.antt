@@ -1,5 +1,5 @@
 -- The node over a name.
-use Rattle.std.proofs.Common.{◌≡◌, ◌⊎◌, List, [], ◌∷◌, Bool, true, false, cond, Option, None, Some, IsSome, refl, ap, sym, subst, ◌∙◌, inl, inr, Ordering, Less, Equal, Greater, is_eq, is_gt}
+use Rattle.std.proofs.Common.{◌≡◌, ◌⊎◌, [], ◌∷◌, Bool, true, false, cond, Some, IsSome, refl, sym, subst, ◌∙◌, inl, inr, Less, is_eq, is_gt}
 use Rattle.std.specs.List.{AllByRecursion}
 use Rattle.std.specs.List.Sorted.{IsStrictlySortedBy}
 use Rattle.std.specs.Map.{keys_of}
@@ -8,7 +8,7 @@ use Rattle.std.proofs.lemmas.Option.{same_Some}
 use Rattle.je_order.specs.Order.{name_cmp}
 use Rattle.je_order.specs.declared.name.Name.{Name}
 use Rattle.record_map.specs.Cells.{value_at, IsRising}
-use Rattle.record_map.proofs.NameLaws.{same_or_other, name_same, other_stays, same_gets}
+use Rattle.record_map.proofs.NameLaws.{same_or_other, other_stays, same_gets}
 use Rattle.tree_nodes.specs.declared.node.Node.{Node}
 use Rattle.tree_nodes.specs.Nodes.{NodeRow, least, IsUpTo, IsOver, HasPut}
 use Rattle.in_tree.proofs.Order.{up_cases, less_up, same_up, less_not_up, up_trans, least_up, below_least}

@@ -1,5 +1,5 @@
 -- Changes of a tree's records keep that it fits its log.
-use Rattle.std.proofs.Common.{◌≡◌, ◌≤◌, ◌<◌, ◌⊎◌, ℕ, min, List, Bool, true, false, cond, Option, None, Some, IsSome, option_map, refl, ap, sym, subst, ◌∙◌, inl, inr, arith, is_eq}
+use Rattle.std.proofs.Common.{◌≡◌, ◌≤◌, ◌⊎◌, ℕ, List, Bool, true, false, cond, Option, None, Some, IsSome, option_map, refl, ap, sym, subst, ◌∙◌, inl, inr, arith, is_eq}
 use Rattle.std.proofs.lemmas.Option.{same_Some}
 use Rattle.je_order.specs.Order.{name_cmp}
 use Rattle.je_order.specs.declared.name.Name.{Name}
@@ -7,11 +7,11 @@ use Rattle.record_map.specs.declared.cell.Cell.{Cell}
 use Rattle.node_core.specs.declared.slot.Version.{Version}
 use Rattle.node_core.specs.declared.slot.Version.TheVariants.{There, Deleted, Unset}
 use Rattle.node_core.specs.Changes.{is_committed}
-use Rattle.record_map.specs.Cells.{value_at, fresh, with_write}
+use Rattle.record_map.specs.Cells.{value_at, with_write}
 use Rattle.record_map.proofs.NameLaws.{same_or_other, name_same, other_stays, same_gets}
 use Rattle.tree_nodes.specs.declared.node.Node.{Node}
-use Rattle.tree_nodes.specs.Nodes.{NodeRow, IsUpTo, IsOver, HasPut, earlier, marked}
-use Rattle.tree_nodes.specs.Levels.{row_of, HasPutAt, HasMarkedAt}
+use Rattle.tree_nodes.specs.Nodes.{NodeRow, IsUpTo, IsOver, earlier, marked}
+use Rattle.tree_nodes.specs.Levels.{row_of, HasMarkedAt}
 use Rattle.in_tree.specs.Images.{Placed}
 use Rattle.in_tree.specs.Content.{held_by, lsn_of, lsn_under}
 use Rattle.in_tree.specs.Trees.{IsTreeOf, IsBehind, IsMark, IsTree, HasCell, cell_or_fresh, given_up}

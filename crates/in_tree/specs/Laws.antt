@@ -1,10 +1,10 @@
 -- What holds of every tree of a log, step by step.
-use Rattle.std.specs.Prelude.{◌≡◌, ◌<◌, ◌≤◌, ◌-◌, ◌⊎◌, ◌++◌, ℕ, zero, suc, List, Option, Some, None, IsSome, length}
+use Rattle.std.specs.Prelude.{◌≡◌, ◌≤◌, ◌⊎◌, ◌++◌, ℕ, suc, List, Option, Some, length}
 use Rattle.je_order.specs.declared.name.Name.{Name}
 use Rattle.record_map.specs.declared.cell.Cell.{Cell}
 use Rattle.record_map.specs.Cells.{value_at, IsRising}
 use Rattle.tree_nodes.specs.declared.node.Node.{Node}
-use Rattle.tree_nodes.specs.Nodes.{NodeRow, least, IsOver}
+use Rattle.tree_nodes.specs.Nodes.{NodeRow, IsOver}
 use Rattle.tree_nodes.specs.Levels.{row_of, AreParts, HasPutAt, HasRaised}
 use Rattle.in_tree.specs.Images.{Placed, entry_at, shown, shows, IsRead}
 use Rattle.in_tree.specs.Content.{held_by, bin_image, in_image}

@@ -44,11 +44,7 @@ pub trait Records {
         ensures rising { IsRising (cells self.now db) };
 
     /// The last occupied name below the edge.
-    fn last_below(
-        &self,
-        db: u32,
-        upto: EdgeRef<'_>,
-    ) -> Result<Option<(&SortKey, &Cell)>, Lacks>
+    fn last_below(&self, db: u32, upto: EdgeRef<'_>) -> Result<Option<(&SortKey, &Cell)>, Lacks>
         ensures found { IfOk result (λ found. option_map (λ p. (p.0.now, occupied_by p.1.now)) found ≡ last_of (below_edge (edge_of upto.entry) (cells self.now db))) }
         ensures here { IsOk result }
         ensures rising { IsRising (cells self.now db) };
