@@ -16,3 +16,5 @@ pub mod Contents
 pub mod Children
 -- changes of records
 pub mod Records
+-- logging a node
+pub mod NodeLogging

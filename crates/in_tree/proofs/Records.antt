@@ -24,7 +24,7 @@ use Rattle.in_tree.proofs.Marking.{marked_or_split, committed}
 earlier_up : (own : Option ℕ) (f from : ℕ) → own ≡ Some f → earlier own from ≤ f
 earlier_up own f from is = subst (λ (o : Option ℕ). earlier o from ≤ f) (sym is) (omega arith)
 
-earlier_below : (own : Option ℕ) (from : ℕ) → earlier own from ≤ from
+pub earlier_below : (own : Option ℕ) (from : ℕ) → earlier own from ≤ from
 earlier_below None from = omega arith
 earlier_below (Some f) from = omega arith
 
@@ -37,7 +37,7 @@ marks es base newest old new held level x from m tree =
     marked_or_split es base newest old new held level m.e.0 m.e.0 m.e.1 (marked from m.e.1) (over_low (row_of old level) m.e.0 m.e.1 m.over.there) m.put (is_mark m.e.1 from) tree
 
 -- the node over a name after it was marked
-over_marked : (old new : List NodeRow) (level : ℕ) (x : Name) (from : ℕ) (e : Name × Node) → (m : HasMarkedAt old new level x from) → IsOver (row_of new level) x e → e.1 ≡ marked from m.e.1
+pub over_marked : (old new : List NodeRow) (level : ℕ) (x : Name) (from : ℕ) (e : Name × Node) → (m : HasMarkedAt old new level x from) → IsOver (row_of new level) x e → e.1 ≡ marked from m.e.1
 over_marked old new level x from e m over =
     let names : e.0 ≡ m.e.0 = over_once (row_of new level) x e (m.e.0, marked from m.e.1) over is_over in
     same_Some e.1 (marked from m.e.1) (sym over.there ∙ ap (λ (y : Name). value_at y (row_of new level)) names ∙ here)

@@ -7,6 +7,9 @@
 
 pub mod db_tree;
 pub mod laws;
+pub mod log_node;
+pub mod tree_log;
 
 pub use db_tree::DbTree;
 pub use laws::{images_show_their_nodes, trees_are_covered, trees_fit_their_log};
+pub use tree_log::TreeLog;
