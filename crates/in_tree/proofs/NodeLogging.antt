@@ -1,5 +1,5 @@
 -- Logging a node keeps that a tree fits its log.
-use Rattle.std.proofs.Common.{◌≡◌, ◌≤◌, ◌<◌, ◌++◌, ◌∷◌, [], ◌==◌, ◌⊎◌, ℕ, suc, List, Bool, true, false, cond, Option, None, Some, IsSome, length, refl, ap, sym, subst, ◌∙◌, inl, inr, arith, eq-eqb}
+use Rattle.std.proofs.Common.{◌≡◌, ◌≤◌, ◌++◌, ◌∷◌, [], ◌==◌, ℕ, suc, List, Bool, true, false, cond, Option, None, Some, length, refl, ap, sym, subst, ◌∙◌, arith, eq-eqb}
 use Rattle.std.proofs.lemmas.Option.{none-some, same_Some}
 use Rattle.std.proofs.lemmas.List.{get_or_past}
 use Rattle.je_order.specs.declared.name.Name.{Name}
@@ -7,7 +7,7 @@ use Rattle.log_entry.specs.declared.entry.Entry.{Entry}
 use Rattle.record_map.specs.declared.cell.Cell.{Cell}
 use Rattle.record_map.specs.Cells.{value_at, IsRising}
 use Rattle.tree_nodes.specs.declared.node.Node.{Node}
-use Rattle.tree_nodes.specs.Nodes.{NodeRow, IsOver, earlier, marked, logged}
+use Rattle.tree_nodes.specs.Nodes.{NodeRow, earlier, logged}
 use Rattle.tree_nodes.specs.Levels.{row_of, AreParts, HasPutAt, HasMarkedAt}
 use Rattle.in_tree.specs.Images.{Placed, entry_at}
 use Rattle.in_tree.specs.Content.{held_by, bin_image}
@@ -49,6 +49,6 @@ pub bin_logged : (es : Placed) (base : ℕ) (newest : Name → ℕ) (old handed 
 bin_logged es base newest old handed new cells low n at db number entry up fresh_ is are same there hand put kept tree =
     is_logged (es ++ (at, entry) ∷ []) base newest handed new (held_by cells) 0 low n (logged at n) at are there put refl
     (bins_show (es ++ (at, entry) ∷ []) handed cells db number at low n up
-      (entry_is_last es at entry fresh_ ∙ ap Some (is ∙ ap (λ (row : NodeRow). bin_image db number low row cells) (sym same))))
+    (entry_is_last es at entry fresh_ ∙ ap Some (is ∙ ap (λ (row : NodeRow). bin_image db number low row cells) (sym same))))
     hand
     (kept (es ++ (at, entry) ∷ []) base newest (held_by cells) (longer es ((at, entry) ∷ []) base newest newest old (held_by cells) (λ x. omega arith) tree))

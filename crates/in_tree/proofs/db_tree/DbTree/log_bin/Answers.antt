@@ -1,9 +1,7 @@
-use Rattle.std.proofs.Common.{◌≡◌, ◌∙◌, Some, ap, subst, sym}
-use Rattle.je_order.specs.declared.name.Name.{Name}
+use Rattle.std.proofs.Common.{◌∙◌, ap, subst}
 use Rattle.record_map.specs.Cells.{value_at}
 use Rattle.tree_nodes.specs.declared.node.Node.{Node}
-use Rattle.tree_nodes.specs.Nodes.{NodeRow}
-use Rattle.tree_nodes.specs.Levels.{row_of, HasPutAt}
+use Rattle.tree_nodes.specs.Levels.{HasPutAt}
 use Rattle.in_tree.proofs.NodeLogging.{bin_logged}
 use Rattle.in_tree.proofs.db_tree.DbTree.log_bin.Goals as goal
 
