@@ -1,2 +1,3 @@
 pub mod Order
+pub mod Edges
 pub mod Words

@@ -18,5 +18,4 @@ pub mod ListedLaws
 pub mod ReadingLaws
 pub mod PlacingLaws
 pub mod AgainLaws
-pub mod HeldLaws
 pub mod Loaded

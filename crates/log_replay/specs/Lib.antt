@@ -11,4 +11,3 @@ pub mod Reading
 pub mod UnderWay
 pub mod Answer
 pub mod Laws
-pub mod Held

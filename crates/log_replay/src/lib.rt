@@ -6,17 +6,13 @@
 //! as they say.
 #![tactic(auto)]
 
-mod data;
 pub mod finding;
-mod held_data;
-mod held_name;
 pub mod last_file;
 pub mod laws;
 mod loading;
 pub mod log_read;
 mod named;
 pub mod numbers;
-mod padded;
 mod pending;
 mod pending_change;
 mod place;
@@ -25,7 +21,6 @@ pub mod reading;
 pub mod replayed;
 mod replaying;
 pub mod rows;
-pub mod sort_key;
 mod table;
 
 pub use finding::Finding;
@@ -34,6 +29,6 @@ pub use laws::{changes_are_logged, logs_are_read};
 pub use log_read::{LogRead, ReadLog};
 pub use numbers::number_of;
 pub use reading::read_log;
+pub use record_map::SortKey;
 pub use replayed::{Replayed, new_environment};
 pub use rows::Rows;
-pub use sort_key::SortKey;

@@ -3,10 +3,9 @@ ghost use Rattle.std.specs.Prelude.{◌≡◌, ℕ, [], Some, None, IfOk, OnOk};
 ghost use Rattle.log_replay.specs.Rows.{rows_in, row_changed};
 ghost use Rattle.log_replay.specs.Loading.{loaded};
 
-use crate::data::Data;
 use crate::rows::Rows;
-use crate::sort_key::SortKey;
 use je_order::{Name, Octets};
+use record_map::{Data, SortKey};
 use std::alloc::{AllocError, Global};
 use std::mem::replace;
 

@@ -12,13 +12,13 @@ ghost use Rattle.log_replay.specs.UnderWay.{HasTaken, IsReplayOf};
 use crate::place::Place;
 use crate::replaying::Replaying;
 use crate::rows::Rows;
-use crate::sort_key::SortKey;
 use je_bytes::Reader;
 use je_disk::{Disk, DiskErr};
 use je_lsn::{FileNo, Lsn};
 use je_order::{List, Name, Octets, TxnId, copy_of};
 use log_entry::{Entry, size};
 use log_file::{Found, Scanned, scan};
+use record_map::SortKey;
 use std::alloc::{AllocError, Global};
 
 // How many bytes a file's header has.

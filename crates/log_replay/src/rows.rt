@@ -5,13 +5,12 @@ ghost use Rattle.log_replay.specs.Rows.{IsRising, RowChange, rows_in, rows_put, 
 ghost use Rattle.log_replay.specs.Wrong.{least, lesser as lesser_of, wrong_in_catalog, wrong_in_plain, wrong_under, wrong_database, wrong_record};
 ghost use Rattle.log_replay.specs.Opening.{named_by, database_named};
 
-use crate::data::Data;
 use crate::named::Named;
 use crate::place::Place;
-use crate::sort_key::SortKey;
 use crate::table::Table;
 use je_model::{Database, Kind, Store};
 use je_order::{List, Name, Octets};
+use record_map::{Data, SortKey};
 use std::alloc::{AllocError, Global};
 use std::collections::BTreeMap;
 use std::marker::Model;

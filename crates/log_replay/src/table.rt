@@ -7,12 +7,11 @@ ghost use Rattle.std.specs.List.{list_all};
 ghost use Rattle.std.specs.BTreeMap.{IsFromIterResult};
 ghost use Rattle.je_order.specs.Order.{name_cmp};
 
-use crate::data::Data;
 use crate::named::Named;
 use crate::numbers::number_of;
-use crate::sort_key::SortKey;
 use je_model::MOST_DATABASES;
 use je_order::{List, Name, Octets, Word};
+use record_map::{Data, SortKey};
 use std::alloc::{AllocError, Global};
 use std::collections::BTreeMap;
 use std::marker::Model;

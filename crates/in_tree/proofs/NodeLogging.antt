@@ -1,0 +1,54 @@
+-- Logging a node keeps that a tree fits its log.
+use Rattle.std.proofs.Common.{◌≡◌, ◌≤◌, ◌++◌, ◌∷◌, [], ◌==◌, ℕ, suc, List, Bool, true, false, cond, Option, None, Some, length, refl, ap, sym, subst, ◌∙◌, arith, eq-eqb}
+use Rattle.std.proofs.lemmas.Option.{none-some, same_Some}
+use Rattle.std.proofs.lemmas.List.{get_or_past}
+use Rattle.je_order.specs.declared.name.Name.{Name}
+use Rattle.log_entry.specs.declared.entry.Entry.{Entry}
+use Rattle.record_map.specs.declared.cell.Cell.{Cell}
+use Rattle.record_map.specs.Cells.{value_at, IsRising}
+use Rattle.tree_nodes.specs.declared.node.Node.{Node}
+use Rattle.tree_nodes.specs.Nodes.{NodeRow, earlier, logged}
+use Rattle.tree_nodes.specs.Levels.{row_of, AreParts, HasPutAt, HasMarkedAt}
+use Rattle.in_tree.specs.Images.{Placed, entry_at}
+use Rattle.in_tree.specs.Content.{held_by, bin_image}
+use Rattle.in_tree.specs.Trees.{IsTreeOf, IsTree, IsHandedOn}
+use Rattle.in_tree.proofs.Longer.{longer}
+use Rattle.in_tree.proofs.Contents.{bins_show}
+use Rattle.in_tree.proofs.Logging.{logged as is_logged}
+use Rattle.in_tree.proofs.Records.{over_marked, earlier_below}
+
+-- a node without a mark, and one without a node above it
+pub nothing_to_hand : (rows : List NodeRow) (level : ℕ) (low : Name) (n : Node) → n.from ≡ None → IsHandedOn rows level low n
+nothing_to_hand rows level low n none p over f is = absurd (none-some f (sym none ∙ is))
+
+pub nobody_above : (rows : List NodeRow) (level : ℕ) (low : Name) (n : Node) → length rows ≤ suc level → IsHandedOn rows level low n
+nobody_above rows level low n high p over f is =
+    absurd (none-some p.1 (subst (λ (row : NodeRow). value_at p.0 row ≡ Some p.1) (get_or_past rows (suc level) [] high) over.there))
+
+-- the node above a node has its mark
+pub handed_on : (old new : List NodeRow) (level : ℕ) (low : Name) (n : Node) (from : ℕ) → n.from ≡ Some from → HasMarkedAt old new (suc level) low from → IsHandedOn new level low n
+handed_on old new level low n from is m p over f at =
+    let same : from ≡ f = same_Some from f (sym is ∙ at) in
+    (_, ap (λ (k : Node). k.from) (over_marked old new (suc level) low from p m over), subst (λ k. earlier m.e.1.from from ≤ k) same (earlier_below m.e.1.from from))
+
+-- an entry that is appended at an LSN of its own is the one that the LSN names
+pub entry_is_last : (es : Placed) (at : ℕ) (e : Entry) → entry_at es at ≡ None → entry_at (es ++ (at, e) ∷ []) at ≡ Some e
+entry_is_last [] at e none = ap (λ (t : Bool). cond t (Some e) None) (eq-eqb at at refl)
+entry_is_last (p ∷ es) at e none = by_test (p.0 == at) (entry_is_last es at e) none
+  where
+    by_test : (t : Bool) → (entry_at es at ≡ None → entry_at (es ++ (at, e) ∷ []) at ≡ Some e) → cond t (Some p.1) (entry_at es at) ≡ None → cond t (Some p.1) (entry_at (es ++ (at, e) ∷ []) at) ≡ Some e
+    by_test true rest h = absurd (none-some p.1 (sym h))
+    by_test false rest h = rest h
+
+-- a BIN is logged: the log gets its image, its mark is handed on, and the image is its last one
+pub bin_logged : (es : Placed) (base : ℕ) (newest : Name → ℕ) (old handed new : List NodeRow) (cells : List (Name × Cell)) (low : Name) (n : Node) (at db number : ℕ) (entry : Entry) →
+    IsRising cells → entry_at es at ≡ None → entry ≡ bin_image db number low (row_of old 0) cells → AreParts handed → row_of handed 0 ≡ row_of old 0 → value_at low (row_of handed 0) ≡ Some n →
+    IsHandedOn handed 0 low n → HasPutAt handed new 0 low (logged at n) →
+    ((es : Placed) (base : ℕ) (newest : Name → ℕ) (held : Name → Option ℕ) → IsTreeOf es base newest old held → IsTreeOf es base newest handed held) →
+    IsTree es base newest old cells → IsTree (es ++ (at, entry) ∷ []) base newest new cells
+bin_logged es base newest old handed new cells low n at db number entry up fresh_ is are same there hand put kept tree =
+    is_logged (es ++ (at, entry) ∷ []) base newest handed new (held_by cells) 0 low n (logged at n) at are there put refl
+    (bins_show (es ++ (at, entry) ∷ []) handed cells db number at low n up
+    (entry_is_last es at entry fresh_ ∙ ap Some (is ∙ ap (λ (row : NodeRow). bin_image db number low row cells) (sym same))))
+    hand
+    (kept (es ++ (at, entry) ∷ []) base newest (held_by cells) (longer es ((at, entry) ∷ []) base newest newest old (held_by cells) (λ x. omega arith) tree))

@@ -1,0 +1,19 @@
+use Rattle.in_tree.proofs.Longer.{longer}
+use Rattle.in_tree.proofs.Marking.{marked_or_split, committed}
+use Rattle.in_tree.proofs.Logging.{logged, raised}
+use Rattle.in_tree.proofs.laws.trees_fit_their_log.Goals as goal
+
+pub returns-clause-longer : goal.returns-clause-longer
+returns-clause-longer c = longer
+
+pub returns-clause-marked : goal.returns-clause-marked
+returns-clause-marked c = marked_or_split
+
+pub returns-clause-committed : goal.returns-clause-committed
+returns-clause-committed c = committed
+
+pub returns-clause-logged : goal.returns-clause-logged
+returns-clause-logged c = logged
+
+pub returns-clause-raised : goal.returns-clause-raised
+returns-clause-raised c = raised

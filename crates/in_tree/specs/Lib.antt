@@ -1,0 +1,4 @@
+pub mod Images
+pub mod Content
+pub mod Trees
+pub mod Laws

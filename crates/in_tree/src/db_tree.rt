@@ -1,0 +1,169 @@
+// The tree of one database.
+ghost use Rattle.std.specs.Prelude.{◌≡◌, ◌≤◌, ◌++◌, ℕ, [], Option, None, Some, IsSome, IfOk, OnOk, OnErr, option_map, if◌then◌else◌};
+ghost use Rattle.std.specs.Ordering.{is_eq};
+ghost use Rattle.je_order.specs.Order.{name_cmp};
+ghost use Rattle.je_order.specs.declared.name.Name.{Name};
+ghost use Rattle.record_map.specs.Cells.{value_at, with_write, committed};
+ghost use Rattle.in_tree.specs.Images.{Placed};
+ghost use Rattle.tree_nodes.specs.Levels.{row_of};
+ghost use Rattle.in_tree.specs.Content.{slot_for, record_slots, bin_image};
+ghost use Rattle.in_tree.specs.Trees.{IsTree, HasCell, cell_or_fresh, given_up};
+
+use je_lsn::Lsn;
+use je_order::List;
+use log_entry::{Entry, RecordSlot};
+use node_core::Version;
+use record_map::{Cell, Cells, SortKey, Write};
+use std::alloc::{AllocError, Global};
+use std::collections::btree_map::Range;
+use tree_nodes::{Levels, Node};
+
+/// The tree of one database: its records, and the nodes that part them.
+#[derive(Drop)]
+pub struct DbTree {
+    pub cells: Cells,
+    pub levels: Levels,
+}
+
+// Makes a cell for the name where it has none.
+fn make_cell(cells: &mut Cells, alloc: Global, name: &SortKey) -> Result<(), AllocError>
+    ensures cell { OnOk result (HasCell cells.old cells.new name.now (cell_or_fresh (value_at name.now cells.old))) }
+    ensures err { OnErr result (cells.new ≡ cells.old) }
+{
+    match cells.get(name) {
+        Some(_) => Ok(()),
+        None => cells.insert(name.copy(alloc)?, Cell::new()),
+    }
+}
+
+// Gives the change of the name up.
+fn give_up(cells: &mut Cells, name: &SortKey)
+    ensures { (x : Name) → value_at x cells.new ≡ (if is_eq (name_cmp name.now x) then given_up (value_at name.now cells.old) else value_at x cells.old) }
+{
+    let is_committed = match cells.get(name) {
+        Some(cell) => cell.version.is_committed(),
+        None => return,
+    };
+    if is_committed {
+        cells.set_write(name, None);
+        return;
+    }
+    cells.remove(name);
+}
+
+// Puts the slot of a cell in its BIN's image behind the others.
+fn push_slot(
+    slots: &mut Vec<RecordSlot>,
+    alloc: Global,
+    name: &SortKey,
+    cell: &Cell,
+) -> Result<(), AllocError>
+    ensures { OnOk result (slots.new.items ≡ slots.old.items ++ slot_for name.now cell.now.version) }
+{
+    let lsn = match cell.version {
+        Version::There(lsn) => Some(lsn),
+        Version::Deleted => None,
+        Version::Unset => return Ok(()),
+    };
+    slots.push(RecordSlot {
+        name: name.to_name(alloc)?,
+        lsn,
+    })?;
+    Ok(())
+}
+
+// The slots of cells in their BIN's image.
+fn record_slots(
+    alloc: Global,
+    cells: Range<'_, SortKey, Cell>,
+) -> Result<List<RecordSlot>, AllocError>
+    ensures { IfOk result (λ slots. slots ≡ record_slots cells.entry) }
+{
+    let mut slots = Vec::new(alloc);
+    for (name, cell) in cells {
+        push_slot(&mut slots, alloc, name, cell)?;
+    }
+    Ok(List::from_vec(slots))
+}
+
+impl DbTree {
+    /// The tree of a new database: a root without records, which has no image.
+    pub fn new(alloc: Global, number: u64) -> Result<DbTree, AllocError>
+        ensures tree { IfOk result (λ tree. (es : Placed) (base : ℕ) (newest : Name → ℕ) → IsTree es base newest tree.levels tree.cells) }
+        ensures cells { IfOk result (λ tree. tree.cells ≡ []) }
+    {
+        let root = Node {
+            number,
+            last: None,
+            from: None,
+            slots: 0,
+            forced: false,
+            noted: false,
+        };
+        Ok(DbTree {
+            cells: Cells::new(alloc),
+            levels: Levels::new(alloc, root)?,
+        })
+    }
+
+    /// Gives the name a change that is not committed. Want of memory changes nothing, and does not come
+    /// where the name has a cell.
+    pub fn set_write(
+        &mut self,
+        alloc: Global,
+        name: &SortKey,
+        write: Box<Write>,
+    ) -> Result<(), AllocError>
+        ensures cells { OnOk result (HasCell self.old.cells self.new.cells name.now (with_write (Some write) (cell_or_fresh (value_at name.now self.old.cells)))) }
+        ensures tree { (es : Placed) (base : ℕ) (newest : Name → ℕ) → IsTree es base newest self.old.levels self.old.cells → IsTree es base newest self.new.levels self.new.cells }
+        ensures levels { self.new.levels ≡ self.old.levels }
+        ensures err { OnErr result (self.new.cells ≡ self.old.cells) }
+    {
+        make_cell(&mut self.cells, alloc, name)?;
+        self.cells.set_write(name, Some(write));
+        Ok(())
+    }
+
+    /// Commits the change of the name, by the Commit at `at`, and marks its BIN: the log has a committed
+    /// change at `from` that the BIN's last image lacks. It takes no memory.
+    pub fn commit(&mut self, name: &SortKey, at: Lsn, from: Lsn)
+        requires { IsSome (value_at name.now self.old.cells) }
+        ensures cells { (last : Option ℕ) × ((x : Name) → value_at x self.new.cells ≡ (if is_eq (name_cmp name.now x) then option_map (committed at last) (value_at name.now self.old.cells) else value_at x self.old.cells)) }
+        ensures tree { (es : Placed) (base : ℕ) (newest : Name → ℕ) → from ≤ newest name.now → IsTree es base newest self.old.levels self.old.cells → IsTree es base newest self.new.levels self.new.cells }
+    {
+        let _height = self.levels.height();
+        let (_low, node) = self.levels.over(0, name);
+        let last = node.last;
+        self.levels.mark(0, name, from);
+        self.cells.commit(name, at, &last);
+    }
+
+    /// Gives the change of the name up: a cell of which nothing is committed goes. It takes no memory.
+    pub fn abort(&mut self, name: &SortKey)
+        ensures cells { (x : Name) → value_at x self.new.cells ≡ (if is_eq (name_cmp name.now x) then given_up (value_at name.now self.old.cells) else value_at x self.old.cells) }
+        ensures tree { (es : Placed) (base : ℕ) (newest : Name → ℕ) → IsTree es base newest self.old.levels self.old.cells → IsTree es base newest self.new.levels self.new.cells }
+        ensures levels { self.new.levels ≡ self.old.levels }
+    {
+        give_up(&mut self.cells, name);
+    }
+
+    /// The image of the BIN with the low.
+    pub fn bin_entry(
+        &self,
+        alloc: Global,
+        db: u32,
+        number: u64,
+        low: &SortKey,
+    ) -> Result<Entry, AllocError>
+        ensures { IfOk result (λ entry. entry ≡ bin_image db number low.now (row_of self.now.levels 0) self.now.cells) }
+    {
+        let _height = self.levels.height();
+        let high = self.levels.upper_bound(0, low);
+        let slots = record_slots(alloc, self.cells.between(low, high))?;
+        Ok(Entry::Bin {
+            db,
+            node: number,
+            slots,
+        })
+    }
+}

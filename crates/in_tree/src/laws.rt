@@ -1,0 +1,26 @@
+// What holds of every tree of a log.
+ghost use Rattle.in_tree.specs.Laws.{TreesStayInLongerLogs, TreesAreSplitAndMarked, TreesAreCommitted, TreesAreLogged, TreesAreRaised, TreesAreCovered, BinImagesShowCells, InImagesShowChildren};
+
+/// Each step of a tree and its log keeps that the tree fits the log: the log gets an entry of any kind; a
+/// node is marked, or split by a copy of it that takes part of its names; records are committed whose BINs are marked; a
+/// node is logged whose mark was handed on to the node above it; a root is put above the top.
+pub fn trees_fit_their_log()
+    ensures longer { TreesStayInLongerLogs }
+    ensures marked { TreesAreSplitAndMarked }
+    ensures committed { TreesAreCommitted }
+    ensures logged { TreesAreLogged }
+    ensures raised { TreesAreRaised }
+{}
+
+/// Where each mark of a tree is at a redo LSN or behind it, its root's image shows of each name what is
+/// committed, or the name's newest committed change is at the redo LSN or behind it.
+pub fn trees_are_covered()
+    ensures { TreesAreCovered }
+{}
+
+/// The image that is made of a BIN's cells shows what is committed of them; the image that is made of an IN's children shows what
+/// their images show, where each of them has one.
+pub fn images_show_their_nodes()
+    ensures bins { BinImagesShowCells }
+    ensures ins { InImagesShowChildren }
+{}

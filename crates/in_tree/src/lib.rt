@@ -1,0 +1,15 @@
+//! The trees of an environment in memory, and how they stand to its log. It stands on `tree_nodes` for the
+//! nodes, on `record_map` for the records and on `log_entry` for images. A tree fits a log (`IsTreeOf`) where each node's last
+//! image shows what its children's do, and a BIN's what is committed, but for names that the node is marked for. Upward it
+//! promises that each step of a tree and its log keeps this, and that what the images of a checkpoint
+//! lack is behind its redo LSN.
+#![tactic(auto)]
+
+pub mod db_tree;
+pub mod laws;
+pub mod log_node;
+pub mod tree_log;
+
+pub use db_tree::DbTree;
+pub use laws::{images_show_their_nodes, trees_are_covered, trees_fit_their_log};
+pub use tree_log::TreeLog;

@@ -1,0 +1,74 @@
+// Logging a node.
+ghost use Rattle.std.specs.Prelude.{◌≡◌, ◌≤◌, ◌<◌, ◌++◌, ◌∷◌, ℕ, [], suc, Option, None, Some, IsSome, IfOk, OnErr, length};
+ghost use Rattle.je_order.specs.declared.name.Name.{Name};
+ghost use Rattle.log_entry.specs.Body.{IsEntry};
+ghost use Rattle.record_map.specs.Cells.{value_at, IsRising};
+ghost use Rattle.tree_nodes.specs.Levels.{row_of, AreParts};
+ghost use Rattle.in_tree.specs.Images.{Placed};
+ghost use Rattle.in_tree.specs.Content.{bin_image};
+ghost use Rattle.in_tree.specs.Trees.{IsTreeOf, IsTree, IsHandedOn};
+
+use crate::{DbTree, TreeLog};
+use je_lsn::Lsn;
+use log_entry::Entry;
+use record_map::SortKey;
+use record_tree::TreeErr;
+use tree_nodes::{Levels, Node};
+
+// The node of a level with the low.
+fn node_at(levels: &Levels, level: usize, low: &SortKey) -> Node
+    requires there { IsSome (value_at low.now (row_of levels.now level)) }
+    requires level { level < length levels.now }
+    ensures { value_at low.now (row_of levels.now level) ≡ Some result }
+{
+    match levels.at(level, low) {
+        Some(node) => node.copy(),
+        None => unreachable!(),
+    }
+}
+
+// Hands the mark of a node on to the node above it, where there is one.
+fn hand_on(levels: &mut Levels, level: usize, low: &SortKey, node: &Node)
+    requires { level < length levels.old }
+    ensures handed { IsHandedOn levels.new level low.now node.now }
+    ensures tree { (es : Placed) (base : ℕ) (newest : Name → ℕ) (held : Name → Option ℕ) → IsTreeOf es base newest levels.old held → IsTreeOf es base newest levels.new held }
+    ensures row { row_of levels.new level ≡ row_of levels.old level }
+    ensures height { length levels.new ≡ length levels.old }
+    ensures parts { AreParts levels.new }
+{
+    let height = levels.height();
+    let Some(from) = node.from else {
+        return;
+    };
+    if level + 1 >= height {
+        return;
+    }
+    levels.mark(level + 1, low, from);
+}
+
+impl DbTree {
+    /// Logs an image of the BIN with the low: it is the BIN's last image, and its mark goes to the node
+    /// above it. The tree stays as it was where the log fails.
+    pub fn log_bin<L: TreeLog>(
+        &mut self,
+        log: &mut L,
+        low: &SortKey,
+        entry: &Entry,
+    ) -> Result<Lsn, TreeErr>
+        requires there { IsSome (value_at low.now (row_of self.old.levels 0)) }
+        requires entry { IsEntry entry.now }
+        requires image { (db : ℕ) × (number : ℕ) × (entry.now ≡ bin_image db number low.now (row_of self.old.levels 0) self.old.cells) }
+        ensures tree { IfOk result (λ at. (es : Placed) (base : ℕ) (newest : Name → ℕ) → L.is_log log.old es → IsTree es base newest self.old.levels self.old.cells → IsTree (es ++ (at, entry.now) ∷ []) base newest self.new.levels self.new.cells) }
+        ensures log { IfOk result (λ at. (es : Placed) → L.is_log log.old es → L.is_log log.new (es ++ (at, entry.now) ∷ [])) }
+        ensures cells { self.new.cells ≡ self.old.cells }
+        ensures err { OnErr result (self.new.levels ≡ self.old.levels) }
+    {
+        let _height = self.levels.height();
+        let _len = self.cells.len();
+        let at = log.append(entry)?;
+        let node = node_at(&self.levels, 0, low);
+        hand_on(&mut self.levels, 0, low, &node);
+        self.levels.set(0, low, node.logged(at));
+        Ok(at)
+    }
+}

@@ -1,0 +1,3 @@
+pub mod HeldLaws
+pub mod EdgeLaws
+pub mod NameLaws

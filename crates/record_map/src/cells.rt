@@ -1,0 +1,197 @@
+// The cells of one database.
+ghost use Rattle.std.specs.Prelude.{◌≡◌, ℕ, [], length, Option, None, Some, IsSome, IfSome, OnOk, OnErr, option_map, option_copied, if◌then◌else◌};
+ghost use Rattle.std.specs.Ordering.{is_eq};
+ghost use Rattle.std.specs.declared.cmp.Ordering.TheVariants.{Less};
+ghost use Rattle.std.specs.Map.{set_value, remove_entry};
+ghost use Rattle.std.specs.BTreeMap.{is_at, insert_entry};
+ghost use Rattle.je_order.specs.Order.{name_cmp};
+ghost use Rattle.je_order.specs.Edges.Edge.{At};
+ghost use Rattle.je_order.specs.declared.name.Name.{Name};
+ghost use Rattle.record_map.specs.Cells.{value_at, IsRising, first_of, last_of, from_edge, below_edge, between_edges, edge_of, upper_edge, with_version, with_write, committed};
+
+use crate::{Cell, Data, EdgeRef, SortKey, Write};
+use je_lsn::Lsn;
+use node_core::Version;
+use std::alloc::{AllocError, Global};
+use std::collections::BTreeMap;
+use std::collections::btree_map::Range;
+use std::marker::Model;
+use std::ops::Bound;
+
+/// The cells of one database, seen as the list of their names and cells, in which names rise.
+#[derive(Drop)]
+pub struct Cells {
+    cells: BTreeMap<SortKey, Cell>,
+}
+
+impl Model for Cells {
+    ghost use Rattle.std.specs.Prelude.{List};
+    ghost use Rattle.je_order.specs.declared.name.Name.{Name};
+    ghost use Rattle.record_map.specs.declared.cell.Cell.{Cell as Held};
+    ghost use Rattle.record_map.specs.Cells.{IsRising};
+
+    ghost Value = { List (Name × Held) };
+
+    ghost view = { λ a. a.cells.entries };
+
+    ghost invariant = { λ a. IsRising a.cells.entries };
+}
+
+impl Cells {
+    /// No cells. It takes no memory.
+    pub fn new(alloc: Global) -> Cells
+        ensures { result ≡ [] }
+    {
+        Cells {
+            cells: BTreeMap::new(alloc),
+        }
+    }
+
+    pub fn len(&self) -> usize
+        ensures value { result ≡ length self.now }
+        ensures rising { IsRising self.now }
+    {
+        self.cells.len()
+    }
+
+    /// The cell of the name, and None where it has none.
+    pub fn get(&self, name: &SortKey) -> Option<&Cell>
+        ensures { option_copied result ≡ value_at name.now self.now }
+    {
+        self.cells.get(name)
+    }
+
+    #[tactic(auto, using(crate::proofs::EdgeLaws::none_from_end))]
+    /// The first cell that is not below the edge, with its name.
+    pub fn next(&self, from: EdgeRef<'_>) -> Option<(&SortKey, &Cell)>
+        ensures found { option_map (λ p. (p.0.now, p.1.now)) result ≡ first_of (from_edge (edge_of from.entry) self.now) }
+        ensures rising { IsRising self.now }
+    {
+        let Cells { cells } = self;
+        let start = match from {
+            EdgeRef::First => Bound::Unbounded,
+            EdgeRef::At(name) => Bound::Included(name),
+            EdgeRef::Behind(name) => Bound::Excluded(name),
+            EdgeRef::End => return None,
+        };
+        cells.range((start, Bound::Unbounded)).next()
+    }
+
+    #[tactic(auto, using(crate::proofs::EdgeLaws::none_below_first, crate::proofs::EdgeLaws::last_is))]
+    /// The last cell that is below the edge, with its name.
+    pub fn last_below(&self, upto: EdgeRef<'_>) -> Option<(&SortKey, &Cell)>
+        ensures found { option_map (λ p. (p.0.now, p.1.now)) result ≡ last_of (below_edge (edge_of upto.entry) self.now) }
+        ensures rising { IsRising self.now }
+    {
+        let Cells { cells } = self;
+        let end = match upto {
+            EdgeRef::First => return None,
+            EdgeRef::At(name) => Bound::Excluded(name),
+            EdgeRef::Behind(name) => Bound::Included(name),
+            EdgeRef::End => Bound::Unbounded,
+        };
+        cells.range((Bound::Unbounded, end)).next_back()
+    }
+
+    /// The cells from a name on and below another one, or to the end.
+    pub fn between(&self, low: &SortKey, high: Option<&SortKey>) -> Range<'_, SortKey, Cell>
+        requires { IfSome high (λ h. name_cmp low.now h.now ≡ Less) }
+        ensures cells { result ≡ between_edges (At low.now) (upper_edge (option_copied high.entry)) self.now }
+        ensures rising { IsRising self.now }
+    {
+        let Cells { cells } = self;
+        let end = match high {
+            Some(name) => Bound::Excluded(name),
+            None => Bound::Unbounded,
+        };
+        cells.range((Bound::Included(low), end))
+    }
+
+    /// How many cells there are from a name on and below another one, or to the end. It goes over these.
+    pub fn count_between(&self, low: &SortKey, high: Option<&SortKey>) -> usize
+        requires { IfSome high (λ h. name_cmp low.now h.now ≡ Less) }
+        ensures { result ≡ length (between_edges (At low.now) (upper_edge (option_copied high.entry)) self.now) }
+    {
+        let Cells { cells } = self;
+        let end = match high {
+            Some(name) => Bound::Excluded(name),
+            None => Bound::Unbounded,
+        };
+        cells.range((Bound::Included(low), end)).count()
+    }
+
+    /// Puts the cell under the name, in place of the one that is there. Want of memory changes nothing,
+    /// and does not come where the name has a cell.
+    pub fn insert(&mut self, name: SortKey, cell: Cell) -> Result<(), AllocError>
+        ensures ok { OnOk result (self.new ≡ insert_entry name_cmp self.old name cell) }
+        ensures others { OnOk result ((x : Name) → value_at x self.new ≡ (if is_eq (name_cmp name x) then Some cell else value_at x self.old)) }
+        ensures err { OnErr result (self.new ≡ self.old) }
+        ensures absent { OnErr result (value_at name self.old ≡ None) }
+        ensures rising { IsRising self.new }
+    {
+        let Cells { cells } = self;
+        drop(cells.insert(name, cell)?);
+        Ok(())
+    }
+
+    /// Takes the cell of the name out, where there is one. It takes no memory.
+    pub fn remove(&mut self, name: &SortKey)
+        ensures list { self.new ≡ remove_entry (is_at (name_cmp name.now)) self.old }
+        ensures others { (x : Name) → value_at x self.new ≡ (if is_eq (name_cmp name.now x) then None else value_at x self.old) }
+        ensures rising { IsRising self.new }
+    {
+        let Cells { cells } = self;
+        drop(cells.remove(name));
+    }
+
+    /// Gives the name's cell another change, or none. It takes no memory.
+    pub fn set_write(&mut self, name: &SortKey, write: Option<Box<Write>>)
+        requires { IsSome (value_at name.now self.old) }
+        ensures list { (c : _) → value_at name.now self.old ≡ Some c → self.new ≡ set_value (is_at (name_cmp name.now)) self.old (with_write write c) }
+        ensures others { (x : Name) → value_at x self.new ≡ (if is_eq (name_cmp name.now x) then option_map (with_write write) (value_at name.now self.old) else value_at x self.old) }
+        ensures rising { IsRising self.new }
+    {
+        let Cells { cells } = self;
+        match cells.get_mut(name) {
+            Some(cell) => cell.write = write,
+            None => drop(write),
+        }
+    }
+
+    /// Commits a version with its data for the name's cell, by the Commit at `at`. The last image of the
+    /// cell's BIN is at `last`. It takes no memory.
+    pub fn set_version(
+        &mut self,
+        name: &SortKey,
+        version: Version,
+        data: Data,
+        at: Lsn,
+        last: &Option<Lsn>,
+    )
+        requires { IsSome (value_at name.now self.old) }
+        ensures list { (c : _) → value_at name.now self.old ≡ Some c → self.new ≡ set_value (is_at (name_cmp name.now)) self.old (with_version version «data» at last.now c) }
+        ensures others { (x : Name) → value_at x self.new ≡ (if is_eq (name_cmp name.now x) then option_map (with_version version «data» at last.now) (value_at name.now self.old) else value_at x self.old) }
+        ensures rising { IsRising self.new }
+    {
+        let Cells { cells } = self;
+        match cells.get_mut(name) {
+            Some(cell) => cell.set_version(version, data, at, last),
+            None => drop(data),
+        }
+    }
+
+    /// Commits the change of the name's cell, by the Commit at `at`. The last image of the cell's BIN is
+    /// at `last`. It takes no memory.
+    pub fn commit(&mut self, name: &SortKey, at: Lsn, last: &Option<Lsn>)
+        requires { IsSome (value_at name.now self.old) }
+        ensures list { (c : _) → value_at name.now self.old ≡ Some c → self.new ≡ set_value (is_at (name_cmp name.now)) self.old (committed at last.now c) }
+        ensures others { (x : Name) → value_at x self.new ≡ (if is_eq (name_cmp name.now x) then option_map (committed at last.now) (value_at name.now self.old) else value_at x self.old) }
+        ensures rising { IsRising self.new }
+    {
+        let Cells { cells } = self;
+        match cells.get_mut(name) {
+            Some(cell) => cell.commit(at, last),
+            None => {}
+        }
+    }
+}

@@ -1,0 +1,86 @@
+-- What a database has under the names that are occupied, and how a transaction changes it.
+use Rattle.std.specs.Prelude.{◌≡◌, ℕ, Bool, ◌&&◌, ◌||◌, ◌==◌, List, Option, Some, None, is_some, option_map, if◌then◌else◌}
+use Rattle.std.specs.List.{list_any}
+use Rattle.std.specs.Ordering.{is_eq}
+use Rattle.je_order.specs.Order.{name_cmp}
+use Rattle.je_order.specs.declared.name.Name.{Name}
+use Rattle.je_order.specs.declared.txn_id.TxnId.{TxnId}
+use Rattle.node_core.specs.declared.slot.Version.{Version}
+use Rattle.node_core.specs.declared.slot.Version.TheVariants.{There, Deleted, Unset}
+use Rattle.record_map.specs.declared.cell.Cell.{Cell}
+use Rattle.record_map.specs.declared.write.Write.{Write}
+use Rattle.record_map.specs.Cells.{value_at}
+
+-- what an occupied name has: the committed data, if a record is committed, and the change of an active transaction, if there is one
+pub record Occupied : Type 0 where
+  pub value : Option (List ℕ)
+  pub write : Option Write
+
+-- the committed data that a version with data gives
+abbrev pub committed_value : Version → List ℕ → Option (List ℕ)
+committed_value (There lsn) value = Some value
+committed_value Deleted value = None
+committed_value Unset value = None
+
+-- what a cell says of its name
+abbrev pub occupied_by : Cell → Occupied
+occupied_by cell = record { value = committed_value cell.version cell.«data»; write = option_map (λ write. write.value) cell.write }
+
+-- an occupied name has a record or a change; a name that has neither is not occupied
+abbrev pub is_occupied : Occupied → Bool
+is_occupied o = is_some o.value || is_some o.write
+
+abbrev pub if_occupied : Occupied → Option Occupied
+if_occupied o = if is_occupied o then Some o else None
+
+-- the committed data under a name, and the change
+abbrev pub value_in : Option Occupied → Option (List ℕ)
+value_in None = None
+value_in (Some o) = o.value
+
+abbrev pub write_in : Option Occupied → Option Write
+write_in None = None
+write_in (Some o) = o.write
+
+-- no other transaction has changed the name
+abbrev pub IsFreeFor : TxnId → Option Write → Type 0
+IsFreeFor txn None = Unit {0}
+IsFreeFor txn (Some write) = write.txn ≡ txn
+
+-- a name with a change
+abbrev pub with_change : Write → Option Occupied → Option Occupied
+with_change write o = Some (record { value = value_in o; write = Some write })
+
+-- a name whose change is committed, and one whose change is given up
+abbrev pub value_after : Option (List ℕ) → Option Write → Option (List ℕ)
+value_after value None = value
+value_after value (Some write) = write.value
+
+abbrev pub after_commit : Option Occupied → Option Occupied
+after_commit None = None
+after_commit (Some o) = if_occupied (record { value = value_after o.value o.write; write = None })
+
+abbrev pub after_abort : Option Occupied → Option Occupied
+after_abort None = None
+after_abort (Some o) = if_occupied (record { value = o.value; write = None })
+
+-- the cells of each database
+abbrev pub AllCells : Type 0
+AllCells = ℕ → List (Name × Occupied)
+
+-- one name of one database changed, and all else as before
+pub record HasChanged (old new : AllCells) (db : ℕ) (name : Name) (change : Option Occupied → Option Occupied) : Type 0 where
+  pub here : (x : Name) → value_at x (new db) ≡ (if is_eq (name_cmp name x) then change (value_at name (old db)) else value_at x (old db))
+  pub others : (d : ℕ) → (d ≡ db → ⊥) → new d ≡ old d
+
+-- whether a name of a database is among some
+abbrev pub is_among : ℕ → Name → List (ℕ × Name) → Bool
+is_among db x names = list_any (λ e. e.0 == db && is_eq (name_cmp e.1 x)) names
+
+-- each of some names changed, and all else as before
+abbrev pub HasChangedAll : AllCells → AllCells → List (ℕ × Name) → (Option Occupied → Option Occupied) → Type 0
+HasChangedAll old new names change = (db : ℕ) (x : Name) → value_at x (new db) ≡ (if is_among db x names then change (value_at x (old db)) else value_at x (old db))
+
+-- no cell changed
+abbrev pub AreSame : AllCells → AllCells → Type 0
+AreSame old new = (db : ℕ) → new db ≡ old db

@@ -1,0 +1,13 @@
+//! What the parts above ask of the trees of an environment, as traits. It stands on `record_map` for names and cells and on
+//! `log_entry` for what the log gets, and has no code. A contract sees the cells of each database, the names
+//! with a record or a change alone, and two relations that an implementation names: that the log grew by some entries,
+//! and that it failed on the way. So what stands above a trait knows neither log nor nodes, and is proved beside its implementation.
+#![tactic(auto)]
+
+pub mod lacks;
+pub mod records;
+pub mod tree_err;
+
+pub use lacks::Lacks;
+pub use records::Records;
+pub use tree_err::TreeErr;

@@ -1,0 +1,261 @@
+// One level of a tree.
+ghost use Rattle.std.specs.Prelude.{◌≡◌, ◌<◌, ◌≤◌, ℕ, ◌++◌, ◌∷◌, [], length, vec_len, vec_capacity, Option, None, Some, IsSome, IfSome, IfOk, OnOk, OnErr, option_copied, option_map, map, if◌then◌else◌};
+ghost use Rattle.std.specs.List.{AllByRecursion};
+ghost use Rattle.std.specs.Map.{lookup};
+ghost use Rattle.std.specs.BTreeMap.{is_at};
+ghost use Rattle.je_order.specs.Order.{name_cmp};
+ghost use Rattle.je_order.specs.Edges.Edge.{At, Behind};
+ghost use Rattle.std.specs.declared.cmp.Ordering.TheVariants.{Less};
+ghost use Rattle.tree_nodes.specs.Levels.{slot_of};
+ghost use Rattle.je_order.specs.declared.name.Name.{Name};
+ghost use Rattle.record_map.specs.Cells.{value_at, IsRising, first_of, from_edge, between_edges, upper_edge};
+ghost use Rattle.tree_nodes.specs.Nodes.{least, IsUpTo, IsOver, IsLowOver, HasMarked, low_behind, HasPut, HasTaken, marked, node_at, placed, ArePlaces};
+
+use crate::Node;
+use je_lsn::Lsn;
+use je_order::List;
+use node_core::{Slot, Version};
+use record_map::SortKey;
+use std::alloc::{AllocError, Global};
+use std::collections::BTreeMap;
+use std::collections::btree_map::Range;
+use std::marker::Model;
+use std::ops::Bound;
+
+/// The nodes of one level, seen as the list of their lows and nodes, in which lows rise. A low's node stays at its
+/// place, so that a change of it takes no memory.
+#[derive(Drop)]
+pub struct Level {
+    lows: BTreeMap<SortKey, usize>,
+    nodes: Vec<Node>,
+}
+
+impl Model for Level {
+    ghost use Rattle.tree_nodes.specs.Nodes.{NodeRow, placed, ArePlaces};
+
+    ghost Value = { NodeRow };
+
+    ghost view = { λ a. placed a.lows.entries a.nodes.items };
+
+    ghost invariant = { λ a. ArePlaces a.lows.entries a.nodes.items };
+}
+
+// The greatest low up to a name, and the place of its node.
+fn low_over<'a>(lows: &'a BTreeMap<SortKey, usize>, name: &SortKey) -> (&'a SortKey, usize)
+    requires { IsSome (value_at least lows.now.entries) }
+    ensures { IsLowOver lows.entry.now.entries name.now (result.0.now, result.1) }
+{
+    let mut below = lows.range((Bound::Unbounded, Bound::Included(name)));
+    match below.next_back() {
+        Some((low, place)) => (low, *place),
+        None => unreachable!(),
+    }
+}
+
+// The first low above another one, and the place of its node.
+fn first_behind<'a>(
+    lows: &'a BTreeMap<SortKey, usize>,
+    low: &SortKey,
+) -> Option<(&'a SortKey, &'a usize)>
+    ensures { option_map (λ p. (p.0.now, p.1.now)) result ≡ first_of (from_edge (Behind low.now) lows.entry.now.entries) }
+{
+    lows.range((Bound::Excluded(low), Bound::Unbounded)).next()
+}
+
+// The lows from one on and below another one.
+fn lows_between<'a>(
+    lows: &'a BTreeMap<SortKey, usize>,
+    low: &SortKey,
+    high: Option<&SortKey>,
+) -> Range<'a, SortKey, usize>
+    requires { IfSome high (λ h. name_cmp low.now h.now ≡ Less) }
+    ensures { result ≡ between_edges (At low.now) (upper_edge (option_copied high.entry)) lows.entry.now.entries }
+{
+    let end = match high {
+        Some(name) => Bound::Excluded(name),
+        None => Bound::Unbounded,
+    };
+    lows.range((Bound::Included(low), end))
+}
+
+// The slot of an IN that a child makes.
+fn slot_of(alloc: Global, low: &SortKey, node: &Node) -> Result<Slot, AllocError>
+    ensures { IfOk result (λ slot. slot ≡ slot_of (low.now, node.now)) }
+{
+    let version = match node.last {
+        Some(lsn) => Version::There(lsn),
+        None => Version::Unset,
+    };
+    Ok(Slot {
+        name: low.to_name(alloc)?,
+        version,
+    })
+}
+
+// The slots of the nodes at the places of some lows.
+fn slots_of(
+    alloc: Global,
+    lows: Range<'_, SortKey, usize>,
+    nodes: &[Node],
+) -> Result<List<Slot>, AllocError>
+    requires { AllByRecursion (λ e. e.1 < length nodes.now) lows }
+    ensures { IfOk result (λ slots. slots ≡ map slot_of (placed lows.entry nodes.now)) }
+{
+    let mut slots = Vec::new(alloc);
+    for (name, place) in lows {
+        slots.push(slot_of(alloc, name, &nodes[*place])?)?;
+    }
+    Ok(List::from_vec(slots))
+}
+
+// The place of a low's node.
+fn place_of(lows: &BTreeMap<SortKey, usize>, low: &SortKey) -> usize
+    requires { IsSome (value_at low.now lows.now.entries) }
+    ensures { value_at low.now lows.now.entries ≡ Some result }
+{
+    match lows.get(low) {
+        Some(place) => *place,
+        None => unreachable!(),
+    }
+}
+
+// Puts a copy of the node behind the others, for which there is room.
+fn push_node(nodes: &mut Vec<Node>, node: &Node)
+    requires { vec_len nodes.old < vec_capacity nodes.old }
+    ensures { nodes.new.items ≡ nodes.old.items ++ node.now ∷ [] }
+{
+    let Node {
+        number,
+        last,
+        from,
+        slots,
+        forced,
+        noted,
+    } = node;
+    let copy = Node {
+        number: *number,
+        last: *last,
+        from: *from,
+        slots: *slots,
+        forced: *forced,
+        noted: *noted,
+    };
+    match nodes.push(copy) {
+        Ok(()) => {}
+        Err(failed) => drop(failed),
+    }
+}
+
+impl Level {
+    /// No nodes. It takes no memory.
+    pub fn new(alloc: Global) -> Level
+        ensures { result ≡ [] }
+    {
+        Level {
+            lows: BTreeMap::new(alloc),
+            nodes: Vec::new(alloc),
+        }
+    }
+
+    /// One node, over all names.
+    pub fn with_root(alloc: Global, root: Node) -> Result<Level, AllocError>
+        ensures root { IfOk result (λ level. HasPut [] level least root) }
+        ensures rising { IfOk result IsRising }
+    {
+        let mut level = Level::new(alloc);
+        level.put(SortKey::plain(alloc, &[])?, root)?;
+        Ok(level)
+    }
+
+    /// The node with the low, and None where no node has it.
+    pub fn at(&self, low: &SortKey) -> Option<&Node>
+        ensures { option_copied result ≡ value_at low.now self.now }
+    {
+        let Level { lows, nodes } = self;
+        match lows.get(low) {
+            Some(place) => Some(&nodes[*place]),
+            None => None,
+        }
+    }
+
+    /// The node over the name, with its low.
+    pub fn over(&self, name: &SortKey) -> (&SortKey, &Node)
+        requires { IsSome (value_at least self.now) }
+        ensures { IsOver self.now name.now (result.0.now, result.1.now) }
+    {
+        let Level { lows, nodes } = self;
+        let (low, place) = low_over(lows, name);
+        (low, &nodes[place])
+    }
+
+    /// The low of the node behind the one with this low; None where that is the last.
+    pub fn upper_bound(&self, low: &SortKey) -> Option<&SortKey>
+        ensures { option_copied result ≡ low_behind low.now self.now }
+    {
+        let Level { lows, nodes: _ } = self;
+        match first_behind(lows, low) {
+            Some((high, _place)) => Some(high),
+            None => None,
+        }
+    }
+
+    /// The slots that the nodes from a low on and below another one make in the IN above.
+    pub fn slots(
+        &self,
+        alloc: Global,
+        low: &SortKey,
+        high: Option<&SortKey>,
+    ) -> Result<List<Slot>, AllocError>
+        requires { IfSome high (λ h. name_cmp low.now h.now ≡ Less) }
+        ensures { IfOk result (λ slots. slots ≡ map slot_of (between_edges (At low.now) (upper_edge (option_copied high.entry)) self.now)) }
+    {
+        let Level { lows, nodes } = self;
+        slots_of(alloc, lows_between(lows, low, high), nodes.as_slice())
+    }
+
+    /// Puts the node in place of the one with the low. It takes no memory.
+    pub fn set(&mut self, low: &SortKey, node: Node)
+        requires { IsSome (value_at low.now self.old) }
+        ensures put { HasPut self.old self.new low.now node }
+        ensures rising { IsRising self.new }
+    {
+        let Level { lows, nodes } = self;
+        let place = place_of(lows, low);
+        nodes[place] = node;
+    }
+
+    /// Marks the node over the name: the log has a committed change at `from` that its last image lacks. It
+    /// takes no memory.
+    pub fn mark(&mut self, name: &SortKey, from: Lsn)
+        requires { IsSome (value_at least self.old) }
+        ensures marked { HasMarked self.old self.new name.now from }
+        ensures rising { IsRising self.new }
+    {
+        let Level { lows, nodes } = self;
+        let (_low, place) = low_over(lows, name);
+        nodes[place] = nodes[place].marked(from);
+    }
+
+    /// Puts the node under a low that no node has. Want of memory changes nothing.
+    pub fn put(&mut self, low: SortKey, node: Node) -> Result<(), AllocError>
+        requires { value_at low self.old ≡ None }
+        ensures put { OnOk result (HasPut self.old self.new low node) }
+        ensures err { OnErr result (self.new ≡ self.old) }
+        ensures rising { IsRising self.new }
+    {
+        let Level { lows, nodes } = self;
+        nodes.reserve(1)?;
+        drop(lows.insert(low, nodes.as_slice().len())?);
+        push_node(nodes, &node);
+        Ok(())
+    }
+
+    /// Takes the node of the low out, which was put in last. It takes no memory.
+    pub fn remove(&mut self, low: &SortKey)
+        ensures taken { HasTaken self.old self.new low.now }
+        ensures rising { IsRising self.new }
+    {
+        let Level { lows, nodes: _ } = self;
+        drop(lows.remove(low));
+    }
+}
