@@ -1,0 +1,4 @@
+pub mod PlacedLaws
+pub mod Staying
+pub mod Bounds
+pub mod Shown

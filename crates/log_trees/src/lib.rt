@@ -1,0 +1,29 @@
+//! Trees as a log shows them. It stands on the files of logs and on the images of nodes. Upward it
+//! promises that the records below an image are those that the image shows name by name, that they stay
+//! the same in a longer log, and that trees whose images are right are read with no finding. Its functions
+//! have nothing to do: their contracts are the laws.
+#![tactic(auto)]
+
+ghost use Rattle.log_trees.specs.Laws.{SlotsStay, ShowsStay, RootsStay, TreesStay, ShowsAreSlots};
+ghost use Rattle.log_trees.specs.Placed.{PlacedAreEntries, PlacedGoLast, PlacedGoOn, PlacedAreInOrder};
+
+/// The entries of a log with their LSNs are the log's entries; an entry more is the last one, and LSNs rise.
+pub fn entries_are_placed()
+    ensures entries { PlacedAreEntries }
+    ensures last { PlacedGoLast }
+    ensures next { PlacedGoOn }
+    ensures order { PlacedAreInOrder }
+{}
+
+/// What an image shows is the same in a longer log.
+pub fn trees_stay()
+    ensures slots { SlotsStay }
+    ensures shows { ShowsStay }
+    ensures roots { RootsStay }
+    ensures trees { TreesStay }
+{}
+
+/// The records below the image of a right tree are those that it shows name by name.
+pub fn trees_show_their_slots()
+    ensures { ShowsAreSlots }
+{}
