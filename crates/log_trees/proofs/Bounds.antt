@@ -14,7 +14,7 @@ use Rattle.log_trees.specs.Sound.{least_name, is_below, is_within, AreUp}
 
 -- ---- orders
 
-less_of : (o : Ordering) → is_lt o ≡ true → o ≡ Less
+pub less_of : (o : Ordering) → is_lt o ≡ true → o ≡ Less
 less_of Less e = refl
 less_of Equal e = absurd cc
 less_of Greater e = absurd cc

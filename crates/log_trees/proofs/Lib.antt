@@ -2,3 +2,5 @@ pub mod PlacedLaws
 pub mod Staying
 pub mod Bounds
 pub mod Shown
+pub mod Rooted
+pub mod Reading

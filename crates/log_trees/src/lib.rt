@@ -4,7 +4,7 @@
 //! have nothing to do: their contracts are the laws.
 #![tactic(auto)]
 
-ghost use Rattle.log_trees.specs.Laws.{SlotsStay, ShowsStay, RootsStay, TreesStay, ShowsAreSlots};
+ghost use Rattle.log_trees.specs.Laws.{SlotsStay, ShowsStay, RootsStay, TreesStay, ShowsAreSlots, RootsShow, RootsAreRead};
 ghost use Rattle.log_trees.specs.Placed.{PlacedAreEntries, PlacedGoLast, PlacedGoOn, PlacedAreInOrder};
 
 /// The entries of a log with their LSNs are the log's entries; an entry more is the last one, and LSNs rise.
@@ -25,5 +25,11 @@ pub fn trees_stay()
 
 /// The records below the image of a right tree are those that it shows name by name.
 pub fn trees_show_their_slots()
-    ensures { ShowsAreSlots }
+    ensures slots { ShowsAreSlots }
+    ensures roots { RootsShow }
+{}
+
+/// Trees whose images are all there and right are read with no finding.
+pub fn trees_are_read()
+    ensures { RootsAreRead }
 {}
