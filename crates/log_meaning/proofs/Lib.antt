@@ -1,0 +1,3 @@
+pub mod RedoLaws
+pub mod Lasts
+pub mod Standing

@@ -1,0 +1,4 @@
+pub mod Redo
+pub mod Checkpoint
+pub mod Stands
+pub mod Growth
