@@ -1,3 +1,6 @@
 pub mod RedoLaws
 pub mod Lasts
 pub mod Standing
+pub mod Listing
+pub mod Leaving
+pub mod Images

@@ -1,5 +1,5 @@
 -- Redo over a log that is one entry longer.
-use Rattle.std.proofs.Common.{◌≡◌, ℕ, ◌+◌, ◌<◌, ◌≤◌, ◌==◌, nat_le, Bool, true, false, cond, List, [], ◌∷◌, ◌++◌, Option, None, Some, filter, refl, sym, ap, ◌∙◌, arith, append_assoc}
+use Rattle.std.proofs.Common.{◌≡◌, ℕ, ◌+◌, ◌<◌, ◌≤◌, ◌==◌, nat_le, Bool, true, false, cond, List, [], ◌∷◌, ◌++◌, Option, None, Some, unwrap_or, filter, refl, sym, ap, ◌∙◌, arith, append_assoc}
 use Rattle.std.proofs.lemmas.Bool.{le-leb, lt-leb, cond-true, cond-false}
 use Rattle.std.proofs.lemmas.Option.{none-some}
 use Rattle.std.proofs.lemmas.List.Elements.{filter-append}
@@ -14,7 +14,7 @@ use Rattle.log_trees.specs.Changes.{LoggedChange}
 use Rattle.log_trees.specs.Trees.{rows_of_roots}
 use Rattle.log_trees.proofs.Staying.{roots_stay}
 use Rattle.log_meaning.specs.Redo.{Redo, nothing_redone, redo_entry, redo_all, from, redone}
-use Rattle.log_meaning.specs.Checkpoint.{Checkpoint, checkpoint_in, last_end, behind, restarted_by, restarted}
+use Rattle.log_meaning.specs.Checkpoint.{Checkpoint, no_checkpoint, checkpoint_in, last_end, last_checkpoint, behind, restarted_from, restarted}
 
 pub redo_all-append : (a b : List Placed) (redo : Redo) → redo_all (a ++ b) redo ≡ redo_all b (redo_all a redo)
 redo_all-append [] b redo = refl
@@ -61,16 +61,17 @@ behind-entry rows at (Commit txn) redo =
     let make : List LoggedChange → Redo = λ l. record { done = l; pending = (redo_entry at (Commit txn) redo).pending } in ap make (append_assoc rows redo.done (redo.pending txn.0))
 behind-entry rows at entry redo = refl
 
+-- an entry that ends no checkpoint leaves the last one
+pub last_checkpoint-push : (es : List Placed) (p : Placed) → checkpoint_in p.0 p.1 ≡ None → last_checkpoint (es ++ p ∷ []) ≡ last_checkpoint es
+last_checkpoint-push es p none =
+    ap (λ (o : Option Checkpoint). unwrap_or o no_checkpoint) (last_end-push es p ∙ ap (λ (o : Option Checkpoint). or_else o (last_end es)) none)
+
 -- a log with one more entry behind its last checkpoint is read again with that entry more
-pub restarted-push : (es : List Placed) (p : Placed) → checkpoint_in p.0 p.1 ≡ None → ((c : Checkpoint) → last_end es ≡ Some c → (c.at ≤ p.0) × (c.redo ≤ p.0)) →
+pub restarted-push : (es : List Placed) (p : Placed) → checkpoint_in p.0 p.1 ≡ None → (last_checkpoint es).at ≤ p.0 → (last_checkpoint es).redo ≤ p.0 →
     restarted (es ++ p ∷ []) ≡ redo_entry p.0 p.1 (restarted es)
-restarted-push es p none reach =
-    ap (restarted_by (es ++ p ∷ [])) (last_end-push es p ∙ ap (λ (o : Option Checkpoint). or_else o (last_end es)) none) ∙ by_end (last_end es) reach
-  where
-    by_end : (o : Option Checkpoint) → ((c : Checkpoint) → o ≡ Some c → (c.at ≤ p.0) × (c.redo ≤ p.0)) → restarted_by (es ++ p ∷ []) o ≡ redo_entry p.0 p.1 (restarted_by es o)
-    by_end None h = redone-in 0 es p (omega arith)
-    by_end (Some c) h =
-        let both = h c refl in
-        ap (λ (l : List LoggedChange). behind l (redone c.redo (es ++ p ∷ []))) (roots_stay es (p ∷ []) c.at c.roots (both.0, tt))
-        ∙ ap (behind (rows_of_roots es c.at c.roots)) (redone-in c.redo es p both.1)
-        ∙ sym (behind-entry (rows_of_roots es c.at c.roots) p.0 p.1 (redone c.redo es))
+restarted-push es p none at redo =
+    let c : Checkpoint = last_checkpoint es in
+    ap (restarted_from (es ++ p ∷ [])) (last_checkpoint-push es p none)
+    ∙ ap (λ (l : List LoggedChange). behind l (redone c.redo (es ++ p ∷ []))) (roots_stay es (p ∷ []) c.at c.roots (at, tt))
+    ∙ ap (behind (rows_of_roots es c.at c.roots)) (redone-in c.redo es p redo)
+    ∙ sym (behind-entry (rows_of_roots es c.at c.roots) p.0 p.1 (redone c.redo es))

@@ -1,5 +1,5 @@
 -- A log that an environment works on, one entry longer.
-use Rattle.std.proofs.Common.{◌≡◌, ℕ, ◌+◌, ◌<◌, ◌≤◌, ◌==◌, nat_le, Bool, true, false, cond, List, [], ◌∷◌, ◌++◌, Option, None, Some, filter, refl, sym, ap, subst, ◌∙◌, arith, ◌⊎◌, inl, inr}
+use Rattle.std.proofs.Common.{◌≡◌, ℕ, ◌+◌, ◌<◌, ◌≤◌, ◌==◌, nat_le, Bool, true, false, cond, List, [], ◌∷◌, ◌++◌, Option, None, Some, unwrap_or, filter, refl, sym, ap, subst, ◌∙◌, arith, ◌⊎◌, inl, inr}
 use Rattle.std.specs.Prelude.{◌≢◌, ◌&&◌, ◌||◌}
 use Rattle.std.proofs.lemmas.Bool.{true≢false, and_parts, leb-true, leb-false, le-leb, lt-leb, eqb-true, eqb-false, eq-eqb, ne_eqb, cond-true, cond-false, cases_lt, cases_Bool}
 use Rattle.std.proofs.lemmas.Option.{none-some, same_Some}
@@ -21,10 +21,10 @@ use Rattle.log_trees.specs.Trees.{rows_of_roots}
 use Rattle.log_trees.proofs.Staying.{roots_stay}
 use Rattle.log_trees.proofs.Rooted.{last_of-append}
 use Rattle.log_meaning.specs.Redo.{Redo, nothing_redone, pushed, emptied, set_at, unset_at, redo_entry, redone, record_at, newest}
-use Rattle.log_meaning.specs.Checkpoint.{Checkpoint, checkpoint_in, last_end, behind, restarted_by, restarted}
+use Rattle.log_meaning.specs.Checkpoint.{Checkpoint, no_checkpoint, checkpoint_in, last_end, last_checkpoint, behind, restarted_from, restarted}
 use Rattle.log_meaning.specs.Stands.{pick, Rises, has, Stands, Covered}
 use Rattle.log_meaning.specs.Growth.{is_neutral, StandsNeutral, IsFreeFor, StandsPut, StandsDelete, StandsCommit, StandsEnd, StandsFewer, StandsOpen}
-use Rattle.log_meaning.proofs.RedoLaws.{redone-in, redone-out, redone-none, last_end-push, restarted-push}
+use Rattle.log_meaning.proofs.RedoLaws.{redone-in, redone-out, redone-none, last_end-push, last_checkpoint-push, restarted-push}
 use Rattle.log_meaning.proofs.Lasts.{last-holds, last-unchanged, last-value, last-tied, rises-none, rises-push, pick_there, redo_changes, all_from, none_from}
 
 -- the sets of what an environment has
@@ -39,17 +39,17 @@ Own = ℕ → List LoggedChange
 
 -- ---- what the longer log reaches back to
 
-reach-push : (es : List Placed) (next : ℕ) (p : Placed) → checkpoint_in p.0 p.1 ≡ None → next < p.0 →
-    ((c : Checkpoint) → last_end es ≡ Some c → (c.at ≤ next) × (c.redo ≤ next)) → (c : Checkpoint) → last_end (es ++ p ∷ []) ≡ Some c → (c.at ≤ p.0) × (c.redo ≤ p.0)
-reach-push es next p none lt reach c is =
-    let both = reach c (sym (last_end-push es p ∙ ap (λ (o : Option Checkpoint). or_else o (last_end es)) none) ∙ is) in
-    let at = both.0 in let redo = both.1 in
-    (omega (arith, at, lt), omega (arith, redo, lt))
+reach-push : (es : List Placed) (next : ℕ) (p : Placed) → checkpoint_in p.0 p.1 ≡ None → next < p.0 → ((last_checkpoint es).at ≤ next) × ((last_checkpoint es).redo ≤ next) →
+    ((last_checkpoint (es ++ p ∷ [])).at ≤ p.0) × ((last_checkpoint (es ++ p ∷ [])).redo ≤ p.0)
+reach-push es next p none lt reach =
+    let at = reach.0 in let redo = reach.1 in
+    subst (λ (c : Checkpoint). (c.at ≤ p.0) × (c.redo ≤ p.0)) (sym (last_checkpoint-push es p none)) (omega (arith, at, lt), omega (arith, redo, lt))
 
-restarted-on : (es : List Placed) (next : ℕ) (p : Placed) → checkpoint_in p.0 p.1 ≡ None → next < p.0 →
-    ((c : Checkpoint) → last_end es ≡ Some c → (c.at ≤ next) × (c.redo ≤ next)) → restarted (es ++ p ∷ []) ≡ redo_entry p.0 p.1 (restarted es)
+restarted-on : (es : List Placed) (next : ℕ) (p : Placed) → checkpoint_in p.0 p.1 ≡ None → next < p.0 → ((last_checkpoint es).at ≤ next) × ((last_checkpoint es).redo ≤ next) →
+    restarted (es ++ p ∷ []) ≡ redo_entry p.0 p.1 (restarted es)
 restarted-on es next p none lt reach =
-    restarted-push es p none (λ c is. let both = reach c is in let at = both.0 in let redo = both.1 in (omega (arith, at, lt), omega (arith, redo, lt)))
+    let at = reach.0 in let redo = reach.1 in
+    restarted-push es p none (omega (arith, at, lt)) (omega (arith, redo, lt))
 
 -- ---- an entry that changes nothing
 
@@ -82,7 +82,7 @@ own-later base next at cs lt all =
 -- what concerns the redo of a log where a passed entry is one more
 stands-passed : (es : List Placed) (base next at : ℕ) (is_open : Flags) (rows : Data) (is_live : Flags) (logged : Own) (entry : Entry) →
     Stands es base next is_open rows is_live logged → next < at → ((redo : Redo) → redo_entry at entry redo ≡ redo) →
-    ((c : Checkpoint) → last_end (es ++ (at, entry) ∷ []) ≡ Some c → (c.at ≤ at) × (c.redo ≤ at)) →
+    ((last_checkpoint (es ++ (at, entry) ∷ [])).at ≤ at) × ((last_checkpoint (es ++ (at, entry) ∷ [])).redo ≤ at) →
     ((d : ℕ) (x : Name) → is_open d ≡ true → (record_at (restarted (es ++ (at, entry) ∷ [])) d x).value ≡ rows d x) →
     ((t : ℕ) → is_live t ≡ true → (restarted (es ++ (at, entry) ∷ [])).pending t ≡ logged t) →
     Stands (es ++ (at, entry) ∷ []) base at is_open rows is_live logged
@@ -347,19 +347,20 @@ pub stands_end : StandsEnd
 stands_end es base next at is_open rows is_live logged number start redo last_txn last_node last_db summary roots s lt low high covered own_high =
     stands-passed es base next at is_open rows is_live logged (CkptEnd number start redo last_txn last_node last_db summary roots) s lt (λ r. refl) reach same own
   where
+    ended : Checkpoint
+    ended = record { at = at; number = number; redo = redo; last_txn = last_txn.0; last_node = last_node; last_db = last_db; roots = roots }
+
+    is_last : last_checkpoint (es ++ (at, CkptEnd number start redo last_txn last_node last_db summary roots) ∷ []) ≡ ended
+    is_last = ap (λ (o : Option Checkpoint). unwrap_or o no_checkpoint) (last_end-push es (at, CkptEnd number start redo last_txn last_node last_db summary roots))
+
     again : restarted (es ++ (at, CkptEnd number start redo last_txn last_node last_db summary roots) ∷ []) ≡ behind (rows_of_roots es at roots) (redone redo es)
     again =
-        ap (restarted_by (es ++ (at, CkptEnd number start redo last_txn last_node last_db summary roots) ∷ []))
-        (last_end-push es (at, CkptEnd number start redo last_txn last_node last_db summary roots))
-        ∙ ap (λ (l : List LoggedChange). behind l (redone redo (es ++ (at, CkptEnd number start redo last_txn last_node last_db summary roots) ∷ [])))
-        (roots_stay es ((at, CkptEnd number start redo last_txn last_node last_db summary roots) ∷ []) at roots (omega arith, tt))
+        ap (restarted_from (es ++ (at, CkptEnd number start redo last_txn last_node last_db summary roots) ∷ [])) is_last
+        ∙ ap (λ (l : List LoggedChange). behind l (redone redo (es ++ (at, CkptEnd number start redo last_txn last_node last_db summary roots) ∷ []))) (roots_stay es ((at, CkptEnd number start redo last_txn last_node last_db summary roots) ∷ []) at roots (omega arith, tt))
         ∙ ap (behind (rows_of_roots es at roots)) (redone-passed redo es (at, CkptEnd number start redo last_txn last_node last_db summary roots) (λ r. refl))
 
-    reach : (c : Checkpoint) → last_end (es ++ (at, CkptEnd number start redo last_txn last_node last_db summary roots) ∷ []) ≡ Some c → (c.at ≤ at) × (c.redo ≤ at)
-    reach c is =
-        let made : Checkpoint = record { at = at; number = number; redo = redo; last_txn = last_txn.0; last_node = last_node; last_db = last_db; roots = roots } in
-        let same : made ≡ c = same_Some made c (sym (last_end-push es (at, CkptEnd number start redo last_txn last_node last_db summary roots)) ∙ is) in
-        subst (λ (k : Checkpoint). (k.at ≤ at) × (k.redo ≤ at)) same (omega arith, omega (arith, high, lt))
+    reach : ((last_checkpoint (es ++ (at, CkptEnd number start redo last_txn last_node last_db summary roots) ∷ [])).at ≤ at) × ((last_checkpoint (es ++ (at, CkptEnd number start redo last_txn last_node last_db summary roots) ∷ [])).redo ≤ at)
+    reach = subst (λ (k : Checkpoint). (k.at ≤ at) × (k.redo ≤ at)) (sym is_last) (omega arith, omega (arith, high, lt))
 
     by_covered : (d : ℕ) (x : Name) → is_open d ≡ true → (b : Bool) → nat_le redo (newest base es d x).at ≡ b →
         ((last_of d x (rows_of_roots es at roots) unwritten).value ≡ rows d x) ⊎ (redo ≤ (newest base es d x).at) →
@@ -397,19 +398,26 @@ stands_fewer es base next is_open fewer_open rows is_live fewer_live logged s op
 
 -- ---- a log that was found
 
+at_entry : (at : ℕ) (entry : Entry) (c : Checkpoint) → checkpoint_in at entry ≡ Some c → c.at ≡ at
+at_entry at (CkptEnd number start redo last_txn last_node last_db summary roots) c h =
+    let made : Checkpoint = record { at = at; number = number; redo = redo; last_txn = last_txn.0; last_node = last_node; last_db = last_db; roots = roots } in
+    sym (ap (λ (k : Checkpoint). k.at) (same_Some made c h))
+at_entry at entry c h = absurd (none-some c h)
+
 end_below : (es : List Placed) (base : ℕ) (c : Checkpoint) → AllByRecursion (λ p. p.0 < base) es → last_end es ≡ Some c → c.at < base
 end_below [] base c all is = absurd (none-some c is)
-end_below (p ∷ es) base c all is = by_end (last_end es) refl is (λ h. end_below es base c all.1 h)
+end_below (p ∷ es) base c all is = by_end (last_end es) refl is (end_below es base c all.1)
   where
-    at_entry : (at : ℕ) (entry : Entry) → checkpoint_in at entry ≡ Some c → c.at ≡ at
-    at_entry at (CkptEnd number start redo last_txn last_node last_db summary roots) h =
-        let made : Checkpoint = record { at = at; number = number; redo = redo; last_txn = last_txn.0; last_node = last_node; last_db = last_db; roots = roots } in
-        sym (ap (λ (k : Checkpoint). k.at) (same_Some made c h))
-    at_entry at entry h = absurd (none-some c h)
-
     by_end : (o : Option Checkpoint) → last_end es ≡ o → or_else o (checkpoint_in p.0 p.1) ≡ Some c → (last_end es ≡ Some c → c.at < base) → c.at < base
-    by_end None made h rest = let at : c.at ≡ p.0 = at_entry p.0 p.1 h in omega (arith, at, all.0)
+    by_end None made h rest = let at : c.at ≡ p.0 = at_entry p.0 p.1 c h in omega (arith, at, all.0)
     by_end (Some e) made h rest = rest (made ∙ h)
+
+last_below : (es : List Placed) (base : ℕ) → AllByRecursion (λ p. p.0 < base) es → (last_checkpoint es).at ≤ base
+last_below es base all = by_end (last_end es) refl
+  where
+    by_end : (o : Option Checkpoint) → last_end es ≡ o → (unwrap_or o no_checkpoint).at ≤ base
+    by_end None is = omega arith
+    by_end (Some c) is = let low = end_below es base c all is in omega (arith, low)
 
 pub stands_open : StandsOpen
 stands_open es base is_open rows is_live some below redo_low same own =
@@ -418,7 +426,7 @@ stands_open es base is_open rows is_live some below redo_low same own =
     let newest_is : (d : ℕ) (x : Name) → newest base es d x ≡ unwritten = λ d x. ap (λ (r : Redo). record_at r d x) (nothing base (omega arith)) in
     record {
       begun = omega arith;
-      reach = λ c is. let at = end_below es base c below is in (omega (arith, at), redo_low c is);
+      reach = (last_below es base below, redo_low);
       past = λ d x. subst (λ (w : Written). w.at ≤ base) (sym (newest_is d x)) (omega arith);
       past_own = λ t live. tt;
       same = same;

@@ -1,5 +1,5 @@
 -- The last checkpoint of a log, and the log read again from it.
-use Rattle.std.specs.Prelude.{ℕ, List, [], ◌∷◌, ◌++◌, Option, None, Some}
+use Rattle.std.specs.Prelude.{ℕ, List, [], ◌∷◌, ◌++◌, Option, None, Some, unwrap_or}
 use Rattle.log_entry.specs.declared.entry.Entry.{Entry}
 use Rattle.log_entry.specs.declared.entry.Entry.TheVariants.{CkptEnd}
 use Rattle.log_entry.specs.declared.root.Root.{Root}
@@ -30,14 +30,20 @@ abbrev pub last_end : List Placed → Option Checkpoint
 last_end [] = None
 last_end (p ∷ es) = or_else (last_end es) (checkpoint_in p.0 p.1)
 
+-- the checkpoint of a log that has none: no roots, and the whole log is redone
+abbrev pub no_checkpoint : Checkpoint
+no_checkpoint = record { at = 0; number = 0; redo = 0; last_txn = 0; last_node = 0; last_db = 0; roots = [] }
+
+abbrev pub last_checkpoint : List Placed → Checkpoint
+last_checkpoint es = unwrap_or (last_end es) no_checkpoint
+
 -- a redo over records that stood before it
 abbrev pub behind : List LoggedChange → Redo → Redo
 behind rows redo = record { done = rows ++ redo.done; pending = redo.pending }
 
--- the log read again: the trees of the last checkpoint's roots, and then the redo from its redo LSN on; without one, the redo of the whole log
-abbrev pub restarted_by : List Placed → Option Checkpoint → Redo
-restarted_by es None = redone 0 es
-restarted_by es (Some c) = behind (rows_of_roots es c.at c.roots) (redone c.redo es)
+-- the log read again from a checkpoint: the trees of its roots, and then the redo from its redo LSN on
+abbrev pub restarted_from : List Placed → Checkpoint → Redo
+restarted_from es c = behind (rows_of_roots es c.at c.roots) (redone c.redo es)
 
 abbrev pub restarted : List Placed → Redo
-restarted es = restarted_by es (last_end es)
+restarted es = restarted_from es (last_checkpoint es)

@@ -10,7 +10,7 @@ use Rattle.log_trees.specs.Placed.{Placed}
 use Rattle.log_trees.specs.Changes.{unwritten, LoggedChange, last_of}
 use Rattle.log_trees.specs.Trees.{rows_of_roots}
 use Rattle.log_meaning.specs.Redo.{pushed, emptied, set_at, unset_at, record_at}
-use Rattle.log_meaning.specs.Checkpoint.{Checkpoint, last_end, restarted}
+use Rattle.log_meaning.specs.Checkpoint.{last_checkpoint, restarted}
 use Rattle.log_meaning.specs.Stands.{has, Stands, Covered}
 
 -- whether an entry changes nothing that is read again: an image, a checkpoint's beginning, or a summary of files
@@ -68,7 +68,7 @@ StandsFewer = (es : List Placed) (base next : ℕ) (is_open fewer_open : ℕ →
 -- transaction's number is drawn again
 abbrev pub StandsOpen : Type 0
 StandsOpen = (es : List Placed) (base : ℕ) (is_open : ℕ → Bool) (rows : ℕ → Name → Option (List ℕ)) (is_live : ℕ → Bool)
-    → 0 < base → AllByRecursion (λ p. p.0 < base) es → ((c : Checkpoint) → last_end es ≡ Some c → c.redo ≤ base)
+    → 0 < base → AllByRecursion (λ p. p.0 < base) es → (last_checkpoint es).redo ≤ base
     → ((d : ℕ) (x : Name) → is_open d ≡ true → (record_at (restarted es) d x).value ≡ rows d x)
     → ((t : ℕ) → is_live t ≡ true → (restarted es).pending t ≡ [])
     → Stands es base base is_open rows is_live (λ t. [])

@@ -6,7 +6,7 @@ use Rattle.je_order.specs.declared.name.Name.{Name}
 use Rattle.log_trees.specs.Placed.{Placed}
 use Rattle.log_trees.specs.Changes.{Written, LoggedChange, is_of, last_of, changes_from}
 use Rattle.log_meaning.specs.Redo.{redone, record_at, newest}
-use Rattle.log_meaning.specs.Checkpoint.{Checkpoint, last_end, restarted}
+use Rattle.log_meaning.specs.Checkpoint.{last_checkpoint, restarted}
 
 -- the first, where it was written at an LSN or behind it, else the second
 abbrev pub pick : ℕ → Written → Written → Written
@@ -26,7 +26,7 @@ has d x changes = list_any (is_of d x) changes
 -- the active transactions, and numbers that were not drawn. `logged`: what each of these has logged
 pub record Stands (es : List Placed) (base next : ℕ) (is_open : ℕ → Bool) (rows : ℕ → Name → Option (List ℕ)) (is_live : ℕ → Bool) (logged : ℕ → List LoggedChange) : Type 0 where
   pub begun : base ≤ next
-  pub reach : (c : Checkpoint) → last_end es ≡ Some c → (c.at ≤ next) × (c.redo ≤ next)
+  pub reach : ((last_checkpoint es).at ≤ next) × ((last_checkpoint es).redo ≤ next)
   pub past : (d : ℕ) (x : Name) → (newest base es d x).at ≤ next
   pub past_own : (t : ℕ) → is_live t ≡ true → AllByRecursion (λ c. (base ≤ c.written.at) × (c.written.at ≤ next)) (logged t)
   -- read again, the log gives the records, and the active transactions' changes

@@ -5,6 +5,8 @@
 #![tactic(auto)]
 
 ghost use Rattle.log_meaning.specs.Growth.{StandsNeutral, StandsPut, StandsDelete, StandsCommit, StandsEnd, StandsFewer, StandsOpen};
+ghost use Rattle.log_meaning.specs.Listing.{ListedByName, ListedInOrder};
+ghost use Rattle.log_meaning.specs.Recovery.{StandsLeaves, RecoversFirst, RecoversPush, ImagesRecover};
 
 /// An entry more: an image, a change, a commit or a checkpoint's end.
 pub fn logs_grow()
@@ -19,4 +21,24 @@ pub fn logs_grow()
 pub fn logs_stand()
     ensures opened { StandsOpen }
     ensures fewer { StandsFewer }
+{}
+
+/// The records that changes leave, as lists, are those that they leave name by name, and their names rise.
+pub fn records_are_listed()
+    ensures named { ListedByName }
+    ensures order { ListedInOrder }
+{}
+
+/// A log that an environment works on leaves the environment's store, and recovers one transaction more with
+/// each commit.
+pub fn logs_recover()
+    ensures leaves { StandsLeaves }
+    ensures first { RecoversFirst }
+    ensures push { RecoversPush }
+{}
+
+/// What a crash leaves of a log that recovers transactions means the opening store changed by the first of
+/// them, at least as many as the entries that a crash keeps have commits of.
+pub fn images_recover()
+    ensures { ImagesRecover }
 {}
