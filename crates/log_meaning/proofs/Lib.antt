@@ -4,3 +4,5 @@ pub mod Standing
 pub mod Listing
 pub mod Leaving
 pub mod Images
+pub mod Replays
+pub mod Alike

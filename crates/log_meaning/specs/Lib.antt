@@ -6,3 +6,4 @@ pub mod Listing
 pub mod Meaning
 pub mod Reading
 pub mod Recovery
+pub mod Plain

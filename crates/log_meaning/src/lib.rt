@@ -6,6 +6,7 @@
 
 ghost use Rattle.log_meaning.specs.Growth.{StandsNeutral, StandsPut, StandsDelete, StandsCommit, StandsEnd, StandsFewer, StandsOpen};
 ghost use Rattle.log_meaning.specs.Listing.{ListedByName, ListedInOrder};
+ghost use Rattle.log_meaning.specs.Plain.{ReplayedAlike, ReadAlike};
 ghost use Rattle.log_meaning.specs.Recovery.{StandsLeaves, RecoversFirst, RecoversPush, ImagesRecover};
 
 /// An entry more: an image, a change, a commit or a checkpoint's end.
@@ -41,4 +42,10 @@ pub fn logs_recover()
 /// them, at least as many as the entries that a crash keeps have commits of.
 pub fn images_recover()
     ensures { ImagesRecover }
+{}
+
+/// A log of puts, deletes and commits alone means what a replay of the whole log gives, findings included.
+pub fn plain_logs_are_replayed()
+    ensures replayed { ReplayedAlike }
+    ensures read { ReadAlike }
 {}
