@@ -4,3 +4,5 @@ pub mod Bounds
 pub mod Shown
 pub mod Rooted
 pub mod Reading
+pub mod Names
+pub mod Right

@@ -44,7 +44,7 @@ delta_kept n m full slots is =
     let same : made ≡ m = (cond_some (nat_le (length all) 128) made m is).1 in
     sym (ap (λ (k : Node). k.db) same)
 
-delta_db : (base : Entry) (db number full : ℕ) (slots : List RecordSlot) (n : Node) → node_with base (BinDelta db number full slots) ≡ Some n → n.db ≡ db
+pub delta_db : (base : Entry) (db number full : ℕ) (slots : List RecordSlot) (n : Node) → node_with base (BinDelta db number full slots) ≡ Some n → n.db ≡ db
 delta_db (Bin d m records) db number full slots n is = by_test ((db == d) && (number == m)) refl is
   where
     by_test : (b : Bool) → ((db == d) && (number == m)) ≡ b → cond b (with_delta (bin_of d m records) full slots) None ≡ Some n → n.db ≡ db

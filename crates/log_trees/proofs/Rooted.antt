@@ -73,15 +73,16 @@ tree_level : (es : List Placed) (home : ℕ → ℕ → Name → Type 0) (d abov
 tree_level es home d zero low high at tree = ap level_of tree.image ∙ tree.level_is
 tree_level es home d (suc above) low high at tree = ap level_of tree.image ∙ tree.level_is
 
--- the records of a root's tree
-root_slots : (es : List Placed) (home : ℕ → Home) (end : ℕ) (root : Root) (is : IsRootAt es home end root) → slots_of_tree es root.image ≡ slots_at es is.above root.image
-root_slots es home end root is = ap (λ (n : ℕ). slots_by_level es n root.image) (tree_level es (at_home home root.db) root.db is.above least_name None root.image is.tree)
+-- the records that a root's tree gives
+pub root_rows_of : (es : List Placed) (home : ℕ → ℕ → Name → Type 0) (end above : ℕ) (root : Root) → root.image < end → IsTreeAt es home root.db above least_name None root.image →
+    rows_of_root es end root ≡ map (loaded es root.db) (slots_at es above root.image)
+root_rows_of es home end above root lower tree =
+    cond-true (nat_lt root.image end) (map (loaded es root.db) (slots_of_tree es root.image)) [] (lt-ltb root.image end lower)
+    ∙ ap (λ (n : ℕ). map (loaded es root.db) (slots_by_level es n root.image)) (tree_level es home root.db above least_name None root.image tree)
 
 pub root_rows : (es : List Placed) (home : ℕ → Home) (end : ℕ) (root : Root) (is : IsRootAt es home end root) →
     rows_of_root es end root ≡ map (loaded es root.db) (slots_at es is.above root.image)
-root_rows es home end root is =
-    cond-true (nat_lt root.image end) (map (loaded es root.db) (slots_of_tree es root.image)) [] (lt-ltb root.image end is.lower)
-    ∙ ap (map (loaded es root.db)) (root_slots es home end root is)
+root_rows es home end root is = root_rows_of es (at_home home root.db) end is.above root is.lower is.tree
 
 root_shows : (es : List Placed) (home : ℕ → Home) (end : ℕ) (root : Root) (x : Name) → IsRootAt es home end root →
     last_of root.db x (rows_of_root es end root) unwritten ≡ written_at es root.db x (tree_shows es root.image x)

@@ -17,8 +17,8 @@ use Rattle.log_trees.specs.Placed.{Placed, entry_at}
 use Rattle.log_trees.specs.Changes.{LoggedChange}
 use Rattle.log_trees.specs.Images.{NamedLsn, slots_shown, node_in, node_at, slots_of_level, image, level_of, level_at}
 use Rattle.log_trees.specs.Trees.{slots_at, found, child_behind, child_over, shows, data_in, data_of, loaded, slots_by_level, slots_of_tree, rows_of_root, rows_of_roots}
-use Rattle.log_trees.specs.Sound.{Child, children, IsNodeAt, IsRecordAt, IsTreeAt, Home, at_home}
-use Rattle.log_trees.specs.Laws.{AreBehind, SlotsStay, ShowsStay, RootsStay, TreesStay}
+use Rattle.log_trees.specs.Sound.{Child, children, IsNodeAt, IsRecordAt, IsTreeAt, Home, at_home, least_name, IsRootAt}
+use Rattle.log_trees.specs.Laws.{AreBehind, SlotsStay, ShowsStay, RootsStay, TreesStay, RootsStayRight}
 
 -- ---- lists
 
@@ -184,3 +184,12 @@ tree-stays_right es more home d (suc above) low high at behind tree = record {
 
 pub trees_stay : TreesStay
 trees_stay es more home d above low high at behind tree = tree-stays_right es more (at_home home d) d above low high at behind tree
+
+pub roots_stay_right : RootsStayRight
+roots_stay_right es more home end roots behind all =
+    all_weaker (IsRootAt es home end) (IsRootAt (es ++ more) home end)
+    (λ root is. let lower = is.lower in record {
+      lower = is.lower;
+      above = is.above;
+      tree = trees_stay es more home root.db is.above least_name None root.image (all_weaker (λ (p : Placed). end ≤ p.0) (λ p. root.image < p.0) (λ p h. omega (arith, h, lower)) more behind) is.tree;
+    }) roots all

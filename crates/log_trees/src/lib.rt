@@ -4,7 +4,7 @@
 //! have nothing to do: their contracts are the laws.
 #![tactic(auto)]
 
-ghost use Rattle.log_trees.specs.Laws.{SlotsStay, ShowsStay, RootsStay, TreesStay, ShowsAreSlots, RootsShow, RootsAreRead};
+ghost use Rattle.log_trees.specs.Laws.{SlotsStay, ShowsStay, RootsStay, TreesStay, ShowsAreSlots, RootsShow, RootsAreRead, RootsStayRight, ReadTreesAreRight};
 ghost use Rattle.log_trees.specs.Placed.{PlacedAreEntries, PlacedGoLast, PlacedGoOn, PlacedAreInOrder};
 
 /// The entries of a log with their LSNs are the log's entries; an entry more is the last one, and LSNs rise.
@@ -21,6 +21,7 @@ pub fn trees_stay()
     ensures shows { ShowsStay }
     ensures roots { RootsStay }
     ensures trees { TreesStay }
+    ensures right { RootsStayRight }
 {}
 
 /// The records below the image of a right tree are those that it shows name by name.
@@ -29,7 +30,9 @@ pub fn trees_show_their_slots()
     ensures roots { RootsShow }
 {}
 
-/// Trees whose images are all there and right are read with no finding.
+/// Trees whose images are all there and right are read with no finding, and trees that are read with no
+/// finding are right.
 pub fn trees_are_read()
-    ensures { RootsAreRead }
+    ensures read { RootsAreRead }
+    ensures right { ReadTreesAreRight }
 {}
