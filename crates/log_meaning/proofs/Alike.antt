@@ -227,8 +227,8 @@ meaning_alike : (log : Log) → AllByRecursion (λ e. is_plain e ≡ true) (entr
 meaning_alike log plain =
     let make : Store → ℕ → ℕ → Result ReplayMeaning Finding = λ store txn db. let m : ReplayMeaning = record { store = store; last_txn = txn; last_db = db } in Ok m in
     let txn : max 0 (most (λ (p : Placed). txn_in p.1) (from 0 (placed log))) ≡ greatest txn_in (entries_of log) = let e = greatest_is txn_in log in omega (arith, e) in
-    let db : max 0 (max 0 (most (λ (p : Placed). db_number p.1) (from 0 (placed log)))) ≡ greatest db_in (entries_of log) = let e = db_is log plain in omega (arith, e) in
-    ap (λ (s : Store). make s (max 0 (most (λ (p : Placed). txn_in p.1) (from 0 (placed log)))) (max 0 (max 0 (most (λ (p : Placed). db_number p.1) (from 0 (placed log)))))) (ap store_of (sym (replayed_alike log plain).0))
+    let db : max 0 (max 0 (max 0 (most (λ (p : Placed). db_number p.1) (from 0 (placed log))))) ≡ greatest db_in (entries_of log) = let e = db_is log plain in omega (arith, e) in
+    ap (λ (s : Store). make s (max 0 (most (λ (p : Placed). txn_in p.1) (from 0 (placed log)))) (max 0 (max 0 (max 0 (most (λ (p : Placed). db_number p.1) (from 0 (placed log))))))) (ap store_of (sym (replayed_alike log plain).0))
     ∙ ap₂ (λ (a b : ℕ). make (store_of (replayed (entries_of log) nothing_replayed).rows) a b) txn db
 
 judged_alike : (log : Log) → AllByRecursion (λ e. is_plain e ≡ true) (entries_of log) → AllByRecursion (λ (p : Placed). p.0 < 2 ^ 64) (placed log) →

@@ -7,14 +7,13 @@ use Rattle.je_model.specs.declared.store.Store.{Store}
 use Rattle.je_model.specs.Store.{store_after}
 use Rattle.log_file.specs.Log.{Log, log_in}
 use Rattle.log_replay.specs.declared.finding.Finding.{Finding}
-use Rattle.log_replay.specs.declared.finding.Finding.TheVariants.{Tree}
 use Rattle.log_replay.specs.Rows.{is_environment}
 use Rattle.log_replay.specs.Reading.{finding_in, gap_behind, gap_in}
 use Rattle.log_replay.proofs.ListLaws.{all_weaker, filter-all}
 use Rattle.log_replay.proofs.WrongLaws.{environment_is_none}
 use Rattle.log_trees.specs.Placed.{Placed, placed}
 use Rattle.log_trees.specs.Trees.{rows_of_roots}
-use Rattle.log_trees.specs.Walk.{and_then, Walk, read_roots}
+use Rattle.log_trees.specs.Walk.{and_then, Walk, nowhere, read_roots}
 use Rattle.log_meaning.specs.Redo.{Redo, record_at}
 use Rattle.log_meaning.specs.Checkpoint.{Checkpoint, last_end, last_checkpoint, restarted}
 use Rattle.log_meaning.specs.Meaning.{Meaning, rows_of, meaning_of, lsn_there, wrong_lsn}
@@ -80,10 +79,10 @@ gap_from-none f n (m ∷ ms) le none = by_order (cases_lt n f) (gap_from-none f 
 -- nothing is wrong with the files from the redo LSN on
 no_redo_finding : (first : ℕ) (files : List ℕ) (o : Option Checkpoint) → gap_in files ≡ None → IsFirstFile first files → IsRedoLsn first o → redo_finding files o ≡ None
 no_redo_finding first files None gap begins is = ap missing gap
-no_redo_finding first [] (Some c) gap begins is = cond-true (nat_lt c.redo c.at) (missing (gap_from (c.redo / 2 ^ 32) [])) (Some (Tree c.redo)) (lt-ltb c.redo c.at is.0)
+no_redo_finding first [] (Some c) gap begins is = cond-true (nat_lt c.redo c.at) (missing (gap_from (c.redo / 2 ^ 32) [])) (Some (nowhere [] c.redo)) (lt-ltb c.redo c.at is.0)
 no_redo_finding first (n ∷ ns) (Some c) gap begins is =
     let low : n ≤ c.redo / 2 ^ 32 = subst (λ (k : ℕ). k ≤ c.redo / 2 ^ 32) (sym begins) is.1 in
-    cond-true (nat_lt c.redo c.at) (missing (gap_from (c.redo / 2 ^ 32) (n ∷ ns))) (Some (Tree c.redo)) (lt-ltb c.redo c.at is.0)
+    cond-true (nat_lt c.redo c.at) (missing (gap_from (c.redo / 2 ^ 32) (n ∷ ns))) (Some (nowhere (n ∷ ns) c.redo)) (lt-ltb c.redo c.at is.0)
     ∙ ap missing (gap_from-none (c.redo / 2 ^ 32) n ns low gap)
 
 -- ---- the whole

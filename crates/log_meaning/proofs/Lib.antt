@@ -6,3 +6,4 @@ pub mod Leaving
 pub mod Images
 pub mod Replays
 pub mod Alike
+pub mod Opened

@@ -43,7 +43,7 @@ db_number entry = db_in entry
 
 -- the database number in a catalog record that a root gives
 abbrev pub db_given : LoggedChange → ℕ
-db_given change = if change.db == 0 then unwrap_or (option_map number_in change.written.value) 0 else change.db
+db_given change = if change.db == 0 then unwrap_or (option_map number_in change.written.value) 0 else 0
 
 -- the greatest number of a list, 0 where there is none
 abbrev pub most : {A : Type 0} → (A → ℕ) → List A → ℕ
@@ -58,7 +58,7 @@ meaning_of es c walk = record {
   store = store_of (rows_of (behind walk.rows (redone c.redo es)));
   last_txn = max c.last_txn (most (λ p. txn_in p.1) (from c.redo es));
   last_node = max c.last_node (max (most (λ n. n) walk.seen) (most (λ p. node_number p.1) (from c.redo es)));
-  last_db = max c.last_db (max (most db_given walk.rows) (most (λ p. db_number p.1) (from c.redo es)));
+  last_db = max c.last_db (max (most (λ r. r.db) c.roots) (max (most db_given walk.rows) (most (λ p. db_number p.1) (from c.redo es))));
   checkpoint = c.number;
 }
 

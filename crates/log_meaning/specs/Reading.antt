@@ -6,7 +6,7 @@ use Rattle.log_replay.specs.declared.finding.Finding.{Finding}
 use Rattle.log_replay.specs.declared.finding.Finding.TheVariants.{Missing, Tree}
 use Rattle.log_replay.specs.Reading.{lsn_at, finding_in, gap_behind, gap_in}
 use Rattle.log_trees.specs.Placed.{Placed, placed}
-use Rattle.log_trees.specs.Walk.{and_then, Walk, read_roots}
+use Rattle.log_trees.specs.Walk.{and_then, Walk, nowhere, read_roots}
 use Rattle.log_meaning.specs.Redo.{redone}
 use Rattle.log_meaning.specs.Checkpoint.{Checkpoint, last_end, last_checkpoint, behind}
 use Rattle.log_meaning.specs.Meaning.{Meaning, meaning_of, wrong_lsn}
@@ -28,7 +28,7 @@ missing gap = option_map (λ n. Missing (lsn_at n 0)) gap
 -- without a checkpoint, each from the first one on
 abbrev pub redo_finding : List ℕ → Option Checkpoint → Option Finding
 redo_finding files None = missing (gap_in files)
-redo_finding files (Some c) = if nat_lt c.redo c.at then missing (gap_from (c.redo / 2 ^ 32) files) else Some (Tree c.redo)
+redo_finding files (Some c) = if nat_lt c.redo c.at then missing (gap_from (c.redo / 2 ^ 32) files) else Some (nowhere files c.redo)
 
 -- ---- the whole
 

@@ -7,6 +7,7 @@ use Rattle.je_model.specs.declared.store.Store.{Store}
 use Rattle.je_model.specs.Store.{store_after}
 use Rattle.log_entry.specs.declared.entry.Entry.{Entry}
 use Rattle.log_entry.specs.declared.entry.Entry.TheVariants.{Commit}
+use Rattle.log_entry.specs.Body.{IsEntry}
 use Rattle.log_file.specs.Log.{Log, log_in}
 use Rattle.log_replay.specs.Rows.{Rows, data_at, numbers_of, is_environment, store_of, IsRising}
 use Rattle.log_replay.specs.Reading.{finding_in, gap_in}
@@ -62,6 +63,16 @@ StandsLeaves = (first : ℕ) (es : List Placed) (base next : ℕ) (is_open : ℕ
     → ((d : ℕ) → IsRising (kept d)) → ((d : ℕ) (x : Name) → is_open d ≡ true → data_at x (kept d) ≡ rows d x)
     → is_open 0 ≡ true → AllByRecursion (λ n. is_open n ≡ true) (numbers_of kept) → is_environment kept ≡ true
     → Leaves first es (store_of kept)
+
+-- files that are read with no finding leave the store that they mean, and the trees of their last checkpoint are right
+pub record IsOpened (first : ℕ) (es : List Placed) (meaning : Meaning) : Type 0 where
+  pub leaves : Leaves first es meaning.store
+  pub home : ℕ → Home
+  pub right : AllByRecursion (IsRootAt es home (last_checkpoint es).at) (last_checkpoint es).roots
+
+abbrev pub ReadFilesLeave : Type 0
+ReadFilesLeave = (first : ℕ) (later : List ℕ) (held : List (ℕ × List ℕ)) (meaning : Meaning) → map (λ file. file.0) held ≡ first ∷ later
+    → AllByRecursion (λ p. IsEntry p.1) (placed (log_in held)) → reading_of held ≡ Ok meaning → IsOpened first (placed (log_in held)) meaning
 
 -- a log that leaves a store recovers it, and no transactions
 abbrev pub RecoversFirst : Type 0

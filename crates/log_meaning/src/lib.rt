@@ -7,7 +7,7 @@
 ghost use Rattle.log_meaning.specs.Growth.{StandsNeutral, StandsPut, StandsDelete, StandsCommit, StandsEnd, StandsFewer, StandsOpen};
 ghost use Rattle.log_meaning.specs.Listing.{ListedByName, ListedInOrder};
 ghost use Rattle.log_meaning.specs.Plain.{ReplayedAlike, ReadAlike};
-ghost use Rattle.log_meaning.specs.Recovery.{StandsLeaves, RecoversFirst, RecoversPush, ImagesRecover};
+ghost use Rattle.log_meaning.specs.Recovery.{StandsLeaves, RecoversFirst, RecoversPush, ReadFilesLeave, ImagesRecover};
 
 /// An entry more: an image, a change, a commit or a checkpoint's end.
 pub fn logs_grow()
@@ -30,9 +30,10 @@ pub fn records_are_listed()
     ensures order { ListedInOrder }
 {}
 
-/// A log that an environment works on leaves the environment's store, and recovers one transaction more with
-/// each commit.
+/// Files that are read with no finding leave the store that they mean. A log that an environment works on
+/// leaves the environment's store, and recovers one transaction more with each commit.
 pub fn logs_recover()
+    ensures read { ReadFilesLeave }
     ensures leaves { StandsLeaves }
     ensures first { RecoversFirst }
     ensures push { RecoversPush }

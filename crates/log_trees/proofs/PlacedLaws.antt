@@ -12,7 +12,7 @@ use Rattle.log_file.specs.Scan.{sizes_of}
 use Rattle.log_file.specs.Log.{Log, IsLog, AreFileEntries, entries_of}
 use Rattle.log_replay.specs.Reading.{lsn_at}
 use Rattle.log_replay.proofs.ListLaws.{all_weaker, all_append}
-use Rattle.log_trees.specs.Placed.{Placed, placed_from, placed, AreInOrder, PlacedAreEntries, PlacedGoLast, PlacedGoOn, PlacedAreInOrder}
+use Rattle.log_trees.specs.Placed.{Placed, placed_from, placed, AreInOrder, PlacedAreEntries, PlacedGoLast, PlacedGoOn, IsLogFront, HasFirst, FrontsArePlaced, PlacedAreInOrder}
 
 -- an entry of file f at an offset
 abbrev at_offset : ℕ → ℕ → Entry → Placed
@@ -44,6 +44,27 @@ placed_go_last before f entries entry =
 
 pub placed_go_on : PlacedGoOn
 placed_go_on before f entry = placed-append before ((f, entry ∷ []) ∷ [])
+
+placed_from-append : (f at : ℕ) (a b : List Entry) → placed_from f at (a ++ b) ≡ placed_from f at a ++ placed_from f (at + sizes_of a) b
+placed_from-append f at [] b = let same : at ≡ at + 0 = omega arith in ap (λ (n : ℕ). placed_from f n b) same
+placed_from-append f at (x ∷ a) b =
+    let same : at + size_of x + sizes_of a ≡ at + (size_of x + sizes_of a) = omega arith in
+    ap (λ (l : List Placed). at_offset f at x ∷ l)
+    (placed_from-append f (at + size_of x) a b ∙ ap (λ (n : ℕ). placed_from f (at + size_of x) a ++ placed_from f n b) same)
+
+pub fronts_are_placed : FrontsArePlaced
+fronts_are_placed log front is = record {
+  rest = placed_from is.file (26 + sizes_of is.entries) is.more ++ placed is.later;
+  are =
+      ap placed is.log_is
+      ∙ placed-append is.before ((is.file, is.entries ++ is.more) ∷ is.later)
+      ∙ ap (λ (l : List Placed). placed is.before ++ (l ++ placed is.later)) (placed_from-append is.file 26 is.entries is.more)
+      ∙ ap (λ (l : List Placed). placed is.before ++ l)
+      (append_assoc (placed_from is.file 26 is.entries) (placed_from is.file (26 + sizes_of is.entries) is.more) (placed is.later))
+      ∙ sym (append_assoc (placed is.before) (placed_from is.file 26 is.entries) (placed_from is.file (26 + sizes_of is.entries) is.more ++ placed is.later))
+      ∙ ap (λ (l : List Placed). l ++ (placed_from is.file (26 + sizes_of is.entries) is.more ++ placed is.later))
+      (sym (ap placed is.front_is ∙ placed-one is.before is.file is.entries));
+}
 
 -- ---- without their LSNs
 

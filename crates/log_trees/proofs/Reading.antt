@@ -28,7 +28,7 @@ use Rattle.log_trees.specs.Changes.{LoggedChange}
 use Rattle.log_trees.specs.Images.{NamedLsn, slots_shown, node_in, node_at, image}
 use Rattle.log_trees.specs.Trees.{slots_at, data_in, data_of, loaded, rows_of_root, rows_of_roots}
 use Rattle.log_trees.specs.Sound.{least_name, is_below, is_within, are_within, AreUp, Child, children, IsNodeAt, IsRecordAt, IsTreeAt, Home, at_home, IsRootAt}
-use Rattle.log_trees.specs.Walk.{and_then, each, Walk, is_bin_of, node_read, delta_by, delta_with, delta_on, image_in, image_by, read_image, may_stand, node_standing, read_here, met, with_record, record_in, record_by, read_record, read_child, read_node, read_level, read_root, read_roots}
+use Rattle.log_trees.specs.Walk.{and_then, each, Walk, nowhere, is_bin_of, node_read, delta_by, delta_with, delta_on, image_in, image_by, read_image, may_stand, node_standing, read_here, met, with_record, record_in, record_by, read_record, read_child, read_node, read_level, read_root, read_roots}
 use Rattle.log_trees.specs.Laws.{RootsAreRead}
 use Rattle.log_trees.proofs.Bounds.{less_of, below_more, above_more, within_parts, within_next, not_below_itself}
 use Rattle.log_trees.proofs.Shown.{leaf_image, inner_image, node_within}
@@ -67,7 +67,7 @@ image_in-ok files es d at (BinDelta db number full slots) n is n_db = by_lower (
         ∙ ap (λ (o : Option Node). delta_by o (Tree (if is_bin_of db number base then at else full))) h
 
     by_lower : (b : Bool) → cond b (option_and_then (λ base. node_with base (BinDelta db number full slots)) (entry_at es full)) None ≡ Some n →
-        cond (db == d) (cond b (delta_on files at db number full (BinDelta db number full slots) (entry_at es full)) (Err (Tree full))) (Err (Tree at)) ≡ Ok n
+        cond (db == d) (cond b (delta_on files at db number full (BinDelta db number full slots) (entry_at es full)) (Err (nowhere files full))) (Err (Tree at)) ≡ Ok n
     by_lower true h = by_base (entry_at es full) h
     by_lower false h = absurd (none-some n h)
 image_in-ok files es d at entry n is n_db = read_of d at (node_of entry) n is n_db
@@ -85,7 +85,7 @@ read_image-ok files es d at n is n_db = by_entry (entry_at es at) is
 record-ok : (files : List ℕ) (es : List Placed) (d at : ℕ) (s : NamedLsn) (walk : Walk) → IsRecordAt es d at s →
     read_record files es d at s walk ≡ Ok (record { seen = walk.seen; rows = walk.rows ++ loaded es d s ∷ [] })
 record-ok files es d at s walk is =
-    cond-true (nat_lt s.1 at) (record_by files d s walk (entry_at es s.1)) (Err (Tree s.1)) (lt-ltb s.1 at is.0)
+    cond-true (nat_lt s.1 at) (record_by files d s walk (entry_at es s.1)) (Err (nowhere files s.1)) (lt-ltb s.1 at is.0)
     ∙ by_entry (entry_at es s.1) is.2
     ∙ ap made (sym is.2)
   where
@@ -187,7 +187,7 @@ children-ok : (files : List ℕ) (es : List Placed) (home : ℕ → Home) (d abo
     (low : Name) (high : Option Name) (slots : List NamedLsn) (walk : Walk) →
     AllByRecursion (λ (c : Child). (c.at < at) × IsTreeAt es (at_home home d) d above c.low c.high c.at) (children low high slots) →
     AllByRecursion (λ s. is_within low high s.0 ≡ true) slots → AreUp slots → NoneIn home d above low high walk.seen →
-    IsMet home d above low high (map (loaded es d) (flat_map (λ (s : NamedLsn). slots_at es above s.1) slots)) walk (each (read_child (read_node files es d above) at) (children low high slots) walk)
+    IsMet home d above low high (map (loaded es d) (flat_map (λ (s : NamedLsn). slots_at es above s.1) slots)) walk (each (read_child files (read_node files es d above) at) (children low high slots) walk)
 children-ok files es home d above at goes low high [] walk trees within up none = record { met_ = []; is = ap (done walk.seen) (sym (append-nil walk.rows)); homes = tt }
   where
     done : List ℕ → List LoggedChange → Result Walk Finding
@@ -199,7 +199,7 @@ children-ok files es home d above at goes low high (s ∷ []) walk trees within 
       met_ = first.met_;
       is =
           ap (λ (r : Result Walk Finding). and_then r (λ w. Ok w))
-          (cond-true (nat_lt s.1 at) (read_node files es d above low high s.1 walk) (Err (Tree s.1)) (lt-ltb s.1 at trees.0.0) ∙ first.is)
+          (cond-true (nat_lt s.1 at) (read_node files es d above low high s.1 walk) (Err (nowhere files s.1)) (lt-ltb s.1 at trees.0.0) ∙ first.is)
           ∙ ap (λ (l : List NamedLsn). done (first.met_ ++ walk.seen) (walk.rows ++ map (loaded es d) l)) (sym (append-nil (slots_at es above s.1)));
       homes = first.homes;
     }
@@ -221,8 +221,8 @@ children-ok files es home d above at goes low high (s ∷ n ∷ slots) walk tree
     record {
       met_ = rest.met_ ++ first.met_;
       is =
-          ap (λ (r : Result Walk Finding). and_then r (each (read_child (read_node files es d above) at) (children n.0 high (n ∷ slots))))
-          (cond-true (nat_lt s.1 at) (read_node files es d above low (Some n.0) s.1 walk) (Err (Tree s.1)) (lt-ltb s.1 at trees.0.0) ∙ first.is)
+          ap (λ (r : Result Walk Finding). and_then r (each (read_child files (read_node files es d above) at) (children n.0 high (n ∷ slots))))
+          (cond-true (nat_lt s.1 at) (read_node files es d above low (Some n.0) s.1 walk) (Err (nowhere files s.1)) (lt-ltb s.1 at trees.0.0) ∙ first.is)
           ∙ rest.is
           ∙ ap (λ (l : List ℕ). done l ((walk.rows ++ map (loaded es d) (slots_at es above s.1)) ++ map (loaded es d) others)) (sym (append_assoc rest.met_ first.met_ walk.seen))
           ∙ ap (done ((rest.met_ ++ first.met_) ++ walk.seen))
@@ -267,7 +267,7 @@ node-ok files es home d (suc above) low high at walk tree below none =
     record {
       met_ = rest.met_ ++ n.number ∷ [];
       is =
-          ap (λ (r : Result Node Finding). and_then r (λ m. each (read_child (read_node files es d above) at) (children low high (slots_shown m)) (met m walk)))
+          ap (λ (r : Result Node Finding). and_then r (λ m. each (read_child files (read_node files es d above) at) (children low high (slots_shown m)) (met m walk)))
           (here-ok files es home d (suc above) (suc (suc above)) low high at walk.seen n tree.image tree.db tree.level_is tree.within tree.home below none)
           ∙ rest.is
           ∙ ap (λ (l : List ℕ). done l (walk.rows ++ map (loaded es d) (flat_map (λ (s : NamedLsn). slots_at es above s.1) (slots_shown n)))) (sym (append_assoc rest.met_ (n.number ∷ []) walk.seen))
@@ -301,7 +301,7 @@ root-ok files es home end root walk is before =
         all_weaker (λ m. (home m).db < root.db) (λ m. IsIn root.db is.above least_name None (home m) → ⊥) (λ m h k. let e = k.db in omega (arith, h, e)) walk.seen before in
     let tree = node-ok files es home root.db is.above least_name None root.image walk is.tree refl none in (
       tree.met_ ++ walk.seen,
-      cond-true (nat_lt root.image end) (and_then (read_image files es root.db root.image) (λ n. read_level files es root.db n.level root.image walk)) (Err (Tree root.image)) (lt-ltb root.image end is.lower)
+      cond-true (nat_lt root.image end) (and_then (read_image files es root.db root.image) (λ n. read_level files es root.db n.level root.image walk)) (Err (nowhere files root.image)) (lt-ltb root.image end is.lower)
           ∙ ap (λ (r : Result Node Finding). and_then r (λ n. read_level files es root.db n.level root.image walk)) (read_image-ok files es root.db root.image top.0 top.1 top.2)
           ∙ ap (λ (l : ℕ). read_level files es root.db l root.image walk) top.3
           ∙ tree.is

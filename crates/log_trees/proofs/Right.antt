@@ -59,8 +59,8 @@ node_read-is d at (Some m) n h =
 image_in-is : (files : List ℕ) (es : List Placed) (d at : ℕ) (entry : Entry) (n : Node) → image_in files es d at entry ≡ Ok n → (node_in es at entry ≡ Some n) × (n.db ≡ d)
 image_in-is files es d at (BinDelta db number full slots) n h = by_lower (nat_lt full at) outer.1
   where
-    outer : ((db == d) ≡ true) × (cond (nat_lt full at) (delta_on files at db number full (BinDelta db number full slots) (entry_at es full)) (Err (Tree full)) ≡ Ok n)
-    outer = passed (db == d) (cond (nat_lt full at) (delta_on files at db number full (BinDelta db number full slots) (entry_at es full)) (Err (Tree full))) (Tree at) n h
+    outer : ((db == d) ≡ true) × (cond (nat_lt full at) (delta_on files at db number full (BinDelta db number full slots) (entry_at es full)) (Err (nowhere files full)) ≡ Ok n)
+    outer = passed (db == d) (cond (nat_lt full at) (delta_on files at db number full (BinDelta db number full slots) (entry_at es full)) (Err (nowhere files full))) (Tree at) n h
 
     joined : (base : Entry) (finding : Finding) (o : Option Node) → node_with base (BinDelta db number full slots) ≡ o → delta_by o finding ≡ Ok n → node_with base (BinDelta db number full slots) ≡ Some n
     joined base finding None made k = not_ok finding n k
@@ -73,10 +73,10 @@ image_in-is files es d at (BinDelta db number full slots) n h = by_lower (nat_lt
         let is = joined base (Tree (if is_bin_of db number base then at else full)) (node_with base (BinDelta db number full slots)) refl k in
         (is, delta_db base db number full slots n is ∙ eqb-true db d outer.0)
 
-    by_lower : (b : Bool) → cond b (delta_on files at db number full (BinDelta db number full slots) (entry_at es full)) (Err (Tree full)) ≡ Ok n →
+    by_lower : (b : Bool) → cond b (delta_on files at db number full (BinDelta db number full slots) (entry_at es full)) (Err (nowhere files full)) ≡ Ok n →
         (cond b (option_and_then (λ base. node_with base (BinDelta db number full slots)) (entry_at es full)) None ≡ Some n) × (n.db ≡ d)
     by_lower true k = by_base (entry_at es full) k
-    by_lower false k = not_ok (Tree full) n k
+    by_lower false k = not_ok (nowhere files full) n k
 image_in-is files es d at entry n h = node_read-is d at (node_of entry) n h
 
 read_image-is : (files : List ℕ) (es : List Placed) (d at : ℕ) (n : Node) → read_image files es d at ≡ Ok n → (node_at es at ≡ Some n) × (n.db ≡ d)
@@ -112,7 +112,7 @@ here-is files es d level low high at seen n h =
 record-is : (files : List ℕ) (es : List Placed) (d at : ℕ) (s : NamedLsn) (walk new : Walk) → read_record files es d at s walk ≡ Ok new →
     IsRecordAt es d at s × (new ≡ record { seen = walk.seen; rows = walk.rows ++ loaded es d s ∷ [] })
 record-is files es d at s walk new h =
-    let parts = passed (nat_lt s.1 at) (record_by files d s walk (entry_at es s.1)) (Tree s.1) new h in
+    let parts = passed (nat_lt s.1 at) (record_by files d s walk (entry_at es s.1)) (nowhere files s.1) new h in
     let is = by_entry (entry_at es s.1) parts.1 in
     ((ltb-true s.1 at parts.0, is.0, is.1), sym is.2 ∙ ap made (sym is.1))
   where
@@ -200,16 +200,16 @@ children-are : (files : List ℕ) (es : List Placed) (d above at : ℕ)
     (goes : (low : Name) (high : Option Name) (c : ℕ) (homes : Homes) (walk new : Walk) → map (λ e. e.0) homes ≡ walk.seen → read_node files es d above low high c walk ≡ Ok new →
         IsRead es d homes (λ later. IsTreeAt es (in_homes later d) d above low high c) (map (loaded es d) (slots_at es above c)) walk new)
     (low : Name) (high : Option Name) (slots : List NamedLsn) (homes : Homes) (walk new : Walk) → map (λ e. e.0) homes ≡ walk.seen →
-    each (read_child (read_node files es d above) at) (children low high slots) walk ≡ Ok new →
+    each (read_child files (read_node files es d above) at) (children low high slots) walk ≡ Ok new →
     IsRead es d homes (λ later. AllByRecursion (λ (c : Child). (c.at < at) × IsTreeAt es (in_homes later d) d above c.low c.high c.at) (children low high slots))
     (map (loaded es d) (flat_map (λ (s : NamedLsn). slots_at es above s.1) slots)) walk new
 children-are files es d above at goes low high [] homes walk new numbers h =
     let same : walk ≡ new = same_ok walk new h in
     record { later = homes; numbers = numbers ∙ ap (λ (w : Walk). w.seen) same; keeps = λ n k is. is; tree = tt; rows_are = sym (append-nil new.rows) ∙ ap (λ (w : Walk). w.rows ++ []) (sym same) }
 children-are files es d above at goes low high (s ∷ []) homes walk new numbers h =
-    let parts = then_parts (read_child (read_node files es d above) at (record { low = low; high = high; at = s.1 }) walk) (λ w. Ok w) new h in
+    let parts = then_parts (read_child files (read_node files es d above) at (record { low = low; high = high; at = s.1 }) walk) (λ w. Ok w) new h in
     let mid : Walk = parts.0 in
-    let tested = passed (nat_lt s.1 at) (read_node files es d above low high s.1 walk) (Tree s.1) mid parts.1 in
+    let tested = passed (nat_lt s.1 at) (read_node files es d above low high s.1 walk) (nowhere files s.1) mid parts.1 in
     let first = goes low high s.1 homes walk mid numbers tested.1 in
     let same : mid ≡ new = same_ok mid new parts.2 in
     record {
@@ -220,10 +220,10 @@ children-are files es d above at goes low high (s ∷ []) homes walk new numbers
       rows_are = sym (ap (λ (w : Walk). w.rows) same) ∙ first.rows_are ∙ ap (λ (l : List NamedLsn). walk.rows ++ map (loaded es d) l) (sym (append-nil (slots_at es above s.1)));
     }
 children-are files es d above at goes low high (s ∷ n ∷ slots) homes walk new numbers h =
-    let parts = then_parts (read_child (read_node files es d above) at (record { low = low; high = Some n.0; at = s.1 }) walk)
-        (each (read_child (read_node files es d above) at) (children n.0 high (n ∷ slots))) new h in
+    let parts = then_parts (read_child files (read_node files es d above) at (record { low = low; high = Some n.0; at = s.1 }) walk)
+        (each (read_child files (read_node files es d above) at) (children n.0 high (n ∷ slots))) new h in
     let mid : Walk = parts.0 in
-    let tested = passed (nat_lt s.1 at) (read_node files es d above low (Some n.0) s.1 walk) (Tree s.1) mid parts.1 in
+    let tested = passed (nat_lt s.1 at) (read_node files es d above low (Some n.0) s.1 walk) (nowhere files s.1) mid parts.1 in
     let first = goes low (Some n.0) s.1 homes walk mid numbers tested.1 in
     let rest = children-are files es d above at goes n.0 high (n ∷ slots) first.later mid new first.numbers parts.2 in
     let others : List NamedLsn = flat_map (λ (t : NamedLsn). slots_at es above t.1) (n ∷ slots) in
@@ -267,7 +267,7 @@ node-is files es entries d zero low high at homes walk new numbers h =
     }
 node-is files es entries d (suc above) low high at homes walk new numbers h =
     let parts = then_parts (read_here files es d (suc (suc above)) low high at walk.seen)
-        (λ n. each (read_child (read_node files es d above) at) (children low high (slots_shown n)) (met n walk)) new h in
+        (λ n. each (read_child files (read_node files es d above) at) (children low high (slots_shown n)) (met n walk)) new h in
     let n : Node = parts.0 in
     let here = here-is files es d (suc (suc above)) low high at walk.seen n parts.1 in
     let own : Home = record { db = d; above = suc above; low = low } in
@@ -305,7 +305,7 @@ root_kept es old new end root keeps is = record {
 root-is : (files : List ℕ) (es : List Placed) → AllByRecursion (λ p. IsEntry p.1) es → (end : ℕ) (root : Root) (homes : Homes) (walk new : Walk) → map (λ e. e.0) homes ≡ walk.seen →
     read_root files es end root walk ≡ Ok new → IsRead es root.db homes (λ later. IsRootIn es later end root) (rows_of_root es end root) walk new
 root-is files es entries end root homes walk new numbers h =
-    let tested = passed (nat_lt root.image end) (and_then (read_image files es root.db root.image) (λ n. read_level files es root.db n.level root.image walk)) (Tree root.image) new h in
+    let tested = passed (nat_lt root.image end) (and_then (read_image files es root.db root.image) (λ n. read_level files es root.db n.level root.image walk)) (nowhere files root.image) new h in
     let parts = then_parts (read_image files es root.db root.image) (λ n. read_level files es root.db n.level root.image walk) new tested.1 in
     by_level parts.0.level (ltb-true root.image end tested.0) parts.2
   where

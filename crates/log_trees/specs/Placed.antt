@@ -44,6 +44,24 @@ PlacedGoLast = (before : Log) (f : ℕ) (entries : List Entry) (entry : Entry)
 abbrev pub PlacedGoOn : Type 0
 PlacedGoOn = (before : Log) (f : ℕ) (entry : Entry) → placed (before ++ (f, entry ∷ []) ∷ []) ≡ placed before ++ (lsn_at f 26, entry) ∷ []
 
+-- a front of a log: its first files, and of the last of these the first entries
+pub record IsLogFront (log front : Log) : Type 0 where
+  pub before : Log
+  pub file : ℕ
+  pub entries : List Entry
+  pub more : List Entry
+  pub later : Log
+  pub log_is : log ≡ before ++ (file, entries ++ more) ∷ later
+  pub front_is : front ≡ before ++ (file, entries) ∷ []
+
+-- it has the log's first entries, each at its place
+pub record HasFirst (log front : Log) : Type 0 where
+  pub rest : List Placed
+  pub are : placed log ≡ placed front ++ rest
+
+abbrev pub FrontsArePlaced : Type 0
+FrontsArePlaced = (log front : Log) → IsLogFront log front → HasFirst log front
+
 -- the LSNs of a log's entries rise
 abbrev pub PlacedAreInOrder : Type 0
 PlacedAreInOrder = (log : Log) → IsLog log → AreInOrder (placed log)

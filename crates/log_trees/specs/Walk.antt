@@ -34,7 +34,7 @@ pub record Walk : Type 0 where
 
 -- ---- one image
 
--- nothing stands at an LSN: its file is missing, or it is not where an entry begins
+-- an LSN that names nothing lower: its file is missing, or else no entry begins there that may be named
 abbrev pub nowhere : List ℕ → ℕ → Finding
 nowhere files at = if list_any (λ f. f == at / 2 ^ 32) files then Tree at else Missing at
 
@@ -63,7 +63,7 @@ delta_on files at db number full delta (Some base) = delta_with at db number ful
 -- the node of this database that an entry at an LSN shows
 abbrev pub image_in : List ℕ → List Placed → ℕ → ℕ → Entry → Result Node Finding
 image_in files es d at (BinDelta db number full slots) =
-    if db == d then (if nat_lt full at then delta_on files at db number full (BinDelta db number full slots) (entry_at es full) else Err (Tree full)) else Err (Tree at)
+    if db == d then (if nat_lt full at then delta_on files at db number full (BinDelta db number full slots) (entry_at es full) else Err (nowhere files full)) else Err (Tree at)
 image_in files es d at entry = node_read d at (node_of entry)
 
 abbrev pub image_by : List ℕ → List Placed → ℕ → ℕ → Option Entry → Result Node Finding
@@ -103,11 +103,11 @@ record_by files d s walk None = Err (nowhere files s.1)
 record_by files d s walk (Some entry) = record_in d s walk (data_in d s.0 entry)
 
 abbrev pub read_record : List ℕ → List Placed → ℕ → ℕ → NamedLsn → Walk → Result Walk Finding
-read_record files es d at s walk = if nat_lt s.1 at then record_by files d s walk (entry_at es s.1) else Err (Tree s.1)
+read_record files es d at s walk = if nat_lt s.1 at then record_by files d s walk (entry_at es s.1) else Err (nowhere files s.1)
 
 -- a child of an IN at an LSN
-abbrev pub read_child : (Name → Option Name → ℕ → Walk → Result Walk Finding) → ℕ → Child → Walk → Result Walk Finding
-read_child read at child walk = if nat_lt child.at at then read child.low child.high child.at walk else Err (Tree child.at)
+abbrev pub read_child : List ℕ → (Name → Option Name → ℕ → Walk → Result Walk Finding) → ℕ → Child → Walk → Result Walk Finding
+read_child files read at child walk = if nat_lt child.at at then read child.low child.high child.at walk else Err (nowhere files child.at)
 
 -- the tree below an image, `above` levels above its BINs, from the left, depth first
 abbrev pub read_node : List ℕ → List Placed → ℕ → ℕ → Name → Option Name → ℕ → Walk → Result Walk Finding
@@ -115,7 +115,7 @@ read_node files es d zero low high at walk =
     and_then (read_here files es d 1 low high at walk.seen) (λ n. each (read_record files es d at) (slots_shown n) (met n walk))
 read_node files es d (suc above) low high at walk =
     and_then (read_here files es d (suc (suc above)) low high at walk.seen)
-    (λ n. each (read_child (read_node files es d above) at) (children low high (slots_shown n)) (met n walk))
+    (λ n. each (read_child files (read_node files es d above) at) (children low high (slots_shown n)) (met n walk))
 
 -- ---- roots
 
@@ -126,7 +126,7 @@ read_level files es d (suc above) at walk = read_node files es d above least_nam
 -- the tree of a root that a checkpoint's end at this LSN names
 abbrev pub read_root : List ℕ → List Placed → ℕ → Root → Walk → Result Walk Finding
 read_root files es end root walk =
-    if nat_lt root.image end then and_then (read_image files es root.db root.image) (λ n. read_level files es root.db n.level root.image walk) else Err (Tree root.image)
+    if nat_lt root.image end then and_then (read_image files es root.db root.image) (λ n. read_level files es root.db n.level root.image walk) else Err (nowhere files root.image)
 
 -- the trees of all roots, in order
 abbrev pub read_roots : List ℕ → List Placed → ℕ → List Root → Result Walk Finding

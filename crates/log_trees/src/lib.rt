@@ -5,13 +5,15 @@
 #![tactic(auto)]
 
 ghost use Rattle.log_trees.specs.Laws.{SlotsStay, ShowsStay, RootsStay, TreesStay, ShowsAreSlots, RootsShow, RootsAreRead, RootsStayRight, ReadTreesAreRight};
-ghost use Rattle.log_trees.specs.Placed.{PlacedAreEntries, PlacedGoLast, PlacedGoOn, PlacedAreInOrder};
+ghost use Rattle.log_trees.specs.Placed.{PlacedAreEntries, PlacedGoLast, PlacedGoOn, FrontsArePlaced, PlacedAreInOrder};
 
-/// The entries of a log with their LSNs are the log's entries; an entry more is the last one, and LSNs rise.
+/// The entries of a log with their LSNs are the log's entries; an entry more is the last one, a front of the
+/// log has the first of them, and LSNs rise.
 pub fn entries_are_placed()
     ensures entries { PlacedAreEntries }
     ensures last { PlacedGoLast }
     ensures next { PlacedGoOn }
+    ensures front { FrontsArePlaced }
     ensures order { PlacedAreInOrder }
 {}
 
