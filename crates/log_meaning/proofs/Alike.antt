@@ -1,16 +1,16 @@
 -- Files of a log of puts, deletes and commits alone are read as a replay of the whole log reads them.
-use Rattle.std.proofs.Common.{◌≡◌, ℕ, ◌+◌, ◌*◌, ◌^◌, ◌<◌, ◌≤◌, ◌==◌, max, nat_lt, Bool, true, false, not, cond, List, [], ◌∷◌, ◌++◌, Option, None, Some, option_map, unwrap_or, Result, Ok, Err, map, length, drop, refl, sym, ap, ap₂, subst, ◌∙◌, arith}
+use Rattle.std.proofs.Common.{◌≡◌, ℕ, ◌+◌, ◌^◌, ◌<◌, ◌≤◌, ◌==◌, max, nat_lt, Bool, true, false, not, cond, List, [], ◌∷◌, ◌++◌, Option, None, Some, option_map, unwrap_or, Result, Ok, Err, map, length, drop, refl, sym, ap, ap₂, subst, ◌∙◌, arith}
 use Rattle.std.specs.Prelude.{◌&&◌}
 use Rattle.std.specs.Int.{w64, to_be_bytes}
 use Rattle.std.proofs.lemmas.Bool.{true≢false, ltb-false, ltb-true, and_parts}
 use Rattle.std.proofs.lemmas.List.{append-nil, map-append}
-use Rattle.std.specs.List.{AllByRecursion, flat_map}
+use Rattle.std.specs.List.{AllByRecursion}
 use Rattle.je_bytes.specs.Reading.{number_in as bytes_number_in}
 use Rattle.je_model.specs.declared.store.Store.{Store}
 use Rattle.je_order.specs.declared.name.Name.{Name}
 use Rattle.je_lsn.specs.Naming.{last_file}
 use Rattle.log_entry.specs.declared.entry.Entry.{Entry}
-use Rattle.log_entry.specs.declared.entry.Entry.TheVariants.{FileHeader, Put, Delete, Commit, CkptEnd}
+use Rattle.log_entry.specs.declared.entry.Entry.TheVariants.{FileHeader, Put, Delete, Commit}
 use Rattle.log_entry.specs.declared.decoder.Decoded.{Decoded}
 use Rattle.log_entry.specs.declared.decoder.Decoded.TheVariants.{Whole, Torn as NotWhole}
 use Rattle.log_entry.specs.Spelling.{size_of}
@@ -19,28 +19,28 @@ use Rattle.log_entry.specs.Run.{run_on}
 use Rattle.log_entry.proofs.FieldLaws.{eight}
 use Rattle.log_file.specs.declared.found.Found.{Found}
 use Rattle.log_file.specs.declared.found.Found.TheVariants.{Run, VersionUnknown as OtherVersion, Damaged as NoHeader}
-use Rattle.log_file.specs.Scan.{may_follow, front, entries_behind, run_with, no_run, found_headless, found_first, found_by, found_in}
+use Rattle.log_file.specs.Scan.{may_follow, front, entries_behind, run_with, no_run, found_first, found_by, found_in}
 use Rattle.log_file.specs.Log.{Log, entries_of, entries_found, log_in}
 use Rattle.log_replay.specs.declared.finding.Finding.{Finding}
 use Rattle.log_replay.specs.declared.finding.Finding.TheVariants.{Damaged, Missing, Tree}
 use Rattle.log_replay.specs.Rows.{Rows, RowChange, no_rows, data_at, store_of}
-use Rattle.log_replay.specs.Replay.{Replay, nothing_replayed, replayed, changes_of, txn_in, db_in, greatest}
+use Rattle.log_replay.specs.Replay.{nothing_replayed, replayed, changes_of, txn_in, db_in, greatest}
 use Rattle.log_replay.specs.Wrong.{or_else, wrong_record}
 use Rattle.log_replay.specs.Meaning.{Meaning as ReplayMeaning, meaning_of as replay_meaning_of}
-use Rattle.log_replay.specs.Reading.{lsn_at, finding_at, finding_behind, finding_in, gap_in, marked_entry, marked, marked_log, lsn_in, lsn_of, judged_by as replay_judged_by, judged as replay_judged, reading_by as replay_reading_by, reading_of as replay_reading_of}
-use Rattle.log_replay.proofs.ListLaws.{all_weaker, all_append, all_of_map}
+use Rattle.log_replay.specs.Reading.{lsn_at, finding_at, finding_behind, finding_in, gap_in, marked_entry, marked, marked_log, lsn_in, judged_by as replay_judged_by, judged as replay_judged, reading_by as replay_reading_by}
+use Rattle.log_replay.proofs.ListLaws.{all_append, all_of_map}
 use Rattle.log_trees.specs.Placed.{Placed, placed_from, placed}
-use Rattle.log_trees.specs.Changes.{Written, unwritten, LoggedChange, last_of, rows_after}
-use Rattle.log_trees.specs.Walk.{and_then, Walk, read_roots}
+use Rattle.log_trees.specs.Changes.{Written, unwritten, LoggedChange, rows_after}
+use Rattle.log_trees.specs.Walk.{and_then, read_roots}
 use Rattle.log_trees.proofs.PlacedLaws.{placed_are_entries}
-use Rattle.log_meaning.specs.Redo.{Redo, from, redone, record_at}
-use Rattle.log_meaning.specs.Checkpoint.{Checkpoint, no_checkpoint, checkpoint_in, last_end, last_checkpoint}
-use Rattle.log_meaning.specs.Meaning.{Meaning, rows_of, db_number, most, meaning_of, lsn_there, wrong_lsn}
-use Rattle.log_meaning.specs.Reading.{missing, redo_finding, unless, judged_by, judged, meaning_in, reading_of}
+use Rattle.log_meaning.specs.Redo.{from, redone, record_at}
+use Rattle.log_meaning.specs.Checkpoint.{Checkpoint, no_checkpoint, checkpoint_in, last_end}
+use Rattle.log_meaning.specs.Meaning.{Meaning, rows_of, db_number, most, meaning_of, lsn_there}
+use Rattle.log_meaning.specs.Reading.{missing, redo_finding, unless, judged_by, judged, meaning_in}
 use Rattle.log_meaning.specs.Plain.{is_plain, row_change, ReplayedAlike, without_nodes, ReadAlike}
 use Rattle.log_meaning.proofs.Listing.{listed_by_name}
 use Rattle.log_meaning.proofs.Lasts.{last-holds}
-use Rattle.log_meaning.proofs.Replays.{Mark, mark_entry, mark_written, mark_change, row_of, AreAlike, alike, all_from_0, last-marked, done_below}
+use Rattle.log_meaning.proofs.Replays.{Mark, mark_entry, mark_change, row_of, alike, all_from_0, last-marked, done_below}
 
 -- ---- entries with their LSNs
 

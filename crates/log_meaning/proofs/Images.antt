@@ -1,24 +1,23 @@
 -- What a crash leaves of a log that recovers transactions.
-use Rattle.std.proofs.Common.{◌≡◌, ℕ, ◌+◌, ◌/◌, ◌^◌, ◌<◌, ◌≤◌, ◌==◌, nat_le, nat_lt, Bool, true, false, cond, List, [], ◌∷◌, ◌++◌, Option, None, Some, Result, Ok, Err, map, option_map, filter, take, length, refl, sym, ap, subst, ◌∙◌, arith, ◌⊎◌, inl, inr}
+use Rattle.std.proofs.Common.{◌≡◌, ℕ, ◌+◌, ◌/◌, ◌^◌, ◌<◌, ◌≤◌, ◌==◌, nat_le, nat_lt, Bool, true, false, cond, List, [], ◌∷◌, ◌++◌, Option, None, Some, Result, Ok, map, option_map, filter, take, refl, sym, ap, subst, ◌∙◌, arith, ◌⊎◌, inl, inr}
 use Rattle.std.proofs.lemmas.Bool.{lt-ltb, le-leb, lt-leb, eqb-true, eq-eqb, cond-true, cond-false, cases_lt}
 use Rattle.std.specs.List.{AllByRecursion}
-use Rattle.je_model.specs.declared.change.Change.{Change}
 use Rattle.je_model.specs.declared.store.Store.{Store}
 use Rattle.je_model.specs.Store.{store_after}
-use Rattle.log_file.specs.Log.{Log, log_in}
+use Rattle.log_file.specs.Log.{log_in}
 use Rattle.log_replay.specs.declared.finding.Finding.{Finding}
 use Rattle.log_replay.specs.Rows.{is_environment}
-use Rattle.log_replay.specs.Reading.{finding_in, gap_behind, gap_in}
+use Rattle.log_replay.specs.Reading.{gap_behind, gap_in}
 use Rattle.log_replay.proofs.ListLaws.{all_weaker, filter-all}
 use Rattle.log_replay.proofs.WrongLaws.{environment_is_none}
 use Rattle.log_trees.specs.Placed.{Placed, placed}
 use Rattle.log_trees.specs.Trees.{rows_of_roots}
-use Rattle.log_trees.specs.Walk.{and_then, Walk, nowhere, read_roots}
+use Rattle.log_trees.specs.Walk.{and_then, Walk, nowhere}
 use Rattle.log_meaning.specs.Redo.{Redo, record_at}
 use Rattle.log_meaning.specs.Checkpoint.{Checkpoint, last_end, last_checkpoint, restarted}
 use Rattle.log_meaning.specs.Meaning.{Meaning, rows_of, meaning_of, lsn_there, wrong_lsn}
-use Rattle.log_meaning.specs.Reading.{gap_at, gap_from, missing, redo_finding, unless, judged_by, judged, meaning_in, reading_of}
-use Rattle.log_meaning.specs.Recovery.{Leaves, IsRedoLsn, commits_in, Recovers, HoldsFirst, IsRecovered, IsFirstFile, ImagesRecover}
+use Rattle.log_meaning.specs.Reading.{gap_at, gap_from, missing, redo_finding, unless, judged_by, judged, meaning_in}
+use Rattle.log_meaning.specs.Recovery.{Leaves, IsRedoLsn, commits_in, IsFirstFile, ImagesRecover}
 use Rattle.log_meaning.proofs.Leaving.{commits_rise, few_commits}
 
 -- ---- no gap
@@ -113,10 +112,10 @@ images_recover first opening base least transactions log held gap begins is from
     let files : List ℕ = map (λ file. file.0) held in
     let low : least ≤ holds.count = holds.at_least in
     let leaves : Leaves first (placed (log_in held)) (store_after opening (take (commits_in base holds.count (placed log)) transactions)) =
-        subst (λ (l : List Placed). Leaves first l (store_after opening (take (commits_in base holds.count (placed log)) transactions))) (sym holds.entries)
-        (is.each holds.count (omega (arith, from, low)) holds.within) in
+    subst (λ (l : List Placed). Leaves first l (store_after opening (take (commits_in base holds.count (placed log)) transactions))) (sym holds.entries)
+    (is.each holds.count (omega (arith, from, low)) holds.within) in
     let read = reads_leaves first files (placed (log_in held)) _ (no_gap-front files holds.later (sym (ap gap_in holds.numbers) ∙ gap))
-        (first-front first files holds.later (subst (IsFirstFile first) holds.numbers begins)) leaves in
+    (first-front first files holds.later (subst (IsFirstFile first) holds.numbers begins)) leaves in
     record {
       meaning = read.0;
       reads = ap (λ (o : Option Finding). unless o (meaning_in files (placed (log_in held)))) holds.none ∙ read.1;

@@ -1,8 +1,7 @@
 -- What stands under a name after changes, and what of it a redo from an LSN on leaves.
-use Rattle.std.proofs.Common.{◌≡◌, ℕ, ◌<◌, ◌≤◌, nat_le, Bool, true, false, cond, List, [], ◌∷◌, ◌++◌, Option, filter, refl, sym, ap, subst, ◌∙◌, arith}
-use Rattle.std.specs.Prelude.{◌||◌}
-use Rattle.std.proofs.lemmas.Bool.{true≢false, or_parts, or_from, leb-true, leb-false, le-leb, lt-leb, cond-true, cond-false, cond_both}
-use Rattle.std.specs.List.{AllByRecursion, list_any}
+use Rattle.std.proofs.Common.{◌≡◌, ℕ, ◌<◌, ◌≤◌, nat_le, Bool, true, false, cond, List, [], ◌∷◌, ◌++◌, refl, sym, ap, ◌∙◌, arith}
+use Rattle.std.proofs.lemmas.Bool.{true≢false, or_parts, leb-true, leb-false, le-leb, lt-leb, cond-true, cond-false, cond_both}
+use Rattle.std.specs.List.{AllByRecursion}
 use Rattle.je_order.specs.declared.name.Name.{Name}
 use Rattle.log_trees.specs.Changes.{Written, LoggedChange, is_of, last_of, changes_from}
 use Rattle.log_meaning.specs.Stands.{pick, Rises, has}

@@ -5,23 +5,21 @@ use Rattle.std.proofs.lemmas.List.{take_all, drop_all, take-append-le, drop-appe
 use Rattle.std.proofs.lemmas.List.Sums.{sum_by-append}
 use Rattle.std.proofs.lemmas.Bool.{cases_lt}
 use Rattle.std.specs.List.{AllByRecursion, list_all, count_by}
-use Rattle.je_order.specs.declared.name.Name.{Name}
 use Rattle.je_model.specs.declared.change.Change.{Change}
 use Rattle.je_model.specs.declared.store.Store.{Store}
 use Rattle.je_model.specs.declared.store.Database.{Database}
 use Rattle.je_model.specs.declared.store.Kind.TheVariants.{Plain}
 use Rattle.je_model.specs.declared.store.TheConstants.{MOST_DATABASES}
 use Rattle.je_model.specs.Store.{store_after}
-use Rattle.log_replay.specs.Rows.{Row, Rows, data_at, number_in, numbers_of, is_catalog_row, are_distinct, are_plain, is_environment, pair_of, database_in, store_of, IsRising, no_rows}
+use Rattle.log_replay.specs.Rows.{Row, Rows, number_in, numbers_of, is_catalog_row, are_distinct, are_plain, is_environment, pair_of, database_in, store_of, no_rows}
 use Rattle.log_replay.proofs.Entries.{lookup_is_data}
-use Rattle.log_replay.proofs.Loaded.{found, same_rows}
+use Rattle.log_replay.proofs.Loaded.{same_rows}
 use Rattle.log_replay.proofs.ListLaws.{all_weaker, all_of_map, map_same}
 use Rattle.log_trees.specs.Placed.{Placed}
-use Rattle.log_trees.specs.Changes.{unwritten, LoggedChange}
-use Rattle.log_meaning.specs.Checkpoint.{last_end, restarted}
+use Rattle.log_trees.specs.Changes.{unwritten}
+use Rattle.log_meaning.specs.Checkpoint.{restarted}
 use Rattle.log_meaning.specs.Meaning.{rows_of}
-use Rattle.log_meaning.specs.Stands.{Stands}
-use Rattle.log_meaning.specs.Recovery.{is_commit, AreRootsRead, IsRedoLsn, Leaves, commits_in, Recovers, StandsLeaves, RecoversFirst, with_commit, RecoversPush}
+use Rattle.log_meaning.specs.Recovery.{is_commit, Leaves, commits_in, Recovers, StandsLeaves, RecoversFirst, with_commit, RecoversPush}
 use Rattle.log_meaning.proofs.Listing.{found-after, listed_in_order}
 
 -- ---- records that are the same in the databases that a catalog names
@@ -56,10 +54,10 @@ same_store a b zero_same each =
 pub stands_leaves : StandsLeaves
 stands_leaves first es base next is_open rows is_live logged kept s roots redo up data_is zero_open all_open environment =
     let same : (d : ℕ) → is_open d ≡ true → rows_of (restarted es) d ≡ kept d = λ d open_.
-        same_rows (rows_of (restarted es) d) (kept d) (listed_in_order (restarted es).done d) (up d)
-        (λ q. found-after (restarted es).done no_rows unwritten d q refl ∙ s.same d q open_ ∙ sym (data_is d q open_) ∙ sym (lookup_is_data q (kept d))) in
+    same_rows (rows_of (restarted es) d) (kept d) (listed_in_order (restarted es).done d) (up d)
+    (λ q. found-after (restarted es).done no_rows unwritten d q refl ∙ s.same d q open_ ∙ sym (data_is d q open_) ∙ sym (lookup_is_data q (kept d))) in
     let each : AllByRecursion (λ n. rows_of (restarted es) n ≡ kept n) (numbers_of kept) =
-        all_weaker (λ n. is_open n ≡ true) (λ n. rows_of (restarted es) n ≡ kept n) (λ n h. same n h) (numbers_of kept) all_open in
+    all_weaker (λ n. is_open n ≡ true) (λ n. rows_of (restarted es) n ≡ kept n) (λ n h. same n h) (numbers_of kept) all_open in
     record {
       roots = roots;
       redo = redo;
@@ -123,11 +121,11 @@ recovers_push first opening base transactions transaction es p is leaves =
     let len : length (es ++ p ∷ []) ≡ length es + 1 = length-append es (p ∷ []) in
     let low : base ≤ length es = is.within in
     let all : commits_in base (length (es ++ p ∷ [])) (es ++ p ∷ []) ≡ length (with_commit (is_commit p.1) transaction transactions) =
-        all_commits base (es ++ p ∷ [])
-        ∙ ap (count_by (λ (q : Placed). is_commit q.1)) (drop-append-le base es (p ∷ []) low)
-        ∙ commits-append (drop base es) (p ∷ [])
-        ∙ ap (λ (n : ℕ). n + (0 + cond (is_commit p.1) 1 0)) (sym (all_commits base es) ∙ is.all)
-        ∙ sym (length-with (is_commit p.1) transaction transactions) in
+    all_commits base (es ++ p ∷ [])
+    ∙ ap (count_by (λ (q : Placed). is_commit q.1)) (drop-append-le base es (p ∷ []) low)
+    ∙ commits-append (drop base es) (p ∷ [])
+    ∙ ap (λ (n : ℕ). n + (0 + cond (is_commit p.1) 1 0)) (sym (all_commits base es) ∙ is.all)
+    ∙ sym (length-with (is_commit p.1) transaction transactions) in
     record {
       within = omega (arith, len, low);
       all = all;

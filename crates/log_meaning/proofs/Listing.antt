@@ -1,13 +1,11 @@
 -- Records as lists, and name by name.
 use Rattle.std.proofs.Common.{◌≡◌, ℕ, ◌==◌, Bool, true, false, not, cond, List, [], ◌∷◌, ◌++◌, Option, None, Some, filter, Ordering, Less, Equal, Greater, is_eq, is_lt, is_gt, refl, sym, ap, ap₂, ◌∙◌}
 use Rattle.std.specs.Prelude.{◌&&◌}
-use Rattle.std.proofs.lemmas.Bool.{true≢false, eqb-true, eqb-false, eq-eqb, ne_eqb, cond-true, cond-false, cond_both}
-use Rattle.std.specs.Map.{lookup}
-use Rattle.std.specs.BTreeMap.{is_at}
+use Rattle.std.proofs.lemmas.Bool.{eqb-true, eqb-false, eq-eqb, ne_eqb, cond-true, cond-false, cond_both}
 use Rattle.je_order.specs.declared.name.Name.{Name}
 use Rattle.je_order.specs.Order.{name_cmp}
 use Rattle.node_core.proofs.Order.{same as same_name, equal_of}
-use Rattle.log_replay.specs.Rows.{Row, Rows, rows_with, no_rows, data_at, IsRising}
+use Rattle.log_replay.specs.Rows.{Row, Rows, rows_with, no_rows, IsRising}
 use Rattle.log_replay.specs.Wrong.{or_else}
 use Rattle.log_replay.proofs.Entries.{lookup_is_data}
 use Rattle.log_replay.proofs.Loaded.{found}

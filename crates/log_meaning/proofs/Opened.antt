@@ -1,25 +1,21 @@
 -- Files that are read with no finding.
 use Rattle.std.proofs.Common.{◌≡◌, ℕ, ◌/◌, ◌^◌, ◌<◌, ◌≤◌, ◌==◌, nat_le, nat_lt, Bool, true, false, cond, List, [], ◌∷◌, Option, None, Some, unwrap_or, option_map, Result, Ok, Err, map, filter, refl, sym, ap, subst, ◌∙◌, arith, ◌⊎◌, inl, inr}
-use Rattle.std.proofs.lemmas.Bool.{true≢false, ltb-true, le-leb, ne_eqb, cond-true, cond-false, cases_lt}
+use Rattle.std.proofs.lemmas.Bool.{ltb-true, le-leb, ne_eqb, cond-true, cond-false, cases_lt}
 use Rattle.std.proofs.lemmas.Option.{none-some, same_Some}
 use Rattle.std.specs.List.{AllByRecursion}
-use Rattle.je_model.specs.declared.store.Store.{Store}
 use Rattle.log_entry.specs.declared.entry.Entry.{Entry}
 use Rattle.log_entry.specs.declared.entry.Entry.TheVariants.{CkptEnd}
-use Rattle.log_entry.specs.declared.root.Root.{Root}
 use Rattle.log_entry.specs.Body.{IsEntry}
 use Rattle.log_entry.specs.Items.{rises, root_before}
 use Rattle.log_file.specs.Log.{log_in}
 use Rattle.log_replay.specs.declared.finding.Finding.{Finding}
-use Rattle.log_replay.specs.declared.finding.Finding.TheVariants.{Missing, Tree}
-use Rattle.log_replay.specs.Rows.{Rows, is_environment, store_of}
+use Rattle.log_replay.specs.declared.finding.Finding.TheVariants.{Missing}
+use Rattle.log_replay.specs.Rows.{is_environment, store_of}
 use Rattle.log_replay.specs.Wrong.{or_else, wrong_record}
-use Rattle.log_replay.specs.Reading.{lsn_at, finding_in, gap_behind, gap_in}
+use Rattle.log_replay.specs.Reading.{lsn_at, finding_in, gap_behind}
 use Rattle.log_replay.proofs.WrongLaws.{none_is_environment}
 use Rattle.log_trees.specs.Placed.{Placed, placed}
 use Rattle.log_trees.specs.Changes.{LoggedChange}
-use Rattle.log_trees.specs.Trees.{rows_of_roots}
-use Rattle.log_trees.specs.Sound.{Home, IsRootAt}
 use Rattle.log_trees.specs.Walk.{and_then, Walk, nowhere, read_roots}
 use Rattle.log_trees.specs.Laws.{AreRight}
 use Rattle.log_trees.proofs.Reading.{roots_are_read}
@@ -27,8 +23,8 @@ use Rattle.log_trees.proofs.Right.{read_trees_are_right}
 use Rattle.log_meaning.specs.Redo.{Redo, redone, record_at}
 use Rattle.log_meaning.specs.Checkpoint.{Checkpoint, no_checkpoint, checkpoint_in, last_end, last_checkpoint, behind, restarted}
 use Rattle.log_meaning.specs.Meaning.{Meaning, rows_of, meaning_of, lsn_there, wrong_lsn}
-use Rattle.log_meaning.specs.Reading.{gap_at, gap_from, missing, redo_finding, unless, judged_by, judged, meaning_in, reading_of}
-use Rattle.log_meaning.specs.Recovery.{AreRootsRead, IsRedoLsn, Leaves, IsOpened, ReadFilesLeave}
+use Rattle.log_meaning.specs.Reading.{gap_at, gap_from, missing, redo_finding, unless, judged_by, judged, meaning_in}
+use Rattle.log_meaning.specs.Recovery.{IsRedoLsn, IsOpened, ReadFilesLeave}
 
 -- ---- results
 
@@ -82,7 +78,7 @@ first_below f first later none = by_order (cases_lt f first)
     by_order : (f < first) ⊎ (first ≤ f) → first ≤ f
     by_order (inl less) =
         let kept : gap_from f (first ∷ later) ≡ gap_at f (first ∷ filter (λ n. nat_le f n) later) =
-            ap (gap_at f) (cond-true (nat_le f first) (first ∷ filter (λ n. nat_le f n) later) (filter (λ n. nat_le f n) later) (le-leb f first (omega (arith, less)))) in
+        ap (gap_at f) (cond-true (nat_le f first) (first ∷ filter (λ n. nat_le f n) later) (filter (λ n. nat_le f n) later) (le-leb f first (omega (arith, less)))) in
         let other : (first == f) ≡ false = ne_eqb first f (λ e. omega (arith, e, less)) in
         let found : gap_from f (first ∷ later) ≡ Some f = kept ∙ cond-false (first == f) (gap_behind f (filter (λ n. nat_le f n) later)) (Some f) other in
         absurd (none-some f (sym none ∙ found))

@@ -1,18 +1,18 @@
 -- A redo and a replay with one list of pending changes, entry by entry. The data of each put may be marked with its LSN.
-use Rattle.std.proofs.Common.{◌≡◌, ℕ, ◌<◌, ◌≤◌, ◌==◌, nat_le, Bool, true, false, not, cond, List, [], ◌∷◌, ◌++◌, Option, None, Some, option_map, map, filter, refl, sym, ap, ap₂, subst, ◌∙◌, arith, append_assoc}
-use Rattle.std.proofs.lemmas.Bool.{true≢false, eqb-true, eqb-false, eq-eqb, ne_eqb, le-leb, cond-true, cond-false, cases_eq}
+use Rattle.std.proofs.Common.{◌≡◌, ℕ, ◌<◌, ◌==◌, nat_le, Bool, true, false, not, cond, List, [], ◌∷◌, ◌++◌, option_map, map, refl, sym, ap, subst, ◌∙◌, arith}
+use Rattle.std.proofs.lemmas.Bool.{true≢false, eqb-true, eqb-false, le-leb, cond-true, cond-false}
 use Rattle.std.proofs.lemmas.List.{append-nil, map-append}
 use Rattle.std.proofs.lemmas.List.Elements.{filter-append}
 use Rattle.std.specs.List.{AllByRecursion}
 use Rattle.je_order.specs.declared.name.Name.{Name}
 use Rattle.log_entry.specs.declared.entry.Entry.{Entry}
 use Rattle.log_entry.specs.declared.entry.Entry.TheVariants.{Put, Delete, Commit}
-use Rattle.log_replay.specs.Rows.{Row, Rows, no_rows, RowChange, rows_changed}
+use Rattle.log_replay.specs.Rows.{Rows, no_rows, RowChange, rows_changed}
 use Rattle.log_replay.specs.Replay.{Replay, nothing_replayed, changes_of, changes_of_others, replayed_entry, replayed}
 use Rattle.log_replay.proofs.ListLaws.{all_append}
 use Rattle.log_trees.specs.Placed.{Placed}
 use Rattle.log_trees.specs.Changes.{Written, LoggedChange, is_of, last_of, rows_after}
-use Rattle.log_meaning.specs.Redo.{Redo, nothing_redone, pushed, emptied, set_at, unset_at, redo_entry, redo_all, from, redone}
+use Rattle.log_meaning.specs.Redo.{Redo, nothing_redone, set_at, unset_at, redo_entry, redo_all, from, redone}
 use Rattle.log_meaning.specs.Plain.{is_plain}
 
 -- how a put's data is marked, by its LSN

@@ -1,18 +1,15 @@
 -- A log that an environment works on, one entry longer.
-use Rattle.std.proofs.Common.{◌≡◌, ℕ, ◌+◌, ◌<◌, ◌≤◌, ◌==◌, nat_le, Bool, true, false, cond, List, [], ◌∷◌, ◌++◌, Option, None, Some, unwrap_or, filter, refl, sym, ap, subst, ◌∙◌, arith, ◌⊎◌, inl, inr}
-use Rattle.std.specs.Prelude.{◌≢◌, ◌&&◌, ◌||◌}
-use Rattle.std.proofs.lemmas.Bool.{true≢false, and_parts, leb-true, leb-false, le-leb, lt-leb, eqb-true, eqb-false, eq-eqb, ne_eqb, cond-true, cond-false, cases_lt, cases_Bool}
+use Rattle.std.proofs.Common.{◌≡◌, ℕ, ◌<◌, ◌≤◌, ◌==◌, nat_le, Bool, true, false, cond, List, [], ◌∷◌, ◌++◌, Option, None, Some, unwrap_or, refl, sym, ap, subst, ◌∙◌, arith, ◌⊎◌, inl, inr}
+use Rattle.std.specs.Prelude.{◌≢◌, ◌||◌}
+use Rattle.std.proofs.lemmas.Bool.{true≢false, and_parts, leb-true, le-leb, lt-leb, eqb-true, eqb-false, cond-false, cases_lt}
 use Rattle.std.proofs.lemmas.Option.{none-some, same_Some}
 use Rattle.std.proofs.lemmas.List.{append-nil}
 use Rattle.std.proofs.lemmas.List.Elements.{filter-append}
-use Rattle.std.specs.List.{AllByRecursion, list_any}
-use Rattle.je_order.specs.Order.{name_cmp}
+use Rattle.std.specs.List.{AllByRecursion}
 use Rattle.je_order.specs.declared.name.Name.{Name}
-use Rattle.je_order.specs.declared.txn_id.TxnId.{TxnId}
 use Rattle.node_core.proofs.Order.{same as same_name, equal_of}
 use Rattle.log_entry.specs.declared.entry.Entry.{Entry}
-use Rattle.log_entry.specs.declared.entry.Entry.TheVariants.{Put, Delete, Commit, In, Bin, BinDelta, CkptStart, CkptEnd, FileSummary, FileHeader, Migrated}
-use Rattle.log_entry.specs.declared.root.Root.{Root}
+use Rattle.log_entry.specs.declared.entry.Entry.TheVariants.{Put, Delete, Commit, In, Bin, BinDelta, CkptStart, CkptEnd, FileSummary}
 use Rattle.log_replay.specs.Wrong.{or_else}
 use Rattle.log_replay.proofs.ListLaws.{all_weaker, all_append}
 use Rattle.log_trees.specs.Placed.{Placed}
@@ -22,10 +19,10 @@ use Rattle.log_trees.proofs.Staying.{roots_stay}
 use Rattle.log_trees.proofs.Rooted.{last_of-append}
 use Rattle.log_meaning.specs.Redo.{Redo, nothing_redone, pushed, emptied, set_at, unset_at, redo_entry, redone, record_at, newest}
 use Rattle.log_meaning.specs.Checkpoint.{Checkpoint, no_checkpoint, checkpoint_in, last_end, last_checkpoint, behind, restarted_from, restarted}
-use Rattle.log_meaning.specs.Stands.{pick, Rises, has, Stands, Covered}
+use Rattle.log_meaning.specs.Stands.{pick, Rises, has, Stands}
 use Rattle.log_meaning.specs.Growth.{is_neutral, StandsNeutral, IsFreeFor, StandsPut, StandsDelete, StandsCommit, StandsEnd, StandsFewer, StandsOpen}
 use Rattle.log_meaning.proofs.RedoLaws.{redone-in, redone-out, redone-none, last_end-push, last_checkpoint-push, restarted-push}
-use Rattle.log_meaning.proofs.Lasts.{last-holds, last-unchanged, last-value, last-tied, rises-none, rises-push, pick_there, redo_changes, all_from, none_from}
+use Rattle.log_meaning.proofs.Lasts.{last-holds, last-unchanged, last-value, last-tied, rises-none, rises-push, redo_changes, all_from, none_from}
 
 -- the sets of what an environment has
 abbrev Flags : Type 0
@@ -297,7 +294,7 @@ stands_commit es base next at is_open fewer rows after is_live logged t s lt t_l
         by_order : (at < r) ⊎ (r ≤ at) → last_of d x (redone r (es ++ (at, Commit t) ∷ [])).done start ≡ pick r (last_of d x (logged t.0) (newest base es d x)) start
         by_order (inl less) =
             let none : changes_from r (logged t.0) ≡ [] = none_from r (logged t.0)
-                (all_weaker (λ (e : LoggedChange). e.written.at ≤ next) (λ e. e.written.at < r) (λ e h. omega (arith, h, lt, less)) (logged t.0) (own_low t.0 t_live)) in
+            (all_weaker (λ (e : LoggedChange). e.written.at ≤ next) (λ e. e.written.at < r) (λ e h. omega (arith, h, lt, less)) (logged t.0) (own_low t.0 t_live)) in
             ap (λ (k : Redo). last_of d x k.done start) (redone-out r es (at, Commit t) less)
             ∙ s.redo r le d x start
             ∙ ap (λ (l : List LoggedChange). last_of d x l (pick r (newest base es d x) start)) (sym none)
@@ -422,7 +419,7 @@ last_below es base all = by_end (last_end es) refl
 pub stands_open : StandsOpen
 stands_open es base is_open rows is_live some below redo_low same own =
     let nothing : (r : ℕ) → base ≤ r → redone r es ≡ nothing_redone = λ r le.
-        redone-none r es (all_weaker (λ (p : Placed). p.0 < base) (λ p. p.0 < r) (λ p h. omega (arith, h, le)) es below) in
+    redone-none r es (all_weaker (λ (p : Placed). p.0 < base) (λ p. p.0 < r) (λ p h. omega (arith, h, le)) es below) in
     let newest_is : (d : ℕ) (x : Name) → newest base es d x ≡ unwritten = λ d x. ap (λ (r : Redo). record_at r d x) (nothing base (omega arith)) in
     record {
       begun = omega arith;

@@ -1,6 +1,6 @@
 -- What a log is while an environment works on it: read again from its last checkpoint, or from any LSN of this life on over what stood
 -- before, it gives the environment's records, and each active transaction's changes wait.
-use Rattle.std.specs.Prelude.{◌≡◌, ◌≢◌, ◌⊎◌, ◌≤◌, ◌<◌, ℕ, nat_le, if◌then◌else◌, Bool, true, false, List, [], ◌∷◌, Option, Some}
+use Rattle.std.specs.Prelude.{◌≡◌, ◌≢◌, ◌⊎◌, ◌≤◌, ◌<◌, ℕ, nat_le, if◌then◌else◌, Bool, true, false, List, [], ◌∷◌, Option}
 use Rattle.std.specs.List.{AllByRecursion, list_any}
 use Rattle.je_order.specs.declared.name.Name.{Name}
 use Rattle.log_trees.specs.Placed.{Placed}

@@ -1,6 +1,5 @@
 -- Names and bounds.
-use Rattle.std.proofs.Common.{◌≡◌, ℕ, Bool, true, false, not, List, [], ◌∷◌, Option, None, Some, Ordering, Less, Equal, Greater, is_eq, is_lt, is_gt, refl, sym, ap, ◌∙◌, cond}
-use Rattle.std.specs.Prelude.{◌&&◌}
+use Rattle.std.proofs.Common.{◌≡◌, ℕ, Bool, true, false, not, List, [], ◌∷◌, Option, None, Some, Ordering, Less, Equal, Greater, is_eq, is_lt, is_gt, refl, sym, ap, ◌∙◌}
 use Rattle.std.specs.Ordering.{ordering_reverse}
 use Rattle.std.proofs.lemmas.Bool.{true≢false, false≢true, and_parts, and_from, not-true, not_from_false, false_from_ne_true}
 use Rattle.std.proofs.lemmas.Cmp.{upto}
@@ -8,7 +7,6 @@ use Rattle.std.specs.List.{AllByRecursion}
 use Rattle.je_order.specs.declared.name.Name.{Name}
 use Rattle.je_order.specs.Order.{name_cmp}
 use Rattle.node_core.proofs.Order.{total, same, itself, turned, equal_of}
-use Rattle.log_replay.proofs.ListLaws.{all_weaker}
 use Rattle.log_trees.specs.Images.{NamedLsn}
 use Rattle.log_trees.specs.Sound.{least_name, is_below, is_within, AreUp}
 

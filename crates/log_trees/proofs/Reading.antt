@@ -1,8 +1,8 @@
 -- Right trees are read with no finding.
-use Rattle.std.proofs.Common.{◌≡◌, ℕ, zero, suc, ◌+◌, ◌<◌, ◌≤◌, ◌==◌, nat_lt, nat_le, Bool, true, false, not, cond, List, [], ◌∷◌, ◌++◌, Option, None, Some, Result, Ok, Err, map, length, Ordering, Less, Equal, Greater, is_eq, is_lt, refl, sym, ap, subst, ◌∙◌, arith, append_assoc}
+use Rattle.std.proofs.Common.{◌≡◌, ℕ, zero, suc, ◌+◌, ◌<◌, ◌≤◌, ◌==◌, nat_lt, nat_le, Bool, true, false, not, cond, List, [], ◌∷◌, ◌++◌, Option, None, Some, Result, Ok, Err, map, length, Ordering, Less, Equal, Greater, is_lt, refl, sym, ap, subst, ◌∙◌, arith, append_assoc}
 use Rattle.std.specs.Prelude.{◌&&◌, if◌then◌else◌}
 use Rattle.std.specs.Option.{option_and_then}
-use Rattle.std.proofs.lemmas.Bool.{true≢false, cond-true, cond-false, and_from, and_parts, not_from_false, ltb-true, lt-ltb, eqb-true, eq-eqb, ne_eqb}
+use Rattle.std.proofs.lemmas.Bool.{true≢false, cond-true, and_from, and_parts, not_from_false, lt-ltb, eqb-true, eq-eqb, ne_eqb}
 use Rattle.std.proofs.lemmas.Option.{none-some, cond_some}
 use Rattle.std.proofs.lemmas.List.{append-nil, map-append}
 use Rattle.std.specs.List.{AllByRecursion, flat_map, list_any}
@@ -12,7 +12,6 @@ use Rattle.log_entry.specs.declared.entry.Entry.{Entry}
 use Rattle.log_entry.specs.declared.entry.Entry.TheVariants.{Bin, BinDelta}
 use Rattle.log_entry.specs.declared.record_slot.RecordSlot.{RecordSlot}
 use Rattle.log_entry.specs.declared.root.Root.{Root}
-use Rattle.log_entry.specs.Items.{rises, root_before}
 use Rattle.node_core.specs.declared.slot.Marked.{Marked}
 use Rattle.node_core.specs.declared.node.Node.{Node}
 use Rattle.node_core.specs.Sorted.{put_all}
@@ -25,10 +24,10 @@ use Rattle.log_replay.specs.declared.finding.Finding.TheVariants.{Tree}
 use Rattle.log_replay.proofs.ListLaws.{all_weaker, all_append, none_from_false}
 use Rattle.log_trees.specs.Placed.{Placed, entry_at}
 use Rattle.log_trees.specs.Changes.{LoggedChange}
-use Rattle.log_trees.specs.Images.{NamedLsn, slots_shown, node_in, node_at, image}
-use Rattle.log_trees.specs.Trees.{slots_at, data_in, data_of, loaded, rows_of_root, rows_of_roots}
-use Rattle.log_trees.specs.Sound.{least_name, is_below, is_within, are_within, AreUp, Child, children, IsNodeAt, IsRecordAt, IsTreeAt, Home, at_home, IsRootAt}
-use Rattle.log_trees.specs.Walk.{and_then, each, Walk, nowhere, is_bin_of, node_read, delta_by, delta_with, delta_on, image_in, image_by, read_image, may_stand, node_standing, read_here, met, with_record, record_in, record_by, read_record, read_child, read_node, read_level, read_root, read_roots}
+use Rattle.log_trees.specs.Images.{NamedLsn, slots_shown, node_in, node_at}
+use Rattle.log_trees.specs.Trees.{slots_at, data_in, loaded, rows_of_root, rows_of_roots}
+use Rattle.log_trees.specs.Sound.{least_name, is_below, is_within, are_within, AreUp, Child, children, IsRecordAt, IsTreeAt, Home, at_home, IsRootAt}
+use Rattle.log_trees.specs.Walk.{and_then, each, Walk, nowhere, is_bin_of, node_read, delta_by, delta_on, image_in, image_by, read_image, may_stand, node_standing, read_here, met, with_record, record_in, record_by, read_record, read_child, read_node, read_level, read_root}
 use Rattle.log_trees.specs.Laws.{RootsAreRead}
 use Rattle.log_trees.proofs.Bounds.{less_of, below_more, above_more, within_parts, within_next, not_below_itself}
 use Rattle.log_trees.proofs.Shown.{leaf_image, inner_image, node_within}
@@ -183,7 +182,7 @@ below_last low (Some h) s a b = below_next low s h a (less_of _ b)
 
 children-ok : (files : List ℕ) (es : List Placed) (home : ℕ → Home) (d above at : ℕ)
     (goes : (low : Name) (high : Option Name) (c : ℕ) (walk : Walk) → IsTreeAt es (at_home home d) d above low high c → is_below low high ≡ true → NoneIn home d above low high walk.seen →
-        IsMet home d above low high (map (loaded es d) (slots_at es above c)) walk (read_node files es d above low high c walk))
+    IsMet home d above low high (map (loaded es d) (slots_at es above c)) walk (read_node files es d above low high c walk))
     (low : Name) (high : Option Name) (slots : List NamedLsn) (walk : Walk) →
     AllByRecursion (λ (c : Child). (c.at < at) × IsTreeAt es (at_home home d) d above c.low c.high c.at) (children low high slots) →
     AllByRecursion (λ s. is_within low high s.0 ≡ true) slots → AreUp slots → NoneIn home d above low high walk.seen →
@@ -210,12 +209,12 @@ children-ok files es home d above at goes low high (s ∷ n ∷ slots) walk tree
     let s_in = within_parts low high s.0 within.0 in
     let n_in = within_parts low high n.0 within.1.0 in
     let first = goes low (Some n.0) s.1 walk trees.0.1 (below_next low s.0 n.0 s_in.0 up.0.0)
-        (all_weaker (λ m. IsIn d above low high (home m) → ⊥) (λ m. IsIn d above low (Some n.0) (home m) → ⊥) (λ m h k. h (wider_part d above low high n.0 (home m) n_in.1 k)) walk.seen none) in
+    (all_weaker (λ m. IsIn d above low high (home m) → ⊥) (λ m. IsIn d above low (Some n.0) (home m) → ⊥) (λ m h k. h (wider_part d above low high n.0 (home m) n_in.1 k)) walk.seen none) in
     let next : Walk = record { seen = first.met_ ++ walk.seen; rows = walk.rows ++ map (loaded es d) (slots_at es above s.1) } in
     let none_next : NoneIn home d above n.0 high (first.met_ ++ walk.seen) =
-        all_append (λ m. IsIn d above n.0 high (home m) → ⊥) first.met_ walk.seen
-        (all_weaker (λ m. IsIn d above low (Some n.0) (home m)) (λ m. IsIn d above n.0 high (home m) → ⊥) (λ m h k. not_later d above low high n.0 (home m) h k) first.met_ first.homes)
-        (all_weaker (λ m. IsIn d above low high (home m) → ⊥) (λ m. IsIn d above n.0 high (home m) → ⊥) (λ m h k. h (later_part d above low high n.0 (home m) n_in.0 k)) walk.seen none) in
+    all_append (λ m. IsIn d above n.0 high (home m) → ⊥) first.met_ walk.seen
+    (all_weaker (λ m. IsIn d above low (Some n.0) (home m)) (λ m. IsIn d above n.0 high (home m) → ⊥) (λ m h k. not_later d above low high n.0 (home m) h k) first.met_ first.homes)
+    (all_weaker (λ m. IsIn d above low high (home m) → ⊥) (λ m. IsIn d above n.0 high (home m) → ⊥) (λ m h k. h (later_part d above low high n.0 (home m) n_in.0 k)) walk.seen none) in
     let rest = children-ok files es home d above at goes n.0 high (n ∷ slots) next trees.1 (within_next low high n slots within.1 up.1) up.1 none_next in
     let others : List NamedLsn = flat_map (λ (t : NamedLsn). slots_at es above t.1) (n ∷ slots) in
     record {
@@ -298,7 +297,7 @@ root-ok : (files : List ℕ) (es : List Placed) (home : ℕ → Home) (end : ℕ
 root-ok files es home end root walk is before =
     let top = root_image es (at_home home root.db) root.db is.above least_name None root.image is.tree in
     let none : NoneIn home root.db is.above least_name None walk.seen =
-        all_weaker (λ m. (home m).db < root.db) (λ m. IsIn root.db is.above least_name None (home m) → ⊥) (λ m h k. let e = k.db in omega (arith, h, e)) walk.seen before in
+    all_weaker (λ m. (home m).db < root.db) (λ m. IsIn root.db is.above least_name None (home m) → ⊥) (λ m h k. let e = k.db in omega (arith, h, e)) walk.seen before in
     let tree = node-ok files es home root.db is.above least_name None root.image walk is.tree refl none in (
       tree.met_ ++ walk.seen,
       cond-true (nat_lt root.image end) (and_then (read_image files es root.db root.image) (λ n. read_level files es root.db n.level root.image walk)) (Err (nowhere files root.image)) (lt-ltb root.image end is.lower)

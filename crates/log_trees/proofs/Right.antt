@@ -1,9 +1,9 @@
 -- Trees that are read with no finding are right.
-use Rattle.std.proofs.Common.{◌≡◌, ℕ, zero, suc, ◌+◌, ◌<◌, ◌==◌, nat_lt, Bool, true, false, not, cond, List, [], ◌∷◌, ◌++◌, Option, None, Some, unwrap_or, Result, Ok, Err, map, refl, sym, ap, ap₂, subst, ◌∙◌, append_assoc}
+use Rattle.std.proofs.Common.{◌≡◌, ℕ, zero, suc, ◌<◌, ◌==◌, nat_lt, Bool, true, false, not, cond, List, [], ◌∷◌, ◌++◌, Option, None, Some, unwrap_or, Result, Ok, Err, map, refl, sym, ap, subst, ◌∙◌, append_assoc}
 use Rattle.std.specs.Prelude.{◌&&◌, ◌||◌, if◌then◌else◌}
 use Rattle.std.specs.Option.{option_and_then}
-use Rattle.std.proofs.lemmas.Bool.{true≢false, cond-true, and_parts, not-true, or_right, or_left, ltb-true, eqb-true, eq-eqb}
-use Rattle.std.proofs.lemmas.Option.{none-some, same_Some}
+use Rattle.std.proofs.lemmas.Bool.{true≢false, cond-true, and_parts, not-true, ltb-true, eqb-true, eq-eqb}
+use Rattle.std.proofs.lemmas.Option.{none-some}
 use Rattle.std.proofs.lemmas.List.{append-nil, map-append}
 use Rattle.std.specs.List.{AllByRecursion, flat_map, list_any}
 use Rattle.std.specs.Map.{lookup}
@@ -19,11 +19,11 @@ use Rattle.log_replay.specs.declared.finding.Finding.TheVariants.{Tree}
 use Rattle.log_replay.proofs.ListLaws.{all_weaker}
 use Rattle.log_trees.specs.Placed.{Placed, entry_at}
 use Rattle.log_trees.specs.Changes.{LoggedChange}
-use Rattle.log_trees.specs.Images.{NamedLsn, slots_shown, node_in, node_at, image}
-use Rattle.log_trees.specs.Trees.{slots_at, data_in, data_of, loaded, rows_of_root, rows_of_roots}
+use Rattle.log_trees.specs.Images.{NamedLsn, slots_shown, node_in, node_at}
+use Rattle.log_trees.specs.Trees.{slots_at, data_in, loaded, rows_of_root, rows_of_roots}
 use Rattle.log_trees.specs.Sound.{least_name, are_within, Child, children, IsRecordAt, IsTreeAt, Home, at_home, IsRootAt}
-use Rattle.log_trees.specs.Walk.{and_then, each, Walk, is_bin_of, nowhere, node_read, delta_by, delta_on, image_in, image_by, read_image, may_stand, node_standing, read_here, met, with_record, record_in, record_by, read_record, read_child, read_node, read_level, read_root, read_roots}
-use Rattle.log_trees.specs.Laws.{AreRight, ReadTreesAreRight}
+use Rattle.log_trees.specs.Walk.{and_then, each, Walk, is_bin_of, nowhere, node_read, delta_by, delta_on, image_in, image_by, read_image, may_stand, node_standing, read_here, met, with_record, record_in, record_by, read_record, read_child, read_node, read_level, read_root}
+use Rattle.log_trees.specs.Laws.{ReadTreesAreRight}
 use Rattle.log_trees.proofs.Shown.{leaf_image, inner_image}
 use Rattle.log_trees.proofs.Rooted.{root_rows_of}
 use Rattle.log_trees.proofs.Reading.{delta_db}
@@ -155,12 +155,22 @@ Keeps old new = (n : ℕ) (h : Home) → lookup (λ m. m == n) old ≡ Some h �
 tree_kept : (es : List Placed) (P Q : ℕ → ℕ → Name → Type 0) → ((n a : ℕ) (x : Name) → P n a x → Q n a x) → (d above : ℕ) (low : Name) (high : Option Name) (at : ℕ) →
     IsTreeAt es P d above low high at → IsTreeAt es Q d above low high at
 tree_kept es P Q weaker d zero low high at tree = record {
-  node = tree.node; image = tree.image; db = tree.db; level_is = tree.level_is; within = tree.within; up = tree.up;
+  node = tree.node;
+  image = tree.image;
+  db = tree.db;
+  level_is = tree.level_is;
+  within = tree.within;
+  up = tree.up;
   home = weaker tree.node.number 0 low tree.home;
   right = tree.right;
 }
 tree_kept es P Q weaker d (suc above) low high at tree = record {
-  node = tree.node; image = tree.image; db = tree.db; level_is = tree.level_is; within = tree.within; up = tree.up;
+  node = tree.node;
+  image = tree.image;
+  db = tree.db;
+  level_is = tree.level_is;
+  within = tree.within;
+  up = tree.up;
   home = weaker tree.node.number (suc above) low tree.home;
   right = all_weaker (λ (c : Child). (c.at < at) × IsTreeAt es P d above c.low c.high c.at) (λ c. (c.at < at) × IsTreeAt es Q d above c.low c.high c.at)
       (λ c h. (h.0, tree_kept es P Q weaker d above c.low c.high c.at h.1)) (children low high (slots_shown tree.node)) tree.right;
@@ -198,7 +208,7 @@ record IsRead (es : List Placed) (d : ℕ) (homes : Homes) (right : Homes → Ty
 
 children-are : (files : List ℕ) (es : List Placed) (d above at : ℕ)
     (goes : (low : Name) (high : Option Name) (c : ℕ) (homes : Homes) (walk new : Walk) → map (λ e. e.0) homes ≡ walk.seen → read_node files es d above low high c walk ≡ Ok new →
-        IsRead es d homes (λ later. IsTreeAt es (in_homes later d) d above low high c) (map (loaded es d) (slots_at es above c)) walk new)
+    IsRead es d homes (λ later. IsTreeAt es (in_homes later d) d above low high c) (map (loaded es d) (slots_at es above c)) walk new)
     (low : Name) (high : Option Name) (slots : List NamedLsn) (homes : Homes) (walk new : Walk) → map (λ e. e.0) homes ≡ walk.seen →
     each (read_child files (read_node files es d above) at) (children low high slots) walk ≡ Ok new →
     IsRead es d homes (λ later. AllByRecursion (λ (c : Child). (c.at < at) × IsTreeAt es (in_homes later d) d above c.low c.high c.at) (children low high slots))
@@ -221,7 +231,7 @@ children-are files es d above at goes low high (s ∷ []) homes walk new numbers
     }
 children-are files es d above at goes low high (s ∷ n ∷ slots) homes walk new numbers h =
     let parts = then_parts (read_child files (read_node files es d above) at (record { low = low; high = Some n.0; at = s.1 }) walk)
-        (each (read_child files (read_node files es d above) at) (children n.0 high (n ∷ slots))) new h in
+    (each (read_child files (read_node files es d above) at) (children n.0 high (n ∷ slots))) new h in
     let mid : Walk = parts.0 in
     let tested = passed (nat_lt s.1 at) (read_node files es d above low (Some n.0) s.1 walk) (nowhere files s.1) mid parts.1 in
     let first = goes low (Some n.0) s.1 homes walk mid numbers tested.1 in
@@ -232,8 +242,10 @@ children-are files es d above at goes low high (s ∷ n ∷ slots) homes walk ne
       numbers = rest.numbers;
       keeps = λ k o is. rest.keeps k o (first.keeps k o is);
       tree = (
-        (ltb-true s.1 at tested.0,
-            tree_kept es (in_homes first.later d) (in_homes rest.later d) (λ k a x is. rest.keeps k (record { db = d; above = a; low = x }) is) d above low (Some n.0) s.1 first.tree),
+        (
+          ltb-true s.1 at tested.0,
+          tree_kept es (in_homes first.later d) (in_homes rest.later d) (λ k a x is. rest.keeps k (record { db = d; above = a; low = x }) is) d above low (Some n.0) s.1 first.tree,
+        ),
         rest.tree,
       );
       rows_are =
@@ -254,7 +266,12 @@ node-is files es entries d zero low high at homes walk new numbers h =
     let later : Homes = (n.number, own) ∷ homes in
     let records = records-are files es d at (slots_shown n) (met n walk) new parts.2 in
     let tree : IsTreeAt es (in_homes later d) d zero low high at = record {
-      node = n; image = here.is; db = here.db; level_is = here.level_is; within = here.within; up = image_up es at n entries here.is;
+      node = n;
+      image = here.is;
+      db = here.db;
+      level_is = here.level_is;
+      within = here.within;
+      up = image_up es at n entries here.is;
       home = cond-true (n.number == n.number) (Some own) (lookup (λ m. m == n.number) homes) (eq-eqb n.number n.number refl);
       right = records.0;
     } in
@@ -267,14 +284,19 @@ node-is files es entries d zero low high at homes walk new numbers h =
     }
 node-is files es entries d (suc above) low high at homes walk new numbers h =
     let parts = then_parts (read_here files es d (suc (suc above)) low high at walk.seen)
-        (λ n. each (read_child files (read_node files es d above) at) (children low high (slots_shown n)) (met n walk)) new h in
+    (λ n. each (read_child files (read_node files es d above) at) (children low high (slots_shown n)) (met n walk)) new h in
     let n : Node = parts.0 in
     let here = here-is files es d (suc (suc above)) low high at walk.seen n parts.1 in
     let own : Home = record { db = d; above = suc above; low = low } in
     let with_own : Homes = (n.number, own) ∷ homes in
     let rest = children-are files es d above at (node-is files es entries d above) low high (slots_shown n) with_own (met n walk) new (ap (λ (l : List ℕ). n.number ∷ l) numbers) parts.2 in
     let tree : IsTreeAt es (in_homes rest.later d) d (suc above) low high at = record {
-      node = n; image = here.is; db = here.db; level_is = here.level_is; within = here.within; up = image_up es at n entries here.is;
+      node = n;
+      image = here.is;
+      db = here.db;
+      level_is = here.level_is;
+      within = here.within;
+      up = image_up es at n entries here.is;
       home = rest.keeps n.number own (cond-true (n.number == n.number) (Some own) (lookup (λ m. m == n.number) homes) (eq-eqb n.number n.number refl));
       right = rest.tree;
     } in

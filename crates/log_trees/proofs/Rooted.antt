@@ -1,24 +1,21 @@
 -- What the roots of right trees give is what they show name by name.
 use Rattle.std.proofs.Common.{◌≡◌, ℕ, zero, suc, ◌+◌, ◌<◌, ◌≤◌, ◌==◌, nat_lt, Bool, true, false, cond, List, [], ◌∷◌, ◌++◌, Option, None, Some, map, option_map, is_eq, Less, refl, sym, ap, subst, ◌∙◌, arith}
-use Rattle.std.specs.Prelude.{◌&&◌, find}
+use Rattle.std.specs.Prelude.{find}
 use Rattle.std.specs.Option.{option_and_then}
 use Rattle.std.proofs.lemmas.Bool.{cond-true, cond-false, and_left, and_right, and_from, and_parts, ltb-true, lt-ltb, eqb-true, eq-eqb, ne_eqb}
-use Rattle.std.proofs.lemmas.Bool.Decides.{nat_tests}
-use Rattle.std.specs.List.{AllByRecursion, flat_map}
+use Rattle.std.specs.List.{AllByRecursion}
 use Rattle.je_order.specs.declared.name.Name.{Name}
 use Rattle.je_order.specs.Order.{name_cmp}
 use Rattle.log_entry.specs.declared.root.Root.{Root}
 use Rattle.log_entry.specs.Items.{rises, rises_from, root_before}
 use Rattle.node_core.proofs.Order.{same, equal_of}
-use Rattle.node_core.specs.declared.node.Node.{Node}
-use Rattle.log_replay.proofs.ListLaws.{all_weaker}
 use Rattle.log_trees.specs.Placed.{Placed}
 use Rattle.log_trees.specs.Changes.{Written, unwritten, LoggedChange, is_of, last_of}
 use Rattle.log_trees.specs.Images.{NamedLsn, level_of, level_at}
-use Rattle.log_trees.specs.Trees.{slots_at, found, shows, data_of, written_at, loaded, slots_by_level, slots_of_tree, shows_by_level, tree_shows, rows_of_root, rows_of_roots, root_of, roots_show}
+use Rattle.log_trees.specs.Trees.{slots_at, found, data_of, written_at, loaded, slots_by_level, slots_of_tree, shows_by_level, tree_shows, rows_of_root, rows_of_roots, roots_show}
 use Rattle.log_trees.specs.Sound.{least_name, AreUp, IsTreeAt, Home, at_home, IsRootAt}
 use Rattle.log_trees.specs.Laws.{RootsShow}
-use Rattle.log_trees.proofs.Bounds.{eq_turned, low_turned, within_from, none_below_least}
+use Rattle.log_trees.proofs.Bounds.{eq_turned, within_from, none_below_least}
 use Rattle.log_trees.proofs.Shown.{slots_up, shown_is}
 
 -- ---- changes one after another

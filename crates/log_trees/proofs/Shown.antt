@@ -1,5 +1,5 @@
 -- The records below an image are those that it shows name by name.
-use Rattle.std.proofs.Common.{◌≡◌, ℕ, zero, suc, ◌<◌, ◌==◌, nat_lt, Bool, true, false, cond, List, [], ◌∷◌, ◌++◌, Option, None, Some, map, filter, Less, is_eq, is_lt, refl, sym, ap, subst, ◌∙◌, append_assoc}
+use Rattle.std.proofs.Common.{◌≡◌, ℕ, zero, suc, ◌<◌, ◌==◌, nat_lt, Bool, true, false, cond, List, [], ◌∷◌, ◌++◌, Option, None, Some, filter, Less, is_eq, is_lt, refl, sym, ap, subst, ◌∙◌}
 use Rattle.std.specs.Option.{option_and_then}
 use Rattle.std.proofs.lemmas.Bool.{and_parts, lt-ltb, eq-eqb, cond-true}
 use Rattle.std.proofs.lemmas.List.{append-nil}
@@ -13,7 +13,7 @@ use Rattle.log_replay.proofs.ListLaws.{all_weaker, all_append, filter-all}
 use Rattle.log_trees.specs.Placed.{Placed}
 use Rattle.log_trees.specs.Images.{NamedLsn, named, slot_shown, slots_shown, node_at, slots_of_level, image}
 use Rattle.log_trees.specs.Trees.{slots_at, found, child_behind, child_over, shows}
-use Rattle.log_trees.specs.Sound.{is_below, is_within, AreUp, Child, children, IsRecordAt, IsTreeAt, Home, at_home}
+use Rattle.log_trees.specs.Sound.{is_below, is_within, AreUp, Child, children, IsRecordAt, IsTreeAt, at_home}
 use Rattle.log_trees.specs.Laws.{ShowsAreSlots}
 use Rattle.log_trees.proofs.Bounds.{apart, less_over, within_parts, within_from, wider_high, wider_low, within_next}
 

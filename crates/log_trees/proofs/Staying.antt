@@ -1,5 +1,5 @@
 -- What an image shows is the same in a longer log, since it names lower LSNs alone.
-use Rattle.std.proofs.Common.{◌≡◌, ℕ, zero, suc, ◌<◌, ◌≤◌, ◌==◌, nat_lt, Bool, true, false, cond, List, [], ◌∷◌, ◌++◌, Option, None, Some, map, filter, refl, sym, ap, ap₂, ◌∙◌, arith}
+use Rattle.std.proofs.Common.{◌≡◌, ℕ, zero, suc, ◌<◌, ◌≤◌, ◌==◌, nat_lt, Bool, true, false, cond, List, [], ◌∷◌, ◌++◌, Option, None, Some, map, filter, refl, ap, ap₂, ◌∙◌, arith}
 use Rattle.std.specs.Option.{option_and_then}
 use Rattle.std.proofs.lemmas.Bool.{ltb-true, cond_both}
 use Rattle.std.proofs.lemmas.Bool.Decides.{nat_tests}
@@ -11,13 +11,13 @@ use Rattle.log_entry.specs.declared.entry.Entry.{Entry}
 use Rattle.log_entry.specs.declared.entry.Entry.TheVariants.{BinDelta}
 use Rattle.log_entry.specs.declared.root.Root.{Root}
 use Rattle.node_core.specs.declared.node.Node.{Node}
-use Rattle.node_log.specs.Images.{node_of, node_with}
+use Rattle.node_log.specs.Images.{node_with}
 use Rattle.log_replay.proofs.ListLaws.{all_weaker, all_append, filter_all_pass, map_same}
 use Rattle.log_trees.specs.Placed.{Placed, entry_at}
 use Rattle.log_trees.specs.Changes.{LoggedChange}
 use Rattle.log_trees.specs.Images.{NamedLsn, slots_shown, node_in, node_at, slots_of_level, image, level_of, level_at}
-use Rattle.log_trees.specs.Trees.{slots_at, found, child_behind, child_over, shows, data_in, data_of, loaded, slots_by_level, slots_of_tree, rows_of_root, rows_of_roots}
-use Rattle.log_trees.specs.Sound.{Child, children, IsNodeAt, IsRecordAt, IsTreeAt, Home, at_home, least_name, IsRootAt}
+use Rattle.log_trees.specs.Trees.{slots_at, found, child_behind, child_over, shows, data_in, data_of, loaded, slots_by_level, slots_of_tree, rows_of_root}
+use Rattle.log_trees.specs.Sound.{Child, children, IsRecordAt, IsTreeAt, at_home, least_name, IsRootAt}
 use Rattle.log_trees.specs.Laws.{AreBehind, SlotsStay, ShowsStay, RootsStay, TreesStay, RootsStayRight}
 
 -- ---- lists
