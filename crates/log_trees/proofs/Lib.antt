@@ -6,3 +6,4 @@ pub mod Rooted
 pub mod Reading
 pub mod Names
 pub mod Right
+pub mod Building

@@ -65,7 +65,7 @@ children_up (c ∷ cs) up = (child_above c.name cs up.0, children_up cs up.1)
 slots_of : (n m : Node) → n ≡ m → Rises n.slots → Rises m.slots
 slots_of n m same up = subst (λ (k : Node). Rises k.slots) same up
 
-whole_up : (entry : Entry) (n : Node) → IsEntry entry → node_of entry ≡ Some n → Rises n.slots
+pub whole_up : (entry : Entry) (n : Node) → IsEntry entry → node_of entry ≡ Some n → Rises n.slots
 whole_up (In db number level children) n is made =
     slots_of (record { db = db; number = number; level = level; full = None; slots = map (λ c. fresh (slot_of_child c)) children }) n (same_Some _ n made)
     (children_up children (children_rise children is.5.rise))

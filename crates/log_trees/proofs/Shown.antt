@@ -30,7 +30,7 @@ shown_names p (m ∷ ms) h =
     one None h = tt
     one (Some lsn) h = (h, tt)
 
-image_is : (es : List Placed) (level at : ℕ) (n : Node) → node_at es at ≡ Some n → n.level ≡ level → AllByRecursion (λ s. s.1 < at) (slots_shown n) → image es level at ≡ slots_shown n
+pub image_is : (es : List Placed) (level at : ℕ) (n : Node) → node_at es at ≡ Some n → n.level ≡ level → AllByRecursion (λ s. s.1 < at) (slots_shown n) → image es level at ≡ slots_shown n
 image_is es level at n is level_is lower =
     ap (λ (o : Option Node). filter (λ (s : NamedLsn). nat_lt s.1 at) (slots_of_level level o)) is
     ∙ ap (filter (λ (s : NamedLsn). nat_lt s.1 at)) (cond-true (n.level == level) (slots_shown n) [] (eq-eqb n.level level level_is))

@@ -5,3 +5,4 @@ pub mod Trees
 pub mod Sound
 pub mod Walk
 pub mod Laws
+pub mod Building

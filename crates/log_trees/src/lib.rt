@@ -5,6 +5,7 @@
 #![tactic(auto)]
 
 ghost use Rattle.log_trees.specs.Laws.{SlotsStay, ShowsStay, RootsStay, TreesStay, ShowsAreSlots, RootsShow, RootsAreRead, RootsStayRight, ReadTreesAreRight};
+ghost use Rattle.log_trees.specs.Building.{BinsAreRight, InsAreRight, BinsShow, InsShow};
 ghost use Rattle.log_trees.specs.Placed.{PlacedAreEntries, PlacedGoLast, PlacedGoOn, FrontsArePlaced, PlacedAreInOrder};
 
 /// The entries of a log with their LSNs are the log's entries; an entry more is the last one, a front of the
@@ -37,4 +38,12 @@ pub fn trees_show_their_slots()
 pub fn trees_are_read()
     ensures read { RootsAreRead }
     ensures right { ReadTreesAreRight }
+{}
+
+/// When an image that is logged is right, and what it shows for a name.
+pub fn images_are_right()
+    ensures bins { BinsAreRight }
+    ensures ins { InsAreRight }
+    ensures bin_shows { BinsShow }
+    ensures in_shows { InsShow }
 {}
