@@ -6,4 +6,5 @@ pub mod Leaving
 pub mod Images
 pub mod Replays
 pub mod Alike
+pub mod Drawn
 pub mod Opened

@@ -22,8 +22,9 @@ use Rattle.log_trees.proofs.Reading.{roots_are_read}
 use Rattle.log_trees.proofs.Right.{read_trees_are_right}
 use Rattle.log_meaning.specs.Redo.{Redo, redone, record_at}
 use Rattle.log_meaning.specs.Checkpoint.{Checkpoint, no_checkpoint, checkpoint_in, last_end, last_checkpoint, behind, restarted}
-use Rattle.log_meaning.specs.Meaning.{Meaning, rows_of, meaning_of, lsn_there, wrong_lsn}
+use Rattle.log_meaning.specs.Meaning.{Meaning, rows_of, meaning_of, lsn_there, wrong_lsn, AreDrawn}
 use Rattle.log_meaning.specs.Reading.{gap_at, gap_from, missing, redo_finding, unless, judged_by, judged, meaning_in}
+use Rattle.log_meaning.proofs.Drawn.{are_drawn}
 use Rattle.log_meaning.specs.Recovery.{IsRedoLsn, IsOpened, ReadFilesLeave}
 
 -- ---- results
@@ -112,6 +113,7 @@ opened first later es meaning entries h =
         environment = right_records (restarted es) (sym (ap wrong_lsn same) ∙ judgement.0);
         store_is = sym (ap (λ (r : Redo). store_of (rows_of r)) same) ∙ ap (λ (m : Meaning). m.store) judgement.1;
       };
+      drawn = subst (AreDrawn es) judgement.1 (are_drawn es walk right.rows);
       home = right.home;
       right = right.right;
     }

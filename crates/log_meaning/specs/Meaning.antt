@@ -1,5 +1,6 @@
 -- What a log means: the store, and the numbers that were drawn last.
-use Rattle.std.specs.Prelude.{ℕ, ◌==◌, max, if◌then◌else◌, List, [], ◌∷◌, Option, option_map, unwrap_or}
+use Rattle.std.specs.Prelude.{◌≡◌, ◌<◌, ◌≤◌, ℕ, ◌==◌, max, if◌then◌else◌, List, [], ◌∷◌, Option, option_map, unwrap_or, IfSome}
+use Rattle.je_order.specs.declared.name.Name.{Name}
 use Rattle.je_model.specs.declared.store.Store.{Store}
 use Rattle.log_entry.specs.declared.entry.Entry.{Entry}
 use Rattle.log_entry.specs.declared.entry.Entry.TheVariants.{Migrated, In, Bin, BinDelta}
@@ -7,10 +8,10 @@ use Rattle.log_replay.specs.Rows.{Rows, no_rows, store_of, number_in}
 use Rattle.log_replay.specs.Wrong.{wrong_record}
 use Rattle.log_replay.specs.Replay.{txn_in, db_in}
 use Rattle.log_trees.specs.Placed.{Placed}
-use Rattle.log_trees.specs.Changes.{Written, LoggedChange, rows_after}
+use Rattle.log_trees.specs.Changes.{Written, unwritten, LoggedChange, rows_after}
 use Rattle.log_trees.specs.Walk.{Walk}
 use Rattle.log_meaning.specs.Redo.{Redo, from, redone, record_at}
-use Rattle.log_meaning.specs.Checkpoint.{Checkpoint, behind}
+use Rattle.log_meaning.specs.Checkpoint.{Checkpoint, behind, restarted}
 
 -- the store; the transaction, node and database numbers that were drawn last; and the number of the last checkpoint that ended, 0 where none did
 pub record Meaning : Type 0 where
@@ -69,3 +70,10 @@ lsn_there written = unwrap_or (option_map (λ value. written.at) written.value) 
 -- the LSN of the first record that is wrong, where records are not those of an environment
 abbrev pub wrong_lsn : Redo → Option ℕ
 wrong_lsn redo = option_map (λ place. lsn_there (record_at redo place.db place.name)) (wrong_record (rows_of redo))
+
+-- the numbers of a meaning are past those of the log read again: no change of a later transaction waits, later databases are empty, and the
+-- catalog names none of them
+pub record AreDrawn (es : List Placed) (meaning : Meaning) : Type 0 where
+  pub txns : (t : ℕ) → meaning.last_txn < t → (restarted es).pending t ≡ []
+  pub databases : (d : ℕ) (x : Name) → meaning.last_db < d → record_at (restarted es) d x ≡ unwritten
+  pub named : (x : Name) → IfSome (record_at (restarted es) 0 x).value (λ bytes. number_in bytes ≤ meaning.last_db)

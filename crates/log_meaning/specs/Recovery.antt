@@ -17,7 +17,7 @@ use Rattle.log_trees.specs.Trees.{rows_of_roots}
 use Rattle.log_trees.specs.Sound.{Home, IsRootAt}
 use Rattle.log_trees.specs.Walk.{read_roots}
 use Rattle.log_meaning.specs.Checkpoint.{Checkpoint, last_end, last_checkpoint, restarted}
-use Rattle.log_meaning.specs.Meaning.{Meaning, rows_of}
+use Rattle.log_meaning.specs.Meaning.{Meaning, rows_of, AreDrawn}
 use Rattle.log_meaning.specs.Stands.{Stands}
 use Rattle.log_meaning.specs.Reading.{reading_of}
 
@@ -64,9 +64,10 @@ StandsLeaves = (first : ℕ) (es : List Placed) (base next : ℕ) (is_open : ℕ
     → is_open 0 ≡ true → AllByRecursion (λ n. is_open n ≡ true) (numbers_of kept) → is_environment kept ≡ true
     → Leaves first es (store_of kept)
 
--- files that are read with no finding leave the store that they mean, and the trees of their last checkpoint are right
+-- files that are read with no finding leave the store that they mean, later numbers are free, and the trees of their last checkpoint are right
 pub record IsOpened (first : ℕ) (es : List Placed) (meaning : Meaning) : Type 0 where
   pub leaves : Leaves first es meaning.store
+  pub drawn : AreDrawn es meaning
   pub home : ℕ → Home
   pub right : AllByRecursion (IsRootAt es home (last_checkpoint es).at) (last_checkpoint es).roots
 
@@ -107,7 +108,7 @@ pub record IsRecovered (opening : Store) (least : ℕ) (transactions : List (Lis
   pub within : count ≤ length transactions
   pub store : meaning.store ≡ store_after opening (take count transactions)
 
--- the numbers of a log's files have no gap, and this is the first one
+-- the first of these numbers, if there is one
 abbrev pub IsFirstFile : ℕ → List ℕ → Type 0
 IsFirstFile first [] = Unit {0}
 IsFirstFile first (n ∷ ns) = n ≡ first
