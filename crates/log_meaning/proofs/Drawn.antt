@@ -1,15 +1,15 @@
 -- The numbers of a meaning are past those of the log read again.
-use Rattle.std.proofs.Common.{◌≡◌, ℕ, ◌+◌, ◌<◌, ◌≤◌, ◌==◌, max, Bool, true, false, cond, List, [], ◌∷◌, ◌++◌, Option, None, Some, option_map, unwrap_or, map, is_eq, nat_lt, refl, sym, ap, subst, ◌∙◌, arith}
-use Rattle.std.specs.Prelude.{◌&&◌, IfSome}
+use Rattle.std.proofs.Common.{◌≡◌, ℕ, ◌<◌, ◌≤◌, ◌==◌, max, Bool, true, false, cond, List, [], ◌∷◌, ◌++◌, Option, None, Some, option_map, unwrap_or, map, is_eq, nat_lt, refl, sym, ap, subst, ◌∙◌, arith}
+use Rattle.std.specs.Prelude.{IfSome}
 use Rattle.std.proofs.lemmas.Bool.{true≢false, and_left, and_parts, eqb-true, eq-eqb, ne_eqb, cond-true, cond-false}
-use Rattle.std.specs.List.{AllByRecursion, flat_map}
+use Rattle.std.specs.List.{AllByRecursion}
 use Rattle.je_order.specs.Order.{name_cmp}
 use Rattle.je_order.specs.declared.name.Name.{Name}
 use Rattle.log_entry.specs.declared.entry.Entry.{Entry}
 use Rattle.log_entry.specs.declared.entry.Entry.TheVariants.{Put, Delete, Migrated, Commit}
 use Rattle.log_entry.specs.declared.root.Root.{Root}
 use Rattle.log_replay.specs.Rows.{number_in}
-use Rattle.log_replay.specs.Replay.{txn_in, db_in}
+use Rattle.log_replay.specs.Replay.{txn_in}
 use Rattle.log_replay.proofs.ListLaws.{all_weaker, all_append, all_both}
 use Rattle.log_trees.specs.Placed.{Placed}
 use Rattle.log_trees.specs.Changes.{Written, unwritten, LoggedChange, is_of, last_of}
@@ -17,7 +17,7 @@ use Rattle.log_trees.specs.Images.{NamedLsn}
 use Rattle.log_trees.specs.Trees.{loaded, slots_of_tree, rows_of_root, rows_of_roots}
 use Rattle.log_trees.specs.Walk.{Walk}
 use Rattle.log_trees.proofs.Rooted.{last_of-none}
-use Rattle.log_meaning.specs.Redo.{Redo, nothing_redone, set_at, unset_at, redo_entry, redo_all, from, redone, record_at}
+use Rattle.log_meaning.specs.Redo.{Redo, nothing_redone, set_at, unset_at, redo_entry, redo_all, from, redone}
 use Rattle.log_meaning.specs.Checkpoint.{Checkpoint, last_checkpoint, restarted}
 use Rattle.log_meaning.specs.Meaning.{Meaning, db_number, db_given, most, meaning_of, AreDrawn}
 
@@ -153,8 +153,8 @@ are_drawn es walk rows =
     let given : AllByRecursion (λ (e : LoggedChange). db_given e ≤ most db_given root_rows) root_rows = most-all db_given root_rows in
     let same : most db_given walk.rows ≡ most db_given root_rows = ap (most db_given) rows in
     let from_roots : AllByRecursion (IsWithin top) root_rows =
-        all_both (λ (e : LoggedChange). e.db ≤ top) (λ e. db_given e ≤ most db_given root_rows) (IsWithin top) (λ e h k. given_within top e h (omega (arith, k, same))) root_rows
-        (roots_db es c.at top c.roots (omega arith)) given in
+    all_both (λ (e : LoggedChange). e.db ≤ top) (λ e. db_given e ≤ most db_given root_rows) (IsWithin top) (λ e h k. given_within top e h (omega (arith, k, same))) root_rows
+    (roots_db es c.at top c.roots (omega arith)) given in
     let redone_in : AreWithin top redo = within_all top (from c.redo es) nothing_redone (omega arith) (record { done = tt; pending = λ t. tt }) in
     let all : AllByRecursion (IsWithin top) (restarted es).done = all_append (IsWithin top) root_rows redo.done from_roots redone_in.done in
     record {

@@ -1,29 +1,25 @@
 -- Images that are logged: when they are right, and what they show.
-use Rattle.std.proofs.Common.{◌≡◌, ℕ, suc, ◌<◌, ◌==◌, nat_lt, Bool, true, false, cond, List, [], ◌∷◌, ◌++◌, Option, None, Some, map, filter, is_eq, Less, refl, sym, ap, subst, ◌∙◌}
-use Rattle.std.specs.Prelude.{◌&&◌, IfSome, find}
+use Rattle.std.proofs.Common.{◌≡◌, ℕ, suc, ◌<◌, Bool, true, false, cond, List, [], ◌∷◌, ◌++◌, Option, None, Some, map, is_eq, refl, sym, ap, subst, ◌∙◌}
+use Rattle.std.specs.Prelude.{IfSome, find}
 use Rattle.std.specs.Option.{option_and_then}
-use Rattle.std.proofs.lemmas.Bool.{and_from, lt-ltb, eq-eqb, cond-true}
+use Rattle.std.proofs.lemmas.Bool.{and_from}
 use Rattle.std.specs.List.{AllByRecursion, flat_map, list_all}
 use Rattle.je_order.specs.Order.{name_cmp}
 use Rattle.je_order.specs.declared.name.Name.{Name}
-use Rattle.log_entry.specs.declared.entry.Entry.{Entry}
 use Rattle.log_entry.specs.declared.entry.Entry.TheVariants.{In, Bin}
 use Rattle.log_entry.specs.declared.child_slot.ChildSlot.{ChildSlot}
 use Rattle.log_entry.specs.declared.record_slot.RecordSlot.{RecordSlot}
-use Rattle.log_entry.specs.Body.{IsEntry}
 use Rattle.node_core.specs.declared.slot.Marked.{Marked}
 use Rattle.node_core.specs.declared.node.Node.{Node}
 use Rattle.node_core.specs.Sorted.{AllAbove, Rises}
 use Rattle.node_core.proofs.Order.{same, equal_of}
 use Rattle.node_log.specs.Slots.{lsn_in, version_in, slot_of_record, slot_of_child, fresh}
 use Rattle.node_log.specs.Images.{bin_of}
-use Rattle.log_replay.proofs.ListLaws.{all_weaker}
 use Rattle.log_trees.specs.Placed.{Placed, entry_at}
-use Rattle.log_trees.specs.Images.{NamedLsn, named, slot_shown, slots_shown, node_in, node_at, image}
-use Rattle.log_trees.specs.Trees.{found, child_over, shows, data_of}
-use Rattle.log_trees.specs.Sound.{is_within, are_within, AreUp, Child, children, IsRecordAt, IsTreeAt, Home, at_home}
-use Rattle.log_trees.specs.Building.{child_shown, NamesRecord, BinsAreRight, InsAreRight, BinsShow, InsShow}
-use Rattle.log_trees.proofs.Bounds.{eq_turned}
+use Rattle.log_trees.specs.Images.{NamedLsn, named, slot_shown, node_in, node_at, image}
+use Rattle.log_trees.specs.Trees.{found, child_over, shows}
+use Rattle.log_trees.specs.Sound.{is_within, Child, children, IsRecordAt, IsTreeAt, at_home}
+use Rattle.log_trees.specs.Building.{child_shown, BinsAreRight, InsAreRight, BinsShow, InsShow}
 use Rattle.log_trees.proofs.Names.{up_shown, whole_up}
 use Rattle.log_trees.proofs.Shown.{image_is}
 
@@ -138,7 +134,7 @@ pub ins_show : InsShow
 ins_show es d number above slots at x is lower =
     let n : Node = in_of d number (suc (suc above)) slots in
     let shown : image es (suc (suc above)) at ≡ map child_shown slots =
-        image_is es (suc (suc above)) at n (in_image es d number (suc (suc above)) slots at is) refl
-        (subst (AllByRecursion (λ (s : NamedLsn). s.1 < at)) (sym (children_shown slots)) (children_lower at slots lower))
-        ∙ children_shown slots in
+    image_is es (suc (suc above)) at n (in_image es d number (suc (suc above)) slots at is) refl
+    (subst (AllByRecursion (λ (s : NamedLsn). s.1 < at)) (sym (children_shown slots)) (children_lower at slots lower))
+    ∙ children_shown slots in
     ap (λ (l : List NamedLsn). option_and_then (λ c. shows es above c x) (child_over x l)) shown
