@@ -8,3 +8,4 @@ pub mod Replays
 pub mod Alike
 pub mod Drawn
 pub mod Opened
+pub mod Worked

@@ -7,3 +7,4 @@ pub mod Meaning
 pub mod Reading
 pub mod Recovery
 pub mod Plain
+pub mod Worked

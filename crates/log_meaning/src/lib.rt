@@ -7,6 +7,7 @@
 ghost use Rattle.log_meaning.specs.Growth.{StandsNeutral, StandsPut, StandsDelete, StandsCommit, StandsEnd, StandsFewer, StandsOpen};
 ghost use Rattle.log_meaning.specs.Listing.{ListedByName, ListedInOrder};
 ghost use Rattle.log_meaning.specs.Plain.{ReplayedAlike, ReadAlike};
+ghost use Rattle.log_meaning.specs.Worked.{IsWorked};
 ghost use Rattle.log_meaning.specs.Recovery.{StandsLeaves, RecoversFirst, RecoversPush, ReadFilesLeave, ImagesRecover};
 
 /// An entry more: an image, a change, a commit or a checkpoint's end.
@@ -49,4 +50,9 @@ pub fn images_recover()
 pub fn plain_logs_are_replayed()
     ensures replayed { ReplayedAlike }
     ensures read { ReadAlike }
+{}
+
+/// A log that was worked by hand is read as worked, and so are its findings where one child stands elsewhere.
+pub fn a_log_is_worked()
+    ensures { IsWorked }
 {}
