@@ -19,7 +19,7 @@ use Rattle.log_entry.specs.Run.{run_on}
 use Rattle.log_entry.proofs.FieldLaws.{eight}
 use Rattle.log_file.specs.declared.found.Found.{Found}
 use Rattle.log_file.specs.declared.found.Found.TheVariants.{Run, VersionUnknown as OtherVersion, Damaged as NoHeader}
-use Rattle.log_file.specs.Scan.{may_follow, front, entries_behind, run_with, no_run, found_first, found_by, found_in}
+use Rattle.log_file.specs.Scan.{may_follow, front, entries_behind, run_with, found_first, found_by, found_in}
 use Rattle.log_file.specs.Log.{Log, entries_of, entries_found, log_in}
 use Rattle.log_replay.specs.declared.finding.Finding.{Finding}
 use Rattle.log_replay.specs.declared.finding.Finding.TheVariants.{Damaged, Missing, Tree}
@@ -151,13 +151,9 @@ found_low f bytes small = by_decoded (decoded bytes)
     by_tests false false true version = behind_low
     by_tests false false false version = tt
 
-    headless : (b : Bool) → AllByRecursion (λ (p : Placed). p.0 < 2 ^ 64) (placed_from f 26 (entries_found (cond b NoHeader (Run no_run))))
-    headless true = tt
-    headless false = tt
-
     by_first : (prev : ℕ) (entry : Entry) → AllByRecursion (λ (p : Placed). p.0 < 2 ^ 64) (placed_from f 26 (entries_found (found_first f bytes prev entry)))
     by_first prev (FileHeader version file) = by_tests (not (prev == 0)) (not (version == 1)) (file == f) version
-    by_first prev entry = headless (may_follow entry)
+    by_first prev entry = tt
 
     by_decoded : (d : Decoded) → AllByRecursion (λ (p : Placed). p.0 < 2 ^ 64) (placed_from f 26 (entries_found (found_by f bytes d)))
     by_decoded (NotWhole torn) = tt
