@@ -23,7 +23,7 @@ pub is_placed : (file_max : ℕ) (end : Place) (size : ℕ) → IsPlaced file_ma
 is_placed file_max end size = placed_by file_max end size (goes_in file_max end.offset size) refl
 
 -- what goes into a file ends below 2^32
-pub fits_in : (file_max offset size : ℕ) → file_max ≤ 2 ^ 30 → size < 2 ^ 18 → goes_in file_max offset size ≡ true → offset + size < 2 ^ 32
+pub fits_in : (file_max offset size : ℕ) → file_max ≤ 2 ^ 30 → size < 2 ^ 31 → goes_in file_max offset size ≡ true → offset + size < 2 ^ 32
 fits_in file_max offset size max small goes = grind (arith, nat_tests)
 
 -- the file never falls

@@ -115,15 +115,11 @@ headed_by f bytes run version file prev len first is = by_prev (prev == 0) (vers
       run_is = sym (same_run _ _ h);
     }
 
-headless : (follows : Bool) (run : FileRun) → cond follows Damaged (Run no_run) ≡ Run run → 0 < run.end → ⊥
-headless true run is some = absurd cc
-headless false run is some = let none : 0 ≡ run.end = ap (λ (r : FileRun). r.end) (same_run no_run run is) in absurd (omega arith)
-
 headed_at : (f : ℕ) (bytes : List ℕ) (run : FileRun) (d : Decoded) → decoded bytes ≡ d → found_by f bytes d ≡ Run run → 0 < run.end → IsHeaded f bytes run
 headed_at f bytes run (NotWhole torn) first is some =
     let none : 0 ≡ run.end = ap (λ (r : FileRun). r.end) (same_run _ _ is) in absurd (omega arith)
 headed_at f bytes run (Whole (FileHeader version file) prev len) first is some = headed_by f bytes run version file prev len first is
-headed_at f bytes run (Whole entry prev len) first is some = absurd (headless (may_follow entry) run is some)
+headed_at f bytes run (Whole entry prev len) first is some = absurd cc
 
 pub headed : (f : ℕ) (bytes : List ℕ) (run : FileRun) → found_in f bytes ≡ Run run → 0 < run.end → IsHeaded f bytes run
 headed f bytes run is some = headed_at f bytes run (decoded bytes) refl is some

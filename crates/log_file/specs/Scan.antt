@@ -1,7 +1,7 @@
 -- What the bytes of a log file are: its header and the entries behind it, up to where they end.
 use Rattle.std.specs.Prelude.{ℕ, ◌+◌, ◌^◌, ◌==◌, ◌&&◌, nat_lt, not, if◌then◌else◌, Bool, true, false, List, [], ◌∷◌, drop}
 use Rattle.log_entry.specs.declared.entry.Entry.{Entry}
-use Rattle.log_entry.specs.declared.entry.Entry.TheVariants.{FileHeader, Put, Delete, Commit}
+use Rattle.log_entry.specs.declared.entry.Entry.TheVariants.{FileHeader}
 use Rattle.log_entry.specs.declared.decoder.Decoded.{Decoded}
 use Rattle.log_entry.specs.declared.decoder.Decoded.TheVariants.{Whole, Torn as NotWhole}
 use Rattle.log_entry.specs.Spelling.{size_of}
@@ -11,12 +11,10 @@ use Rattle.log_file.specs.declared.file_run.FileRun.{FileRun}
 use Rattle.log_file.specs.declared.found.Found.{Found}
 use Rattle.log_file.specs.declared.found.Found.TheVariants.{Run, VersionUnknown, Damaged}
 
--- whether an entry may stand behind a file's header: a Put, a Delete or a Commit. Entries of the other kinds have no meaning yet, and are no part of a run
+-- whether an entry may stand behind a file's header: each but another header
 abbrev pub may_follow : Entry → Bool
-may_follow (Put txn db name value) = true
-may_follow (Delete txn db name) = true
-may_follow (Commit txn) = true
-may_follow entry = false
+may_follow (FileHeader version file) = false
+may_follow entry = true
 
 -- how many bytes entries take
 abbrev pub sizes_of : List Entry → ℕ
@@ -41,17 +39,13 @@ run_with entries = record { entries = entries; last = last_from 0 26 entries; en
 abbrev pub no_run : FileRun
 no_run = record { entries = []; last = 0; end = 0 }
 
--- what bytes are whose first entry is this one, which is no header: damaged where it may follow one; another kind counts as no entry
-abbrev pub found_headless : Entry → Found
-found_headless entry = if may_follow entry then Damaged else Run no_run
-
 -- what the bytes of file f are whose first entry is this one, with this prev field
 abbrev pub found_first : ℕ → List ℕ → ℕ → Entry → Found
 found_first f bytes prev (FileHeader version file) =
     if not (prev == 0) then Damaged else
     if not (version == 1) then VersionUnknown version else
     if file == f then Run (run_with (entries_behind bytes)) else Damaged
-found_first f bytes prev entry = found_headless entry
+found_first f bytes prev entry = Damaged
 
 -- what the bytes of file f are that begin so
 abbrev pub found_by : ℕ → List ℕ → Decoded → Found

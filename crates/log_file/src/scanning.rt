@@ -2,7 +2,7 @@
 ghost use Rattle.std.specs.Prelude.{◌≡◌, ◌≤◌, ◌<◌, ◌^◌, length, IfOk, MatchOption};
 ghost use Rattle.log_entry.specs.Body.{IsEntry};
 ghost use Rattle.log_entry.specs.Spelling.{size_of};
-ghost use Rattle.log_file.specs.Scan.{may_follow as may_follow_header, no_run as nothing_run, run_with, entries_behind, found_in, found_headless as headless, found_first};
+ghost use Rattle.log_file.specs.Scan.{may_follow as may_follow_header, no_run as nothing_run, run_with, entries_behind, found_in, found_first};
 ghost use Rattle.log_file.specs.Scanning.{end_in_run, IsNext, IsLast};
 
 use crate::{FileRun, Found};
@@ -17,14 +17,11 @@ const VERSION: u32 = 1;
 // How many bytes a file's header has.
 const HEADER_BYTES: u32 = 26;
 
-// Whether an entry may stand behind a file's header. Entries of kinds that have no meaning yet may not.
+// Whether an entry may stand behind a file's header: each may but another header.
 fn may_follow(entry: &Entry) -> bool
     ensures { result ≡ may_follow_header entry.now }
 {
-    matches!(
-        entry,
-        Entry::Put { .. } | Entry::Delete { .. } | Entry::Commit { .. }
-    )
+    !matches!(entry, Entry::FileHeader { .. })
 }
 
 // The next entry of a run, and where it ends.
@@ -98,17 +95,6 @@ fn no_run(alloc: Global) -> FileRun
     }
 }
 
-// What bytes are whose first entry is this one, which is no header.
-fn found_headless(alloc: Global, first: &Entry) -> Found
-    ensures { result ≡ headless first.now }
-{
-    if may_follow(first) {
-        Found::Damaged
-    } else {
-        Found::Run(no_run(alloc))
-    }
-}
-
 // What bytes are whose first entry is this one, with this prev field.
 fn found_behind(
     alloc: Global,
@@ -121,7 +107,7 @@ fn found_behind(
     ensures { IfOk result (λ found. found ≡ found_first f.0 bytes.now prev first.now) }
 {
     let Entry::FileHeader { version, file } = first else {
-        return Ok(found_headless(alloc, first));
+        return Ok(Found::Damaged);
     };
     if prev != 0 {
         return Ok(Found::Damaged);

@@ -1,12 +1,21 @@
-use Rattle.std.proofs.Common.{◌≡◌, ◌+◌, ℕ, OnOk, sym, ap, subst, ◌∙◌}
+use Rattle.std.proofs.Common.{◌≡◌, ◌+◌, ℕ, OnOk, sym, ap, subst, ◌∙◌, arith}
 use Rattle.log_entry.specs.Spelling.{size_of}
+use Rattle.log_entry.proofs.BodyLaws.{body_small}
 use Rattle.log_buffer.specs.declared.place.Place.{Place}
-use Rattle.log_buffer.specs.Buffer.{end_of, file_of, first_of, last_of, file_max_of}
+use Rattle.log_buffer.specs.Buffer.{end_of, file_of, offset_of, first_of, last_of, file_max_of}
 use Rattle.log_buffer.specs.Flip.{next_file, behind}
 use Rattle.log_buffer.specs.Log.{HasLog, log_with}
 use Rattle.log_buffer.specs.Crash.{Holds}
-use Rattle.log_buffer.proofs.Places.{is_placed}
+use Rattle.log_buffer.proofs.Places.{is_placed, fits_in}
 use Rattle.log_buffer.proofs.buffer.LogBuffer.put.Goals as goal
+
+pub put_last-requires-clause-fits : goal.put_last-requires-clause-fits
+put_last-requires-clause-fits g c =
+    let old = c.args.self.now in
+    let size = body_small c.args.entry.now c.requires.entry in
+    λ κs within.
+    fits_in (file_max_of old) (offset_of old) (size_of c.args.entry.now) old.max (omega (arith, size))
+    ((is_placed (file_max_of old) (end_of old) (size_of c.args.entry.now)).same (sym (ap (λ (p : Place). p.file) c.requires.place) ∙ c.if-place-self.true)).1
 
 pub returns-then-place-self-clause-holds : goal.returns-then-place-self-clause-holds
 returns-then-place-self-clause-holds g c =

@@ -9,6 +9,12 @@ use Rattle.log_buffer.specs.Buffer.{file_of, offset_of, last_of, first_of}
 use Rattle.log_buffer.proofs.KeptGrowing.{holds_with}
 use Rattle.log_buffer.proofs.buffer.LogBuffer.put_next.Goals as goal
 
+pub overflow_add-self : goal.overflow_add-self
+overflow_add-self g c =
+    let size = body_small c.args.entry.now c.requires.entry in
+    let is = c.requires.size in
+    omega (arith, size, is)
+
 pub begin-requires : goal.begin-requires
 begin-requires g c =
     let len = spelled_size c.as_slice.result.now (c.args.self.now.file.0 + 1) c.args.entry.now (c.as_slice.ensures.value ∙ c.in_ok-spell_first.ensures.ok) in

@@ -1,0 +1,140 @@
+-- Images that are logged: when they are right, and what they show.
+use Rattle.std.proofs.Common.{◌≡◌, ℕ, suc, ◌<◌, Bool, true, false, cond, List, [], ◌∷◌, ◌++◌, Option, None, Some, map, is_eq, refl, sym, ap, subst, ◌∙◌}
+use Rattle.std.specs.Prelude.{IfSome, find}
+use Rattle.std.specs.Option.{option_and_then}
+use Rattle.std.proofs.lemmas.Bool.{and_from}
+use Rattle.std.specs.List.{AllByRecursion, flat_map, list_all}
+use Rattle.je_order.specs.Order.{name_cmp}
+use Rattle.je_order.specs.declared.name.Name.{Name}
+use Rattle.log_entry.specs.declared.entry.Entry.TheVariants.{In, Bin}
+use Rattle.log_entry.specs.declared.child_slot.ChildSlot.{ChildSlot}
+use Rattle.log_entry.specs.declared.record_slot.RecordSlot.{RecordSlot}
+use Rattle.node_core.specs.declared.slot.Marked.{Marked}
+use Rattle.node_core.specs.declared.node.Node.{Node}
+use Rattle.node_core.specs.Sorted.{AllAbove, Rises}
+use Rattle.node_core.proofs.Order.{same, equal_of}
+use Rattle.node_log.specs.Slots.{lsn_in, version_in, slot_of_record, slot_of_child, fresh}
+use Rattle.node_log.specs.Images.{bin_of}
+use Rattle.log_trees.specs.Placed.{Placed, entry_at}
+use Rattle.log_trees.specs.Images.{NamedLsn, named, slot_shown, node_in, node_at, image}
+use Rattle.log_trees.specs.Trees.{found, child_over, shows}
+use Rattle.log_trees.specs.Sound.{is_within, Child, children, IsRecordAt, IsTreeAt, at_home}
+use Rattle.log_trees.specs.Building.{child_shown, BinsAreRight, InsAreRight, BinsShow, InsShow}
+use Rattle.log_trees.proofs.Names.{up_shown, whole_up}
+use Rattle.log_trees.proofs.Shown.{image_is}
+
+-- ---- slots of an entry as a node has them
+
+abbrev of_record : RecordSlot → Marked
+of_record r = fresh (slot_of_record r)
+
+abbrev of_child : ChildSlot → Marked
+of_child c = fresh (slot_of_child c)
+
+abbrev in_of : ℕ → ℕ → ℕ → List ChildSlot → Node
+in_of d number level slots = record { db = d; number = number; level = level; full = None; slots = map of_child slots }
+
+children_shown : (slots : List ChildSlot) → flat_map slot_shown (map of_child slots) ≡ map child_shown slots
+children_shown [] = refl
+children_shown (c ∷ slots) = ap (λ (l : List NamedLsn). child_shown c ∷ l) (children_shown slots)
+
+-- what holds of each slot that has an LSN
+records_shown : (P : NamedLsn → Type 0) (slots : List RecordSlot) → AllByRecursion (λ s. IfSome s.lsn (λ lsn. P (s.name, lsn))) slots → AllByRecursion P (flat_map slot_shown (map of_record slots))
+records_shown P [] all = tt
+records_shown P (r ∷ slots) all = one r.lsn all.0 (records_shown P slots all.1)
+  where
+    one : (o : Option ℕ) → IfSome o (λ lsn. P (r.name, lsn)) → AllByRecursion P (flat_map slot_shown (map of_record slots)) →
+        AllByRecursion P (named r.name (lsn_in (version_in o)) ++ flat_map slot_shown (map of_record slots))
+    one None h rest = rest
+    one (Some lsn) h rest = (h, rest)
+
+records_within : (p : Name → Bool) (slots : List RecordSlot) → AllByRecursion (λ s. p s.name ≡ true) slots → list_all (λ (m : Marked). p m.slot.name) (map of_record slots) ≡ true
+records_within p [] all = refl
+records_within p (r ∷ slots) all = and_from (p r.name) (list_all (λ (m : Marked). p m.slot.name) (map of_record slots)) all.0 (records_within p slots all.1)
+
+children_within : (p : Name → Bool) (slots : List ChildSlot) → AllByRecursion (λ s. p s.name ≡ true) slots → list_all (λ (m : Marked). p m.slot.name) (map of_child slots) ≡ true
+children_within p [] all = refl
+children_within p (c ∷ slots) all = and_from (p c.name) (list_all (λ (m : Marked). p m.slot.name) (map of_child slots)) all.0 (children_within p slots all.1)
+
+children_lower : (at : ℕ) (slots : List ChildSlot) → AllByRecursion (λ s. s.child < at) slots → AllByRecursion (λ (s : NamedLsn). s.1 < at) (map child_shown slots)
+children_lower at [] all = tt
+children_lower at (c ∷ slots) all = (all.0, children_lower at slots all.1)
+
+bin_image : (es : List Placed) (d number : ℕ) (slots : List RecordSlot) (at : ℕ) → entry_at es at ≡ Some (Bin d number slots) → node_at es at ≡ Some (bin_of d number slots)
+bin_image es d number slots at is = ap (option_and_then (node_in es at)) is
+
+in_image : (es : List Placed) (d number level : ℕ) (slots : List ChildSlot) (at : ℕ) → entry_at es at ≡ Some (In d number level slots) → node_at es at ≡ Some (in_of d number level slots)
+in_image es d number level slots at is = ap (option_and_then (node_in es at)) is
+
+-- ---- right images
+
+pub bins_are_right : BinsAreRight
+bins_are_right es home d number slots low high at is entry within own records =
+    let n : Node = bin_of d number slots in
+    record {
+      node = n;
+      image = bin_image es d number slots at is;
+      db = refl;
+      level_is = refl;
+      within = records_within (is_within low high) slots within;
+      up = up_shown n.slots (whole_up (Bin d number slots) n entry refl);
+      home = own;
+      right = records_shown (IsRecordAt es d at) slots records;
+    }
+
+pub ins_are_right : InsAreRight
+ins_are_right es home d number above slots low high at is entry within own trees =
+    let n : Node = in_of d number (suc (suc above)) slots in
+    record {
+      node = n;
+      image = in_image es d number (suc (suc above)) slots at is;
+      db = refl;
+      level_is = refl;
+      within = children_within (is_within low high) slots within;
+      up = up_shown n.slots (whole_up (In d number (suc (suc above)) slots) n entry refl);
+      home = own;
+      right = subst (λ (l : List NamedLsn). AllByRecursion (λ (c : Child). (c.at < at) × IsTreeAt es (at_home home d) d above c.low c.high c.at) (children low high l)) (sym (children_shown slots)) trees;
+    }
+
+-- ---- what they show
+
+-- a name below all slots is not among them
+below_none : (x : Name) (slots : List RecordSlot) → AllAbove x (map of_record slots) → found x (flat_map slot_shown (map of_record slots)) ≡ None
+below_none x [] above = refl
+below_none x (r ∷ slots) above = one r.lsn (below_none x slots above.1)
+  where
+    one : (o : Option ℕ) → found x (flat_map slot_shown (map of_record slots)) ≡ None → found x (named r.name (lsn_in (version_in o)) ++ flat_map slot_shown (map of_record slots)) ≡ None
+    one None rest = rest
+    one (Some lsn) rest = let other : is_eq (name_cmp x r.name) ≡ false = ap is_eq above.0 in rw other rest
+
+-- the LSN of a name is that of its slot
+found_slot : (x : Name) (slots : List RecordSlot) → Rises (map of_record slots) →
+    found x (flat_map slot_shown (map of_record slots)) ≡ option_and_then (λ s. s.lsn) (find (λ s. is_eq (name_cmp x s.name)) slots)
+found_slot x [] up = refl
+found_slot x (r ∷ slots) up = by_test (is_eq (name_cmp x r.name)) r.lsn refl (found_slot x slots up.1)
+  where
+    by_test : (b : Bool) (o : Option ℕ) → is_eq (name_cmp x r.name) ≡ b →
+        found x (flat_map slot_shown (map of_record slots)) ≡ option_and_then (λ (s : RecordSlot). s.lsn) (find (λ (s : RecordSlot). is_eq (name_cmp x s.name)) slots) →
+        found x (named r.name (lsn_in (version_in o)) ++ flat_map slot_shown (map of_record slots))
+        ≡ option_and_then (λ (s : RecordSlot). s.lsn) (cond b (Some (record { name = r.name; lsn = o })) (find (λ (s : RecordSlot). is_eq (name_cmp x s.name)) slots))
+    by_test true None is rest =
+        let at : x ≡ r.name = same x r.name (equal_of _ is) in
+        subst (λ (y : Name). found y (flat_map slot_shown (map of_record slots)) ≡ None) (sym at) (below_none r.name slots up.0)
+    by_test true (Some lsn) is rest = rw is refl
+    by_test false None is rest = rest
+    by_test false (Some lsn) is rest = rw is rest
+
+pub bins_show : BinsShow
+bins_show es d number slots at x is entry lower =
+    let n : Node = bin_of d number slots in
+    ap (found x) (image_is es 1 at n (bin_image es d number slots at is) refl (records_shown (λ (s : NamedLsn). s.1 < at) slots lower))
+    ∙ found_slot x slots (whole_up (Bin d number slots) n entry refl)
+
+pub ins_show : InsShow
+ins_show es d number above slots at x is lower =
+    let n : Node = in_of d number (suc (suc above)) slots in
+    let shown : image es (suc (suc above)) at ≡ map child_shown slots =
+    image_is es (suc (suc above)) at n (in_image es d number (suc (suc above)) slots at is) refl
+    (subst (AllByRecursion (λ (s : NamedLsn). s.1 < at)) (sym (children_shown slots)) (children_lower at slots lower))
+    ∙ children_shown slots in
+    ap (λ (l : List NamedLsn). option_and_then (λ c. shows es above c x) (child_over x l)) shown

@@ -1,0 +1,49 @@
+//! Trees as a log shows them. It stands on the files of logs and on the images of nodes. Upward it
+//! promises that the records below an image are those that the image shows name by name, that they stay
+//! the same in a longer log, and that trees whose images are right are read with no finding. Its functions
+//! have nothing to do: their contracts are the laws.
+#![tactic(auto)]
+
+ghost use Rattle.log_trees.specs.Laws.{SlotsStay, ShowsStay, RootsStay, TreesStay, ShowsAreSlots, RootsShow, RootsAreRead, RootsStayRight, ReadTreesAreRight};
+ghost use Rattle.log_trees.specs.Building.{BinsAreRight, InsAreRight, BinsShow, InsShow};
+ghost use Rattle.log_trees.specs.Placed.{PlacedAreEntries, PlacedGoLast, PlacedGoOn, FrontsArePlaced, PlacedAreInOrder};
+
+/// The entries of a log with their LSNs are the log's entries; an entry more is the last one, a front of the
+/// log has the first of them, and LSNs rise.
+pub fn entries_are_placed()
+    ensures entries { PlacedAreEntries }
+    ensures last { PlacedGoLast }
+    ensures next { PlacedGoOn }
+    ensures front { FrontsArePlaced }
+    ensures order { PlacedAreInOrder }
+{}
+
+/// What an image shows is the same in a longer log.
+pub fn trees_stay()
+    ensures slots { SlotsStay }
+    ensures shows { ShowsStay }
+    ensures roots { RootsStay }
+    ensures trees { TreesStay }
+    ensures right { RootsStayRight }
+{}
+
+/// The records below the image of a right tree are those that it shows name by name.
+pub fn trees_show_their_slots()
+    ensures slots { ShowsAreSlots }
+    ensures roots { RootsShow }
+{}
+
+/// Trees whose images are all there and right are read with no finding, and trees that are read with no
+/// finding are right.
+pub fn trees_are_read()
+    ensures read { RootsAreRead }
+    ensures right { ReadTreesAreRight }
+{}
+
+/// When an image that is logged is right, and what it shows for a name.
+pub fn images_are_right()
+    ensures bins { BinsAreRight }
+    ensures ins { InsAreRight }
+    ensures bin_shows { BinsShow }
+    ensures in_shows { InsShow }
+{}
