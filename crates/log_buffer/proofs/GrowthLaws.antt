@@ -1,5 +1,6 @@
 -- A log that grows by several entries, and a buffer that does.
 use Rattle.std.proofs.Common.{◌≡◌, ◌≢◌, ℕ, ◌+◌, ◌*◌, ◌^◌, ◌<◌, ◌≤◌, Bool, true, List, [], ◌∷◌, ◌++◌, Option, map, refl, sym, ap, ap₂, subst, ◌∙◌, arith, nat_cmp, append_assoc, ◌⊎◌, inl, inr}
+use Rattle.std.specs.Prelude.{Result, Ok, Err, OnOk, OnErr}
 use Rattle.std.proofs.lemmas.Bool.{cases_order}
 use Rattle.std.proofs.lemmas.List.{append-nil, map-append}
 use Rattle.std.proofs.lemmas.Map.Keys.{sorted_from_strictly_increasing}
@@ -200,6 +201,38 @@ module _ {D : Type 0} where
 
     pub grew_none : GrewNone tells history sync_out read_out read_of
     grew_none x = grew_same x x [] refl (λ log has. has) (λ log removed least begun has h. h) refl refl refl
+
+    -- a buffer that has failed and was not touched
+    pub tried_failed : (x : LogBuffer D) (entries : List Entry) → has_failed x ≡ true → Tried tells history sync_out read_out read_of x x entries
+    tried_failed x entries failed = record {
+      crash = λ told log removed least begun has h. passes_none (history (disk_of x)) _;
+      max = refl;
+      failed = failed;
+      jobs = jobs_same sync_out read_out read_of (disk_of x) (disk_of x) refl;
+    }
+
+    -- an entry that is put into the tail at its place
+    pub grew_put : {T E : Type 0} (r : Result T E) (x y : LogBuffer D) (e : Entry) (at : Place) → at ≡ placed_at (file_max_of x) (end_of x) (size_of e) → disk_of y ≡ disk_of x
+        → ((tells : Bool) (state : State) (log : Log) → HasLog tells state x log → OnOk r (HasLog tells state y (log_with at.file e log)))
+        → ((tells : Bool) (state : State) (log removed : Log) (least : ℕ) (begun : Option ℕ) → HasLog tells state x log → Holds log removed least begun (first_of x) state → OnOk r (Holds (log_with at.file e log) removed least begun (first_of y) state))
+        → OnOk r (end_of y ≡ behind at (size_of e)) → file_max_of y ≡ file_max_of x → has_failed y ≡ has_failed x → OnOk r (Grew tells history sync_out read_out read_of x y (e ∷ []))
+    grew_put (Ok v) x y e at is disk log holds end max failed =
+        let s = now (history (disk_of x)) in
+        grew_same x y (e ∷ []) disk (λ l has. subst (λ (p : Place). HasLog tells s y (log_with p.file e l)) is (log tells s l has))
+        (λ l removed least begun has h. subst (λ (p : Place). Holds (log_with p.file e l) removed least begun (first_of y) s) is (holds tells s l removed least begun has h))
+        (end ∙ ap (λ (p : Place). behind p (size_of e)) is) max failed
+    grew_put (Err error) x y e at is disk log holds end max failed = tt
+
+    -- however a call ends
+    pub crash_either : {T E : Type 0} (r : Result T E) (x y : LogBuffer D) (entries : List Entry) → OnOk r (Grew tells history sync_out read_out read_of x y entries) → OnErr r (Tried tells history sync_out read_out read_of x y entries)
+        → KeepsLonger tells history x y entries
+    crash_either (Ok v) x y entries grew tried = grew.crash
+    crash_either (Err e) x y entries grew tried = tried.crash
+
+    pub jobs_either : {T E : Type 0} (r : Result T E) (x y : LogBuffer D) (entries : List Entry) → OnOk r (Grew tells history sync_out read_out read_of x y entries) → OnErr r (Tried tells history sync_out read_out read_of x y entries)
+        → SameJobs sync_out read_out read_of (disk_of x) (disk_of y)
+    jobs_either (Ok v) x y entries grew tried = grew.jobs
+    jobs_either (Err e) x y entries grew tried = tried.jobs
 
     -- through two calls a crash keeps of the log with the entries of both what it kept before the first one
     crash_then : (x y z : LogBuffer D) (a b : List Entry) → Grew tells history sync_out read_out read_of x y a → KeepsLonger tells history y z b → KeepsLonger tells history x z (a ++ b)

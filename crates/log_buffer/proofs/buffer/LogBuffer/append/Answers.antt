@@ -1,70 +1,26 @@
-use Rattle.std.proofs.Common.{◌≡◌, ◌≤◌, ℕ, le_of_eq, arith, ap, sym, subst, ◌∙◌}
-use Rattle.je_disk.specs.Moments.{now}
+use Rattle.std.proofs.Common.{◌≡◌, ◌≤◌, ℕ, [], ◌∷◌, le_of_eq, arith, ap, sym, subst, ◌∙◌}
 use Rattle.je_lsn.specs.Naming.{last_file}
 use Rattle.log_entry.specs.Spelling.{size_of}
 use Rattle.log_buffer.specs.declared.place.Place.{Place}
-use Rattle.log_buffer.specs.Flip.{placed_at, behind, lsn_of}
-use Rattle.log_buffer.specs.Buffer.{end_of, first_of, file_max_of}
-use Rattle.log_buffer.specs.Crash.{Holds, KeptThrough}
-use Rattle.log_buffer.specs.Log.{HasLog, log_with}
+use Rattle.log_buffer.specs.Flip.{placed_at, lsn_of}
+use Rattle.log_buffer.specs.Buffer.{end_of, file_max_of}
+use Rattle.log_buffer.proofs.GrowthLaws.{grew_then, tried_then, tried_failed}
 use Rattle.log_buffer.proofs.Causing.{cause_done, cause_memory, cause_refused, cause_err, err_is, fault_handed, not_full, not_memory}
 use Rattle.log_buffer.proofs.buffer.LogBuffer.append.Goals as goal
 
-pub returns-clause-log : goal.returns-clause-log
-returns-clause-log g c =
-    let old = c.args.self.now in
-    let e = c.args.entry.now in
-    let at : c.in_ok-place.place ≡ placed_at (file_max_of old) (end_of old) (size_of e) =
-    c.in_ok-place.ensures.place ∙ ap (λ (n : ℕ). placed_at old.file_max (end_of old) n) c.size-size.ensures.value in
-    λ log has.
-    let moved = subst (λ (d : g.row.D.Denot). HasLog {D = g.row.D.Denot} g.D.Disk.tells (now (g.D.Disk.history d)) c.put.new.self (log_with c.in_ok-place.place.file e log)) (sym c.put.ensures.disk)
-    (c.in_ok-put.ensures.log g.D.Disk.tells (now (g.D.Disk.history old.disk)) log has) in
-    subst (λ (p : Place). HasLog {D = g.row.D.Denot} g.D.Disk.tells (now (g.D.Disk.history c.write_long.new.self.disk)) c.write_long.new.self (log_with p.file e log)) at
-    (c.in_ok-write_long.ensures.log (log_with c.in_ok-place.place.file e log) moved)
+pub returns-clause-grew : goal.returns-clause-grew
+returns-clause-grew g c = grew_then _ _ _ _ _ _ _ _ (c.args.entry.now ∷ []) [] c.in_ok-put.ensures.grew c.in_ok-write_long.ensures.grew
 
-pub returns-in_err-write_long-clause-crash : goal.returns-in_err-write_long-clause-crash
-returns-in_err-write_long-clause-crash g c =
-    let old = c.args.self.now in
-    let e = c.args.entry.now in
-    let at : c.in_ok-place.place ≡ placed_at (file_max_of old) (end_of old) (size_of e) =
-    c.in_ok-place.ensures.place ∙ ap (λ (n : ℕ). placed_at old.file_max (end_of old) n) c.size-size.ensures.value in
-    λ told log removed least begun has h.
-    let moved = subst (λ (d : g.row.D.Denot). HasLog {D = g.row.D.Denot} g.D.Disk.tells (now (g.D.Disk.history d)) c.put.new.self (log_with c.in_ok-place.place.file e log)) (sym c.put.ensures.disk)
-    (c.in_ok-put.ensures.log g.D.Disk.tells (now (g.D.Disk.history old.disk)) log has) in
-    let kept = subst (λ (d : g.row.D.Denot). Holds (log_with c.in_ok-place.place.file e log) removed least begun (first_of c.put.new.self) (now (g.D.Disk.history d))) (sym c.put.ensures.disk)
-    (c.in_ok-put.ensures.holds g.D.Disk.tells (now (g.D.Disk.history old.disk)) log removed least begun has h) in
-    subst (λ (p : Place). KeptThrough (g.D.Disk.history old.disk) (g.D.Disk.history c.write_long.new.self.disk) (log_with p.file e log) removed least) at
-    (subst (λ (d : g.row.D.Denot). KeptThrough (g.D.Disk.history d) (g.D.Disk.history c.write_long.new.self.disk) (log_with c.in_ok-place.place.file e log) removed least) c.put.ensures.disk
-    (c.write_long.ensures.crash told (log_with c.in_ok-place.place.file e log) removed least begun moved kept))
+pub returns-in_err-write_long-clause-tried : goal.returns-in_err-write_long-clause-tried
+returns-in_err-write_long-clause-tried g c = λ fault. tried_then _ _ _ _ _ _ _ _ (c.args.entry.now ∷ []) [] c.in_ok-put.ensures.grew c.in_err-write_long.ensures.tried
 
-pub returns-clause-crash : goal.returns-clause-crash
-returns-clause-crash g c =
-    let old = c.args.self.now in
-    let e = c.args.entry.now in
-    let at : c.in_ok-place.place ≡ placed_at (file_max_of old) (end_of old) (size_of e) =
-    c.in_ok-place.ensures.place ∙ ap (λ (n : ℕ). placed_at old.file_max (end_of old) n) c.size-size.ensures.value in
-    λ told log removed least begun has h.
-    let moved = subst (λ (d : g.row.D.Denot). HasLog {D = g.row.D.Denot} g.D.Disk.tells (now (g.D.Disk.history d)) c.put.new.self (log_with c.in_ok-place.place.file e log)) (sym c.put.ensures.disk)
-    (c.in_ok-put.ensures.log g.D.Disk.tells (now (g.D.Disk.history old.disk)) log has) in
-    let kept = subst (λ (d : g.row.D.Denot). Holds (log_with c.in_ok-place.place.file e log) removed least begun (first_of c.put.new.self) (now (g.D.Disk.history d))) (sym c.put.ensures.disk)
-    (c.in_ok-put.ensures.holds g.D.Disk.tells (now (g.D.Disk.history old.disk)) log removed least begun has h) in
-    subst (λ (p : Place). KeptThrough (g.D.Disk.history old.disk) (g.D.Disk.history c.write_long.new.self.disk) (log_with p.file e log) removed least) at
-    (subst (λ (d : g.row.D.Denot). KeptThrough (g.D.Disk.history d) (g.D.Disk.history c.write_long.new.self.disk) (log_with c.in_ok-place.place.file e log) removed least) c.put.ensures.disk
-    (c.write_long.ensures.crash told (log_with c.in_ok-place.place.file e log) removed least begun moved kept))
+pub returns-in_err-put-clause-tried : goal.returns-in_err-put-clause-tried
+returns-in_err-put-clause-tried g c = λ fault. absurd (let memory = err_is _ _ c.from_residual-in_err-put.ensures.1 in cc)
 
-pub returns-clause-holds : goal.returns-clause-holds
-returns-clause-holds g c =
-    let old = c.args.self.now in
-    let e = c.args.entry.now in
-    let at : c.in_ok-place.place ≡ placed_at (file_max_of old) (end_of old) (size_of e) =
-    c.in_ok-place.ensures.place ∙ ap (λ (n : ℕ). placed_at old.file_max (end_of old) n) c.size-size.ensures.value in
-    λ told log removed least begun has h.
-    let moved = subst (λ (d : g.row.D.Denot). HasLog {D = g.row.D.Denot} g.D.Disk.tells (now (g.D.Disk.history d)) c.put.new.self (log_with c.in_ok-place.place.file e log)) (sym c.put.ensures.disk)
-    (c.in_ok-put.ensures.log g.D.Disk.tells (now (g.D.Disk.history old.disk)) log has) in
-    let kept = subst (λ (d : g.row.D.Denot). Holds (log_with c.in_ok-place.place.file e log) removed least begun (first_of c.put.new.self) (now (g.D.Disk.history d))) (sym c.put.ensures.disk)
-    (c.in_ok-put.ensures.holds g.D.Disk.tells (now (g.D.Disk.history old.disk)) log removed least begun has h) in
-    subst (λ (p : Place). Holds (log_with p.file e log) removed least begun (first_of c.write_long.new.self) (now (g.D.Disk.history c.write_long.new.self.disk))) at
-    (c.in_ok-write_long.ensures.holds told (log_with c.in_ok-place.place.file e log) removed least begun moved kept)
+pub returns-in_err-place-clause-tried : goal.returns-in_err-place-clause-tried
+returns-in_err-place-clause-tried g c =
+    let faults = g.D.Disk.faults c.args.self.now.disk in
+    λ fault. tried_failed _ _ _ _ _ c.args.self.now (c.args.entry.now ∷ []) ((cause_refused _ faults c.next_place.result _ _ c.in_err-place.was (err_is _ _ c.from_residual.ensures.1) c.next_place.ensures.fault).failed.1 fault)
 
 pub returns-clause-cause : goal.returns-clause-cause
 returns-clause-cause g c =
@@ -115,22 +71,6 @@ returns-clause-full g c =
     c.in_ok-place.ensures.place ∙ ap (λ (n : ℕ). placed_at old.file_max (end_of old) n) c.size-size.ensures.value in
     let low = subst (λ (p : Place). p.file ≤ last_file) at c.in_ok-place.ensures.file in
     λ works. (λ is. absurd cc, λ past. absurd (omega (arith, low, past)))
-
-pub returns-clause-end : goal.returns-clause-end
-returns-clause-end g c =
-    let old = c.args.self.now in
-    let e = c.args.entry.now in
-    let at : c.in_ok-place.place ≡ placed_at (file_max_of old) (end_of old) (size_of e) =
-    c.in_ok-place.ensures.place ∙ ap (λ (n : ℕ). placed_at old.file_max (end_of old) n) c.size-size.ensures.value in
-    c.write_long.ensures.end ∙ c.in_ok-put.ensures.end ∙ ap (λ (p : Place). behind p (size_of e)) at
-
-pub returns-clause-last : goal.returns-clause-last
-returns-clause-last g c =
-    let old = c.args.self.now in
-    let e = c.args.entry.now in
-    let at : c.in_ok-place.place ≡ placed_at (file_max_of old) (end_of old) (size_of e) =
-    c.in_ok-place.ensures.place ∙ ap (λ (n : ℕ). placed_at old.file_max (end_of old) n) c.size-size.ensures.value in
-    c.write_long.ensures.last ∙ c.in_ok-put.ensures.last ∙ ap (λ (p : Place). p.offset) at
 
 pub returns-clause-at : goal.returns-clause-at
 returns-clause-at g c =
