@@ -20,7 +20,7 @@ use Rattle.log_buffer.specs.declared.place.Place.{Place}
 use Rattle.log_buffer.specs.Buffer.{disk_of, first_of, end_of, file_max_of, has_failed, IsUnchanged}
 use Rattle.log_buffer.specs.Crash.{Holds, IsKeptSince, KeepsRead, KeptThrough}
 use Rattle.log_buffer.specs.Flip.{header_size, next_file, placed_at, end_after, end_after_all, lsn_of, behind}
-use Rattle.log_buffer.specs.Growth.{log_with_all, longer, SameJobs, KeepsLonger, Grew, Tried, GrewNone, GrewUnchanged, GrewThen, TriedThen}
+use Rattle.log_buffer.specs.Growth.{log_with_all, longer, SameJobs, KeepsLonger, Grew, Tried, GrewNone, GrewUnchanged, GrewThen, TriedThen, TriedMore}
 use Rattle.log_buffer.specs.Laws.{placed_by, AppendedIsPlaced, AppendedArePlaced}
 use Rattle.log_buffer.specs.Log.{EndsAt, HasLog, log_with}
 use Rattle.log_buffer.proofs.Keeping.{log_kept}
@@ -111,6 +111,12 @@ is_with log end file_max size e ends = by_place (is_placed file_max end size) (c
   by_place at (inl same) = subst (λ (p : Place). IsWith log p e) (sym (at.same same).0) (with_here log end e ends)
   by_place at (inr (inl lt)) = next at (λ same. absurd (omega (arith, same)))
   by_place at (inr (inr gt)) = next at (λ same. absurd (omega (arith, same)))
+
+-- a log with entries more ends where they end
+pub ends_with_all : (log : Log) (end : Place) (file_max : ℕ) (entries : List Entry) → EndsIn log end → EndsIn (log_with_all file_max end entries log) (end_after_all file_max end (map size_of entries))
+ends_with_all log end file_max [] ends = ends
+ends_with_all log end file_max (e ∷ entries) ends =
+    ends_with_all (log_with (placed_at file_max end (size_of e)).file e log) (end_after file_max end (size_of e)) file_max entries (is_with log end file_max (size_of e) e ends).ends
 
 pub appended_is_placed : AppendedIsPlaced
 appended_is_placed log end last file_max size e is ends = (is_with log end file_max size e (ends_in log end last is ends)).placed_is
@@ -264,4 +270,15 @@ module _ {D : Type 0} where
       max = second.max ∙ first.max;
       failed = second.failed;
       jobs = jobs_then sync_out read_out read_of (disk_of x) (disk_of y) (disk_of z) first.jobs second.jobs;
+    }
+
+    pub tried_more : TriedMore tells history sync_out read_out read_of
+    tried_more x y a b first = record {
+      crash = λ told log removed least begun has h.
+          subst (λ (l : Log). KeptThrough (history (disk_of x)) (history (disk_of y)) l removed least) (sym (with_all-append (file_max_of x) (end_of x) a b log))
+          (through_with_all (longer x a log) removed (end_after_all (file_max_of x) (end_of x) (map size_of a)) (file_max_of x) least b (history (disk_of x)) (history (disk_of y))
+          (ends_with_all log (end_of x) (file_max_of x) a (ends_in log (end_of x) _ has.is_log has.ends)) (first.crash told log removed least begun has h));
+      max = first.max;
+      failed = first.failed;
+      jobs = first.jobs;
     }

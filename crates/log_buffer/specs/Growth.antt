@@ -71,3 +71,8 @@ module _ {D : Type 0} where
   abbrev pub TriedThen : Bool → (D → History) → (D → Option ℕ) → (D → Option ℕ) → (D → ℕ) → Type 0
   TriedThen tells history sync_out read_out read_of = (x y z : LogBuffer D) (a b : List Entry)
       → Grew tells history sync_out read_out read_of x y a → Tried tells history sync_out read_out read_of y z b → Tried tells history sync_out read_out read_of x z (a ++ b)
+
+  -- nor does it matter which entries were to follow: a crash keeps as much of the log with these
+  abbrev pub TriedMore : Bool → (D → History) → (D → Option ℕ) → (D → Option ℕ) → (D → ℕ) → Type 0
+  TriedMore tells history sync_out read_out read_of = (x y : LogBuffer D) (a b : List Entry)
+      → Tried tells history sync_out read_out read_of x y a → Tried tells history sync_out read_out read_of x y (a ++ b)

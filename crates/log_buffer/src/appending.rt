@@ -4,6 +4,7 @@ ghost use Rattle.je_disk.specs.Moments.{now};
 ghost use Rattle.je_disk.specs.States.{State};
 ghost use Rattle.je_lsn.specs.Naming.{last_file};
 ghost use Rattle.log_entry.specs.Body.{IsEntry};
+ghost use Rattle.log_entry.specs.Parts.{entry_by};
 ghost use Rattle.log_entry.specs.Spelling.{size_of};
 ghost use Rattle.log_file.specs.Scan.{may_follow};
 ghost use Rattle.log_file.specs.Log.{Log};
@@ -19,7 +20,7 @@ use crate::spelling::{spell, spell_first};
 use crate::{HEADER_SIZE, LogBuffer, LogErr, Place};
 use je_disk::Disk;
 use je_lsn::{FileNo, Lsn};
-use log_entry::{Entry, size};
+use log_entry::{Entry, EntryRef, ref_size};
 use std::alloc::AllocError;
 
 /// The tail is written out once it has more bytes than this.
@@ -43,7 +44,27 @@ impl<D: Disk> LogBuffer<D> {
         ensures cause { HasCause (has_failed self.old) (has_failed self.new) (D.faults (disk_of self.old)) (D.faults (disk_of self.new)) result }
         ensures still { has_failed self.old ≡ true → disk_of self.new ≡ disk_of self.old }
     {
-        let size = size(entry);
+        self.append_ref(&EntryRef::Whole(entry))
+    }
+
+    /// The same for an entry that is handed over by its parts: they are copied into what is written, and nowhere
+    /// else.
+    pub fn append_ref(&mut self, entry: &EntryRef<'_>) -> Result<Lsn, LogErr>
+        requires entry { IsEntry (entry_by entry.now) }
+        requires follows { may_follow (entry_by entry.now) ≡ true }
+        ensures at { IfOk result (λ at. at ≡ lsn_of (placed_at (file_max_of self.old) (end_of self.old) (size_of (entry_by entry.now)))) }
+        ensures grew { OnOk result (Grew D.tells D.history D.sync_out D.read_out D.read_of self.old self.new (entry_by entry.now ∷ [])) }
+        ensures tried { IsErrOf result LogErr.Fault → Tried D.tells D.history D.sync_out D.read_out D.read_of self.old self.new (entry_by entry.now ∷ []) }
+        ensures full { has_failed self.old ≡ false → (IsErrOf result LogErr.Full ↔ last_file < (placed_at (file_max_of self.old) (end_of self.old) (size_of (entry_by entry.now))).file) }
+        ensures full_unchanged { IsErrOf result LogErr.Full → IsUnchanged self.old self.new }
+        ensures memory_unchanged { IsErrOf result LogErr.Memory → IsUnchanged self.old self.new }
+        ensures has_room { (sizes : List ℕ) → HasRoom self.old (size_of (entry_by entry.now) ∷ sizes) → IsErrOf result LogErr.Memory → ⊥ }
+        ensures room { (sizes : List ℕ) → HasRoom self.old (size_of (entry_by entry.now) ∷ sizes) → OnOk result (HasRoom self.new sizes) }
+        ensures not_damaged { IsErrOf result LogErr.Damaged → ⊥ }
+        ensures cause { HasCause (has_failed self.old) (has_failed self.new) (D.faults (disk_of self.old)) (D.faults (disk_of self.new)) result }
+        ensures still { has_failed self.old ≡ true → disk_of self.new ≡ disk_of self.old }
+    {
+        let size = ref_size(entry);
         let place = self.next_place(size)?;
         self.put(entry, size, place)?;
         self.write_long()?;
@@ -97,16 +118,16 @@ impl<D: Disk> LogBuffer<D> {
     }
 
     // Puts an entry into the tail, at its place.
-    fn put(&mut self, entry: &Entry, size: u32, place: Place) -> Result<(), AllocError>
-        requires entry { IsEntry entry.now }
-        requires follows { may_follow entry.now ≡ true }
-        requires size { size ≡ size_of entry.now }
-        requires place { place ≡ placed_at (file_max_of self.old) (end_of self.old) (size_of entry.now) }
+    fn put(&mut self, entry: &EntryRef<'_>, size: u32, place: Place) -> Result<(), AllocError>
+        requires entry { IsEntry (entry_by entry.now) }
+        requires follows { may_follow (entry_by entry.now) ≡ true }
+        requires size { size ≡ size_of (entry_by entry.now) }
+        requires place { place ≡ placed_at (file_max_of self.old) (end_of self.old) (size_of (entry_by entry.now)) }
         requires file { place.file ≤ last_file }
-        ensures grew { OnOk result (Grew D.tells D.history D.sync_out D.read_out D.read_of self.old self.new (entry.now ∷ [])) }
+        ensures grew { OnOk result (Grew D.tells D.history D.sync_out D.read_out D.read_of self.old self.new (entry_by entry.now ∷ [])) }
         ensures unchanged { OnErr result (IsUnchanged self.old self.new) }
-        ensures fits { (sizes : List ℕ) → HasRoom self.old (size_of entry.now ∷ sizes) → IsOk result }
-        ensures room { (sizes : List ℕ) → HasRoom self.old (size_of entry.now ∷ sizes) → OnOk result (HasRoom self.new sizes) }
+        ensures fits { (sizes : List ℕ) → HasRoom self.old (size_of (entry_by entry.now) ∷ sizes) → IsOk result }
+        ensures room { (sizes : List ℕ) → HasRoom self.old (size_of (entry_by entry.now) ∷ sizes) → OnOk result (HasRoom self.new sizes) }
         ensures disk { disk_of self.new ≡ disk_of self.old }
         ensures failed { has_failed self.new ≡ has_failed self.old }
     {
@@ -118,19 +139,19 @@ impl<D: Disk> LogBuffer<D> {
     }
 
     // Puts an entry into the tail, at the end of the last file.
-    fn put_last(&mut self, entry: &Entry, size: u32) -> Result<(), AllocError>
-        requires entry { IsEntry entry.now }
-        requires follows { may_follow entry.now ≡ true }
-        requires size { size ≡ size_of entry.now }
-        requires fits { offset_of self.old + size_of entry.now < 2 ^ 32 }
-        ensures log { (tells : Bool) (state : State) (log : Log) → HasLog tells state self.old log → OnOk result (HasLog tells state self.new (log_with (file_of self.old) entry.now log)) }
+    fn put_last(&mut self, entry: &EntryRef<'_>, size: u32) -> Result<(), AllocError>
+        requires entry { IsEntry (entry_by entry.now) }
+        requires follows { may_follow (entry_by entry.now) ≡ true }
+        requires size { size ≡ size_of (entry_by entry.now) }
+        requires fits { offset_of self.old + size_of (entry_by entry.now) < 2 ^ 32 }
+        ensures log { (tells : Bool) (state : State) (log : Log) → HasLog tells state self.old log → OnOk result (HasLog tells state self.new (log_with (file_of self.old) (entry_by entry.now) log)) }
         ensures holds { (tells : Bool) (state : State) (log removed : Log) (least : ℕ) (begun : Option ℕ) → HasLog tells state self.old log → Holds log removed least begun (first_of self.old) state
-            → OnOk result (Holds (log_with (file_of self.old) entry.now log) removed least begun (first_of self.new) state) }
-        ensures end { OnOk result (end_of self.new ≡ behind (end_of self.old) (size_of entry.now)) }
+            → OnOk result (Holds (log_with (file_of self.old) (entry_by entry.now) log) removed least begun (first_of self.new) state) }
+        ensures end { OnOk result (end_of self.new ≡ behind (end_of self.old) (size_of (entry_by entry.now))) }
         ensures last { OnOk result (last_of self.new ≡ offset_of self.old) }
         ensures unchanged { OnErr result (IsUnchanged self.old self.new) }
-        ensures fits { (sizes : List ℕ) → HasRoom self.old (size_of entry.now ∷ sizes) → IsOk result }
-        ensures room { (sizes : List ℕ) → HasRoom self.old (size_of entry.now ∷ sizes) → OnOk result (HasRoom self.new sizes) }
+        ensures fits { (sizes : List ℕ) → HasRoom self.old (size_of (entry_by entry.now) ∷ sizes) → IsOk result }
+        ensures room { (sizes : List ℕ) → HasRoom self.old (size_of (entry_by entry.now) ∷ sizes) → OnOk result (HasRoom self.new sizes) }
         ensures disk { disk_of self.new ≡ disk_of self.old }
         ensures failed { has_failed self.new ≡ has_failed self.old }
         ensures file_max { file_max_of self.new ≡ file_max_of self.old }
@@ -143,19 +164,19 @@ impl<D: Disk> LogBuffer<D> {
     }
 
     // Puts an entry into the tail, behind the header of a next file.
-    fn put_next(&mut self, entry: &Entry, size: u32) -> Result<(), AllocError>
-        requires entry { IsEntry entry.now }
-        requires follows { may_follow entry.now ≡ true }
-        requires size { size ≡ size_of entry.now }
+    fn put_next(&mut self, entry: &EntryRef<'_>, size: u32) -> Result<(), AllocError>
+        requires entry { IsEntry (entry_by entry.now) }
+        requires follows { may_follow (entry_by entry.now) ≡ true }
+        requires size { size ≡ size_of (entry_by entry.now) }
         requires file { file_of self.old < last_file }
-        ensures log { (tells : Bool) (state : State) (log : Log) → HasLog tells state self.old log → OnOk result (HasLog tells state self.new (log_with (file_of self.old + 1) entry.now log)) }
+        ensures log { (tells : Bool) (state : State) (log : Log) → HasLog tells state self.old log → OnOk result (HasLog tells state self.new (log_with (file_of self.old + 1) (entry_by entry.now) log)) }
         ensures holds { (tells : Bool) (state : State) (log removed : Log) (least : ℕ) (begun : Option ℕ) → HasLog tells state self.old log → Holds log removed least begun (first_of self.old) state
-            → OnOk result (Holds (log_with (file_of self.old + 1) entry.now log) removed least begun (first_of self.new) state) }
-        ensures end { OnOk result (end_of self.new ≡ behind (next_file (end_of self.old)) (size_of entry.now)) }
+            → OnOk result (Holds (log_with (file_of self.old + 1) (entry_by entry.now) log) removed least begun (first_of self.new) state) }
+        ensures end { OnOk result (end_of self.new ≡ behind (next_file (end_of self.old)) (size_of (entry_by entry.now))) }
         ensures last { OnOk result (last_of self.new ≡ header_size) }
         ensures unchanged { OnErr result (IsUnchanged self.old self.new) }
-        ensures fits { (sizes : List ℕ) → HasRoom self.old (size_of entry.now ∷ sizes) → IsOk result }
-        ensures room { (sizes : List ℕ) → HasRoom self.old (size_of entry.now ∷ sizes) → OnOk result (HasRoom self.new sizes) }
+        ensures fits { (sizes : List ℕ) → HasRoom self.old (size_of (entry_by entry.now) ∷ sizes) → IsOk result }
+        ensures room { (sizes : List ℕ) → HasRoom self.old (size_of (entry_by entry.now) ∷ sizes) → OnOk result (HasRoom self.new sizes) }
         ensures disk { disk_of self.new ≡ disk_of self.old }
         ensures failed { has_failed self.new ≡ has_failed self.old }
         ensures file_max { file_max_of self.new ≡ file_max_of self.old }

@@ -1,5 +1,6 @@
 use Rattle.std.proofs.Common.{◌≡◌, ap, sym, ◌∙◌}
 use Rattle.log_entry.specs.Spelling.{size_of}
+use Rattle.log_entry.specs.Parts.{entry_by}
 use Rattle.log_buffer.specs.declared.place.Place.{Place}
 use Rattle.log_buffer.specs.Buffer.{end_of, file_max_of}
 use Rattle.log_buffer.specs.Flip.{next_file}
@@ -10,7 +11,7 @@ use Rattle.log_buffer.proofs.buffer.LogBuffer.put.Goals as goal
 pub returns-then-place-self-clause-grew : goal.returns-then-place-self-clause-grew
 returns-then-place-self-clause-grew g c =
     let old = c.args.self.now in
-    let e = c.args.entry.now in
+    let e = (entry_by c.args.entry.now) in
     let last = c.put_last.ensures in
     let here : c.args.place ≡ end_of old =
     c.requires.place ∙ ((is_placed (file_max_of old) (end_of old) (size_of e)).same (sym (ap (λ (p : Place). p.file) c.requires.place) ∙ c.if-place-self.true)).0 in
@@ -19,7 +20,7 @@ returns-then-place-self-clause-grew g c =
 pub returns-else-place-self-clause-grew : goal.returns-else-place-self-clause-grew
 returns-else-place-self-clause-grew g c =
     let old = c.args.self.now in
-    let e = c.args.entry.now in
+    let e = (entry_by c.args.entry.now) in
     let next = c.put_next.ensures in
     let there : c.args.place ≡ next_file (end_of old) =
     c.requires.place ∙ (is_placed (file_max_of old) (end_of old) (size_of e)).next (λ same. c.if-place-self.false (ap (λ (p : Place). p.file) c.requires.place ∙ same)) in

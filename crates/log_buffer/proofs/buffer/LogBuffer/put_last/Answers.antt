@@ -1,6 +1,7 @@
 use Rattle.std.proofs.Common.{◌≡◌, ℕ, ◌+◌, ◌-◌, List, ◌++◌, length, vec_capacity, refl, sym, ap, ◌∙◌, le_refl, le_of_eq, arith}
 use Rattle.log_entry.specs.Spelling.{size_of}
 use Rattle.log_entry.proofs.ReadingLaws.{length-spelling}
+use Rattle.log_entry.specs.Parts.{entry_by}
 use Rattle.log_buffer.specs.Tail.{bytes_for}
 use Rattle.log_buffer.proofs.Pieces.{IsCut}
 use Rattle.log_buffer.proofs.Growing.{log_last}
@@ -12,7 +13,7 @@ use Rattle.log_buffer.proofs.buffer.LogBuffer.put_last.Goals as goal
 
 pub returns-in_err-push-clause-fits : goal.returns-in_err-push-clause-fits
 returns-in_err-push-clause-fits g c =
-    let len : length c.as_slice.result.now ≡ size_of c.args.entry.now = ap length (c.as_slice.ensures.value ∙ c.in_ok-spell.ensures.ok) ∙ length-spelling c.args.entry.now c.args.self.now.last in
+    let len : length c.as_slice.result.now ≡ size_of (entry_by c.args.entry.now) = ap length (c.as_slice.ensures.value ∙ c.in_ok-spell.ensures.ok) ∙ length-spelling (entry_by c.args.entry.now) c.args.self.now.last in
     λ sizes room. let bytes = room.bytes in let ok = c.in_err-push.ensures.fits (omega (arith, len)) in absurd cc
 
 pub returns-clause-log : goal.returns-clause-log
@@ -21,7 +22,7 @@ returns-clause-log g c =
     let cut : IsCut (length old.tail.bytes.items) old.tail.starts.items = record { within = old.tail.within; apart = old.tail.apart } in
     let starts : c.push.new.self.starts.items ≡ old.tail.starts.items = ap (λ v. v.items) c.push.ensures.starts in
     λ tells state log has.
-    log_last tells state old _ log c.args.entry.now c.requires.entry c.requires.follows c.requires.fits
+    log_last tells state old _ log (entry_by c.args.entry.now) c.requires.entry c.requires.follows c.requires.fits
     (record {
       file = refl;
       offset = ap (λ (n : ℕ). old.offset + n) c.requires.size;
@@ -37,7 +38,7 @@ returns-clause-log g c =
 
 pub returns-clause-room : goal.returns-clause-room
 returns-clause-room g c =
-    let len : length c.as_slice.result.now ≡ size_of c.args.entry.now = ap length (c.as_slice.ensures.value ∙ c.in_ok-spell.ensures.ok) ∙ length-spelling c.args.entry.now c.args.self.now.last in
+    let len : length c.as_slice.result.now ≡ size_of (entry_by c.args.entry.now) = ap length (c.as_slice.ensures.value ∙ c.in_ok-spell.ensures.ok) ∙ length-spelling (entry_by c.args.entry.now) c.args.self.now.last in
     let used = c.in_ok-push.ensures.used in
     let starts = ap (λ v. length v.items) c.push.ensures.starts in
     let places = ap (λ v. vec_capacity v) c.push.ensures.starts in
@@ -65,7 +66,7 @@ returns-clause-holds g c =
     let old = c.args.self.now in
     let starts : c.push.new.self.starts.items ≡ old.tail.starts.items = ap (λ v. v.items) c.push.ensures.starts in
     λ tells state log removed least begun has h.
-    holds_with log removed least begun (first_of old) (old.file.0 - length c.push.new.self.starts.items) (file_of old) (offset_of old) (last_of old) (file_of old) state c.args.entry.now has.is_log has.ends (omega arith)
+    holds_with log removed least begun (first_of old) (old.file.0 - length c.push.new.self.starts.items) (file_of old) (offset_of old) (last_of old) (file_of old) state (entry_by c.args.entry.now) has.is_log has.ends (omega arith)
     (ap (λ (s : List ℕ). old.file.0 - length s) starts) h
 
 pub returns-in_err-spell-clause-fits : goal.returns-in_err-spell-clause-fits

@@ -1,4 +1,5 @@
 use Rattle.std.proofs.Common.{ℕ, ◌+◌, ◌-◌, [], ◌∷◌, length, refl, ap, ◌∙◌, le_refl, arith, length-append}
+use Rattle.log_entry.specs.Parts.{entry_by}
 use Rattle.log_buffer.proofs.Pieces.{IsCut}
 use Rattle.log_buffer.proofs.Tails.{bytes_for_above}
 use Rattle.log_buffer.proofs.Growing.{log_next}
@@ -11,7 +12,7 @@ use Rattle.log_buffer.proofs.buffer.LogBuffer.put_next.Goals as goal
 
 pub begin-requires : goal.begin-requires
 begin-requires g c =
-    let len = spelled_size c.as_slice.result.now (c.args.self.now.file.0 + 1) c.args.entry.now (c.as_slice.ensures.value ∙ c.in_ok-spell_first.ensures.ok) in
+    let len = spelled_size c.as_slice.result.now (c.args.self.now.file.0 + 1) (entry_by c.args.entry.now) (c.as_slice.ensures.value ∙ c.in_ok-spell_first.ensures.ok) in
     omega (arith, len)
 
 pub returns-in_err-spell_first-clause-unchanged : goal.returns-in_err-spell_first-clause-unchanged
@@ -28,7 +29,7 @@ returns-in_err-begin-clause-unchanged g c =
 
 pub returns-in_err-begin-clause-fits : goal.returns-in_err-begin-clause-fits
 returns-in_err-begin-clause-fits g c =
-    let len = spelled_size c.as_slice.result.now (c.args.self.now.file.0 + 1) c.args.entry.now (c.as_slice.ensures.value ∙ c.in_ok-spell_first.ensures.ok) in
+    let len = spelled_size c.as_slice.result.now (c.args.self.now.file.0 + 1) (entry_by c.args.entry.now) (c.as_slice.ensures.value ∙ c.in_ok-spell_first.ensures.ok) in
     λ sizes room. let bytes = room.bytes in let files = room.files in let ok = c.in_err-begin.ensures.fits (omega arith) (omega (arith, len)) in absurd cc
 
 pub invariant_of-self-2 : goal.invariant_of-self-2
@@ -48,9 +49,9 @@ returns-clause-log g c =
     let cut : IsCut (length old.tail.bytes.items) old.tail.starts.items = record { within = old.tail.within; apart = old.tail.apart } in
     let len = length-append old.tail.starts.items (length old.tail.bytes.items ∷ []) in
     let small = old.last_file in
-    let size = body_small c.args.entry.now c.requires.entry in
+    let size = body_small (entry_by c.args.entry.now) c.requires.entry in
     λ tells state log has.
-    log_next tells state old _ log c.args.entry.now c.requires.entry c.requires.follows (omega arith) (omega arith)
+    log_next tells state old _ log (entry_by c.args.entry.now) c.requires.entry c.requires.follows (omega arith) (omega arith)
     (record {
       file = refl;
       offset = ap (λ (n : ℕ). 26 + n) c.requires.size;
@@ -67,7 +68,7 @@ returns-clause-log g c =
 
 pub returns-clause-room : goal.returns-clause-room
 returns-clause-room g c =
-    let len = spelled_size c.as_slice.result.now (c.args.self.now.file.0 + 1) c.args.entry.now (c.as_slice.ensures.value ∙ c.in_ok-spell_first.ensures.ok) in
+    let len = spelled_size c.as_slice.result.now (c.args.self.now.file.0 + 1) (entry_by c.args.entry.now) (c.as_slice.ensures.value ∙ c.in_ok-spell_first.ensures.ok) in
     let used = c.in_ok-begin.ensures.used in
     let places = c.begin.ensures.capacity in
     let more = length-append c.args.self.now.tail.starts.items (length c.args.self.now.tail.bytes.items ∷ []) in
@@ -82,5 +83,5 @@ returns-clause-holds g c =
     let old = c.args.self.now in
     let len = length-append old.tail.starts.items (length old.tail.bytes.items ∷ []) in
     λ tells state log removed least begun has h.
-    holds_with log removed least begun (first_of old) (old.file.0 + 1 - length c.begin.new.self.starts.items) (file_of old) (offset_of old) (last_of old) (file_of old + 1) state c.args.entry.now has.is_log has.ends (omega arith)
+    holds_with log removed least begun (first_of old) (old.file.0 + 1 - length c.begin.new.self.starts.items) (file_of old) (offset_of old) (last_of old) (file_of old + 1) state (entry_by c.args.entry.now) has.is_log has.ends (omega arith)
     (let begun = ap length c.in_ok-begin.ensures.begun in omega (arith, len, begun)) h
