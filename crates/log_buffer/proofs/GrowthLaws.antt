@@ -1,12 +1,12 @@
 -- A log that grows by several entries, and a buffer that does.
-use Rattle.std.proofs.Common.{◌≡◌, ◌≢◌, ℕ, ◌+◌, ◌*◌, ◌^◌, ◌<◌, ◌≤◌, Bool, true, List, [], ◌∷◌, ◌++◌, Option, map, refl, sym, ap, ap₂, subst, ◌∙◌, arith, nat_cmp, append_assoc, ◌⊎◌, inl, inr}
+use Rattle.std.proofs.Common.{◌≡◌, ◌≢◌, ℕ, ◌+◌, ◌*◌, ◌^◌, ◌<◌, Bool, true, List, [], ◌∷◌, ◌++◌, Option, map, refl, sym, ap, ap₂, subst, ◌∙◌, arith, nat_cmp, append_assoc, ◌⊎◌, inl, inr}
 use Rattle.std.specs.Prelude.{Result, Ok, Err, OnOk, OnErr}
 use Rattle.std.proofs.lemmas.Bool.{cases_order}
 use Rattle.std.proofs.lemmas.List.{append-nil, map-append}
 use Rattle.std.proofs.lemmas.Map.Keys.{sorted_from_strictly_increasing}
 use Rattle.std.specs.List.Sorted.{IsStrictlySortedBy}
 use Rattle.je_disk.specs.States.{State}
-use Rattle.je_disk.specs.Moments.{History, Passes, now}
+use Rattle.je_disk.specs.Moments.{History, now}
 use Rattle.je_disk.proofs.Moments.{passes_none, passes_weaken}
 use Rattle.log_entry.specs.declared.entry.Entry.{Entry}
 use Rattle.log_entry.specs.Spelling.{size_of}
@@ -17,7 +17,7 @@ use Rattle.log_file.proofs.SpelledLaws.{sizes-append}
 use Rattle.log_file.proofs.PlacedLaws.{placed_go_last, placed_go_on}
 use Rattle.log_buffer.specs.declared.buffer.LogBuffer.{LogBuffer}
 use Rattle.log_buffer.specs.declared.place.Place.{Place}
-use Rattle.log_buffer.specs.Buffer.{disk_of, first_of, end_of, file_max_of, has_failed, IsUnchanged}
+use Rattle.log_buffer.specs.Buffer.{disk_of, first_of, end_of, file_max_of, has_failed}
 use Rattle.log_buffer.specs.Crash.{Holds, IsKeptSince, KeepsRead, KeptThrough}
 use Rattle.log_buffer.specs.Flip.{header_size, next_file, placed_at, end_after, end_after_all, lsn_of, behind}
 use Rattle.log_buffer.specs.Growth.{log_with_all, longer, SameJobs, KeepsLonger, Grew, Tried, GrewNone, GrewUnchanged, GrewThen, TriedThen, TriedMore}

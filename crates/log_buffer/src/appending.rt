@@ -16,7 +16,6 @@ ghost use Rattle.log_buffer.specs.Flip.{header_size, placed_at, next_file, behin
 ghost use Rattle.log_buffer.specs.Causes.{HasCause, FailsByFault};
 
 use crate::place::LAST_FILE;
-use crate::spelling::{spell, spell_first};
 use crate::{HEADER_SIZE, LogBuffer, LogErr, Place};
 use je_disk::Disk;
 use je_lsn::{FileNo, Lsn};
@@ -47,8 +46,8 @@ impl<D: Disk> LogBuffer<D> {
         self.append_ref(&EntryRef::Whole(entry))
     }
 
-    /// The same for an entry that is handed over by its parts: they are copied into what is written, and nowhere
-    /// else.
+    /// The same for an entry that is handed over by its parts: key and data are copied once, from where the
+    /// caller has them into the tail.
     pub fn append_ref(&mut self, entry: &EntryRef<'_>) -> Result<Lsn, LogErr>
         requires entry { IsEntry (entry_by entry.now) }
         requires follows { may_follow (entry_by entry.now) ≡ true }
@@ -69,6 +68,23 @@ impl<D: Disk> LogBuffer<D> {
         self.put(entry, size, place)?;
         self.write_long()?;
         Ok(Lsn::new(FileNo(place.file), place.offset as u32))
+    }
+
+    /// The same where `reserve` has made room for the entry: the one error is Fault.
+    pub fn append_reserved(&mut self, entry: &EntryRef<'_>) -> Result<Lsn, LogErr>
+        requires entry { IsEntry (entry_by entry.now) }
+        requires follows { may_follow (entry_by entry.now) ≡ true }
+        requires works { has_failed self.old ≡ false }
+        requires room { (sizes : List ℕ) × HasRoom self.old (size_of (entry_by entry.now) ∷ sizes) }
+        requires fits { (placed_at (file_max_of self.old) (end_of self.old) (size_of (entry_by entry.now))).file ≤ last_file }
+        ensures at { IfOk result (λ at. at ≡ lsn_of (placed_at (file_max_of self.old) (end_of self.old) (size_of (entry_by entry.now)))) }
+        ensures grew { OnOk result (Grew D.tells D.history D.sync_out D.read_out D.read_of self.old self.new (entry_by entry.now ∷ [])) }
+        ensures tried { OnErr result (Tried D.tells D.history D.sync_out D.read_out D.read_of self.old self.new (entry_by entry.now ∷ [])) }
+        ensures room { (sizes : List ℕ) → HasRoom self.old (size_of (entry_by entry.now) ∷ sizes) → OnOk result (HasRoom self.new sizes) }
+        ensures by_fault { FailsByFault result }
+        ensures cause { HasCause (has_failed self.old) (has_failed self.new) (D.faults (disk_of self.old)) (D.faults (disk_of self.new)) result }
+    {
+        self.append_ref(entry)
     }
 
     // Where an entry of so many bytes goes.
@@ -156,8 +172,7 @@ impl<D: Disk> LogBuffer<D> {
         ensures failed { has_failed self.new ≡ has_failed self.old }
         ensures file_max { file_max_of self.new ≡ file_max_of self.old }
     {
-        spell(&mut self.piece, entry, self.last)?;
-        self.tail.push(self.piece.as_slice())?;
+        self.tail.push(entry, self.last)?;
         self.last = self.offset;
         self.offset += size;
         Ok(())
@@ -182,8 +197,7 @@ impl<D: Disk> LogBuffer<D> {
         ensures file_max { file_max_of self.new ≡ file_max_of self.old }
     {
         let next = FileNo(self.file.0 + 1);
-        spell_first(&mut self.piece, next, entry)?;
-        self.tail.begin(self.piece.as_slice())?;
+        self.tail.begin(next, entry)?;
         self.file = next;
         self.last = HEADER_SIZE as u32;
         self.offset = HEADER_SIZE as u32 + size;

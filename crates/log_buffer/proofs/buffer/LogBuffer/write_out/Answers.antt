@@ -57,8 +57,8 @@ pub returns-in-Err-clause-cause : goal.returns-in-Err-clause-cause
 returns-in-Err-clause-cause g c = cause_fault _ _ _ _ _ c.if-self.false refl c.write_tail.ensures.cause.never_falls refl c.in-Err.ensures.cause.failed
 
 -- room that bytes leave when they go
-more_spare : (room bytes spare more : ℕ) → room ≤ spare → bytes + spare ≤ more → room ≤ more
-more_spare room bytes spare more le kept = omega arith
+more_spare : (bytes left : List ℕ) (room most more : ℕ) → left ≡ [] → more ≡ most → length bytes + room ≤ most → length left + room ≤ more
+more_spare bytes left room most more none same le = let len = ap length none in omega (arith, len)
 
 -- room for files that begin, once none begins
 none_begun : (starts begun : List ℕ) (count most places : ℕ) → starts ≡ [] → places ≡ most → length begun + count ≤ most → length starts + count ≤ places
@@ -76,7 +76,6 @@ pub returns-in-Ok-clause-room : goal.returns-in-Ok-clause-room
 returns-in-Ok-clause-room g c =
     let old = c.args.self.now.tail in
     λ sizes room. record {
-      bytes = more_spare (room_for sizes) (length old.bytes.items) old.bytes.spare c.clear.new.self.bytes.spare room.bytes c.clear.ensures.spare;
+      bytes = more_spare old.bytes.items c.clear.new.self.bytes.items (room_for sizes) (vec_capacity old.bytes) (vec_capacity c.clear.new.self.bytes) c.clear.ensures.bytes c.clear.ensures.bytes_capacity room.bytes;
       files = none_begun c.clear.new.self.starts.items old.starts.items (length sizes) (vec_capacity old.starts) (vec_capacity c.clear.new.self.starts) c.clear.ensures.starts c.clear.ensures.capacity room.files;
-      each = room.each;
     }
