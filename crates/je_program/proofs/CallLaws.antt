@@ -40,10 +40,11 @@ use Rattle.log_replay.specs.Rows.{Row, Rows, data_at, number_in, rows_in}
 use Rattle.crash_meaning.specs.Reading.{HasNoGap}
 use Rattle.crash_meaning.specs.Recovery.{Recovers, commits_in}
 use Rattle.crash_meaning.proofs.Recoveries.{commits-front, longer_logs_recover}
+use Rattle.log_buffer.specs.Growth.{log_with_all}
 use Rattle.je_program.specs.declared.kept.Kept.{Kept}
 use Rattle.je_program.specs.Environment.{IsAt, IsAtEnd, IsValid, log_rule, place_of, log_end_of}
 use Rattle.je_program.specs.Crash.{AreSafeEvents, Follows}
-use Rattle.je_program.specs.Guarded.{log_with_all, number_for, entries_for, log_by, log_by_call, log_after, IsKept, IsKeeping, IsGuarded, GoesOnSafely, LogsSafely}
+use Rattle.je_program.specs.Guarded.{number_for, entries_for, log_by, log_by_call, log_after, IsKept, IsKeeping, IsGuarded, GoesOnSafely, LogsSafely}
 use Rattle.je_program.specs.Logging.{entries_logged}
 use Rattle.je_program.specs.Planning.{IsLogged}
 use Rattle.je_program.specs.declared.kept.TheConstants.{LAST_FILE}

@@ -16,10 +16,10 @@ use Rattle.log_buffer.specs.Flip.{behind, end_after, end_after_all, goes_in, hea
 use Rattle.log_buffer.specs.Log.{EndsAt, log_with}
 use Rattle.log_buffer.proofs.Logs.{AreBelow, below_last, below_more, below_push, is_log_last, is_log_push, last_entries, with_last, with_next}
 use Rattle.log_buffer.proofs.Splits.{below_at}
-use Rattle.log_buffer.proofs.KeptGrowing.{last_is}
+use Rattle.log_buffer.proofs.GrowthLaws.{EndsIn, ends_in}
 use Rattle.crash_meaning.specs.Reading.{HasNoGap}
+use Rattle.log_buffer.specs.Growth.{log_with_all}
 use Rattle.je_program.specs.declared.kept.TheConstants.{LAST_FILE}
-use Rattle.je_program.specs.Guarded.{log_with_all}
 use Rattle.je_program.specs.Environment.{IsWhole}
 use Rattle.je_program.proofs.AppendLaws.{Grows, grows}
 use Rattle.je_program.proofs.FinishLaws.{small_files}
@@ -80,70 +80,13 @@ longer_at most end last log e max is ends entry follows = by_case (goes_in most 
     by_case true goes room = longer_here log end.file end.offset last e is ends entry follows (fits_here most end.offset (size_of e) max small goes)
     by_case false goes room = longer_next log end.file end.offset last e is ends entry follows (omega (arith, small)) (omega (arith, room))
 
--- ---- what a crash keeps of it
-
-other_below : (n m : ℕ) → n < m → (n == m) ≡ false
-other_below n m less = grind (arith, nat_tests)
-
-with_behind : (before rest : Log) (f : ℕ) (e : Entry) → AreBelow f before → log_with f e (before ++ rest) ≡ before ++ log_with f e rest
-with_behind [] rest f e below = refl
-with_behind (file ∷ before) rest f e below =
-    ap (λ (b : Bool). cond b ((f, file.1 ++ e ∷ []) ∷ (before ++ rest)) (file ∷ log_with f e (before ++ rest))) (other_below file.0 f below.0)
-    ∙ ap (λ (l : Log). file ∷ l) (with_behind before rest f e below.1)
-
-keeps_with : (log : Log) (least f : ℕ) (marks : ℕ → Mark) (e : Entry) → IsLog log → (k : KeepsLog log [] least marks) → k.at ≤ f → KeepsLog (log_with f e log) [] least marks
-keeps_with log least f marks e is k le = by_case (k.at == f) refl
-  where
-    below : AreBelow f k.before
-    below = below_more k.at f k.before le (below_at k.before (k.at, k.kept ++ k.more) k.after (subst IsLog k.log_is is))
-
-    grown : log_with f e log ≡ k.before ++ log_with f e ((k.at, k.kept ++ k.more) ∷ k.after)
-    grown = ap (log_with f e) k.log_is ∙ with_behind k.before ((k.at, k.kept ++ k.more) ∷ k.after) f e below
-
-    by_case : (b : Bool) → (k.at == f) ≡ b → KeepsLog (log_with f e log) [] least marks
-    by_case true same = record {
-      before = k.before;
-      at = k.at;
-      kept = k.kept;
-      more = k.more ++ e ∷ [];
-      after = k.after;
-      log_is = grown ∙ ap (λ (l : Log). k.before ++ l)
-          (ap (λ (b : Bool). cond b ((f, (k.kept ++ k.more) ++ e ∷ []) ∷ k.after) ((k.at, k.kept ++ k.more) ∷ log_with f e k.after)) same
-          ∙ ap₂ (λ (n : ℕ) (x : List Entry). (n, x) ∷ k.after) (sym (eqb-true _ _ same)) (append_assoc k.kept k.more (e ∷ [])));
-      front = k.front;
-      others = k.others;
-      at_least = k.at_least;
-    }
-    by_case false other = record {
-      before = k.before;
-      at = k.at;
-      kept = k.kept;
-      more = k.more;
-      after = log_with f e k.after;
-      log_is = grown ∙ ap (λ (b : Bool). k.before ++ cond b ((f, (k.kept ++ k.more) ++ e ∷ []) ∷ k.after) ((k.at, k.kept ++ k.more) ∷ log_with f e k.after)) other;
-      front = k.front;
-      others = k.others;
-      at_least = k.at_least;
-    }
-
--- an entry more, in the last file or the next one
-pub keeps_longer : (log : Log) (least file offset last f : ℕ) (marks : ℕ → Mark) (e : Entry) → IsLog log → EndsAt log file offset last → file ≤ f → KeepsLog log [] least marks → KeepsLog (log_with f e log) [] least marks
-keeps_longer log least file offset last f marks e is ends le k =
-    let within : k.at ≤ file = last_is log file offset last k.before k.at (k.kept ++ k.more) k.after is ends k.log_is in
-    keeps_with log least f marks e is k (omega arith)
-
--- the file never falls
-pub after_is : (most : ℕ) (end : Place) (size : ℕ) → end.file ≤ (placed_at most end size).file
-after_is most end size = file_rises most end size
-
 -- ---- two entries more
 
 -- the log with both
 pub record IsLongerByBoth (most : ℕ) (end : Place) (a b : Entry) (log : Log) : Type 0 where
   pub gap : HasNoGap (log_with_all most end (a ∷ b ∷ []) log)
   pub entries : entries_of (log_with_all most end (a ∷ b ∷ []) log) ≡ entries_of log ++ a ∷ b ∷ []
-  pub keeps_first : (least : ℕ) (marks : ℕ → Mark) → KeepsLog log [] least marks → KeepsLog (log_with (placed_at most end (size_of a)).file a log) [] least marks
-  pub keeps_second : (least : ℕ) (marks : ℕ → Mark) → KeepsLog (log_with (placed_at most end (size_of a)).file a log) [] least marks → KeepsLog (log_with_all most end (a ∷ b ∷ []) log) [] least marks
+  pub ends : EndsIn log end
 
 pub longer_by_both : (most : ℕ) (end : Place) (last : ℕ) (a b : Entry) (log : Log) → most ≤ 2 ^ 30 → IsLog log → EndsAt log end.file end.offset last → IsWhole log →
     IsEntry a × IsEntry b → (may_follow a ≡ true) × (may_follow b ≡ true) → (end_after_all most end (size_of a ∷ size_of b ∷ [])).file ≤ LAST_FILE → IsLongerByBoth most end a b log
@@ -163,6 +106,5 @@ longer_by_both most end last a b log max is ends whole entries follow room =
         whole = second.whole;
       };
       entries = second.entries ∙ ap (λ (l : List Entry). l ++ b ∷ []) first.entries ∙ append_assoc (entries_of log) (a ∷ []) (b ∷ []);
-      keeps_first = λ least marks k. keeps_longer log least end.file end.offset last f marks a is ends (after_is most end (size_of a)) k;
-      keeps_second = λ least marks k. keeps_longer (log_with f a log) least f middle.offset one.last g marks b one.is_log one.ends rises k;
+      ends = ends_in log end last is ends;
     }

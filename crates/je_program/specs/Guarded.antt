@@ -16,14 +16,13 @@ use Rattle.je_model.specs.Answers.{Standing, after_event, after_events}
 use Rattle.je_model.specs.Evaluation.{evaluation}
 use Rattle.je_model.specs.Journal.{attempts_of, synced_of}
 use Rattle.log_entry.specs.declared.entry.Entry.{Entry}
-use Rattle.log_entry.specs.Spelling.{size_of}
 use Rattle.log_file.specs.Log.{Log, entries_of, log_in}
 use Rattle.log_buffer.specs.declared.buffer.LogBuffer.{LogBuffer}
 use Rattle.log_buffer.specs.declared.place.Place.{Place}
 use Rattle.log_buffer.specs.Buffer.{first_of, has_failed}
 use Rattle.log_buffer.specs.Crash.{FilesStay, Holds, KeepsRead, KeptThrough}
-use Rattle.log_buffer.specs.Flip.{placed_at, end_after}
-use Rattle.log_buffer.specs.Log.{HasLog, log_with}
+use Rattle.log_buffer.specs.Growth.{log_with_all}
+use Rattle.log_buffer.specs.Log.{HasLog}
 use Rattle.log_replay.specs.Replay.{replayed, nothing_replayed}
 use Rattle.log_replay.specs.Rows.{Rows}
 use Rattle.crash_meaning.specs.Reading.{HasNoGap}
@@ -41,12 +40,6 @@ use Rattle.je_program.specs.Run.{StartsAt}
 abbrev pub log_opened : List (ℕ × List ℕ) → Log
 log_opened [] = (0, []) ∷ []
 log_opened (file ∷ held) = log_in (file ∷ held)
-
--- a log that ends here, with entries more, each in its last file or in a next one
-abbrev pub log_with_all : ℕ → Place → List Entry → Log → Log
-log_with_all most end [] log = log
-log_with_all most end (entry ∷ entries) log =
-    log_with_all most (end_after most end (size_of entry)) entries (log_with (placed_at most end (size_of entry)).file entry log)
 
 -- the number of the database that a change is in: the one that the catalog has, or the next one for a database that is made or emptied
 abbrev pub number_for : Rows → ℕ → Change → ℕ

@@ -147,3 +147,15 @@ found_not_full None r is full = absurd cc
 pub cause_found : {T : Type 0} (was is : Bool) (before after : ℕ) (r : Result (Option T) LogErr) (o : Option T) (r' : Result T LogErr) → r ≡ Ok o → r' ≡ ok_or o Damaged → HasCause was is before after r → HasCause was is before after r'
 cause_found was is before after r (Some v) r' ok found cause = cause_same was is before after r r' (λ fault. cc) (λ fault. cc) cause
 cause_found was is before after r None r' ok found cause = cause_same was is before after r r' (λ fault. cc) (λ fault. cc) cause
+
+-- a call that can neither be full, nor want memory, nor find damage
+pub only_faults : {T : Type 0} (r : Result T LogErr) → (IsErrOf r Full → ⊥) → (IsErrOf r Memory → ⊥) → (IsErrOf r Damaged → ⊥) → FailsByFault r
+only_faults (Ok v) full memory damaged = tt
+only_faults (Err Full) full memory damaged = absurd (full refl)
+only_faults (Err Fault) full memory damaged = refl
+only_faults (Err Damaged) full memory damaged = absurd (damaged refl)
+only_faults (Err Memory) full memory damaged = absurd (memory refl)
+
+pub on_fault : {T : Type 0} (r : Result T LogErr) (P : Type 0) → FailsByFault r → (IsErrOf r Fault → P) → OnErr r P
+on_fault (Ok v) P by p = tt
+on_fault (Err e) P by p = p (ap (λ (x : LogErr). Err x) by)

@@ -7,7 +7,7 @@ use Rattle.je_disk.specs.States.{State, Files, Mark}
 use Rattle.log_entry.specs.declared.entry.Entry.{Entry}
 use Rattle.log_file.specs.Log.{Log, IsLog}
 use Rattle.log_buffer.specs.Log.{EndsAt, log_with}
-use Rattle.log_buffer.specs.Crash.{KeepsFrom, KeepsJob, Holds}
+use Rattle.log_buffer.specs.Crash.{KeepsLog, KeepsFrom, KeepsJob, Holds}
 use Rattle.log_buffer.proofs.Logs.{AreBelow, below_more}
 use Rattle.log_buffer.proofs.Splits.{below_at, lookup_at, lookup_over}
 
@@ -35,49 +35,54 @@ last_is log file offset last before at es after is ends parts = by_order (cases_
   by_order (inr (inl lt)) = omega arith
   by_order (inr (inr gt)) = absurd (absent gt)
 
-kept_with : (log removed : Log) (least first f : ℕ) (reads : Files) (marks : ℕ → Mark) (e : Entry) → IsLog log → (k : KeepsFrom log removed least first reads marks) → k.keeps.at ≤ f → KeepsFrom (log_with f e log) removed least first reads marks
-kept_with log removed least first f reads marks e is k le = by_case (k.keeps.at == f) refl where
-  below : AreBelow f k.keeps.before
-  below = below_more k.keeps.at f k.keeps.before le (below_at k.keeps.before (k.keeps.at, k.keeps.kept ++ k.keeps.more) k.keeps.after (subst IsLog k.keeps.log_is is))
+-- what a crash keeps of a log with an entry more: what it keeps of the log, up to the same file
+pub record KeepsOn (log removed : Log) (least file : ℕ) (marks : ℕ → Mark) : Type 0 where
+  pub keeps : KeepsLog log removed least marks
+  pub at_is : keeps.at ≡ file
 
-  grown : log_with f e log ≡ k.keeps.before ++ log_with f e ((k.keeps.at, k.keeps.kept ++ k.keeps.more) ∷ k.keeps.after)
-  grown = ap (log_with f e) k.keeps.log_is ∙ with_behind k.keeps.before ((k.keeps.at, k.keeps.kept ++ k.keeps.more) ∷ k.keeps.after) f e below
+pub keeps_with : (log removed : Log) (least f : ℕ) (marks : ℕ → Mark) (e : Entry) (k : KeepsLog log removed least marks) → AreBelow f k.before → KeepsOn (log_with f e log) removed least k.at marks
+keeps_with log removed least f marks e k below = by_case (k.at == f) refl where
+  grown : log_with f e log ≡ k.before ++ log_with f e ((k.at, k.kept ++ k.more) ∷ k.after)
+  grown = ap (log_with f e) k.log_is ∙ with_behind k.before ((k.at, k.kept ++ k.more) ∷ k.after) f e below
 
-  by_case : (b : Bool) → (k.keeps.at == f) ≡ b → KeepsFrom (log_with f e log) removed least first reads marks
+  by_case : (b : Bool) → (k.at == f) ≡ b → KeepsOn (log_with f e log) removed least k.at marks
   by_case true same = record {
     keeps = record {
-      before = k.keeps.before;
-      at = k.keeps.at;
-      kept = k.keeps.kept;
-      more = k.keeps.more ++ e ∷ [];
-      after = k.keeps.after;
-      log_is = grown ∙ ap (λ (l : Log). k.keeps.before ++ l)
-          (ap (λ (b : Bool). cond b ((f, (k.keeps.kept ++ k.keeps.more) ++ e ∷ []) ∷ k.keeps.after) ((k.keeps.at, k.keeps.kept ++ k.keeps.more) ∷ log_with f e k.keeps.after)) same
-          ∙ ap₂ (λ (n : ℕ) (x : List Entry). (n, x) ∷ k.keeps.after) (sym (eqb-true _ _ same)) (append_assoc k.keeps.kept k.keeps.more (e ∷ [])));
-      front = k.keeps.front;
-      others = k.keeps.others;
-      at_least = k.keeps.at_least;
+      before = k.before;
+      at = k.at;
+      kept = k.kept;
+      more = k.more ++ e ∷ [];
+      after = k.after;
+      log_is = grown ∙ ap (λ (l : Log). k.before ++ l)
+          (ap (λ (b : Bool). cond b ((f, (k.kept ++ k.more) ++ e ∷ []) ∷ k.after) ((k.at, k.kept ++ k.more) ∷ log_with f e k.after)) same
+          ∙ ap₂ (λ (n : ℕ) (x : List Entry). (n, x) ∷ k.after) (sym (eqb-true _ _ same)) (append_assoc k.kept k.more (e ∷ [])));
+      front = k.front;
+      others = k.others;
+      at_least = k.at_least;
     };
-    first_is = k.first_is;
-    read = k.read;
+    at_is = refl;
   }
   by_case false other = record {
     keeps = record {
-      before = k.keeps.before;
-      at = k.keeps.at;
-      kept = k.keeps.kept;
-      more = k.keeps.more;
-      after = log_with f e k.keeps.after;
-      log_is = grown ∙ ap (λ (b : Bool). k.keeps.before ++ cond b ((f, (k.keeps.kept ++ k.keeps.more) ++ e ∷ []) ∷ k.keeps.after) ((k.keeps.at, k.keeps.kept ++ k.keeps.more) ∷ log_with f e k.keeps.after)) other;
-      front = k.keeps.front;
-      others = k.keeps.others;
-      at_least = k.keeps.at_least;
+      before = k.before;
+      at = k.at;
+      kept = k.kept;
+      more = k.more;
+      after = log_with f e k.after;
+      log_is = grown ∙ ap (λ (b : Bool). k.before ++ cond b ((f, (k.kept ++ k.more) ++ e ∷ []) ∷ k.after) ((k.at, k.kept ++ k.more) ∷ log_with f e k.after)) other;
+      front = k.front;
+      others = k.others;
+      at_least = k.at_least;
     };
-    first_is = k.first_is;
-    read = k.read;
+    at_is = refl;
   }
 
--- an entry more, at the end of the last file or of one behind it
+kept_with : (log removed : Log) (least first f : ℕ) (reads : Files) (marks : ℕ → Mark) (e : Entry) → IsLog log → (k : KeepsFrom log removed least first reads marks) → k.keeps.at ≤ f → KeepsFrom (log_with f e log) removed least first reads marks
+kept_with log removed least first f reads marks e is k le =
+    let on = keeps_with log removed least f marks e k.keeps
+    (below_more k.keeps.at f k.keeps.before le (below_at k.keeps.before (k.keeps.at, k.keeps.kept ++ k.keeps.more) k.keeps.after (subst IsLog k.keeps.log_is is))) in
+    record { keeps = on.keeps; first_is = subst (λ (n : ℕ). first ≤ n) (sym on.at_is) k.first_is; read = k.read }
+
 pub holds_with : (log removed : Log) (least : ℕ) (begun : Option ℕ) (old_first new_first file offset last f : ℕ) (state : State) (e : Entry) → IsLog log → EndsAt log file offset last → file ≤ f → new_first ≡ old_first
     → Holds log removed least begun old_first state → Holds (log_with f e log) removed least begun new_first state
 holds_with log removed least begun old_first new_first file offset last f state e is ends le same h =

@@ -20,6 +20,7 @@ pub mod Staying
 pub mod KeptWriting
 pub mod KeptSyncs
 pub mod KeptGrowing
+pub mod GrowthLaws
 pub mod KeptRemoved
 pub mod Left
 pub mod Passing

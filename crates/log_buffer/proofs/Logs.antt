@@ -21,7 +21,7 @@ last_of_all : (P : ℕ → Type 0) (before : Log) (last : ℕ × List Entry) →
 last_of_all P [] last all = all.0
 last_of_all P (file ∷ before) last all = last_of_all P before last all.1
 
-below_from : (before : Log) (last : ℕ × List Entry) → IsStrictlySortedBy nat_cmp (map (λ file. file.0) (before ++ last ∷ [])) → AreBelow last.0 before
+pub below_from : (before : Log) (last : ℕ × List Entry) → IsStrictlySortedBy nat_cmp (map (λ file. file.0) (before ++ last ∷ [])) → AreBelow last.0 before
 unfolding IsStrictlySortedBy
 below_from [] last sorted = tt
 below_from (file ∷ before) last sorted =
@@ -55,7 +55,7 @@ less_all : (n : ℕ) (log : Log) (last : ℕ × List Entry) → AllByRecursion (
 less_all n [] last all less = (grind (arith, nat_tests, less), tt)
 less_all n (file ∷ log) last all less = (all.0, less_all n log last all.1 less)
 
-sorted_push : (log : Log) (last : ℕ × List Entry) → IsStrictlySortedBy nat_cmp (map (λ file. file.0) log) → AreBelow last.0 log → IsStrictlySortedBy nat_cmp (map (λ file. file.0) (log ++ last ∷ []))
+pub sorted_push : (log : Log) (last : ℕ × List Entry) → IsStrictlySortedBy nat_cmp (map (λ file. file.0) log) → AreBelow last.0 log → IsStrictlySortedBy nat_cmp (map (λ file. file.0) (log ++ last ∷ []))
 unfolding IsStrictlySortedBy
 sorted_push [] last sorted all = (tt, tt)
 sorted_push (file ∷ log) last sorted all = (less_all file.0 log last sorted.0 all.0, sorted_push log last sorted.1 all.1)
@@ -67,7 +67,7 @@ is_log_push log last is all small are = record {
   each = all_push (λ file. (file.0 < 2 ^ 32) × AreFileEntries file.1) log last is.each (small, are);
 }
 
-numbers_push : (log : Log) (n : ℕ) (a b : List Entry) → map (λ file. file.0) (log ++ (n, a) ∷ []) ≡ map (λ file. file.0) (log ++ (n, b) ∷ [])
+pub numbers_push : (log : Log) (n : ℕ) (a b : List Entry) → map (λ file. file.0) (log ++ (n, a) ∷ []) ≡ map (λ file. file.0) (log ++ (n, b) ∷ [])
 numbers_push [] n a b = refl
 numbers_push (file ∷ log) n a b = ap (λ (l : List ℕ). file.0 ∷ l) (numbers_push log n a b)
 

@@ -1,6 +1,5 @@
 -- The room for entries, and the tail's bytes by file, as the fields change.
-use Rattle.std.proofs.Common.{◌≡◌, ◌≢◌, ℕ, ◌+◌, ◌≤◌, List, [], ◌∷◌, ◌++◌, length, refl, sym, ap, ap₂, ◌∙◌, arith}
-use Rattle.std.specs.List.{AllByRecursion}
+use Rattle.std.proofs.Common.{◌≡◌, ◌≢◌, ℕ, ◌+◌, ◌≤◌, List, [], ◌∷◌, ◌++◌, length, refl, sym, ap, ap₂, ◌∙◌}
 use Rattle.std.specs.Prelude.{Result, Ok, Err, OnOk, OnErr, true}
 use Rattle.std.specs.Result.{is_err}
 use Rattle.std.proofs.Common.{length-append}
@@ -12,15 +11,6 @@ use Rattle.log_buffer.specs.Flip.{header_size}
 use Rattle.log_buffer.specs.Tail.{bytes_for, first_for}
 use Rattle.log_buffer.proofs.Pieces.{IsCut}
 use Rattle.log_buffer.proofs.Tails.{push_last, push_other, begin_next, begin_other}
-
-pub each_more : (a b : ℕ) (sizes : List ℕ) → a ≤ b → AllByRecursion (λ size. header_size + size ≤ a) sizes → AllByRecursion (λ size. header_size + size ≤ b) sizes
-each_more a b [] le all = tt
-each_more a b (size ∷ sizes) le all = (let first = all.0 in omega arith, each_more a b sizes le all.1)
-
--- room for the greatest of these sizes is room for each
-pub each_fits : (most room : ℕ) (sizes : List ℕ) → header_size + most ≤ room → AllByRecursion (λ size. size ≤ most) sizes → AllByRecursion (λ size. header_size + size ≤ room) sizes
-each_fits most room [] le all = tt
-each_fits most room (size ∷ sizes) le all = (let first = all.0 in omega arith, each_fits most room sizes le all.1)
 
 -- the same places and bytes are the same for each file
 pub same_for : (bytes starts bytes' starts' : List ℕ) (last f : ℕ) → bytes' ≡ bytes → starts' ≡ starts → bytes_for bytes' starts' last f ≡ bytes_for bytes starts last f

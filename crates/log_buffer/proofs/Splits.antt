@@ -15,11 +15,11 @@ use Rattle.log_buffer.proofs.Logs.{AreBelow, below_more, lookup_none}
 abbrev pub AreAbove : ℕ → Log → Type 0
 AreAbove n log = AllByRecursion (λ file. n < file.0) log
 
-all_mid : (P : ℕ → Type 0) (before : Log) (file : ℕ × List Entry) (after : Log) → AllByRecursion P (map (λ x. x.0) (before ++ file ∷ after)) → P file.0
+pub all_mid : (P : ℕ → Type 0) (before : Log) (file : ℕ × List Entry) (after : Log) → AllByRecursion P (map (λ x. x.0) (before ++ file ∷ after)) → P file.0
 all_mid P [] file after all = all.0
 all_mid P (x ∷ before) file after all = all_mid P before file after all.1
 
-below_in : (before : Log) (file : ℕ × List Entry) (after : Log) → IsStrictlySortedBy nat_cmp (map (λ x. x.0) (before ++ file ∷ after)) → AreBelow file.0 before
+pub below_in : (before : Log) (file : ℕ × List Entry) (after : Log) → IsStrictlySortedBy nat_cmp (map (λ x. x.0) (before ++ file ∷ after)) → AreBelow file.0 before
 unfolding IsStrictlySortedBy
 below_in [] file after sorted = tt
 below_in (x ∷ before) file after sorted =

@@ -1,5 +1,5 @@
 -- A buffer whose tail stays as it was.
-use Rattle.std.proofs.Common.{◌≡◌, ℕ, ◌-◌, ◌≤◌, ◌<◌, ◌^◌, Bool, true, List, None, length, vec_capacity, refl, sym, ap, ap₂, subst, ◌∙◌, le_refl, le_trans, arith}
+use Rattle.std.proofs.Common.{◌≡◌, ℕ, ◌-◌, ◌≤◌, ◌<◌, ◌^◌, Bool, true, List, None, length, vec_capacity, refl, sym, ap, ap₂, subst, ◌∙◌, le_refl, arith}
 use Rattle.je_disk.specs.States.{State, Files, content}
 use Rattle.log_file.specs.Log.{Log, files_of_log}
 use Rattle.log_buffer.specs.declared.place.Place.{Place}
@@ -7,7 +7,7 @@ use Rattle.log_buffer.specs.declared.buffer.LogBuffer.{LogBuffer}
 use Rattle.log_buffer.specs.Tail.{bytes_for, first_for}
 use Rattle.log_buffer.specs.Buffer.{end_of, last_of, base_of, first_of, tail_of, file_max_of, joined, HasRoom, KeepsTail}
 use Rattle.log_buffer.specs.Log.{HasLog, IsFront}
-use Rattle.log_buffer.proofs.Rooms.{each_more, same_for}
+use Rattle.log_buffer.proofs.Rooms.{same_for}
 use Rattle.log_buffer.proofs.Keeping.{log_kept}
 
 module _ {D : Type 0} where
@@ -34,18 +34,17 @@ module _ {D : Type 0} where
     moved : tells ≡ true → HasLog tells s' new log
     moved t = log_kept tells s' old new log kept (reread tells s s' old log (same t) has)
 
-  pub room_kept : (old new : LogBuffer D) → new.tail.starts.items ≡ old.tail.starts.items → old.tail.bytes.spare ≤ new.tail.bytes.spare → vec_capacity old.tail.starts ≤ vec_capacity new.tail.starts → vec_capacity old.piece ≤ vec_capacity new.piece
-      → (sizes : List ℕ) → HasRoom old sizes → HasRoom new sizes
-  room_kept old new starts spare places piece sizes room = record {
-    bytes = le_trans room.bytes spare;
-    files = let files = room.files in let count = ap length starts in omega arith;
-    each = each_more _ _ sizes piece room.each;
+  pub room_kept : (old new : LogBuffer D) → new.tail.bytes.items ≡ old.tail.bytes.items → new.tail.starts.items ≡ old.tail.starts.items
+      → vec_capacity old.tail.bytes ≤ vec_capacity new.tail.bytes → vec_capacity old.tail.starts ≤ vec_capacity new.tail.starts → (sizes : List ℕ) → HasRoom old sizes → HasRoom new sizes
+  room_kept old new bytes starts room places sizes had = record {
+    bytes = let had_bytes = had.bytes in let count = ap length bytes in omega arith;
+    files = let files = had.files in let count = ap length starts in omega arith;
   }
 
   pub tail_kept : (old new : LogBuffer D) → end_of new ≡ end_of old → last_of new ≡ last_of old → base_of new ≡ base_of old → file_max_of new ≡ file_max_of old
       → new.tail.bytes.items ≡ old.tail.bytes.items → new.tail.starts.items ≡ old.tail.starts.items
-      → old.tail.bytes.spare ≤ new.tail.bytes.spare → vec_capacity old.tail.starts ≤ vec_capacity new.tail.starts → vec_capacity old.piece ≤ vec_capacity new.piece → KeepsTail old new
-  tail_kept old new end last base max bytes starts spare places piece = record {
+      → vec_capacity old.tail.bytes ≤ vec_capacity new.tail.bytes → vec_capacity old.tail.starts ≤ vec_capacity new.tail.starts → KeepsTail old new
+  tail_kept old new end last base max bytes starts room places = record {
     end = end;
     last = last;
     first = ap₂ (λ (p : Place) (s : List ℕ). p.file - length s) end starts;
@@ -54,18 +53,17 @@ module _ {D : Type 0} where
     max = max;
     tail = λ f. same_for old.tail.bytes.items old.tail.starts.items new.tail.bytes.items new.tail.starts.items new.file.0 f bytes starts
         ∙ ap (λ (p : Place). bytes_for old.tail.bytes.items old.tail.starts.items p.file f) end;
-    room = room_kept old new starts spare places piece;
+    room = room_kept old new bytes starts room places;
   }
 
   pub tail_same : (buffer : LogBuffer D) → KeepsTail buffer buffer
-  tail_same buffer = tail_kept buffer buffer refl refl refl refl refl refl (le_refl _) (le_refl _) (le_refl _)
+  tail_same buffer = tail_kept buffer buffer refl refl refl refl refl refl (le_refl _) (le_refl _)
 
   -- where only the disk below has changed, or the word whether the buffer has failed
   pub tail_over : (buffer : LogBuffer D) {disk : D} {failed : Bool} {last_file : buffer.file.0 ≤ 0xfffffffe} {max : buffer.file_max ≤ 2 ^ 30} {files : length buffer.tail.starts.items ≤ buffer.file.0}
       → KeepsTail buffer (record {
         disk = disk;
         tail = buffer.tail;
-        piece = buffer.piece;
         file = buffer.file;
         offset = buffer.offset;
         last = buffer.last;
@@ -76,4 +74,4 @@ module _ {D : Type 0} where
         max = max;
         files = files;
       })
-  tail_over buffer = tail_kept buffer _ refl refl refl refl refl refl (le_refl _) (le_refl _) (le_refl _)
+  tail_over buffer = tail_kept buffer _ refl refl refl refl refl refl (le_refl _) (le_refl _)

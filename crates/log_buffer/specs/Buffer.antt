@@ -1,6 +1,5 @@
 -- What a log buffer has.
 use Rattle.std.specs.Prelude.{◌≡◌, ℕ, ◌+◌, ◌-◌, ◌≤◌, Bool, List, [], ◌∷◌, ◌++◌, length, vec_capacity, Option, Some, unwrap_or}
-use Rattle.std.specs.List.{AllByRecursion}
 use Rattle.log_buffer.specs.declared.place.Place.{Place}
 use Rattle.log_buffer.specs.declared.buffer.LogBuffer.{LogBuffer}
 use Rattle.log_buffer.specs.Flip.{header_size}
@@ -62,9 +61,8 @@ module _ {D : Type 0} where
 
   -- appends of entries of these sizes take no memory
   pub record HasRoom (buffer : LogBuffer D) (sizes : List ℕ) : Type 0 where
-    pub bytes : room_for sizes ≤ buffer.tail.bytes.spare
+    pub bytes : length buffer.tail.bytes.items + room_for sizes ≤ vec_capacity buffer.tail.bytes
     pub files : length buffer.tail.starts.items + length sizes ≤ vec_capacity buffer.tail.starts
-    pub each : AllByRecursion (λ size. header_size + size ≤ vec_capacity buffer.piece) sizes
 
   -- where the log ends, the tail and the room in it are as they were
   pub record KeepsTail (old new : LogBuffer D) : Type 0 where

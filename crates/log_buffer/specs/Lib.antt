@@ -4,7 +4,8 @@ pub mod Reads
 pub mod Buffer
 pub mod Log
 pub mod Causes
-pub mod Laws
 pub mod Crash
 pub mod Chance
 pub mod Writing
+pub mod Growth
+pub mod Laws

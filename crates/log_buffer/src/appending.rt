@@ -4,21 +4,22 @@ ghost use Rattle.je_disk.specs.Moments.{now};
 ghost use Rattle.je_disk.specs.States.{State};
 ghost use Rattle.je_lsn.specs.Naming.{last_file};
 ghost use Rattle.log_entry.specs.Body.{IsEntry};
+ghost use Rattle.log_entry.specs.Parts.{entry_by};
 ghost use Rattle.log_entry.specs.Spelling.{size_of};
 ghost use Rattle.log_file.specs.Scan.{may_follow};
 ghost use Rattle.log_file.specs.Log.{Log};
 ghost use Rattle.log_buffer.specs.Buffer.{disk_of, first_of, end_of, file_of, offset_of, last_of, file_max_of, has_failed, HasRoom, IsUnchanged};
 ghost use Rattle.log_buffer.specs.Log.{HasLog, log_with};
 ghost use Rattle.log_buffer.specs.Crash.{Holds, KeptThrough};
+ghost use Rattle.log_buffer.specs.Growth.{Grew, Tried};
 ghost use Rattle.log_buffer.specs.Flip.{header_size, placed_at, next_file, behind, end_after, lsn_of};
 ghost use Rattle.log_buffer.specs.Causes.{HasCause, FailsByFault};
 
 use crate::place::LAST_FILE;
-use crate::spelling::{spell, spell_first};
 use crate::{HEADER_SIZE, LogBuffer, LogErr, Place};
 use je_disk::Disk;
 use je_lsn::{FileNo, Lsn};
-use log_entry::{Entry, size};
+use log_entry::{Entry, EntryRef, ref_size};
 use std::alloc::AllocError;
 
 /// The tail is written out once it has more bytes than this.
@@ -31,32 +32,59 @@ impl<D: Disk> LogBuffer<D> {
         requires entry { IsEntry entry.now }
         requires follows { may_follow entry.now ≡ true }
         ensures at { IfOk result (λ at. at ≡ lsn_of (placed_at (file_max_of self.old) (end_of self.old) (size_of entry.now))) }
-        ensures end { OnOk result (end_of self.new ≡ end_after (file_max_of self.old) (end_of self.old) (size_of entry.now)) }
-        ensures last { OnOk result (last_of self.new ≡ (placed_at (file_max_of self.old) (end_of self.old) (size_of entry.now)).offset) }
-        ensures log { (log : Log) → HasLog D.tells (now (D.history (disk_of self.old))) self.old log
-            → OnOk result (HasLog D.tells (now (D.history (disk_of self.new))) self.new (log_with (placed_at (file_max_of self.old) (end_of self.old) (size_of entry.now)).file entry.now log)) }
-        ensures crash { D.tells ≡ true → (log removed : Log) (least : ℕ) (begun : Option ℕ) → HasLog D.tells (now (D.history (disk_of self.old))) self.old log → Holds log removed least begun (first_of self.old) (now (D.history (disk_of self.old)))
-            → KeptThrough (D.history (disk_of self.old)) (D.history (disk_of self.new)) (log_with (placed_at (file_max_of self.old) (end_of self.old) (size_of entry.now)).file entry.now log) removed least }
-        ensures holds { D.tells ≡ true → (log removed : Log) (least : ℕ) (begun : Option ℕ) → HasLog D.tells (now (D.history (disk_of self.old))) self.old log → Holds log removed least begun (first_of self.old) (now (D.history (disk_of self.old)))
-            → OnOk result (Holds (log_with (placed_at (file_max_of self.old) (end_of self.old) (size_of entry.now)).file entry.now log) removed least begun (first_of self.new) (now (D.history (disk_of self.new)))) }
+        ensures grew { OnOk result (Grew D.tells D.history D.sync_out D.read_out D.read_of self.old self.new (entry.now ∷ [])) }
+        ensures tried { IsErrOf result LogErr.Fault → Tried D.tells D.history D.sync_out D.read_out D.read_of self.old self.new (entry.now ∷ []) }
         ensures full { has_failed self.old ≡ false → (IsErrOf result LogErr.Full ↔ last_file < (placed_at (file_max_of self.old) (end_of self.old) (size_of entry.now)).file) }
         ensures full_unchanged { IsErrOf result LogErr.Full → IsUnchanged self.old self.new }
         ensures memory_unchanged { IsErrOf result LogErr.Memory → IsUnchanged self.old self.new }
         ensures has_room { (sizes : List ℕ) → HasRoom self.old (size_of entry.now ∷ sizes) → IsErrOf result LogErr.Memory → ⊥ }
         ensures room { (sizes : List ℕ) → HasRoom self.old (size_of entry.now ∷ sizes) → OnOk result (HasRoom self.new sizes) }
         ensures not_damaged { IsErrOf result LogErr.Damaged → ⊥ }
-        ensures file_max { file_max_of self.new ≡ file_max_of self.old }
         ensures cause { HasCause (has_failed self.old) (has_failed self.new) (D.faults (disk_of self.old)) (D.faults (disk_of self.new)) result }
         ensures still { has_failed self.old ≡ true → disk_of self.new ≡ disk_of self.old }
-        ensures sync_out { D.sync_out (disk_of self.new) ≡ D.sync_out (disk_of self.old) }
-        ensures read_out { D.read_out (disk_of self.new) ≡ D.read_out (disk_of self.old) }
-        ensures read_of { D.read_of (disk_of self.new) ≡ D.read_of (disk_of self.old) }
     {
-        let size = size(entry);
+        self.append_ref(&EntryRef::Whole(entry))
+    }
+
+    /// The same for an entry that is handed over by its parts: key and data are copied once, from where the
+    /// caller has them into the tail.
+    pub fn append_ref(&mut self, entry: &EntryRef<'_>) -> Result<Lsn, LogErr>
+        requires entry { IsEntry (entry_by entry.now) }
+        requires follows { may_follow (entry_by entry.now) ≡ true }
+        ensures at { IfOk result (λ at. at ≡ lsn_of (placed_at (file_max_of self.old) (end_of self.old) (size_of (entry_by entry.now)))) }
+        ensures grew { OnOk result (Grew D.tells D.history D.sync_out D.read_out D.read_of self.old self.new (entry_by entry.now ∷ [])) }
+        ensures tried { IsErrOf result LogErr.Fault → Tried D.tells D.history D.sync_out D.read_out D.read_of self.old self.new (entry_by entry.now ∷ []) }
+        ensures full { has_failed self.old ≡ false → (IsErrOf result LogErr.Full ↔ last_file < (placed_at (file_max_of self.old) (end_of self.old) (size_of (entry_by entry.now))).file) }
+        ensures full_unchanged { IsErrOf result LogErr.Full → IsUnchanged self.old self.new }
+        ensures memory_unchanged { IsErrOf result LogErr.Memory → IsUnchanged self.old self.new }
+        ensures has_room { (sizes : List ℕ) → HasRoom self.old (size_of (entry_by entry.now) ∷ sizes) → IsErrOf result LogErr.Memory → ⊥ }
+        ensures room { (sizes : List ℕ) → HasRoom self.old (size_of (entry_by entry.now) ∷ sizes) → OnOk result (HasRoom self.new sizes) }
+        ensures not_damaged { IsErrOf result LogErr.Damaged → ⊥ }
+        ensures cause { HasCause (has_failed self.old) (has_failed self.new) (D.faults (disk_of self.old)) (D.faults (disk_of self.new)) result }
+        ensures still { has_failed self.old ≡ true → disk_of self.new ≡ disk_of self.old }
+    {
+        let size = ref_size(entry);
         let place = self.next_place(size)?;
         self.put(entry, size, place)?;
         self.write_long()?;
         Ok(Lsn::new(FileNo(place.file), place.offset as u32))
+    }
+
+    /// The same where `reserve` has made room for the entry: the one error is Fault.
+    pub fn append_reserved(&mut self, entry: &EntryRef<'_>) -> Result<Lsn, LogErr>
+        requires entry { IsEntry (entry_by entry.now) }
+        requires follows { may_follow (entry_by entry.now) ≡ true }
+        requires works { has_failed self.old ≡ false }
+        requires room { (sizes : List ℕ) × HasRoom self.old (size_of (entry_by entry.now) ∷ sizes) }
+        requires fits { (placed_at (file_max_of self.old) (end_of self.old) (size_of (entry_by entry.now))).file ≤ last_file }
+        ensures at { IfOk result (λ at. at ≡ lsn_of (placed_at (file_max_of self.old) (end_of self.old) (size_of (entry_by entry.now)))) }
+        ensures grew { OnOk result (Grew D.tells D.history D.sync_out D.read_out D.read_of self.old self.new (entry_by entry.now ∷ [])) }
+        ensures tried { OnErr result (Tried D.tells D.history D.sync_out D.read_out D.read_of self.old self.new (entry_by entry.now ∷ [])) }
+        ensures room { (sizes : List ℕ) → HasRoom self.old (size_of (entry_by entry.now) ∷ sizes) → OnOk result (HasRoom self.new sizes) }
+        ensures by_fault { FailsByFault result }
+        ensures cause { HasCause (has_failed self.old) (has_failed self.new) (D.faults (disk_of self.old)) (D.faults (disk_of self.new)) result }
+    {
+        self.append_ref(entry)
     }
 
     // Where an entry of so many bytes goes.
@@ -93,20 +121,11 @@ impl<D: Disk> LogBuffer<D> {
 
     // Writes a long tail out.
     fn write_long(&mut self) -> Result<(), LogErr>
-        ensures log { (log : Log) → HasLog D.tells (now (D.history (disk_of self.old))) self.old log → OnOk result (HasLog D.tells (now (D.history (disk_of self.new))) self.new log) }
-        ensures crash { D.tells ≡ true → (log removed : Log) (least : ℕ) (begun : Option ℕ) → HasLog D.tells (now (D.history (disk_of self.old))) self.old log → Holds log removed least begun (first_of self.old) (now (D.history (disk_of self.old)))
-            → KeptThrough (D.history (disk_of self.old)) (D.history (disk_of self.new)) log removed least }
-        ensures holds { D.tells ≡ true → (log removed : Log) (least : ℕ) (begun : Option ℕ) → HasLog D.tells (now (D.history (disk_of self.old))) self.old log → Holds log removed least begun (first_of self.old) (now (D.history (disk_of self.old)))
-            → OnOk result (Holds log removed least begun (first_of self.new) (now (D.history (disk_of self.new)))) }
-        ensures end { end_of self.new ≡ end_of self.old }
-        ensures last { last_of self.new ≡ last_of self.old }
+        ensures grew { OnOk result (Grew D.tells D.history D.sync_out D.read_out D.read_of self.old self.new []) }
+        ensures tried { OnErr result (Tried D.tells D.history D.sync_out D.read_out D.read_of self.old self.new []) }
         ensures room { (sizes : List ℕ) → HasRoom self.old sizes → OnOk result (HasRoom self.new sizes) }
-        ensures file_max { file_max_of self.new ≡ file_max_of self.old }
         ensures by_fault { FailsByFault result }
         ensures cause { has_failed self.old ≡ false → HasCause (has_failed self.old) (has_failed self.new) (D.faults (disk_of self.old)) (D.faults (disk_of self.new)) result }
-        ensures sync_out { D.sync_out (disk_of self.new) ≡ D.sync_out (disk_of self.old) }
-        ensures read_out { D.read_out (disk_of self.new) ≡ D.read_out (disk_of self.old) }
-        ensures read_of { D.read_of (disk_of self.new) ≡ D.read_of (disk_of self.old) }
     {
         if self.tail.len() > TAIL_MAX {
             return self.write_out();
@@ -115,23 +134,18 @@ impl<D: Disk> LogBuffer<D> {
     }
 
     // Puts an entry into the tail, at its place.
-    fn put(&mut self, entry: &Entry, size: u32, place: Place) -> Result<(), AllocError>
-        requires entry { IsEntry entry.now }
-        requires follows { may_follow entry.now ≡ true }
-        requires size { size ≡ size_of entry.now }
-        requires place { place ≡ placed_at (file_max_of self.old) (end_of self.old) (size_of entry.now) }
+    fn put(&mut self, entry: &EntryRef<'_>, size: u32, place: Place) -> Result<(), AllocError>
+        requires entry { IsEntry (entry_by entry.now) }
+        requires follows { may_follow (entry_by entry.now) ≡ true }
+        requires size { size ≡ size_of (entry_by entry.now) }
+        requires place { place ≡ placed_at (file_max_of self.old) (end_of self.old) (size_of (entry_by entry.now)) }
         requires file { place.file ≤ last_file }
-        ensures log { (tells : Bool) (state : State) (log : Log) → HasLog tells state self.old log → OnOk result (HasLog tells state self.new (log_with place.file entry.now log)) }
-        ensures holds { (tells : Bool) (state : State) (log removed : Log) (least : ℕ) (begun : Option ℕ) → HasLog tells state self.old log → Holds log removed least begun (first_of self.old) state
-            → OnOk result (Holds (log_with place.file entry.now log) removed least begun (first_of self.new) state) }
-        ensures end { OnOk result (end_of self.new ≡ behind place (size_of entry.now)) }
-        ensures last { OnOk result (last_of self.new ≡ place.offset) }
+        ensures grew { OnOk result (Grew D.tells D.history D.sync_out D.read_out D.read_of self.old self.new (entry_by entry.now ∷ [])) }
         ensures unchanged { OnErr result (IsUnchanged self.old self.new) }
-        ensures fits { (sizes : List ℕ) → HasRoom self.old (size_of entry.now ∷ sizes) → IsOk result }
-        ensures room { (sizes : List ℕ) → HasRoom self.old (size_of entry.now ∷ sizes) → OnOk result (HasRoom self.new sizes) }
+        ensures fits { (sizes : List ℕ) → HasRoom self.old (size_of (entry_by entry.now) ∷ sizes) → IsOk result }
+        ensures room { (sizes : List ℕ) → HasRoom self.old (size_of (entry_by entry.now) ∷ sizes) → OnOk result (HasRoom self.new sizes) }
         ensures disk { disk_of self.new ≡ disk_of self.old }
         ensures failed { has_failed self.new ≡ has_failed self.old }
-        ensures file_max { file_max_of self.new ≡ file_max_of self.old }
     {
         if place.file == self.file.0 {
             self.put_last(entry, size)
@@ -141,51 +155,49 @@ impl<D: Disk> LogBuffer<D> {
     }
 
     // Puts an entry into the tail, at the end of the last file.
-    fn put_last(&mut self, entry: &Entry, size: u32) -> Result<(), AllocError>
-        requires entry { IsEntry entry.now }
-        requires follows { may_follow entry.now ≡ true }
-        requires size { size ≡ size_of entry.now }
-        requires fits { offset_of self.old + size_of entry.now < 2 ^ 32 }
-        ensures log { (tells : Bool) (state : State) (log : Log) → HasLog tells state self.old log → OnOk result (HasLog tells state self.new (log_with (file_of self.old) entry.now log)) }
+    fn put_last(&mut self, entry: &EntryRef<'_>, size: u32) -> Result<(), AllocError>
+        requires entry { IsEntry (entry_by entry.now) }
+        requires follows { may_follow (entry_by entry.now) ≡ true }
+        requires size { size ≡ size_of (entry_by entry.now) }
+        requires fits { offset_of self.old + size_of (entry_by entry.now) < 2 ^ 32 }
+        ensures log { (tells : Bool) (state : State) (log : Log) → HasLog tells state self.old log → OnOk result (HasLog tells state self.new (log_with (file_of self.old) (entry_by entry.now) log)) }
         ensures holds { (tells : Bool) (state : State) (log removed : Log) (least : ℕ) (begun : Option ℕ) → HasLog tells state self.old log → Holds log removed least begun (first_of self.old) state
-            → OnOk result (Holds (log_with (file_of self.old) entry.now log) removed least begun (first_of self.new) state) }
-        ensures end { OnOk result (end_of self.new ≡ behind (end_of self.old) (size_of entry.now)) }
+            → OnOk result (Holds (log_with (file_of self.old) (entry_by entry.now) log) removed least begun (first_of self.new) state) }
+        ensures end { OnOk result (end_of self.new ≡ behind (end_of self.old) (size_of (entry_by entry.now))) }
         ensures last { OnOk result (last_of self.new ≡ offset_of self.old) }
         ensures unchanged { OnErr result (IsUnchanged self.old self.new) }
-        ensures fits { (sizes : List ℕ) → HasRoom self.old (size_of entry.now ∷ sizes) → IsOk result }
-        ensures room { (sizes : List ℕ) → HasRoom self.old (size_of entry.now ∷ sizes) → OnOk result (HasRoom self.new sizes) }
+        ensures fits { (sizes : List ℕ) → HasRoom self.old (size_of (entry_by entry.now) ∷ sizes) → IsOk result }
+        ensures room { (sizes : List ℕ) → HasRoom self.old (size_of (entry_by entry.now) ∷ sizes) → OnOk result (HasRoom self.new sizes) }
         ensures disk { disk_of self.new ≡ disk_of self.old }
         ensures failed { has_failed self.new ≡ has_failed self.old }
         ensures file_max { file_max_of self.new ≡ file_max_of self.old }
     {
-        spell(&mut self.piece, entry, self.last)?;
-        self.tail.push(self.piece.as_slice())?;
+        self.tail.push(entry, self.last)?;
         self.last = self.offset;
         self.offset += size;
         Ok(())
     }
 
     // Puts an entry into the tail, behind the header of a next file.
-    fn put_next(&mut self, entry: &Entry, size: u32) -> Result<(), AllocError>
-        requires entry { IsEntry entry.now }
-        requires follows { may_follow entry.now ≡ true }
-        requires size { size ≡ size_of entry.now }
+    fn put_next(&mut self, entry: &EntryRef<'_>, size: u32) -> Result<(), AllocError>
+        requires entry { IsEntry (entry_by entry.now) }
+        requires follows { may_follow (entry_by entry.now) ≡ true }
+        requires size { size ≡ size_of (entry_by entry.now) }
         requires file { file_of self.old < last_file }
-        ensures log { (tells : Bool) (state : State) (log : Log) → HasLog tells state self.old log → OnOk result (HasLog tells state self.new (log_with (file_of self.old + 1) entry.now log)) }
+        ensures log { (tells : Bool) (state : State) (log : Log) → HasLog tells state self.old log → OnOk result (HasLog tells state self.new (log_with (file_of self.old + 1) (entry_by entry.now) log)) }
         ensures holds { (tells : Bool) (state : State) (log removed : Log) (least : ℕ) (begun : Option ℕ) → HasLog tells state self.old log → Holds log removed least begun (first_of self.old) state
-            → OnOk result (Holds (log_with (file_of self.old + 1) entry.now log) removed least begun (first_of self.new) state) }
-        ensures end { OnOk result (end_of self.new ≡ behind (next_file (end_of self.old)) (size_of entry.now)) }
+            → OnOk result (Holds (log_with (file_of self.old + 1) (entry_by entry.now) log) removed least begun (first_of self.new) state) }
+        ensures end { OnOk result (end_of self.new ≡ behind (next_file (end_of self.old)) (size_of (entry_by entry.now))) }
         ensures last { OnOk result (last_of self.new ≡ header_size) }
         ensures unchanged { OnErr result (IsUnchanged self.old self.new) }
-        ensures fits { (sizes : List ℕ) → HasRoom self.old (size_of entry.now ∷ sizes) → IsOk result }
-        ensures room { (sizes : List ℕ) → HasRoom self.old (size_of entry.now ∷ sizes) → OnOk result (HasRoom self.new sizes) }
+        ensures fits { (sizes : List ℕ) → HasRoom self.old (size_of (entry_by entry.now) ∷ sizes) → IsOk result }
+        ensures room { (sizes : List ℕ) → HasRoom self.old (size_of (entry_by entry.now) ∷ sizes) → OnOk result (HasRoom self.new sizes) }
         ensures disk { disk_of self.new ≡ disk_of self.old }
         ensures failed { has_failed self.new ≡ has_failed self.old }
         ensures file_max { file_max_of self.new ≡ file_max_of self.old }
     {
         let next = FileNo(self.file.0 + 1);
-        spell_first(&mut self.piece, next, entry)?;
-        self.tail.begin(self.piece.as_slice())?;
+        self.tail.begin(next, entry)?;
         self.file = next;
         self.last = HEADER_SIZE as u32;
         self.offset = HEADER_SIZE as u32 + size;

@@ -12,7 +12,6 @@ use je_lsn::FileNo;
 pub struct LogBuffer<D> {
     pub(crate) disk: D,
     pub(crate) tail: Tail,
-    pub(crate) piece: Vec<u8>,
     pub(crate) file: FileNo,
     pub(crate) offset: u32,
     pub(crate) last: u32,

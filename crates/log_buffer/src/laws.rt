@@ -1,10 +1,26 @@
 // What holds of all logs that entries are appended to.
 ghost use Rattle.log_buffer.specs.Chance.{AppendedHaveNoChance, CutsHaveNoChance, CutsKeep, KeptIsLeft, ReadsHaveNoChance};
-ghost use Rattle.log_buffer.specs.Laws.{AppendedIsLast, AreBounded, NeverFalls, AppendsJoin};
+ghost use Rattle.log_buffer.specs.Growth.{GrewNone, GrewUnchanged, GrewThen, TriedThen, TriedMore};
+ghost use Rattle.log_buffer.specs.Laws.{AppendedIsLast, AppendedIsPlaced, AppendedArePlaced, AreBounded, NeverFalls, AppendsJoin};
 
-/// An entry that is appended is the log's last one, and stands where it was placed.
+use je_disk::Disk;
+
+/// An entry that is appended is the log's last one, and stands where it was placed: of the entries with their
+/// LSNs it is the last one. So are several.
 pub fn entries_go_last()
-    ensures { AppendedIsLast }
+    ensures last { AppendedIsLast }
+    ensures placed { AppendedIsPlaced }
+    ensures all { AppendedArePlaced }
+{}
+
+/// Where nothing happens a log gets nothing; it gets the entries of one call and behind them those of the
+/// next, also where that one meets a fault, whatever was to follow.
+pub fn logs_grow<D: Disk>()
+    ensures none { GrewNone D.tells D.history D.sync_out D.read_out D.read_of }
+    ensures unchanged { GrewUnchanged D.tells D.history D.sync_out D.read_out D.read_of }
+    ensures grew { GrewThen D.tells D.history D.sync_out D.read_out D.read_of }
+    ensures tried { TriedThen D.tells D.history D.sync_out D.read_out D.read_of }
+    ensures more { TriedMore D.tells D.history D.sync_out D.read_out D.read_of }
 {}
 
 /// A file is longer than the greatest size only where it holds one entry behind its header; the last

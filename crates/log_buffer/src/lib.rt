@@ -23,5 +23,5 @@ pub mod writing;
 
 pub use buffer::LogBuffer;
 pub use error::LogErr;
-pub use laws::{entries_go_last, files_are_bounded, kept_is_left};
+pub use laws::{entries_go_last, files_are_bounded, kept_is_left, logs_grow};
 pub use place::{HEADER_SIZE, Place};

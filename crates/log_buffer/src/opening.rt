@@ -12,7 +12,6 @@ ghost use Rattle.log_buffer.specs.Crash.{Holds};
 ghost use Rattle.log_buffer.specs.Flip.{lsn_of, header_size};
 
 use crate::LogBuffer;
-use crate::spelling::spell_header;
 use crate::tail::Tail;
 use je_disk::Disk;
 use je_lsn::{FileNo, Lsn};
@@ -41,7 +40,6 @@ impl<D: Disk> LogBuffer<D> {
         LogBuffer {
             disk,
             tail: Tail::new(alloc),
-            piece: Vec::new(alloc),
             file,
             offset,
             last,
@@ -71,7 +69,6 @@ impl<D: Disk> LogBuffer<D> {
             Ok(tail) => Ok(LogBuffer {
                 disk,
                 tail,
-                piece: Vec::new(alloc),
                 file,
                 offset: 26,
                 last: 0,
@@ -90,7 +87,6 @@ impl<D: Disk> LogBuffer<D> {
         let LogBuffer {
             disk,
             tail: _,
-            piece: _,
             file: _,
             offset: _,
             last: _,
@@ -107,9 +103,7 @@ fn header_tail(alloc: Global, file: FileNo) -> Result<Tail, AllocError>
     ensures bytes { IfOk result (λ tail. tail.bytes.items ≡ spelling (FileHeader 1 file.0) 0) }
     ensures starts { IfOk result (λ tail. tail.starts.items ≡ []) }
 {
-    let mut piece = Vec::new(alloc);
-    spell_header(&mut piece, file)?;
     let mut tail = Tail::new(alloc);
-    tail.push(piece.as_slice())?;
+    tail.push_header(file)?;
     Ok(tail)
 }

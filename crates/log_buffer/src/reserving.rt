@@ -1,6 +1,5 @@
 // Room for entries that are to come.
 ghost use Rattle.std.specs.Prelude.{◌≡◌, ◌≤◌, ◌<◌, ◌+◌, ◌^◌, ◌↔◌, true, false, IsTrue, IfSome, OnOk, OnErr, IsErrOf};
-ghost use Rattle.std.specs.List.{AllByRecursion};
 ghost use Rattle.je_lsn.specs.Naming.{last_file};
 ghost use Rattle.log_buffer.specs.Buffer.{end_of, file_max_of, has_failed, room_for, HasRoom, IsUnchanged};
 ghost use Rattle.log_buffer.specs.Flip.{end_after_all};
@@ -38,17 +37,6 @@ fn room(sizes: &[u32]) -> Option<usize>
     Some(bytes)
 }
 
-// The greatest of these sizes.
-fn greatest(sizes: &[u32]) -> u32
-    ensures { AllByRecursion (λ size. size ≤ result) sizes.now }
-{
-    let mut most = 0;
-    for size in sizes {
-        most = most.max(*size);
-    }
-    most
-}
-
 impl<D: Disk> LogBuffer<D> {
     /// Makes room for appends of entries of these sizes, which then take no memory. It answers Full where
     /// they would pass the last file, and else can only want memory; the log stays as it is.
@@ -77,8 +65,6 @@ impl<D: Disk> LogBuffer<D> {
         let Some(bytes) = room(sizes) else {
             return Err(AllocError);
         };
-        self.piece.clear();
-        self.piece.reserve(26 + greatest(sizes) as usize)?;
         self.tail.reserve(bytes, sizes.len())
     }
 }

@@ -1,12 +1,13 @@
-// Entries as they are spelled before they go into the tail.
-ghost use Rattle.std.specs.Prelude.{◌≡◌, ◌≤◌, ◌+◌, ◌++◌, vec_capacity, IsOk, OnOk};
+// Entries as they are spelled at the end of the tail.
+ghost use Rattle.std.specs.Prelude.{◌≡◌, ◌≤◌, ◌+◌, ◌++◌, length, vec_capacity, IsOk, OnOk, OnErr};
 ghost use Rattle.log_entry.specs.Body.{IsEntry};
+ghost use Rattle.log_entry.specs.Parts.{entry_by};
 ghost use Rattle.log_entry.specs.Spelling.{spelling, size_of};
 ghost use Rattle.log_entry.specs.declared.entry.Entry.TheVariants.{FileHeader};
 ghost use Rattle.log_buffer.specs.Flip.{header_size};
 
 use je_lsn::FileNo;
-use log_entry::{Entry, encode_onto};
+use log_entry::{Entry, EntryRef, encode_ref_onto};
 use std::alloc::AllocError;
 
 // The first entry of a file.
@@ -19,40 +20,38 @@ fn header(file: FileNo) -> Entry
     }
 }
 
-// An entry's spelling, in the place of what was there.
-pub(crate) fn spell(piece: &mut Vec<u8>, entry: &Entry, prev: u32) -> Result<(), AllocError>
-    requires { IsEntry entry.now }
-    ensures ok { OnOk result (piece.new.items ≡ spelling entry.now prev) }
-    ensures fits { size_of entry.now ≤ vec_capacity piece.old → IsOk result }
-    ensures capacity { vec_capacity piece.old ≤ vec_capacity piece.new }
-{
-    piece.clear();
-    encode_onto(entry, prev, piece)
-}
-
-// A file's header alone, in the place of what was there.
-pub(crate) fn spell_header(piece: &mut Vec<u8>, file: FileNo) -> Result<(), AllocError>
-    ensures ok { OnOk result (piece.new.items ≡ spelling (FileHeader 1 file.0) 0) }
-    ensures fits { header_size ≤ vec_capacity piece.old → IsOk result }
-    ensures capacity { vec_capacity piece.old ≤ vec_capacity piece.new }
+// Puts a file's header at the end. Want of memory changes nothing.
+pub(crate) fn spell_header(onto: &mut Vec<u8>, file: FileNo) -> Result<(), AllocError>
+    ensures ok { OnOk result (onto.new.items ≡ onto.old.items ++ spelling (FileHeader 1 file.0) 0) }
+    ensures err { OnErr result (onto.new.items ≡ onto.old.items) }
+    ensures fits { length onto.old.items + header_size ≤ vec_capacity onto.old → IsOk result }
+    ensures capacity { vec_capacity onto.old ≤ vec_capacity onto.new }
 {
     let header = header(file);
-    let spelled = spell(piece, &header, 0);
+    let spelled = encode_ref_onto(&EntryRef::Whole(&header), 0, onto);
     drop(header);
     spelled
 }
 
-// A file's header and first entry, in the place of what was there.
+// Puts a file's header and first entry at the end. Want of memory changes nothing.
 pub(crate) fn spell_first(
-    piece: &mut Vec<u8>,
+    onto: &mut Vec<u8>,
     file: FileNo,
-    entry: &Entry,
+    entry: &EntryRef<'_>,
 ) -> Result<(), AllocError>
-    requires { IsEntry entry.now }
-    ensures ok { OnOk result (piece.new.items ≡ spelling (FileHeader 1 file.0) 0 ++ spelling entry.now 0) }
-    ensures fits { header_size + size_of entry.now ≤ vec_capacity piece.old → IsOk result }
-    ensures capacity { vec_capacity piece.old ≤ vec_capacity piece.new }
+    requires { IsEntry (entry_by entry.now) }
+    ensures ok { OnOk result (onto.new.items ≡ onto.old.items ++ (spelling (FileHeader 1 file.0) 0 ++ spelling (entry_by entry.now) 0)) }
+    ensures err { OnErr result (onto.new.items ≡ onto.old.items) }
+    ensures fits { length onto.old.items + (header_size + size_of (entry_by entry.now)) ≤ vec_capacity onto.old → IsOk result }
+    ensures capacity { vec_capacity onto.old ≤ vec_capacity onto.new }
 {
-    spell_header(piece, file)?;
-    encode_onto(entry, 0, piece)
+    let start = onto.len();
+    spell_header(onto, file)?;
+    match encode_ref_onto(entry, 0, onto) {
+        Ok(()) => Ok(()),
+        Err(error) => {
+            onto.truncate(start);
+            Err(error)
+        }
+    }
 }

@@ -7,6 +7,7 @@ ghost use Rattle.log_file.specs.Log.{Log, entries_of};
 ghost use Rattle.log_buffer.specs.Buffer.{disk_of, first_of, end_of, last_of, file_max_of, has_failed, IsWritten, KeepsTail};
 ghost use Rattle.log_buffer.specs.Log.{HasLog, ReadAs};
 ghost use Rattle.log_buffer.specs.Crash.{KeepsRead, Holds, KeptThrough};
+ghost use Rattle.log_buffer.specs.Growth.{SameJobs};
 ghost use Rattle.log_buffer.specs.Causes.{HasCause, FailsByFault};
 
 use crate::{LogBuffer, LogErr};
@@ -88,9 +89,7 @@ impl<D: Disk> LogBuffer<D> {
         ensures fault { has_failed self ≡ false → OnErr result.1 (Rose (D.faults (disk_of self)) (D.faults result.0)) }
         ensures failed { has_failed self ≡ true → IsErrOf result.1 LogErr.Fault }
         ensures still { has_failed self ≡ true → result.0 ≡ disk_of self }
-        ensures sync_out { D.sync_out result.0 ≡ D.sync_out (disk_of self) }
-        ensures read_out { D.read_out result.0 ≡ D.read_out (disk_of self) }
-        ensures read_of { D.read_of result.0 ≡ D.read_of (disk_of self) }
+        ensures jobs { SameJobs D.sync_out D.read_out D.read_of (disk_of self) result.0 }
     {
         let mut buffer = self;
         let written = buffer.write_out();

@@ -1,21 +1,28 @@
 // The bytes that are not written yet.
 ghost use Rattle.std.specs.Prelude.{◌≡◌, ℕ, ◌+◌, ◌<◌, ◌≤◌, length, slice_index_or};
 
-use bytes::BytesMut;
+use crate::spelling::{spell_first, spell_header};
+use je_lsn::FileNo;
+use log_entry::{EntryRef, encode_ref_onto};
 use std::alloc::{AllocError, Global};
 
 /// The bytes that are not written yet, of one file or of several that follow one another: all in one
 /// buffer, with the places where a next file begins.
 #[derive(Drop)]
 pub struct Tail {
-    pub(crate) bytes: BytesMut,
+    pub(crate) bytes: Vec<u8>,
     pub(crate) starts: Vec<usize>,
     ghost within: { (i : ℕ) → i < length starts.items → slice_index_or starts.items i (length bytes.items) < length bytes.items },
     ghost apart: { (i : ℕ) → i < length starts.items → slice_index_or starts.items i (length bytes.items) < slice_index_or starts.items (i + 1) (length bytes.items) },
 }
 
 impl Tail {
-    ghost use Rattle.std.specs.Prelude.{◌≡◌, ◌==◌, ℕ, ◌+◌, ◌≤◌, slice_index_or, [], ◌∷◌, ◌++◌, length, vec_capacity, IsOk, OnOk, OnErr};
+    ghost use Rattle.std.specs.Prelude.{◌≡◌, ◌==◌, ℕ, ◌+◌, ◌<◌, ◌≤◌, slice_index_or, [], ◌∷◌, ◌++◌, length, vec_capacity, IsOk, OnOk, OnErr};
+    ghost use Rattle.log_entry.specs.Body.{IsEntry};
+    ghost use Rattle.log_entry.specs.Parts.{entry_by};
+    ghost use Rattle.log_entry.specs.Spelling.{spelling, size_of};
+    ghost use Rattle.log_entry.specs.declared.entry.Entry.TheVariants.{FileHeader};
+    ghost use Rattle.log_buffer.specs.Flip.{header_size};
     ghost use Rattle.log_buffer.specs.Tail.{start_of, stop_of, piece_of};
 
     /// No bytes. It takes no memory.
@@ -24,7 +31,7 @@ impl Tail {
         ensures starts { result.starts.items ≡ [] }
     {
         Tail {
-            bytes: BytesMut::new(alloc),
+            bytes: Vec::new(alloc),
             starts: Vec::new(alloc),
         }
     }
@@ -84,33 +91,41 @@ impl Tail {
         }
     }
 
-    /// Puts bytes at the end of the last file's. Want of memory changes nothing.
-    pub fn push(&mut self, bytes: &[u8]) -> Result<(), AllocError>
-        ensures ok { OnOk result (self.new.bytes.items ≡ self.old.bytes.items ++ bytes.now) }
+    /// Puts an entry at the end of the last file's bytes. Want of memory changes nothing.
+    pub fn push(&mut self, entry: &EntryRef<'_>, prev: u32) -> Result<(), AllocError>
+        requires { IsEntry (entry_by entry.now) }
+        ensures ok { OnOk result (self.new.bytes.items ≡ self.old.bytes.items ++ spelling (entry_by entry.now) prev) }
         ensures err { OnErr result (self.new.bytes.items ≡ self.old.bytes.items) }
         ensures starts { self.new.starts ≡ self.old.starts }
-        ensures fits { length bytes.now ≤ self.old.bytes.spare → IsOk result }
-        ensures used { OnOk result (self.old.bytes.spare ≤ self.new.bytes.spare + length bytes.now) }
-        ensures unused { OnErr result (self.old.bytes.spare ≤ self.new.bytes.spare) }
+        ensures fits { length self.old.bytes.items + size_of (entry_by entry.now) ≤ vec_capacity self.old.bytes → IsOk result }
+        ensures bytes_capacity { vec_capacity self.old.bytes ≤ vec_capacity self.new.bytes }
     {
-        self.bytes.extend_from_slice(bytes)
+        encode_ref_onto(entry, prev, &mut self.bytes)
     }
 
-    /// Begins a next file with these bytes. Want of memory changes nothing.
-    pub fn begin(&mut self, bytes: &[u8]) -> Result<(), AllocError>
-        requires { 0 < length bytes.now }
-        ensures ok { OnOk result (self.new.bytes.items ≡ self.old.bytes.items ++ bytes.now) }
+    /// Puts a file's header at the end of the last file's bytes. Want of memory changes nothing.
+    pub fn push_header(&mut self, file: FileNo) -> Result<(), AllocError>
+        ensures ok { OnOk result (self.new.bytes.items ≡ self.old.bytes.items ++ spelling (FileHeader 1 file.0) 0) }
+        ensures err { OnErr result (self.new.bytes.items ≡ self.old.bytes.items) }
+        ensures starts { self.new.starts ≡ self.old.starts }
+    {
+        spell_header(&mut self.bytes, file)
+    }
+
+    /// Begins a next file with its header and an entry. Want of memory changes nothing.
+    pub fn begin(&mut self, file: FileNo, entry: &EntryRef<'_>) -> Result<(), AllocError>
+        requires { IsEntry (entry_by entry.now) }
+        ensures ok { OnOk result (self.new.bytes.items ≡ self.old.bytes.items ++ (spelling (FileHeader 1 file.0) 0 ++ spelling (entry_by entry.now) 0)) }
         ensures begun { OnOk result (self.new.starts.items ≡ self.old.starts.items ++ length self.old.bytes.items ∷ []) }
         ensures err { OnErr result (self.new.bytes.items ≡ self.old.bytes.items) }
         ensures kept { OnErr result (self.new.starts.items ≡ self.old.starts.items) }
-        ensures fits { length self.old.starts.items < vec_capacity self.old.starts → length bytes.now ≤ self.old.bytes.spare → IsOk result }
-        ensures used { OnOk result (self.old.bytes.spare ≤ self.new.bytes.spare + length bytes.now) }
-        ensures unused { OnErr result (self.old.bytes.spare ≤ self.new.bytes.spare) }
+        ensures fits { length self.old.starts.items < vec_capacity self.old.starts → length self.old.bytes.items + (header_size + size_of (entry_by entry.now)) ≤ vec_capacity self.old.bytes → IsOk result }
         ensures capacity { vec_capacity self.old.starts ≤ vec_capacity self.new.starts }
+        ensures bytes_capacity { vec_capacity self.old.bytes ≤ vec_capacity self.new.bytes }
     {
         self.starts.reserve(1)?;
         let start = self.bytes.len();
-        self.bytes.extend_from_slice(bytes)?;
+        spell_first(&mut self.bytes, file, entry)?;
         self.starts.push(start).unwrap();
         Ok(())
     }
@@ -119,8 +134,8 @@ impl Tail {
     pub fn reserve(&mut self, bytes: usize, files: usize) -> Result<(), AllocError>
         ensures bytes { self.new.bytes.items ≡ self.old.bytes.items }
         ensures starts { self.new.starts.items ≡ self.old.starts.items }
-        ensures spare { OnOk result (bytes ≤ self.new.bytes.spare) }
-        ensures spare_stays { self.old.bytes.spare ≤ self.new.bytes.spare }
+        ensures room { OnOk result (length self.new.bytes.items + bytes ≤ vec_capacity self.new.bytes) }
+        ensures bytes_capacity { vec_capacity self.old.bytes ≤ vec_capacity self.new.bytes }
         ensures capacity_stays { vec_capacity self.old.starts ≤ vec_capacity self.new.starts }
         ensures capacity { OnOk result (length self.new.starts.items + files ≤ vec_capacity self.new.starts) }
     {
@@ -132,7 +147,7 @@ impl Tail {
     pub fn clear(&mut self)
         ensures bytes { self.new.bytes.items ≡ [] }
         ensures starts { self.new.starts.items ≡ [] }
-        ensures spare { length self.old.bytes.items + self.old.bytes.spare ≤ self.new.bytes.spare }
+        ensures bytes_capacity { vec_capacity self.new.bytes ≡ vec_capacity self.old.bytes }
         ensures capacity { vec_capacity self.new.starts ≡ vec_capacity self.old.starts }
     {
         self.starts.clear();

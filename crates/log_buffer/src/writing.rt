@@ -1,5 +1,5 @@
 // The tail as it is written out.
-ghost use Rattle.std.specs.Prelude.{◌≡◌, ◌<◌, ◌≤◌, ℕ, List, true, false, length, ◌-◌, Option, OnOk, IfOk};
+ghost use Rattle.std.specs.Prelude.{◌≡◌, ◌<◌, ◌≤◌, ℕ, List, [], true, false, length, ◌-◌, Option, OnOk, OnErr, IfOk};
 ghost use Rattle.je_disk.specs.Causes.{HasFault};
 ghost use Rattle.je_disk.specs.Moments.{now, Passes};
 ghost use Rattle.je_disk.specs.States.{created, synced, appended};
@@ -8,6 +8,7 @@ ghost use Rattle.log_buffer.specs.Buffer.{disk_of, first_of, end_of, last_of, fi
 ghost use Rattle.log_buffer.specs.Tail.{bytes_for};
 ghost use Rattle.log_buffer.specs.Log.{HasLog, ReadAs};
 ghost use Rattle.log_buffer.specs.Crash.{Holds, KeptThrough};
+ghost use Rattle.log_buffer.specs.Growth.{Grew, Tried};
 ghost use Rattle.log_buffer.specs.Writing.{IsTailOf, IsPutBehind, IsMadeNext, IsPutNext, put_behind};
 ghost use Rattle.log_buffer.specs.Causes.{HasCause, FailsByFault};
 
@@ -86,12 +87,9 @@ impl<D: Disk> LogBuffer<D> {
     /// the tail is made only after the one before it was written whole and a sync of it has finished.
     pub fn write_out(&mut self) -> Result<(), LogErr>
         ensures written { OnOk result (IsWritten self.new) }
-        ensures log { (log : Log) → HasLog D.tells (now (D.history (disk_of self.old))) self.old log → OnOk result (HasLog D.tells (now (D.history (disk_of self.new))) self.new log) }
         ensures whole { (log : Log) → HasLog D.tells (now (D.history (disk_of self.old))) self.old log → OnOk result (ReadAs D.tells (now (D.history (disk_of self.new))).reads log) }
-        ensures crash { D.tells ≡ true → (log removed : Log) (least : ℕ) (begun : Option ℕ) → HasLog D.tells (now (D.history (disk_of self.old))) self.old log → Holds log removed least begun (first_of self.old) (now (D.history (disk_of self.old)))
-            → KeptThrough (D.history (disk_of self.old)) (D.history (disk_of self.new)) log removed least }
-        ensures holds { D.tells ≡ true → (log removed : Log) (least : ℕ) (begun : Option ℕ) → HasLog D.tells (now (D.history (disk_of self.old))) self.old log → Holds log removed least begun (first_of self.old) (now (D.history (disk_of self.old)))
-            → OnOk result (Holds log removed least begun (first_of self.new) (now (D.history (disk_of self.new)))) }
+        ensures grew { OnOk result (Grew D.tells D.history D.sync_out D.read_out D.read_of self.old self.new []) }
+        ensures tried { OnErr result (Tried D.tells D.history D.sync_out D.read_out D.read_of self.old self.new []) }
         ensures end { end_of self.new ≡ end_of self.old }
         ensures last { last_of self.new ≡ last_of self.old }
         ensures room { (sizes : List ℕ) → HasRoom self.old sizes → OnOk result (HasRoom self.new sizes) }
@@ -99,9 +97,6 @@ impl<D: Disk> LogBuffer<D> {
         ensures by_fault { FailsByFault result }
         ensures cause { HasCause (has_failed self.old) (has_failed self.new) (D.faults (disk_of self.old)) (D.faults (disk_of self.new)) result }
         ensures still { has_failed self.old ≡ true → disk_of self.new ≡ disk_of self.old }
-        ensures sync_out { D.sync_out (disk_of self.new) ≡ D.sync_out (disk_of self.old) }
-        ensures read_out { D.read_out (disk_of self.new) ≡ D.read_out (disk_of self.old) }
-        ensures read_of { D.read_of (disk_of self.new) ≡ D.read_of (disk_of self.old) }
     {
         if self.failed {
             return Err(LogErr::Fault);

@@ -1,6 +1,7 @@
 pub mod Fields
 pub mod Items
 pub mod Body
+pub mod Parts
 pub mod Spelling
 pub mod Writing
 pub mod Reading

@@ -64,7 +64,7 @@ pub(crate) fn body_size(entry: &Entry) -> u32
     }
 }
 
-fn put_txn(out: &mut Vec<u8>, txn: TxnId, db: u32) -> Result<(), AllocError>
+pub(crate) fn put_txn(out: &mut Vec<u8>, txn: TxnId, db: u32) -> Result<(), AllocError>
     ensures { Puts (to_be_bytes w64 txn.0 ++ to_be_bytes w32 db) result out.old.items out.new.items (vec_capacity out.old) (vec_capacity out.new) }
 {
     put_u64(out, txn.0)?;

@@ -3,11 +3,13 @@ ghost use Rattle.std.specs.Prelude.{◌≡◌, ◌≤◌, ◌+◌, ◌++◌, ℕ
 ghost use Rattle.std.specs.Int.{w32, to_be_bytes};
 ghost use Rattle.je_bytes.specs.Adler.{adler32_of};
 ghost use Rattle.log_entry.specs.Body.{IsEntry};
+ghost use Rattle.log_entry.specs.Parts.{entry_by};
 ghost use Rattle.log_entry.specs.Spelling.{spelling, head, summed, size_of};
 ghost use Rattle.log_entry.specs.Writing.{Puts};
 
-use crate::Entry;
-use crate::body_writer::{body_size, kind, put_body};
+use crate::body_writer::body_size;
+use crate::ref_writer::{put_ref_body, ref_body_size, ref_kind};
+use crate::{Entry, EntryRef};
 use byteorder::{BigEndian, ByteOrder};
 use je_bytes::{adler32, put_u32};
 use std::alloc::{AllocError, Global};
@@ -21,6 +23,14 @@ pub fn size(entry: &Entry) -> u32
     14 + body_size(entry)
 }
 
+/// The same for an entry that is handed over by its parts.
+pub fn ref_size(entry: &EntryRef<'_>) -> u32
+    requires { IsEntry (entry_by entry.now) }
+    ensures value { result ≡ size_of (entry_by entry.now) }
+{
+    14 + ref_body_size(entry)
+}
+
 // Puts at the end what stands between the checksum and the body.
 fn put_head(out: &mut Vec<u8>, kind: u8, prev: u32, len: u32) -> Result<(), AllocError>
     ensures { Puts (head kind prev len) result out.old.items out.new.items (vec_capacity out.old) (vec_capacity out.new) }
@@ -32,13 +42,13 @@ fn put_head(out: &mut Vec<u8>, kind: u8, prev: u32, len: u32) -> Result<(), Allo
 }
 
 // Puts the entry at the end with 0 for its checksum.
-fn put_unsigned(out: &mut Vec<u8>, entry: &Entry, prev: u32) -> Result<(), AllocError>
-    requires { IsEntry entry.now }
-    ensures { Puts (to_be_bytes w32 0 ++ summed entry.now prev) result out.old.items out.new.items (vec_capacity out.old) (vec_capacity out.new) }
+fn put_unsigned(out: &mut Vec<u8>, entry: &EntryRef<'_>, prev: u32) -> Result<(), AllocError>
+    requires { IsEntry (entry_by entry.now) }
+    ensures { Puts (to_be_bytes w32 0 ++ summed (entry_by entry.now) prev) result out.old.items out.new.items (vec_capacity out.old) (vec_capacity out.new) }
 {
     put_u32(out, 0)?;
-    put_head(out, kind(entry), prev, body_size(entry))?;
-    put_body(out, entry)
+    put_head(out, ref_kind(entry), prev, ref_body_size(entry))?;
+    put_ref_body(out, entry)
 }
 
 // Writes the checksum of what follows the 4 bytes from an offset on into these.
@@ -59,8 +69,23 @@ pub fn encode_onto(entry: &Entry, prev: u32, onto: &mut Vec<u8>) -> Result<(), A
     ensures fits { length onto.old.items + size_of entry.now ≤ vec_capacity onto.old → IsOk result }
     ensures capacity { vec_capacity onto.old ≤ vec_capacity onto.new }
 {
+    encode_ref_onto(&EntryRef::Whole(entry), prev, onto)
+}
+
+/// The same for an entry that is handed over by its parts.
+pub fn encode_ref_onto(
+    entry: &EntryRef<'_>,
+    prev: u32,
+    onto: &mut Vec<u8>,
+) -> Result<(), AllocError>
+    requires { IsEntry (entry_by entry.now) }
+    ensures ok { OnOk result (onto.new.items ≡ onto.old.items ++ spelling (entry_by entry.now) prev) }
+    ensures err { OnErr result (onto.new.items ≡ onto.old.items) }
+    ensures fits { length onto.old.items + size_of (entry_by entry.now) ≤ vec_capacity onto.old → IsOk result }
+    ensures capacity { vec_capacity onto.old ≤ vec_capacity onto.new }
+{
     let start = onto.len();
-    onto.reserve(size(entry) as usize)?;
+    onto.reserve(ref_size(entry) as usize)?;
     match put_unsigned(onto, entry, prev) {
         Ok(()) => {
             sign(onto.as_mut_slice(), start);

@@ -60,12 +60,20 @@ fn put_string(out: &mut Vec<u8>, bytes: &[u8]) -> Result<(), AllocError>
     out.extend_from_slice(bytes)
 }
 
+// The name of this key and this dup.
+pub(crate) fn put_strings(out: &mut Vec<u8>, key: &[u8], dup: &[u8]) -> Result<(), AllocError>
+    requires { IsName (record { key = key.now; dup = dup.now }) }
+    ensures { Puts (name_bytes (record { key = key.now; dup = dup.now })) result out.old.items out.new.items (vec_capacity out.old) (vec_capacity out.new) }
+{
+    put_string(out, key)?;
+    put_string(out, dup)
+}
+
 pub(crate) fn put_name(out: &mut Vec<u8>, name: &Name) -> Result<(), AllocError>
     requires { IsName name.now }
     ensures { Puts (name_bytes name.now) result out.old.items out.new.items (vec_capacity out.old) (vec_capacity out.new) }
 {
-    put_string(out, name.key.as_slice())?;
-    put_string(out, name.dup.as_slice())
+    put_strings(out, name.key.as_slice(), name.dup.as_slice())
 }
 
 // The LSN with this number.

@@ -1,4 +1,6 @@
+pub mod ListLaws
 pub mod SpelledLaws
 pub mod ScanLaws
 pub mod FoundLaws
 pub mod FilesLaws
+pub mod PlacedLaws

@@ -1,5 +1,6 @@
 // What holds of all files and logs.
 ghost use Rattle.log_file.specs.Laws.{AreFoundAgain, AreSpelledBack, AreLongest, GrowByAppend, AreOneList, LogsAreFound};
+ghost use Rattle.log_file.specs.Placed.{PlacedAreEntries, PlacedGoLast, PlacedGoOn, FrontsArePlaced, PlacedAreInOrder};
 
 /// A file's bytes that were spelled entry by entry are found again, also before a rest that begins
 /// with no whole entry; the run of any file's bytes is spelled as they begin, and no run is longer; and
@@ -15,4 +16,14 @@ pub fn files_are_found()
 pub fn files_are_one_list()
     ensures one { AreOneList }
     ensures log { LogsAreFound }
+{}
+
+/// The entries of a log with their LSNs are the log's entries; an entry more is the last one, a front of the
+/// log has the first of them, and LSNs rise.
+pub fn entries_are_placed()
+    ensures entries { PlacedAreEntries }
+    ensures last { PlacedGoLast }
+    ensures next { PlacedGoOn }
+    ensures front { FrontsArePlaced }
+    ensures order { PlacedAreInOrder }
 {}

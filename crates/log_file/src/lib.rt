@@ -12,6 +12,6 @@ pub mod scanning;
 
 pub use file_run::FileRun;
 pub use found::Found;
-pub use laws::{files_are_found, files_are_one_list};
+pub use laws::{entries_are_placed, files_are_found, files_are_one_list};
 pub use reading::{Scanned, scan};
 pub use scanning::scan_bytes;

@@ -14,6 +14,7 @@ use Rattle.log_file.specs.declared.found.Found.{Found}
 use Rattle.log_file.specs.declared.found.Found.TheVariants.{Run, VersionUnknown as OtherVersion, Damaged as NoHeader}
 use Rattle.log_file.specs.Scan.{found_in}
 use Rattle.log_file.specs.Log.{Log, entries_of, log_in}
+pub use Rattle.log_file.specs.Placed.{lsn_at}
 use Rattle.log_replay.specs.declared.finding.Finding.{Finding}
 use Rattle.log_replay.specs.declared.finding.Finding.TheVariants.{Damaged, Missing, Tree, VersionUnknown}
 use Rattle.log_replay.specs.declared.place.Place.{Place}
@@ -21,10 +22,6 @@ use Rattle.log_replay.specs.Rows.{data_at}
 use Rattle.log_replay.specs.Replay.{replayed, nothing_replayed}
 use Rattle.log_replay.specs.Meaning.{Meaning, meaning_of}
 use Rattle.log_replay.specs.Wrong.{or_else, wrong_record}
-
--- the LSN of a place in a file
-abbrev pub lsn_at : ℕ → ℕ → ℕ
-lsn_at f at = f * 2 ^ 32 + at
 
 -- ---- the files
 

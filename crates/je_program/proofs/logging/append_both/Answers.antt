@@ -1,11 +1,12 @@
-use Rattle.std.proofs.Common.{◌≡◌, ◌∷◌, [], None, false}
+use Rattle.std.proofs.Common.{◌≡◌, ◌∷◌, [], None, false, ◌∙◌}
 use Rattle.je_disk.specs.Moments.{now}
 use Rattle.je_disk.specs.States.{State}
 use Rattle.log_buffer.specs.Buffer.{disk_of, end_of, file_max_of, has_failed, HasRoom}
 use Rattle.log_buffer.specs.Flip.{placed_at}
-use Rattle.log_buffer.specs.Log.{log_with}
+use Rattle.log_buffer.specs.Growth.{longer}
+use Rattle.log_buffer.proofs.GrowthLaws.{grew_then, tried_then, tried_more}
 use Rattle.log_entry.specs.Spelling.{size_of}
-use Rattle.je_program.proofs.BothLaws.{as_told, of_told, both_of, both_through, first_through, keeps_both, second_is}
+use Rattle.je_program.proofs.BothLaws.{as_told, of_told, both_of, keeps_both}
 use Rattle.je_program.proofs.FinishLaws.{rose_earlier}
 use Rattle.je_program.proofs.FlipLaws.{placed_in}
 use Rattle.je_program.proofs.LoggingLaws.{fails_by, first_fits, gains_both, on_err, only_fault, second_fits, works_on}
@@ -30,7 +31,7 @@ returns-in_err-append-2-clause-fault g c =
     on_err c.from_residual-in_err-append-2.result _ (rose_earlier (faults (disk_of old)) (faults (disk_of middle)) (faults (disk_of c.append-2.new.self)) c.append.ensures.cause.never_falls
     (c.append-2.ensures.cause.fault works (only_fault c.append-2.result c.in_err-append-2.field-0.0 c.in_err-append-2.was
     (λ e. second_fits (file_max_of old) (file_max_of middle) (end_of old) (end_of middle) (size_of c.args.entry.now) (size_of c.args.commit.now)
-    c.append.ensures.file_max c.in_ok-append.ensures.end c.requires.fits (full.0 e))
+    c.in_ok-append.ensures.grew.max c.in_ok-append.ensures.grew.end c.requires.fits (full.0 e))
     (c.append-2.ensures.has_room [] room) c.append-2.ensures.not_damaged))
     c.append-2.ensures.cause.never_falls)
 
@@ -42,70 +43,61 @@ returns-clause-gains g c =
     let new = c.append-2.new.self in
     gains_both g.D.Disk.tells (state (disk_of old)) (state (disk_of middle)) (state (disk_of new)) old middle new c.args.entry.now c.args.commit.now
     (placed_at (file_max_of old) (end_of old) (size_of c.args.entry.now)).file (placed_at (file_max_of middle) (end_of middle) (size_of c.args.commit.now)).file
-    c.in_ok-append.ensures.log c.in_ok-append-2.ensures.log
+    c.in_ok-append.ensures.grew.log c.in_ok-append-2.ensures.grew.log
     (placed_in (file_max_of old) (end_of old) (size_of c.args.entry.now)) (placed_in (file_max_of middle) (end_of middle) (size_of c.args.commit.now))
 
 pub returns-in_err-append-clause-crash : goal.returns-in_err-append-clause-crash
 returns-in_err-append-clause-crash g c = λ told held least keeping.
-    let state : g.row.D.Denot → State = λ d. now (g.D.Disk.history d) in
     let old = c.args.log.now in
-    let a = c.args.entry.now in
-    let b = c.args.commit.now in
-    first_through (file_max_of old) (end_of old) a b held least (g.D.Disk.history (disk_of old)) (g.D.Disk.history (disk_of c.append.new.self))
-    (both_of (state (disk_of old)) old a b held least keeping c.requires.entries c.requires.follow c.requires.fits)
-    (c.append.ensures.crash told held [] least None (as_told g.D.Disk.tells (state (disk_of old)) old held told keeping.has) keeping.holds)
+    let full = c.append.ensures.full c.requires.works in
+    let fault = only_fault c.append.result c.in_err-append.field-0.0 c.in_err-append.was
+    (λ e. first_fits (file_max_of old) (end_of old) (size_of c.args.entry.now) (size_of c.args.commit.now) c.requires.fits (full.0 e))
+    (c.append.ensures.has_room (size_of c.args.commit.now ∷ []) c.requires.room) c.append.ensures.not_damaged in
+    (tried_more _ _ _ _ _ old c.append.new.self (c.args.entry.now ∷ []) (c.args.commit.now ∷ []) (c.append.ensures.tried fault)).crash told held [] least None
+    (as_told g.D.Disk.tells (now (g.D.Disk.history (disk_of old))) old held told keeping.has) keeping.holds
 
 pub returns-in_err-append-2-clause-crash : goal.returns-in_err-append-2-clause-crash
 returns-in_err-append-2-clause-crash g c = λ told held least keeping.
-    let state : g.row.D.Denot → State = λ d. now (g.D.Disk.history d) in
     let old = c.args.log.now in
     let middle = c.append.new.self in
-    let new = c.append-2.new.self in
-    let a = c.args.entry.now in
-    let b = c.args.commit.now in
-    let has = as_told g.D.Disk.tells (state (disk_of old)) old held told keeping.has in
-    let first = log_with (placed_at (file_max_of old) (end_of old) (size_of a)).file a held in
-    both_through (file_max_of old) (end_of old) a b held (log_with (placed_at (file_max_of middle) (end_of middle) (size_of b)).file b first) least
-    (g.D.Disk.history (disk_of old)) (g.D.Disk.history (disk_of middle)) (g.D.Disk.history (disk_of new))
-    (both_of (state (disk_of old)) old a b held least keeping c.requires.entries c.requires.follow c.requires.fits)
-    (second_is (file_max_of old) (file_max_of middle) (end_of old) (end_of middle) a b held c.append.ensures.file_max c.in_ok-append.ensures.end)
-    (c.append.ensures.crash told held [] least None has keeping.holds)
-    (c.append-2.ensures.crash told first [] least None (c.in_ok-append.ensures.log held has) (c.in_ok-append.ensures.holds told held [] least None has keeping.holds))
+    let works : has_failed middle ≡ false = works_on c.append.result c.in_ok-append.field-0 (has_failed middle) c.in_ok-append.was c.append.ensures.cause.failed in
+    let full = c.append-2.ensures.full works in
+    let room : HasRoom middle (size_of c.args.commit.now ∷ []) = c.in_ok-append.ensures.room (size_of c.args.commit.now ∷ []) c.requires.room in
+    let fault = only_fault c.append-2.result c.in_err-append-2.field-0.0 c.in_err-append-2.was
+    (λ e. second_fits (file_max_of old) (file_max_of middle) (end_of old) (end_of middle) (size_of c.args.entry.now) (size_of c.args.commit.now)
+    c.in_ok-append.ensures.grew.max c.in_ok-append.ensures.grew.end c.requires.fits (full.0 e))
+    (c.append-2.ensures.has_room [] room) c.append-2.ensures.not_damaged in
+    (tried_then _ _ _ _ _ old middle c.append-2.new.self (c.args.entry.now ∷ []) (c.args.commit.now ∷ []) c.in_ok-append.ensures.grew (c.append-2.ensures.tried fault)).crash told held [] least None
+    (as_told g.D.Disk.tells (now (g.D.Disk.history (disk_of old))) old held told keeping.has) keeping.holds
 
 pub returns-clause-crash : goal.returns-clause-crash
 returns-clause-crash g c = λ told held least keeping.
-    let state : g.row.D.Denot → State = λ d. now (g.D.Disk.history d) in
     let old = c.args.log.now in
-    let middle = c.append.new.self in
-    let new = c.append-2.new.self in
-    let a = c.args.entry.now in
-    let b = c.args.commit.now in
-    let has = as_told g.D.Disk.tells (state (disk_of old)) old held told keeping.has in
-    let first = log_with (placed_at (file_max_of old) (end_of old) (size_of a)).file a held in
-    both_through (file_max_of old) (end_of old) a b held (log_with (placed_at (file_max_of middle) (end_of middle) (size_of b)).file b first) least
-    (g.D.Disk.history (disk_of old)) (g.D.Disk.history (disk_of middle)) (g.D.Disk.history (disk_of new))
-    (both_of (state (disk_of old)) old a b held least keeping c.requires.entries c.requires.follow c.requires.fits)
-    (second_is (file_max_of old) (file_max_of middle) (end_of old) (end_of middle) a b held c.append.ensures.file_max c.in_ok-append.ensures.end)
-    (c.append.ensures.crash told held [] least None has keeping.holds)
-    (c.append-2.ensures.crash told first [] least None (c.in_ok-append.ensures.log held has) (c.in_ok-append.ensures.holds told held [] least None has keeping.holds))
+    (grew_then _ _ _ _ _ old c.append.new.self c.append-2.new.self (c.args.entry.now ∷ []) (c.args.commit.now ∷ []) c.in_ok-append.ensures.grew c.in_ok-append-2.ensures.grew).crash told held [] least None
+    (as_told g.D.Disk.tells (now (g.D.Disk.history (disk_of old))) old held told keeping.has) keeping.holds
 
 pub returns-clause-keeps : goal.returns-clause-keeps
 returns-clause-keeps g c = λ told held least keeping.
     let state : g.row.D.Denot → State = λ d. now (g.D.Disk.history d) in
     let old = c.args.log.now in
-    let middle = c.append.new.self in
     let new = c.append-2.new.self in
     let a = c.args.entry.now in
     let b = c.args.commit.now in
+    let grew = grew_then _ _ _ _ _ old c.append.new.self new (a ∷ []) (b ∷ []) c.in_ok-append.ensures.grew c.in_ok-append-2.ensures.grew in
     let has = as_told g.D.Disk.tells (state (disk_of old)) old held told keeping.has in
-    let first = log_with (placed_at (file_max_of old) (end_of old) (size_of a)).file a held in
-    let second = log_with (placed_at (file_max_of middle) (end_of middle) (size_of b)).file b first in
-    let has_first = c.in_ok-append.ensures.log held has in
-    keeps_both (state (disk_of new)) old new a b held second least
-    (both_of (state (disk_of old)) old a b held least keeping c.requires.entries c.requires.follow c.requires.fits)
-    (second_is (file_max_of old) (file_max_of middle) (end_of old) (end_of middle) a b held c.append.ensures.file_max c.in_ok-append.ensures.end)
-    (of_told g.D.Disk.tells (state (disk_of new)) new second told (c.in_ok-append-2.ensures.log first has_first))
-    (c.in_ok-append-2.ensures.holds told first [] least None has_first (c.in_ok-append.ensures.holds told held [] least None has keeping.holds))
+    keeps_both (state (disk_of new)) old new a b held least (both_of (state (disk_of old)) old a b held least keeping c.requires.entries c.requires.follow c.requires.fits)
+    (of_told g.D.Disk.tells (state (disk_of new)) new (longer old (a ∷ b ∷ []) held) told (grew.log held has)) (grew.holds told held [] least None has keeping.holds)
+
+pub returns-clause-end : goal.returns-clause-end
+returns-clause-end g c =
+    let old = c.args.log.now in
+    (grew_then _ _ _ _ _ old c.append.new.self c.append-2.new.self (c.args.entry.now ∷ []) (c.args.commit.now ∷ []) c.in_ok-append.ensures.grew c.in_ok-append-2.ensures.grew).end
+
+pub returns-clause-file_max : goal.returns-clause-file_max
+returns-clause-file_max g c = c.in_ok-append-2.ensures.grew.max ∙ c.in_ok-append.ensures.grew.max
+
+pub returns-clause-works : goal.returns-clause-works
+returns-clause-works g c = c.in_ok-append-2.ensures.grew.failed ∙ c.in_ok-append.ensures.grew.failed ∙ c.requires.works
 
 pub returns-in_err-append-clause-failed : goal.returns-in_err-append-clause-failed
 returns-in_err-append-clause-failed g c =
@@ -124,7 +116,7 @@ returns-in_err-append-2-clause-failed g c =
     let room : HasRoom middle (size_of c.args.commit.now ∷ []) = c.in_ok-append.ensures.room (size_of c.args.commit.now ∷ []) c.requires.room in
     on_err c.from_residual-in_err-append-2.result _ (c.append-2.ensures.cause.failed.1 (only_fault c.append-2.result c.in_err-append-2.field-0.0 c.in_err-append-2.was
     (λ e. second_fits (file_max_of old) (file_max_of middle) (end_of old) (end_of middle) (size_of c.args.entry.now) (size_of c.args.commit.now)
-    c.append.ensures.file_max c.in_ok-append.ensures.end c.requires.fits (full.0 e))
+    c.in_ok-append.ensures.grew.max c.in_ok-append.ensures.grew.end c.requires.fits (full.0 e))
     (c.append-2.ensures.has_room [] room) c.append-2.ensures.not_damaged))
 
 pub returns-in_err-append-clause-by_fault : goal.returns-in_err-append-clause-by_fault
@@ -144,5 +136,5 @@ returns-in_err-append-2-clause-by_fault g c =
     let room : HasRoom middle (size_of c.args.commit.now ∷ []) = c.in_ok-append.ensures.room (size_of c.args.commit.now ∷ []) c.requires.room in
     fails_by c.append-2.result c.in_err-append-2.field-0.0 c.from_residual-in_err-append-2.result c.in_err-append-2.was (only_fault c.append-2.result c.in_err-append-2.field-0.0 c.in_err-append-2.was
     (λ e. second_fits (file_max_of old) (file_max_of middle) (end_of old) (end_of middle) (size_of c.args.entry.now) (size_of c.args.commit.now)
-    c.append.ensures.file_max c.in_ok-append.ensures.end c.requires.fits (full.0 e))
+    c.in_ok-append.ensures.grew.max c.in_ok-append.ensures.grew.end c.requires.fits (full.0 e))
     (c.append-2.ensures.has_room [] room) c.append-2.ensures.not_damaged) c.from_residual-in_err-append-2.ensures.1

@@ -3,7 +3,8 @@ use Rattle.log_buffer.specs.Buffer.{disk_of}
 use Rattle.log_entry.specs.declared.entry.Entry.{Entry}
 use Rattle.log_entry.specs.declared.entry.Entry.TheVariants.{Commit}
 use Rattle.log_entry.specs.Body.{IsEntry}
-use Rattle.je_program.specs.Guarded.{LogsSafely, log_with_all}
+use Rattle.log_buffer.specs.Growth.{log_with_all}
+use Rattle.je_program.specs.Guarded.{LogsSafely}
 use Rattle.je_program.proofs.environment.Environment.log.Goals as goal
 
 pub log_both-answer-requires-clause-logs : goal.log_both-answer-requires-clause-logs

@@ -9,13 +9,14 @@ use Rattle.log_entry.specs.declared.entry.Entry.TheVariants.{Commit}
 use Rattle.log_entry.specs.Spelling.{size_of}
 use Rattle.log_replay.specs.Logging.{entry_of}
 use Rattle.log_replay.specs.Rows.{rows_in}
+use Rattle.log_buffer.specs.Growth.{log_with_all}
 use Rattle.je_program.specs.Environment.{logged_sizes}
 use Rattle.je_program.specs.Logging.{rows_after}
 use Rattle.je_program.specs.Planning.{end_behind}
 use Rattle.log_file.specs.Log.{Log}
 use Rattle.log_buffer.specs.Crash.{KeptThrough}
 use Rattle.log_buffer.specs.declared.place.Place.{Place}
-use Rattle.je_program.specs.Guarded.{IsKeeping, log_with_all}
+use Rattle.je_program.specs.Guarded.{IsKeeping}
 use Rattle.je_program.proofs.GuardLaws.{keeping_unchanged, logs_nothing_safely}
 use Rattle.je_program.proofs.LoggingLaws.{can_go_on, end_along, end_found, gains_along, keeps_unchanged, logs_nothing, rows_after_is, sizes_are}
 use Rattle.je_program.proofs.environment.Environment.log_both.Goals as goal

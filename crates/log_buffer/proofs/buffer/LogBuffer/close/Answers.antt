@@ -1,10 +1,12 @@
-use Rattle.std.proofs.Common.{◌≡◌, ◌≤◌, false, sym, subst, ◌∙◌}
+use Rattle.std.proofs.Common.{◌≡◌, ◌≤◌, false, [], sym, subst, ◌∙◌}
 use Rattle.std.specs.Prelude.{OnOk}
 use Rattle.std.specs.Result.{is_err}
 use Rattle.log_buffer.specs.Log.{ReadAs}
 use Rattle.je_disk.specs.States.{synced, IsEither}
 use Rattle.je_disk.specs.Moments.{Passes, now}
 use Rattle.log_buffer.specs.Crash.{KeptThrough}
+use Rattle.log_buffer.specs.Growth.{SameJobs}
+use Rattle.log_buffer.proofs.GrowthLaws.{crash_either, jobs_either, jobs_then}
 use Rattle.log_buffer.proofs.Rooms.{on_ok, not_ok}
 use Rattle.log_buffer.proofs.KeptSyncs.{closed_through, closed_keeps, closed_whole, closed_stable}
 use Rattle.log_buffer.proofs.Causing.{rose_then, failed_not}
@@ -16,8 +18,8 @@ returns-clause-crash g c =
     let ok : is_err c.write_out-written.result ≡ false = sym c.is_err.ensures.value ∙ c.if-is_err.false in
     λ told log removed least begun has h.
     closed_through c.write_out-written.result g.D.Disk.tells log removed least begun (g.D.Disk.history c.args.self.disk) (g.D.Disk.history written.disk) (g.D.Disk.history c.sync-done.new.disk) written ok told
-    (c.write_out-written.ensures.log log has) (c.write_out-written.ensures.holds told log removed least begun has h) (c.write_out-written.ensures.whole log has)
-    (c.write_out-written.ensures.crash told log removed least begun has h)
+    (on_ok c.write_out-written.result _ _ c.write_out-written.ensures.grew (λ grew. grew.log log has)) (on_ok c.write_out-written.result _ _ c.write_out-written.ensures.grew (λ grew. grew.holds told log removed least begun has h)) (c.write_out-written.ensures.whole log has)
+    (crash_either _ _ _ _ _ c.write_out-written.result _ _ [] c.write_out-written.ensures.grew c.write_out-written.ensures.tried told log removed least begun has h)
     (subst (λ (d : g.row.D.Denot). Passes (g.D.Disk.history d) (g.D.Disk.history c.sync-done.new.disk) (IsEither (now (g.D.Disk.history d)) (synced (now (g.D.Disk.history d))))) c.into_disk-disk.ensures (c.sync-done.ensures.moments told))
 
 pub returns-clause-kept : goal.returns-clause-kept
@@ -27,13 +29,13 @@ returns-clause-kept g c =
     λ told log has.
     on_ok c.sync-done.result _ _ (c.sync-done.ensures.done told)
     (λ done. closed_keeps c.write_out-written.result g.D.Disk.tells log (g.D.Disk.history written.disk) (g.D.Disk.history c.sync-done.new.disk) written ok told
-    (c.write_out-written.ensures.log log has) (c.write_out-written.ensures.whole log has)
+    (on_ok c.write_out-written.result _ _ c.write_out-written.ensures.grew (λ grew. grew.log log has)) (c.write_out-written.ensures.whole log has)
     (subst (λ (d : g.row.D.Denot). now (g.D.Disk.history c.sync-done.new.disk) ≡ synced (now (g.D.Disk.history d))) c.into_disk-disk.ensures done))
 
 pub returns-then-is_err-clause-crash : goal.returns-then-is_err-clause-crash
 returns-then-is_err-clause-crash g c =
     λ told log removed least begun has h.
-    subst (λ (d : g.row.D.Denot). KeptThrough (g.D.Disk.history c.args.self.disk) (g.D.Disk.history d) log removed least) (sym c.into_disk-disk.ensures) (c.write_out-written.ensures.crash told log removed least begun has h)
+    subst (λ (d : g.row.D.Denot). KeptThrough (g.D.Disk.history c.args.self.disk) (g.D.Disk.history d) log removed least) (sym c.into_disk-disk.ensures) (crash_either _ _ _ _ _ c.write_out-written.result _ _ [] c.write_out-written.ensures.grew c.write_out-written.ensures.tried told log removed least begun has h)
 
 pub returns-then-is_err-clause-kept : goal.returns-then-is_err-clause-kept
 returns-then-is_err-clause-kept g c = λ told log has. not_ok c.write_out-written.result _ (sym c.is_err.ensures.value ∙ c.if-is_err.true)
@@ -69,3 +71,18 @@ pub returns-clause-still : goal.returns-clause-still
 returns-clause-still g c =
     let ok : is_err c.write_out-written.result ≡ false = sym c.is_err.ensures.value ∙ c.if-is_err.false in
     λ failed. failed_not _ _ _ _ c.write_out-written.result _ ok c.write_out-written.ensures.cause failed
+
+pub returns-then-is_err-clause-jobs : goal.returns-then-is_err-clause-jobs
+returns-then-is_err-clause-jobs g c =
+    let written = c.write_out-written in
+    subst (λ (d : g.row.D.Denot). SameJobs g.D.Disk.sync_out g.D.Disk.read_out g.D.Disk.read_of c.args.self.disk d) (sym c.into_disk-disk.ensures)
+    (jobs_either _ _ _ _ _ written.result _ _ [] written.ensures.grew written.ensures.tried)
+
+pub returns-clause-jobs : goal.returns-clause-jobs
+returns-clause-jobs g c =
+    let written = c.write_out-written in
+    let done = c.sync-done.ensures in
+    jobs_then _ _ _ c.args.self.disk c.into_disk-disk.result c.sync-done.new.disk
+    (subst (λ (d : g.row.D.Denot). SameJobs g.D.Disk.sync_out g.D.Disk.read_out g.D.Disk.read_of c.args.self.disk d) (sym c.into_disk-disk.ensures)
+    (jobs_either _ _ _ _ _ written.result _ _ [] written.ensures.grew written.ensures.tried))
+    (record { syncs = done.sync_out; reads = done.read_out; file = done.read_of })

@@ -1,4 +1,4 @@
-use Rattle.std.proofs.Common.{Some, length, refl, sym, ap, subst, arith, rules}
+use Rattle.std.proofs.Common.{Some, length, refl, sym, ap, subst, arith, rules, ◌∙◌}
 use Rattle.std.specs.Result.{is_err}
 use Rattle.je_disk.specs.Moments.{now}
 use Rattle.je_disk.specs.States.{State}
@@ -15,23 +15,23 @@ pub returns-in-Ok-clause-holds : goal.returns-in-Ok-clause-holds
 returns-in-Ok-clause-holds g c =
     let written = c.write_out.new.self in
     λ told log removed least begun has h.
-    let has_written = c.in_ok-write_out.ensures.log log has in
+    let has_written = c.in_ok-write_out.ensures.grew.log log has in
     subst (Holds log removed least (Some (length (entries_of log))) (first_of written)) (sym (c.in-Ok.ensures.done told))
     (holds_begun log removed least (file_of written) (offset_of written) (last_of written) (first_of written) begun (now (g.D.Disk.history written.disk)) has_written.is_log has_written.ends (omega arith)
-    (c.in_ok-write_out.ensures.whole log has told) (c.in_ok-write_out.ensures.holds told log removed least begun has h))
+    (c.in_ok-write_out.ensures.whole log has told) (c.in_ok-write_out.ensures.grew.holds told log removed least begun has h))
 
 pub returns-in-Ok-clause-log : goal.returns-in-Ok-clause-log
 returns-in-Ok-clause-log g c =
     let written = c.write_out.new.self in
     λ log has.
-    log_still g.D.Disk.tells (now (g.D.Disk.history written.disk)) _ written _ log (λ told. ap (λ (s : State). s.reads) (c.in-Ok.ensures.done told)) (tail_over written) (c.in_ok-write_out.ensures.log log has)
+    log_still g.D.Disk.tells (now (g.D.Disk.history written.disk)) _ written _ log (λ told. ap (λ (s : State). s.reads) (c.in-Ok.ensures.done told)) (tail_over written) (c.in_ok-write_out.ensures.grew.log log has)
 
 pub returns-in-Ok-clause-crash : goal.returns-in-Ok-clause-crash
 returns-in-Ok-clause-crash g c =
     let written = c.write_out.new.self in
     λ told log removed least begun has h.
     begun_through log removed least (first_of written) begun (g.D.Disk.history c.args.self.now.disk) (g.D.Disk.history written.disk) (g.D.Disk.history c.begin_sync.new.self)
-    (c.write_out.ensures.crash told log removed least begun has h) (told_prefixes g.D.Disk.tells _ written log told (c.in_ok-write_out.ensures.log log has)) (c.in_ok-write_out.ensures.holds told log removed least begun has h)
+    (c.in_ok-write_out.ensures.grew.crash told log removed least begun has h) (told_prefixes g.D.Disk.tells _ written log told (c.in_ok-write_out.ensures.grew.log log has)) (c.in_ok-write_out.ensures.grew.holds told log removed least begun has h)
     (c.begin_sync.ensures.moments told)
 
 pub returns-in-Err-clause-crash : goal.returns-in-Err-clause-crash
@@ -39,7 +39,7 @@ returns-in-Err-clause-crash g c =
     let written = c.write_out.new.self in
     λ told log removed least begun has h.
     begun_through log removed least (first_of written) begun (g.D.Disk.history c.args.self.now.disk) (g.D.Disk.history written.disk) (g.D.Disk.history c.begin_sync.new.self)
-    (c.write_out.ensures.crash told log removed least begun has h) (told_prefixes g.D.Disk.tells _ written log told (c.in_ok-write_out.ensures.log log has)) (c.in_ok-write_out.ensures.holds told log removed least begun has h)
+    (c.in_ok-write_out.ensures.grew.crash told log removed least begun has h) (told_prefixes g.D.Disk.tells _ written log told (c.in_ok-write_out.ensures.grew.log log has)) (c.in_ok-write_out.ensures.grew.holds told log removed least begun has h)
     (c.begin_sync.ensures.moments told)
 
 pub returns-in-Ok-clause-cause : goal.returns-in-Ok-clause-cause
@@ -62,3 +62,24 @@ returns-in-Ok-clause-still g c = λ failed. failed_not _ _ _ _ c.write_out.resul
 
 pub returns-in-Err-clause-still : goal.returns-in-Err-clause-still
 returns-in-Err-clause-still g c = λ failed. failed_not _ _ _ _ c.write_out.result _ (ap is_err c.in_ok-write_out.was) c.write_out.ensures.cause failed
+
+pub returns-in_err-write_out-clause-crash : goal.returns-in_err-write_out-clause-crash
+returns-in_err-write_out-clause-crash g c = c.in_err-write_out.ensures.tried.crash
+
+pub returns-in-Ok-clause-read_out : goal.returns-in-Ok-clause-read_out
+returns-in-Ok-clause-read_out g c = c.begin_sync.ensures.read_out ∙ c.in_ok-write_out.ensures.grew.jobs.reads
+
+pub returns-in-Err-clause-read_out : goal.returns-in-Err-clause-read_out
+returns-in-Err-clause-read_out g c = c.begin_sync.ensures.read_out ∙ c.in_ok-write_out.ensures.grew.jobs.reads
+
+pub returns-in_err-write_out-clause-read_out : goal.returns-in_err-write_out-clause-read_out
+returns-in_err-write_out-clause-read_out g c = c.in_err-write_out.ensures.tried.jobs.reads
+
+pub returns-in-Ok-clause-read_of : goal.returns-in-Ok-clause-read_of
+returns-in-Ok-clause-read_of g c = c.begin_sync.ensures.read_of ∙ c.in_ok-write_out.ensures.grew.jobs.file
+
+pub returns-in-Err-clause-read_of : goal.returns-in-Err-clause-read_of
+returns-in-Err-clause-read_of g c = c.begin_sync.ensures.read_of ∙ c.in_ok-write_out.ensures.grew.jobs.file
+
+pub returns-in_err-write_out-clause-read_of : goal.returns-in_err-write_out-clause-read_of
+returns-in_err-write_out-clause-read_of g c = c.in_err-write_out.ensures.tried.jobs.file

@@ -1,4 +1,4 @@
-use Rattle.std.proofs.Common.{◌≡◌, ◌≤◌, ◌+◌, ℕ, List, [], length, vec_capacity, refl, ap, subst, ◌∙◌, arith}
+use Rattle.std.proofs.Common.{◌≡◌, ◌≤◌, ◌+◌, ℕ, List, [], length, vec_capacity, refl, sym, ap, subst, ◌∙◌, arith}
 use Rattle.je_disk.specs.Moments.{now}
 use Rattle.log_buffer.specs.Buffer.{room_for}
 use Rattle.log_buffer.specs.Crash.{Holds}
@@ -6,37 +6,46 @@ use Rattle.log_buffer.proofs.KeptWriting.{tail_is}
 use Rattle.log_buffer.proofs.Tails.{bytes_for_none}
 use Rattle.log_buffer.proofs.Rooms.{same_for}
 use Rattle.log_buffer.proofs.Ending.{log_written}
+use Rattle.log_buffer.proofs.GrowthLaws.{tried_failed}
 use Rattle.log_buffer.proofs.Causing.{cause_ok, cause_failed, cause_fault}
 use Rattle.log_buffer.proofs.buffer.LogBuffer.write_out.Goals as goal
 
-pub returns-in-Ok-clause-log : goal.returns-in-Ok-clause-log
-returns-in-Ok-clause-log g c =
-    let old = c.args.self.now in
-    λ log has.
-    log_written g.D.Disk.tells (now (g.D.Disk.history old.disk)) (now (g.D.Disk.history c.write_tail.new.disk)) old _ log
-    (record {
-      empty = λ f. same_for [] [] c.clear.new.self.bytes.items c.clear.new.self.starts.items old.file.0 f c.clear.ensures.bytes c.clear.ensures.starts ∙ bytes_for_none old.file.0 f;
-      first = let starts = ap length c.clear.ensures.starts in omega (arith, starts);
-      base = refl;
-    })
-    refl refl refl c.in-Ok.ensures.done has
+pub returns-then-self-clause-tried : goal.returns-then-self-clause-tried
+returns-then-self-clause-tried g c = tried_failed _ _ _ _ _ _ _ c.if-self.true
 
-pub returns-in-Ok-clause-holds : goal.returns-in-Ok-clause-holds
-returns-in-Ok-clause-holds g c =
+pub returns-in-Ok-clause-grew : goal.returns-in-Ok-clause-grew
+returns-in-Ok-clause-grew g c =
     let old = c.args.self.now in
-    λ told log removed least begun has h.
-    subst (λ (n : ℕ). Holds log removed least begun n (now (g.D.Disk.history c.write_tail.new.disk))) (let starts = ap length c.clear.ensures.starts in omega (arith, starts))
-    (c.in-Ok.ensures.holds told log removed least begun (tail_is g.D.Disk.tells (now (g.D.Disk.history old.disk)) old log told has) h)
+    let tail = c.write_tail.ensures in
+    record {
+      log = λ log has.
+          log_written g.D.Disk.tells (now (g.D.Disk.history old.disk)) (now (g.D.Disk.history c.write_tail.new.disk)) old _ log
+          (record {
+            empty = λ f. same_for [] [] c.clear.new.self.bytes.items c.clear.new.self.starts.items old.file.0 f c.clear.ensures.bytes c.clear.ensures.starts ∙ bytes_for_none old.file.0 f;
+            first = let starts = ap length c.clear.ensures.starts in omega (arith, starts);
+            base = refl;
+          })
+          refl refl refl c.in-Ok.ensures.done has;
+      crash = λ told log removed least begun has h. tail.crash told log removed least begun (tail_is g.D.Disk.tells (now (g.D.Disk.history old.disk)) old log told has) h;
+      holds = λ told log removed least begun has h.
+          subst (λ (n : ℕ). Holds log removed least begun n (now (g.D.Disk.history c.write_tail.new.disk))) (let starts = ap length c.clear.ensures.starts in omega (arith, starts))
+          (c.in-Ok.ensures.holds told log removed least begun (tail_is g.D.Disk.tells (now (g.D.Disk.history old.disk)) old log told has) h);
+      end = refl;
+      max = refl;
+      failed = sym c.if-self.false;
+      jobs = record { syncs = tail.sync_out; reads = tail.read_out; file = tail.read_of };
+    }
 
-pub returns-in-Ok-clause-crash : goal.returns-in-Ok-clause-crash
-returns-in-Ok-clause-crash g c =
+pub returns-in-Err-clause-tried : goal.returns-in-Err-clause-tried
+returns-in-Err-clause-tried g c =
     let old = c.args.self.now in
-    λ told log removed least begun has h. c.write_tail.ensures.crash told log removed least begun (tail_is g.D.Disk.tells (now (g.D.Disk.history old.disk)) old log told has) h
-
-pub returns-in-Err-clause-crash : goal.returns-in-Err-clause-crash
-returns-in-Err-clause-crash g c =
-    let old = c.args.self.now in
-    λ told log removed least begun has h. c.write_tail.ensures.crash told log removed least begun (tail_is g.D.Disk.tells (now (g.D.Disk.history old.disk)) old log told has) h
+    let tail = c.write_tail.ensures in
+    record {
+      crash = λ told log removed least begun has h. tail.crash told log removed least begun (tail_is g.D.Disk.tells (now (g.D.Disk.history old.disk)) old log told has) h;
+      max = refl;
+      failed = refl;
+      jobs = record { syncs = tail.sync_out; reads = tail.read_out; file = tail.read_of };
+    }
 
 pub returns-then-self-clause-cause : goal.returns-then-self-clause-cause
 returns-then-self-clause-cause g c = cause_failed _ _ _ _ c.if-self.true c.if-self.true refl
@@ -48,8 +57,8 @@ pub returns-in-Err-clause-cause : goal.returns-in-Err-clause-cause
 returns-in-Err-clause-cause g c = cause_fault _ _ _ _ _ c.if-self.false refl c.write_tail.ensures.cause.never_falls refl c.in-Err.ensures.cause.failed
 
 -- room that bytes leave when they go
-more_spare : (room bytes spare more : ℕ) → room ≤ spare → bytes + spare ≤ more → room ≤ more
-more_spare room bytes spare more le kept = omega arith
+more_spare : (bytes left : List ℕ) (room most more : ℕ) → left ≡ [] → more ≡ most → length bytes + room ≤ most → length left + room ≤ more
+more_spare bytes left room most more none same le = let len = ap length none in omega (arith, len)
 
 -- room for files that begin, once none begins
 none_begun : (starts begun : List ℕ) (count most places : ℕ) → starts ≡ [] → places ≡ most → length begun + count ≤ most → length starts + count ≤ places
@@ -67,7 +76,6 @@ pub returns-in-Ok-clause-room : goal.returns-in-Ok-clause-room
 returns-in-Ok-clause-room g c =
     let old = c.args.self.now.tail in
     λ sizes room. record {
-      bytes = more_spare (room_for sizes) (length old.bytes.items) old.bytes.spare c.clear.new.self.bytes.spare room.bytes c.clear.ensures.spare;
+      bytes = more_spare old.bytes.items c.clear.new.self.bytes.items (room_for sizes) (vec_capacity old.bytes) (vec_capacity c.clear.new.self.bytes) c.clear.ensures.bytes c.clear.ensures.bytes_capacity room.bytes;
       files = none_begun c.clear.new.self.starts.items old.starts.items (length sizes) (vec_capacity old.starts) (vec_capacity c.clear.new.self.starts) c.clear.ensures.starts c.clear.ensures.capacity room.files;
-      each = room.each;
     }

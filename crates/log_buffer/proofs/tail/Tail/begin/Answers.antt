@@ -1,4 +1,8 @@
-use Rattle.std.proofs.Common.{length, arith}
+use Rattle.std.proofs.Common.{length, arith, refl, ◌++◌}
+use Rattle.log_entry.specs.declared.entry.Entry.TheVariants.{FileHeader}
+use Rattle.log_entry.specs.Parts.{entry_by}
+use Rattle.log_entry.specs.Spelling.{spelling}
+use Rattle.log_buffer.proofs.Rooms.{spelled_size}
 use Rattle.log_buffer.proofs.Pieces.{IsCut, begun_starts, begun_cut}
 use Rattle.log_buffer.proofs.tail.Tail.begin.Goals as goal
 
@@ -7,8 +11,9 @@ invariant_of-self-2 c =
     let old = c.args.self.now in
     let room = c.in_ok-reserve.ensures.ok in
     let cut : IsCut (length old.bytes.items) old.starts.items = record { within = old.within; apart = old.apart } in
-    let starts = begun_starts old.bytes.items old.starts.items c.push.new.self.items c.len-start.result c.reserve.new.self.items _ c.reserve.ensures.items c.len-start.ensures.value c.push.ensures.items (c.push.ensures.succeeds (omega (arith, room))) in
-    let new = begun_cut old.bytes.items old.starts.items c.extend_from_slice.new.self.items c.push.new.self.items c.args.bytes.now c.requires c.in_ok-extend_from_slice.ensures.ok starts cut in
+    let starts = begun_starts old.bytes.items old.starts.items c.push.new.self.items c.len-start.result c.reserve.new.self.items _ c.reserve.ensures.items (omega (arith, c.len-start.ensures)) c.push.ensures.items (c.push.ensures.succeeds (omega (arith, room))) in
+    let new = begun_cut old.bytes.items old.starts.items c.spell_first.new.onto.items c.push.new.self.items (spelling (FileHeader 1 c.args.file.0) 0 ++ spelling (entry_by c.args.entry.now) 0)
+    (let len = spelled_size (spelling (FileHeader 1 c.args.file.0) 0 ++ spelling (entry_by c.args.entry.now) 0) c.args.file.0 (entry_by c.args.entry.now) refl in omega (arith, len)) c.in_ok-spell_first.ensures.ok starts cut in
     record { within = new.within; apart = new.apart }
 
 pub unwrap-requires : goal.unwrap-requires
@@ -18,4 +23,4 @@ pub returns-clause-begun : goal.returns-clause-begun
 returns-clause-begun c =
     let old = c.args.self.now in
     let room = c.in_ok-reserve.ensures.ok in
-    begun_starts old.bytes.items old.starts.items c.push.new.self.items c.len-start.result c.reserve.new.self.items _ c.reserve.ensures.items c.len-start.ensures.value c.push.ensures.items (c.push.ensures.succeeds (omega (arith, room)))
+    begun_starts old.bytes.items old.starts.items c.push.new.self.items c.len-start.result c.reserve.new.self.items _ c.reserve.ensures.items (omega (arith, c.len-start.ensures)) c.push.ensures.items (c.push.ensures.succeeds (omega (arith, room)))
