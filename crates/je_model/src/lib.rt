@@ -8,18 +8,24 @@
 pub mod answer;
 pub mod call;
 pub mod change;
+pub mod durability;
 pub mod event;
+pub mod isolation;
 pub mod laws;
 pub mod plan;
+pub mod record_change;
 pub mod store;
 pub mod totals;
 
 pub use answer::{Answer, Fault};
 pub use call::Call;
 pub use change::Change;
+pub use durability::Durability;
 pub use event::Event;
+pub use isolation::Isolation;
 pub use laws::stores_stay_right;
 pub use plan::{Given, RunPlan};
+pub use record_change::RecordChange;
 pub use store::{
     Database, KEY_LIMIT, Kind, LAST_DATABASE, LAST_TXN, MOST_DATABASES, Store, VALUE_LIMIT,
 };

@@ -1,0 +1,5 @@
+pub mod Standing
+pub mod Refusals
+pub mod Events
+pub mod Journal
+pub mod Laws

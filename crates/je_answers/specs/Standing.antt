@@ -1,0 +1,53 @@
+-- Where an environment stands between two events.
+use Rattle.std.specs.Prelude.{ℕ, ◌+◌, ◌∷◌, [], List, Option, if◌then◌else◌}
+use Rattle.je_order.specs.declared.txn_id.TxnId.{TxnId}
+use Rattle.je_model.specs.declared.store.Store.{Store}
+use Rattle.je_model.specs.declared.change.Change.{Change}
+use Rattle.je_model.specs.declared.change.Change.TheVariants.{Set, Unset, Make, Remove, Rename, Empty}
+use Rattle.je_model.specs.declared.record_change.RecordChange.{RecordChange}
+use Rattle.je_model.specs.declared.answer.Fault.{Fault}
+use Rattle.je_model.specs.Store.{is_same}
+use Rattle.je_model.specs.Answers.{made_by}
+use Rattle.lock_table.specs.declared.lock.Lock.{Lock}
+use Rattle.lock_table.specs.declared.record_id.RecordId.{RecordId}
+use Rattle.je_answers.specs.declared.active.Active.{Active}
+use Rattle.je_answers.specs.declared.wait.Wait.{Wait}
+
+-- the owners and the waits of each record, and the record on which each transaction was last told to wait, if it has neither asked nor ended since
+pub record LockState : Type 0 where
+  pub at : RecordId → List Lock × List Lock
+  pub pending : TxnId → Option RecordId
+
+-- where an environment stands between two events; what is of a database stands by its number, which no other database ever has
+pub record Standing : Type 0 where
+  pub store : Store  -- what is committed
+  pub numbers : List ℕ → ℕ  -- the number of each database, by its name; 0 where there is none
+  pub last_txn : ℕ  -- the transaction number drawn last
+  pub last_db : ℕ  -- the database number drawn last
+  pub commits : ℕ  -- how many transactions with changes were committed since opening
+  pub begun : Option ℕ  -- how many of them when the sync under way began
+  pub fault : Option Fault  -- the first fault, after which each call is Invalid
+  pub actives : List Active  -- the transactions under way, in the order of their numbers
+  pub own : ℕ → List (ℕ × RecordChange)  -- the own changes of each of them, in order, with the database's number
+  pub waiting : List Wait  -- the calls that wait, in the order in which they began to
+  pub locks : LockState  -- who holds what, and who waits
+
+-- ---- databases and their numbers
+
+-- a name has another number
+abbrev pub with_number : List ℕ → ℕ → (List ℕ → ℕ) → List ℕ → ℕ
+with_number name number numbers other = if is_same other name then number else numbers other
+
+-- the numbers after a change: a database that is made draws the next one, and so does one that is emptied
+abbrev pub numbered : Change → ℕ → (List ℕ → ℕ) → List ℕ → ℕ
+numbered (Set db at value) last numbers = numbers
+numbered (Unset db at) last numbers = numbers
+numbered (Make db kind) last numbers = with_number db (last + 1) numbers
+numbered (Remove db) last numbers = with_number db 0 numbers
+numbered (Rename db to) last numbers = with_number to (numbers db) (with_number db 0 numbers)
+numbered (Empty db) last numbers = with_number db (last + 1) numbers
+
+-- the same after several changes, in order
+abbrev pub all_numbered : List Change → ℕ → (List ℕ → ℕ) → List ℕ → ℕ
+all_numbered [] last numbers = numbers
+all_numbered (change ∷ changes) last numbers = all_numbered changes (last + made_by (change ∷ [])) (numbered change last numbers)
