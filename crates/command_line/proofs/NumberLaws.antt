@@ -8,14 +8,14 @@ use Rattle.clap.specs.Values.{IsSignedIn}
 use Rattle.clap.specs.Walk.{Text}
 use Rattle.clap.specs.declared.builder.value_parser.ValueParser.TheVariants as parser
 use Rattle.clap.proofs.ValueTestLemmas.{accepts-Accepts}
-use Rattle.command_line.specs.Words.{number_of}
+use Rattle.command_line.specs.Arguments.{decimal_value}
 use Rattle.command_line.proofs.RowLaws.{IsFileMax}
 
 -- the text spells a number from 4,096 to 1,073,741,824
 pub record SpellsFileMax (text : Text) : Type 0 where
   pub numeral : IsNumeral 10 (without_leading_plus text)
-  pub least : 4096 ≤ number_of text
-  pub most : number_of text ≤ 1073741824
+  pub least : 4096 ≤ decimal_value text
+  pub most : decimal_value text ≤ 1073741824
 
 no_minus : (text : Text) → starts_with_minus text ≡ false → without_minus text ≡ text
 no_minus [] other = refl

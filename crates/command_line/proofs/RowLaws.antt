@@ -1,4 +1,4 @@
--- Each row that a walk over the words of `run` makes has a value, and that of `--file-max` one in its bounds.
+-- Each row that a walk over the arguments of `run` makes has a value, and that of `--file-max` one in its bounds.
 use Rattle.std.proofs.Common.{◌≡◌, ◌∙◌, ◌++◌, ◌||◌, Bool, true, false, ap, refl, sym, subst, codes, List, [], ◌∷◌, Option, Some, None, is_some, cond, pos}
 use Rattle.std.specs.Prelude.{find, option_map, option_and_then, slice_get, unwrap_or}
 use Rattle.std.specs.List.{AllByRecursion}

@@ -1,4 +1,4 @@
--- Right words give the options of `run` their values.
+-- Valid arguments give the options of `run` their values.
 use Rattle.std.proofs.Common.{◌≡◌, ◌∙◌, ◌&&◌, ◌||◌, ◌⊎◌, arith, Bool, true, false, not, ap, refl, sym, subst, inl, inr, ⊎_elim, codes, length, List, [], ◌∷◌, Option, Some, None, is_some, cond, true≢false}
 use Rattle.std.specs.Prelude.{find, fold, option_map, unwrap_or, if◌then◌else◌}
 use Rattle.std.specs.Option.{option_map_or}
@@ -16,7 +16,7 @@ use Rattle.clap.specs.Faults.{action_fault, built_fault, check_fault, defaults_f
 use Rattle.clap.specs.declared.builder.action.ArgAction.TheVariants.{Set}
 use Rattle.clap.specs.declared.error.kind.ErrorKind.{ErrorKind}
 use Rattle.clap.specs.declared.error.kind.ErrorKind.TheVariants.{DisplayHelp}
-use Rattle.command_line.specs.Words.{file_max_option, home_option, file_max_text_of, home_of, is_taken, jedb, run_command}
+use Rattle.command_line.specs.Arguments.{file_max_option, home_option, file_max_text_of, home_of, is_taken, jedb, run_command}
 use Rattle.command_line.proofs.WalkLaws.{UseKeeps, neither, settled_keeps, walk_keeps}
 use Rattle.command_line.proofs.StopLaws.{StopsOther, walk_other}
 use Rattle.command_line.proofs.RowLaws.{AreFilled, IsFileMax, default_filled, default_there, file_max_there, first_there, no_default, set_filled}
@@ -88,7 +88,7 @@ uses_kept test a values rows found none held =
     Kept : Rule → Type 0
     Kept r = use_fault false r values rows ≡ [] → AreFilled rows → AreFilled (used r values rows)
 
--- ---- `run` on its words
+-- ---- `run` on its arguments
 
 finished_are : (rows : List Row) → fold with_default rows run_rules ≡ with_default rows file_max_rule
 finished_are rows =
@@ -109,14 +109,14 @@ given_there (Some r) given = refl
 abbrev pub HasValues : Option (Text × List Row) → Type 0
 HasValues found = ((home : Text) × (home_of found ≡ Some home)) × ((text : Text) × (file_max_text_of found ≡ Some (without_minus text)) × IsFileMax text)
 
-run_has_values : (words : List Text) → level_fault run_shape [] nothing_held words false [] ≡ [] → HasValues (Some (rows_at run_shape words))
-run_has_values words none =
-    let end = (walk run_rules [] nothing_held words).held in
-    let walked = neither (walk_fault run_shape [] (walk_from nothing_held) words)
+run_has_values : (args : List Text) → level_fault run_shape [] nothing_held args false [] ≡ [] → HasValues (Some (rows_at run_shape args))
+run_has_values args none =
+    let end = (walk run_rules [] nothing_held args).held in
+    let walked = neither (walk_fault run_shape [] (walk_from nothing_held) args)
     (or_else (settle_fault run_rules false end) (or_else (defaults_fault (settled run_rules end).rows run_rules) (check_fault run_shape (finished run_rules end) false))) none in
     let ended = neither (settle_fault run_rules false end) (or_else (defaults_fault (settled run_rules end).rows run_rules) (check_fault run_shape (finished run_rules end) false)) walked.1 in
     let checked = neither (defaults_fault (settled run_rules end).rows run_rules) (check_fault run_shape (finished run_rules end) false) ended.1 in
-    let by_words : AreFilled end.rows = walk_keeps AreFilled run_shape uses_kept [] words (walk_from nothing_held) walked.0 tt in
+    let by_words : AreFilled end.rows = walk_keeps AreFilled run_shape uses_kept [] args (walk_from nothing_held) walked.0 tt in
     let at_end : AreFilled (settled run_rules end).rows = settled_keeps AreFilled run_shape uses_kept end.pending end.rows ended.0 by_words in
     let are : finished run_rules end ≡ with_default (settled run_rules end).rows file_max_rule = finished_are (settled run_rules end).rows in
     let filled_rows : AreFilled (finished run_rules end) =
@@ -161,20 +161,20 @@ entered_has_values (Some p) other none in_one = go (answers_to p.0 (codes "run",
     go false true apart none in_one = absurd (true≢false apart)
     go false false apart none in_one = cc
 
-faultless_has_values : (words : List Text) → built_fault jedb_built nothing_held words ≡ [] → HasValues (entered jedb_built (walk jedb_built.top.rules (names_of jedb_built) nothing_held words).stopped)
-faultless_has_values words none =
+faultless_has_values : (args : List Text) → built_fault jedb_built nothing_held args ≡ [] → HasValues (entered jedb_built (walk jedb_built.top.rules (names_of jedb_built) nothing_held args).stopped)
+faultless_has_values args none =
     let top = jedb_built.top in
-    let end = (walk top.rules (names_of jedb_built) nothing_held words).held in
-    let stop = (walk top.rules (names_of jedb_built) nothing_held words).stopped in
+    let end = (walk top.rules (names_of jedb_built) nothing_held args).held in
+    let stop = (walk top.rules (names_of jedb_built) nothing_held args).stopped in
     let has = is_some (entered jedb_built stop) in
     let checks = check_fault top (finished top.rules end) has in
     let defaults = or_else (defaults_fault (settled top.rules end).rows top.rules) checks in
     let settles = or_else (settle_fault top.rules top.args_override_self end) defaults in
-    let walked = neither (walk_fault top (names_of jedb_built) (walk_from nothing_held) words) (or_else (entered_fault jedb_built stop) settles) none in
+    let walked = neither (walk_fault top (names_of jedb_built) (walk_from nothing_held) args) (or_else (entered_fault jedb_built stop) settles) none in
     let below = neither (entered_fault jedb_built stop) settles walked.1 in
     let ended = neither (settle_fault top.rules top.args_override_self end) defaults below.1 in
     let checked = neither (defaults_fault (settled top.rules end).rows top.rules) checks ended.1 in
-    let other : StopsOther stop = walk_other top refl (names_of jedb_built) words (walk_from nothing_held) walked.0 tt in
+    let other : StopsOther stop = walk_other top refl (names_of jedb_built) args (walk_from nothing_held) walked.0 tt in
     let in_one : has ≡ true = wanted (finished top.rules end) has checked.1 in
     entered_has_values stop other below.0 in_one
 
@@ -182,7 +182,7 @@ nothing : (kinds : Kinds) → is_empty kinds ≡ true → kinds ≡ []
 nothing [] empty = refl
 nothing (k ∷ ks) empty = grind arith
 
--- right words are those of `run`, and give its options their values
-pub right_has_values : (words : List Text) → is_taken words ≡ true → HasValues (subcommand_of jedb words)
+-- valid arguments are those of `run`, and give its options their values
+pub right_has_values : (args : List Text) → is_taken args ≡ true → HasValues (subcommand_of jedb args)
 unfolding is_taken
-right_has_values words right = faultless_has_values words (nothing (fault_of jedb words) right)
+right_has_values args right = faultless_has_values args (nothing (fault_of jedb args) right)

@@ -86,7 +86,7 @@ module _ (s : Shape) (helps : s.disable_help_subcommand ≡ false) where
           let parts = neither (word_fault s names w.is_trailing w.waiting word w.held) (step_fault s w.position met.0 met.1) none in
           step_other met.1 word w met.0 is (word_other names w.is_trailing w.waiting w.position word w.held parts.0)
 
-  pub walk_other : (names : Names) (words : List Text) (w : Walk) → walk_fault s names w words ≡ [] → StopsOther w.stopped → StopsOther (fold (walked s.rules names) w words).stopped
+  pub walk_other : (names : Names) (args : List Text) (w : Walk) → walk_fault s names w args ≡ [] → StopsOther w.stopped → StopsOther (fold (walked s.rules names) w args).stopped
   unfolding walk_fault
   walk_other names [] w none other = other
   walk_other names (word ∷ rest) w none other =

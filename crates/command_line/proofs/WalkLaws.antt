@@ -162,7 +162,7 @@ module _ (P : List Row → Type 0) (s : Shape) (keeps : UseKeeps P s.args_overri
           let parts = neither (word_fault s names w.is_trailing w.waiting word w.held) (step_fault s w.position met.0 met.1) none in
           step_keeps met.1 word w met.0 parts.1 (word_keeps names w.is_trailing w.waiting w.position word w.held parts.0 held)
 
-  pub walk_keeps : (names : Names) (words : List Text) (w : Walk) → walk_fault s names w words ≡ [] → P w.held.rows → P (fold (walked s.rules names) w words).held.rows
+  pub walk_keeps : (names : Names) (args : List Text) (w : Walk) → walk_fault s names w args ≡ [] → P w.held.rows → P (fold (walked s.rules names) w args).held.rows
   unfolding walk_fault
   walk_keeps names [] w none held = held
   walk_keeps names (word ∷ rest) w none held =

@@ -23,7 +23,7 @@ abbrev pub commits_in : ℕ → ℕ → List Entry → ℕ
 commits_in base count entries = count_by is_commit (drop base (take count entries))
 
 -- replaying entries leaves the records of an environment, with this store
-pub record Leaves (entries : List Entry) (store : Store) : Type 0 where
+pub record LeavesStore (entries : List Entry) (store : Store) : Type 0 where
   pub environment : is_environment (replayed entries nothing_replayed).rows ≡ true
   pub store_is : store_of (replayed entries nothing_replayed).rows ≡ store
 
@@ -32,7 +32,7 @@ pub record Leaves (entries : List Entry) (store : Store) : Type 0 where
 pub record Recovers (opening : Store) (base : ℕ) (transactions : List (List Change)) (entries : List Entry) : Type 0 where
   pub within : base ≤ length entries
   pub all : commits_in base (length entries) entries ≡ length transactions
-  pub each : (count : ℕ) → base ≤ count → count ≤ length entries → Leaves (take count entries) (store_after opening (take (commits_in base count entries) transactions))
+  pub each : (count : ℕ) → base ≤ count → count ≤ length entries → LeavesStore (take count entries) (store_after opening (take (commits_in base count entries) transactions))
 
 -- files mean the opening store changed by the first of the transactions, at least so many
 pub record IsRecovered (opening : Store) (least : ℕ) (transactions : List (List Change)) (image : Files) : Type 0 where

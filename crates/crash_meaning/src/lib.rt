@@ -6,7 +6,8 @@
 
 ghost use Rattle.crash_meaning.specs.Laws.{ImagesAreRead, ImagesRecover, LogsRecover, LongerLogsRecover};
 
-/// Where no file of a log was removed, an image is read as the log's first entries, with no finding.
+/// Where no file of a log was removed, an image is read as the log's first entries, with no
+/// corruption.
 pub fn images_are_read()
     ensures { ImagesAreRead }
 {}

@@ -9,7 +9,7 @@ use Rattle.je_bytes.proofs.Fields.{Takes, four_bytes, number_in-takes, number_in
 use Rattle.db_catalog.specs.declared.db_record.DbRecord.{DbRecord}
 use Rattle.db_catalog.specs.declared.db_kind.DbKind.{DbKind}
 use Rattle.db_catalog.specs.declared.db_kind.DbKind.TheVariants.{Plain, Dup, SliceIndex, FieldIndex}
-use Rattle.db_catalog.specs.Catalog.{IsSlice, IsKind, IsRecord, kind_bytes, record_bytes, ◌>>=◌, is_slice, ended, slice_in, field_in, kind_in, record_in}
+use Rattle.db_catalog.specs.Catalog.{IsSlice, IsKind, IsRecord, kind_bytes, record_bytes, ◌>>=◌, is_slice, ended, slice_in, field_in, kind_in, db_record_in}
 
 -- ---- steps of reading
 
@@ -121,9 +121,9 @@ abbrev with_kind : ℕ → DbKind → DbRecord
 with_kind number kind = record { number = number; kind = kind }
 
 -- what is read as a record is that record's bytes
-pub record_in-takes : (bytes : List ℕ) (r : DbRecord) → AreBytes bytes → record_in bytes ≡ Some r → IsRecord r × (bytes ≡ record_bytes r)
-unfolding record_in
-record_in-takes bytes r are read =
+pub db_record_in-takes : (bytes : List ℕ) (r : DbRecord) → AreBytes bytes → db_record_in bytes ≡ Some r → IsRecord r × (bytes ≡ record_bytes r)
+unfolding db_record_in
+db_record_in-takes bytes r are read =
     let a = bind_some (number_in w32 bytes) (λ number. byte_in number.1 >>= λ first. kind_in first.0 first.1 >>= λ kind. Some (with_kind number.0 kind)) r read in
     let b = bind_some (byte_in a.0.1) (λ first. kind_in first.0 first.1 >>= λ kind. Some (with_kind a.0.0 kind)) r a.2 in
     let c = bind_some (kind_in b.0.0 b.0.1) (λ kind. Some (with_kind a.0.0 kind)) r b.2 in
@@ -172,18 +172,18 @@ kind_again number (FieldIndex primary field separator) is =
     (field_in-again primary field separator is.0 is.1)
 
 -- a record's bytes are read as that record
-pub record_in-again : (r : DbRecord) → IsRecord r → record_in (record_bytes r) ≡ Some r
-unfolding record_in
-record_in-again r is =
+pub db_record_in-again : (r : DbRecord) → IsRecord r → db_record_in (record_bytes r) ≡ Some r
+unfolding db_record_in
+db_record_in-again r is =
     bind_is (number_in w32 (record_bytes r)) (λ number. byte_in number.1 >>= λ first. kind_in first.0 first.1 >>= λ kind. Some (with_kind number.0 kind)) (r.number, kind_bytes r.kind)
     (number_in-again w32 (2 ^ 32) four_bytes r.number (kind_bytes r.kind) is.0)
     ∙ kind_again r.number r.kind is.1
 
 -- ---- what a reader of bytes answers
 
-pub found_if : (result : Option DbRecord) (bytes : List ℕ) → AreBytes bytes → result ≡ record_in bytes → IfSome result (λ r. IsRecord r × (bytes ≡ record_bytes r))
+pub found_if : (result : Option DbRecord) (bytes : List ℕ) → AreBytes bytes → result ≡ db_record_in bytes → IfSome result (λ r. IsRecord r × (bytes ≡ record_bytes r))
 found_if None bytes are is = tt
-found_if (Some r) bytes are is = record_in-takes bytes r are (sym is)
+found_if (Some r) bytes are is = db_record_in-takes bytes r are (sym is)
 
-pub only : (result : Option DbRecord) (bytes : List ℕ) (r : DbRecord) → result ≡ record_in bytes → IsRecord r → bytes ≡ record_bytes r → result ≡ Some r
-only result bytes r is fits same = is ∙ ap record_in same ∙ record_in-again r fits
+pub only : (result : Option DbRecord) (bytes : List ℕ) (r : DbRecord) → result ≡ db_record_in bytes → IsRecord r → bytes ≡ record_bytes r → result ≡ Some r
+only result bytes r is fits same = is ∙ ap db_record_in same ∙ db_record_in-again r fits

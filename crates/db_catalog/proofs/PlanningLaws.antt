@@ -13,11 +13,6 @@ use Rattle.je_model.specs.Answers.{or_refusal, catalog_refusal, length_refusal}
 use Rattle.db_catalog.specs.declared.db_record.DbRecord.{DbRecord}
 use Rattle.db_catalog.specs.Planning.{outcome_of, outcome_unless, logged_as, moved, renewed, IsRecordOf, IsCatalogOf, IsCatalogLog}
 
--- what holds of an answer holds in other words
-pub if_ok : {T E : Type 0} {P Q : T → Type 0} (r : Result T E) → ((x : T) → P x → Q x) → IfOk r P → IfOk r Q
-if_ok (Ok x) k h = k x h
-if_ok (Err e) k h = tt
-
 -- a call that was refused changes nothing
 unrefused : (refusal : Option Answer) (outcome : Outcome) (change : Change) → (outcome_unless refusal outcome).changes ≡ change ∷ [] → outcome.changes ≡ change ∷ []
 unrefused None outcome change h = h

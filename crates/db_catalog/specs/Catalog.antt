@@ -76,8 +76,8 @@ kind_in kind bytes =
     if kind == 3 then field_in bytes else None
 
 -- the record that bytes are, if they are one
-unfoldable pub record_in : List ℕ → Option DbRecord
-record_in bytes = do
+unfoldable pub db_record_in : List ℕ → Option DbRecord
+db_record_in bytes = do
   number ← number_in w32 bytes
   first ← byte_in number.1
   kind ← kind_in first.0 first.1

@@ -10,7 +10,7 @@ use je_order::{List, Word};
 use std::alloc::{AllocError, Global};
 
 /// What a plan reads of the catalog: the names of the databases that a caller sees, and their records.
-/// The one error of its calls is want of memory.
+/// The one error of its calls is out of memory.
 pub trait CatalogView {
     /// The store that the caller sees.
     ghost seen: { Self → Stored };

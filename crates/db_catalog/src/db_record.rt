@@ -1,13 +1,14 @@
 // The data of a catalog record.
 ghost use Rattle.std.specs.Prelude.{◌≡◌, IfOk, IfSome};
 ghost use Rattle.db_catalog.specs.declared.db_record.DbRecord.{DbRecord};
-ghost use Rattle.db_catalog.specs.Catalog.{IsRecord, record_bytes, record_in};
+ghost use Rattle.db_catalog.specs.Catalog.{IsRecord, record_bytes, db_record_in};
 
 use crate::db_kind::{DbKind, put_kind, read_kind};
 use je_bytes::{Reader, put_u32};
 use std::alloc::{AllocError, Global};
 
-/// A database's number and kind. The number names the database in the log; it is never drawn twice.
+/// A database's number and kind. The number names the database in the log; it is never allocated
+/// twice.
 #[derive(Clone, Copy, PartialEq, Eq)]
 pub struct DbRecord {
     pub number: u32,
@@ -15,9 +16,9 @@ pub struct DbRecord {
 }
 
 // The record that the bytes are.
-#[tactic(auto, unfolding(crate::specs::Catalog::record_in))]
+#[tactic(auto, unfolding(crate::specs::Catalog::db_record_in))]
 fn read_record(bytes: &[u8]) -> Option<DbRecord>
-    ensures { result ≡ record_in bytes.now }
+    ensures { result ≡ db_record_in bytes.now }
 {
     let mut reader = Reader::new(bytes);
     let number = reader.u32().ok()?;
@@ -28,7 +29,7 @@ fn read_record(bytes: &[u8]) -> Option<DbRecord>
 
 impl DbRecord {
     /// The record's bytes: the number in four bytes, the highest first, the kind in one, and the fields
-    /// of an index. The one error is want of memory.
+    /// of an index. The only error is out of memory.
     pub fn to_bytes(&self, alloc: Global) -> Result<Vec<u8>, AllocError>
         ensures { IfOk result (λ bytes. bytes.items ≡ record_bytes self.now) }
     {
@@ -42,7 +43,7 @@ impl DbRecord {
     /// are fewer or more, the kind is none of these, or a slice is outside its limits. It takes no
     /// memory.
     pub fn from_bytes(bytes: &[u8]) -> Option<DbRecord>
-        ensures exact { result ≡ record_in bytes.now }
+        ensures exact { result ≡ db_record_in bytes.now }
         ensures found { IfSome result (λ r. IsRecord r × (bytes.now ≡ record_bytes r)) }
         ensures only { (r : DbRecord) → IsRecord r → bytes.now ≡ record_bytes r → result ≡ Some r }
     {

@@ -118,7 +118,7 @@ fn plan_truncate<V: CatalogView>(
 }
 
 /// What a call on the catalog comes to: the model's answer and changes on the store that the view
-/// sees, refusals first. Room in the log and numbers are not asked here. The one error is want of
+/// sees, refusals first. Room in the log and numbers are not asked here. The only error is out of
 /// memory.
 pub fn plan<V: CatalogView>(alloc: Global, view: &V, call: &Call) -> Result<CatalogPlan, AllocError>
     requires { is_catalog_call call.now ≡ true }

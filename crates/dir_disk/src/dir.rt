@@ -8,8 +8,9 @@ use std::io;
 use std::io::ErrorKind;
 use std::rt::Files;
 
-/// A folder of log files. Each failed call of the system is a fault, and so is want of memory in a call
-/// that has no such answer. Files stay open, and the folder that is above this one has to be there.
+/// A folder of log files. Each failed call of the system is a fault, and so is running out of memory in
+/// a call that has no such answer. Files stay open, and the folder that is above this one has to be
+/// there.
 #[derive(Drop)]
 pub struct DirDisk<R: Files + AllocGlobal + Clone + Drop> {
     folder: Folder<R>,
@@ -19,15 +20,16 @@ pub struct DirDisk<R: Files + AllocGlobal + Clone + Drop> {
 
 impl<R: Files + AllocGlobal + Clone + Drop> DirDisk<R> {
     ghost use Rattle.std.specs.Prelude.{◌≡◌, ◌≤◌, codes, if◌then◌else◌, length, string_bytes, ◌==◌, None, Ok, IfOk};
-    ghost use Rattle.je_disk.specs.Causes.{Rose, HasFault, HasCause};
+    ghost use Rattle.je_disk.specs.Causes.{HasFault, HasCause};
+    ghost use Rattle.je_order.specs.Counts.{HasRisen};
 
     /// The folder of this path, which need not be there. Nothing is done to it yet.
     pub fn new(rt: &R, path: &str) -> Result<DirDisk<R>, AllocError>
-        ensures path { IfOk result (λ disk. string_bytes disk.folder.place.path ≡ (if length path.now == 0 then codes "." else path.now)) }
+        ensures path { IfOk result (λ disk. string_bytes disk.folder.dir_path.path ≡ (if length path.now == 0 then codes "." else path.now)) }
         ensures faults { IfOk result (λ disk. disk.faults ≡ 0) }
         ensures sync_out { IfOk result (λ disk. disk.jobs.sync ≡ None) }
         ensures read_out { IfOk result (λ disk. disk.jobs.reading ≡ None) }
-        ensures drawn { IfOk result (λ disk. disk.jobs.drawn ≡ 0) }
+        ensures last_job { IfOk result (λ disk. disk.jobs.last_job ≡ 0) }
     {
         let folder = Folder::new(rt, path)?;
         Ok(DirDisk {
@@ -39,7 +41,7 @@ impl<R: Files + AllocGlobal + Clone + Drop> DirDisk<R> {
 
     fn fault(&mut self) -> DiskErr
         ensures failed { result ≡ DiskErr.Failed }
-        ensures rose { Rose self.old.faults self.new.faults }
+        ensures rose { HasRisen self.old.faults self.new.faults }
         ensures never_falls { self.old.faults ≤ self.new.faults }
         ensures jobs { self.new.jobs ≡ self.old.jobs }
     {
@@ -48,7 +50,7 @@ impl<R: Files + AllocGlobal + Clone + Drop> DirDisk<R> {
     }
 
     // What a call says that has no answer but success and a fault.
-    fn judged<T>(&mut self, answer: io::Result<T>) -> Result<T, DiskErr>
+    fn map_fault<T>(&mut self, answer: io::Result<T>) -> Result<T, DiskErr>
         ensures ok { IfOk result (λ value. answer ≡ Ok value) }
         ensures jobs { self.new.jobs ≡ self.old.jobs }
         ensures cause { HasFault self.old.faults self.new.faults result }
@@ -60,7 +62,7 @@ impl<R: Files + AllocGlobal + Clone + Drop> DirDisk<R> {
     }
 
     // What a call says that may also answer Memory.
-    fn judged_with_memory<T>(&mut self, answer: io::Result<T>) -> Result<T, DiskErr>
+    fn map_fault_or_memory<T>(&mut self, answer: io::Result<T>) -> Result<T, DiskErr>
         ensures ok { IfOk result (λ value. answer ≡ Ok value) }
         ensures jobs { self.new.jobs ≡ self.old.jobs }
         ensures cause { HasCause self.old.faults self.new.faults result }
@@ -86,7 +88,7 @@ where
 
     type ReadJob = DirReadJob<R::File>;
 
-    ghost tells = { false };
+    ghost observable = { false };
 
     ghost history = { λ _. record { moment = 0; state_at = λ _. nothing } };
 
@@ -98,53 +100,53 @@ where
 
     ghost read_of = { λ disk. disk.jobs.file.0 };
 
-    ghost drawn = { λ disk. disk.jobs.drawn };
+    ghost last_job = { λ disk. disk.jobs.last_job };
 
     fn mount(&mut self) -> Result<(), DiskErr> {
         self.jobs.give_up_sync();
         self.jobs.give_up_reading();
         let answer = self.folder.mount();
-        self.judged(answer)
+        self.map_fault(answer)
     }
 
     fn list(&mut self, alloc: Global) -> Result<Vec<FileNo>, DiskErr> {
         let answer = self.folder.list(alloc);
-        self.judged_with_memory(answer)
+        self.map_fault_or_memory(answer)
     }
 
     fn len(&mut self, f: FileNo) -> Result<u64, DiskErr> {
         let answer = self.folder.len(f);
-        self.judged(answer)
+        self.map_fault(answer)
     }
 
     fn create(&mut self, f: FileNo) -> Result<(), DiskErr> {
         let answer = self.folder.create(f);
-        self.judged(answer)
+        self.map_fault(answer)
     }
 
     fn append(&mut self, f: FileNo, bytes: &[u8]) -> Result<(), DiskErr> {
         let answer = self.folder.append(f, bytes);
-        self.judged(answer)
+        self.map_fault(answer)
     }
 
     fn cut(&mut self, f: FileNo, len: u64) -> Result<(), DiskErr> {
         let answer = self.folder.cut(f, len);
-        self.judged(answer)
+        self.map_fault(answer)
     }
 
     fn remove(&mut self, f: FileNo) -> Result<(), DiskErr> {
         let answer = self.folder.remove(f);
-        self.judged(answer)
+        self.map_fault(answer)
     }
 
     fn read(&mut self, f: FileNo, at: u64, into: &mut [u8]) -> Result<usize, DiskErr> {
         let answer = self.folder.read(f, at, into);
-        self.judged(answer)
+        self.map_fault(answer)
     }
 
     fn sync_now(&mut self) -> Result<(), DiskErr> {
         let answer = self.folder.sync();
-        self.judged(answer)
+        self.map_fault(answer)
     }
 
     fn begin_sync(&mut self) -> Result<DirJob<R::File>, DiskErr> {
@@ -154,7 +156,7 @@ where
             return Err(self.fault());
         };
         let answer = self.folder.begin_sync(number);
-        let job = self.judged(answer)?;
+        let job = self.map_fault(answer)?;
         self.jobs.begin_sync(number);
         Ok(job)
     }
@@ -163,13 +165,13 @@ where
         ensures none_out { self.new.jobs.sync ≡ None }
         ensures read_out { self.new.jobs.reading ≡ self.old.jobs.reading }
         ensures read_of { self.new.jobs.file.0 ≡ self.old.jobs.file.0 }
-        ensures drawn { self.new.jobs.drawn ≡ self.old.jobs.drawn }
+        ensures last_job { self.new.jobs.last_job ≡ self.old.jobs.last_job }
         ensures failed { done.worked ≡ false → IsErr result }
         ensures cause { HasFault self.old.faults self.new.faults result }
     {
         self.jobs.give_up_sync();
         let answer = self.folder.end_sync(done.worked());
-        self.judged(answer)
+        self.map_fault(answer)
     }
 
     fn read_job(&mut self, f: FileNo) -> Result<DirReadJob<R::File>, DiskErr> {
@@ -178,7 +180,7 @@ where
             return Err(self.fault());
         };
         let answer = self.folder.begin_read(number, f);
-        let job = self.judged(answer)?;
+        let job = self.map_fault(answer)?;
         self.jobs.begin_reading(number, f);
         Ok(job)
     }
@@ -186,7 +188,7 @@ where
     fn end_read(&mut self, alloc: Global, done: DirReadDone) -> Result<Vec<u8>, DiskErr> {
         self.jobs.give_up_reading();
         let answer = self.folder.end_read(alloc, done.bytes());
-        self.judged_with_memory(answer)
+        self.map_fault_or_memory(answer)
     }
 
     fn faults(&self) -> u64 {

@@ -1,11 +1,11 @@
 // The folder and its open files.
 ghost use Rattle.std.specs.Prelude.{◌≡◌, ◌≤◌, codes, false, if◌then◌else◌, length, string_bytes, ◌==◌, IfOk, IsErr};
-ghost use Rattle.je_disk.specs.States.{IsRising};
+ghost use Rattle.je_disk.specs.States.{AreRisingNumbers};
 
+use crate::dir_path::DirPath;
 use crate::job::{DirJob, DirReadJob, Lost, sync_all, sync_file, whole};
 use crate::pending::{Pending, Stage};
 use crate::pieces::{fill_from, in_order};
-use crate::place::Place;
 use je_lsn::FileNo;
 use std::alloc::{AllocError, Global};
 use std::collections::BTreeMap;
@@ -37,14 +37,14 @@ struct Reading {
 /// The folder, and what has to be done at the next sync.
 #[derive(Drop)]
 pub struct Folder<R: Files + AllocGlobal + Clone + Drop> {
-    place: Place<R>,
+    dir_path: DirPath<R>,
     files: BTreeMap<u32, Opened<R::File>>,
     // the folder's entries
     entries: Pending,
     // the folder's own name, in the folder above
     name: Pending,
     // no sync has been finished since the mount, so files of earlier runs may not be stable
-    is_unsettled: bool,
+    is_unflushed: bool,
     lost: Lost,
     reading: Option<Reading>,
 }
@@ -61,16 +61,16 @@ fn push_opened<F: Drop>(handles: &mut Vec<F>, opened: io::Result<F>) -> io::Resu
 
 impl<R: Files + AllocGlobal + Clone + Drop> Folder<R> {
     pub fn new(rt: &R, path: &str) -> Result<Folder<R>, AllocError>
-        ensures path { IfOk result (λ folder. string_bytes folder.place.path ≡ (if length path.now == 0 then codes "." else path.now)) }
+        ensures path { IfOk result (λ folder. string_bytes folder.dir_path.path ≡ (if length path.now == 0 then codes "." else path.now)) }
     {
         let lost = Arc::new(rt.alloc(), AtomicBool::new(false))?;
-        let place = Place::new(rt, path)?;
+        let dir_path = DirPath::new(rt, path)?;
         Ok(Folder {
-            place,
+            dir_path,
             files: BTreeMap::new(rt.alloc()),
             entries: Pending::Nothing,
             name: Pending::Nothing,
-            is_unsettled: true,
+            is_unflushed: true,
             lost,
             reading: None,
         })
@@ -81,17 +81,17 @@ impl<R: Files + AllocGlobal + Clone + Drop> Folder<R> {
         self.files.clear();
         self.entries = Pending::Nothing;
         self.name = Pending::Nothing;
-        self.is_unsettled = true;
+        self.is_unflushed = true;
         self.reading = None;
-        self.place.is_there()?;
+        self.dir_path.is_there()?;
         Ok(())
     }
 
     /// The numbers of the log files, rising; none where there is no folder.
     pub fn list(&self, alloc: Global) -> io::Result<Vec<FileNo>>
-        ensures { IfOk result (λ files. IsRising files.items) }
+        ensures { IfOk result (λ files. AreRisingNumbers files.items) }
     {
-        let numbers = self.place.numbers(alloc)?;
+        let numbers = self.dir_path.numbers(alloc)?;
         Ok(in_order(alloc, &numbers)?)
     }
 
@@ -100,7 +100,7 @@ impl<R: Files + AllocGlobal + Clone + Drop> Folder<R> {
         if self.files.contains_key(&f.0) {
             return Ok(());
         }
-        match self.place.file(f)? {
+        match self.dir_path.file(f)? {
             Some(file) => self.keep(f, file, Pending::Nothing),
             None => Ok(()),
         }
@@ -130,11 +130,11 @@ impl<R: Files + AllocGlobal + Clone + Drop> Folder<R> {
             return Ok(());
         }
         self.note_change(f);
-        let made = match self.place.make(f)? {
+        let made = match self.dir_path.make(f)? {
             None => {
-                self.place.make_folder()?;
+                self.dir_path.make_folder()?;
                 self.name = Pending::Sync;
-                self.place.make(f)?
+                self.dir_path.make(f)?
             }
             made => made,
         };
@@ -176,7 +176,7 @@ impl<R: Files + AllocGlobal + Clone + Drop> Folder<R> {
     /// Takes a file away, where it is there.
     pub fn remove(&mut self, f: FileNo) -> io::Result<()> {
         self.note_change(f);
-        if self.place.remove(f)? {
+        if self.dir_path.remove(f)? {
             self.entries = Pending::Sync;
             self.files.remove(&f.0);
         }
@@ -211,14 +211,14 @@ impl<R: Files + AllocGlobal + Clone + Drop> Folder<R> {
     pub fn begin_read(&mut self, number: u64, f: FileNo) -> io::Result<DirReadJob<R::File>>
         ensures { IfOk result (λ job. job.number ≡ number) }
     {
-        let file = self.place.reader(f)?;
+        let file = self.dir_path.reader(f)?;
         self.reading = Some(Reading {
             file: f,
             is_changed: false,
         });
         Ok(DirReadJob {
             number,
-            alloc: self.place.alloc(),
+            alloc: self.dir_path.alloc(),
             file,
         })
     }
@@ -228,7 +228,7 @@ impl<R: Files + AllocGlobal + Clone + Drop> Folder<R> {
         match self.reading.take() {
             Some(reading) if reading.is_changed => {
                 drop(bytes);
-                whole(alloc, self.place.reader(reading.file)?)
+                whole(alloc, self.dir_path.reader(reading.file)?)
             }
             _ => bytes,
         }
@@ -285,33 +285,33 @@ impl<R: Files + AllocGlobal + Clone + Drop> Folder<R> {
 
     // Handles of all that is due: of the files, of the folder, of the folder above.
     fn handles(&mut self) -> io::Result<Vec<R::File>> {
-        if self.is_unsettled {
-            self.settle()?;
-            self.is_unsettled = false;
+        if self.is_unflushed {
+            self.flush()?;
+            self.is_unflushed = false;
         }
-        let mut handles = Vec::new(self.place.alloc());
+        let mut handles = Vec::new(self.dir_path.alloc());
         for opened in self.files.values() {
             if opened.pending.is_due() {
                 push_opened(&mut handles, opened.file.try_clone())?;
             }
         }
         if self.entries.is_due() {
-            push_opened(&mut handles, self.place.folder())?;
+            push_opened(&mut handles, self.dir_path.folder())?;
         }
         if self.name.is_due() {
-            push_opened(&mut handles, self.place.above())?;
+            push_opened(&mut handles, self.dir_path.above())?;
         }
         Ok(handles)
     }
 
     // What earlier runs made, wrote or took away may not be stable yet, the folder itself included.
-    fn settle(&mut self) -> io::Result<()> {
-        if !self.place.is_there()? {
+    fn flush(&mut self) -> io::Result<()> {
+        if !self.dir_path.is_there()? {
             return Ok(());
         }
-        let files = self.list(self.place.alloc())?;
+        let files = self.list(self.dir_path.alloc())?;
         for f in &files {
-            if let Some(file) = self.place.reader(*f)? {
+            if let Some(file) = self.dir_path.reader(*f)? {
                 sync_file(&file, &self.lost)?;
             }
         }

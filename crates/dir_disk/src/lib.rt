@@ -1,4 +1,4 @@
-//! A disk that is a folder. It stands on `je_disk`, over std's files. It tells nothing, since no
+//! A disk that is a folder. It stands on `je_disk`, over std's files. It is not observable, since no
 //! contract can say what a file holds: proved are its safety, the causes of its errors, which jobs are
 //! out, and that the end of a sync job that noted a failure is a fault; the rest is for its readers and
 //! its tests. A sync job has handles of its own of what is to be synced, and a read job has one of its
@@ -6,11 +6,11 @@
 #![tactic(auto)]
 
 pub mod dir;
+pub mod dir_path;
 pub mod folder;
 pub mod job;
 pub mod pending;
 pub mod pieces;
-pub mod place;
 
 pub use dir::DirDisk;
 pub use job::{DirDone, DirJob, DirReadDone, DirReadJob};

@@ -2,7 +2,7 @@
 ghost use Rattle.std.specs.Prelude.{◌≡◌, ◌≤◌, length, map, IfOk};
 ghost use Rattle.std.specs.BTreeSet.{IsOrdered};
 ghost use Rattle.std.specs.Ordering.{nat_cmp};
-ghost use Rattle.je_disk.specs.States.{IsRising};
+ghost use Rattle.je_disk.specs.States.{AreRisingNumbers};
 
 use je_lsn::FileNo;
 use std::alloc::{AllocError, Global};
@@ -49,7 +49,7 @@ fn numbered(alloc: Global, numbers: &[u32]) -> Result<Vec<FileNo>, AllocError>
 
 /// The numbers of files, rising: all of them.
 pub fn in_order(alloc: Global, numbers: &BTreeSet<u32>) -> Result<Vec<FileNo>, AllocError>
-    ensures rising { IfOk result (λ files. IsRising files.items) }
+    ensures rising { IfOk result (λ files. AreRisingNumbers files.items) }
     ensures all { IfOk result (λ files. files.items ≡ map (λ n. record { 0 = n }) numbers.now.keys) }
 {
     let sorted = sorted(alloc, numbers)?;

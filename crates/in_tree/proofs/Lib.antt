@@ -1,20 +1,20 @@
--- the order of names
+-- The order of names.
 pub mod Order
--- the node over a name
+-- The node over a name.
 pub mod Over
--- a longer log
+-- What images show is the same in a longer log.
 pub mod Longer
--- a mark, a split, a commit
+-- A mark, a split and a commit keep that a tree fits its log.
 pub mod Marking
--- an image, a root
+-- An image of a node, and a new root, keep that a tree fits its log.
 pub mod Logging
--- what a checkpoint's images lack
+-- What the images of a tree lack is behind each redo LSN that no mark is below.
 pub mod Covering
--- the image of a BIN, made of its cells
+-- Images that are made of a node's content show it.
 pub mod Contents
--- the image of an IN, made of its children
+-- The image of an IN that is made of its children shows what their images show.
 pub mod Children
--- changes of records
+-- Changes of a tree's records keep that it fits its log.
 pub mod Records
--- logging a node
+-- Logging a node keeps that a tree fits its log.
 pub mod NodeLogging

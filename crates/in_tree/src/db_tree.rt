@@ -106,8 +106,8 @@ impl DbTree {
         })
     }
 
-    /// Gives the name a change that is not committed. Want of memory changes nothing, and does not come
-    /// where the name has a cell.
+    /// Gives the name a change that is not committed. Running out of memory changes nothing, and does
+    /// not come where the name has a cell.
     pub fn set_write(
         &mut self,
         alloc: Global,

@@ -15,7 +15,7 @@ use Rattle.je_model.specs.declared.event.Event.TheVariants.{Call as Called, Sync
 use Rattle.je_model.specs.Store.{store_after}
 use Rattle.je_model.specs.Evaluation.{evaluation}
 use Rattle.je_model.specs.Answers.{or_refusal}
-use Rattle.je_model.proofs.Journal.{store_after-append}
+use Rattle.je_model.proofs.JournalLaws.{store_after-append}
 use Rattle.je_answers.specs.Standing.{Standing}
 use Rattle.je_answers.specs.Refusals.{fault_refusal, early_refusal, late_refusal}
 use Rattle.je_answers.specs.Events.{after_changes, after_evaluation, after_call, after_begin, after_end, after_event, after_events}

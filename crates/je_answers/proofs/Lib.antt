@@ -1,4 +1,4 @@
--- one more event at a journal's end
+-- One more event at a journal's end.
 pub mod Journals
--- what a journal has committed
+-- What a journal has committed, and where it leaves the store.
 pub mod Commits

@@ -27,7 +27,7 @@ abbrev pub no_numbers : Option Answer → Option Answer
 no_numbers (Some IdsEnded) = Some IdsEnded
 no_numbers limit = None
 
--- a database number that changes draw is past the last one
+-- a database number that changes allocate is past the last one
 abbrev pub database_limit : ℕ → List Change → Option Answer
 database_limit last changes = if nat_lt LAST_DATABASE (last + made_by changes) then Some IdsEnded else None
 
@@ -75,7 +75,7 @@ IsAnswered limit st (SyncEnd answer) = IsSyncEnded st.fault st.begun answer
 
 -- ---- where it leaves the environment
 
--- a call of its own drew a transaction number
+-- a call of its own allocated a transaction number
 abbrev pub drawn : Standing → Standing
 drawn st = record st { last_txn = next_txn st.last_txn }
 

@@ -13,7 +13,7 @@ abbrev pub fault_refusal : Option Fault → Option Answer
 fault_refusal None = None
 fault_refusal (Some first) = Some (Invalid first)
 
--- the refusals that draw no transaction number
+-- the refusals that allocate no transaction number
 abbrev pub early_refusal : Standing → Call → Option Answer
 early_refusal st call = fault_refusal st.fault
 

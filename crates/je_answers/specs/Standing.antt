@@ -6,7 +6,7 @@ use Rattle.je_model.specs.declared.change.Change.{Change}
 use Rattle.je_model.specs.declared.change.Change.TheVariants.{Set, Unset, Make, Remove, Rename, Empty}
 use Rattle.je_model.specs.declared.record_change.RecordChange.{RecordChange}
 use Rattle.je_model.specs.declared.answer.Fault.{Fault}
-use Rattle.je_model.specs.Store.{is_same}
+use Rattle.je_order.specs.Order.{is_same_bytes}
 use Rattle.je_model.specs.Answers.{made_by}
 use Rattle.lock_table.specs.declared.lock.Lock.{Lock}
 use Rattle.lock_table.specs.declared.record_id.RecordId.{RecordId}
@@ -22,8 +22,8 @@ pub record LockState : Type 0 where
 pub record Standing : Type 0 where
   pub store : Store  -- what is committed
   pub numbers : List ℕ → ℕ  -- the number of each database, by its name; 0 where there is none
-  pub last_txn : ℕ  -- the transaction number drawn last
-  pub last_db : ℕ  -- the database number drawn last
+  pub last_txn : ℕ  -- the transaction number allocated last
+  pub last_db : ℕ  -- the database number allocated last
   pub commits : ℕ  -- how many transactions with changes were committed since opening
   pub begun : Option ℕ  -- how many of them when the sync under way began
   pub fault : Option Fault  -- the first fault, after which each call is Invalid
@@ -36,9 +36,9 @@ pub record Standing : Type 0 where
 
 -- a name has another number
 abbrev pub with_number : List ℕ → ℕ → (List ℕ → ℕ) → List ℕ → ℕ
-with_number name number numbers other = if is_same other name then number else numbers other
+with_number name number numbers other = if is_same_bytes other name then number else numbers other
 
--- the numbers after a change: a database that is made draws the next one, and so does one that is emptied
+-- the numbers after a change: a database that is made allocates the next one, and so does one that is emptied
 abbrev pub numbered : Change → ℕ → (List ℕ → ℕ) → List ℕ → ℕ
 numbered (Set db at value) last numbers = numbers
 numbered (Unset db at) last numbers = numbers

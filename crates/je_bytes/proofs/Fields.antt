@@ -4,7 +4,7 @@ use Rattle.std.specs.Int.{Width, w16, w32, w64, byte_len, from_be_bytes, to_be_b
 use Rattle.std.proofs.lemmas.Bool.{cases_lt, ltb-false, le-ltb, lt-ltb}
 use Rattle.std.proofs.lemmas.List.{take_at, drop_at, take-append-drop, length-append, length-take, get_or-drop, get_or-take, get_or_past}
 use Rattle.std.proofs.lemmas.Nat.{be_bytes_2, be_bytes_4, be_bytes_8, from_be_bytes-to_be_bytes_2, from_be_bytes-to_be_bytes_4, from_be_bytes-to_be_bytes_8}
-use Rattle.je_bytes.specs.Reading.{AreBytes, run_in, number_in, IsReadAsWritten}
+use Rattle.je_bytes.specs.Reading.{AreBytes, bytes_in, number_in, IsReadAsWritten}
 
 pub AreBytes-drop : (n : ℕ) (bytes : List ℕ) → AreBytes bytes → AreBytes (drop n bytes)
 AreBytes-drop n bytes h i = rw get_or-drop (h (n + i))
@@ -54,29 +54,29 @@ pub read_past : {A : Type 0} (b : Bool) (x y : A) → cond b None (Some x) ≡ S
 read_past true x y e = absurd cc
 read_past false x y e = (refl, cc)
 
-pub run_in-takes : (n : ℕ) (bytes run rest : List ℕ) → AreBytes bytes → run_in n bytes ≡ Some (run, rest) → Takes bytes run rest × (length run ≡ n)
-run_in-takes n bytes run rest are e =
-    let g = read_past (ltb (length bytes) n) (take n bytes, drop n bytes) (run, rest) e in
+pub bytes_in-takes : (n : ℕ) (bytes taken rest : List ℕ) → AreBytes bytes → bytes_in n bytes ≡ Some (taken, rest) → Takes bytes taken rest × (length taken ≡ n)
+bytes_in-takes n bytes taken rest are e =
+    let g = read_past (ltb (length bytes) n) (take n bytes, drop n bytes) (taken, rest) e in
     let long : n ≤ length bytes = ltb-false _ _ g.0 in
     let whole : Takes bytes (take n bytes) (drop n bytes) × (length (take n bytes) ≡ n) = (record { parts = sym (take-append-drop n bytes); rest_fits = AreBytes-drop n bytes are }, omega (arith, length-take n bytes)) in
     subst (λ (p : List ℕ × List ℕ). Takes bytes p.0 p.1 × (length p.0 ≡ n)) g.1 whole
 
 -- a number that was read from a run
-pub number_in-run : (w : Width) (n : ℕ) (bytes run rest : List ℕ) → run_in (byte_len w) bytes ≡ Some (run, rest) → n ≡ from_be_bytes w run → number_in w bytes ≡ Some (n, rest)
-number_in-run w n bytes run rest e is =
-    let g = read_past (ltb (length bytes) (byte_len w)) (take (byte_len w) bytes, drop (byte_len w) bytes) (run, rest) e in
-    let run-is : take (byte_len w) bytes ≡ run = ap (λ (p : List ℕ × List ℕ). p.0) g.1 in
+pub number_in-taken : (w : Width) (n : ℕ) (bytes taken rest : List ℕ) → bytes_in (byte_len w) bytes ≡ Some (taken, rest) → n ≡ from_be_bytes w taken → number_in w bytes ≡ Some (n, rest)
+number_in-taken w n bytes taken rest e is =
+    let g = read_past (ltb (length bytes) (byte_len w)) (take (byte_len w) bytes, drop (byte_len w) bytes) (taken, rest) e in
+    let taken-is : take (byte_len w) bytes ≡ taken = ap (λ (p : List ℕ × List ℕ). p.0) g.1 in
     let rest-is : drop (byte_len w) bytes ≡ rest = ap (λ (p : List ℕ × List ℕ). p.1) g.1 in
-    rw (g.0, run-is, rest-is, is) refl
+    rw (g.0, taken-is, rest-is, is) refl
 
 -- fewer bytes are left
-pub run_in-short : (n : ℕ) (left bytes : List ℕ) → left ≡ bytes → length left < n → run_in n bytes ≡ None
-run_in-short n left bytes is few = let short : ltb (length bytes) n ≡ true = lt-ltb _ _ (rw (← is) few) in rw short refl
+pub bytes_in-short : (n : ℕ) (left bytes : List ℕ) → left ≡ bytes → length left < n → bytes_in n bytes ≡ None
+bytes_in-short n left bytes is few = let short : ltb (length bytes) n ≡ true = lt-ltb _ _ (rw (← is) few) in rw short refl
 
-pub run_in-again : (run rest : List ℕ) → run_in (length run) (run ++ rest) ≡ Some (run, rest)
-run_in-again run rest =
-    let long : ltb (length (run ++ rest)) (length run) ≡ false = le-ltb _ _ (omega (arith, length-append run rest)) in
-    rw (long, take_at run rest (length run) refl, drop_at run rest (length run) refl) refl
+pub bytes_in-again : (taken rest : List ℕ) → bytes_in (length taken) (taken ++ rest) ≡ Some (taken, rest)
+bytes_in-again taken rest =
+    let long : ltb (length (taken ++ rest)) (length taken) ≡ false = le-ltb _ _ (omega (arith, length-append taken rest)) in
+    rw (long, take_at taken rest (length taken) refl, drop_at taken rest (length taken) refl) refl
 
 pub number_in-takes : (w : Width) (limit : ℕ) (wide : IsReadAsWritten w limit) (bytes : List ℕ) (n : ℕ) (rest : List ℕ) → AreBytes bytes → number_in w bytes ≡ Some (n, rest) → Takes bytes (to_be_bytes w n) rest × (n < limit)
 number_in-takes w limit wide bytes n rest are e =

@@ -7,8 +7,8 @@ abbrev pub AreBytes : List ℕ → Type 0
 AreBytes bytes = (i : ℕ) → slice_index bytes i < 2 ^ 8
 
 -- the first n bytes
-abbrev pub run_in : ℕ → List ℕ → Option (List ℕ × List ℕ)
-run_in n bytes = if nat_lt (length bytes) n then None else Some (take n bytes, drop n bytes)
+abbrev pub bytes_in : ℕ → List ℕ → Option (List ℕ × List ℕ)
+bytes_in n bytes = if nat_lt (length bytes) n then None else Some (take n bytes, drop n bytes)
 
 -- the first byte
 abbrev pub byte_in : List ℕ → Option (ℕ × List ℕ)

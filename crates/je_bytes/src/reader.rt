@@ -1,7 +1,7 @@
 // Reading from the front of a slice.
 ghost use Rattle.std.specs.Prelude.{◌≡◌, OnErr, IfOk, Some, None};
 ghost use Rattle.std.specs.Int.{w16, w32, w64};
-ghost use Rattle.je_bytes.specs.Reading.{byte_in, number_in, run_in};
+ghost use Rattle.je_bytes.specs.Reading.{byte_in, number_in, bytes_in};
 
 use byteorder::{BigEndian, ByteOrder};
 use std::marker::Model;
@@ -42,16 +42,16 @@ impl<'a> Reader<'a> {
 
     /// The next `len` bytes. `Short` where fewer are left; the reader is then as before.
     pub fn take(&mut self, len: usize) -> Result<&'a [u8], Short>
-        ensures ok { IfOk result (λ run. run_in len self.old ≡ Some (run.now, self.new)) }
-        ensures short { OnErr result (run_in len self.old ≡ None) }
+        ensures ok { IfOk result (λ taken. bytes_in len self.old ≡ Some (taken.now, self.new)) }
+        ensures short { OnErr result (bytes_in len self.old ≡ None) }
         ensures unchanged { OnErr result (self.new ≡ self.old) }
     {
         if self.rest.len() < len {
             return Err(Short);
         }
-        let (run, rest) = self.rest.split_at(len);
+        let (taken, rest) = self.rest.split_at(len);
         self.rest = rest;
-        Ok(run)
+        Ok(taken)
     }
 
     /// The next byte. `Short` where none is left.
@@ -60,8 +60,8 @@ impl<'a> Reader<'a> {
         ensures short { OnErr result (byte_in self.old ≡ None) }
         ensures unchanged { OnErr result (self.new ≡ self.old) }
     {
-        let run = self.take(1)?;
-        Ok(run[0])
+        let taken = self.take(1)?;
+        Ok(taken[0])
     }
 
     /// The number in the next 2 bytes. `Short` where fewer are left; the reader is then as before.
@@ -70,8 +70,8 @@ impl<'a> Reader<'a> {
         ensures short { OnErr result (number_in w16 self.old ≡ None) }
         ensures unchanged { OnErr result (self.new ≡ self.old) }
     {
-        let run = self.take(2)?;
-        Ok(BigEndian::read_u16(run))
+        let taken = self.take(2)?;
+        Ok(BigEndian::read_u16(taken))
     }
 
     /// The number in the next 4 bytes. `Short` where fewer are left; the reader is then as before.
@@ -80,8 +80,8 @@ impl<'a> Reader<'a> {
         ensures short { OnErr result (number_in w32 self.old ≡ None) }
         ensures unchanged { OnErr result (self.new ≡ self.old) }
     {
-        let run = self.take(4)?;
-        Ok(BigEndian::read_u32(run))
+        let taken = self.take(4)?;
+        Ok(BigEndian::read_u32(taken))
     }
 
     /// The number in the next 8 bytes. `Short` where fewer are left; the reader is then as before.
@@ -90,7 +90,7 @@ impl<'a> Reader<'a> {
         ensures short { OnErr result (number_in w64 self.old ≡ None) }
         ensures unchanged { OnErr result (self.new ≡ self.old) }
     {
-        let run = self.take(8)?;
-        Ok(BigEndian::read_u64(run))
+        let taken = self.take(8)?;
+        Ok(BigEndian::read_u64(taken))
     }
 }

@@ -9,21 +9,21 @@ abbrev pub Files : Type 0
 Files = ℕ → Option (List ℕ)
 
 -- what a crash keeps of one file
-pub record Mark : Type 0 where
+pub record CrashState : Type 0 where
   -- these bytes stay, since the last sync that finished
   pub stable : List ℕ
   -- the greatest length since then
-  pub reach : ℕ
+  pub max_len : ℕ
   -- the file is there in any case
-  pub must : Bool
+  pub exists_always : Bool
   -- the file may be there
-  pub may : Bool
+  pub may_exist : Bool
 
 pub record State : Type 0 where
   pub reads : Files
-  pub marks : ℕ → Mark
-  -- the same marks, counted from the beginning of the sync that is out
-  pub job : Option (ℕ → Mark)
+  pub crash_states : ℕ → CrashState
+  -- the same crash states, counted from the beginning of the sync that is out
+  pub job : Option (ℕ → CrashState)
 
 -- the same values, but at one number
 abbrev pub put_at : {T : Type 0} → (ℕ → T) → ℕ → T → ℕ → T
@@ -35,32 +35,32 @@ content files f = unwrap_or (files f) []
 
 -- no file is there, and none was
 abbrev pub nothing : State
-nothing = record { reads = λ _. None; marks = λ _. record { stable = []; reach = 0; must = false; may = false }; job = None }
+nothing = record { reads = λ _. None; crash_states = λ _. record { stable = []; max_len = 0; exists_always = false; may_exist = false }; job = None }
 
--- the mark of a file that begins: a crash may leave it or not, with any bytes
-abbrev pub begun : Mark → Mark
-begun mark = record { stable = []; reach = mark.reach; must = mark.must; may = true }
+-- the crash state of a file that begins: a crash may leave it or not, with any bytes
+abbrev pub begun : CrashState → CrashState
+begun crash_state = record { stable = []; max_len = crash_state.max_len; exists_always = crash_state.exists_always; may_exist = true }
 
--- the mark of a file that has grown to a length
-abbrev pub grown : ℕ → Mark → Mark
-grown len mark = record { stable = mark.stable; reach = max mark.reach len; must = mark.must; may = true }
+-- the crash state of a file that has grown to a length
+abbrev pub grown : ℕ → CrashState → CrashState
+grown len crash_state = record { stable = crash_state.stable; max_len = max crash_state.max_len len; exists_always = crash_state.exists_always; may_exist = true }
 
--- the mark of a file that was cut to a length: the cut may be undone, with any bytes past it
-abbrev pub shortened : ℕ → Mark → Mark
-shortened len mark = record { stable = take len mark.stable; reach = mark.reach; must = mark.must; may = mark.may }
+-- the crash state of a file that was cut to a length: the cut may be undone, with any bytes past it
+abbrev pub shortened : ℕ → CrashState → CrashState
+shortened len crash_state = record { stable = take len crash_state.stable; max_len = crash_state.max_len; exists_always = crash_state.exists_always; may_exist = crash_state.may_exist }
 
--- the mark of a file that was removed: it may be there again as it was
-abbrev pub dropped : Mark → Mark
-dropped mark = record { stable = mark.stable; reach = mark.reach; must = false; may = mark.may }
+-- the crash state of a file that was removed: it may be there again as it was
+abbrev pub dropped : CrashState → CrashState
+dropped crash_state = record { stable = crash_state.stable; max_len = crash_state.max_len; exists_always = false; may_exist = crash_state.may_exist }
 
--- one file's mark was changed
-abbrev pub marked : ℕ → (Mark → Mark) → (ℕ → Mark) → ℕ → Mark
-marked f change marks = put_at marks f (change (marks f))
+-- one file's crash state was changed
+abbrev pub with_crash_state : ℕ → (CrashState → CrashState) → (ℕ → CrashState) → ℕ → CrashState
+with_crash_state f change crash_states = put_at crash_states f (change (crash_states f))
 
--- one file reads otherwise, and its marks are changed, those of the sync that is out too
-abbrev pub put_file : ℕ → Option (List ℕ) → (Mark → Mark) → State → State
+-- one file reads otherwise, and its crash states are changed, those of the sync that is out too
+abbrev pub put_file : ℕ → Option (List ℕ) → (CrashState → CrashState) → State → State
 put_file f file change s =
-    record { reads = put_at s.reads f file; marks = marked f change s.marks; job = option_map (marked f change) s.job }
+    record { reads = put_at s.reads f file; crash_states = with_crash_state f change s.crash_states; job = option_map (with_crash_state f change) s.job }
 
 -- an empty file is there, where none was
 abbrev pub created_by : Option (List ℕ) → ℕ → State → State
@@ -72,7 +72,7 @@ created f s = created_by (s.reads f) f s
 
 -- bytes stand at the end of a file, which is made where it was not there
 abbrev pub appended_by : Option (List ℕ) → ℕ → List ℕ → State → State
-appended_by None f bytes s = put_file f (Some bytes) (λ mark. grown (length bytes) (begun mark)) s
+appended_by None f bytes s = put_file f (Some bytes) (λ crash_state. grown (length bytes) (begun crash_state)) s
 appended_by (Some there) f bytes s = put_file f (Some (there ++ bytes)) (grown (length (there ++ bytes))) s
 
 abbrev pub appended : ℕ → List ℕ → State → State
@@ -94,26 +94,26 @@ removed_by (Some _) f s = put_file f None dropped s
 abbrev pub removed : ℕ → State → State
 removed f s = removed_by (s.reads f) f s
 
--- the mark of a file that a sync has made stable, or of one that is not there
-abbrev pub synced_mark : Option (List ℕ) → Mark
-synced_mark None = record { stable = []; reach = 0; must = false; may = false }
-synced_mark (Some there) = record { stable = there; reach = length there; must = true; may = true }
+-- the crash state of a file that a sync has made stable, or of one that is not there
+abbrev pub synced_crash_state : Option (List ℕ) → CrashState
+synced_crash_state None = record { stable = []; max_len = 0; exists_always = false; may_exist = false }
+synced_crash_state (Some there) = record { stable = there; max_len = length there; exists_always = true; may_exist = true }
 
--- the marks of files that a sync has made stable
-abbrev pub synced_marks : Files → ℕ → Mark
-synced_marks files f = synced_mark (files f)
+-- the crash states of files that a sync has made stable
+abbrev pub synced_crash_states : Files → ℕ → CrashState
+synced_crash_states files f = synced_crash_state (files f)
 
 -- a crash keeps what the files read as, and nothing else; a sync that is out takes nothing of it back
 abbrev pub synced : State → State
-synced s = record { reads = s.reads; marks = synced_marks s.reads; job = option_map (λ _. synced_marks s.reads) s.job }
+synced s = record { reads = s.reads; crash_states = synced_crash_states s.reads; job = option_map (λ _. synced_crash_states s.reads) s.job }
 
--- a sync is out: its marks are counted from what the files read as now
+-- a sync is out: its crash states are counted from what the files read as now
 abbrev pub job_begun : State → State
-job_begun s = record { reads = s.reads; marks = s.marks; job = Some (synced_marks s.reads) }
+job_begun s = record { reads = s.reads; crash_states = s.crash_states; job = Some (synced_crash_states s.reads) }
 
--- the sync that was out has finished: its marks are the disk's
+-- the sync that was out has finished: its crash states are the disk's
 abbrev pub job_ended : State → State
-job_ended s = record { reads = s.reads; marks = unwrap_or s.job s.marks; job = None }
+job_ended s = record { reads = s.reads; crash_states = unwrap_or s.job s.crash_states; job = None }
 
 -- a call was not begun, or is done
 abbrev pub IsEither : State → State → State → Type 0
@@ -125,8 +125,8 @@ IsPartOfAppend f bytes before s =
     (s ≡ before) ⊎ ((part : List ℕ) × (rest : List ℕ) × (bytes ≡ part ++ rest) × (s ≡ appended f part before))
 
 -- the numbers of files rise
-abbrev pub IsRising : List FileNo → Type 0
-IsRising numbers = IsStrictlyIncreasing (map (λ n. n.0) numbers)
+abbrev pub AreRisingNumbers : List FileNo → Type 0
+AreRisingNumbers numbers = IsStrictlyIncreasing (map (λ n. n.0) numbers)
 
 -- a file's number is among these exactly where the file is there
 abbrev pub IsListing : Files → List FileNo → Type 0

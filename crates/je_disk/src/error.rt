@@ -6,7 +6,7 @@ use std::alloc::AllocError;
 pub enum DiskErr {
     /// The disk did not do it; its count of faults rose, or stands at its last value.
     Failed,
-    /// Want of memory. The disk is as it was.
+    /// Out of memory. The disk is as it was.
     Memory,
 }
 

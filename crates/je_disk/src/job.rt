@@ -7,10 +7,10 @@ pub trait SyncJob {
     /// What comes of it.
     type Done: SyncDone + Send;
 
-    /// The number that was drawn for it.
+    /// The number that was allocated for it.
     ghost job_number: { Self → ℕ };
 
-    /// The number that was drawn for it.
+    /// The number that was allocated for it.
     fn number(&self) -> u64
         ensures { result ≡ job_number self.now };
 
@@ -38,10 +38,10 @@ pub trait ReadJob {
     /// What comes of it.
     type Done: ReadDone + Send;
 
-    /// The number that was drawn for it.
+    /// The number that was allocated for it.
     ghost job_number: { Self → ℕ };
 
-    /// The number that was drawn for it.
+    /// The number that was allocated for it.
     fn number(&self) -> u64
         ensures { result ≡ job_number self.now };
 

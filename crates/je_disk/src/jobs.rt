@@ -3,23 +3,23 @@ ghost use Rattle.std.specs.Prelude.{◌≡◌, ◌+◌, ◌-◌, ◌^◌, ◌↔
 
 use je_lsn::FileNo;
 
-/// The numbers of the jobs that are out, and the number that was drawn last: what each kind of disk keeps
-/// of its jobs.
+/// The numbers of the jobs that are out, and the number that was allocated last: what each kind of disk
+/// keeps of its jobs.
 #[derive(Debug, Drop)]
 pub struct Jobs {
-    drawn: u64,
+    last_job: u64,
     sync: Option<u64>,
     reading: Option<u64>,
     file: FileNo,
 }
 
 impl Jobs {
-    /// No number was drawn yet.
+    /// No number was allocated yet.
     pub fn new() -> Jobs
-        ensures { result ≡ record { drawn = 0; sync = None; reading = None; file = record { 0 = 0 } } }
+        ensures { result ≡ record { last_job = 0; sync = None; reading = None; file = record { 0 = 0 } } }
     {
         Jobs {
-            drawn: 0,
+            last_job: 0,
             sync: None,
             reading: None,
             file: FileNo(0),
@@ -40,27 +40,27 @@ impl Jobs {
         self.reading = None;
     }
 
-    /// The number after the last one that was drawn; none after 2^64 - 1.
+    /// The number after the last one that was allocated; none after 2^64 - 1.
     pub fn next(&self) -> Option<u64>
-        ensures some { IfSome result (λ number. number ≡ self.now.drawn + 1) }
-        ensures none { IsNone result ↔ (self.now.drawn ≡ 2 ^ 64 - 1) }
+        ensures some { IfSome result (λ number. number ≡ self.now.last_job + 1) }
+        ensures none { IsNone result ↔ (self.now.last_job ≡ 2 ^ 64 - 1) }
     {
-        self.drawn.checked_add(1)
+        self.last_job.checked_add(1)
     }
 
     /// A sync job of this number is out.
     pub fn begin_sync(&mut self, number: u64)
-        ensures { self.new ≡ record self.old { drawn = number; sync = Some number } }
+        ensures { self.new ≡ record self.old { last_job = number; sync = Some number } }
     {
-        self.drawn = number;
+        self.last_job = number;
         self.sync = Some(number);
     }
 
     /// A read job of this number is out, for this file.
     pub fn begin_reading(&mut self, number: u64, f: FileNo)
-        ensures { self.new ≡ record self.old { drawn = number; reading = Some number; file = f } }
+        ensures { self.new ≡ record self.old { last_job = number; reading = Some number; file = f } }
     {
-        self.drawn = number;
+        self.last_job = number;
         self.reading = Some(number);
         self.file = f;
     }

@@ -1,6 +1,6 @@
 //! The disk: what the log buffer asks of a folder of numbered log files. It stands on `je_lsn`. A disk
 //! may tell what it holds. Then its contract says of each call which state it leaves, and which states
-//! the disk passes on the way; an adapter over a real folder tells nothing. Every disk counts its
+//! the disk passes on the way; an adapter over a real folder is not observable. Every disk counts its
 //! faults, and says that it failed only where that count rose. Syncs and readings of whole files can be
 //! begun as jobs, which run outside the disk, and are ended on it or given up.
 #![tactic(auto)]

@@ -1,7 +1,8 @@
 // A store after changes, as a copy.
 ghost use Rattle.std.specs.Prelude.{◌≡◌, [], IfOk, map, if◌then◌else◌};
 ghost use Rattle.std.specs.Option.{option_copied};
-ghost use Rattle.je_model.specs.Store.{is_same as is_same_text, database_of, pairs_with, pairs_without, with_pairs, with_name, in_database, databases_with, databases_without, databases_renamed, changed, all_changed};
+ghost use Rattle.je_model.specs.Store.{database_of, pairs_with, pairs_without, with_pairs, with_name, in_database, databases_with, databases_without, databases_renamed, changed, all_changed};
+ghost use Rattle.je_order.specs.Order.{is_same_bytes as is_same_text};
 
 use crate::filtering::{copies_where, with_item};
 use je_model::{Change, Database, Kind, Store};

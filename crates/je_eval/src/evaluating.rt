@@ -14,8 +14,8 @@ use std::alloc::{AllocError, Global};
 
 /// What a call answers, and the store after it. This is the plain program that tests compare with: it
 /// walks and copies the whole store at each call, so it is for small stores. Of the refusals it knows
-/// NoDatabase alone: names that are taken, limits, log room and numbers are asked elsewhere. The one
-/// error is want of memory.
+/// NoDatabase alone: names that are taken, limits, log room and numbers are asked elsewhere. The only
+/// error is out of memory.
 pub fn eval(alloc: Global, store: &Store, call: &Call) -> Result<(Answer, Store), AllocError>
     ensures answer { IfOk result (λ r. r.0 ≡ (evaluation call.now store.now).answer) }
     ensures store { IfOk result (λ r. r.1 ≡ all_changed (evaluation call.now store.now).changes store.now) }

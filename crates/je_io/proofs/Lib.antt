@@ -1,1 +1,2 @@
-pub mod Flow
+-- Steps of reading and writing, joined.
+pub mod SourceSinkSteps

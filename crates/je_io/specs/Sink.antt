@@ -1,7 +1,7 @@
--- What writing does to the bytes that a sink has been given, where it tells them.
+-- What writing does to the bytes that a sink has been given, if it is observable.
 use Rattle.std.specs.Prelude.{◌≡◌, ℕ, List, ◌++◌, take, Option, Some, None}
 
--- what a sink that tells has written gains these bytes at its end; a sink that does not tell does not begin to
+-- what an observable sink has written gains these bytes at its end; an unobservable one stays unobservable
 abbrev pub Gains : Option (List ℕ) → Option (List ℕ) → List ℕ → Type 0
 Gains (Some before) (Some after) bytes = after ≡ before ++ bytes
 Gains (Some before) None bytes = ⊥

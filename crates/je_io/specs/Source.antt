@@ -1,4 +1,4 @@
--- What reading does to the bytes that a source has left, where it tells them.
+-- What reading does to the bytes that a source has left, if it is observable.
 use Rattle.std.specs.Prelude.{◌≡◌, ◌<◌, ◌≤◌, ◌+◌, ℕ, List, [], ◌++◌, length, take, drop, Option, Some, None}
 
 -- a read of `count` bytes into a piece: they are the next of what was left and stand at the piece's front, the rest of the
@@ -8,7 +8,7 @@ pub record IsRead (left rest before after : List ℕ) (count : ℕ) : Type 0 whe
   pub others : drop count after ≡ drop count before
   pub none_left : count ≡ 0 → 0 < length before → left ≡ []
 
--- a source that tells has read so and goes on telling; one that does not tell does not begin to
+-- an observable source has read so and stays observable; an unobservable one stays unobservable
 abbrev pub Takes : Option (List ℕ) → Option (List ℕ) → List ℕ → List ℕ → ℕ → Type 0
 Takes (Some left) (Some rest) before after count = IsRead left rest before after count
 Takes (Some left) None before after count = ⊥
@@ -22,20 +22,20 @@ pub record IsAllRead (left rest : List ℕ) (most : ℕ) (bytes : List ℕ) : Ty
   pub behind : rest ≡ drop (most + 1) left
   pub at_end : length bytes ≤ most → rest ≡ []
 
--- the same of a source that tells
+-- the same for an observable source
 abbrev pub TakesAll : Option (List ℕ) → Option (List ℕ) → ℕ → List ℕ → Type 0
 TakesAll (Some left) (Some rest) most bytes = IsAllRead left rest most bytes
 TakesAll (Some left) None most bytes = ⊥
 TakesAll None (Some rest) most bytes = ⊥
 TakesAll None None most bytes = Unit {0}
 
--- a source that tells has lost these bytes, the first that were left
+-- an observable source has lost these bytes, the first that were left
 abbrev pub Loses : Option (List ℕ) → Option (List ℕ) → List ℕ → Type 0
 Loses (Some left) (Some rest) taken = left ≡ taken ++ rest
 Loses (Some left) None taken = ⊥
 Loses None (Some rest) taken = ⊥
 Loses None None taken = Unit {0}
 
--- a source that tells has lost some bytes, the first that were left
+-- an observable source has lost some bytes, the first that were left
 abbrev pub LosesSome : Option (List ℕ) → Option (List ℕ) → Type 0
 LosesSome before after = (taken : List ℕ) × Loses before after taken

@@ -1,13 +1,13 @@
 //! Bytes from outside and bytes to outside: a `Source` is read, a `Sink` is written to. It stands on
 //! nothing. Both count their faults, and a fault is answered only where the count rose. The ones in
-//! memory tell their bytes, so that a contract above can say what was read and written; those over
-//! the runtime's input and output tell nothing, and the same code runs over either.
+//! memory are observable, so that a contract above can say what was read and written; those over the
+//! runtime's input and output are not, and the same code runs over either.
 #![tactic(auto)]
 
 pub mod failed;
+mod fault_plan;
 pub mod mem_sink;
 pub mod mem_source;
-mod meter;
 pub mod reading;
 pub mod sink;
 pub mod source;

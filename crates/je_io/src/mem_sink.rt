@@ -1,16 +1,16 @@
 // A sink in memory.
 ghost use Rattle.std.specs.Prelude.{◌≡◌, [], Some};
 
-use crate::meter::Meter;
+use crate::fault_plan::FaultPlan;
 use crate::{Failed, Sink};
 use std::alloc::Global;
 
-/// A sink that keeps in memory what was written. It tells it. Want of memory is a fault of it.
+/// A sink that keeps in memory what was written. It is observable. Out of memory is a fault of it.
 #[derive(Drop)]
 pub struct MemSink {
     bytes: Vec<u8>,
     room: usize,
-    meter: Meter,
+    plan: FaultPlan,
 }
 
 impl MemSink {
@@ -30,7 +30,7 @@ impl MemSink {
         MemSink {
             bytes: Vec::new(alloc),
             room,
-            meter: Meter::new(None),
+            plan: FaultPlan::new(None),
         }
     }
 
@@ -45,21 +45,21 @@ impl MemSink {
 impl Sink for MemSink {
     ghost written = { λ s. Some s.bytes.items };
 
-    ghost faults = { λ s. s.meter.faults };
+    ghost faults = { λ s. s.plan.faults };
 
     fn write(&mut self, from: &[u8]) -> Result<usize, Failed> {
         let count = self.room.min(from.len());
         if count == 0 && !from.is_empty() {
-            return Err(self.meter.fault());
+            return Err(self.plan.fault());
         }
         if self.bytes.extend_from_slice(&from[..count]).is_err() {
-            return Err(self.meter.fault());
+            return Err(self.plan.fault());
         }
         self.room -= count;
         Ok(count)
     }
 
     fn faults(&self) -> u64 {
-        self.meter.faults
+        self.plan.faults
     }
 }

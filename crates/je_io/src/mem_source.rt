@@ -1,15 +1,15 @@
 // A source in memory.
 ghost use Rattle.std.specs.Prelude.{◌≡◌, ◌<◌, Some};
 
-use crate::meter::Meter;
+use crate::fault_plan::FaultPlan;
 use crate::{Failed, Source};
 
-/// A source over bytes in memory. It tells what is left. It takes no memory.
+/// A source over bytes in memory. It is observable. It takes no memory.
 #[derive(Drop)]
 pub struct MemSource<'a> {
     rest: &'a [u8],
     most: usize,
-    meter: Meter,
+    plan: FaultPlan,
     ghost gives: { 0 < most },
 }
 
@@ -22,7 +22,7 @@ impl<'a> MemSource<'a> {
         MemSource {
             rest: bytes,
             most: usize::MAX,
-            meter: Meter::new(None),
+            plan: FaultPlan::new(None),
         }
     }
 
@@ -34,7 +34,7 @@ impl<'a> MemSource<'a> {
         MemSource {
             rest: bytes,
             most: usize::MAX,
-            meter: Meter::new(Some(good_reads)),
+            plan: FaultPlan::new(Some(good_reads)),
         }
     }
 
@@ -47,7 +47,7 @@ impl<'a> MemSource<'a> {
         MemSource {
             rest: bytes,
             most,
-            meter: Meter::new(None),
+            plan: FaultPlan::new(None),
         }
     }
 }
@@ -55,10 +55,10 @@ impl<'a> MemSource<'a> {
 impl<'a> Source for MemSource<'a> {
     ghost left = { λ s. Some s.rest.now };
 
-    ghost faults = { λ s. s.meter.faults };
+    ghost faults = { λ s. s.plan.faults };
 
     fn read(&mut self, into: &mut [u8]) -> Result<usize, Failed> {
-        self.meter.call()?;
+        self.plan.call()?;
         let count = self.most.min(self.rest.len()).min(into.len());
         let (front, rest) = self.rest.split_at(count);
         into[..count].copy_from_slice(front);
@@ -67,6 +67,6 @@ impl<'a> Source for MemSource<'a> {
     }
 
     fn faults(&self) -> u64 {
-        self.meter.faults
+        self.plan.faults
     }
 }

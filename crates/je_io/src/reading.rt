@@ -1,6 +1,6 @@
 // Reading a whole input.
 ghost use Rattle.std.specs.Prelude.{◌≡◌, ◌≤◌, ◌+◌, vec_len, IfOk, OnErr, IsErrOf};
-ghost use Rattle.je_io.specs.Faults.{Rose};
+ghost use Rattle.je_order.specs.Counts.{HasRisen};
 ghost use Rattle.je_io.specs.Source.{TakesAll, LosesSome};
 
 use crate::{Failed, Source};
@@ -11,7 +11,7 @@ use std::alloc::{AllocError, Global};
 pub enum ReadErr {
     /// A fault of the source; its count of faults rose.
     Failed,
-    /// Want of memory.
+    /// Out of memory.
     Memory,
 }
 
@@ -43,10 +43,10 @@ const PIECE: usize = 16_384;
 /// lost.
 pub fn read_all<S: Source>(alloc: Global, input: &mut S, most: usize) -> Result<Vec<u8>, ReadErr>
     ensures bound { IfOk result (λ bytes. vec_len bytes ≤ most + 1) }
-    ensures told { IfOk result (λ bytes. TakesAll (S.left input.old) (S.left input.new) most bytes.items) }
+    ensures observed { IfOk result (λ bytes. TakesAll (S.left input.old) (S.left input.new) most bytes.items) }
     ensures lost { OnErr result (LosesSome (S.left input.old) (S.left input.new)) }
     ensures never_falls { S.faults input.old ≤ S.faults input.new }
-    ensures cause { IsErrOf result ReadErr.Failed → Rose (S.faults input.old) (S.faults input.new) }
+    ensures cause { IsErrOf result ReadErr.Failed → HasRisen (S.faults input.old) (S.faults input.new) }
 {
     let mut bytes = Vec::new(alloc);
     let mut piece = [0u8; PIECE];

@@ -6,9 +6,9 @@ use crate::{Failed, Sink};
 use std::io;
 use std::io::Write;
 
-/// A sink over a writer of the runtime, as `std::io::writer(&rt)` is for the standard output. It tells
-/// nothing. Each error of the writer is a fault, and is counted; so is a write that takes no byte of a
-/// piece that has some.
+/// A sink over a writer of the runtime, as `std::io::writer(&rt)` is for the standard output. It is
+/// not observable. Each error of the writer is a fault, and is counted; so is a write that takes no
+/// byte of a piece that has some.
 #[derive(Drop)]
 pub struct StdSink<W: Write + Drop> {
     writer: W,

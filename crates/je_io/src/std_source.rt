@@ -4,8 +4,8 @@ ghost use Rattle.std.specs.Prelude.{◌≡◌, None};
 use crate::{Failed, Source};
 use std::io::Read;
 
-/// A source over a reader of the runtime, as `rt.reader()` is for the standard input. It tells
-/// nothing. Each error of the reader is a fault, and is counted.
+/// A source over a reader of the runtime, as `rt.reader()` is for the standard input. It is not
+/// observable. Each error of the reader is a fault, and is counted.
 #[derive(Drop)]
 pub struct StdSource<R: Read + Drop> {
     reader: R,

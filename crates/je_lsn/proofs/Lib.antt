@@ -1,1 +1,2 @@
-mod Digits
+-- A file's name is read back as its number.
+mod FileNames

@@ -22,7 +22,7 @@ name_of f =
     46 ∷ 106 ∷ 100 ∷ 98 ∷ []
 
 -- the number that a text's first eight characters show as hexadecimal digits
-abbrev pub number_of : List ℕ → ℕ
-number_of name =
+abbrev pub number_in_name : List ℕ → ℕ
+number_in_name name =
     (digit_value (slice_index name 0) * 0x1000 + digit_value (slice_index name 1) * 0x100 + digit_value (slice_index name 2) * 0x10 + digit_value (slice_index name 3)) * 0x10000
     + (digit_value (slice_index name 4) * 0x1000 + digit_value (slice_index name 5) * 0x100 + digit_value (slice_index name 6) * 0x10 + digit_value (slice_index name 7))

@@ -1,6 +1,6 @@
 // The names of log files.
 ghost use Rattle.std.specs.Prelude.{◌≡◌, ◌≢◌, ℕ, ◌<◌, ◌≤◌, IfSome, IsNone, length};
-ghost use Rattle.je_lsn.specs.Naming.{digit, digit_value, name_of, number_of, last_file};
+ghost use Rattle.je_lsn.specs.Naming.{digit, digit_value, name_of, number_in_name, last_file};
 
 use crate::FileNo;
 
@@ -50,7 +50,7 @@ pub fn file_name(f: FileNo) -> [u8; 12]
 
 fn number(name: &[u8]) -> u32
     requires { length name.now ≡ 12 }
-    ensures { result ≡ number_of name.now }
+    ensures { result ≡ number_in_name name.now }
 {
     let high = hex_value(name[0]) * 0x1000
         + hex_value(name[1]) * 0x100

@@ -8,7 +8,7 @@ use Rattle.std.proofs.lemmas.Bool.{cond_both}
 use Rattle.std.proofs.lemmas.Cmp.{nat_list_cmp_total}
 use Rattle.std.proofs.lemmas.Option.{none-some, same_Some}
 use Rattle.std.proofs.lemmas.List.Kept.{IsStrictlySortedBy-filter}
-use Rattle.je_order.specs.Order.{bytes_cmp}
+use Rattle.je_order.specs.Order.{bytes_cmp, is_same_bytes}
 use Rattle.je_order.specs.declared.name.Name.{Name}
 use Rattle.je_model.specs.declared.store.Store.{Store}
 use Rattle.je_model.specs.declared.store.Database.{Database}
@@ -16,29 +16,11 @@ use Rattle.je_model.specs.declared.store.Kind.{Kind}
 use Rattle.je_model.specs.declared.store.Kind.TheVariants.{Plain}
 use Rattle.je_model.specs.declared.change.Change.{Change}
 use Rattle.je_model.specs.declared.change.Change.TheVariants.{Set, Unset, Make, Remove, Rename, Empty}
-use Rattle.je_model.specs.Store.{is_same, no_databases, HasRisingKeys, IsStore, database_of, pairs_with, pairs_without, with_pairs, with_name, in_database, databases_with, databases_without, databases_renamed, changed}
+use Rattle.je_model.specs.Store.{no_databases, HasRisingKeys, IsStore, database_of, pairs_with, pairs_without, with_pairs, with_name, in_database, databases_with, databases_without, databases_renamed, changed}
+use Rattle.je_order.proofs.Lists.{all_weaker, all_append, all_kept, filter_all_pass}
+use Rattle.je_order.proofs.Orderings.{less_from_test, greater_from_test}
 
 -- ---- each element
-
-all_weaker : {X : Type 0} (P Q : X → Type 0) → ((x : X) → P x → Q x) → (xs : List X) → AllByRecursion P xs → AllByRecursion Q xs
-all_weaker P Q weaker [] h = tt
-all_weaker P Q weaker (x ∷ xs) h = (weaker x h.0, all_weaker P Q weaker xs h.1)
-
-all_append : {X : Type 0} (P : X → Type 0) (xs ys : List X) → AllByRecursion P xs → AllByRecursion P ys → AllByRecursion P (xs ++ ys)
-all_append P [] ys h k = k
-all_append P (x ∷ xs) ys h k = (h.0, all_append P xs ys h.1 k)
-
-all_filter : {X : Type 0} (P : X → Type 0) (p : X → Bool) (xs : List X) → AllByRecursion P xs → AllByRecursion P (filter p xs)
-all_filter P p [] h = tt
-all_filter P p (x ∷ xs) h =
-    let rest = all_filter P p xs h.1 in
-    cond_both (p x) (x ∷ filter p xs) (filter p xs) (λ l. AllByRecursion P l) (λ e. (h.0, rest)) (λ e. rest)
-
-filter_all_pass : {X : Type 0} (p : X → Bool) (xs : List X) → AllByRecursion (λ x. p x ≡ true) (filter p xs)
-filter_all_pass p [] = tt
-filter_all_pass p (x ∷ xs) =
-    let rest = filter_all_pass p xs in
-    cond_both (p x) (x ∷ filter p xs) (filter p xs) (λ l. AllByRecursion (λ y. p y ≡ true) l) (λ e. (e, rest)) (λ e. rest)
 
 found_if : {X : Type 0} (P : X → Type 0) (b : Bool) (y x : X) (rest : Option X) → cond b (Some y) rest ≡ Some x → P y → (rest ≡ Some x → P x) → P x
 found_if P true y x rest h here more = subst P (same_Some y x h) here
@@ -53,16 +35,6 @@ found P p (y ∷ ys) x h all = found_if P (p y) y x (find p ys) h all.0 (λ e. f
 
 bytes_total : IsTotalOrder bytes_cmp
 bytes_total = nat_list_cmp_total
-
-less_from_test : (o : Ordering) → is_lt o ≡ true → o ≡ Less
-less_from_test Less h = refl
-less_from_test Equal h = cc
-less_from_test Greater h = cc
-
-greater_from_test : (o : Ordering) → is_gt o ≡ true → o ≡ Greater
-greater_from_test Less h = cc
-greater_from_test Equal h = cc
-greater_from_test Greater h = refl
 
 flipped : (a b : List ℕ) → bytes_cmp a b ≡ Greater → bytes_cmp b a ≡ Less
 flipped a b h = bytes_total.antisymm b a ∙ ap ordering_reverse h
@@ -105,7 +77,7 @@ keys_set : (kind : Kind) (at : Name) (value : List ℕ) (pairs : List (List ℕ 
 keys_set Plain at value pairs up = put_between (λ (p : List ℕ × List ℕ). p.0) (at.key, value) pairs up
 
 keys_unset : (kind : Kind) (at : Name) (pairs : List (List ℕ × List ℕ)) → HasRisingKeys pairs → HasRisingKeys (pairs_without kind at pairs)
-keys_unset Plain at pairs up = IsStrictlySortedBy-filter (on (λ (p : List ℕ × List ℕ). p.0) bytes_cmp) (λ p. not (is_same p.0 at.key)) pairs up
+keys_unset Plain at pairs up = IsStrictlySortedBy-filter (on (λ (p : List ℕ × List ℕ). p.0) bytes_cmp) (λ p. not (is_same_bytes p.0 at.key)) pairs up
 
 -- ---- databases
 
@@ -137,10 +109,10 @@ keys_along c step (d ∷ ds) h = (step d h.0, keys_along c step ds h.1)
 in_database_right : (db : List ℕ) (pairs : Database → List (List ℕ × List ℕ)) → ((d : Database) → HasRisingKeys d.pairs → HasRisingKeys (pairs d)) →
     (store : Store) → IsStore store → IsStore (record { databases = in_database db (λ d. with_pairs d (pairs d)) store.databases })
 in_database_right db pairs step store right =
-    let c : Database → Database = λ d. cond (is_same d.name db) (with_pairs d (pairs d)) d in
+    let c : Database → Database = λ d. cond (is_same_bytes d.name db) (with_pairs d (pairs d)) d in
     record {
-      names = names_along c (λ d. name_same (is_same d.name db) d (pairs d)) store.databases right.names;
-      keys = keys_along c (λ d up. keys_either (is_same d.name db) d (pairs d) (step d up) up) store.databases right.keys;
+      names = names_along c (λ d. name_same (is_same_bytes d.name db) d (pairs d)) store.databases right.names;
+      keys = keys_along c (λ d up. keys_either (is_same_bytes d.name db) d (pairs d) (step d up) up) store.databases right.keys;
     }
 
 -- one database more
@@ -152,16 +124,16 @@ with_database_right new databases keys right =
     let P : Database → Type 0 = λ d. HasRisingKeys d.pairs in
     record {
       names = put_between (λ (d : Database). d.name) new databases right.names;
-      keys = all_append P (filter low databases) (new ∷ filter high databases) (all_filter P low databases right.keys) (keys, all_filter P high databases right.keys);
+      keys = all_append P (filter low databases) (new ∷ filter high databases) (all_kept P low databases right.keys) (keys, all_kept P high databases right.keys);
     }
 
 -- one database less
 without_database_right : (name : List ℕ) (databases : List Database) → IsStore (record { databases = databases }) → IsStore (record { databases = databases_without name databases })
 without_database_right name databases right =
-    let other : Database → Bool = λ d. not (is_same d.name name) in
+    let other : Database → Bool = λ d. not (is_same_bytes d.name name) in
     record {
       names = IsStrictlySortedBy-filter (on (λ (d : Database). d.name) bytes_cmp) other databases right.names;
-      keys = all_filter (λ d. HasRisingKeys d.pairs) other databases right.keys;
+      keys = all_kept (λ d. HasRisingKeys d.pairs) other databases right.keys;
     }
 
 -- one database under another name
@@ -186,6 +158,6 @@ changed_is_right (Make db kind) store right =
     with_database_right new store.databases keys_nil (record { names = right.names; keys = right.keys })
 changed_is_right (Remove db) store right = without_database_right db store.databases (record { names = right.names; keys = right.keys })
 changed_is_right (Rename db to) store right =
-    renamed_right (database_of db store) to store.databases (λ d e. found (λ (x : Database). HasRisingKeys x.pairs) (λ x. is_same x.name db) store.databases d e right.keys)
+    renamed_right (database_of db store) to store.databases (λ d e. found (λ (x : Database). HasRisingKeys x.pairs) (λ x. is_same_bytes x.name db) store.databases d e right.keys)
     (record { names = right.names; keys = right.keys })
 changed_is_right (Empty db) store right = in_database_right db (λ d. []) (λ d up. keys_nil) store right

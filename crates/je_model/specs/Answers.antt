@@ -28,19 +28,19 @@ pub record LogRule : Type 0 where
 -- where an environment stands between two events
 pub record Standing : Type 0 where
   pub store : Store  -- the store that calls see
-  pub last_txn : ℕ  -- the transaction number drawn last
-  pub last_db : ℕ  -- the database number drawn last
+  pub last_txn : ℕ  -- the transaction number allocated last
+  pub last_db : ℕ  -- the database number allocated last
   pub log_end : LogEnd  -- where the log ends
   pub commits : ℕ  -- how many transactions were committed since opening
   pub begun : Option ℕ  -- how many of them when the sync under way began
   pub fault : Option Fault  -- the first fault, after which each call is Invalid
 
--- the number drawn next stays at the last one
+-- the number allocated next stays at the last one
 abbrev pub next_txn : ℕ → ℕ
 next_txn last = if nat_lt last LAST_TXN then last + 1 else last
 
--- how many database numbers changes draw: one for each database that is made, and one for each that is emptied, which
--- goes on under a new number
+-- how many database numbers changes allocate: one for each database that is made, and one for each that is emptied, which goes on under a
+-- new number
 abbrev pub made_by : List Change → ℕ
 made_by [] = 0
 made_by (Set db at value ∷ changes) = made_by changes

@@ -7,8 +7,8 @@ use Rattle.je_model.specs.declared.answer.Answer.{Answer}
 use Rattle.je_model.specs.declared.answer.Answer.TheVariants.{Done, Logged, Durable, DiskFault, LogFull, IdsEnded}
 use Rattle.je_model.specs.declared.event.Event.{Event}
 use Rattle.je_model.specs.declared.event.Event.TheVariants.{Call as Called, SyncBegin, SyncEnd}
-use Rattle.je_model.specs.declared.plan.Given.{Given}
-use Rattle.je_model.specs.declared.plan.Given.TheVariants.{Session}
+use Rattle.je_model.specs.declared.plan.ScriptLine.{ScriptLine}
+use Rattle.je_model.specs.declared.plan.ScriptLine.TheVariants.{Session}
 use Rattle.je_model.specs.Store.{store_after}
 use Rattle.je_model.specs.Evaluation.{evaluation}
 
@@ -101,12 +101,12 @@ AreSyncedAtOnce [] = Unit {0}
 AreSyncedAtOnce (event ∷ events) = IsSyncedAtOnce event events × AreSyncedAtOnce events
 
 -- the line of a script that an event was given by, if any
-abbrev pub line_of : Event → List Given
+abbrev pub line_of : Event → List ScriptLine
 line_of (Called session line call answer) = Session session line call ∷ []
 line_of event = []
 
 -- the lines that a journal holds, in order
-abbrev pub lines_of : List Event → List Given
+abbrev pub lines_of : List Event → List ScriptLine
 lines_of journal = flat_map line_of journal
 
 -- whether an answer of a kind stands in the journal

@@ -3,7 +3,7 @@ use Rattle.std.specs.Prelude.{ℕ, ◌++◌, ◌∷◌, [], List, Option, None, 
 use Rattle.std.specs.List.{AllByRecursion}
 use Rattle.std.specs.List.Sorted.{IsStrictlySortedBy}
 use Rattle.std.specs.Ordering.{is_eq, is_lt, is_gt, on}
-use Rattle.je_order.specs.Order.{bytes_cmp}
+use Rattle.je_order.specs.Order.{bytes_cmp, is_same_bytes}
 use Rattle.je_order.specs.declared.name.Name.{Name}
 use Rattle.je_model.specs.declared.store.Store.{Store}
 use Rattle.je_model.specs.declared.store.Database.{Database}
@@ -11,10 +11,6 @@ use Rattle.je_model.specs.declared.store.Kind.{Kind}
 use Rattle.je_model.specs.declared.store.Kind.TheVariants.{Plain}
 use Rattle.je_model.specs.declared.change.Change.{Change}
 use Rattle.je_model.specs.declared.change.Change.TheVariants.{Set, Unset, Make, Remove, Rename, Empty}
-
--- whether two byte strings are the same
-abbrev pub is_same : List ℕ → List ℕ → Bool
-is_same a b = is_eq (bytes_cmp a b)
 
 -- the store of a new environment
 abbrev pub no_databases : Store
@@ -31,11 +27,11 @@ pub record IsStore (store : Store) : Type 0 where
 
 -- the database of that name
 abbrev pub database_of : List ℕ → Store → Option Database
-database_of name store = find (λ d. is_same d.name name) store.databases
+database_of name store = find (λ d. is_same_bytes d.name name) store.databases
 
 -- the record of that key, as a pair of key and data
 abbrev pub pair_at : List ℕ → List (List ℕ × List ℕ) → Option (List ℕ × List ℕ)
-pair_at key pairs = find (λ p. is_same p.0 key) pairs
+pair_at key pairs = find (λ p. is_same_bytes p.0 key) pairs
 
 -- the records with a name set to data: in a plain database each key has one record
 abbrev pub pairs_with : Kind → Name → List ℕ → List (List ℕ × List ℕ) → List (List ℕ × List ℕ)
@@ -44,7 +40,7 @@ pairs_with Plain at value pairs =
 
 -- the records without a name
 abbrev pub pairs_without : Kind → Name → List (List ℕ × List ℕ) → List (List ℕ × List ℕ)
-pairs_without Plain at pairs = filter (λ p. not (is_same p.0 at.key)) pairs
+pairs_without Plain at pairs = filter (λ p. not (is_same_bytes p.0 at.key)) pairs
 
 -- a database with other records
 abbrev pub with_pairs : Database → List (List ℕ × List ℕ) → Database
@@ -56,7 +52,7 @@ with_name d name = record { name = name; kind = d.kind; pairs = d.pairs }
 
 -- the databases, with the one of that name changed
 abbrev pub in_database : List ℕ → (Database → Database) → List Database → List Database
-in_database name change databases = map (λ d. if is_same d.name name then change d else d) databases
+in_database name change databases = map (λ d. if is_same_bytes d.name name then change d else d) databases
 
 -- the databases and one more, in order of the names
 abbrev pub databases_with : Database → List Database → List Database
@@ -65,7 +61,7 @@ databases_with new databases =
 
 -- the databases without the one of that name
 abbrev pub databases_without : List ℕ → List Database → List Database
-databases_without name databases = filter (λ d. not (is_same d.name name)) databases
+databases_without name databases = filter (λ d. not (is_same_bytes d.name name)) databases
 
 -- the databases with one of them, if it is there, under another name
 abbrev pub databases_renamed : Option Database → List ℕ → List Database → List Database

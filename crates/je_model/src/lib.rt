@@ -24,7 +24,7 @@ pub use durability::Durability;
 pub use event::Event;
 pub use isolation::Isolation;
 pub use laws::stores_stay_right;
-pub use plan::{Given, RunPlan};
+pub use plan::{RunPlan, ScriptLine};
 pub use record_change::RecordChange;
 pub use store::{
     Database, KEY_LIMIT, Kind, LAST_DATABASE, LAST_TXN, MOST_DATABASES, Store, VALUE_LIMIT,

@@ -1,3 +1,5 @@
 pub mod Order
 pub mod Edges
 pub mod Words
+pub mod Counts
+pub mod Transactions

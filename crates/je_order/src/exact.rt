@@ -10,7 +10,7 @@ pub trait Exact: Clone {
     ghost exact: { (x y : Self) → Self.is_clone x y → y ≡ x };
 }
 
-/// A copy. The one error is want of memory, and nothing is changed by it.
+/// A copy. The only error is out of memory, and nothing is changed by it.
 pub fn copy_of<T: Exact>(x: &T) -> Result<T, AllocError>
     ensures { IfOk result (λ copy. copy ≡ x.now) }
 {

@@ -65,7 +65,7 @@ impl<T> List<T> {
         self.items.is_empty()
     }
 
-    /// Puts an item at the end. Want of memory changes nothing, and hands the item back.
+    /// Puts an item at the end. Running out of memory changes nothing, and hands the item back.
     pub fn push(&mut self, item: T) -> Result<(), AllocFailed<T>>
         ensures ok { OnOk result (self.new ≡ self.old ++ item ∷ []) }
         ensures err { OnErr result (self.new ≡ self.old) }

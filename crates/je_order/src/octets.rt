@@ -72,7 +72,7 @@ impl Octets {
         self.bytes.is_empty()
     }
 
-    /// Puts a byte at the end. Want of memory changes nothing.
+    /// Puts a byte at the end. Running out of memory changes nothing.
     pub fn push(&mut self, byte: u8) -> Result<(), AllocError>
         ensures ok { OnOk result (self.new ≡ self.old ++ byte ∷ []) }
         ensures err { OnErr result (self.new ≡ self.old) }

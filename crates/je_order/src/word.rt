@@ -45,7 +45,7 @@ impl Word {
         !text.is_empty() && text.len() <= 64 && are_word_bytes(text)
     }
 
-    /// The text as a database's name; the one error is want of memory.
+    /// The text as a database's name; the only error is out of memory.
     pub fn from_slice(alloc: Global, text: &[u8]) -> Result<Word, AllocError>
         requires { IsTrue (is_word text.now) }
         ensures { IfOk result (λ word. word ≡ text.now) }

@@ -4,9 +4,9 @@ use Rattle.std.proofs.lemmas.Bool.{eq-eqb}
 use Rattle.log_entry.specs.declared.entry.Entry.{Entry}
 use Rattle.log_file.specs.Log.{Log, IsLog, entries_of}
 use Rattle.log_buffer.specs.Log.{EndsAt, log_with}
-use Rattle.log_buffer.proofs.Logs.{AreBelow, below_last, below_more, below_push, with_last, with_next, entries_with_last, entries_with_next}
+use Rattle.log_buffer.proofs.LogChanges.{AreBelow, below_last, below_more, below_push, with_last, with_next, entries_with_last, entries_with_next}
 use Rattle.log_replay.specs.Reading.{gap_behind, gap_in}
-use Rattle.je_program.specs.Environment.{IsWhole}
+use Rattle.je_program.specs.Environment.{IsWholeLog}
 
 -- the numbers of a log's files
 abbrev numbers : Log → List ℕ
@@ -40,15 +40,15 @@ gap_push (m ∷ ns) n h = gap_behind_push m n ns h
 
 -- the last file, or the next one, has an entry more
 pub record Grows (log : Log) (f : ℕ) (entry : Entry) : Type 0 where
-  pub whole : IsWhole (log_with f entry log)
+  pub whole : IsWholeLog (log_with f entry log)
   pub entries : entries_of (log_with f entry log) ≡ entries_of log ++ entry ∷ []
 
-grows_by : (before : Log) (file : ℕ) (entries : List Entry) (f : ℕ) (entry : Entry) → IsLog (before ++ (file, entries) ∷ []) → IsWhole (before ++ (file, entries) ∷ []) →
+grows_by : (before : Log) (file : ℕ) (entries : List Entry) (f : ℕ) (entry : Entry) → IsLog (before ++ (file, entries) ∷ []) → IsWholeLog (before ++ (file, entries) ∷ []) →
     (f ≡ file) ⊎ (f ≡ file + 1) → Grows (before ++ (file, entries) ∷ []) f entry
 grows_by before file entries f entry is_log whole (inl same) =
     let below : AreBelow file before = below_last before (file, entries) is_log in
     let here : Grows (before ++ (file, entries) ∷ []) file entry = record {
-      whole = subst (λ (l : Log). IsWhole l) (sym (with_last before file entries entry below))
+      whole = subst (λ (l : Log). IsWholeLog l) (sym (with_last before file entries entry below))
           (subst (λ (ns : List ℕ). gap_in ns ≡ None) (numbers_push before file entries ∙ sym (numbers_push before file (entries ++ entry ∷ []))) whole);
       entries = entries_with_last before file entries entry below;
     } in
@@ -57,14 +57,14 @@ grows_by before file entries f entry is_log whole (inr next) =
     let log : Log = before ++ (file, entries) ∷ [] in
     let below : AreBelow (file + 1) log = below_push (file + 1) before (file, entries) (below_more file (file + 1) before (omega arith) (below_last before (file, entries) is_log)) (omega arith) in
     let here : Grows log (file + 1) entry = record {
-      whole = subst (λ (l : Log). IsWhole l) (sym (with_next log (file + 1) entry below))
+      whole = subst (λ (l : Log). IsWholeLog l) (sym (with_next log (file + 1) entry below))
           (subst (λ (ns : List ℕ). gap_in ns ≡ None) (ap (λ ns. ns ++ (file + 1) ∷ []) (sym (numbers_push before file entries)) ∙ sym (numbers_push log (file + 1) (entry ∷ [])))
           (gap_push (numbers before) file (subst (λ (ns : List ℕ). gap_in ns ≡ None) (numbers_push before file entries) whole)));
       entries = entries_with_next log (file + 1) entry below;
     } in
     subst (λ n. Grows log n entry) (sym next) here
 
-pub grows : (log : Log) (file offset last f : ℕ) (entry : Entry) → IsLog log → EndsAt log file offset last → IsWhole log → (f ≡ file) ⊎ (f ≡ file + 1) → Grows log f entry
+pub grows : (log : Log) (file offset last f : ℕ) (entry : Entry) → IsLog log → EndsAt log file offset last → IsWholeLog log → (f ≡ file) ⊎ (f ≡ file + 1) → Grows log f entry
 grows log file offset last f entry is_log ends whole at =
     subst (λ (l : Log). Grows l f entry) (sym ends.log_is)
-    (grows_by ends.before file ends.entries f entry (subst (λ (l : Log). IsLog l) ends.log_is is_log) (subst (λ (l : Log). IsWhole l) ends.log_is whole) at)
+    (grows_by ends.before file ends.entries f entry (subst (λ (l : Log). IsLog l) ends.log_is is_log) (subst (λ (l : Log). IsWholeLog l) ends.log_is whole) at)

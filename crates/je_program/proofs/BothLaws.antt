@@ -2,14 +2,14 @@
 use Rattle.std.proofs.Common.{◌≡◌, ℕ, ◌≤◌, Bool, true, [], ◌∷◌, None, ap, sym, ◌∙◌, subst}
 use Rattle.je_disk.specs.States.{State}
 use Rattle.je_disk.specs.Moments.{History, now}
-use Rattle.je_disk.proofs.Moments.{passes_weaken}
+use Rattle.je_disk.proofs.MomentLaws.{passes_weaken}
 use Rattle.log_entry.specs.declared.entry.Entry.{Entry}
 use Rattle.log_entry.specs.Body.{IsEntry}
-use Rattle.log_entry.specs.Spelling.{size_of}
+use Rattle.log_entry.specs.Encoding.{size_of}
 use Rattle.log_file.specs.Log.{Log}
 use Rattle.log_file.specs.Scan.{may_follow}
 use Rattle.log_buffer.specs.declared.buffer.LogBuffer.{LogBuffer}
-use Rattle.log_buffer.specs.declared.place.Place.{Place}
+use Rattle.log_buffer.specs.declared.log_pos.LogPos.{LogPos}
 use Rattle.log_buffer.specs.Buffer.{end_of, file_max_of, first_of, last_of}
 use Rattle.log_buffer.specs.Crash.{Holds, IsKeptSince, KeepsRead, KeptThrough}
 use Rattle.log_buffer.specs.Flip.{end_after, end_after_all, placed_at}
@@ -23,16 +23,16 @@ use Rattle.je_program.specs.Guarded.{IsKeeping}
 use Rattle.je_program.proofs.GrownLaws.{IsLongerByBoth, longer_by_both}
 
 -- what is kept of a log is kept of the log with both
-pub both_read : (most : ℕ) (end : Place) (a b : Entry) (log : Log) (least : ℕ) (s : State) → IsLongerByBoth most end a b log → KeepsRead log [] least s → KeepsRead (log_with_all most end (a ∷ b ∷ []) log) [] least s
+pub both_read : (most : ℕ) (end : LogPos) (a b : Entry) (log : Log) (least : ℕ) (s : State) → IsLongerByBoth most end a b log → KeepsRead log [] least s → KeepsRead (log_with_all most end (a ∷ b ∷ []) log) [] least s
 both_read most end a b log least s both k = read_with_all log [] end most least (a ∷ b ∷ []) s both.ends k
 
 module _ {D : Type 0} where
-  -- over a disk that tells
-  pub as_told : (tells : Bool) (state : State) (buffer : LogBuffer D) (log : Log) → tells ≡ true → HasLog true state buffer log → HasLog tells state buffer log
-  as_told tells state buffer log told has = subst (λ (t : Bool). HasLog t state buffer log) (sym told) has
+  -- over an observable disk
+  pub as_observed : (observable : Bool) (state : State) (buffer : LogBuffer D) (log : Log) → observable ≡ true → HasLog true state buffer log → HasLog observable state buffer log
+  as_observed observable state buffer log observed has = subst (λ (t : Bool). HasLog t state buffer log) (sym observed) has
 
-  pub of_told : (tells : Bool) (state : State) (buffer : LogBuffer D) (log : Log) → tells ≡ true → HasLog tells state buffer log → HasLog true state buffer log
-  of_told tells state buffer log told has = subst (λ (t : Bool). HasLog t state buffer log) told has
+  pub of_observed : (observable : Bool) (state : State) (buffer : LogBuffer D) (log : Log) → observable ≡ true → HasLog observable state buffer log → HasLog true state buffer log
+  of_observed observable state buffer log observed has = subst (λ (t : Bool). HasLog t state buffer log) observed has
 
   -- a buffer's log with both entries
   pub both_of : (state : State) (buffer : LogBuffer D) (a b : Entry) (log : Log) (least : ℕ) → IsKeeping state buffer log least None → IsEntry a × IsEntry b → (may_follow a ≡ true) × (may_follow b ≡ true) →

@@ -20,26 +20,26 @@ use Rattle.je_model.specs.Store.{all_changed, store_after}
 use Rattle.je_model.specs.Answers.{Standing, after_call, after_event, after_events}
 use Rattle.je_model.specs.Evaluation.{evaluation, plain_name}
 use Rattle.je_model.specs.Journal.{attempt_of, attempts_of, durable_by, is_logged, synced_of}
-use Rattle.je_model.proofs.Journal.{after_events-append, store_after-append}
+use Rattle.je_model.proofs.JournalLaws.{after_events-append, store_after-append}
 use Rattle.log_entry.specs.declared.entry.Entry.{Entry}
 use Rattle.log_entry.specs.declared.entry.Entry.TheVariants.{Commit}
 use Rattle.log_file.specs.Log.{Log, entries_of}
 use Rattle.log_buffer.specs.declared.buffer.LogBuffer.{LogBuffer}
-use Rattle.log_buffer.specs.declared.place.Place.{Place}
+use Rattle.log_buffer.specs.declared.log_pos.LogPos.{LogPos}
 use Rattle.log_buffer.specs.Crash.{FilesStay, KeepsRead, KeptThrough}
 use Rattle.log_buffer.specs.Buffer.{has_failed, last_of}
 use Rattle.log_buffer.specs.Flip.{end_after_all}
 use Rattle.log_buffer.specs.Log.{EndsAt}
-use Rattle.log_buffer.proofs.KeptSyncs.{count_kept}
+use Rattle.log_buffer.proofs.CrashSync.{count_kept}
 use Rattle.log_buffer.proofs.Staying.{read_through}
 use Rattle.log_replay.specs.Kept.{IsKept as KeepsRecords, MayBeLogged, entries_with}
-use Rattle.log_replay.specs.Logging.{entry_of}
-use Rattle.log_replay.proofs.LoggedLaws.{follows-entry_of}
+use Rattle.log_replay.specs.Logging.{change_entry}
+use Rattle.log_replay.proofs.LoggedLaws.{follows-change_entry}
 use Rattle.log_replay.specs.Replay.{replayed, nothing_replayed}
-use Rattle.log_replay.specs.Rows.{Row, Rows, data_at, number_in, rows_in}
+use Rattle.log_replay.specs.Rows.{Row, Rows, data_at, catalog_number, rows_in}
 use Rattle.crash_meaning.specs.Reading.{HasNoGap}
 use Rattle.crash_meaning.specs.Recovery.{Recovers, commits_in}
-use Rattle.crash_meaning.proofs.Recoveries.{commits-front, longer_logs_recover}
+use Rattle.crash_meaning.proofs.RecoveryLaws.{commits-front, longer_logs_recover}
 use Rattle.log_buffer.specs.Growth.{log_with_all}
 use Rattle.je_program.specs.declared.kept.Kept.{Kept}
 use Rattle.je_program.specs.Environment.{IsAt, IsAtEnd, IsValid, log_rule, place_of, log_end_of}
@@ -61,11 +61,11 @@ use Rattle.je_program.proofs.SafeLaws.{fault_stands, guarded_on, log_after-appen
 -- the number of the database is the one that the change may be logged in
 number_is : (rows kept : Rows) (last_db number : ℕ) (change : Change) → rows 0 ≡ kept 0 → MayBeLogged kept last_db number change → number_for rows last_db change ≡ number
 number_is rows kept last_db number (Set db at value) same may =
-    ap (λ (r : List Row). unwrap_or (option_map number_in (data_at (plain_name db) r)) 0) same
-    ∙ ap (λ (o : Option (List ℕ)). unwrap_or (option_map number_in o) 0) may.0.1 ∙ may.0.2
+    ap (λ (r : List Row). unwrap_or (option_map catalog_number (data_at (plain_name db) r)) 0) same
+    ∙ ap (λ (o : Option (List ℕ)). unwrap_or (option_map catalog_number o) 0) may.0.1 ∙ may.0.2
 number_is rows kept last_db number (Unset db at) same may =
-    ap (λ (r : List Row). unwrap_or (option_map number_in (data_at (plain_name db) r)) 0) same
-    ∙ ap (λ (o : Option (List ℕ)). unwrap_or (option_map number_in o) 0) may.0.1 ∙ may.0.2
+    ap (λ (r : List Row). unwrap_or (option_map catalog_number (data_at (plain_name db) r)) 0) same
+    ∙ ap (λ (o : Option (List ℕ)). unwrap_or (option_map catalog_number o) 0) may.0.1 ∙ may.0.2
 number_is rows kept last_db number (Make db kind) same may = sym may.3
 number_is rows kept last_db number (Remove db) same may = absurd may
 number_is rows kept last_db number (Rename db to) same may = absurd may
@@ -82,7 +82,7 @@ call_log most st kept call number change log max txn db end changes rows may =
     ∙ ap (λ (n : ℕ). log_with_all most (place_of st.log_end) (entries_logged (st.last_txn + 1) n change) log)
     (ap (λ (d : ℕ). number_for there d change) (sym db) ∙ number_is there (rows_in kept.rows) kept.last_db number change rows may)
     ∙ ap (λ (t : ℕ). log_with_all most (place_of st.log_end) (entries_logged (t + 1) number change) log) (sym txn)
-    ∙ ap (λ (p : Place). log_with_all most p (entries_logged (kept.last_txn + 1) number change) log) (ap place_of (sym end))
+    ∙ ap (λ (p : LogPos). log_with_all most p (entries_logged (kept.last_txn + 1) number change) log) (ap place_of (sym end))
     ∙ ap (λ (m : ℕ). log_with_all m kept.end (entries_logged (kept.last_txn + 1) number change) log) (sym max)
 
 -- ---- a call that was to be logged
@@ -100,7 +100,7 @@ module _ {D : Type 0} where
   pub attempted : (most : ℕ) (st : Standing) (log : Log) (start : History) (history : History) (buffer : LogBuffer D) (kept : Kept) (journal : List Event) (call : Call) (number : ℕ) (change : Change) (totals : Totals) →
       IsAt most true (now history) buffer kept (after_events (log_rule most) st journal) → (after_events (log_rule most) st journal).fault ≡ None →
       (g : IsGuarded most st log start history buffer journal None) → IsLogged kept (after_events (log_rule most) st journal) call number change totals →
-      IsLongerByBoth kept.file_max kept.end (entry_of (kept.last_txn + 1) number change) (Commit (record { 0 = kept.last_txn + 1 })) (log_after most st journal log) →
+      IsLongerByBoth kept.file_max kept.end (change_entry (kept.last_txn + 1) number change) (Commit (record { 0 = kept.last_txn + 1 })) (log_after most st journal log) →
       IsAttempted most st log journal call change (log_with_all kept.file_max kept.end (entries_logged (kept.last_txn + 1) number change) (log_after most st journal log)) g.least
   attempted most st log start history buffer kept journal call number change totals here none g logged both =
       let now_log : Log = log_after most st journal log in
@@ -122,8 +122,8 @@ module _ {D : Type 0} where
             g.kept.recovers records logged.may (omega arith));
         synced = subst (λ (n : ℕ). synced_of journal ≤ n)
             (sym (ap (commits_in (length (entries_of log)) g.least) entries
-            ∙ commits-front (length (entries_of log)) g.least (entries_of now_log) (entry_of (kept.last_txn + 1) number change ∷ Commit (record { 0 = kept.last_txn + 1 }) ∷ [])
-            (count_kept now_log [] g.least (now history).marks g.kept.keeps.keeps)))
+            ∙ commits-front (length (entries_of log)) g.least (entries_of now_log) (change_entry (kept.last_txn + 1) number change ∷ Commit (record { 0 = kept.last_txn + 1 }) ∷ [])
+            (count_kept now_log [] g.least (now history).crash_states g.kept.keeps.keeps)))
             g.kept.synced;
       }
 
@@ -139,14 +139,14 @@ module _ {D : Type 0} where
       × ((after_event (log_rule most) (after_events (log_rule most) st journal) event).commits ≡ (after_events (log_rule most) st journal).commits + 1)) →
       (has_failed longer ≡ false → (after_event (log_rule most) (after_events (log_rule most) st journal) event).fault ≡ None) → (after_events (log_rule most) st journal).fault ≡ None →
       IsGuarded most st log start new longer (journal ++ event ∷ []) None
-  guarded_attempt most st log start old new buffer longer journal event call change grown g is by_event attempt durable through keeps works stops none =
+  guarded_attempt most st log start old new buffer longer journal event call change grown g is by_event run_result durable through keeps works stops none =
       let all : List Event = journal ++ event ∷ [] in
       let base : ℕ = length (entries_of log) in
       let standing : Standing = after_events (log_rule most) st journal in
       let log_is : log_after most st all log ≡ grown = log_after-append most st journal (event ∷ []) log ∙ by_event (log_after most st journal log) ∙ is.log_is in
       let stored : Store = store_after st.store (attempts_of st.store journal) in
       let one : attempt_of stored event ≡ (change ∷ []) ∷ [] =
-      attempt stored ∙ ap (λ (s : Store). (evaluation call s).changes ∷ []) is.store ∙ ap (λ (cs : List Change). cs ∷ []) is.changes in
+      run_result stored ∙ ap (λ (s : Store). (evaluation call s).changes ∷ []) is.store ∙ ap (λ (cs : List Change). cs ∷ []) is.changes in
       let attempts : attempts_of st.store all ≡ attempts_of st.store journal ++ (change ∷ []) ∷ [] =
       attempts-push st.store journal event ∙ ap (λ (l : List (List Change)). attempts_of st.store journal ++ l) one in
       let stands : after_events (log_rule most) st all ≡ after_event (log_rule most) standing event = after_events-append (log_rule most) st journal (event ∷ []) in
@@ -202,14 +202,14 @@ module _ {D : Type 0} where
   goes_nowhere most st log start history buffer journal session line call (Err error) is g = g
 
   -- a call's change was logged, or the disk failed, or there was no memory
-  pub goes_on_safely : (most : ℕ) (st : Standing) (log : Log) (start : History) (old new : History) (buffer longer : LogBuffer D) (kept after : Kept) (journal : List Event) (session line : ℕ) (call : Call) (number : ℕ) (change : Change) (totals : Totals) (tells : Bool) (result : Result Answer AllocError) →
+  pub goes_on_safely : (most : ℕ) (st : Standing) (log : Log) (start : History) (old new : History) (buffer longer : LogBuffer D) (kept after : Kept) (journal : List Event) (session line : ℕ) (call : Call) (number : ℕ) (change : Change) (totals : Totals) (observable : Bool) (result : Result Answer AllocError) →
       IsAt most true (now old) buffer kept (after_events (log_rule most) st journal) → (after_events (log_rule most) st journal).fault ≡ None →
       (g : IsGuarded most st log start old buffer journal None) → IsLogged kept (after_events (log_rule most) st journal) call number change totals →
-      IsLongerByBoth kept.file_max kept.end (entry_of (kept.last_txn + 1) number change) (Commit (record { 0 = kept.last_txn + 1 })) (log_after most st journal log) →
-      LogsChange tells (now old) (now new) buffer longer kept after number change totals result →
+      IsLongerByBoth kept.file_max kept.end (change_entry (kept.last_txn + 1) number change) (Commit (record { 0 = kept.last_txn + 1 })) (log_after most st journal log) →
+      LogsChange observable (now old) (now new) buffer longer kept after number change totals result →
       LogsSafely old new longer (log_after most st journal log) (log_with_all kept.file_max kept.end (entries_logged (kept.last_txn + 1) number change) (log_after most st journal log)) g.least result →
       GoesOnSafely most st log start new longer journal session line call result
-  goes_on_safely most st log start old new buffer longer kept after journal session line call number change totals tells (Ok (Logged commit)) here none g logged both changes safely =
+  goes_on_safely most st log start old new buffer longer kept after journal session line call number change totals observable (Ok (Logged commit)) here none g logged both changes safely =
       let is = attempted most st log start old buffer kept journal call number change totals here none g logged both in
       let keeping = safely.1 (λ e. cc) in
       guarded_attempt most st log start old new buffer longer journal (Called session line call (Logged commit)) call change
@@ -219,32 +219,32 @@ module _ {D : Type 0} where
       (λ fault. (keeping, ap (λ (cs : List Change). all_changed cs (after_events (log_rule most) st journal).store) is.changes, none, refl))
       (λ ok. none)
       none
-  goes_on_safely most st log start old new buffer longer kept after journal session line call number change totals tells (Ok DiskFault) here none g logged both changes safely =
+  goes_on_safely most st log start old new buffer longer kept after journal session line call number change totals observable (Ok DiskFault) here none g logged both changes safely =
       let grown : Log = log_with_all kept.file_max kept.end (entries_logged (kept.last_txn + 1) number change) (log_after most st journal log) in
       guarded_attempt most st log start old new buffer longer journal (Called session line call DiskFault) call change grown g
       (attempted most st log start old buffer kept journal call number change totals here none g logged both)
       (λ l. refl) (λ s. refl) refl safely.0
       (passes_now old new (KeepsRead grown [] g.least) (read_through grown [] g.least old new safely.0)
-      (both_read kept.file_max kept.end (entry_of (kept.last_txn + 1) number change) (Commit (record { 0 = kept.last_txn + 1 })) (log_after most st journal log) g.least (now old) both g.kept.keeps))
+      (both_read kept.file_max kept.end (change_entry (kept.last_txn + 1) number change) (Commit (record { 0 = kept.last_txn + 1 })) (log_after most st journal log) g.least (now old) both g.kept.keeps))
       (λ fault. absurd cc)
       (λ ok. absurd (safely.2 ok refl))
       none
-  goes_on_safely most st log start old new buffer longer kept after journal session line call number change totals tells (Ok answer) here none g logged both changes safely = absurd changes
-  goes_on_safely most st log start old new buffer longer kept after journal session line call number change totals tells (Err error) here none g logged both changes safely =
+  goes_on_safely most st log start old new buffer longer kept after journal session line call number change totals observable (Ok answer) here none g logged both changes safely = absurd changes
+  goes_on_safely most st log start old new buffer longer kept after journal session line call number change totals observable (Err error) here none g logged both changes safely =
       guarded_along most st log start old new buffer longer journal safely.0 g safely.1 none
 
   -- the environment's log with both entries of a call that may be logged
   pub both_logged : (state : State) (buffer : LogBuffer D) (kept : Kept) (st : Standing) (call : Call) (number : ℕ) (change : Change) (totals : Totals) (log : Log) (least : ℕ) → IsKeeping state buffer log least None → IsAtEnd buffer kept →
       IsLogged kept st call number change totals → kept.last_txn < LAST_TXN →
-      IsLongerByBoth kept.file_max kept.end (entry_of (kept.last_txn + 1) number change) (Commit (record { 0 = kept.last_txn + 1 })) log
+      IsLongerByBoth kept.file_max kept.end (change_entry (kept.last_txn + 1) number change) (Commit (record { 0 = kept.last_txn + 1 })) log
   both_logged state buffer kept st call number change totals log least keeping at_end logged below =
-      longer_by_both kept.file_max kept.end (last_of buffer) (entry_of (kept.last_txn + 1) number change) (Commit (record { 0 = kept.last_txn + 1 })) log
-      (subst (λ (m : ℕ). m ≤ 2 ^ 30) at_end.file_max buffer.max) keeping.has.is_log (subst (λ (p : Place). EndsAt log p.file p.offset (last_of buffer)) at_end.end keeping.has.ends) keeping.whole
-      (logged.entry (kept.last_txn + 1) (omega (arith, below)), omega (arith, below)) (follows-entry_of (kept.last_txn + 1) number change, refl)
+      longer_by_both kept.file_max kept.end (last_of buffer) (change_entry (kept.last_txn + 1) number change) (Commit (record { 0 = kept.last_txn + 1 })) log
+      (subst (λ (m : ℕ). m ≤ 2 ^ 30) at_end.file_max buffer.max) keeping.has.is_log (subst (λ (p : LogPos). EndsAt log p.file p.offset (last_of buffer)) at_end.end keeping.has.ends) keeping.whole
+      (logged.entry (kept.last_txn + 1) (omega (arith, below)), omega (arith, below)) (follows-change_entry (kept.last_txn + 1) number change, refl)
       (subst (λ (s : List ℕ). (end_after_all kept.file_max kept.end s).file ≤ LAST_FILE) (sym (sizes_are (kept.last_txn + 1) number change (one_entry (rows_in kept.rows) kept.last_db number change logged.may))) logged.room)
 
   -- where a call was logged, the model stands at a valid environment
-  pub logged_none : (most : ℕ) (tells : Bool) (state : State) (buffer : LogBuffer D) (kept : Kept) (st : Standing) (call : Call) (answer : Answer) →
-      GoesOn most tells state buffer kept st call (Ok answer) → is_logged answer ≡ true → (after_call (log_rule most) st call answer).fault ≡ None
-  logged_none most tells state buffer kept st call (Logged commit) goes logged = logged_valid most st.fault st call commit goes.0
-  logged_none most tells state buffer kept st call answer goes logged = cc
+  pub logged_none : (most : ℕ) (observable : Bool) (state : State) (buffer : LogBuffer D) (kept : Kept) (st : Standing) (call : Call) (answer : Answer) →
+      GoesOn most observable state buffer kept st call (Ok answer) → is_logged answer ≡ true → (after_call (log_rule most) st call answer).fault ≡ None
+  logged_none most observable state buffer kept st call (Logged commit) goes logged = logged_valid most st.fault st call commit goes.0
+  logged_none most observable state buffer kept st call answer goes logged = cc

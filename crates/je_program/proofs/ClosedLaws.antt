@@ -3,7 +3,7 @@ use Rattle.std.proofs.Common.{◌≡◌, ℕ, ◌≤◌, Bool, true, false, List
 use Rattle.std.proofs.lemmas.List.{append-nil, take_all}
 use Rattle.je_disk.specs.States.{Files, State}
 use Rattle.je_disk.specs.Moments.{History, now}
-use Rattle.je_disk.proofs.Moments.{passes_none}
+use Rattle.je_disk.proofs.MomentLaws.{passes_none}
 use Rattle.je_model.specs.declared.change.Change.{Change}
 use Rattle.je_model.specs.declared.event.Event.{Event}
 use Rattle.je_model.specs.declared.store.Store.{Store}
@@ -15,17 +15,17 @@ use Rattle.log_buffer.specs.declared.buffer.LogBuffer.{LogBuffer}
 use Rattle.log_buffer.specs.Buffer.{file_of, first_of, has_failed, last_of, offset_of}
 use Rattle.log_buffer.specs.Crash.{Holds, IsKeptSince, KeepsRead, KeptThrough}
 use Rattle.log_buffer.specs.Log.{HasLog}
-use Rattle.log_buffer.proofs.Left.{kept_is_left}
+use Rattle.log_buffer.proofs.CrashImages.{kept_is_left}
 use Rattle.log_buffer.proofs.Staying.{stay_same}
 use Rattle.log_replay.specs.Kept.{IsKept as KeepsRecords}
 use Rattle.log_replay.specs.Rows.{rows_in}
 use Rattle.crash_meaning.specs.Reading.{HasNoGap}
 use Rattle.crash_meaning.specs.Recovery.{Recovers, IsRecovered, commits_in}
-use Rattle.crash_meaning.proofs.Recoveries.{images_recover, logs_recover}
+use Rattle.crash_meaning.proofs.RecoveryLaws.{images_recover, logs_recover}
 use Rattle.je_program.specs.declared.kept.Kept.{Kept}
 use Rattle.je_program.specs.Crash.{IsSafeRun, ImagesMean}
 use Rattle.je_program.specs.Guarded.{log_after, IsGuarded}
-use Rattle.je_program.specs.Environment.{IsAt, IsValid, IsWhole, log_rule}
+use Rattle.je_program.specs.Environment.{IsAt, IsValid, IsWholeLog, log_rule}
 use Rattle.je_program.specs.Program.{MeanStore}
 use Rattle.je_program.proofs.FinishLaws.{small_files}
 use Rattle.je_program.proofs.GuardLaws.{keeping_read, one_log}
@@ -76,7 +76,7 @@ module _ {D : Type 0} where
       let gap : HasNoGap log = record {
         is_log = has.is_log;
         small = small_files log (file_of buffer) (offset_of buffer) (last_of buffer) has.is_log has.ends buffer.last_file;
-        whole = subst (λ (l : Log). IsWhole l) same v.whole;
+        whole = subst (λ (l : Log). IsWholeLog l) same v.whole;
       } in
       let recovers : Recovers st.store (length (entries_of log)) [] (entries_of log) =
       subst (λ (s : Store). Recovers s (length (entries_of log)) [] (entries_of log)) v.made

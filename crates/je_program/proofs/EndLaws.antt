@@ -1,39 +1,38 @@
--- How a program ends whose words are right and whose input is a script.
+-- How a program ends whose arguments are valid and whose input is a script.
 use Rattle.std.proofs.Common.{◌≡◌, ◌≢◌, ℕ, ◌<◌, ◌≤◌, ◌⊎◌, Bool, true, false, List, Option, Some, IfSome, Result, Ok, Err, length, refl, ap, sym, ◌∙◌, subst, inl, inr, ⊎_elim, arith}
 use Rattle.std.proofs.lemmas.Bool.{cases_Bool, cond-true, cond-false}
-use Rattle.je_disk.specs.Causes.{Rose}
+use Rattle.je_order.specs.Counts.{HasRisen, HasRisen as Failing}
 use Rattle.je_disk.specs.States.{Files}
-use Rattle.je_io.specs.Faults.{Rose as Failing}
 use Rattle.je_model.specs.declared.event.Event.{Event}
 use Rattle.je_model.specs.declared.plan.RunPlan.{RunPlan}
 use Rattle.je_model.specs.Journal.{is_disk_fault, has_answer}
 use Rattle.log_file.proofs.FilesLaws.{are_one_list}
-use Rattle.log_replay.specs.declared.finding.Finding.{Finding}
+use Rattle.log_replay.specs.declared.corruption.Corruption.{Corruption}
 use Rattle.log_replay.specs.Meaning.{Meaning}
 use Rattle.log_replay.specs.Reading.{reading_of}
 use Rattle.script_text.specs.Grammar.{plan_of}
 use Rattle.je_program.specs.declared.cause.Cause.{Cause}
 use Rattle.je_program.specs.declared.cause.Cause.TheVariants.{Done, Usage, BadScript, Disk, Unreadable, Memory, Input, InputTooLong, LogFull, IdsEnded}
 use Rattle.je_program.specs.declared.reading.TheConstants.{MOST_INPUT}
-use Rattle.je_program.specs.Files.{HasFinding, Means}
+use Rattle.je_program.specs.Files.{HasCorruption, Means}
 use Rattle.je_program.specs.Program.{EndsBy, IsStopped, RunsIf}
 use Rattle.je_program.specs.Run.{cause_of_journal, cause_of_room}
 
 -- ---- one reading of the files
 
-abbrev finding_or : Finding → Result Meaning Finding → Finding
-finding_or other (Ok meaning) = other
-finding_or other (Err finding) = finding
+abbrev corruption_or : Corruption → Result Meaning Corruption → Corruption
+corruption_or other (Ok meaning) = other
+corruption_or other (Err corruption) = corruption
 
--- files have one finding
-pub one_finding : (files : Files) (a b : Finding) → HasFinding files a → HasFinding files b → a ≡ b
-one_finding files a b is other =
-    ap (finding_or a) (sym is.reads ∙ ap reading_of (are_one_list files is.held other.held is.are other.are) ∙ other.reads)
+-- files have one corruption
+pub one_corruption : (files : Files) (a b : Corruption) → HasCorruption files a → HasCorruption files b → a ≡ b
+one_corruption files a b is other =
+    ap (corruption_or a) (sym is.reads ∙ ap reading_of (are_one_list files is.held other.held is.are other.are) ∙ other.reads)
 
 -- and none where they mean something
-pub no_finding_beside : (files : Files) (finding : Finding) (meaning : Meaning) → HasFinding files finding → Means files meaning → ⊥
-no_finding_beside files finding meaning is means =
-    let e : Err finding ≡ Ok meaning = sym is.reads ∙ ap reading_of (are_one_list files is.held means.held is.are means.are) ∙ means.reads in cc
+pub no_corruption_beside : (files : Files) (corruption : Corruption) (meaning : Meaning) → HasCorruption files corruption → Means files meaning → ⊥
+no_corruption_beside files corruption meaning is means =
+    let e : Err corruption ≡ Ok meaning = sym is.reads ∙ ap reading_of (are_one_list files is.held means.held is.are means.are) ∙ means.reads in cc
 
 -- ---- one input
 
@@ -67,11 +66,11 @@ in_room journal cause other ends =
     (λ (is : cause ≡ Disk). absurd (other is))
     ends
 
--- right words, a script and files with a meaning end in a run, unless memory ran out or a count rose
+-- valid arguments, a script and files with a meaning end in a run, unless memory ran out or a count rose
 pub completes : (files : Files) (left : Option (List ℕ)) (s0 s1 d0 d1 : ℕ) (cause : Cause) (opened : Bool) (journal : List Event) (bytes : List ℕ) (plan : RunPlan) (meaning : Meaning) →
     left ≡ Some bytes → length bytes ≤ MOST_INPUT → plan_of bytes ≡ Ok plan → Means files meaning → (cause ≡ Usage → ⊥) → IsStopped left s0 s1 cause → RunsIf cause opened →
-    ((finding : Finding) → cause ≡ Unreadable finding → HasFinding files finding) → (opened ≡ true → cause ≢ Memory → EndsBy journal cause) → (cause ≡ Disk → Rose d0 d1) →
-    (cause ≡ cause_of_room journal) ⊎ (cause ≡ Memory) ⊎ Failing s0 s1 ⊎ Rose d0 d1
+    ((corruption : Corruption) → cause ≡ Unreadable corruption → HasCorruption files corruption) → (opened ≡ true → cause ≢ Memory → EndsBy journal cause) → (cause ≡ Disk → HasRisen d0 d1) →
+    (cause ≡ cause_of_room journal) ⊎ (cause ≡ Memory) ⊎ Failing s0 s1 ⊎ HasRisen d0 d1
 completes files left s0 s1 d0 d1 cause opened journal bytes plan meaning is short plans means right stopped runs unreadable ends failed =
     by_cause cause right stopped runs unreadable ends failed
   where
@@ -79,8 +78,8 @@ completes files left s0 s1 d0 d1 cause opened journal bytes plan meaning is shor
     script = record { bytes = bytes; is = is; short = short; plans = plans }
 
     by_cause : (cause : Cause) → (cause ≡ Usage → ⊥) → IsStopped left s0 s1 cause → RunsIf cause opened →
-        ((finding : Finding) → cause ≡ Unreadable finding → HasFinding files finding) → (opened ≡ true → cause ≢ Memory → EndsBy journal cause) → (cause ≡ Disk → Rose d0 d1) →
-        (cause ≡ cause_of_room journal) ⊎ (cause ≡ Memory) ⊎ Failing s0 s1 ⊎ Rose d0 d1
+        ((corruption : Corruption) → cause ≡ Unreadable corruption → HasCorruption files corruption) → (opened ≡ true → cause ≢ Memory → EndsBy journal cause) → (cause ≡ Disk → HasRisen d0 d1) →
+        (cause ≡ cause_of_room journal) ⊎ (cause ≡ Memory) ⊎ Failing s0 s1 ⊎ HasRisen d0 d1
     by_cause Done right stopped runs unreadable ends failed = inl (in_room journal Done (λ e. cc) (ends runs (λ e. cc)))
     by_cause LogFull right stopped runs unreadable ends failed = inl (in_room journal LogFull (λ e. cc) (ends runs (λ e. cc)))
     by_cause IdsEnded right stopped runs unreadable ends failed = inl (in_room journal IdsEnded (λ e. cc) (ends runs (λ e. cc)))
@@ -90,23 +89,23 @@ completes files left s0 s1 d0 d1 cause opened journal bytes plan meaning is shor
     by_cause Usage right stopped runs unreadable ends failed = absurd (right refl)
     by_cause (BadScript line) right stopped runs unreadable ends failed = absurd (not_bad left plan line script stopped)
     by_cause InputTooLong right stopped runs unreadable ends failed = absurd (not_long left plan script stopped)
-    by_cause (Unreadable finding) right stopped runs unreadable ends failed = absurd (no_finding_beside files finding meaning (unreadable finding refl) means)
+    by_cause (Unreadable corruption) right stopped runs unreadable ends failed = absurd (no_corruption_beside files corruption meaning (unreadable corruption refl) means)
 
--- where the files have a finding, the program ends by it, unless memory ran out or a count rose
-pub finds : (files : Files) (left : Option (List ℕ)) (s0 s1 d0 d1 : ℕ) (cause : Cause) (opened : Bool) (bytes : List ℕ) (plan : RunPlan) (finding : Finding) →
-    left ≡ Some bytes → length bytes ≤ MOST_INPUT → plan_of bytes ≡ Ok plan → HasFinding files finding → (cause ≡ Usage → ⊥) → IsStopped left s0 s1 cause → RunsIf cause opened →
-    ((f : Finding) → cause ≡ Unreadable f → HasFinding files f) → (opened ≡ true → (meaning : Meaning) × Means files meaning) → (cause ≡ Disk → Rose d0 d1) →
-    (cause ≡ Unreadable finding) ⊎ (cause ≡ Memory) ⊎ Failing s0 s1 ⊎ Rose d0 d1
-finds files left s0 s1 d0 d1 cause opened bytes plan finding is short plans has right stopped runs unreadable means failed = by_cause cause right stopped runs unreadable failed
+-- where the files have a corruption, the program ends by it, unless memory ran out or a count rose
+pub finds : (files : Files) (left : Option (List ℕ)) (s0 s1 d0 d1 : ℕ) (cause : Cause) (opened : Bool) (bytes : List ℕ) (plan : RunPlan) (corruption : Corruption) →
+    left ≡ Some bytes → length bytes ≤ MOST_INPUT → plan_of bytes ≡ Ok plan → HasCorruption files corruption → (cause ≡ Usage → ⊥) → IsStopped left s0 s1 cause → RunsIf cause opened →
+    ((f : Corruption) → cause ≡ Unreadable f → HasCorruption files f) → (opened ≡ true → (meaning : Meaning) × Means files meaning) → (cause ≡ Disk → HasRisen d0 d1) →
+    (cause ≡ Unreadable corruption) ⊎ (cause ≡ Memory) ⊎ Failing s0 s1 ⊎ HasRisen d0 d1
+finds files left s0 s1 d0 d1 cause opened bytes plan corruption is short plans has right stopped runs unreadable means failed = by_cause cause right stopped runs unreadable failed
   where
     script : IsScript left plan
     script = record { bytes = bytes; is = is; short = short; plans = plans }
 
     closed : opened ≡ true → ⊥
-    closed e = let m = means e in no_finding_beside files finding m.0 has m.1
+    closed e = let m = means e in no_corruption_beside files corruption m.0 has m.1
 
-    by_cause : (cause : Cause) → (cause ≡ Usage → ⊥) → IsStopped left s0 s1 cause → RunsIf cause opened → ((f : Finding) → cause ≡ Unreadable f → HasFinding files f) → (cause ≡ Disk → Rose d0 d1) →
-        (cause ≡ Unreadable finding) ⊎ (cause ≡ Memory) ⊎ Failing s0 s1 ⊎ Rose d0 d1
+    by_cause : (cause : Cause) → (cause ≡ Usage → ⊥) → IsStopped left s0 s1 cause → RunsIf cause opened → ((f : Corruption) → cause ≡ Unreadable f → HasCorruption files f) → (cause ≡ Disk → HasRisen d0 d1) →
+        (cause ≡ Unreadable corruption) ⊎ (cause ≡ Memory) ⊎ Failing s0 s1 ⊎ HasRisen d0 d1
     by_cause Done right stopped runs unreadable failed = absurd (closed runs)
     by_cause LogFull right stopped runs unreadable failed = absurd (closed runs)
     by_cause IdsEnded right stopped runs unreadable failed = absurd (closed runs)
@@ -116,4 +115,4 @@ finds files left s0 s1 d0 d1 cause opened bytes plan finding is short plans has 
     by_cause Usage right stopped runs unreadable failed = absurd (right refl)
     by_cause (BadScript line) right stopped runs unreadable failed = absurd (not_bad left plan line script stopped)
     by_cause InputTooLong right stopped runs unreadable failed = absurd (not_long left plan script stopped)
-    by_cause (Unreadable f) right stopped runs unreadable failed = inl (ap Unreadable (one_finding files f finding (unreadable f refl) has))
+    by_cause (Unreadable f) right stopped runs unreadable failed = inl (ap Unreadable (one_corruption files f corruption (unreadable f refl) has))

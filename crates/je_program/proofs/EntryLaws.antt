@@ -8,51 +8,51 @@ use Rattle.std.proofs.lemmas.Bool.{cases_lt, cases_order, eqb-true}
 use Rattle.std.proofs.lemmas.Bool.Decides.{nat_tests}
 use Rattle.std.proofs.lemmas.List.{append-nil, length-take-le, take-append-drop, take_all}
 use Rattle.je_bytes.specs.Reading.{AreBytes}
-use Rattle.je_disk.specs.States.{Files, IsEither, Mark, State, cut, cut_by, put_at, put_file, shortened, synced, synced_mark, synced_marks}
+use Rattle.je_disk.specs.States.{Files, IsEither, CrashState, State, cut, cut_by, put_at, put_file, shortened, synced, synced_crash_state, synced_crash_states}
 use Rattle.je_disk.specs.Images.{IsFileImage}
 use Rattle.je_disk.specs.Moments.{History, Passes, now}
-use Rattle.je_disk.proofs.Moments.{passes_none, passes_then, passes_weaken}
+use Rattle.je_disk.proofs.MomentLaws.{passes_none, passes_then, passes_weaken}
 use Rattle.je_model.specs.declared.store.Store.{Store}
 use Rattle.log_entry.specs.declared.entry.Entry.{Entry}
-use Rattle.log_file.specs.declared.file_run.FileRun.{FileRun}
-use Rattle.log_file.specs.declared.found.Found.{Found}
-use Rattle.log_file.specs.declared.found.Found.TheVariants.{Run, VersionUnknown as OtherVersion, Damaged as NoHeader}
-use Rattle.log_file.specs.Laws.{AreSpelledBack}
-use Rattle.log_file.specs.Log.{AreFiles, Log, entries_found, entries_of, file_bytes, files_of_log, log_in}
-use Rattle.log_file.specs.Scan.{found_in}
+use Rattle.log_file.specs.declared.valid_prefix.ValidPrefix.{ValidPrefix}
+use Rattle.log_file.specs.declared.file_scan.FileScan.{FileScan}
+use Rattle.log_file.specs.declared.file_scan.FileScan.TheVariants.{Prefix, VersionUnknown as OtherVersion, Damaged as NoHeader}
+use Rattle.log_file.specs.Laws.{AreEncodedBack}
+use Rattle.log_file.specs.Log.{AreFiles, Log, entries_scanned, entries_of, file_bytes, files_of_log, log_in}
+use Rattle.log_file.specs.Scan.{scan_of}
 use Rattle.log_file.proofs.FilesLaws.{are_one_list}
-use Rattle.log_file.proofs.FoundLaws.{are_spelled_back}
-use Rattle.log_buffer.specs.Chance.{HasRun, IsKeptByCut, LastIsKept}
+use Rattle.log_file.proofs.FileScanLaws.{are_encoded_back}
+use Rattle.log_buffer.specs.Chance.{HasPrefix, IsKeptByCut, LastIsKept}
 use Rattle.log_buffer.specs.Crash.{KeepsLog, HoldsPrefix, HoldPrefixes, entries_at}
-use Rattle.log_buffer.proofs.KeptOpening.{cuts_keep}
-use Rattle.log_buffer.proofs.Left.{kept_is_left}
+use Rattle.log_buffer.proofs.CrashOpen.{cuts_keep}
+use Rattle.log_buffer.proofs.CrashImages.{kept_is_left}
 use Rattle.log_buffer.proofs.Prefixes.{cut_prefixes, empty_prefix}
-use Rattle.log_replay.specs.declared.finding.Finding.{Finding}
+use Rattle.log_replay.specs.declared.corruption.Corruption.{Corruption}
 use Rattle.log_replay.specs.declared.last_file.LastFile.{LastFile}
 use Rattle.log_replay.specs.declared.log_read.ReadLog.{ReadLog}
 use Rattle.log_replay.specs.Answer.{IsLogOf}
 use Rattle.log_replay.specs.Kept.{IsKept}
 use Rattle.log_replay.specs.Meaning.{Meaning}
-use Rattle.log_replay.specs.Reading.{finding_at, finding_in, gap_in, reading_of}
+use Rattle.log_replay.specs.Reading.{corruption_at, corruption_in, gap_in, reading_of}
 use Rattle.log_replay.specs.Rows.{rows_in}
 use Rattle.log_replay.specs.UnderWay.{IsLastOf, IsTailOf}
 use Rattle.log_replay.proofs.LogLaws.{kept_opened}
 use Rattle.crash_meaning.specs.Reading.{HasNoGap}
 use Rattle.crash_meaning.specs.Recovery.{Recovers, commits_in}
-use Rattle.crash_meaning.proofs.Recoveries.{images_recover, logs_recover}
+use Rattle.crash_meaning.proofs.RecoveryLaws.{images_recover, logs_recover}
 use Rattle.je_program.specs.declared.kept.TheConstants.{LAST_FILE}
 use Rattle.je_program.specs.Crash.{ImagesMean, IsTailCut, KeepsEntry, NothingPending, ReadAsAtEntry}
-use Rattle.je_program.specs.Opening.{IsSettled, IsSettling, StartsLog, WasRead, cut_off, start_of}
+use Rattle.je_program.specs.Opening.{HasTornTailCut, IsSettling, StartsLog, WasRead, cut_off, log_start_of}
 use Rattle.je_program.proofs.CallLaws.{passes_now}
 use Rattle.je_program.proofs.ClosedLaws.{all_recovered}
 use Rattle.je_program.proofs.FileLaws.{front_reads, headless, log_is, lookup-last}
 use Rattle.je_program.proofs.FinishLaws.{small_files}
-use Rattle.je_program.proofs.OpeningLaws.{File, all_last, are_files, below_last, entries_from, first_log, full_front, log_from, no_finding, none_is, numbers, or_parts, rising_of, settled_last, settled_other, starts_log, whole_from}
+use Rattle.je_program.proofs.OpeningLaws.{File, all_last, are_files, below_last, entries_from, first_log, full_front, log_from, no_corruption, none_is, numbers, or_parts, rising_of, settled_last, settled_other, starts_log, whole_from}
 
 -- ---- the rest that is cut off
 
 -- files with the rest of the last one cut off are settled
-pub settles : (tail : Option LastFile) (s : State) → IsSettled s.reads (cut_off tail s).reads tail
+pub settles : (tail : Option LastFile) (s : State) → HasTornTailCut s.reads (cut_off tail s).reads tail
 settles None s = λ g. refl
 settles (Some last) s = λ g. by_test (nat_lt last.end last.len) g
   where
@@ -89,7 +89,7 @@ settling_synced tail before mid s done (inr same) = inr (same ∙ ap synced done
 
 -- ---- the log that is opened, in the files at entry
 
--- a log's last file has a rest behind its run, and the files before it are the log's
+-- a log's last file has a rest behind its valid prefix, and the files before it are the log's
 pub record HasRest (reads : Files) (last : LastFile) (log : Log) : Type 0 where
   pub before : Log
   pub entries : List Entry
@@ -101,17 +101,17 @@ pub record HasRest (reads : Files) (last : LastFile) (log : Log) : Type 0 where
   pub within : last.end ≤ length bytes
   pub front : (entries ≡ []) ⊎ (take last.end bytes ≡ file_bytes last.file.0 entries)
 
-rest_parts : (reads : Files) (front : List File) (bytes : List ℕ) (last : LastFile) (run : FileRun) → run.end ≡ last.end →
+rest_parts : (reads : Files) (front : List File) (bytes : List ℕ) (last : LastFile) (prefix : ValidPrefix) → run.end ≡ last.end →
     AllByRecursion (λ (file : File). AreBytes file.1) (front ++ (last.file.0, bytes) ∷ []) → IsStrictlyIncreasing (numbers (front ++ (last.file.0, bytes) ∷ [])) → last.file.0 < 2 ^ 32 →
-    finding_in (front ++ (last.file.0, bytes) ∷ []) ≡ None → found_in last.file.0 bytes ≡ Run run → last.len ≡ length bytes →
+    corruption_in (front ++ (last.file.0, bytes) ∷ []) ≡ None → scan_of last.file.0 bytes ≡ Prefix run → last.len ≡ length bytes →
     AreFiles reads (front ++ (last.file.0, bytes) ∷ []) → HasRest reads last (log_in (front ++ (last.file.0, bytes) ∷ []))
-rest_parts reads front bytes last run end_is all rising small none found len told = record {
+rest_parts reads front bytes last run end_is all rising small none found len observed = record {
   before = log_in front;
   entries = run.entries;
   log_is = log_is front f bytes run found;
-  others = λ g other. front_reads front f bytes reads back (are_files front (f, bytes) all below small) (full_front front (f, bytes) none) told.each g other;
+  others = λ g other. front_reads front f bytes reads back (are_files front (f, bytes) all below small) (full_front front (f, bytes) none) observed.each g other;
   bytes = bytes;
-  there = sym (told.each f) ∙ lookup-last front f bytes (none_is front (f, bytes) below);
+  there = sym (observed.each f) ∙ lookup-last front f bytes (none_is front (f, bytes) below);
   len = len;
   within = end_parts.0;
   front = end_parts.1;
@@ -119,41 +119,41 @@ rest_parts reads front bytes last run end_is all rising small none found len tol
   f : ℕ
   f = last.file.0
 
-  back : AreSpelledBack
-  back = are_spelled_back
+  back : AreEncodedBack
+  back = are_encoded_back
 
   below : AllByRecursion (λ (file : File). file.0 < f) front
   below = below_last front (f, bytes) rising
 
   by_end : (0 < run.end) ⊎ (run.end ≤ 0) → (last.end ≤ length bytes) × ((run.entries ≡ []) ⊎ (take last.end bytes ≡ file_bytes f run.entries))
   by_end (inl some) =
-      let spelled = back f bytes run (all_last (λ (file : File). AreBytes file.1) front (f, bytes) all) found some in
-      (subst (λ n. n ≤ length bytes) end_is spelled.within, inr (subst (λ n. take n bytes ≡ file_bytes f run.entries) end_is spelled.parts))
+      let encoded = back f bytes run (all_last (λ (file : File). AreBytes file.1) front (f, bytes) all) found some in
+      (subst (λ n. n ≤ length bytes) end_is encoded.within, inr (subst (λ n. take n bytes ≡ file_bytes f run.entries) end_is encoded.parts))
   by_end (inr low) = (omega (arith, low, end_is), inl (headless f bytes run found (omega (arith, low))).0)
 
   end_parts : (last.end ≤ length bytes) × ((run.entries ≡ []) ⊎ (take last.end bytes ≡ file_bytes f run.entries))
   end_parts = by_end (cases_lt 0 run.end)
 
 rest_last : (reads : Files) (held : List File) (last : LastFile) → AllByRecursion (λ (file : File). AreBytes file.1) held → IsStrictlyIncreasing (numbers held) → last.file.0 < 2 ^ 32 →
-    finding_in held ≡ None → IsLastOf held last → AreFiles reads held → HasRest reads last (log_in held)
-rest_last reads held last all rising small none is told =
+    corruption_in held ≡ None → IsLastOf held last → AreFiles reads held → HasRest reads last (log_in held)
+rest_last reads held last all rising small none is observed =
     let whole : held ≡ is.before ++ (last.file.0, is.bytes) ∷ [] = is.parts in
     subst (λ (h : List File). HasRest reads last (log_in h)) (sym whole)
-    (rest_parts reads is.before is.bytes last (record { entries = entries_found (found_in last.file.0 is.bytes); last = last.last; end = last.end }) refl
+    (rest_parts reads is.before is.bytes last (record { entries = entries_scanned (scan_of last.file.0 is.bytes); last = last.last; end = last.end }) refl
     (subst (λ (h : List File). AllByRecursion (λ (file : File). AreBytes file.1) h) whole all) (subst (λ (h : List File). IsStrictlyIncreasing (numbers h)) whole rising) small
-    (subst (λ (h : List File). finding_in h ≡ None) whole none) is.found is.len (subst (λ (h : List File). AreFiles reads h) whole told))
+    (subst (λ (h : List File). corruption_in h ≡ None) whole none) is.found is.len (subst (λ (h : List File). AreFiles reads h) whole observed))
 
 -- ---- what a crash keeps of it
 
 kept_by : (before : Log) (f : ℕ) (entries : List Entry) (s : State) → NothingPending s → ((g : ℕ) → g ≢ f → s.reads g ≡ files_of_log before g) →
     (entries ≡ []) ⊎ ((rest : List ℕ) × (s.reads f ≡ Some (file_bytes f entries ++ rest))) → IsKeptByCut before f entries s
-kept_by before f entries s pending others front = cuts_keep before f entries s (λ g other. pending g ∙ ap synced_mark (others g other)) (last_kept front)
+kept_by before f entries s pending others front = cuts_keep before f entries s (λ g other. pending g ∙ ap synced_crash_state (others g other)) (last_kept front)
   where
-    last_kept : (entries ≡ []) ⊎ ((rest : List ℕ) × (s.reads f ≡ Some (file_bytes f entries ++ rest))) → LastIsKept f entries s.marks
+    last_kept : (entries ≡ []) ⊎ ((rest : List ℕ) × (s.reads f ≡ Some (file_bytes f entries ++ rest))) → LastIsKept f entries s.crash_states
     last_kept (inl none) = inl none
     last_kept (inr is) =
-        let mark : s.marks f ≡ synced_mark (Some (file_bytes f entries ++ is.0)) = pending f ∙ ap synced_mark is.1 in
-        inr (record { there = ap (λ (m : Mark). m.must) mark; rest = is.0; stable = ap (λ (m : Mark). m.stable) mark })
+        let crash_state : s.crash_states f ≡ synced_crash_state (Some (file_bytes f entries ++ is.0)) = pending f ∙ ap synced_crash_state is.1 in
+        inr (record { there = ap (λ (m : CrashState). m.exists_always) crash_state; rest = is.0; stable = ap (λ (m : CrashState). m.stable) crash_state })
 
 -- the last file as it was at entry, and as it is with its rest cut off
 rest_at_entry : (last : LastFile) (log : Log) (s : State) (rest : HasRest s.reads last log) (reads : Files) → reads last.file.0 ≡ s.reads last.file.0 →
@@ -181,8 +181,8 @@ rest_behind last log s rest reads same = by_front rest.front
     by_front (inr front) = inr ([], same ∙ here ∙ ap (λ (x : List ℕ). Some x) (front ∙ sym (append-nil (file_bytes last.file.0 rest.entries))))
 
 -- a log whose last file has a rest, at each moment at which that is settled
-kept_last : (last : LastFile) (log : Log) (s x : State) → NothingPending s → HasRest s.reads last log → IsSettling (Some last) s x → KeepsLog log [] (length (entries_of log)) x.marks
-kept_last last log s x pending rest is = subst (λ (l : Log). KeepsLog l [] (length (entries_of l)) x.marks) (sym rest.log_is) (by_settling is)
+kept_last : (last : LastFile) (log : Log) (s x : State) → NothingPending s → HasRest s.reads last log → IsSettling (Some last) s x → KeepsLog log [] (length (entries_of log)) x.crash_states
+kept_last last log s x pending rest is = subst (λ (l : Log). KeepsLog l [] (length (entries_of l)) x.crash_states) (sym rest.log_is) (by_settling is)
   where
     f : ℕ
     f = last.file.0
@@ -200,21 +200,21 @@ kept_last last log s x pending rest is = subst (λ (l : Log). KeepsLog l [] (len
     entry : IsKeptByCut rest.before f rest.entries s
     entry = kept_by rest.before f rest.entries s pending rest.others (rest_at_entry last log s rest s.reads refl)
 
-    by_test : (b : Bool) → KeepsLog whole [] (length (entries_of whole)) (cond b (cut f last.end s) s).marks
+    by_test : (b : Bool) → KeepsLog whole [] (length (entries_of whole)) (cond b (cut f last.end s) s).crash_states
     by_test true = entry.behind last.end (at rest.front)
     by_test false = entry.found
 
     settled : IsKeptByCut rest.before f rest.entries (synced after)
     settled = kept_by rest.before f rest.entries (synced after) (λ g. refl) (λ g other. settled_other s.reads after.reads last g (settles (Some last) s) other ∙ rest.others g other) (rest_behind last log s rest after.reads refl)
 
-    by_settling : IsSettling (Some last) s x → KeepsLog whole [] (length (entries_of whole)) x.marks
-    by_settling (inl (inl same)) = subst (λ (y : State). KeepsLog whole [] (length (entries_of whole)) y.marks) (sym same) entry.found
-    by_settling (inl (inr same)) = subst (λ (y : State). KeepsLog whole [] (length (entries_of whole)) y.marks) (sym same) (by_test (nat_lt last.end last.len))
-    by_settling (inr same) = subst (λ (y : State). KeepsLog whole [] (length (entries_of whole)) y.marks) (sym same) settled.found
+    by_settling : IsSettling (Some last) s x → KeepsLog whole [] (length (entries_of whole)) x.crash_states
+    by_settling (inl (inl same)) = subst (λ (y : State). KeepsLog whole [] (length (entries_of whole)) y.crash_states) (sym same) entry.found
+    by_settling (inl (inr same)) = subst (λ (y : State). KeepsLog whole [] (length (entries_of whole)) y.crash_states) (sym same) (by_test (nat_lt last.end last.len))
+    by_settling (inr same) = subst (λ (y : State). KeepsLog whole [] (length (entries_of whole)) y.crash_states) (sym same) settled.found
 
 -- the same at a moment where nothing is pending, whatever was pending before
-kept_now_last : (last : LastFile) (log : Log) (s x : State) → NothingPending x → HasRest s.reads last log → IsSettling (Some last) s x → KeepsLog log [] (length (entries_of log)) x.marks
-kept_now_last last log s x pending rest is = subst (λ (l : Log). KeepsLog l [] (length (entries_of l)) x.marks) (sym rest.log_is) (by_settling is)
+kept_now_last : (last : LastFile) (log : Log) (s x : State) → NothingPending x → HasRest s.reads last log → IsSettling (Some last) s x → KeepsLog log [] (length (entries_of log)) x.crash_states
+kept_now_last last log s x pending rest is = subst (λ (l : Log). KeepsLog l [] (length (entries_of l)) x.crash_states) (sym rest.log_is) (by_settling is)
   where
     whole : Log
     whole = rest.before ++ (last.file.0, rest.entries) ∷ []
@@ -222,13 +222,13 @@ kept_now_last last log s x pending rest is = subst (λ (l : Log). KeepsLog l [] 
     after : State
     after = cut_off (Some last) s
 
-    behind : x.reads ≡ after.reads → KeepsLog whole [] (length (entries_of whole)) x.marks
+    behind : x.reads ≡ after.reads → KeepsLog whole [] (length (entries_of whole)) x.crash_states
     behind same =
         (kept_by rest.before last.file.0 rest.entries x pending
         (λ g other. ap (λ (reads : Files). reads g) same ∙ settled_other s.reads after.reads last g (settles (Some last) s) other ∙ rest.others g other)
         (rest_behind last log s rest x.reads (ap (λ (reads : Files). reads last.file.0) same))).found
 
-    by_settling : IsSettling (Some last) s x → KeepsLog whole [] (length (entries_of whole)) x.marks
+    by_settling : IsSettling (Some last) s x → KeepsLog whole [] (length (entries_of whole)) x.crash_states
     by_settling (inl (inl same)) =
         (kept_by rest.before last.file.0 rest.entries x pending (λ g other. ap (λ (y : State). y.reads g) same ∙ rest.others g other)
         (rest_at_entry last log s rest x.reads (ap (λ (y : State). y.reads last.file.0) same))).found
@@ -236,7 +236,7 @@ kept_now_last last log s x pending rest is = subst (λ (l : Log). KeepsLog l [] 
     by_settling (inr same) = behind (ap (λ (y : State). y.reads) same)
 
 -- a log of which no file is there yet
-kept_none : (s x : State) → NothingPending s → ((g : ℕ) → s.reads g ≡ None) → IsSettling None s x → KeepsLog ((0, []) ∷ []) [] 0 x.marks
+kept_none : (s x : State) → NothingPending s → ((g : ℕ) → s.reads g ≡ None) → IsSettling None s x → KeepsLog ((0, []) ∷ []) [] 0 x.crash_states
 kept_none s x pending none is = by_settling is
   where
     entry : IsKeptByCut [] 0 [] s
@@ -245,12 +245,12 @@ kept_none s x pending none is = by_settling is
     settled : IsKeptByCut [] 0 [] (synced s)
     settled = kept_by [] 0 [] (synced s) (λ g. refl) (λ g other. none g) (inl refl)
 
-    by_settling : IsSettling None s x → KeepsLog ((0, []) ∷ []) [] 0 x.marks
-    by_settling (inl (inl same)) = subst (λ (y : State). KeepsLog ((0, []) ∷ []) [] 0 y.marks) (sym same) entry.found
-    by_settling (inl (inr same)) = subst (λ (y : State). KeepsLog ((0, []) ∷ []) [] 0 y.marks) (sym same) entry.found
-    by_settling (inr same) = subst (λ (y : State). KeepsLog ((0, []) ∷ []) [] 0 y.marks) (sym same) settled.found
+    by_settling : IsSettling None s x → KeepsLog ((0, []) ∷ []) [] 0 x.crash_states
+    by_settling (inl (inl same)) = subst (λ (y : State). KeepsLog ((0, []) ∷ []) [] 0 y.crash_states) (sym same) entry.found
+    by_settling (inl (inr same)) = subst (λ (y : State). KeepsLog ((0, []) ∷ []) [] 0 y.crash_states) (sym same) entry.found
+    by_settling (inr same) = subst (λ (y : State). KeepsLog ((0, []) ∷ []) [] 0 y.crash_states) (sym same) settled.found
 
-kept_now_none : (s x : State) → NothingPending x → ((g : ℕ) → s.reads g ≡ None) → IsSettling None s x → KeepsLog ((0, []) ∷ []) [] 0 x.marks
+kept_now_none : (s x : State) → NothingPending x → ((g : ℕ) → s.reads g ≡ None) → IsSettling None s x → KeepsLog ((0, []) ∷ []) [] 0 x.crash_states
 kept_now_none s x pending none is = (kept_by [] 0 [] x pending (λ g other. same is g ∙ none g) (inl refl)).found
   where
     same : IsSettling None s x → (g : ℕ) → x.reads g ≡ s.reads g
@@ -263,51 +263,51 @@ rest_read : (reads : Files) (r : ReadLog) (w : WasRead true reads r) (last : Las
 rest_read reads r w last e tail =
     let held : List File = w.reading.held in
     let low : last.file.0 ≤ LAST_FILE = subst (λ (o : Option LastFile). IfSome o (λ l. l.file.0 ≤ LAST_FILE)) e w.small in
-    rest_last reads held last w.reading.answer.bytes (rising_of true reads r w) (omega (arith, low)) (no_finding held _ w.reading.answer.meaning).0 tail (w.reading.listed refl (w.listed refl))
+    rest_last reads held last w.reading.answer.bytes (rising_of true reads r w) (omega (arith, low)) (no_corruption held _ w.reading.answer.meaning).0 tail (w.reading.listed refl (w.listed refl))
 
 -- the log that was read, at each moment at which it is settled: where nothing was pending before, or nothing is now
 kept_settling : (s x : State) (r : ReadLog) (w : WasRead true s.reads r) → NothingPending s ⊎ NothingPending x → IsSettling r.tail s x →
-    KeepsLog (log_from r.tail w.reading.held) [] (length (entries_of (log_from r.tail w.reading.held))) x.marks
+    KeepsLog (log_from r.tail w.reading.held) [] (length (entries_of (log_from r.tail w.reading.held))) x.crash_states
 kept_settling s x r w pending is = by_tail r.tail refl w.reading.answer.tail pending is
   where
     held : List File
     held = w.reading.held
 
-    told : AreFiles s.reads held
-    told = w.reading.listed refl (w.listed refl)
+    observed : AreFiles s.reads held
+    observed = w.reading.listed refl (w.listed refl)
 
     by_tail : (tail : Option LastFile) → r.tail ≡ tail → IsTailOf held tail → NothingPending s ⊎ NothingPending x → IsSettling tail s x →
-        KeepsLog (log_from tail held) [] (length (entries_of (log_from tail held))) x.marks
-    by_tail None e empty (inl before) is = kept_none s x before (λ g. sym (told.each g) ∙ ap (λ (h : List File). lookup (λ n. n == g) h) empty) is
-    by_tail None e empty (inr here) is = kept_now_none s x here (λ g. sym (told.each g) ∙ ap (λ (h : List File). lookup (λ n. n == g) h) empty) is
+        KeepsLog (log_from tail held) [] (length (entries_of (log_from tail held))) x.crash_states
+    by_tail None e empty (inl before) is = kept_none s x before (λ g. sym (observed.each g) ∙ ap (λ (h : List File). lookup (λ n. n == g) h) empty) is
+    by_tail None e empty (inr here) is = kept_now_none s x here (λ g. sym (observed.each g) ∙ ap (λ (h : List File). lookup (λ n. n == g) h) empty) is
     by_tail (Some last) e tail (inl before) is = kept_last last (log_in held) s x before (rest_read s.reads r w last e tail) is
     by_tail (Some last) e tail (inr here) is = kept_now_last last (log_in held) s x here (rest_read s.reads r w last e tail) is
 
 -- ---- what its files read as
 
--- files that were read without a finding have runs
-all_runs : (held : List File) → finding_in held ≡ None → AllByRecursion HasRun held
+-- files that were read without a corruption have runs
+all_runs : (held : List File) → corruption_in held ≡ None → AllByRecursion HasPrefix held
 all_runs [] none = tt
 all_runs (file ∷ held) none =
-    let parts = or_parts (finding_at (length held == 0) file.0 (length file.1) (found_in file.0 file.1)) (finding_in held) none in
-    (by_found (found_in file.0 file.1) refl parts.0, all_runs held parts.1)
+    let parts = or_parts (corruption_at (length held == 0) file.0 (length file.1) (scan_of file.0 file.1)) (corruption_in held) none in
+    (by_found (scan_of file.0 file.1) refl parts.0, all_runs held parts.1)
   where
-    by_found : (found : Found) → found_in file.0 file.1 ≡ found → finding_at (length held == 0) file.0 (length file.1) found ≡ None → HasRun file
-    by_found (Run run) is h = record { run = run; found = is }
+    by_found : (found : FileScan) → scan_of file.0 file.1 ≡ found → corruption_at (length held == 0) file.0 (length file.1) found ≡ None → HasPrefix file
+    by_found (Prefix run) is h = record { run = run; found = is }
     by_found (OtherVersion version) is h = cc
     by_found NoHeader is h = cc
 
 -- such files hold what their log has in them
-prefixes_in : (held : List File) (f : ℕ) → AllByRecursion HasRun held → HoldsPrefix f (entries_at (log_in held) f) (unwrap_or (lookup (λ n. n == f) held) [])
+prefixes_in : (held : List File) (f : ℕ) → AllByRecursion HasPrefix held → HoldsPrefix f (entries_at (log_in held) f) (unwrap_or (lookup (λ n. n == f) held) [])
 prefixes_in [] f all = empty_prefix f []
 prefixes_in (file ∷ held) f all = by_file (file.0 == f) refl (prefixes_in held f all.1)
   where
-    here : HasRun file → HoldsPrefix file.0 (entries_found (found_in file.0 file.1)) file.1
-    here is = record { run = is.run; found = is.found; more = []; is = ap entries_found is.found ∙ sym (append-nil is.run.entries) }
+    here : HasPrefix file → HoldsPrefix file.0 (entries_scanned (scan_of file.0 file.1)) file.1
+    here is = record { run = is.run; found = is.found; more = []; is = ap entries_scanned is.found ∙ sym (append-nil is.run.entries) }
 
     by_file : (b : Bool) → (file.0 == f) ≡ b → HoldsPrefix f (unwrap_or (lookup (λ n. n == f) (log_in held)) []) (unwrap_or (lookup (λ n. n == f) held) []) →
-        HoldsPrefix f (unwrap_or (cond b (Some (entries_found (found_in file.0 file.1))) (lookup (λ n. n == f) (log_in held))) []) (unwrap_or (cond b (Some file.1) (lookup (λ n. n == f) held)) [])
-    by_file true same rest = subst (λ (n : ℕ). HoldsPrefix n (entries_found (found_in file.0 file.1)) file.1) (eqb-true _ _ same) (here all.0)
+        HoldsPrefix f (unwrap_or (cond b (Some (entries_scanned (scan_of file.0 file.1))) (lookup (λ n. n == f) (log_in held))) []) (unwrap_or (cond b (Some file.1) (lookup (λ n. n == f) held)) [])
+    by_file true same rest = subst (λ (n : ℕ). HoldsPrefix n (entries_scanned (scan_of file.0 file.1)) file.1) (eqb-true _ _ same) (here all.0)
     by_file false other rest = rest
 
 -- the log that was read, at each moment at which it is settled
@@ -317,14 +317,14 @@ prefixes_settling s x r w is = by_tail r.tail refl w.reading.answer.tail is
     held : List File
     held = w.reading.held
 
-    told : AreFiles s.reads held
-    told = w.reading.listed refl (w.listed refl)
+    observed : AreFiles s.reads held
+    observed = w.reading.listed refl (w.listed refl)
 
-    none : finding_in held ≡ None
-    none = (no_finding held _ w.reading.answer.meaning).0
+    none : corruption_in held ≡ None
+    none = (no_corruption held _ w.reading.answer.meaning).0
 
     entry : HoldPrefixes (log_in held) s.reads
-    entry f = subst (λ (o : Option (List ℕ)). HoldsPrefix f (entries_at (log_in held) f) (unwrap_or o [])) (told.each f) (prefixes_in held f (all_runs held none))
+    entry f = subst (λ (o : Option (List ℕ)). HoldsPrefix f (entries_at (log_in held) f) (unwrap_or o [])) (observed.each f) (prefixes_in held f (all_runs held none))
 
     by_states : (tail : Option LastFile) (log : Log) → HoldPrefixes log s.reads → HoldPrefixes log (cut_off tail s).reads → IsSettling tail s x → HoldPrefixes log x.reads
     by_states tail log before behind (inl (inl same)) = subst (λ (y : State). HoldPrefixes log y.reads) (sym same) before
@@ -334,7 +334,7 @@ prefixes_settling s x r w is = by_tail r.tail refl w.reading.answer.tail is
     by_tail : (tail : Option LastFile) → r.tail ≡ tail → IsTailOf held tail → IsSettling tail s x → HoldPrefixes (log_from tail held) x.reads
     by_tail None e empty settling =
         let first : HoldPrefixes ((0, []) ∷ []) s.reads =
-        λ f. subst (λ (o : Option (List ℕ)). HoldsPrefix f (entries_at ((0, []) ∷ []) f) (unwrap_or o [])) (ap (λ (h : List File). lookup (λ n. n == f) h) (sym empty) ∙ told.each f) (empty_prefix f (entries_at ((0, []) ∷ []) f)) in
+        λ f. subst (λ (o : Option (List ℕ)). HoldsPrefix f (entries_at ((0, []) ∷ []) f) (unwrap_or o [])) (ap (λ (h : List File). lookup (λ n. n == f) h) (sym empty) ∙ observed.each f) (empty_prefix f (entries_at ((0, []) ∷ []) f)) in
         by_states None ((0, []) ∷ []) first first settling
     by_tail (Some last) e tail settling = by_states (Some last) (log_in held) entry (by_test (nat_lt last.end last.len)) settling
       where
@@ -348,19 +348,19 @@ lookup_above (file ∷ front) f g bytes below above =
     ap (λ (b : Bool). cond b (Some file.1) (lookup (λ n. n == g) (front ++ (f, bytes) ∷ []))) (let under : file.0 < f = below.0 in let t : (file.0 == g) ≡ false = grind (arith, nat_tests) in t)
     ∙ lookup_above front f g bytes below.1 above
 
--- the last file that was read, cut off behind its run
+-- the last file that was read, cut off behind its valid prefix
 tail_cut : (reads : Files) (held : List File) (last : LastFile) → AreFiles reads held → IsLastOf held last → IsTailCut reads last.file.0 (option_map (take last.end) (reads last.file.0))
-tail_cut reads held last told is = record {
-  run = record { entries = entries_found (found_in last.file.0 is.bytes); last = last.last; end = last.end };
-  found = ap (λ (o : Option (List ℕ)). found_in last.file.0 (unwrap_or o [])) there ∙ is.found;
-  last = λ g above. sym (told.each g) ∙ ap (λ (h : List File). lookup (λ n. n == g) h) is.parts ∙ lookup_above is.before last.file.0 g is.bytes below above;
+tail_cut reads held last observed is = record {
+  run = record { entries = entries_scanned (scan_of last.file.0 is.bytes); last = last.last; end = last.end };
+  found = ap (λ (o : Option (List ℕ)). scan_of last.file.0 (unwrap_or o [])) there ∙ is.found;
+  last = λ g above. sym (observed.each g) ∙ ap (λ (h : List File). lookup (λ n. n == g) h) is.parts ∙ lookup_above is.before last.file.0 g is.bytes below above;
   cut = refl;
 } where
   below : AllByRecursion (λ (file : File). file.0 < last.file.0) is.before
-  below = below_last is.before (last.file.0, is.bytes) (subst (λ (h : List File). IsStrictlyIncreasing (numbers h)) is.parts told.rising)
+  below = below_last is.before (last.file.0, is.bytes) (subst (λ (h : List File). IsStrictlyIncreasing (numbers h)) is.parts observed.rising)
 
   there : reads last.file.0 ≡ Some is.bytes
-  there = sym (told.each last.file.0) ∙ ap (λ (h : List File). lookup (λ n. n == last.file.0) h) is.parts ∙ lookup-last is.before last.file.0 is.bytes (none_is is.before (last.file.0, is.bytes) below)
+  there = sym (observed.each last.file.0) ∙ ap (λ (h : List File). lookup (λ n. n == last.file.0) h) is.parts ∙ lookup-last is.before last.file.0 is.bytes (none_is is.before (last.file.0, is.bytes) below)
 
 -- at each moment at which it is settled, the files read as at entry, but for a torn tail
 read_settling : (s x : State) (r : ReadLog) (w : WasRead true s.reads r) → IsSettling r.tail s x → ReadAsAtEntry s.reads x.reads
@@ -369,8 +369,8 @@ read_settling s x r w is f = by_tail r.tail w.reading.answer.tail is
     held : List File
     held = w.reading.held
 
-    told : AreFiles s.reads held
-    told = w.reading.listed refl (w.listed refl)
+    observed : AreFiles s.reads held
+    observed = w.reading.listed refl (w.listed refl)
 
     by_states : (tail : Option LastFile) → (((cut_off tail s).reads f ≡ s.reads f) ⊎ IsTailCut s.reads f ((cut_off tail s).reads f)) → IsSettling tail s x → (x.reads f ≡ s.reads f) ⊎ IsTailCut s.reads f (x.reads f)
     by_states tail behind (inl (inl same)) = inl (ap (λ (y : State). y.reads f) same)
@@ -383,7 +383,7 @@ read_settling s x r w is f = by_tail r.tail w.reading.answer.tail is
         by_states (Some last) (subst (λ (o : Option (List ℕ)). (o ≡ s.reads f) ⊎ IsTailCut s.reads f o) (sym (settles (Some last) s f)) (by_test (nat_lt last.end last.len))) settling
       where
         by_file : (b : Bool) → (f == last.file.0) ≡ b → (cond b (option_map (take last.end) (s.reads last.file.0)) (s.reads f) ≡ s.reads f) ⊎ IsTailCut s.reads f (cond b (option_map (take last.end) (s.reads last.file.0)) (s.reads f))
-        by_file true same = inr (subst (λ (n : ℕ). IsTailCut s.reads n (option_map (take last.end) (s.reads last.file.0))) (sym (eqb-true _ _ same)) (tail_cut s.reads held last told tail))
+        by_file true same = inr (subst (λ (n : ℕ). IsTailCut s.reads n (option_map (take last.end) (s.reads last.file.0))) (sym (eqb-true _ _ same)) (tail_cut s.reads held last observed tail))
         by_file false other = inl refl
 
         by_test : (b : Bool) → (cond b (put_at s.reads last.file.0 (option_map (take last.end) (s.reads last.file.0)) f) (s.reads f) ≡ s.reads f)
@@ -400,25 +400,25 @@ read_whole reads r w = by_tail r.tail refl w.reading.answer.tail
     held : List File
     held = w.reading.held
 
-    none : (finding_in held ≡ None) × (gap_in (numbers held) ≡ None)
-    none = no_finding held _ w.reading.answer.meaning
+    none : (corruption_in held ≡ None) × (gap_in (numbers held) ≡ None)
+    none = no_corruption held _ w.reading.answer.meaning
 
     by_tail : (tail : Option LastFile) → r.tail ≡ tail → IsTailOf held tail → HasNoGap (log_from tail held)
     by_tail None e tail = record { is_log = first_log; small = (omega arith, tt); whole = refl }
     by_tail (Some last) e tail =
         let low : last.file.0 ≤ LAST_FILE = subst (λ (o : Option LastFile). IfSome o (λ l. l.file.0 ≤ LAST_FILE)) e w.small in
-        let state : State = record { reads = reads; marks = synced_marks reads; job = None } in
+        let state : State = record { reads = reads; crash_states = synced_crash_states reads; job = None } in
         let starts : StartsLog true (cut_off r.tail state).reads r.tail (log_from r.tail held) = starts_log true reads (cut_off r.tail state).reads r w (λ t. settles r.tail state) in
         let last_starts : StartsLog true (cut_off r.tail state).reads (Some last) (log_from (Some last) held) =
         subst (λ (o : Option LastFile). StartsLog true (cut_off r.tail state).reads o (log_from o held)) e starts in
         record {
           is_log = last_starts.0;
-          small = small_files (log_in held) last.file.0 (start_of (Some last)).offset last.last last_starts.0 last_starts.1 low;
+          small = small_files (log_in held) last.file.0 (log_start_of (Some last)).offset last.last last_starts.0 last_starts.1 low;
           whole = whole_from held (Some last) none.1;
         }
 
 -- images of a disk that keeps a whole log mean the store of its records
-images_mean : (log : Log) (store : Store) (s : State) → HasNoGap log → Recovers store (length (entries_of log)) [] (entries_of log) → KeepsLog log [] (length (entries_of log)) s.marks → HoldPrefixes log s.reads → ImagesMean s store
+images_mean : (log : Log) (store : Store) (s : State) → HasNoGap log → Recovers store (length (entries_of log)) [] (entries_of log) → KeepsLog log [] (length (entries_of log)) s.crash_states → HoldPrefixes log s.reads → ImagesMean s store
 images_mean log store s gap recovers keeps prefixes = λ image is chance.
     let all : ℕ = length (entries_of log) in
     all_recovered store store (commits_in all all (entries_of log)) image [] (omega arith) refl
@@ -438,9 +438,9 @@ read_means s x r w pending is =
 store_of_meaning : (held : List File) (a b : Meaning) → reading_of held ≡ Ok a → reading_of held ≡ Ok b → a.store ≡ b.store
 store_of_meaning held a b first second = ap (store_in a.store) (sym first ∙ second)
   where
-    store_in : Store → Result Meaning Finding → Store
+    store_in : Store → Result Meaning Corruption → Store
     store_in other (Ok meaning) = meaning.store
-    store_in other (Err finding) = other
+    store_in other (Err corruption) = other
 
 -- ---- moments
 
@@ -472,7 +472,7 @@ entry_settled old new reads r read same passes = record {
   by_order k lo hi (inr (inr behind)) = passes.each k behind hi
 
 -- an image of a disk where nothing is pending is what the files read as
-image_reads : (file image : Option (List ℕ)) → IsFileImage (synced_mark file) image → file ≡ image
+image_reads : (file image : Option (List ℕ)) → IsFileImage (synced_crash_state file) image → file ≡ image
 image_reads None None is = refl
 image_reads None (Some bytes) is = let allowed = is.allowed in cc
 image_reads (Some there) None is = cc
@@ -483,7 +483,7 @@ still_means s held meaning pending are reads = λ image is chance. (
   meaning,
   record {
     held = held;
-    are = record { rising = are.rising; each = λ f. are.each f ∙ image_reads (s.reads f) (image f) (subst (λ (m : Mark). IsFileImage m (image f)) (pending f) (is.files f)) };
+    are = record { rising = are.rising; each = λ f. are.each f ∙ image_reads (s.reads f) (image f) (subst (λ (m : CrashState). IsFileImage m (image f)) (pending f) (is.files f)) };
     reads = reads;
   },
   refl,

@@ -2,7 +2,7 @@
 use Rattle.std.proofs.Common.{◌≡◌, ◌≢◌, ℕ, ◌-◌, ◌^◌, ◌<◌, ◌≤◌, ◌||◌, nat_le, Bool, true, false, List, [], ◌∷◌, ◌++◌, length, None, refl, ap, sym, ◌∙◌, subst, inl, inr, ⊎_elim, arith}
 use Rattle.std.proofs.lemmas.Bool.{cases_Bool, cases_lt, cond-true, cond-false, le-leb, or_left, true≢false}
 use Rattle.std.specs.List.{AllByRecursion, list_any}
-use Rattle.je_disk.specs.Causes.{Rose}
+use Rattle.je_order.specs.Counts.{HasRisen}
 use Rattle.je_disk.specs.States.{State, Files}
 use Rattle.je_model.specs.declared.store.Store.{Store}
 use Rattle.je_model.specs.declared.totals.Totals.{Totals}
@@ -13,25 +13,25 @@ use Rattle.je_model.specs.declared.answer.Answer.TheVariants.{Done as Synced, Lo
 use Rattle.je_model.specs.Store.{store_after}
 use Rattle.je_model.specs.Answers.{Standing, after_event, after_events}
 use Rattle.je_model.specs.Journal.{answer_of, is_disk_fault, has_answer, acknowledges, AllAcknowledged, AreSyncedAtOnce, ComesLater, IsSyncedAtOnce, IsSyncedBy, commits_of}
-use Rattle.je_model.proofs.Journal.{store-after_events}
+use Rattle.je_model.proofs.JournalLaws.{store-after_events}
 use Rattle.log_buffer.specs.declared.buffer.LogBuffer.{LogBuffer}
 use Rattle.je_lsn.specs.Naming.{last_file}
 use Rattle.log_entry.specs.declared.entry.Entry.{Entry}
 use Rattle.log_buffer.specs.Log.{EndsAt}
-use Rattle.log_buffer.proofs.Logs.{AreBelow, below_last}
-use Rattle.log_replay.proofs.FilesLaws.{all_push}
+use Rattle.log_buffer.proofs.LogChanges.{AreBelow, below_last}
+use Rattle.je_order.proofs.Lists.{all_push}
 use Rattle.log_file.specs.Log.{Log, IsLog, AreFiles, entries_of, files_of_log}
-use Rattle.log_file.proofs.FilesLaws.{are_spelled_files, spelled_files}
-use Rattle.log_replay.specs.declared.finding.Finding.{Finding}
+use Rattle.log_file.proofs.FilesLaws.{are_encoded_files, encoded_files}
+use Rattle.log_replay.specs.declared.corruption.Corruption.{Corruption}
 use Rattle.log_replay.specs.Kept.{IsKept}
 use Rattle.log_replay.specs.Meaning.{Meaning, meaning_of}
 use Rattle.log_replay.specs.Rows.{Rows, store_of}
-use Rattle.log_replay.proofs.LogLaws.{kept_judged, kept_store}
+use Rattle.log_replay.proofs.LogLaws.{kept_validated, kept_store}
 use Rattle.log_replay.proofs.AgainLaws.{are_read_again}
 use Rattle.je_program.specs.declared.kept.Kept.{Kept}
 use Rattle.je_program.specs.declared.cause.Cause.{Cause}
 use Rattle.je_program.specs.declared.cause.Cause.TheVariants.{Done, Disk, Unreadable, Memory, LogFull, IdsEnded}
-use Rattle.je_program.specs.Environment.{IsAt, IsWhole, log_rule}
+use Rattle.je_program.specs.Environment.{IsAt, IsWholeLog, log_rule}
 use Rattle.je_program.specs.Program.{MeanStore, totals_of, final_store, ClosesBy, ClosesRun, EndsBy, RunsIf, is_before_disk}
 use Rattle.je_program.specs.Run.{IsCaused, cause_of_journal, cause_of_room, cause_of_answer}
 
@@ -84,8 +84,8 @@ no_fault_of_cause journal h =
       disk_is_not_done e = cc
 
 -- the totals that are kept are those of the store
-pub totals_are : {D : Type 0} → (most : ℕ) (tells : Bool) (state : State) (buffer : LogBuffer D) (kept : Kept) (st : Standing) → IsAt most tells state buffer kept st → kept.totals ≡ totals_of st.store
-totals_are most tells state buffer kept st here =
+pub totals_are : {D : Type 0} → (most : ℕ) (observable : Bool) (state : State) (buffer : LogBuffer D) (kept : Kept) (st : Standing) → IsAt most observable state buffer kept st → kept.totals ≡ totals_of st.store
+totals_are most observable state buffer kept st here =
     let make : ℕ → ℕ → Totals = λ d r. record { databases = d; records = r } in
     ap (λ d. make d kept.totals.records) here.databases ∙ ap (λ r. make (length st.store.databases) r) here.record_count_is
 
@@ -116,14 +116,14 @@ all_acknowledged (event ∷ events) none synced =
     (later_acknowledged event events parts.1 synced.0, all_acknowledged events parts.1 synced.1)
 
 -- a count that rose before a later moment, or after an earlier one, rose
-pub rose_later : (before mid after : ℕ) → Rose before mid → mid ≤ after → Rose before after
+pub rose_later : (before mid after : ℕ) → HasRisen before mid → mid ≤ after → HasRisen before after
 rose_later before mid after (inl less) later = inl (omega arith)
 rose_later before mid after (inr full) later = inr full
 
-pub rose_earlier : (before mid after : ℕ) → before ≤ mid → Rose mid after → mid ≤ after → Rose before after
+pub rose_earlier : (before mid after : ℕ) → before ≤ mid → HasRisen mid after → mid ≤ after → HasRisen before after
 rose_earlier before mid after earlier (inl less) later = inl (omega arith)
 rose_earlier before mid after earlier (inr full) later = up_to_full before mid after earlier full later where
-  up_to_full : (before mid after : ℕ) → before ≤ mid → mid ≡ 2 ^ 64 - 1 → mid ≤ after → Rose before after
+  up_to_full : (before mid after : ℕ) → before ≤ mid → mid ≡ 2 ^ 64 - 1 → mid ≤ after → HasRisen before after
   up_to_full before mid after earlier full later =
       ⊎_elim (λ (e : before < mid). inl (omega arith)) (λ (e : mid ≤ before). (let is : before ≡ 2 ^ 64 - 1 = omega arith in inr is)) (cases_lt before mid)
 
@@ -135,7 +135,7 @@ closes_run before mid after journal memory_ended old new caused closes later mem
   fault = λ h. rose_later before mid after (caused.fault h) later;
   failed = λ e. ⊎_elim
       (λ (same : new ≡ old). rose_later before mid after (caused.fault (fault_of_cause journal (sym (ends (not_memory memory_ended old (sym same ∙ e) memory)) ∙ sym same ∙ e))) later)
-      (λ (c : (new ≡ Disk) × Rose mid after × (old ≢ Memory)). rose_earlier before mid after caused.never_falls c.1 later)
+      (λ (c : (new ≡ Disk) × HasRisen mid after × (old ≢ Memory)). rose_earlier before mid after caused.never_falls c.1 later)
       closes;
 } where
   not_memory : (memory_ended : Bool) (old : Cause) → old ≡ Disk → (memory_ended ≡ true → old ≡ Memory) → memory_ended ≡ false
@@ -148,7 +148,7 @@ pub done_without_fault : (mid after : ℕ) (journal : List Event) (memory_ended 
 done_without_fault mid after journal memory_ended old new closes memory ends done =
     ⊎_elim
     (λ (same : new ≡ old). no_fault_of_cause journal (sym (ends (not_memory memory_ended old (sym same ∙ done) memory)) ∙ sym same ∙ done))
-    (λ (c : (new ≡ Disk) × Rose mid after × (old ≢ Memory)). absurd (disk_not_done (sym c.0 ∙ done)))
+    (λ (c : (new ≡ Disk) × HasRisen mid after × (old ≢ Memory)). absurd (disk_not_done (sym c.0 ∙ done)))
     closes where
       not_memory : (memory_ended : Bool) (old : Cause) → old ≡ Done → (memory_ended ≡ true → old ≡ Memory) → memory_ended ≡ false
       not_memory true old is memory = (let e : Done ≡ Memory = sym is ∙ memory refl in cc)
@@ -207,8 +207,8 @@ ran_after_reading LogFull ran = refl
 ran_after_reading IdsEnded ran = refl
 ran_after_reading cause ran = absurd ran
 
-pub ran_not_unreadable : (cause : Cause) (finding : Finding) → IsRanCause cause → cause ≡ Unreadable finding → ⊥
-ran_not_unreadable cause finding ran is = subst (λ (c : Cause). IsRanCause c) is ran
+pub ran_not_unreadable : (cause : Cause) (corruption : Corruption) → IsRanCause cause → cause ≡ Unreadable corruption → ⊥
+ran_not_unreadable cause corruption ran is = subst (λ (c : Cause). IsRanCause c) is ran
 
 -- with memory for all lines a run ends by its journal
 pub ends_by : (journal : List Event) (memory_ended : Bool) (cause : Cause) → (memory_ended ≡ true → cause ≡ Memory) → (memory_ended ≡ false → EndsBy journal cause) →
@@ -254,12 +254,12 @@ small_files log file offset last is ends small =
     (all_push (λ (file : ℕ × List Entry). file.0 ≤ last_file) ends.before end (below_all file ends.before small (below_last ends.before end parts)) small)
 
 -- the files of a log that is kept mean its records' store
-pub files_mean : (reads : Files) (log : Log) (file offset last : ℕ) (rows : Rows) (last_txn last_db : ℕ) (store : Store) → IsLog log → EndsAt log file offset last → file ≤ last_file → IsWhole log → IsKept (entries_of log) rows last_txn last_db → store_of rows ≡ store →
+pub files_mean : (reads : Files) (log : Log) (file offset last : ℕ) (rows : Rows) (last_txn last_db : ℕ) (store : Store) → IsLog log → EndsAt log file offset last → file ≤ last_file → IsWholeLog log → IsKept (entries_of log) rows last_txn last_db → store_of rows ≡ store →
     ((f : ℕ) → reads f ≡ files_of_log log f) → MeanStore reads store
 files_mean reads log file offset last rows last_txn last_db store is ends small whole kept made same =
-    let are : AreFiles reads (spelled_files log) = are_spelled_files reads log is.rising same in
+    let are : AreFiles reads (encoded_files log) = are_encoded_files reads log is.rising same in
     let meaning : Meaning = meaning_of (entries_of log) in (
       meaning,
-      record { held = spelled_files log; are = are; reads = are_read_again reads (spelled_files log) log is are same (small_files log file offset last is ends small) whole ∙ kept_judged log rows last_txn last_db kept },
+      record { held = encoded_files log; are = are; reads = are_read_again reads (encoded_files log) log is are same (small_files log file offset last is ends small) whole ∙ kept_validated log rows last_txn last_db kept },
       kept_store (entries_of log) rows last_txn last_db kept ∙ made,
     )

@@ -6,35 +6,35 @@ use Rattle.std.specs.List.{list_all}
 use Rattle.std.proofs.lemmas.Bool.{and_parts, cases_Bool, cond-false, eqb-true, eqb-false, ne_eqb, true≢false}
 use Rattle.je_model.specs.declared.call.Call.{Call}
 use Rattle.je_model.specs.declared.event.Event.{Event}
-use Rattle.je_model.specs.declared.plan.Given.{Given}
-use Rattle.je_model.specs.declared.plan.Given.TheVariants.{Session}
+use Rattle.je_model.specs.declared.plan.ScriptLine.{ScriptLine}
+use Rattle.je_model.specs.declared.plan.ScriptLine.TheVariants.{Session}
 use Rattle.je_model.specs.Journal.{lines_of}
 use Rattle.script_text.specs.Grammar.{is_line}
-use Rattle.je_program.specs.Run.{HasGiven, IsFront, of_session, is_of_session}
+use Rattle.je_program.specs.Run.{HasGiven, AreFirstLines, of_session, is_of_session}
 
 -- the first of lines that the grammar has, and those behind it
-pub first_line : (given : Given) (rest all : List Given) → all ≡ given ∷ rest → list_all is_line all ≡ true → (is_line given ≡ true) × (list_all is_line rest ≡ true)
+pub first_line : (given : ScriptLine) (rest all : List ScriptLine) → all ≡ given ∷ rest → list_all is_line all ≡ true → (is_line given ≡ true) × (list_all is_line rest ≡ true)
 first_line given rest all is h = and_parts (is_line given) (list_all is_line rest) (sym (ap (list_all is_line) is) ∙ h)
 
 -- one line more of a session's lines
-of_session-push : (session : ℕ) (lines : List Given) (given : Given) → of_session session (lines ++ given ∷ []) ≡ of_session session lines ++ of_session session (given ∷ [])
+of_session-push : (session : ℕ) (lines : List ScriptLine) (given : ScriptLine) → of_session session (lines ++ given ∷ []) ≡ of_session session lines ++ of_session session (given ∷ [])
 of_session-push session lines given = filter-append (is_of_session session) lines (given ∷ [])
 
 -- a line of another session is none of this one's
 of_other : (session other line : ℕ) (call : Call) → (other == session) ≡ false → of_session session (Session other line call ∷ []) ≡ []
 of_other session other line call h = cond-false (other == session) (Session other line call ∷ []) [] h
 
-others_same : (session other line : ℕ) (call : Call) (lines : List Given) → (other == session) ≡ false →
+others_same : (session other line : ℕ) (call : Call) (lines : List ScriptLine) → (other == session) ≡ false →
     of_session session (lines ++ Session other line call ∷ []) ≡ of_session session lines
 others_same session other line call lines h =
-    of_session-push session lines (Session other line call) ∙ ap (λ (l : List Given). of_session session lines ++ l) (of_other session other line call h)
+    of_session-push session lines (Session other line call) ∙ ap (λ (l : List ScriptLine). of_session session lines ++ l) (of_other session other line call h)
     ∙ append-nil (of_session session lines)
 
 -- a front stays one when a line more is given
-front_more : (session : ℕ) (given : Given) (front lines : List Given) → IsFront front (of_session session lines) → IsFront front (of_session session (lines ++ given ∷ []))
+front_more : (session : ℕ) (given : ScriptLine) (front lines : List ScriptLine) → AreFirstLines front (of_session session lines) → AreFirstLines front (of_session session (lines ++ given ∷ []))
 front_more session given front lines h = (
   h.0 ++ of_session session (given ∷ []),
-  of_session-push session lines given ∙ ap (λ (l : List Given). l ++ of_session session (given ∷ [])) h.1 ∙ append_assoc front h.0 (of_session session (given ∷ [])),
+  of_session-push session lines given ∙ ap (λ (l : List ScriptLine). l ++ of_session session (given ∷ [])) h.1 ∙ append_assoc front h.0 (of_session session (given ∷ [])),
 )
 
 eqb_sym : (a b : ℕ) → (b == a) ≡ false → (a == b) ≡ false
@@ -49,7 +49,7 @@ two_sessions stopped a b was not_was =
     (cases_Bool (a == b))
 
 -- a line of a session that was ended is not given
-pub given_skipped : (journal : List Event) (memory : Bool) (stopped : List Bool) (lines : List Given) (session line : ℕ) (call : Call) → HasGiven journal memory stopped lines →
+pub given_skipped : (journal : List Event) (memory : Bool) (stopped : List Bool) (lines : List ScriptLine) (session line : ℕ) (call : Call) → HasGiven journal memory stopped lines →
     get_or stopped session false ≡ true → HasGiven journal memory stopped (lines ++ Session session line call ∷ [])
 given_skipped journal memory stopped lines session line call has was = record {
   all = λ m. absurd (true≢false (sym was ∙ has.none_stopped m session));
@@ -59,30 +59,30 @@ given_skipped journal memory stopped lines session line call has was = record {
 }
 
 -- a line that was given
-pub given_line : (old new : List Event) (memory : Bool) (stopped : List Bool) (lines : List Given) (session line : ℕ) (call : Call) → HasGiven old memory stopped lines →
+pub given_line : (old new : List Event) (memory : Bool) (stopped : List Bool) (lines : List ScriptLine) (session line : ℕ) (call : Call) → HasGiven old memory stopped lines →
     get_or stopped session false ≡ false → lines_of new ≡ lines_of old ++ Session session line call ∷ [] → HasGiven new memory stopped (lines ++ Session session line call ∷ [])
 given_line old new memory stopped lines session line call has running is =
-    let given : Given = Session session line call in
+    let given : ScriptLine = Session session line call in
     let each : (s : ℕ) → get_or stopped s false ≡ false → of_session s (lines_of new) ≡ of_session s (lines ++ given ∷ []) = λ s r.
-    ap (of_session s) is ∙ of_session-push s (lines_of old) given ∙ ap (λ (l : List Given). l ++ of_session s (given ∷ [])) (has.each s r) ∙ sym (of_session-push s lines given) in
+    ap (of_session s) is ∙ of_session-push s (lines_of old) given ∙ ap (λ (l : List ScriptLine). l ++ of_session s (given ∷ [])) (has.each s r) ∙ sym (of_session-push s lines given) in
     record {
-      all = λ m. is ∙ ap (λ (l : List Given). l ++ given ∷ []) (has.all m);
+      all = λ m. is ∙ ap (λ (l : List ScriptLine). l ++ given ∷ []) (has.all m);
       none_stopped = has.none_stopped;
       each = each;
       front = λ s. ⊎_elim
           (λ (e : get_or stopped s false ≡ true).
           let apart = eqb_sym session s (two_sessions stopped s session e running) in
-          subst (λ (l : List Given). IsFront l (of_session s (lines ++ given ∷ []))) (sym (ap (of_session s) is ∙ others_same s session line call (lines_of old) apart))
+          subst (λ (l : List ScriptLine). AreFirstLines l (of_session s (lines ++ given ∷ []))) (sym (ap (of_session s) is ∙ others_same s session line call (lines_of old) apart))
           (front_more s given (of_session s (lines_of old)) lines (has.front s)))
           (λ (e : get_or stopped s false ≡ false). ([], sym (each s e) ∙ sym (append-nil (of_session s (lines_of new)))))
           (cases_Bool (get_or stopped s false));
     }
 
 -- a line that found no memory ends its session
-pub given_stopped : (old new : List Event) (memory : Bool) (stopped : List Bool) (lines : List Given) (session line : ℕ) (call : Call) → HasGiven old memory stopped lines →
+pub given_stopped : (old new : List Event) (memory : Bool) (stopped : List Bool) (lines : List ScriptLine) (session line : ℕ) (call : Call) → HasGiven old memory stopped lines →
     session < length stopped → new ≡ old → HasGiven new true (set stopped session true) (lines ++ Session session line call ∷ [])
 given_stopped old new memory stopped lines session line call has within same =
-    let given : Given = Session session line call in
+    let given : ScriptLine = Session session line call in
     let now_stopped : get_or (set stopped session true) session false ≡ true = get_or-set_same stopped session true false within in
     let here : HasGiven old true (set stopped session true) (lines ++ given ∷ []) = record {
       all = λ m. absurd (true≢false m);

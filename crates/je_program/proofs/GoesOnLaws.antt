@@ -39,36 +39,36 @@ numbered_plain answer commits plain = tt
 
 module _ {D : Type 0} where
   -- what a call comes to, where the environment is valid
-  pub plan_of : (most : ℕ) (tells : Bool) (state : State) (buffer : LogBuffer D) (kept : Kept) (st : Standing) (call : Call) (planned : Planned) → IsAt most tells state buffer kept st → kept.fault ≡ None →
+  pub plan_of : (most : ℕ) (observable : Bool) (state : State) (buffer : LogBuffer D) (kept : Kept) (st : Standing) (call : Call) (planned : Planned) → IsAt most observable state buffer kept st → kept.fault ≡ None →
       kept.last_db < 2 ^ 32 → IsTrue (is_word (database_named call)) → has_line call ≡ true → planned ≡ planned_of kept call → IsPlanned kept st call planned
-  plan_of most tells state buffer kept st call planned here valid few word line is =
-      subst (λ (p : Planned). IsPlanned kept st call p) (sym is) (planned_right kept st call (fits_at most tells state buffer kept st here (sym here.fault ∙ valid) few) word line)
+  plan_of most observable state buffer kept st call planned here valid few word line is =
+      subst (λ (p : Planned). IsPlanned kept st call p) (sym is) (planned_right kept st call (fits_at most observable state buffer kept st here (sym here.fault ∙ valid) few) word line)
 
-  pub answered_goes_on : (most : ℕ) (tells : Bool) (state : State) (buffer : LogBuffer D) (kept : Kept) (st : Standing) (call : Call) (answer : Answer) → IsAt most tells state buffer kept st → kept.fault ≡ None →
-      kept.last_txn < LAST_TXN → IsPlanned kept st call (Answered answer) → GoesOn most tells state buffer (record kept { last_txn = kept.last_txn + 1 }) st call (Ok answer)
-  answered_goes_on most tells state buffer kept st call answer here valid below planned =
+  pub answered_goes_on : (most : ℕ) (observable : Bool) (state : State) (buffer : LogBuffer D) (kept : Kept) (st : Standing) (call : Call) (answer : Answer) → IsAt most observable state buffer kept st → kept.fault ≡ None →
+      kept.last_txn < LAST_TXN → IsPlanned kept st call (Answered answer) → GoesOn most observable state buffer (record kept { last_txn = kept.last_txn + 1 }) st call (Ok answer)
+  answered_goes_on most observable state buffer kept st call answer here valid below planned =
       let due : answer_to (log_rule most) st call ≡ answer =
       answer_is most st.fault st call (sym here.fault ∙ valid) (subst (λ n. n < LAST_TXN) here.last_txn below)
       ∙ ap (λ m. valid_answer (log_rule m) st call) (sym here.file_max) ∙ planned.0 in
-      (subst (λ (a : Answer). MayAnswer a answer) (sym due) (may_plain answer planned.1), answered_at most tells state buffer kept st call answer here below planned.1, numbered_plain answer kept.commits planned.1)
+      (subst (λ (a : Answer). MayAnswer a answer) (sym due) (may_plain answer planned.1), answered_at most observable state buffer kept st call answer here below planned.1, numbered_plain answer kept.commits planned.1)
 
-  pub logged_goes_on : (most : ℕ) (tells : Bool) (before after : State) (buffer longer : LogBuffer D) (old new : Kept) (st : Standing) (call : Call) (number : ℕ) (change : Change) (totals : Totals) (result : Result Answer AllocError) →
-      IsAt most tells before buffer old st → old.fault ≡ None → old.last_txn < LAST_TXN → old.end.offset < 2 ^ 32 → IsLogged old st call number change totals →
-      LogsChange tells before after buffer longer old new number change totals result → GoesOn most tells after longer new st call result
-  logged_goes_on most tells before after buffer longer old new st call number change totals (Ok (Logged commit)) here valid below bound logged logs =
+  pub logged_goes_on : (most : ℕ) (observable : Bool) (before after : State) (buffer longer : LogBuffer D) (old new : Kept) (st : Standing) (call : Call) (number : ℕ) (change : Change) (totals : Totals) (result : Result Answer AllocError) →
+      IsAt most observable before buffer old st → old.fault ≡ None → old.last_txn < LAST_TXN → old.end.offset < 2 ^ 32 → IsLogged old st call number change totals →
+      LogsChange observable before after buffer longer old new number change totals result → GoesOn most observable after longer new st call result
+  logged_goes_on most observable before after buffer longer old new st call number change totals (Ok (Logged commit)) here valid below bound logged logs =
       let due : answer_to (log_rule most) st call ≡ Logged (st.commits + 1) =
       answer_is most st.fault st call (sym here.fault ∙ valid) (subst (λ n. n < LAST_TXN) here.last_txn below)
       ∙ ap (λ m. valid_answer (log_rule m) st call) (sym here.file_max) ∙ logged.answer in
       let number_is : commit ≡ st.commits + 1 = logs.0 ∙ ap (λ n. n + 1) here.commits in (
         subst (λ (a : Answer). MayAnswer a (Logged commit)) (sym due) (inl (ap Logged number_is)),
-        logged_at most tells before after buffer longer old new st call commit number change totals here (sym here.fault ∙ valid) below bound logged logs.1 logs.2 logs.3,
+        logged_at most observable before after buffer longer old new st call commit number change totals here (sym here.fault ∙ valid) below bound logged logs.1 logs.2 logs.3,
         logs.0 ∙ sym (logs.1.commits),
       )
-  logged_goes_on most tells before after buffer longer old new st call number change totals (Ok DiskFault) here valid below bound logged logs =
+  logged_goes_on most observable before after buffer longer old new st call number change totals (Ok DiskFault) here valid below bound logged logs =
       let due : answer_to (log_rule most) st call ≡ Logged (st.commits + 1) =
       answer_is most st.fault st call (sym here.fault ∙ valid) (subst (λ n. n < LAST_TXN) here.last_txn below)
       ∙ ap (λ m. valid_answer (log_rule m) st call) (sym here.file_max) ∙ logged.answer in
-      (subst (λ (a : Answer). MayAnswer a DiskFault) (sym due) (inr refl), faulted_at most tells before after buffer longer old new st call here below logs, tt)
-  logged_goes_on most tells before after buffer longer old new st call number change totals (Ok answer) here valid below bound logged logs = absurd logs
-  logged_goes_on most tells before after buffer longer old new st call number change totals (Err error) here valid below bound logged logs =
-      same_at most tells before after buffer longer old new st here logs.0 logs.1
+      (subst (λ (a : Answer). MayAnswer a DiskFault) (sym due) (inr refl), faulted_at most observable before after buffer longer old new st call here below logs, tt)
+  logged_goes_on most observable before after buffer longer old new st call number change totals (Ok answer) here valid below bound logged logs = absurd logs
+  logged_goes_on most observable before after buffer longer old new st call number change totals (Err error) here valid below bound logged logs =
+      same_at most observable before after buffer longer old new st here logs.0 logs.1

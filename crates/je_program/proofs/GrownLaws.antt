@@ -2,25 +2,25 @@
 use Rattle.std.proofs.Common.{◌≡◌, ℕ, ◌+◌, ◌<◌, ◌≤◌, ◌^◌, ◌==◌, cond, Bool, true, false, List, [], ◌∷◌, ◌++◌, refl, ap, ap₂, sym, ◌∙◌, subst, arith, append_assoc}
 use Rattle.std.proofs.lemmas.Bool.Decides.{nat_tests}
 use Rattle.std.proofs.lemmas.Bool.{eqb-true}
-use Rattle.je_disk.specs.States.{Mark}
+use Rattle.je_disk.specs.States.{CrashState}
 use Rattle.log_entry.specs.declared.entry.Entry.{Entry}
 use Rattle.log_entry.specs.Body.{IsEntry}
-use Rattle.log_entry.specs.Spelling.{size_of}
+use Rattle.log_entry.specs.Encoding.{size_of}
 use Rattle.log_entry.proofs.BodyLaws.{body_small}
 use Rattle.log_file.specs.Scan.{may_follow}
 use Rattle.log_file.specs.Log.{Log, IsLog, AreFileEntries, entries_of}
-use Rattle.log_file.proofs.SpelledLaws.{grow_by_append}
-use Rattle.log_buffer.specs.declared.place.Place.{Place}
+use Rattle.log_file.proofs.EncodedLaws.{grow_by_append}
+use Rattle.log_buffer.specs.declared.log_pos.LogPos.{LogPos}
 use Rattle.log_buffer.specs.Crash.{KeepsLog}
 use Rattle.log_buffer.specs.Flip.{behind, end_after, end_after_all, goes_in, header_size, next_file, placed_at}
 use Rattle.log_buffer.specs.Log.{EndsAt, log_with}
-use Rattle.log_buffer.proofs.Logs.{AreBelow, below_last, below_more, below_push, is_log_last, is_log_push, last_entries, with_last, with_next}
-use Rattle.log_buffer.proofs.Splits.{below_at}
+use Rattle.log_buffer.proofs.LogChanges.{AreBelow, below_last, below_more, below_push, is_log_last, is_log_push, last_entries, with_last, with_next}
+use Rattle.log_buffer.proofs.LogSplits.{below_at}
 use Rattle.log_buffer.proofs.GrowthLaws.{EndsIn, ends_in}
 use Rattle.crash_meaning.specs.Reading.{HasNoGap}
 use Rattle.log_buffer.specs.Growth.{log_with_all}
 use Rattle.je_program.specs.declared.kept.TheConstants.{LAST_FILE}
-use Rattle.je_program.specs.Environment.{IsWhole}
+use Rattle.je_program.specs.Environment.{IsWholeLog}
 use Rattle.je_program.proofs.AppendLaws.{Grows, grows}
 use Rattle.je_program.proofs.FinishLaws.{small_files}
 use Rattle.je_program.proofs.FlipLaws.{file_rises, placed_in}
@@ -68,7 +68,7 @@ fits_here : (most offset size : ℕ) → most ≤ 2 ^ 30 → size < 2 ^ 25 → g
 fits_here most offset size max small goes = grind (arith, nat_tests)
 
 -- an entry where the flip rule puts it
-pub longer_at : (most : ℕ) (end : Place) (last : ℕ) (log : Log) (e : Entry) → most ≤ 2 ^ 30 → IsLog log → EndsAt log end.file end.offset last → IsEntry e → may_follow e ≡ true →
+pub longer_at : (most : ℕ) (end : LogPos) (last : ℕ) (log : Log) (e : Entry) → most ≤ 2 ^ 30 → IsLog log → EndsAt log end.file end.offset last → IsEntry e → may_follow e ≡ true →
     (placed_at most end (size_of e)).file ≤ LAST_FILE → IsLonger log (placed_at most end (size_of e)).file (end_after most end (size_of e)).offset e
 longer_at most end last log e max is ends entry follows = by_case (goes_in most end.offset (size_of e)) refl
   where
@@ -83,16 +83,16 @@ longer_at most end last log e max is ends entry follows = by_case (goes_in most 
 -- ---- two entries more
 
 -- the log with both
-pub record IsLongerByBoth (most : ℕ) (end : Place) (a b : Entry) (log : Log) : Type 0 where
+pub record IsLongerByBoth (most : ℕ) (end : LogPos) (a b : Entry) (log : Log) : Type 0 where
   pub gap : HasNoGap (log_with_all most end (a ∷ b ∷ []) log)
   pub entries : entries_of (log_with_all most end (a ∷ b ∷ []) log) ≡ entries_of log ++ a ∷ b ∷ []
   pub ends : EndsIn log end
 
-pub longer_by_both : (most : ℕ) (end : Place) (last : ℕ) (a b : Entry) (log : Log) → most ≤ 2 ^ 30 → IsLog log → EndsAt log end.file end.offset last → IsWhole log →
+pub longer_by_both : (most : ℕ) (end : LogPos) (last : ℕ) (a b : Entry) (log : Log) → most ≤ 2 ^ 30 → IsLog log → EndsAt log end.file end.offset last → IsWholeLog log →
     IsEntry a × IsEntry b → (may_follow a ≡ true) × (may_follow b ≡ true) → (end_after_all most end (size_of a ∷ size_of b ∷ [])).file ≤ LAST_FILE → IsLongerByBoth most end a b log
 longer_by_both most end last a b log max is ends whole entries follow room =
     let f = (placed_at most end (size_of a)).file in
-    let middle : Place = end_after most end (size_of a) in
+    let middle : LogPos = end_after most end (size_of a) in
     let g = (placed_at most middle (size_of b)).file in
     let rises : f ≤ g = file_rises most middle (size_of b) in
     let one : IsLonger log f middle.offset a = longer_at most end last log a max is ends entries.0 follow.0 (omega (arith, room)) in

@@ -14,15 +14,15 @@ use Rattle.je_model.specs.declared.store.Store.{Store}
 use Rattle.je_model.specs.Store.{store_after}
 use Rattle.je_model.specs.Answers.{Standing, after_call, after_event, after_events}
 use Rattle.je_model.specs.Journal.{attempt_of, attempts_of, durable_by, has_answer, is_disk_fault, is_logged, synced_of}
-use Rattle.je_model.proofs.Journal.{after_events-append}
+use Rattle.je_model.proofs.JournalLaws.{after_events-append}
 use Rattle.log_file.specs.Log.{Log, AreFiles, entries_of, files_of_log}
-use Rattle.log_file.proofs.FilesLaws.{are_spelled_files, logs_are_found, spelled_files}
+use Rattle.log_file.proofs.FilesLaws.{are_encoded_files, logs_are_found, encoded_files}
 use Rattle.log_buffer.specs.declared.buffer.LogBuffer.{LogBuffer}
 use Rattle.log_buffer.specs.Buffer.{disk_of, first_of, has_failed, IsUnchanged}
 use Rattle.log_buffer.specs.Crash.{Holds, KeepsRead, KeptThrough}
 use Rattle.log_buffer.specs.Log.{HasLog}
-use Rattle.log_buffer.proofs.Keeping.{log_kept}
-use Rattle.log_buffer.proofs.Prefixes.{told_prefixes}
+use Rattle.log_buffer.proofs.BufferLog.{log_kept}
+use Rattle.log_buffer.proofs.Prefixes.{observed_prefixes}
 use Rattle.crash_meaning.specs.Reading.{HasNoGap}
 use Rattle.crash_meaning.specs.Recovery.{Recovers, commits_in}
 use Rattle.je_program.specs.Environment.{log_rule}
@@ -33,17 +33,17 @@ use Rattle.je_program.proofs.SafeLaws.{guarded_on, log_after-append, attempts-pu
 -- ---- one log
 
 module _ {D : Type 0} where
-  -- what a buffer has over a disk that tells is one log
+  -- what a buffer has over an observable disk is one log
   pub one_log : (state : State) (buffer : LogBuffer D) (a b : Log) → HasLog true state buffer a → HasLog true state buffer b → a ≡ b
   one_log state buffer a b has_a has_b =
       let reads : Files = files_of_log a in
-      let are : AreFiles reads (spelled_files a) = are_spelled_files reads a has_a.is_log.rising (λ f. refl) in
-      sym (logs_are_found reads (spelled_files a) a has_a.is_log are (λ f. refl))
-      ∙ logs_are_found reads (spelled_files a) b has_b.is_log are (λ f. sym (has_a.told refl f) ∙ has_b.told refl f)
+      let are : AreFiles reads (encoded_files a) = are_encoded_files reads a has_a.is_log.rising (λ f. refl) in
+      sym (logs_are_found reads (encoded_files a) a has_a.is_log are (λ f. refl))
+      ∙ logs_are_found reads (encoded_files a) b has_b.is_log are (λ f. sym (has_a.observed refl f) ∙ has_b.observed refl f)
 
   -- what a crash keeps of a buffer's log
   pub keeping_read : (state : State) (buffer : LogBuffer D) (log : Log) (least : ℕ) (begun : Option ℕ) → IsKeeping state buffer log least begun → KeepsRead log [] least state
-  keeping_read state buffer log least begun keeping = record { keeps = keeping.holds.kept.keeps; read = keeping.holds.kept.read; prefixes = told_prefixes true state buffer log refl keeping.has }
+  keeping_read state buffer log least begun keeping = record { keeps = keeping.holds.kept.keeps; read = keeping.holds.kept.read; prefixes = observed_prefixes true state buffer log refl keeping.has }
 
   -- a buffer that is unchanged keeps its log
   pub keeping_unchanged : (state_of : D → State) (old new : LogBuffer D) (log : Log) (least : ℕ) (begun : Option ℕ) → IsUnchanged old new →

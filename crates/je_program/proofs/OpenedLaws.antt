@@ -1,7 +1,7 @@
 -- An environment that was opened is a guarded run that begins.
 use Rattle.std.proofs.Common.{◌≡◌, ℕ, true, false, List, [], ◌∷◌, ◌++◌, Option, Some, None, Result, Ok, Err, IfOk, IfErr, OnOk, length, refl, ap, sym, ◌∙◌, subst}
 use Rattle.std.proofs.lemmas.List.{append-nil}
-use Rattle.je_disk.specs.States.{Files, synced_marks}
+use Rattle.je_disk.specs.States.{Files, synced_crash_states}
 use Rattle.je_disk.specs.Moments.{History, now}
 use Rattle.je_model.specs.declared.store.Store.{Store}
 use Rattle.je_model.specs.Answers.{Standing}
@@ -17,7 +17,7 @@ use Rattle.log_replay.specs.UnderWay.{IsTailOf}
 use Rattle.log_replay.proofs.FilesLaws.{entries_of-append}
 use Rattle.je_program.specs.declared.kept.Kept.{Kept}
 use Rattle.je_program.specs.Guarded.{log_opened, IsOpenedSafely}
-use Rattle.je_program.specs.Opening.{WasRead, IsOpenedAt, kept_at_start, start_of}
+use Rattle.je_program.specs.Opening.{WasRead, IsOpenedAt, kept_at_start, log_start_of}
 use Rattle.je_program.specs.Run.{StartsAt}
 use Rattle.je_program.proofs.ClosedLaws.{guarded_none}
 use Rattle.je_program.proofs.OpeningLaws.{log_from, opened_at}
@@ -51,26 +51,26 @@ on_ok_map (Ok x) P Q f h = f h
 on_ok_map (Err e) P Q f h = tt
 
 module _ {D : Type 0} where
-  pub opened_safely : (most : ℕ) (reads : Files) (history : History) (buffer : LogBuffer D) (r : ReadLog) (w : WasRead true reads r) → HasLog true (now history) buffer (log_from r.tail w.reading.held) → (now history).marks ≡ synced_marks (now history).reads →
+  pub opened_safely : (most : ℕ) (reads : Files) (history : History) (buffer : LogBuffer D) (r : ReadLog) (w : WasRead true reads r) → HasLog true (now history) buffer (log_from r.tail w.reading.held) → (now history).crash_states ≡ synced_crash_states (now history).reads →
       Holds (log_from r.tail w.reading.held) [] (length (entries_of (log_from r.tail w.reading.held))) None (first_of buffer) (now history) →
-      end_of buffer ≡ start_of r.tail → file_max_of buffer ≡ most → has_failed buffer ≡ false →
-      IsOpenedSafely most reads r.replayed.opening history buffer (kept_at_start r.replayed (start_of r.tail) most)
+      end_of buffer ≡ log_start_of r.tail → file_max_of buffer ≡ most → has_failed buffer ≡ false →
+      IsOpenedSafely most reads r.replayed.opening history buffer (kept_at_start r.replayed (log_start_of r.tail) most)
   opened_safely most reads history buffer r w has stable holds end max works =
       by_opened (opened_at most true reads (now history) buffer r w has end max works)
     where
-      by_opened : (opened : (st : Standing) × IsOpenedAt most true reads (now history) buffer r.replayed.opening (kept_at_start r.replayed (start_of r.tail) most) st) →
-          IsOpenedSafely most reads r.replayed.opening history buffer (kept_at_start r.replayed (start_of r.tail) most)
+      by_opened : (opened : (st : Standing) × IsOpenedAt most true reads (now history) buffer r.replayed.opening (kept_at_start r.replayed (log_start_of r.tail) most) st) →
+          IsOpenedSafely most reads r.replayed.opening history buffer (kept_at_start r.replayed (log_start_of r.tail) most)
       by_opened opened =
           let st : Standing = opened.0 in
           let starts : StartsAt true reads r.replayed.opening st = opened.1.starts in
-          let same : w.reading.held ≡ starts.held = are_one_list reads w.reading.held starts.held (w.reading.listed refl (w.listed refl)) (starts.told refl) in
+          let same : w.reading.held ≡ starts.held = are_one_list reads w.reading.held starts.held (w.reading.listed refl (w.listed refl)) (starts.observed refl) in
           let log_is : log_from r.tail w.reading.held ≡ log_opened starts.held = log_from_is r.tail w.reading.held w.reading.answer.tail ∙ ap log_opened same in
           record {
             st = st;
             starts = starts;
             here = opened.1.here;
             stable = stable;
-            guarded = guarded_none most st (log_opened starts.held) history buffer (kept_at_start r.replayed (start_of r.tail) most) opened.1.here starts.fault starts.commits
+            guarded = guarded_none most st (log_opened starts.held) history buffer (kept_at_start r.replayed (log_start_of r.tail) most) opened.1.here starts.fault starts.commits
                 (subst (λ (l : Log). HasLog true (now history) buffer l) log_is has) (subst (λ (l : Log). Holds l [] (length (entries_of l)) None (first_of buffer) (now history)) log_is holds);
           }
 

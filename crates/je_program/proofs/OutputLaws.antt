@@ -38,9 +38,9 @@ part_of_first a b x y p =
       whole (a ∷ x) y = ap (λ l. a ∷ l) (whole x y)
 
 -- the same of a second write's result
-pub both_told : {T E : Type 0} → (a b c : Option (List ℕ)) (x y : List ℕ) (r : Result T E) → Gains a b x → OnOk r (Gains b c y) → OnOk r (Gains a c (x ++ y))
-both_told a b c x y (Ok t) p q = gains_both a b c x y p q
-both_told a b c x y (Err e) p q = tt
+pub both_observed : {T E : Type 0} → (a b c : Option (List ℕ)) (x y : List ℕ) (r : Result T E) → Gains a b x → OnOk r (Gains b c y) → OnOk r (Gains a c (x ++ y))
+both_observed a b c x y (Ok t) p q = gains_both a b c x y p q
+both_observed a b c x y (Err e) p q = tt
 
 pub both_part : {T E : Type 0} → (a b c : Option (List ℕ)) (x y : List ℕ) (r : Result T E) → Gains a b x → OnErr r (GainsPart b c y) → OnErr r (GainsPart a c (x ++ y))
 both_part a b c x y (Ok t) p q = tt

@@ -24,11 +24,12 @@ use Rattle.je_model.specs.Evaluation.{Outcome, evaluation, evaluation_in, databa
 use Rattle.je_model.specs.Answers.{LogEnd, Standing, access_refusal, answer_unless, creation_refusal, evaluated_answer, length_refusal, logging_answer, made_by, or_refusal, too_long, valid_answer}
 use Rattle.log_entry.specs.Body.{IsEntry}
 use Rattle.script_text.specs.Grammar.{has_line}
-use Rattle.log_replay.specs.Rows.{Row, Rows, rows_in, row_at, row_changed, data_at, number_in, numbers_of, is_environment, IsRising, are_plain, pair_of, store_of}
+use Rattle.log_replay.specs.Rows.{Row, Rows, rows_in, row_at, row_changed, data_at, catalog_number, numbers_of, is_environment, IsRising, are_plain, pair_of, store_of}
 use Rattle.log_replay.specs.Kept.{row_change_of, HasNumber, MayBeLogged}
-use Rattle.log_replay.specs.Logging.{entry_of}
+use Rattle.log_replay.specs.Logging.{change_entry}
 use Rattle.log_replay.proofs.ListLaws.{all_of_map, found}
-use Rattle.log_replay.proofs.RowLaws.{equal_from_test, name_exact, pair_at-rows, row_of_data, dups_empty}
+use Rattle.log_replay.proofs.RowLaws.{pair_at-rows, row_of_data, dups_empty}
+use Rattle.je_order.proofs.Orderings.{equal_from_test, name_exact}
 use Rattle.log_replay.proofs.StoreLaws.{number_of_row, database_of-absent, database_of-numbered, has_number-plain, length-databases, store_of-changed}
 use Rattle.log_replay.proofs.TotalLaws.{databases-make, databases-set, databases-unset, record_count-make, record_count-set, record_count-set_again, record_count-unset}
 use Rattle.je_program.specs.declared.kept.Kept.{Kept}
@@ -82,7 +83,7 @@ unless_planned kept st call (Some refusal) answer planned plain e rest = (e, pla
 -- a change may be logged, and the totals are those after it
 record CanBeLogged (kept : Kept) (st : Standing) (number : ℕ) (change : Change) (totals : Totals) : Type 0 where
   may : MayBeLogged (rows_in kept.rows) kept.last_db number change
-  entry : (txn : ℕ) → txn ≤ 2 ^ 63 - 1 → IsEntry (entry_of txn number change)
+  entry : (txn : ℕ) → txn ≤ 2 ^ 63 - 1 → IsEntry (change_entry txn number change)
   databases : totals.databases ≡ length (all_changed (change ∷ []) st.store).databases
   records : totals.records ≡ record_count (all_changed (change ∷ []) st.store)
 
@@ -126,8 +127,8 @@ room_planned kept st call number change totals answer changes can =
 number_at_most : (rows : Rows) (last_db number : ℕ) (name : List ℕ) → AllByRecursion (λ n. n ≤ last_db) (numbers_of rows) → HasNumber rows name number → number ≤ last_db
 number_at_most rows last_db number name known has =
     let row = row_of_data (plain_name name) (rows 0) has.0 has.1 in
-    subst (λ n. n ≤ last_db) (ap number_in row.2 ∙ has.2)
-    (found (λ (r : Row). number_in r.1 ≤ last_db) (λ r. is_eq (name_cmp r.0 (plain_name name))) (rows 0) row.0 row.1
+    subst (λ n. n ≤ last_db) (ap catalog_number row.2 ∙ has.2)
+    (found (λ (r : Row). catalog_number r.1 ≤ last_db) (λ r. is_eq (name_cmp r.0 (plain_name name))) (rows 0) row.0 row.1
     (all_of_map number_of_row (λ n. n ≤ last_db) (rows 0) known)).0
 
 -- the answer to a call on the records of its database, if it is there
@@ -173,14 +174,14 @@ set_logged kept st db key value number fits has key_fits value_fits =
 
 -- a put, by what the catalog has of its database
 put_planned : (kept : Kept) (st : Standing) (db key value : List ℕ) (o : Option (List ℕ)) → Fits kept (standing_of kept st) →
-    data_at (plain_name db) (rows_in kept.rows 0) ≡ o → IsPlanned kept (standing_of kept st) (Put db key value) (planned_put kept db key value (option_map number_in o))
+    data_at (plain_name db) (rows_in kept.rows 0) ≡ o → IsPlanned kept (standing_of kept st) (Put db key value) (planned_put kept db key value (option_map catalog_number o))
 put_planned kept st db key value None fits e =
     (ap (accessed kept.file_max (standing_of kept st) (Put db key value)) (database_of-absent (rows_in kept.rows) db fits.environment e), tt)
 put_planned kept st db key value (Some bytes) fits e =
     let rows : Rows = rows_in kept.rows in
     let call : Call = Put db key value in
     let change : Change = Set db (plain_name key) value in
-    let number : ℕ = number_in bytes in
+    let number : ℕ = catalog_number bytes in
     let has : HasNumber rows db number = (bytes, e, refl) in
     let there : database_of db (store_of rows) ≡ Some (database_at rows db number) = database_of-numbered rows db number fits.environment has in
     unless_planned kept (standing_of kept st) call (length_refusal call) (logging_answer (log_rule kept.file_max) (standing_of kept st) (change ∷ []))
@@ -210,13 +211,13 @@ read_planned kept st key call rows (Some row) plain e answer =
 
 -- a get, by what the catalog has of its database
 get_planned : (kept : Kept) (st : Standing) (db key : List ℕ) (rmw : Bool) (o : Option (List ℕ)) → Fits kept (standing_of kept st) →
-    data_at (plain_name db) (rows_in kept.rows 0) ≡ o → IsPlanned kept (standing_of kept st) (Get db key rmw) (planned_get kept db key (option_map number_in o))
+    data_at (plain_name db) (rows_in kept.rows 0) ≡ o → IsPlanned kept (standing_of kept st) (Get db key rmw) (planned_get kept db key (option_map catalog_number o))
 get_planned kept st db key rmw None fits e =
     (ap (accessed kept.file_max (standing_of kept st) (Get db key rmw)) (database_of-absent (rows_in kept.rows) db fits.environment e), tt)
 get_planned kept st db key rmw (Some bytes) fits e =
     let rows : Rows = rows_in kept.rows in
     let call : Call = Get db key rmw in
-    let number : ℕ = number_in bytes in
+    let number : ℕ = catalog_number bytes in
     let has : HasNumber rows db number = (bytes, e, refl) in
     let plain : are_plain (rows number) ≡ true = has_number-plain rows db number fits.environment has in
     let there : database_of db (store_of rows) ≡ Some (database_at rows db number) = database_of-numbered rows db number fits.environment has in
@@ -269,13 +270,13 @@ unset_planned kept st db key number (Some row) fits has key_fits e answer outcom
 
 -- a delete, by what the catalog has of its database
 delete_planned : (kept : Kept) (st : Standing) (db key : List ℕ) (o : Option (List ℕ)) → Fits kept (standing_of kept st) →
-    data_at (plain_name db) (rows_in kept.rows 0) ≡ o → IsPlanned kept (standing_of kept st) (Delete db key) (planned_delete kept db key (option_map number_in o))
+    data_at (plain_name db) (rows_in kept.rows 0) ≡ o → IsPlanned kept (standing_of kept st) (Delete db key) (planned_delete kept db key (option_map catalog_number o))
 delete_planned kept st db key None fits e =
     (ap (accessed kept.file_max (standing_of kept st) (Delete db key)) (database_of-absent (rows_in kept.rows) db fits.environment e), tt)
 delete_planned kept st db key (Some bytes) fits e =
     let rows : Rows = rows_in kept.rows in
     let call : Call = Delete db key in
-    let number : ℕ = number_in bytes in
+    let number : ℕ = catalog_number bytes in
     let has : HasNumber rows db number = (bytes, e, refl) in
     let pairs = pair_at-rows (rows number) key (has_number-plain rows db number fits.environment has) in
     let there : database_of db (store_of rows) ≡ Some (database_at rows db number) = database_of-numbered rows db number fits.environment has in
@@ -339,10 +340,10 @@ make_planned kept st db kind false fits word absent e answer =
 
 -- a Create, by what the catalog has of its name
 create_planned : (kept : Kept) (st : Standing) (db : List ℕ) (kind : Kind) (o : Option (List ℕ)) → Fits kept (standing_of kept st) → IsTrue (is_word db) →
-    data_at (plain_name db) (rows_in kept.rows 0) ≡ o → IsPlanned kept (standing_of kept st) (Create db kind) (planned_create kept db kind (option_map number_in o))
+    data_at (plain_name db) (rows_in kept.rows 0) ≡ o → IsPlanned kept (standing_of kept st) (Create db kind) (planned_create kept db kind (option_map catalog_number o))
 create_planned kept st db kind (Some bytes) fits word e =
     let rows : Rows = rows_in kept.rows in
-    let there = database_of-numbered rows db (number_in bytes) fits.environment (bytes, e, refl) in
+    let there = database_of-numbered rows db (catalog_number bytes) fits.environment (bytes, e, refl) in
     (ap (λ (d : Option Database). created kept.file_max (standing_of kept st) db kind (is_some d) (length (store_of rows).databases)) there, tt)
 create_planned kept st db kind None fits word e =
     let rows : Rows = rows_in kept.rows in
@@ -381,8 +382,8 @@ planned_right kept st call fits word line =
 -- ---- a valid environment
 
 -- a valid environment's records make the model's store, and its numbers are the model's
-pub fits_at : {D : Type 0} → (most : ℕ) (tells : Bool) (state : State) (buffer : LogBuffer D) (kept : Kept) (st : Standing) → IsAt most tells state buffer kept st → st.fault ≡ None → kept.last_db < 2 ^ 32 → Fits kept st
-fits_at most tells state buffer kept st at none few =
+pub fits_at : {D : Type 0} → (most : ℕ) (observable : Bool) (state : State) (buffer : LogBuffer D) (kept : Kept) (st : Standing) → IsAt most observable state buffer kept st → st.fault ≡ None → kept.last_db < 2 ^ 32 → Fits kept st
+fits_at most observable state buffer kept st at none few =
     let valid = at.valid none in
     record {
       made = valid.made;

@@ -6,7 +6,7 @@ use Rattle.std.proofs.lemmas.List.{append-nil}
 use Rattle.je_disk.specs.States.{Files, State}
 use Rattle.je_disk.specs.Images.{AreFileImages}
 use Rattle.je_disk.specs.Moments.{History, Passes, now}
-use Rattle.je_disk.proofs.Moments.{passes_then, passes_weaken}
+use Rattle.je_disk.proofs.MomentLaws.{passes_then, passes_weaken}
 use Rattle.je_model.specs.declared.change.Change.{Change}
 use Rattle.je_model.specs.declared.answer.Answer.TheVariants.{Logged, DiskFault, Invalid}
 use Rattle.je_model.specs.declared.event.Event.{Event}
@@ -15,19 +15,19 @@ use Rattle.je_model.specs.declared.store.Store.{Store}
 use Rattle.je_model.specs.Store.{store_after}
 use Rattle.je_model.specs.Answers.{Standing, after_event, after_events}
 use Rattle.je_model.specs.Journal.{answer_of, attempt_of, attempts_of, durable_by, has_answer, is_disk_fault, synced_of}
-use Rattle.je_model.proofs.Journal.{store_after-append}
+use Rattle.je_model.proofs.JournalLaws.{store_after-append}
 use Rattle.log_file.specs.Log.{Log, entries_of}
 use Rattle.log_buffer.specs.declared.buffer.LogBuffer.{LogBuffer}
 use Rattle.log_buffer.specs.Buffer.{has_failed}
 use Rattle.log_buffer.specs.Chance.{NoChanceMatch}
 use Rattle.log_buffer.specs.Crash.{FilesStay, IsKeptSince, KeepsRead, KeptThrough}
-use Rattle.log_buffer.proofs.Chances.{reads_have_no_chance}
-use Rattle.log_buffer.proofs.Left.{kept_is_left}
-use Rattle.log_buffer.proofs.KeptSyncs.{count_kept}
+use Rattle.log_buffer.proofs.ChanceMatches.{reads_have_no_chance}
+use Rattle.log_buffer.proofs.CrashImages.{kept_is_left}
+use Rattle.log_buffer.proofs.CrashSync.{count_kept}
 use Rattle.log_buffer.proofs.Staying.{stay_then}
 use Rattle.crash_meaning.specs.Reading.{HasNoGap}
 use Rattle.crash_meaning.specs.Recovery.{Recovers, IsRecovered, commits_in}
-use Rattle.crash_meaning.proofs.Recoveries.{images_recover, commits_rise}
+use Rattle.crash_meaning.proofs.RecoveryLaws.{images_recover, commits_rise}
 use Rattle.je_program.specs.Environment.{log_rule}
 use Rattle.je_program.specs.Crash.{Follows, IsSafe, IsSafeEvent, AreSafeEvents, IsSafeBehind}
 use Rattle.je_program.specs.Guarded.{log_by, log_after, IsWorking, IsGuarded}
@@ -51,7 +51,7 @@ pub safe : (most : ℕ) (st : Standing) (log : Log) (least : ℕ) (over under_wa
     HasNoGap (log_after most st all log) → Recovers st.store (length (entries_of log)) (attempts_of st.store all) (entries_of (log_after most st all log)) →
     synced_of over ≤ commits_in (length (entries_of log)) least (entries_of (log_after most st all log)) → KeepsRead (log_after most st all log) [] least state → IsSafe st.store over under_way state
 safe most st log least over under_way all state parts from gap recovers synced keeps = record { read = mean state.reads keeps.read (reads_have_no_chance state.reads); images = λ image is chance. mean image is.files chance } where
-  mean : (image : Files) → AreFileImages state.marks image → NoChanceMatch state.reads image → IsRecovered st.store (synced_of over) (attempts_of st.store (over ++ under_way)) image
+  mean : (image : Files) → AreFileImages state.crash_states image → NoChanceMatch state.reads image → IsRecovered st.store (synced_of over) (attempts_of st.store (over ++ under_way)) image
   mean image is chance = subst (λ (l : List Event). IsRecovered st.store (synced_of over) (attempts_of st.store l) image) parts
       (recovered_less st.store (synced_of over) (commits_in (length (entries_of log)) least (entries_of (log_after most st all log))) (attempts_of st.store all) image synced
       (images_recover st.store (length (entries_of log)) least (attempts_of st.store all) (log_after most st all log) image gap recovers from
@@ -211,7 +211,7 @@ module _ {D : Type 0} where
       let all : List Event = journal ++ event ∷ [] in
       let from : length (entries_of log) ≤ g.least = g.kept.from in
       let from_now : length (entries_of log) ≤ least = omega (arith, from, rises) in
-      let more = commits_rise (length (entries_of log)) g.least least (entries_of (log_after most st all log)) from rises (count_kept (log_after most st all log) [] least (now new).marks keeps.keeps) in
+      let more = commits_rise (length (entries_of log)) g.least least (entries_of (log_after most st all log)) from rises (count_kept (log_after most st all log) [] least (now new).crash_states keeps.keeps) in
       let synced_now : synced_of all ≤ commits_in (length (entries_of log)) least (entries_of (log_after most st all log)) =
       omega (arith, synced-push journal event, synced, more, durable) in
       record {

@@ -18,8 +18,8 @@ use Rattle.je_model.specs.Answers.{LogEnd, Standing, after_call, next_txn, made_
 use Rattle.log_entry.specs.declared.entry.Entry.{Entry}
 use Rattle.log_file.specs.Log.{entries_of}
 use Rattle.log_buffer.specs.declared.buffer.LogBuffer.{LogBuffer}
-use Rattle.log_buffer.specs.Flip.{end_after_all, lsn_of}
-use Rattle.log_replay.specs.Rows.{Rows, Row, rows_in, store_of, numbers_of, number_in}
+use Rattle.log_buffer.specs.Flip.{end_after_all, pos_lsn}
+use Rattle.log_replay.specs.Rows.{Rows, Row, rows_in, store_of, numbers_of, catalog_number}
 use Rattle.log_replay.specs.Kept.{IsKept, MayBeLogged, HasNumber, last_db_after}
 use Rattle.log_replay.proofs.LogLaws.{kept_later}
 use Rattle.log_replay.proofs.LoggedLaws.{kept_logged, store_of-logged}
@@ -40,9 +40,9 @@ kept_along entries a b t u d e rows txn db h =
     subst (λ (x : ℕ). IsKept entries b u x) db (subst (λ (x : ℕ). IsKept entries b x d) txn (subst (λ (x : Rows). IsKept entries x t d) rows h))
 
 module _ {D : Type 0} where
-  valid_same : (tells : Bool) (before after : State) (buffer same_log : LogBuffer D) (old new : Kept) (store : Store) → IsSame old new → KeepsLog tells before after buffer same_log →
-      IsValid tells before buffer old store → IsValid tells after same_log new store
-  valid_same tells before after buffer same_log old new store same log v =
+  valid_same : (observable : Bool) (before after : State) (buffer same_log : LogBuffer D) (old new : Kept) (store : Store) → IsSame old new → KeepsLog observable before after buffer same_log →
+      IsValid observable before buffer old store → IsValid observable after same_log new store
+  valid_same observable before after buffer same_log old new store same log v =
       let rows : rows_in new.rows ≡ rows_in old.rows = fun_ext same.rows in
       record {
         log = v.log;
@@ -58,9 +58,9 @@ module _ {D : Type 0} where
       }
 
   -- where only the records' place in memory changed, the environment is where it was
-  pub same_at : (most : ℕ) (tells : Bool) (before after : State) (buffer same_log : LogBuffer D) (old new : Kept) (st : Standing) → IsAt most tells before buffer old st → IsSame old new →
-      KeepsLog tells before after buffer same_log → IsAt most tells after same_log new st
-  same_at most tells before after buffer same_log old new st at same log = record {
+  pub same_at : (most : ℕ) (observable : Bool) (before after : State) (buffer same_log : LogBuffer D) (old new : Kept) (st : Standing) → IsAt most observable before buffer old st → IsSame old new →
+      KeepsLog observable before after buffer same_log → IsAt most observable after same_log new st
+  same_at most observable before after buffer same_log old new st at same log = record {
     file_max = same.file_max ∙ at.file_max;
     fault = same.fault ∙ at.fault;
     last_txn = same.last_txn ∙ at.last_txn;
@@ -70,10 +70,10 @@ module _ {D : Type 0} where
     databases = ap (λ (t : Totals). t.databases) same.totals ∙ at.databases;
     record_count_is = ap (λ (t : Totals). t.records) same.totals ∙ at.record_count_is;
     few = at.few;
-    valid = λ none. valid_same tells before after buffer same_log old new st.store same log (at.valid none);
+    valid = λ none. valid_same observable before after buffer same_log old new st.store same log (at.valid none);
   }
 
--- an answer that changes nothing draws a number and no more
+-- an answer that changes nothing allocates an id and nothing else
 plain_after : (most : ℕ) (st : Standing) (call : Call) (answer : Answer) → IsPlain answer → after_call (log_rule most) st call answer ≡ record st { last_txn = next_txn st.last_txn }
 plain_after most st call (Logged commit) plain = absurd plain
 plain_after most st call (Durable commit) plain = absurd plain
@@ -86,10 +86,10 @@ next_is last h = grind (arith, nat_tests)
 
 module _ {D : Type 0} where
   -- the environment after an answer that changes nothing
-  pub answered_at : (most : ℕ) (tells : Bool) (state : State) (buffer : LogBuffer D) (kept : Kept) (st : Standing) (call : Call) (answer : Answer) → IsAt most tells state buffer kept st →
-      kept.last_txn < LAST_TXN → IsPlain answer → IsAt most tells state buffer (record kept { last_txn = kept.last_txn + 1 }) (after_call (log_rule most) st call answer)
-  answered_at most tells state buffer kept st call answer at below plain =
-      let here : IsAt most tells state buffer (record kept { last_txn = kept.last_txn + 1 }) (record st { last_txn = next_txn st.last_txn }) = record {
+  pub answered_at : (most : ℕ) (observable : Bool) (state : State) (buffer : LogBuffer D) (kept : Kept) (st : Standing) (call : Call) (answer : Answer) → IsAt most observable state buffer kept st →
+      kept.last_txn < LAST_TXN → IsPlain answer → IsAt most observable state buffer (record kept { last_txn = kept.last_txn + 1 }) (after_call (log_rule most) st call answer)
+  answered_at most observable state buffer kept st call answer at below plain =
+      let here : IsAt most observable state buffer (record kept { last_txn = kept.last_txn + 1 }) (record st { last_txn = next_txn st.last_txn }) = record {
         file_max = at.file_max;
         fault = at.fault;
         last_txn = ap (λ n. n + 1) at.last_txn ∙ sym (next_is st.last_txn (subst (λ n. n < LAST_TXN) at.last_txn below));
@@ -108,15 +108,15 @@ module _ {D : Type 0} where
           at_end = record { end = v.at_end.end; file_max = v.at_end.file_max; works = v.at_end.works };
         };
       } in
-      subst (λ (s : Standing). IsAt most tells state buffer (record kept { last_txn = kept.last_txn + 1 }) s) (sym (plain_after most st call answer plain)) here
+      subst (λ (s : Standing). IsAt most observable state buffer (record kept { last_txn = kept.last_txn + 1 }) s) (sym (plain_after most st call answer plain)) here
 
--- the number of a database is at most the last one drawn
+-- the number of a database is at most the last one allocated
 number_below : (rows : Rows) (name : List ℕ) (number last : ℕ) → AllByRecursion (λ n. n ≤ last) (numbers_of rows) → HasNumber rows name number → number ≤ last
 number_below rows name number last all has =
     let row = row_of_data (plain_name name) (rows 0) has.0 has.1 in
-    let below = (found (λ (r : Row). number_in r.1 ≤ last) (λ r. is_eq (name_cmp r.0 (plain_name name))) (rows 0) row.0 row.1
-    (all_of_map (λ (r : Row). number_in r.1) (λ n. n ≤ last) (rows 0) all)).0 in
-    let same : number_in row.0.1 ≡ number = ap number_in row.2 ∙ has.2 in
+    let below = (found (λ (r : Row). catalog_number r.1 ≤ last) (λ r. is_eq (name_cmp r.0 (plain_name name))) (rows 0) row.0 row.1
+    (all_of_map (λ (r : Row). catalog_number r.1) (λ n. n ≤ last) (rows 0) all)).0 in
+    let same : catalog_number row.0.1 ≡ number = ap catalog_number row.2 ∙ has.2 in
     subst (λ n. n ≤ last) same below
 
 last_db_is : (rows : Rows) (last number : ℕ) (change : Change) → AllByRecursion (λ n. n ≤ last) (numbers_of rows) → MayBeLogged rows last number change →
@@ -132,11 +132,11 @@ last_db_is rows last number (Empty db) all may = absurd may
 
 module _ {D : Type 0} where
   -- a logged change leaves a valid environment valid
-  valid_logged : (tells : Bool) (before after : State) (buffer longer : LogBuffer D) (old new : Kept) (store : Store) (number : ℕ) (change : Change) (totals : Totals) →
-      IsValid tells before buffer old store → HasLogged old new number change totals → MayBeLogged (rows_in old.rows) old.last_db number change →
-      old.last_txn < LAST_TXN → IsAtEnd longer new → GainsEntries tells before after buffer longer (entries_logged (old.last_txn + 1) number change) →
-      IsValid tells after longer new (changed change store)
-  valid_logged tells before after buffer longer old new store number change totals v has may below at_end gains =
+  valid_logged : (observable : Bool) (before after : State) (buffer longer : LogBuffer D) (old new : Kept) (store : Store) (number : ℕ) (change : Change) (totals : Totals) →
+      IsValid observable before buffer old store → HasLogged old new number change totals → MayBeLogged (rows_in old.rows) old.last_db number change →
+      old.last_txn < LAST_TXN → IsAtEnd longer new → GainsEntries observable before after buffer longer (entries_logged (old.last_txn + 1) number change) →
+      IsValid observable after longer new (changed change store)
+  valid_logged observable before after buffer longer old new store number change totals v has may below at_end gains =
       let txn = old.last_txn + 1 in
       let gained = gains.logs v.log v.has v.whole in
       let kept = kept_logged (entries_of v.log) (rows_in old.rows) (rows_in new.rows) old.last_txn old.last_db txn number change v.records may (omega arith) has.rows in
@@ -175,20 +175,20 @@ few_after : (most : ℕ) (old : Kept) (st : Standing) (change : Change) → old.
     st.commits + 1 ≤ number_of (log_end_of (end_after_all most (place_of st.log_end) (logged_sizes (change ∷ []))))
 few_after most old st change bound at few =
     let here : (place_of st.log_end).offset < 2 ^ 32 = subst (λ (e : LogEnd). e.1 < 2 ^ 32) at bound in
-    let rises : lsn_of (place_of st.log_end) < lsn_of (end_after_all most (place_of st.log_end) (logged_sizes (change ∷ []))) = end_rises most (place_of st.log_end) change here in
+    let rises : pos_lsn (place_of st.log_end) < pos_lsn (end_after_all most (place_of st.log_end) (logged_sizes (change ∷ []))) = end_rises most (place_of st.log_end) change here in
     omega (arith, rises, few)
 
 module _ {D : Type 0} where
   -- the environment after a change was logged
-  pub logged_at : (most : ℕ) (tells : Bool) (before after : State) (buffer longer : LogBuffer D) (old new : Kept) (st : Standing) (call : Call) (commit number : ℕ) (change : Change) (totals : Totals) →
-      IsAt most tells before buffer old st → st.fault ≡ None → old.last_txn < LAST_TXN → old.end.offset < 2 ^ 32 → IsLogged old st call number change totals → HasLogged old new number change totals →
-      IsAtEnd longer new → GainsEntries tells before after buffer longer (entries_logged (old.last_txn + 1) number change) →
-      IsAt most tells after longer new (after_call (log_rule most) st call (Logged commit))
-  logged_at most tells before after buffer longer old new st call commit number change totals here none below bound logged has at_end gains =
+  pub logged_at : (most : ℕ) (observable : Bool) (before after : State) (buffer longer : LogBuffer D) (old new : Kept) (st : Standing) (call : Call) (commit number : ℕ) (change : Change) (totals : Totals) →
+      IsAt most observable before buffer old st → st.fault ≡ None → old.last_txn < LAST_TXN → old.end.offset < 2 ^ 32 → IsLogged old st call number change totals → HasLogged old new number change totals →
+      IsAtEnd longer new → GainsEntries observable before after buffer longer (entries_logged (old.last_txn + 1) number change) →
+      IsAt most observable after longer new (after_call (log_rule most) st call (Logged commit))
+  logged_at most observable before after buffer longer old new st call commit number change totals here none below bound logged has at_end gains =
       let v = here.valid none in
       let one : List Change = change ∷ [] in
       let last_db = last_db_is (rows_in old.rows) old.last_db number change v.records.numbers logged.may in
-      let there : IsAt most tells after longer new (logged_standing most st one) = record {
+      let there : IsAt most observable after longer new (logged_standing most st one) = record {
         file_max = has.file_max ∙ here.file_max;
         fault = has.fault ∙ here.fault;
         last_txn = has.last_txn ∙ ap (λ n. n + 1) here.last_txn ∙ sym (next_is st.last_txn (subst (λ n. n < LAST_TXN) here.last_txn below));
@@ -198,14 +198,14 @@ module _ {D : Type 0} where
         databases = ap (λ (t : Totals). t.databases) has.counts ∙ logged.databases;
         record_count_is = ap (λ (t : Totals). t.records) has.counts ∙ logged.records;
         few = few_after most old st change bound here.log_end here.few;
-        valid = λ again. valid_logged tells before after buffer longer old new st.store number change totals v has logged.may below at_end gains;
+        valid = λ again. valid_logged observable before after buffer longer old new st.store number change totals v has logged.may below at_end gains;
       } in
-      subst (λ (changes : List Change). IsAt most tells after longer new (logged_standing most st changes)) (sym logged.changes) there
+      subst (λ (changes : List Change). IsAt most observable after longer new (logged_standing most st changes)) (sym logged.changes) there
 
   -- the environment after the disk failed under a change
-  pub faulted_at : (most : ℕ) (tells : Bool) (before after : State) (buffer longer : LogBuffer D) (old new : Kept) (st : Standing) (call : Call) →
-      IsAt most tells before buffer old st → old.last_txn < LAST_TXN → HasFaulted old new → IsAt most tells after longer new (after_call (log_rule most) st call DiskFault)
-  faulted_at most tells before after buffer longer old new st call here below has = record {
+  pub faulted_at : (most : ℕ) (observable : Bool) (before after : State) (buffer longer : LogBuffer D) (old new : Kept) (st : Standing) (call : Call) →
+      IsAt most observable before buffer old st → old.last_txn < LAST_TXN → HasFaulted old new → IsAt most observable after longer new (after_call (log_rule most) st call DiskFault)
+  faulted_at most observable before after buffer longer old new st call here below has = record {
     file_max = has.file_max ∙ here.file_max;
     fault = has.fault;
     last_txn = has.last_txn ∙ ap (λ n. n + 1) here.last_txn ∙ sym (next_is st.last_txn (subst (λ n. n < LAST_TXN) here.last_txn below));

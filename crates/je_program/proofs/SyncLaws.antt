@@ -9,7 +9,7 @@ use Rattle.log_file.specs.Log.{Log, entries_of}
 use Rattle.log_buffer.specs.declared.buffer.LogBuffer.{LogBuffer}
 use Rattle.log_buffer.specs.Buffer.{has_failed}
 use Rattle.log_buffer.specs.Crash.{KeepsRead, KeptThrough}
-use Rattle.log_buffer.proofs.KeptSyncs.{count_kept}
+use Rattle.log_buffer.proofs.CrashSync.{count_kept}
 use Rattle.log_buffer.proofs.Staying.{read_through}
 use Rattle.crash_meaning.specs.Recovery.{commits_in}
 use Rattle.je_program.specs.Environment.{log_rule}
@@ -48,7 +48,7 @@ module _ {D : Type 0} where
       let now_log : Log = log_after most st journal log in
       let all : commits ≡ commits_in (length (entries_of log)) (length (entries_of now_log)) (entries_of now_log) = count ∙ w.commits ∙ sym g.kept.recovers.all in
       guarded_same most st log start old new buffer longer journal (SyncEnd (Durable commits)) (Some (length (entries_of now_log))) None (length (entries_of now_log)) g refl (λ s. refl) through
-      (count_kept now_log [] g.least (now old).marks g.kept.keeps.keeps) (keeping_read (now new) longer now_log (length (entries_of now_log)) None keeping) (omega (arith, all))
+      (count_kept now_log [] g.least (now old).crash_states g.kept.keeps.keeps) (keeping_read (now new) longer now_log (length (entries_of now_log)) None keeping) (omega (arith, all))
       (λ fault. record { keeping = keeping; store = w.store; commits = w.commits }) (λ ok. none) (λ fault. absurd (fault_stands most st journal fault none))
 
   -- the disk failed as it ended

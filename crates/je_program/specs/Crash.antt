@@ -1,15 +1,15 @@
 -- What a crash leaves of an environment while it runs.
 use Rattle.std.specs.Prelude.{ℕ, ◌≡◌, ◌≤◌, ◌<◌, ◌⊎◌, ◌++◌, ◌∷◌, [], List, Option, None, Ok, true, take, option_map}
-use Rattle.je_disk.specs.States.{Files, State, content, synced_mark, synced_marks}
+use Rattle.je_disk.specs.States.{Files, State, content, synced_crash_state, synced_crash_states}
 use Rattle.je_disk.specs.Images.{IsImage}
 use Rattle.je_disk.specs.Moments.{History, Passes, now}
 use Rattle.je_model.specs.declared.event.Event.{Event}
 use Rattle.je_model.specs.declared.store.Store.{Store}
 use Rattle.je_model.specs.Journal.{attempts_of, has_answer, is_disk_fault, synced_of}
-use Rattle.log_file.specs.declared.file_run.FileRun.{FileRun}
-use Rattle.log_file.specs.declared.found.Found.TheVariants.{Run}
+use Rattle.log_file.specs.declared.valid_prefix.ValidPrefix.{ValidPrefix}
+use Rattle.log_file.specs.declared.file_scan.FileScan.TheVariants.{Prefix}
 use Rattle.log_file.specs.Log.{AreFiles}
-use Rattle.log_file.specs.Scan.{found_in}
+use Rattle.log_file.specs.Scan.{scan_of}
 use Rattle.log_buffer.specs.Chance.{NoChanceMatch}
 use Rattle.log_buffer.specs.Crash.{FilesStay}
 use Rattle.log_replay.specs.Meaning.{Meaning}
@@ -68,12 +68,12 @@ ImagesMean state store = (image : Files) → IsImage state image → NoChanceMat
 
 -- nothing is pending: a crash keeps what the files read as, and nothing else
 abbrev pub NothingPending : State → Type 0
-NothingPending state = (f : ℕ) → state.marks f ≡ synced_mark (state.reads f)
+NothingPending state = (f : ℕ) → state.crash_states f ≡ synced_crash_state (state.reads f)
 
 -- what followed the valid prefix of the last file was cut off
 pub record IsTailCut (entry : Files) (f : ℕ) (file : Option (List ℕ)) : Type 0 where
-  pub run : FileRun
-  pub found : found_in f (content entry f) ≡ Run run
+  pub run : ValidPrefix
+  pub found : scan_of f (content entry f) ≡ Prefix run
   pub last : (g : ℕ) → f < g → entry g ≡ None
   pub cut : file ≡ option_map (take run.end) (entry f)
 
@@ -98,7 +98,7 @@ pub record KeepsEntry (old new : History) : Type 0 where
 -- of entry were kept. Where all was done, each image at the end means the final store.
 pub record IsSafeProgram (old history : History) (opening : Store) (journal : List Event) (cause : Cause) : Type 0 where
   pub start : History
-  pub stable : (now start).marks ≡ synced_marks (now start).reads
+  pub stable : (now start).crash_states ≡ synced_crash_states (now start).reads
   pub before : KeepsEntry old start
   pub run : IsSafeRun opening start history journal
   pub ends : cause ≡ AllDone → ImagesMean (now history) (final_store opening journal)

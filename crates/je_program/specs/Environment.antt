@@ -6,10 +6,10 @@ use Rattle.je_model.specs.declared.store.Store.{Store}
 use Rattle.je_model.specs.Store.{record_count}
 use Rattle.je_model.specs.Answers.{LogEnd, LogRule, Standing}
 use Rattle.log_entry.specs.declared.entry.Entry.TheVariants.{Commit}
-use Rattle.log_entry.specs.Spelling.{size_of}
+use Rattle.log_entry.specs.Encoding.{size_of}
 use Rattle.log_file.specs.Log.{Log, entries_of}
 use Rattle.log_buffer.specs.declared.buffer.LogBuffer.{LogBuffer}
-use Rattle.log_buffer.specs.declared.place.Place.{Place}
+use Rattle.log_buffer.specs.declared.log_pos.LogPos.{LogPos}
 use Rattle.log_buffer.specs.Buffer.{end_of, file_max_of, has_failed}
 use Rattle.log_buffer.specs.Flip.{end_after_all}
 use Rattle.log_buffer.specs.Log.{HasLog}
@@ -27,10 +27,10 @@ logged_sizes [] = size_of (Commit (record { 0 = 0 })) ∷ []
 logged_sizes (change ∷ changes) = map size_of (entries_of_change plain_catalog 0 0 change) ++ logged_sizes changes
 
 -- a place as the model has it, and back
-abbrev pub log_end_of : Place → LogEnd
+abbrev pub log_end_of : LogPos → LogEnd
 log_end_of place = (place.file, place.offset)
 
-abbrev pub place_of : LogEnd → Place
+abbrev pub place_of : LogEnd → LogPos
 place_of end = record { file = end.0; offset = end.1 }
 
 -- how a log of many files grows: by the entries of each transaction, up to its last file
@@ -41,8 +41,8 @@ log_rule file_max = record {
 }
 
 -- no file is missing between the first and the last
-abbrev pub IsWhole : Log → Type 0
-IsWhole log = gap_in (map (λ file. file.0) log) ≡ None
+abbrev pub IsWholeLog : Log → Type 0
+IsWholeLog log = gap_in (map (λ file. file.0) log) ≡ None
 
 -- a place in the log as one number
 abbrev pub number_of : LogEnd → ℕ
@@ -55,17 +55,17 @@ module _ {D : Type 0} where
     pub file_max : file_max_of buffer ≡ kept.file_max
     pub works : has_failed buffer ≡ false
 
-  -- what is kept of a valid environment: its log, with the disk's files where the disk tells, and the log's records
-  pub record IsValid (tells : Bool) (state : State) (buffer : LogBuffer D) (kept : Kept) (store : Store) : Type 0 where
+  -- what is kept of a valid environment: its log, with the disk's files if the disk is observable, and the log's records
+  pub record IsValid (observable : Bool) (state : State) (buffer : LogBuffer D) (kept : Kept) (store : Store) : Type 0 where
     pub log : Log
-    pub has : HasLog tells state buffer log
-    pub whole : IsWhole log
+    pub has : HasLog observable state buffer log
+    pub whole : IsWholeLog log
     pub made : store_of (rows_in kept.rows) ≡ store
     pub records : IsKept (entries_of log) (rows_in kept.rows) kept.last_txn kept.last_db
     pub at_end : IsAtEnd buffer kept
 
   -- the environment, whose files have at most so many bytes, is where the model stands
-  pub record IsAt (most : ℕ) (tells : Bool) (state : State) (buffer : LogBuffer D) (kept : Kept) (st : Standing) : Type 0 where
+  pub record IsAt (most : ℕ) (observable : Bool) (state : State) (buffer : LogBuffer D) (kept : Kept) (st : Standing) : Type 0 where
     pub file_max : kept.file_max ≡ most
     pub fault : kept.fault ≡ st.fault
     pub last_txn : kept.last_txn ≡ st.last_txn
@@ -75,4 +75,4 @@ module _ {D : Type 0} where
     pub databases : kept.totals.databases ≡ length st.store.databases
     pub record_count_is : kept.totals.records ≡ record_count st.store
     pub few : st.commits ≤ number_of st.log_end
-    pub valid : st.fault ≡ None → IsValid tells state buffer kept st.store
+    pub valid : st.fault ≡ None → IsValid observable state buffer kept st.store

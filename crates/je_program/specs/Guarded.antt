@@ -1,7 +1,7 @@
 -- The log that a journal leaves, and what the parts of a run keep of it. No clause of the top call speaks of these.
 use Rattle.std.specs.Prelude.{ℕ, ◌≡◌, ◌≢◌, ◌≤◌, ◌+◌, ◌++◌, ◌∷◌, [], List, Option, None, Some, Result, Ok, Err, Bool, true, false, length, unwrap_or}
 use Rattle.std.specs.declared.alloc.AllocError.{AllocError}
-use Rattle.je_disk.specs.States.{Files, State, synced_marks}
+use Rattle.je_disk.specs.States.{Files, State, synced_crash_states}
 use Rattle.je_disk.specs.Moments.{History, now}
 use Rattle.je_model.specs.declared.answer.Answer.{Answer}
 use Rattle.je_model.specs.declared.answer.Answer.TheVariants.{Done, Logged, DiskFault}
@@ -18,7 +18,7 @@ use Rattle.je_model.specs.Journal.{attempts_of, synced_of}
 use Rattle.log_entry.specs.declared.entry.Entry.{Entry}
 use Rattle.log_file.specs.Log.{Log, entries_of, log_in}
 use Rattle.log_buffer.specs.declared.buffer.LogBuffer.{LogBuffer}
-use Rattle.log_buffer.specs.declared.place.Place.{Place}
+use Rattle.log_buffer.specs.declared.log_pos.LogPos.{LogPos}
 use Rattle.log_buffer.specs.Buffer.{first_of, has_failed}
 use Rattle.log_buffer.specs.Crash.{FilesStay, Holds, KeepsRead, KeptThrough}
 use Rattle.log_buffer.specs.Growth.{log_with_all}
@@ -29,7 +29,7 @@ use Rattle.crash_meaning.specs.Reading.{HasNoGap}
 use Rattle.crash_meaning.specs.Recovery.{Recovers, commits_in}
 use Rattle.je_program.specs.declared.kept.Kept.{Kept}
 use Rattle.je_program.specs.Crash.{AreSafeEvents, Follows, IsSafe}
-use Rattle.je_program.specs.Environment.{log_rule, place_of, IsAt, IsWhole}
+use Rattle.je_program.specs.Environment.{log_rule, place_of, IsAt, IsWholeLog}
 use Rattle.je_program.specs.Logging.{entries_logged}
 use Rattle.je_program.specs.Planning.{number_named}
 use Rattle.je_program.specs.Run.{StartsAt}
@@ -89,7 +89,7 @@ module _ {D : Type 0} where
   -- the buffer has this log; a crash keeps at least so many of its entries, and more once a sync that is out has ended
   pub record IsKeeping (state : State) (buffer : LogBuffer D) (log : Log) (least : ℕ) (begun : Option ℕ) : Type 0 where
     pub has : HasLog true state buffer log
-    pub whole : IsWhole log
+    pub whole : IsWholeLog log
     pub holds : Holds log [] least begun (first_of buffer) state
 
   -- a valid environment at the end of a journal: its buffer has the journal's log, and the journal's commits are those attempted
@@ -135,5 +135,5 @@ module _ {D : Type 0} where
     pub st : Standing
     pub starts : StartsAt true files opening st
     pub here : IsAt most true (now history) buffer kept st
-    pub stable : (now history).marks ≡ synced_marks (now history).reads
+    pub stable : (now history).crash_states ≡ synced_crash_states (now history).reads
     pub guarded : IsGuarded most st (log_opened starts.held) history history buffer [] None

@@ -7,7 +7,7 @@ use Rattle.je_model.specs.declared.change.Change.{Change}
 use Rattle.je_model.specs.declared.totals.Totals.{Totals}
 use Rattle.log_replay.specs.Rows.{Rows, rows_in, row_changed}
 use Rattle.log_replay.specs.Kept.{row_change_of}
-use Rattle.log_replay.specs.Logging.{HasOneEntry, entry_of}
+use Rattle.log_replay.specs.Logging.{HasOneEntry, change_entry}
 use Rattle.je_program.specs.declared.kept.Kept.{Kept}
 use Rattle.je_program.specs.Environment.{logged_sizes}
 
@@ -19,11 +19,11 @@ rows_after entry rows = rows
 
 -- the entries of a transaction with one change, its commit last
 abbrev pub entries_logged : ℕ → ℕ → Change → List Entry
-entries_logged txn number change = entry_of txn number change ∷ Commit (record { 0 = txn }) ∷ []
+entries_logged txn number change = change_entry txn number change ∷ Commit (record { 0 = txn }) ∷ []
 
 -- these are the entries of a transaction with one change, which one entry logs
 abbrev pub IsTransaction : ℕ → ℕ → Change → Entry → Entry → Type 0
-IsTransaction txn number change entry commit = (entry ≡ entry_of txn number change) × (commit ≡ Commit (record { 0 = txn })) × HasOneEntry change
+IsTransaction txn number change entry commit = (entry ≡ change_entry txn number change) × (commit ≡ Commit (record { 0 = txn })) × HasOneEntry change
 
 -- a change was logged: what is kept now has it
 pub record HasLogged (old new : Kept) (number : ℕ) (change : Change) (totals : Totals) : Type 0 where

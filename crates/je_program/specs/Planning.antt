@@ -14,10 +14,10 @@ use Rattle.je_model.specs.Store.{record_count, all_changed}
 use Rattle.je_model.specs.Evaluation.{evaluation, plain_name}
 use Rattle.je_model.specs.Answers.{Standing, valid_answer, length_refusal, made_by}
 use Rattle.log_entry.specs.Body.{IsEntry}
-use Rattle.log_replay.specs.Rows.{Rows, rows_in, store_of, data_at, number_in, is_environment, numbers_of, IsRising}
+use Rattle.log_replay.specs.Rows.{Rows, rows_in, store_of, data_at, catalog_number, is_environment, numbers_of, IsRising}
 use Rattle.log_replay.specs.Kept.{MayBeLogged}
-use Rattle.log_replay.specs.Logging.{entry_of}
-use Rattle.log_buffer.specs.declared.place.Place.{Place}
+use Rattle.log_replay.specs.Logging.{change_entry}
+use Rattle.log_buffer.specs.declared.log_pos.LogPos.{LogPos}
 use Rattle.log_buffer.specs.Flip.{end_after_all}
 use Rattle.je_program.specs.declared.kept.Kept.{Kept}
 use Rattle.je_program.specs.declared.kept.TheConstants.{LAST_FILE}
@@ -27,15 +27,15 @@ use Rattle.je_program.specs.Environment.{log_rule, logged_sizes, log_end_of}
 
 -- the number of the database of that name
 abbrev pub number_named : Rows → List ℕ → Option ℕ
-number_named rows name = option_map number_in (data_at (plain_name name) (rows 0))
+number_named rows name = option_map catalog_number (data_at (plain_name name) (rows 0))
 
 -- a place in a log's files
-pub record IsPlace (place : Place) : Type 0 where
+pub record IsLogPos (place : LogPos) : Type 0 where
   pub file : place.file ≤ LAST_FILE
   pub offset : place.offset < 2 ^ 32
 
 -- where the log ends behind a transaction with one change
-abbrev pub end_behind : Kept → Change → Place
+abbrev pub end_behind : Kept → Change → LogPos
 end_behind kept change = end_after_all kept.file_max kept.end (logged_sizes (change ∷ []))
 
 -- a change is logged where there is room for it, and a number for the database that it makes
@@ -120,7 +120,7 @@ pub record IsLogged (kept : Kept) (st : Standing) (call : Call) (number : ℕ) (
   pub answer : valid_answer (log_rule kept.file_max) st call ≡ Logged (st.commits + 1)
   pub changes : (evaluation call st.store).changes ≡ change ∷ []
   pub may : MayBeLogged (rows_in kept.rows) kept.last_db number change
-  pub entry : (txn : ℕ) → txn ≤ 2 ^ 63 - 1 → IsEntry (entry_of txn number change)
+  pub entry : (txn : ℕ) → txn ≤ 2 ^ 63 - 1 → IsEntry (change_entry txn number change)
   pub room : (end_behind kept change).file ≤ LAST_FILE
   pub databases : totals.databases ≡ length (all_changed (change ∷ []) st.store).databases
   pub records : totals.records ≡ record_count (all_changed (change ∷ []) st.store)

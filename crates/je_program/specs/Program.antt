@@ -1,6 +1,6 @@
 -- What the program promises of one run.
 use Rattle.std.specs.Prelude.{ℕ, ◌/◌, ◌%◌, ◌^◌, ◌≡◌, ◌≢◌, ◌≤◌, ◌<◌, ◌⊎◌, [], ◌++◌, List, Option, Some, None, Bool, true, false, Ok, Err, length, codes, decimal, IfSome}
-use Rattle.je_disk.specs.Causes.{Rose}
+use Rattle.je_order.specs.Counts.{HasRisen}
 use Rattle.je_disk.specs.States.{Files}
 use Rattle.je_io.specs.Sink.{Gains, GainsPart}
 use Rattle.je_model.specs.declared.store.Store.{Store}
@@ -17,10 +17,10 @@ use Rattle.je_program.specs.declared.cause.Cause.{Cause}
 use Rattle.je_program.specs.declared.cause.Cause.TheVariants.{Done, Usage, BadScript, Disk, Unreadable, Memory, Input, InputTooLong, LogFull, IdsEnded}
 use Rattle.std.specs.Fmt.{digits}
 use Rattle.je_lsn.specs.Naming.{name_of}
-use Rattle.log_replay.specs.declared.finding.Finding.{Finding}
-use Rattle.log_replay.specs.declared.finding.Finding.TheVariants.{Damaged, Missing, Tree, VersionUnknown}
+use Rattle.log_replay.specs.declared.corruption.Corruption.{Corruption}
+use Rattle.log_replay.specs.declared.corruption.Corruption.TheVariants.{Damaged, Missing, Tree, VersionUnknown}
 use Rattle.je_program.specs.Files.{Means}
-use Rattle.je_program.specs.Run.{cause_of_journal, of_session, IsFront, status_of, unwritten_status_of}
+use Rattle.je_program.specs.Run.{cause_of_journal, of_session, AreFirstLines, status_of, unwritten_status_of}
 
 -- the input was a script, and was read to its end
 abbrev pub ReadsPlan : Option (List ℕ) → Option (List ℕ) → RunPlan → Type 0
@@ -31,21 +31,21 @@ ReadsPlan None None plan = Unit {0}
 
 -- why the input was not a plan: the source failed, it has too many bytes, its first bad line, or there was no memory
 abbrev pub StopsReading : Option (List ℕ) → ℕ → ℕ → Cause → Type 0
-StopsReading left before after Input = Rose before after
+StopsReading left before after Input = HasRisen before after
 StopsReading left before after InputTooLong = IfSome left (λ bytes. MOST_INPUT < length bytes)
 StopsReading left before after (BadScript line) = IfSome left (λ bytes. (length bytes ≤ MOST_INPUT) × (plan_of bytes ≡ Err line))
 StopsReading left before after Memory = Unit {0}
 StopsReading left before after cause = ⊥
 
--- why the words and the input told no task: wrong words, no memory, or right words and an input that was not a plan
-abbrev pub TellsNone : Bool → Option (List ℕ) → ℕ → ℕ → Cause → Type 0
-TellsNone taken left before after Usage = taken ≡ false
-TellsNone taken left before after Memory = Unit {0}
-TellsNone taken left before after cause = (taken ≡ true) × StopsReading left before after cause
+-- why the arguments and the input give no plan to run: invalid arguments, no memory, or valid arguments and an input that was not a plan
+abbrev pub IsNoRequest : Bool → Option (List ℕ) → ℕ → ℕ → Cause → Type 0
+IsNoRequest taken left before after Usage = taken ≡ false
+IsNoRequest taken left before after Memory = Unit {0}
+IsNoRequest taken left before after cause = (taken ≡ true) × StopsReading left before after cause
 
 -- a cause that is one of reading came by reading; of the others this says nothing
 abbrev pub IsStopped : Option (List ℕ) → ℕ → ℕ → Cause → Type 0
-IsStopped left before after Input = Rose before after
+IsStopped left before after Input = HasRisen before after
 IsStopped left before after InputTooLong = IfSome left (λ bytes. MOST_INPUT < length bytes)
 IsStopped left before after (BadScript line) = IfSome left (λ bytes. (length bytes ≤ MOST_INPUT) × (plan_of bytes ≡ Err line))
 IsStopped left before after cause = Unit {0}
@@ -55,7 +55,7 @@ IsStopped left before after cause = Unit {0}
 pub record IsGivenTo (left rest : Option (List ℕ)) (journal : List Event) (cause : Cause) (plan : RunPlan) : Type 0 where
   pub reads : ReadsPlan left rest plan
   pub all : cause ≢ Memory → lines_of journal ≡ plan.lines
-  pub front : (session : ℕ) → IsFront (of_session session (lines_of journal)) (of_session session plan.lines)
+  pub front : (session : ℕ) → AreFirstLines (of_session session (lines_of journal)) (of_session session plan.lines)
 
 -- whether the program ended before it came to its disk
 abbrev pub is_before_disk : Cause → Bool
@@ -95,11 +95,11 @@ abbrev pub lsn_text : ℕ → List ℕ
 lsn_text lsn = codes "0x" ++ digits 16 false (lsn / 2 ^ 32) ++ codes "/0x" ++ digits 16 false (lsn % 2 ^ 32)
 
 -- the line that tells why files cannot be opened
-abbrev pub finding_text : Finding → List ℕ
-finding_text (Damaged lsn) = codes "fault damaged " ++ lsn_text lsn ++ codes "\n"
-finding_text (Missing lsn) = codes "fault missing " ++ lsn_text lsn ++ codes "\n"
-finding_text (Tree lsn) = codes "fault tree " ++ lsn_text lsn ++ codes "\n"
-finding_text (VersionUnknown file version) = codes "fault version " ++ name_of file.0 ++ codes " " ++ decimal version ++ codes "\n"
+abbrev pub corruption_text : Corruption → List ℕ
+corruption_text (Damaged lsn) = codes "fault damaged " ++ lsn_text lsn ++ codes "\n"
+corruption_text (Missing lsn) = codes "fault missing " ++ lsn_text lsn ++ codes "\n"
+corruption_text (Tree lsn) = codes "fault tree " ++ lsn_text lsn ++ codes "\n"
+corruption_text (VersionUnknown file version) = codes "fault version " ++ name_of file.0 ++ codes " " ++ decimal version ++ codes "\n"
 
 -- the line that tells why a program ended, none where all was done
 abbrev pub fault_text : Cause → List ℕ
@@ -107,7 +107,7 @@ fault_text Done = []
 fault_text Usage = codes "fault usage\n"
 fault_text (BadScript line) = codes "fault script line " ++ decimal line ++ codes "\n"
 fault_text Disk = codes "fault disk\n"
-fault_text (Unreadable finding) = finding_text finding
+fault_text (Unreadable corruption) = corruption_text corruption
 fault_text Memory = codes "fault memory\n"
 fault_text Input = codes "fault input\n"
 fault_text InputTooLong = codes "fault input too long\n"
@@ -124,17 +124,17 @@ abbrev pub output_text : Cause → Bool → Store → List Event → List ℕ
 output_text cause opened opening journal = report_of opened journal (totals_of (final_store opening journal)) ++ fault_text cause
 
 -- the output was written, and the status is the cause's; or the sink failed, which has a part of it
-abbrev pub IsWritten : Option (List ℕ) → Option (List ℕ) → ℕ → ℕ → List ℕ → Cause → ℕ → Type 0
-IsWritten before after faults_before faults_after text cause status =
+abbrev pub IsOutputWritten : Option (List ℕ) → Option (List ℕ) → ℕ → ℕ → List ℕ → Cause → ℕ → Type 0
+IsOutputWritten before after faults_before faults_after text cause status =
     (Gains before after text × (status ≡ status_of cause))
-    ⊎ (GainsPart before after text × Rose faults_before faults_after × (status ≡ unwritten_status_of cause))
+    ⊎ (GainsPart before after text × HasRisen faults_before faults_after × (status ≡ unwritten_status_of cause))
 
 -- closing leaves the cause of a run's end as it is, or the disk failed and that is the cause
 abbrev pub ClosesBy : ℕ → ℕ → Cause → Cause → Type 0
-ClosesBy before after old new = (new ≡ old) ⊎ ((new ≡ Disk) × Rose before after × (old ≢ Memory))
+ClosesBy before after old new = (new ≡ old) ⊎ ((new ≡ Disk) × HasRisen before after × (old ≢ Memory))
 
 -- the disk's count never fell in a run, and it rose where the journal has a disk fault, or a disk fault is the cause of the end
 pub record ClosesRun (before after : ℕ) (journal : List Event) (cause : Cause) : Type 0 where
   pub never_falls : before ≤ after
-  pub fault : has_answer is_disk_fault journal ≡ true → Rose before after
-  pub failed : cause ≡ Disk → Rose before after
+  pub fault : has_answer is_disk_fault journal ≡ true → HasRisen before after
+  pub failed : cause ≡ Disk → HasRisen before after

@@ -1,13 +1,13 @@
 -- A run of a script.
 use Rattle.std.specs.Prelude.{ℕ, ◌≡◌, ◌≤◌, ◌∷◌, [], ◌++◌, ◌==◌, List, None, Ok, Bool, true, false, filter, slice_index_or, if◌then◌else◌}
-use Rattle.je_disk.specs.Causes.{Rose}
+use Rattle.je_order.specs.Counts.{HasRisen}
 use Rattle.je_disk.specs.States.{State, Files}
 use Rattle.je_model.specs.declared.store.Store.{Store}
 use Rattle.je_model.specs.declared.answer.Answer.{Answer}
 use Rattle.je_model.specs.declared.answer.Answer.TheVariants.{LogFull, IdsEnded}
 use Rattle.je_model.specs.declared.event.Event.{Event}
-use Rattle.je_model.specs.declared.plan.Given.{Given}
-use Rattle.je_model.specs.declared.plan.Given.TheVariants.{Session}
+use Rattle.je_model.specs.declared.plan.ScriptLine.{ScriptLine}
+use Rattle.je_model.specs.declared.plan.ScriptLine.TheVariants.{Session}
 use Rattle.je_model.specs.Answers.{Standing, AnswersAsModel, after_events}
 use Rattle.je_model.specs.Journal.{AreSyncedAtOnce, answer_of, is_disk_fault, has_answer, lines_of}
 use Rattle.log_buffer.specs.declared.buffer.LogBuffer.{LogBuffer}
@@ -19,34 +19,34 @@ use Rattle.je_program.specs.declared.cause.Cause.TheVariants.{Done, Usage, BadSc
 use Rattle.je_program.specs.Files.{end_in}
 use Rattle.je_program.specs.Environment.{log_rule, IsAt}
 
--- where the model stands when an environment with these files was opened: at what the files mean that were read, which
--- are the disk's where it tells
-pub record StartsAt (tells : Bool) (files : Files) (opening : Store) (st : Standing) : Type 0 where
+-- where the model stands when an environment with these files was opened: at what the files mean that were read, which are the disk's if it
+-- is observable
+pub record StartsAt (observable : Bool) (files : Files) (opening : Store) (st : Standing) : Type 0 where
   pub store : st.store ≡ opening
   pub commits : st.commits ≡ 0
   pub begun : st.begun ≡ None
   pub fault : st.fault ≡ None
   pub held : List (ℕ × List ℕ)
-  pub told : tells ≡ true → AreFiles files held
+  pub observed : observable ≡ true → AreFiles files held
   pub means : reading_of held ≡ Ok (record { store = opening; last_txn = st.last_txn; last_db = st.last_db })
   pub log_end : st.log_end ≡ end_in held
 
 module _ {D : Type 0} where
   -- a run is under way: the environment is where the journal leaves the model, and each answer so far is the model's
-  pub record IsRunning (most : ℕ) (tells : Bool) (state : State) (buffer : LogBuffer D) (kept : Kept) (journal : List Event) (st : Standing) : Type 0 where
-    pub here : IsAt most tells state buffer kept (after_events (log_rule most) st journal)
+  pub record IsRunning (most : ℕ) (observable : Bool) (state : State) (buffer : LogBuffer D) (kept : Kept) (journal : List Event) (st : Standing) : Type 0 where
+    pub here : IsAt most observable state buffer kept (after_events (log_rule most) st journal)
     pub answers : AnswersAsModel (log_rule most) st journal
     pub synced : AreSyncedAtOnce journal
 
 -- since the disk's count stood at `before` it never fell, and it rose where the journal has a disk fault
 pub record IsCaused (before after : ℕ) (journal : List Event) : Type 0 where
   pub never_falls : before ≤ after
-  pub fault : has_answer is_disk_fault journal ≡ true → Rose before after
+  pub fault : has_answer is_disk_fault journal ≡ true → HasRisen before after
 
 -- a run took place on an environment with these files: each answer is the model's on the opening store, and each commit's
 -- sync follows it at once
-pub record HasRun (most : ℕ) (tells : Bool) (files : Files) (opening : Store) (journal : List Event) (st : Standing) : Type 0 where
-  pub starts : StartsAt tells files opening st
+pub record HasRun (most : ℕ) (observable : Bool) (files : Files) (opening : Store) (journal : List Event) (st : Standing) : Type 0 where
+  pub starts : StartsAt observable files opening st
   pub answers : AnswersAsModel (log_rule most) st journal
   pub synced_at_once : AreSyncedAtOnce journal
 
@@ -65,22 +65,22 @@ abbrev pub cause_of_journal : List Event → Cause
 cause_of_journal journal = if has_answer is_disk_fault journal then Disk else cause_of_room journal
 
 -- the session that a line is of, and the lines of one session
-abbrev pub is_of_session : ℕ → Given → Bool
+abbrev pub is_of_session : ℕ → ScriptLine → Bool
 is_of_session session (Session s line call) = s == session
 
-abbrev pub of_session : ℕ → List Given → List Given
+abbrev pub of_session : ℕ → List ScriptLine → List ScriptLine
 of_session session lines = filter (is_of_session session) lines
 
 -- the first of these lines, up to some
-abbrev pub IsFront : List Given → List Given → Type 0
-IsFront front lines = (rest : List Given) × (lines ≡ front ++ rest)
+abbrev pub AreFirstLines : List ScriptLine → List ScriptLine → Type 0
+AreFirstLines front lines = (rest : List ScriptLine) × (lines ≡ front ++ rest)
 
 -- the journal has the lines that were given, and each session's without those behind one that found no memory
-pub record HasGiven (journal : List Event) (memory_ended : Bool) (stopped : List Bool) (lines : List Given) : Type 0 where
+pub record HasGiven (journal : List Event) (memory_ended : Bool) (stopped : List Bool) (lines : List ScriptLine) : Type 0 where
   pub all : memory_ended ≡ false → lines_of journal ≡ lines
   pub none_stopped : memory_ended ≡ false → (session : ℕ) → slice_index_or stopped session false ≡ false
   pub each : (session : ℕ) → slice_index_or stopped session false ≡ false → of_session session (lines_of journal) ≡ of_session session lines
-  pub front : (session : ℕ) → IsFront (of_session session (lines_of journal)) (of_session session lines)
+  pub front : (session : ℕ) → AreFirstLines (of_session session (lines_of journal)) (of_session session lines)
 
 -- the process status of each cause
 abbrev pub status_of : Cause → ℕ
@@ -88,7 +88,7 @@ status_of Done = 0
 status_of Usage = 2
 status_of (BadScript line) = 3
 status_of Disk = 4
-status_of (Unreadable finding) = 5
+status_of (Unreadable corruption) = 5
 status_of Memory = 6
 status_of Input = 7
 status_of InputTooLong = 11

@@ -1,13 +1,13 @@
 -- What one step of an environment does, beside the model.
 use Rattle.std.specs.Prelude.{ℕ, ◌≡◌, ◌≤◌, ◌<◌, ◌+◌, ◌^◌, ◌++◌, List, None, Some, Bool, Result, Ok, Err, IfOk}
 use Rattle.std.specs.declared.alloc.AllocError.{AllocError}
-use Rattle.je_disk.specs.Causes.{Rose}
+use Rattle.je_order.specs.Counts.{HasRisen}
 use Rattle.je_disk.specs.States.{State}
 use Rattle.log_entry.specs.declared.entry.Entry.{Entry}
 use Rattle.log_file.specs.Log.{Log, entries_of}
 use Rattle.log_buffer.specs.declared.buffer.LogBuffer.{LogBuffer}
 use Rattle.log_buffer.specs.Buffer.{end_of, file_max_of, has_failed}
-use Rattle.log_buffer.specs.Flip.{lsn_of}
+use Rattle.log_buffer.specs.Flip.{pos_lsn}
 use Rattle.log_buffer.specs.Log.{HasLog}
 use Rattle.je_model.specs.declared.call.Call.{Call}
 use Rattle.je_model.specs.declared.answer.Answer.{Answer}
@@ -18,7 +18,7 @@ use Rattle.je_model.specs.declared.totals.Totals.{Totals}
 use Rattle.je_model.specs.Answers.{Standing, MayAnswer, MayBeginSync, MayEndSync, answer_to, after_begin, after_call, after_sync}
 use Rattle.je_program.specs.declared.kept.Kept.{Kept}
 use Rattle.je_program.specs.declared.kept.TheConstants.{LAST_FILE}
-use Rattle.je_program.specs.Environment.{IsAt, IsAtEnd, IsWhole, log_rule}
+use Rattle.je_program.specs.Environment.{IsAt, IsAtEnd, IsWholeLog, log_rule}
 use Rattle.je_program.specs.Logging.{HasLogged, IsSame, entries_logged}
 
 -- the numbers leave room for another step
@@ -26,7 +26,7 @@ pub record CanGoOn (kept : Kept) : Type 0 where
   pub file : kept.end.file ≤ LAST_FILE
   pub offset : kept.end.offset < 2 ^ 32
   pub file_max : kept.file_max ≤ 2 ^ 30
-  pub commits : kept.commits ≤ lsn_of kept.end
+  pub commits : kept.commits ≤ pos_lsn kept.end
   pub last_db : kept.last_db < 2 ^ 32
 
 -- an answer of Logged has the number of the last commit
@@ -46,42 +46,42 @@ pub record HasFaulted (old new : Kept) : Type 0 where
 
 module _ {D : Type 0} where
   -- the log has these entries more
-  pub record GainsEntries (tells : Bool) (before after : State) (old new : LogBuffer D) (entries : List Entry) : Type 0 where
-    pub logs : (log : Log) → HasLog tells before old log → IsWhole log
-        → (longer : Log) × HasLog tells after new longer × IsWhole longer × (entries_of longer ≡ entries_of log ++ entries)
+  pub record GainsEntries (observable : Bool) (before after : State) (old new : LogBuffer D) (entries : List Entry) : Type 0 where
+    pub logs : (log : Log) → HasLog observable before old log → IsWholeLog log
+        → (longer : Log) × HasLog observable after new longer × IsWholeLog longer × (entries_of longer ≡ entries_of log ++ entries)
 
   -- the log is as it was
-  pub record KeepsLog (tells : Bool) (before after : State) (old new : LogBuffer D) : Type 0 where
+  pub record KeepsLog (observable : Bool) (before after : State) (old new : LogBuffer D) : Type 0 where
     pub end : end_of new ≡ end_of old
     pub file_max : file_max_of new ≡ file_max_of old
     pub works : has_failed new ≡ has_failed old
-    pub logs : (log : Log) → HasLog tells before old log → HasLog tells after new log
+    pub logs : (log : Log) → HasLog observable before old log → HasLog observable after new log
 
-  -- a call was answered as the model may, and the environment is where the model then stands; want of memory left it where it was
+  -- a call was answered as the model may, and the environment is where the model then stands; out of memory left it where it was
   abbrev pub GoesOn : ℕ → Bool → State → LogBuffer D → Kept → Standing → Call → Result Answer AllocError → Type 0
-  GoesOn most tells state buffer kept st call (Ok answer) =
-      MayAnswer (answer_to (log_rule most) st call) answer × IsAt most tells state buffer kept (after_call (log_rule most) st call answer) × IsNumbered answer kept.commits
-  GoesOn most tells state buffer kept st call (Err error) = IsAt most tells state buffer kept st
+  GoesOn most observable state buffer kept st call (Ok answer) =
+      MayAnswer (answer_to (log_rule most) st call) answer × IsAt most observable state buffer kept (after_call (log_rule most) st call answer) × IsNumbered answer kept.commits
+  GoesOn most observable state buffer kept st call (Err error) = IsAt most observable state buffer kept st
 
   -- a change was logged, or the disk failed, or there was no memory
   abbrev pub LogsChange : Bool → State → State → LogBuffer D → LogBuffer D → Kept → Kept → ℕ → Change → Totals → Result Answer AllocError → Type 0
-  LogsChange tells before after buffer longer old new number change totals (Ok (Logged commit)) =
+  LogsChange observable before after buffer longer old new number change totals (Ok (Logged commit)) =
       (commit ≡ old.commits + 1) × HasLogged old new number change totals × IsAtEnd longer new
-      × GainsEntries tells before after buffer longer (entries_logged (old.last_txn + 1) number change)
-  LogsChange tells before after buffer longer old new number change totals (Ok DiskFault) = HasFaulted old new
-  LogsChange tells before after buffer longer old new number change totals (Ok answer) = ⊥
-  LogsChange tells before after buffer longer old new number change totals (Err error) = IsSame old new × KeepsLog tells before after buffer longer
+      × GainsEntries observable before after buffer longer (entries_logged (old.last_txn + 1) number change)
+  LogsChange observable before after buffer longer old new number change totals (Ok DiskFault) = HasFaulted old new
+  LogsChange observable before after buffer longer old new number change totals (Ok answer) = ⊥
+  LogsChange observable before after buffer longer old new number change totals (Err error) = IsSame old new × KeepsLog observable before after buffer longer
 
   -- a sync began, or the disk failed
   abbrev pub BeginsSync : ℕ → Bool → State → LogBuffer D → Kept → Standing → Answer → Type 0
-  BeginsSync most tells state buffer kept st answer = MayBeginSync None answer × IsAt most tells state buffer kept (after_begin st answer)
+  BeginsSync most observable state buffer kept st answer = MayBeginSync None answer × IsAt most observable state buffer kept (after_begin st answer)
 
   -- a sync made the commits so far durable, or the disk failed
   abbrev pub EndsSync : ℕ → Bool → State → LogBuffer D → Kept → Standing → Answer → Type 0
-  EndsSync most tells state buffer kept st answer =
-      MayEndSync None (Some st.commits) answer × IsAt most tells state buffer kept (after_sync (record st { begun = Some st.commits }) answer)
+  EndsSync most observable state buffer kept st answer =
+      MayEndSync None (Some st.commits) answer × IsAt most observable state buffer kept (after_sync (record st { begun = Some st.commits }) answer)
 
 -- the count of the disk's faults never falls, and rose where the answer is a disk fault
-pub record HasCause (before after : ℕ) (result : Result Answer AllocError) : Type 0 where
+pub record HasStepCause (before after : ℕ) (result : Result Answer AllocError) : Type 0 where
   pub never_falls : before ≤ after
-  pub fault : IfOk result (λ answer. answer ≡ DiskFault → Rose before after)
+  pub fault : IfOk result (λ answer. answer ≡ DiskFault → HasRisen before after)

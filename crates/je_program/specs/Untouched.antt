@@ -11,5 +11,5 @@ pub record IsUntouched (old new : History) : Type 0 where
 
 -- where the cause is that the files cannot be opened, the disk is untouched
 abbrev pub LeavesUnreadable : Cause → History → History → Type 0
-LeavesUnreadable (Unreadable finding) old new = IsUntouched old new
+LeavesUnreadable (Unreadable corruption) old new = IsUntouched old new
 LeavesUnreadable cause old new = Unit {0}

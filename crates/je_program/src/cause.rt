@@ -2,7 +2,7 @@
 ghost use Rattle.std.specs.Prelude.{◌≡◌};
 ghost use Rattle.je_program.specs.Run.{status_of, unwritten_status_of};
 
-use log_replay::Finding;
+use log_replay::Corruption;
 
 /// Why a program ended as it did, before its output was written. Each has a status and a fault line of
 /// its own (docs/ANSWERS.md).
@@ -10,15 +10,16 @@ use log_replay::Finding;
 pub enum Cause {
     /// All was done: 0, and no fault line.
     Done,
-    /// The words are no right command line: 2.
+    /// The arguments are invalid: 2.
     Usage,
     /// This line of the script is the first that is outside the grammar: 3.
     BadScript { line: u32 },
     /// The disk failed: 4.
     Disk,
-    /// The files at entry cannot be opened; this is the first finding in the order of reading: 5.
-    Unreadable(Finding),
-    /// Want of memory: 6.
+    /// The files at entry cannot be opened; this is the first corruption in the order of reading:
+    /// 5.
+    Unreadable(Corruption),
+    /// Out of memory: 6.
     Memory,
     /// The input failed: 7.
     Input,

@@ -1,7 +1,7 @@
 // An open environment.
 ghost use Rattle.script_text.specs.Grammar.{has_line};
 ghost use Rattle.std.specs.Prelude.{◌≡◌, ◌≤◌, ◌<◌, ◌+◌, ◌-◌, ◌^◌, ◌∷◌, [], ℕ, None, Some, is_some, true, false, IfSome, IsNone, if◌then◌else◌, ◌++◌, List, length};
-ghost use Rattle.je_disk.specs.Causes.{Rose};
+ghost use Rattle.je_order.specs.Counts.{HasRisen};
 ghost use Rattle.je_disk.specs.Moments.{History, now};
 ghost use Rattle.je_model.specs.Answers.{Standing, after_events};
 ghost use Rattle.je_model.specs.declared.change.Change.{Change as OneChange};
@@ -10,14 +10,14 @@ ghost use Rattle.je_model.specs.declared.event.Event.TheVariants.{SyncEnd};
 ghost use Rattle.log_buffer.specs.Buffer.{disk_of, has_failed};
 ghost use Rattle.log_entry.specs.Body.{IsEntry};
 ghost use Rattle.log_file.specs.Log.{Log, entries_of};
-ghost use Rattle.log_replay.specs.Logging.{HasOneEntry, entry_of as entry_of_change};
+ghost use Rattle.log_replay.specs.Logging.{HasOneEntry, change_entry as entry_of_change};
 ghost use Rattle.log_buffer.specs.Growth.{log_with_all};
 ghost use Rattle.je_program.specs.Guarded.{BeginsSafely, GoesOnSafely, IsGuarded, IsKeeping, LogsSafely, log_after};
 ghost use Rattle.je_program.specs.Environment.{IsAt, IsAtEnd, log_rule};
 ghost use Rattle.je_program.specs.Logging.{IsTransaction, entries_logged};
 ghost use Rattle.je_program.specs.Planning.{end_behind};
 ghost use Rattle.je_program.specs.declared.kept.TheConstants.{LAST_FILE};
-ghost use Rattle.je_program.specs.Steps.{BeginsSync, CanGoOn, GoesOn, LogsChange, EndsSync, HasCause};
+ghost use Rattle.je_program.specs.Steps.{BeginsSync, CanGoOn, GoesOn, LogsChange, EndsSync, HasStepCause};
 
 use crate::kept::{COMMIT_SIZE, Kept};
 use crate::logging::{append_both, change_rows, entries_of};
@@ -35,19 +35,20 @@ pub struct Environment<D> {
 }
 
 impl<D: Disk> Environment<D> {
-    /// Answers a call, and logs what it changes. Want of memory leaves the environment as it was.
+    /// Answers a call, and logs what it changes. Running out of memory leaves the environment as it
+    /// was.
     pub fn step(&mut self, alloc: Global, call: &Call) -> Result<Answer, AllocError>
-        requires here { (most : ℕ) × (st : Standing) × IsAt most D.tells (now (D.history (disk_of self.old.log))) self.old.log self.old.kept st }
+        requires here { (most : ℕ) × (st : Standing) × IsAt most D.observable (now (D.history (disk_of self.old.log))) self.old.log self.old.kept st }
         requires bounds { CanGoOn self.old.kept }
         requires line { has_line call.now ≡ true }
-        ensures goes_on { (most : ℕ) (st : Standing) → IsAt most D.tells (now (D.history (disk_of self.old.log))) self.old.log self.old.kept st
-            → GoesOn most D.tells (now (D.history (disk_of self.new.log))) self.new.log self.new.kept st call.now result }
+        ensures goes_on { (most : ℕ) (st : Standing) → IsAt most D.observable (now (D.history (disk_of self.old.log))) self.old.log self.old.kept st
+            → GoesOn most D.observable (now (D.history (disk_of self.new.log))) self.new.log self.new.kept st call.now result }
         ensures bounds { CanGoOn self.new.kept }
-        ensures crash { D.tells ≡ true → (most : ℕ) (st : Standing) (log : Log) (start : History) (session line : ℕ) (journal : List Event)
-            → IsAt most D.tells (now (D.history (disk_of self.old.log))) self.old.log self.old.kept (after_events (log_rule most) st journal)
+        ensures crash { D.observable ≡ true → (most : ℕ) (st : Standing) (log : Log) (start : History) (session line : ℕ) (journal : List Event)
+            → IsAt most D.observable (now (D.history (disk_of self.old.log))) self.old.log self.old.kept (after_events (log_rule most) st journal)
             → IsGuarded most st log start (D.history (disk_of self.old.log)) self.old.log journal None
             → GoesOnSafely most st log start (D.history (disk_of self.new.log)) self.new.log journal session line call.now result }
-        ensures cause { HasCause (D.faults (disk_of self.old.log)) (D.faults (disk_of self.new.log)) result }
+        ensures cause { HasStepCause (D.faults (disk_of self.old.log)) (D.faults (disk_of self.new.log)) result }
     {
         if let Some(first) = self.kept.fault {
             return Ok(Answer::Invalid { first });
@@ -68,8 +69,8 @@ impl<D: Disk> Environment<D> {
         }
     }
 
-    // Logs a change of a valid environment, in the database of that number. Want of memory leaves the
-    // environment as it was.
+    // Logs a change of a valid environment, in the database of that number. Running out of memory
+    // leaves the environment as it was.
     fn log(
         &mut self,
         alloc: Global,
@@ -83,11 +84,11 @@ impl<D: Disk> Environment<D> {
         requires one { HasOneEntry change }
         requires entry { IsEntry (entry_of_change (self.old.kept.last_txn + 1) number change) }
         requires room { (end_behind self.old.kept change).file ≤ LAST_FILE }
-        ensures logs { LogsChange D.tells (now (D.history (disk_of self.old.log))) (now (D.history (disk_of self.new.log))) self.old.log self.new.log self.old.kept self.new.kept number change totals result }
+        ensures logs { LogsChange D.observable (now (D.history (disk_of self.old.log))) (now (D.history (disk_of self.new.log))) self.old.log self.new.log self.old.kept self.new.kept number change totals result }
         ensures bounds { CanGoOn self.new.kept }
-        ensures crash { D.tells ≡ true → (held : Log) (least : ℕ) → IsKeeping (now (D.history (disk_of self.old.log))) self.old.log held least None
+        ensures crash { D.observable ≡ true → (held : Log) (least : ℕ) → IsKeeping (now (D.history (disk_of self.old.log))) self.old.log held least None
             → LogsSafely (D.history (disk_of self.old.log)) (D.history (disk_of self.new.log)) self.new.log held (log_with_all self.old.kept.file_max self.old.kept.end (entries_logged (self.old.kept.last_txn + 1) number change) held) least result }
-        ensures cause { HasCause (D.faults (disk_of self.old.log)) (D.faults (disk_of self.new.log)) result }
+        ensures cause { HasStepCause (D.faults (disk_of self.old.log)) (D.faults (disk_of self.new.log)) result }
     {
         let txn = self.kept.last_txn + 1;
         let (entry, commit) = entries_of(alloc, txn, number, change)?;
@@ -98,8 +99,8 @@ impl<D: Disk> Environment<D> {
         answer
     }
 
-    // Logs the entry of a change and the commit of its transaction. Want of memory leaves the environment as
-    // it was.
+    // Logs the entry of a change and the commit of its transaction. Running out of memory leaves the
+    // environment as it was.
     fn log_both(
         &mut self,
         alloc: Global,
@@ -113,11 +114,11 @@ impl<D: Disk> Environment<D> {
         requires numbers { self.old.kept.last_txn < 2 ^ 63 - 1 }
         requires logs { (change : OneChange) × IsTransaction (self.old.kept.last_txn + 1) number change entry.now commit.now × IsEntry entry.now × ((end_behind self.old.kept change).file ≤ LAST_FILE) }
         ensures logs { (change : OneChange) → IsTransaction (self.old.kept.last_txn + 1) number change entry.now commit.now
-            → LogsChange D.tells (now (D.history (disk_of self.old.log))) (now (D.history (disk_of self.new.log))) self.old.log self.new.log self.old.kept self.new.kept number change totals result }
+            → LogsChange D.observable (now (D.history (disk_of self.old.log))) (now (D.history (disk_of self.new.log))) self.old.log self.new.log self.old.kept self.new.kept number change totals result }
         ensures bounds { CanGoOn self.new.kept }
-        ensures crash { D.tells ≡ true → (held : Log) (least : ℕ) → IsKeeping (now (D.history (disk_of self.old.log))) self.old.log held least None
+        ensures crash { D.observable ≡ true → (held : Log) (least : ℕ) → IsKeeping (now (D.history (disk_of self.old.log))) self.old.log held least None
             → LogsSafely (D.history (disk_of self.old.log)) (D.history (disk_of self.new.log)) self.new.log held (log_with_all self.old.kept.file_max self.old.kept.end (entry.now ∷ commit.now ∷ []) held) least result }
-        ensures cause { HasCause (D.faults (disk_of self.old.log)) (D.faults (disk_of self.new.log)) result }
+        ensures cause { HasStepCause (D.faults (disk_of self.old.log)) (D.faults (disk_of self.new.log)) result }
     {
         let size = size(entry);
         let end = end_of_transaction(self.kept.end, self.kept.file_max, size).unwrap();
@@ -146,15 +147,15 @@ impl<D: Disk> Environment<D> {
     /// Begins a sync of the commits so far: the log is written out, and the job is to be run. None where
     /// the disk failed. It takes no memory.
     pub fn begin_sync(&mut self) -> Option<D::Job>
-        ensures begins { (most : ℕ) (st : Standing) → IsAt most D.tells (now (D.history (disk_of self.old.log))) self.old.log self.old.kept st → st.fault ≡ None
-            → BeginsSync most D.tells (now (D.history (disk_of self.new.log))) self.new.log self.new.kept st (if is_some result then Answer.Done else Answer.DiskFault) }
-        ensures crash { D.tells ≡ true → (most : ℕ) (st : Standing) (log : Log) (start : History) (journal : List Event)
+        ensures begins { (most : ℕ) (st : Standing) → IsAt most D.observable (now (D.history (disk_of self.old.log))) self.old.log self.old.kept st → st.fault ≡ None
+            → BeginsSync most D.observable (now (D.history (disk_of self.new.log))) self.new.log self.new.kept st (if is_some result then Answer.Done else Answer.DiskFault) }
+        ensures crash { D.observable ≡ true → (most : ℕ) (st : Standing) (log : Log) (start : History) (journal : List Event)
             → (after_events (log_rule most) st journal).fault ≡ None → IsGuarded most st log start (D.history (disk_of self.old.log)) self.old.log journal None
             → BeginsSafely most st log start (D.history (disk_of self.new.log)) self.new.log journal (is_some result) }
         ensures out { IfSome result (λ job. D.sync_out (disk_of self.new.log) ≡ Some (D.Job.job_number job)) }
         ensures bounds { CanGoOn self.old.kept → CanGoOn self.new.kept }
         ensures never_falls { D.faults (disk_of self.old.log) ≤ D.faults (disk_of self.new.log) }
-        ensures cause { has_failed self.old.log ≡ false → IsNone result → Rose (D.faults (disk_of self.old.log)) (D.faults (disk_of self.new.log)) }
+        ensures cause { has_failed self.old.log ≡ false → IsNone result → HasRisen (D.faults (disk_of self.old.log)) (D.faults (disk_of self.new.log)) }
     {
         match self.log.sync_begin() {
             Ok(job) => Some(job),
@@ -169,15 +170,15 @@ impl<D: Disk> Environment<D> {
     /// takes no memory.
     pub fn end_sync(&mut self, done: <D::Job as SyncJob>::Done) -> Answer
         requires { D.sync_out (disk_of self.old.log) ≡ Some (D.Job.Done.done_number done) }
-        ensures ends { (most : ℕ) (st : Standing) → IsAt most D.tells (now (D.history (disk_of self.old.log))) self.old.log self.old.kept st → st.fault ≡ None
-            → EndsSync most D.tells (now (D.history (disk_of self.new.log))) self.new.log self.new.kept st result }
-        ensures crash { D.tells ≡ true → (most : ℕ) (st : Standing) (log : Log) (start : History) (journal : List Event)
-            → IsAt most D.tells (now (D.history (disk_of self.old.log))) self.old.log self.old.kept (after_events (log_rule most) st journal) → (after_events (log_rule most) st journal).fault ≡ None
+        ensures ends { (most : ℕ) (st : Standing) → IsAt most D.observable (now (D.history (disk_of self.old.log))) self.old.log self.old.kept st → st.fault ≡ None
+            → EndsSync most D.observable (now (D.history (disk_of self.new.log))) self.new.log self.new.kept st result }
+        ensures crash { D.observable ≡ true → (most : ℕ) (st : Standing) (log : Log) (start : History) (journal : List Event)
+            → IsAt most D.observable (now (D.history (disk_of self.old.log))) self.old.log self.old.kept (after_events (log_rule most) st journal) → (after_events (log_rule most) st journal).fault ≡ None
             → IsGuarded most st log start (D.history (disk_of self.old.log)) self.old.log journal (Some (length (entries_of (log_after most st journal log))))
             → IsGuarded most st log start (D.history (disk_of self.new.log)) self.new.log (journal ++ SyncEnd result ∷ []) None }
         ensures bounds { CanGoOn self.old.kept → CanGoOn self.new.kept }
         ensures never_falls { D.faults (disk_of self.old.log) ≤ D.faults (disk_of self.new.log) }
-        ensures cause { has_failed self.old.log ≡ false → result ≡ Answer.DiskFault → Rose (D.faults (disk_of self.old.log)) (D.faults (disk_of self.new.log)) }
+        ensures cause { has_failed self.old.log ≡ false → result ≡ Answer.DiskFault → HasRisen (D.faults (disk_of self.old.log)) (D.faults (disk_of self.new.log)) }
     {
         match self.log.sync_end(done) {
             Ok(()) => Answer::Durable {

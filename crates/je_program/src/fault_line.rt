@@ -2,14 +2,14 @@
 ghost use Rattle.std.specs.Prelude.{◌≡◌, ◌+◌, ◌++◌, ◌≤◌, codes, decimal, length, false};
 ghost use Rattle.std.specs.Fmt.{digits};
 ghost use Rattle.arrayvec.specs.ArrayVec.{array_vec_len};
-ghost use Rattle.je_program.specs.Program.{fault_text, finding_text, lsn_text};
+ghost use Rattle.je_program.specs.Program.{fault_text, corruption_text, lsn_text};
 
 use crate::cause::Cause;
 use crate::hexadecimal::write_hexadecimal;
 use arrayvec::ArrayVec;
 use itoa::Buffer;
 use je_lsn::{FileNo, Lsn, file_name};
-use log_replay::Finding;
+use log_replay::Corruption;
 
 // Puts bytes at the end of a line that has room for them.
 fn put(line: &mut ArrayVec<u8, 64>, bytes: &[u8])
@@ -67,7 +67,7 @@ fn line_with_lsn(text: &[u8], at: Lsn) -> ArrayVec<u8, 64>
 
 // The line of a version that is not known.
 fn line_of_version(file: FileNo, version: u32) -> ArrayVec<u8, 64>
-    ensures { result.items ≡ finding_text (Finding.VersionUnknown file version) }
+    ensures { result.items ≡ corruption_text (Corruption.VersionUnknown file version) }
 {
     let mut line = ArrayVec::new();
     put(&mut line, b"fault version ");
@@ -79,14 +79,14 @@ fn line_of_version(file: FileNo, version: u32) -> ArrayVec<u8, 64>
 }
 
 // The line of files that cannot be opened.
-fn line_of_finding(finding: &Finding) -> ArrayVec<u8, 64>
-    ensures { result.items ≡ finding_text finding.now }
+fn line_of_corruption(corruption: &Corruption) -> ArrayVec<u8, 64>
+    ensures { result.items ≡ corruption_text corruption.now }
 {
-    match finding {
-        Finding::Damaged(at) => line_with_lsn(b"fault damaged ", *at),
-        Finding::Missing(at) => line_with_lsn(b"fault missing ", *at),
-        Finding::Tree(at) => line_with_lsn(b"fault tree ", *at),
-        Finding::VersionUnknown { file, version } => line_of_version(*file, *version),
+    match corruption {
+        Corruption::Damaged(at) => line_with_lsn(b"fault damaged ", *at),
+        Corruption::Missing(at) => line_with_lsn(b"fault missing ", *at),
+        Corruption::Tree(at) => line_with_lsn(b"fault tree ", *at),
+        Corruption::VersionUnknown { file, version } => line_of_version(*file, *version),
     }
 }
 
@@ -120,7 +120,7 @@ pub fn fault_line(cause: &Cause) -> ArrayVec<u8, 64>
         Cause::Usage => plain_line(b"fault usage\n"),
         Cause::BadScript { line } => line_of_bad_line(*line),
         Cause::Disk => plain_line(b"fault disk\n"),
-        Cause::Unreadable(finding) => line_of_finding(finding),
+        Cause::Unreadable(corruption) => line_of_corruption(corruption),
         Cause::Memory => plain_line(b"fault memory\n"),
         Cause::Input => plain_line(b"fault input\n"),
         Cause::InputTooLong => plain_line(b"fault input too long\n"),

@@ -1,6 +1,6 @@
 // What an open environment keeps in memory.
 use je_model::{Fault, Totals};
-use log_buffer::Place;
+use log_buffer::LogPos;
 use log_replay::Rows;
 
 /// The last file that a log may have: the greatest number that names a file.
@@ -16,12 +16,12 @@ pub struct Kept {
     pub rows: Rows,
     /// How many databases and records the committed store has.
     pub totals: Totals,
-    /// The transaction number drawn last.
+    /// The transaction number allocated last.
     pub last_txn: u64,
-    /// The database number drawn last.
+    /// The database number allocated last.
     pub last_db: u32,
     /// Where the log ends.
-    pub end: Place,
+    pub end: LogPos,
     /// The greatest size in bytes of a file that holds more than one entry behind its header.
     pub file_max: u32,
     /// How many transactions were committed since opening.

@@ -1,6 +1,6 @@
 // What a change is logged as, and what is kept then.
 ghost use Rattle.std.specs.Prelude.{◌≡◌, ◌≤◌, ◌∷◌, [], ℕ, None, true, false, IfOk, OnOk, OnErr};
-ghost use Rattle.je_disk.specs.Causes.{Rose};
+ghost use Rattle.je_order.specs.Counts.{HasRisen};
 ghost use Rattle.je_disk.specs.Moments.{now};
 ghost use Rattle.je_model.specs.declared.change.Change.TheVariants.{Make};
 ghost use Rattle.log_buffer.specs.Buffer.{disk_of, end_of, file_max_of, has_failed, HasRoom};
@@ -9,11 +9,11 @@ ghost use Rattle.log_buffer.specs.Crash.{KeptThrough};
 ghost use Rattle.log_buffer.specs.Flip.{end_after_all};
 ghost use Rattle.log_entry.specs.Body.{IsEntry};
 ghost use Rattle.log_entry.specs.declared.entry.Entry.TheVariants.{Commit};
-ghost use Rattle.log_entry.specs.Spelling.{size_of};
+ghost use Rattle.log_entry.specs.Encoding.{size_of};
 ghost use Rattle.log_file.specs.Log.{Log};
 ghost use Rattle.log_file.specs.Scan.{may_follow};
 ghost use Rattle.log_replay.specs.Rows.{rows_in};
-ghost use Rattle.log_replay.specs.Logging.{HasOneEntry, entry_of as entry_of_change};
+ghost use Rattle.log_replay.specs.Logging.{HasOneEntry, change_entry as entry_of_change};
 ghost use Rattle.log_buffer.specs.Growth.{log_with_all};
 ghost use Rattle.je_program.specs.Guarded.{IsKeeping};
 ghost use Rattle.je_program.specs.Logging.{IsTransaction, rows_after};
@@ -109,22 +109,22 @@ pub fn append_both<D: Disk>(
     ensures end { OnOk result (end_of log.new ≡ end_after_all (file_max_of log.old) (end_of log.old) (size_of entry.now ∷ size_of commit.now ∷ [])) }
     ensures file_max { OnOk result (file_max_of log.new ≡ file_max_of log.old) }
     ensures works { OnOk result (has_failed log.new ≡ false) }
-    ensures gains { OnOk result (GainsEntries D.tells (now (D.history (disk_of log.old))) (now (D.history (disk_of log.new))) log.old log.new (entry.now ∷ commit.now ∷ [])) }
-    ensures crash { D.tells ≡ true → (held : Log) (least : ℕ) → IsKeeping (now (D.history (disk_of log.old))) log.old held least None
+    ensures gains { OnOk result (GainsEntries D.observable (now (D.history (disk_of log.old))) (now (D.history (disk_of log.new))) log.old log.new (entry.now ∷ commit.now ∷ [])) }
+    ensures crash { D.observable ≡ true → (held : Log) (least : ℕ) → IsKeeping (now (D.history (disk_of log.old))) log.old held least None
         → KeptThrough (D.history (disk_of log.old)) (D.history (disk_of log.new)) (log_with_all (file_max_of log.old) (end_of log.old) (entry.now ∷ commit.now ∷ []) held) [] least }
-    ensures keeps { D.tells ≡ true → (held : Log) (least : ℕ) → IsKeeping (now (D.history (disk_of log.old))) log.old held least None
+    ensures keeps { D.observable ≡ true → (held : Log) (least : ℕ) → IsKeeping (now (D.history (disk_of log.old))) log.old held least None
         → OnOk result (IsKeeping (now (D.history (disk_of log.new))) log.new (log_with_all (file_max_of log.old) (end_of log.old) (entry.now ∷ commit.now ∷ []) held) least None) }
     ensures by_fault { FailsByFault result }
     ensures failed { OnErr result (has_failed log.new ≡ true) }
     ensures never_falls { D.faults (disk_of log.old) ≤ D.faults (disk_of log.new) }
-    ensures fault { OnErr result (Rose (D.faults (disk_of log.old)) (D.faults (disk_of log.new))) }
+    ensures fault { OnErr result (HasRisen (D.faults (disk_of log.old)) (D.faults (disk_of log.new))) }
 {
     log.append(entry)?;
     log.append(commit)?;
     Ok(())
 }
 
-/// The records after an entry of a committed transaction. Want of memory changes no record.
+/// The records after an entry of a committed transaction. Running out of memory changes no record.
 pub fn change_rows(rows: &mut Rows, alloc: Global, entry: &Entry) -> Result<(), AllocError>
     ensures ok { OnOk result ((d : ℕ) → rows_in rows.new d ≡ rows_after entry.now (rows_in rows.old) d) }
     ensures err { OnErr result ((d : ℕ) → rows_in rows.new d ≡ rows_in rows.old d) }

@@ -2,7 +2,7 @@
 ghost use Rattle.std.specs.Prelude.{◌≡◌, ◌≤◌, [], true, false, None, ℕ, length, IfSome, IfOk, IfErr, OnOk};
 ghost use Rattle.je_disk.specs.Causes.{HasFault};
 ghost use Rattle.je_disk.specs.Moments.{History, Passes, now};
-ghost use Rattle.je_disk.specs.States.{Files as Reads, IsEither, synced_marks};
+ghost use Rattle.je_disk.specs.States.{Files as Reads, IsEither, synced_crash_states};
 ghost use Rattle.log_buffer.specs.Buffer.{disk_of, end_of, file_max_of, first_of, has_failed};
 ghost use Rattle.log_buffer.specs.Crash.{Holds};
 ghost use Rattle.log_buffer.specs.Log.{HasLog};
@@ -10,7 +10,7 @@ ghost use Rattle.log_file.specs.Log.{Log, entries_of};
 ghost use Rattle.je_program.specs.Crash.{KeepsEntry};
 ghost use Rattle.je_program.specs.Untouched.{LeavesUnreadable};
 ghost use Rattle.je_program.specs.Guarded.{IsOpenedSafely};
-ghost use Rattle.je_program.specs.Opening.{IsOpened, IsSettled, IsSettling, StartsLog, StopsBy, WasRead, cut_off, kept_at_start, start_of};
+ghost use Rattle.je_program.specs.Opening.{IsOpened, HasTornTailCut, IsSettling, StartsLog, StopsBy, WasRead, cut_off, kept_at_start, log_start_of};
 ghost use Rattle.je_program.specs.Steps.{CanGoOn};
 ghost use Rattle.je_program.specs.declared.kept.TheConstants.{LAST_FILE};
 
@@ -20,7 +20,7 @@ use crate::kept::Kept;
 use je_disk::{Disk, DiskErr};
 use je_lsn::{FileNo, Lsn};
 use je_model::Store;
-use log_buffer::{HEADER_SIZE, LogBuffer, Place};
+use log_buffer::{HEADER_SIZE, LogBuffer, LogPos};
 use log_replay::{LastFile, LogRead, ReadLog, Replayed, read_log};
 use std::alloc::{AllocError, Global};
 
@@ -63,26 +63,26 @@ impl From<AllocError> for Cause {
 
 // Mounts the disk and reads the log that it has.
 fn read_disk<D: Disk>(alloc: Global, disk: &mut D) -> Result<ReadLog, Cause>
-    ensures same { D.tells ≡ true → now (D.history disk.new) ≡ now (D.history disk.old) }
-    ensures moments { D.tells ≡ true → Passes (D.history disk.old) (D.history disk.new) (λ s. s ≡ now (D.history disk.old)) }
-    ensures read { IfOk result (WasRead D.tells (now (D.history disk.old)).reads) }
+    ensures same { D.observable ≡ true → now (D.history disk.new) ≡ now (D.history disk.old) }
+    ensures moments { D.observable ≡ true → Passes (D.history disk.old) (D.history disk.new) (λ s. s ≡ now (D.history disk.old)) }
+    ensures read { IfOk result (WasRead D.observable (now (D.history disk.old)).reads) }
     ensures none_out { OnOk result (D.sync_out disk.new ≡ None) }
-    ensures stops { IfErr result (λ cause. StopsBy D.tells (now (D.history disk.old)).reads (D.faults disk.old) (D.faults disk.new) cause) }
+    ensures stops { IfErr result (λ cause. StopsBy D.observable (now (D.history disk.old)).reads (D.faults disk.old) (D.faults disk.new) cause) }
     ensures never_falls { D.faults disk.old ≤ D.faults disk.new }
 {
     disk.mount()?;
     let files = disk.list(alloc)?;
     match read_log(alloc, disk, &files)? {
         LogRead::Read(read) => Ok(read),
-        LogRead::Found(finding) => Err(Cause::Unreadable(finding)),
+        LogRead::Corrupt(corruption) => Err(Cause::Unreadable(corruption)),
     }
 }
 
-// Cuts off what follows the run of the last file.
+// Cuts off what follows the valid prefix of the last file.
 fn cut_rest<D: Disk>(disk: &mut D, tail: Option<LastFile>) -> Result<(), DiskErr>
     requires { D.sync_out disk.old ≡ None }
-    ensures done { D.tells ≡ true → OnOk result (now (D.history disk.new) ≡ cut_off tail (now (D.history disk.old))) }
-    ensures moments { D.tells ≡ true → Passes (D.history disk.old) (D.history disk.new) (IsEither (now (D.history disk.old)) (cut_off tail (now (D.history disk.old)))) }
+    ensures done { D.observable ≡ true → OnOk result (now (D.history disk.new) ≡ cut_off tail (now (D.history disk.old))) }
+    ensures moments { D.observable ≡ true → Passes (D.history disk.old) (D.history disk.new) (IsEither (now (D.history disk.old)) (cut_off tail (now (D.history disk.old)))) }
     ensures cause { HasFault (D.faults disk.old) (D.faults disk.new) result }
 {
     let Some(last) = tail else {
@@ -96,12 +96,12 @@ fn cut_rest<D: Disk>(disk: &mut D, tail: Option<LastFile>) -> Result<(), DiskErr
     }
 }
 
-// Cuts off what follows the run of the last file, and syncs.
+// Cuts off what follows the valid prefix of the last file, and syncs.
 fn settle<D: Disk>(disk: &mut D, tail: Option<LastFile>) -> Result<(), DiskErr>
     requires { D.sync_out disk.old ≡ None }
-    ensures settled { D.tells ≡ true → OnOk result (IsSettled (now (D.history disk.old)).reads (now (D.history disk.new)).reads tail) }
-    ensures stable { D.tells ≡ true → OnOk result ((now (D.history disk.new)).marks ≡ synced_marks (now (D.history disk.new)).reads) }
-    ensures moments { D.tells ≡ true → Passes (D.history disk.old) (D.history disk.new) (IsSettling tail (now (D.history disk.old))) }
+    ensures settled { D.observable ≡ true → OnOk result (HasTornTailCut (now (D.history disk.old)).reads (now (D.history disk.new)).reads tail) }
+    ensures stable { D.observable ≡ true → OnOk result ((now (D.history disk.new)).crash_states ≡ synced_crash_states (now (D.history disk.new)).reads) }
+    ensures moments { D.observable ≡ true → Passes (D.history disk.old) (D.history disk.new) (IsSettling tail (now (D.history disk.old))) }
     ensures cause { HasFault (D.faults disk.old) (D.faults disk.new) result }
 {
     cut_rest(disk, tail)?;
@@ -109,7 +109,7 @@ fn settle<D: Disk>(disk: &mut D, tail: Option<LastFile>) -> Result<(), DiskErr>
 }
 
 // The log buffer over a log that ends in this file. Where there is none, or it has no header, the header
-// goes into the buffer's tail; want of memory for that hands the disk back.
+// goes into the buffer's tail; out of memory for that hands the disk back.
 fn begin_log<D: Disk>(
     alloc: Global,
     disk: D,
@@ -118,11 +118,11 @@ fn begin_log<D: Disk>(
 ) -> Result<LogBuffer<D>, D>
     requires file { IfSome tail (λ last. last.file.0 ≤ LAST_FILE) }
     requires file_max { file_max ≤ 1073741824 }
-    ensures log { (log : Log) → StartsLog D.tells (now (D.history disk)).reads tail log → IfOk result (λ buffer. HasLog D.tells (now (D.history disk)) buffer log) }
-    ensures holds { D.tells ≡ true → (log : Log) → StartsLog D.tells (now (D.history disk)).reads tail log → (now (D.history disk)).marks ≡ synced_marks (now (D.history disk)).reads
+    ensures log { (log : Log) → StartsLog D.observable (now (D.history disk)).reads tail log → IfOk result (λ buffer. HasLog D.observable (now (D.history disk)) buffer log) }
+    ensures holds { D.observable ≡ true → (log : Log) → StartsLog D.observable (now (D.history disk)).reads tail log → (now (D.history disk)).crash_states ≡ synced_crash_states (now (D.history disk)).reads
         → IfOk result (λ buffer. Holds log [] (length (entries_of log)) None (first_of buffer) (now (D.history disk))) }
     ensures disk { IfOk result (λ buffer. disk_of buffer ≡ disk) }
-    ensures end { IfOk result (λ buffer. end_of buffer ≡ start_of tail) }
+    ensures end { IfOk result (λ buffer. end_of buffer ≡ log_start_of tail) }
     ensures file_max { IfOk result (λ buffer. file_max_of buffer ≡ file_max) }
     ensures works { IfOk result (λ buffer. has_failed buffer ≡ false) }
     ensures handed_back { IfErr result (λ given. given ≡ disk) }
@@ -138,11 +138,11 @@ fn begin_log<D: Disk>(
 }
 
 // Where a log begins to grow that ends in this file.
-fn start(tail: Option<LastFile>) -> Place
-    ensures { result ≡ start_of tail }
+fn start(tail: Option<LastFile>) -> LogPos
+    ensures { result ≡ log_start_of tail }
 {
     let Some(last) = tail else {
-        return Place {
+        return LogPos {
             file: 0,
             offset: HEADER_SIZE,
         };
@@ -152,7 +152,7 @@ fn start(tail: Option<LastFile>) -> Place
     } else {
         u64::from(last.end)
     };
-    Place {
+    LogPos {
         file: last.file.0,
         offset,
     }
@@ -162,7 +162,7 @@ fn start(tail: Option<LastFile>) -> Place
 fn begin<D>(log: LogBuffer<D>, read: ReadLog, file_max: u32) -> Opened<D>
     ensures log { result.environment.log ≡ log }
     ensures opening { result.opening ≡ read.replayed.opening }
-    ensures kept { result.environment.kept ≡ kept_at_start read.replayed (start_of read.tail) file_max }
+    ensures kept { result.environment.kept ≡ kept_at_start read.replayed (log_start_of read.tail) file_max }
 {
     let end = start(read.tail);
     let Replayed {
@@ -198,17 +198,17 @@ fn go_on<D: Disk>(
     requires none_out { D.sync_out disk ≡ None }
     requires small { IfSome read.tail (λ last. last.file.0 ≤ LAST_FILE) }
     requires file_max { file_max ≤ 1073741824 }
-    ensures opened { (reads : Reads) → WasRead D.tells reads read → (D.tells ≡ true → (now (D.history disk)).reads ≡ reads)
-        → IfOk result (λ opened. IsOpened file_max D.tells reads (now (D.history (disk_of opened.environment.log))) opened.environment.log opened.opening opened.environment.kept) }
-    ensures crash { D.tells ≡ true → (reads : Reads) → WasRead D.tells reads read → (now (D.history disk)).reads ≡ reads
+    ensures opened { (reads : Reads) → WasRead D.observable reads read → (D.observable ≡ true → (now (D.history disk)).reads ≡ reads)
+        → IfOk result (λ opened. IsOpened file_max D.observable reads (now (D.history (disk_of opened.environment.log))) opened.environment.log opened.opening opened.environment.kept) }
+    ensures crash { D.observable ≡ true → (reads : Reads) → WasRead D.observable reads read → (now (D.history disk)).reads ≡ reads
         → IfOk result (λ opened. IsOpenedSafely file_max reads opened.opening (D.history (disk_of opened.environment.log)) opened.environment.log opened.environment.kept) }
-    ensures entry { D.tells ≡ true → (reads : Reads) → WasRead D.tells reads read → (now (D.history disk)).reads ≡ reads
+    ensures entry { D.observable ≡ true → (reads : Reads) → WasRead D.observable reads read → (now (D.history disk)).reads ≡ reads
         → IfOk result (λ opened. KeepsEntry (D.history disk) (D.history (disk_of opened.environment.log))) }
     ensures bounds { IfOk result (λ opened. CanGoOn opened.environment.kept) }
     ensures faults { IfOk result (λ opened. D.faults disk ≤ D.faults (disk_of opened.environment.log)) }
-    ensures stopped_entry { D.tells ≡ true → (reads : Reads) → WasRead D.tells reads read → (now (D.history disk)).reads ≡ reads
+    ensures stopped_entry { D.observable ≡ true → (reads : Reads) → WasRead D.observable reads read → (now (D.history disk)).reads ≡ reads
         → IfErr result (λ stopped. KeepsEntry (D.history disk) (D.history stopped.disk)) }
-    ensures stopped { (reads : Reads) → IfErr result (λ stopped. StopsBy D.tells reads (D.faults disk) (D.faults stopped.disk) stopped.cause) }
+    ensures stopped { (reads : Reads) → IfErr result (λ stopped. StopsBy D.observable reads (D.faults disk) (D.faults stopped.disk) stopped.cause) }
     ensures stopped_faults { IfErr result (λ stopped. D.faults disk ≤ D.faults stopped.disk) }
     ensures left_alone { IfErr result (λ stopped. (old new : History) → LeavesUnreadable stopped.cause old new) }
 {
@@ -228,20 +228,20 @@ fn go_on<D: Disk>(
     }
 }
 
-/// Opens the environment that a disk has: reads its log, cuts off what follows the run of the last file,
-/// and syncs. Where there is no file, or the last one has no header, the header is written with the first
-/// sync. A log that cannot be opened is left as it is.
+/// Opens the environment that a disk has: reads its log, cuts off what follows the valid prefix of the
+/// last file, and syncs. Where there is no file, or the last one has no header, the header is written
+/// with the first sync. A log that cannot be opened is left as it is.
 pub fn open<D: Disk>(alloc: Global, disk: D, file_max: u32) -> Result<Opened<D>, Stopped<D>>
     requires file_max { file_max ≤ 1073741824 }
-    ensures opened { IfOk result (λ opened. IsOpened file_max D.tells (now (D.history disk)).reads (now (D.history (disk_of opened.environment.log))) opened.environment.log opened.opening opened.environment.kept) }
-    ensures crash { D.tells ≡ true → IfOk result (λ opened. IsOpenedSafely file_max (now (D.history disk)).reads opened.opening (D.history (disk_of opened.environment.log)) opened.environment.log opened.environment.kept) }
-    ensures entry { D.tells ≡ true → IfOk result (λ opened. KeepsEntry (D.history disk) (D.history (disk_of opened.environment.log))) }
+    ensures opened { IfOk result (λ opened. IsOpened file_max D.observable (now (D.history disk)).reads (now (D.history (disk_of opened.environment.log))) opened.environment.log opened.opening opened.environment.kept) }
+    ensures crash { D.observable ≡ true → IfOk result (λ opened. IsOpenedSafely file_max (now (D.history disk)).reads opened.opening (D.history (disk_of opened.environment.log)) opened.environment.log opened.environment.kept) }
+    ensures entry { D.observable ≡ true → IfOk result (λ opened. KeepsEntry (D.history disk) (D.history (disk_of opened.environment.log))) }
     ensures bounds { IfOk result (λ opened. CanGoOn opened.environment.kept) }
     ensures faults { IfOk result (λ opened. D.faults disk ≤ D.faults (disk_of opened.environment.log)) }
-    ensures stopped_entry { D.tells ≡ true → IfErr result (λ stopped. KeepsEntry (D.history disk) (D.history stopped.disk)) }
-    ensures stopped { IfErr result (λ stopped. StopsBy D.tells (now (D.history disk)).reads (D.faults disk) (D.faults stopped.disk) stopped.cause) }
+    ensures stopped_entry { D.observable ≡ true → IfErr result (λ stopped. KeepsEntry (D.history disk) (D.history stopped.disk)) }
+    ensures stopped { IfErr result (λ stopped. StopsBy D.observable (now (D.history disk)).reads (D.faults disk) (D.faults stopped.disk) stopped.cause) }
     ensures stopped_faults { IfErr result (λ stopped. D.faults disk ≤ D.faults stopped.disk) }
-    ensures left_alone { D.tells ≡ true → IfErr result (λ stopped. LeavesUnreadable stopped.cause (D.history disk) (D.history stopped.disk)) }
+    ensures left_alone { D.observable ≡ true → IfErr result (λ stopped. LeavesUnreadable stopped.cause (D.history disk) (D.history stopped.disk)) }
 {
     let mut disk = disk;
     match read_disk(alloc, &mut disk) {

@@ -1,8 +1,8 @@
 // What a program writes.
 ghost use Rattle.std.specs.Prelude.{◌≡◌, ◌≤◌, ◌++◌, OnOk, OnErr};
-ghost use Rattle.je_io.specs.Faults.{Rose};
+ghost use Rattle.je_order.specs.Counts.{HasRisen};
 ghost use Rattle.je_io.specs.Sink.{Gains, GainsPart};
-ghost use Rattle.je_program.specs.Program.{fault_text, report_of, IsWritten};
+ghost use Rattle.je_program.specs.Program.{fault_text, report_of, IsOutputWritten};
 
 use crate::cause::Cause;
 use crate::fault_line::fault_line;
@@ -12,10 +12,10 @@ use script_text::report;
 
 // Writes the fault line of a cause, and nothing where all was done.
 fn write_fault<K: Sink>(cause: &Cause, output: &mut K) -> Result<(), Failed>
-    ensures told { OnOk result (Gains (K.written output.old) (K.written output.new) (fault_text cause.now)) }
+    ensures observed { OnOk result (Gains (K.written output.old) (K.written output.new) (fault_text cause.now)) }
     ensures part { OnErr result (GainsPart (K.written output.old) (K.written output.new) (fault_text cause.now)) }
     ensures never_falls { K.faults output.old ≤ K.faults output.new }
-    ensures cause { OnErr result (Rose (K.faults output.old) (K.faults output.new)) }
+    ensures cause { OnErr result (HasRisen (K.faults output.old) (K.faults output.new)) }
 {
     let line = fault_line(cause);
     write_all(output, line.as_slice())
@@ -28,10 +28,10 @@ fn write_report<K: Sink>(
     totals: &Totals,
     output: &mut K,
 ) -> Result<(), Failed>
-    ensures told { OnOk result (Gains (K.written output.old) (K.written output.new) (report_of opened journal.now totals.now)) }
+    ensures observed { OnOk result (Gains (K.written output.old) (K.written output.new) (report_of opened journal.now totals.now)) }
     ensures part { OnErr result (GainsPart (K.written output.old) (K.written output.new) (report_of opened journal.now totals.now)) }
     ensures never_falls { K.faults output.old ≤ K.faults output.new }
-    ensures cause { OnErr result (Rose (K.faults output.old) (K.faults output.new)) }
+    ensures cause { OnErr result (HasRisen (K.faults output.old) (K.faults output.new)) }
 {
     if opened {
         report(journal, totals, output)
@@ -47,10 +47,10 @@ fn write_text<K: Sink>(
     totals: &Totals,
     output: &mut K,
 ) -> Result<(), Failed>
-    ensures told { OnOk result (Gains (K.written output.old) (K.written output.new) (report_of opened journal.now totals.now ++ fault_text cause.now)) }
+    ensures observed { OnOk result (Gains (K.written output.old) (K.written output.new) (report_of opened journal.now totals.now ++ fault_text cause.now)) }
     ensures part { OnErr result (GainsPart (K.written output.old) (K.written output.new) (report_of opened journal.now totals.now ++ fault_text cause.now)) }
     ensures never_falls { K.faults output.old ≤ K.faults output.new }
-    ensures cause { OnErr result (Rose (K.faults output.old) (K.faults output.new)) }
+    ensures cause { OnErr result (HasRisen (K.faults output.old) (K.faults output.new)) }
 {
     match write_report(opened, journal, totals, output) {
         Ok(()) => write_fault(cause, output),
@@ -67,7 +67,7 @@ pub fn write_output<K: Sink>(
     totals: &Totals,
     output: &mut K,
 ) -> u8
-    ensures written { IsWritten (K.written output.old) (K.written output.new) (K.faults output.old) (K.faults output.new)
+    ensures written { IsOutputWritten (K.written output.old) (K.written output.new) (K.faults output.old) (K.faults output.new)
         (report_of opened journal.now totals.now ++ fault_text cause.now) cause.now result }
     ensures never_falls { K.faults output.old ≤ K.faults output.new }
 {

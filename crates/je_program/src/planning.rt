@@ -9,16 +9,16 @@ ghost use Rattle.log_replay.specs.Rows.{rows_in, data_at};
 ghost use Rattle.je_model.specs.declared.change.Change.TheVariants.{Set, Unset};
 ghost use Rattle.script_text.specs.Grammar.{has_line};
 ghost use Rattle.log_buffer.specs.Flip.{end_after_all};
-ghost use Rattle.log_entry.specs.Spelling.{size_of};
-ghost use Rattle.log_replay.specs.Logging.{HasOneEntry, entry_of};
+ghost use Rattle.log_entry.specs.Encoding.{size_of};
+ghost use Rattle.log_replay.specs.Logging.{HasOneEntry, change_entry};
 ghost use Rattle.je_program.specs.declared.kept.TheConstants.{COMMIT_SIZE, LAST_FILE};
 ghost use Rattle.je_program.specs.Environment.{logged_sizes};
-ghost use Rattle.je_program.specs.Planning.{IsPlace, number_named, logs_with_room, planned_create, planned_put, planned_get, planned_delete, planned_of, records_with};
+ghost use Rattle.je_program.specs.Planning.{IsLogPos, number_named, logs_with_room, planned_create, planned_put, planned_get, planned_delete, planned_of, records_with};
 
 use crate::kept::{COMMIT_SIZE, Kept, LAST_FILE};
 use je_model::{Answer, Call, Change, KEY_LIMIT, Kind, MOST_DATABASES, Totals, VALUE_LIMIT};
 use je_order::{Name, Octets, Word, copy_of};
-use log_buffer::Place;
+use log_buffer::LogPos;
 use log_replay::{SortKey, number_of as number_in_record};
 use std::alloc::{AllocError, Global};
 
@@ -49,7 +49,7 @@ pub fn plain_name(alloc: Global, key: &[u8]) -> Result<Name, AllocError>
 // How many bytes the one entry has that logs this change.
 fn entry_size(change: &Change) -> u32
     requires one { HasOneEntry change.now }
-    requires small { size_of (entry_of 0 0 change.now) < 2 ^ 32 }
+    requires small { size_of (change_entry 0 0 change.now) < 2 ^ 32 }
     ensures { logged_sizes (change.now ∷ []) ≡ result ∷ COMMIT_SIZE ∷ [] }
 {
     match change {
@@ -65,7 +65,7 @@ fn entry_size(change: &Change) -> u32
 
 /// Where a log that ends here ends behind an entry of so many bytes and a commit, and None where they
 /// would pass the last file.
-pub fn end_of_transaction(end: Place, file_max: u32, size: u32) -> Option<Place>
+pub fn end_of_transaction(end: LogPos, file_max: u32, size: u32) -> Option<LogPos>
     requires file { end.file ≤ LAST_FILE }
     requires offset { end.offset < 2 ^ 32 }
     ensures { result ≡ (if nat_lt LAST_FILE (end_after_all file_max end (size ∷ COMMIT_SIZE ∷ [])).file then None else Some (end_after_all file_max end (size ∷ COMMIT_SIZE ∷ []))) }
@@ -108,8 +108,8 @@ fn number_of(kept: &Kept, alloc: Global, db: &Word) -> Result<Option<u32>, Alloc
 // A change of a database that is there is logged where there is room for it.
 fn log_with_room(kept: &Kept, number: u32, change: Change, totals: Totals) -> Planned
     requires one { HasOneEntry change }
-    requires small { size_of (entry_of 0 0 change) < 2 ^ 32 }
-    requires place { IsPlace kept.now.end }
+    requires small { size_of (change_entry 0 0 change) < 2 ^ 32 }
+    requires place { IsLogPos kept.now.end }
     requires none_made { made_by (change ∷ []) ≡ 0 }
     ensures { result ≡ logs_with_room kept.now number change totals }
 {
@@ -128,8 +128,8 @@ fn log_with_room(kept: &Kept, number: u32, change: Change, totals: Totals) -> Pl
 // A database is made where there is room for its record, and then a number for it.
 fn log_creation(kept: &Kept, change: Change, totals: Totals) -> Planned
     requires one { HasOneEntry change }
-    requires small { size_of (entry_of 0 0 change) < 2 ^ 32 }
-    requires place { IsPlace kept.now.end }
+    requires small { size_of (change_entry 0 0 change) < 2 ^ 32 }
+    requires place { IsLogPos kept.now.end }
     requires one_made { made_by (change ∷ []) ≡ 1 }
     ensures { result ≡ logs_with_room kept.now (kept.now.last_db + 1) change totals }
 {
@@ -189,7 +189,7 @@ fn long_record(key: &Octets, value: &Octets) -> Option<u64>
     }
 }
 
-// How many records there are with one more, unless the name has one already; want of memory where that
+// How many records there are with one more, unless the name has one already; out of memory where that
 // is no number.
 fn count_with(records: u64, old: Option<&[u8]>) -> Result<u64, AllocError>
     ensures { IfOk result (λ count. count ≡ records_with records (option_copied old.entry)) }
@@ -219,7 +219,7 @@ fn plan_put(
     key: &Octets,
     value: &Octets,
 ) -> Result<Planned, AllocError>
-    requires place { IsPlace kept.now.end }
+    requires place { IsLogPos kept.now.end }
     ensures { IfOk result (λ planned. planned ≡ planned_put kept.now db.now key.now value.now (Some number)) }
 {
     if let Some(length) = long_record(key, value) {
@@ -252,7 +252,7 @@ fn plan_delete(
     db: &Word,
     key: &Octets,
 ) -> Result<Planned, AllocError>
-    requires place { IsPlace kept.now.end }
+    requires place { IsLogPos kept.now.end }
     ensures { IfOk result (λ planned. planned ≡ planned_delete kept.now db.now key.now (Some number)) }
 {
     if let Some(length) = long_key(key) {
@@ -270,7 +270,7 @@ fn plan_delete(
 }
 
 fn plan_create(kept: &Kept, alloc: Global, db: &Word, kind: &Kind) -> Result<Planned, AllocError>
-    requires place { IsPlace kept.now.end }
+    requires place { IsLogPos kept.now.end }
     ensures { IfOk result (λ planned. planned ≡ planned_create kept.now db.now kind.now None) }
 {
     if MOST_DATABASES as usize <= kept.rows.count(0) {
@@ -289,10 +289,10 @@ fn plan_create(kept: &Kept, alloc: Global, db: &Word, kind: &Kind) -> Result<Pla
     Ok(log_creation(kept, change, totals))
 }
 
-/// What a call of a valid environment comes to, of those that scripts have lines for. The one error is
-/// want of memory.
+/// What a call of a valid environment comes to, of those that scripts have lines for. The only error
+/// is out of memory.
 pub fn plan(kept: &Kept, alloc: Global, call: &Call) -> Result<Planned, AllocError>
-    requires place { IsPlace kept.now.end }
+    requires place { IsLogPos kept.now.end }
     requires line { has_line call.now ≡ true }
     ensures word { IsTrue (is_word (database_named call.now)) }
     ensures planned { IfOk result (λ planned. planned ≡ planned_of kept.now call.now) }

@@ -1,27 +1,26 @@
 // The top call.
 ghost use Rattle.std.specs.Prelude.{◌≡◌, ◌≢◌, ◌≤◌, ◌<◌, ◌⊎◌, [], ℕ, List, Some, Ok, Err, IfSome, true, false, length, map, string_bytes};
-ghost use Rattle.je_disk.specs.Causes.{Rose};
+ghost use Rattle.je_order.specs.Counts.{HasRisen, HasRisen as Failing};
 ghost use Rattle.je_disk.specs.Moments.{now};
-ghost use Rattle.je_io.specs.Faults.{Rose as Failing};
 ghost use Rattle.je_model.specs.declared.plan.RunPlan.{RunPlan};
 ghost use Rattle.je_model.specs.Answers.{Standing};
 ghost use Rattle.je_model.specs.Journal.{AllAcknowledged, has_answer, is_disk_fault};
 ghost use Rattle.je_model.specs.Store.{no_databases};
 ghost use Rattle.log_replay.specs.Meaning.{Meaning};
-ghost use Rattle.log_replay.specs.declared.finding.Finding.{Finding as Found};
+ghost use Rattle.log_replay.specs.declared.corruption.Corruption.{Corruption as Wrong};
 ghost use Rattle.script_text.specs.Grammar.{plan_of};
 ghost use Rattle.je_program.specs.declared.cause.Cause.{Cause as Why};
 ghost use Rattle.je_program.specs.declared.reading.TheConstants.{MOST_INPUT};
 ghost use Rattle.je_program.specs.Crash.{IsSafeProgram, KeepsEntry};
 ghost use Rattle.je_program.specs.Untouched.{IsUntouched};
-ghost use Rattle.je_program.specs.Files.{HasFinding, Means};
-ghost use Rattle.je_program.specs.Program.{EndsBy, IsGivenTo, IsWritten, MeanStore, ReadsPlan, RunsIf, final_store, is_before_disk, output_text};
+ghost use Rattle.je_program.specs.Files.{HasCorruption, Means};
+ghost use Rattle.je_program.specs.Program.{EndsBy, IsGivenTo, IsOutputWritten, MeanStore, ReadsPlan, RunsIf, final_store, is_before_disk, output_text};
 ghost use Rattle.je_program.specs.Run.{HasRun, cause_of_room};
-ghost use Rattle.command_line.specs.Words.{file_max_in, is_taken};
+ghost use Rattle.command_line.specs.Arguments.{file_max_in, is_taken};
 
-use crate::attempt::{Attempt, work};
 use crate::cause::Cause;
 use crate::output::write_output;
+use crate::run_result::{RunResult, run_unprinted};
 use je_disk::Disk;
 use je_io::{Sink, Source};
 use je_model::{Event, Store};
@@ -47,22 +46,23 @@ pub struct Ended<D> {
 /// script's lines in order, and writes the report, or the one line that tells why there is none.
 pub fn run_je<D: Disk, S: Source, K: Sink>(
     alloc: Global,
-    words: &[String],
+    args: &[String],
     disk: D,
     input: &mut S,
     output: &mut K,
 ) -> Ended<D>
-    // The words are the cause of the end only where they are wrong, and then always, unless memory ran out.
-    ensures usage { result.cause ≡ Why.Usage → is_taken (map string_bytes words.now) ≡ false }
-    ensures usage_found { is_taken (map string_bytes words.now) ≡ false → (result.cause ≡ Why.Usage) ⊎ (result.cause ≡ Why.Memory) }
+    // The arguments are the cause of the end only where they are wrong, and then always, unless memory ran
+    // out.
+    ensures usage { result.cause ≡ Why.Usage → is_taken (map string_bytes args.now) ≡ false }
+    ensures usage_found { is_taken (map string_bytes args.now) ≡ false → (result.cause ≡ Why.Usage) ⊎ (result.cause ≡ Why.Memory) }
 
     // The input failed only where its count of faults rose; it is too long, or has a first bad line.
     ensures input_failed { result.cause ≡ Why.Input → Failing (S.faults input.old) (S.faults input.new) }
     ensures input_too_long { result.cause ≡ Why.InputTooLong → IfSome (S.left input.old) (λ bytes. MOST_INPUT < length bytes) }
     ensures bad_script { (line : ℕ) → result.cause ≡ Why.BadScript line → IfSome (S.left input.old) (λ bytes. (length bytes ≤ MOST_INPUT) × (plan_of bytes ≡ Err line)) }
-    ensures too_long_found { (bytes : List ℕ) → is_taken (map string_bytes words.now) ≡ true → S.left input.old ≡ Some bytes → MOST_INPUT < length bytes
+    ensures too_long_found { (bytes : List ℕ) → is_taken (map string_bytes args.now) ≡ true → S.left input.old ≡ Some bytes → MOST_INPUT < length bytes
         → (result.cause ≡ Why.InputTooLong) ⊎ (result.cause ≡ Why.Memory) ⊎ Failing (S.faults input.old) (S.faults input.new) }
-    ensures bad_line_found { (bytes : List ℕ) (line : ℕ) → is_taken (map string_bytes words.now) ≡ true → S.left input.old ≡ Some bytes → length bytes ≤ MOST_INPUT → plan_of bytes ≡ Err line
+    ensures bad_line_found { (bytes : List ℕ) (line : ℕ) → is_taken (map string_bytes args.now) ≡ true → S.left input.old ≡ Some bytes → length bytes ≤ MOST_INPUT → plan_of bytes ≡ Err line
         → (result.cause ≡ Why.BadScript line) ⊎ (result.cause ≡ Why.Memory) ⊎ Failing (S.faults input.old) (S.faults input.new) }
 
     // Before the script was read, no call was made on the disk. Otherwise it was read to its end.
@@ -70,26 +70,26 @@ pub fn run_je<D: Disk, S: Source, K: Sink>(
     ensures read_whole { is_before_disk result.cause ≡ false → result.cause ≢ Why.Memory → (plan : RunPlan) × ReadsPlan (S.left input.old) (S.left input.new) plan }
 
     // The disk failed only where its count of faults rose; the files at entry cannot be opened, with this
-    // finding first, exactly where that is the cause of the end.
-    ensures disk_failed { result.cause ≡ Why.Disk → Rose (D.faults disk) (D.faults result.disk) }
-    ensures unreadable { (finding : Found) → result.cause ≡ Why.Unreadable finding → D.tells ≡ true → HasFinding (now (D.history disk)).reads finding }
+    // corruption first, exactly where that is the cause of the end.
+    ensures disk_failed { result.cause ≡ Why.Disk → HasRisen (D.faults disk) (D.faults result.disk) }
+    ensures unreadable { (corruption : Wrong) → result.cause ≡ Why.Unreadable corruption → D.observable ≡ true → HasCorruption (now (D.history disk)).reads corruption }
 
     // Where the files at entry cannot be opened, the disk's state is at each moment what it was.
-    ensures unreadable_untouched { (finding : Found) → result.cause ≡ Why.Unreadable finding → D.tells ≡ true → IsUntouched (D.history disk) (D.history result.disk) }
+    ensures unreadable_untouched { (corruption : Wrong) → result.cause ≡ Why.Unreadable corruption → D.observable ≡ true → IsUntouched (D.history disk) (D.history result.disk) }
 
     // A run: its journal holds the script's lines, each answer is the model's on the opening store, and
     // each commit's sync follows it at once.
     ensures runs { RunsIf result.cause result.opened }
     ensures given { result.opened ≡ true → (plan : RunPlan) × IsGivenTo (S.left input.old) (S.left input.new) result.journal.items result.cause plan }
-    ensures run { result.opened ≡ true → (file_max : ℕ) × (st : Standing) × (file_max_in (map string_bytes words.now) ≡ Some file_max) × HasRun file_max D.tells (now (D.history disk)).reads result.opening result.journal.items st }
+    ensures run { result.opened ≡ true → (file_max : ℕ) × (st : Standing) × (file_max_in (map string_bytes args.now) ≡ Some file_max) × HasRun file_max D.observable (now (D.history disk)).reads result.opening result.journal.items st }
     ensures unopened { result.opened ≡ false → (result.opening ≡ no_databases) × (result.journal.items ≡ []) }
     ensures ends { result.opened ≡ true → result.cause ≢ Why.Memory → EndsBy result.journal.items result.cause }
-    ensures faults { has_answer is_disk_fault result.journal.items ≡ true → Rose (D.faults disk) (D.faults result.disk) }
+    ensures faults { has_answer is_disk_fault result.journal.items ≡ true → HasRisen (D.faults disk) (D.faults result.disk) }
 
     // Where all was done, each commit is acknowledged, and the files mean the opening store changed by
     // the commits in order.
     ensures acknowledged { result.cause ≡ Why.Done → AllAcknowledged result.journal.items }
-    ensures files { result.cause ≡ Why.Done → D.tells ≡ true → MeanStore (now (D.history result.disk)).reads (final_store result.opening result.journal.items) }
+    ensures files { result.cause ≡ Why.Done → D.observable ≡ true → MeanStore (now (D.history result.disk)).reads (final_store result.opening result.journal.items) }
 
     // A run: at each moment from the end of the opening's own sync on, what the disk reads, and each image of the
     // disk in which no checksum matches by chance, means the opening store changed by the first of the attempted
@@ -98,21 +98,22 @@ pub fn run_je<D: Disk, S: Source, K: Sink>(
     // From entry until then, and at each moment where nothing was opened: each file reads as it did at entry, but
     // for a torn tail of the last one that was cut off. Where the files at entry mean a store, each image means it
     // too, if nothing was pending at entry; and each image at the end does, if nothing is pending then.
-    ensures crash { D.tells ≡ true → result.opened ≡ true → IsSafeProgram (D.history disk) (D.history result.disk) result.opening result.journal.items result.cause }
-    ensures crash_unopened { D.tells ≡ true → result.opened ≡ false → KeepsEntry (D.history disk) (D.history result.disk) }
+    ensures crash { D.observable ≡ true → result.opened ≡ true → IsSafeProgram (D.history disk) (D.history result.disk) result.opening result.journal.items result.cause }
+    ensures crash_unopened { D.observable ≡ true → result.opened ≡ false → KeepsEntry (D.history disk) (D.history result.disk) }
 
-    // Right words, a script and files with a meaning end in a run, unless memory ran out or a count rose.
-    ensures complete { (bytes : List ℕ) (plan : RunPlan) (meaning : Meaning) → is_taken (map string_bytes words.now) ≡ true → S.left input.old ≡ Some bytes
-        → length bytes ≤ MOST_INPUT → plan_of bytes ≡ Ok plan → D.tells ≡ true → Means (now (D.history disk)).reads meaning
+    // Valid arguments, a script and files with a meaning end in a run, unless memory ran out or a count
+    // rose.
+    ensures complete { (bytes : List ℕ) (plan : RunPlan) (meaning : Meaning) → is_taken (map string_bytes args.now) ≡ true → S.left input.old ≡ Some bytes
+        → length bytes ≤ MOST_INPUT → plan_of bytes ≡ Ok plan → D.observable ≡ true → Means (now (D.history disk)).reads meaning
         → (result.cause ≡ cause_of_room result.journal.items) ⊎ (result.cause ≡ Why.Memory)
-        ⊎ Failing (S.faults input.old) (S.faults input.new) ⊎ Rose (D.faults disk) (D.faults result.disk) }
-    ensures unreadable_found { (bytes : List ℕ) (plan : RunPlan) (finding : Found) → is_taken (map string_bytes words.now) ≡ true → S.left input.old ≡ Some bytes
-        → length bytes ≤ MOST_INPUT → plan_of bytes ≡ Ok plan → D.tells ≡ true → HasFinding (now (D.history disk)).reads finding
-        → (result.cause ≡ Why.Unreadable finding) ⊎ (result.cause ≡ Why.Memory)
-        ⊎ Failing (S.faults input.old) (S.faults input.new) ⊎ Rose (D.faults disk) (D.faults result.disk) }
+        ⊎ Failing (S.faults input.old) (S.faults input.new) ⊎ HasRisen (D.faults disk) (D.faults result.disk) }
+    ensures unreadable_found { (bytes : List ℕ) (plan : RunPlan) (corruption : Wrong) → is_taken (map string_bytes args.now) ≡ true → S.left input.old ≡ Some bytes
+        → length bytes ≤ MOST_INPUT → plan_of bytes ≡ Ok plan → D.observable ≡ true → HasCorruption (now (D.history disk)).reads corruption
+        → (result.cause ≡ Why.Unreadable corruption) ⊎ (result.cause ≡ Why.Memory)
+        ⊎ Failing (S.faults input.old) (S.faults input.new) ⊎ HasRisen (D.faults disk) (D.faults result.disk) }
 
     // What was written, and the status: the cause's, unless the output failed.
-    ensures written { IsWritten (K.written output.old) (K.written output.new) (K.faults output.old) (K.faults output.new)
+    ensures written { IsOutputWritten (K.written output.old) (K.written output.new) (K.faults output.old) (K.faults output.new)
         (output_text result.cause result.opened result.opening result.journal.items) result.cause result.status }
 
     // No count of faults falls.
@@ -120,8 +121,8 @@ pub fn run_je<D: Disk, S: Source, K: Sink>(
     ensures input_faults { S.faults input.old ≤ S.faults input.new }
     ensures output_faults { K.faults output.old ≤ K.faults output.new }
 {
-    let attempt = work(alloc, words, disk, input);
-    let Attempt {
+    let run_result = run_unprinted(alloc, args, disk, input);
+    let RunResult {
         cause,
         opened,
         disk,
@@ -129,7 +130,7 @@ pub fn run_je<D: Disk, S: Source, K: Sink>(
         opening,
         totals,
         rows,
-    } = attempt;
+    } = run_result;
     let status = write_output(&cause, opened, &journal, &totals, output);
     Ended {
         status,

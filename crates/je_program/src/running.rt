@@ -6,17 +6,17 @@ ghost use Rattle.je_disk.specs.Moments.{History, now};
 ghost use Rattle.log_buffer.specs.Buffer.{disk_of};
 ghost use Rattle.log_file.specs.Log.{Log};
 ghost use Rattle.je_model.specs.Answers.{Standing};
-ghost use Rattle.je_model.specs.declared.plan.Given.{Given as Line};
-ghost use Rattle.je_model.specs.declared.plan.Given.TheVariants.{Session};
+ghost use Rattle.je_model.specs.declared.plan.ScriptLine.{ScriptLine as Line};
+ghost use Rattle.je_model.specs.declared.plan.ScriptLine.TheVariants.{Session};
 ghost use Rattle.je_program.specs.Guarded.{IsGuarded};
 ghost use Rattle.je_program.specs.Environment.{IsAt};
 ghost use Rattle.je_program.specs.Run.{IsRunning, IsCaused, HasGiven};
 ghost use Rattle.je_program.specs.Steps.{CanGoOn};
 
 use crate::environment::Environment;
-use crate::giving::give;
+use crate::executing::execute;
 use je_disk::Disk;
-use je_model::{Call, Event, Given};
+use je_model::{Call, Event, ScriptLine};
 use std::alloc::Global;
 
 /// A run under way: its environment, the journal so far, whether a call found no memory, and which
@@ -47,18 +47,24 @@ fn journal_for(alloc: Global, lines: usize) -> Vec<Event>
 }
 
 // Gives a line, unless its session was ended. A call that finds no memory ends its session.
-fn give_line<D: Disk>(running: &mut Running<D>, alloc: Global, session: u8, line: u32, call: Call)
-    requires running { (most : ℕ) × (st : Standing) × IsRunning most D.tells (now (D.history (disk_of running.old.environment.log))) running.old.environment.log running.old.environment.kept running.old.journal.items st }
+fn execute_line<D: Disk>(
+    running: &mut Running<D>,
+    alloc: Global,
+    session: u8,
+    line: u32,
+    call: Call,
+)
+    requires running { (most : ℕ) × (st : Standing) × IsRunning most D.observable (now (D.history (disk_of running.old.environment.log))) running.old.environment.log running.old.environment.kept running.old.journal.items st }
     requires bounds { CanGoOn running.old.environment.kept }
     requires sessions { length running.old.stopped ≡ 256 }
     requires has_line { has_line call ≡ true }
-    ensures runs { (most : ℕ) (st : Standing) → IsRunning most D.tells (now (D.history (disk_of running.old.environment.log))) running.old.environment.log running.old.environment.kept running.old.journal.items st
-        → IsRunning most D.tells (now (D.history (disk_of running.new.environment.log))) running.new.environment.log running.new.environment.kept running.new.journal.items st }
+    ensures runs { (most : ℕ) (st : Standing) → IsRunning most D.observable (now (D.history (disk_of running.old.environment.log))) running.old.environment.log running.old.environment.kept running.old.journal.items st
+        → IsRunning most D.observable (now (D.history (disk_of running.new.environment.log))) running.new.environment.log running.new.environment.kept running.new.journal.items st }
     ensures bounds { CanGoOn running.new.environment.kept }
     ensures sessions { length running.new.stopped ≡ 256 }
     ensures caused { (before : ℕ) → IsCaused before (D.faults (disk_of running.old.environment.log)) running.old.journal.items
         → IsCaused before (D.faults (disk_of running.new.environment.log)) running.new.journal.items }
-    ensures crash { D.tells ≡ true → (most : ℕ) (st : Standing) (log : Log) (start : History) → IsRunning most D.tells (now (D.history (disk_of running.old.environment.log))) running.old.environment.log running.old.environment.kept running.old.journal.items st
+    ensures crash { D.observable ≡ true → (most : ℕ) (st : Standing) (log : Log) (start : History) → IsRunning most D.observable (now (D.history (disk_of running.old.environment.log))) running.old.environment.log running.old.environment.kept running.old.journal.items st
         → IsGuarded most st log start (D.history (disk_of running.old.environment.log)) running.old.environment.log running.old.journal.items None
         → IsGuarded most st log start (D.history (disk_of running.new.environment.log)) running.new.environment.log running.new.journal.items None }
     ensures given { (lines : List Line) → HasGiven running.old.journal.items running.old.memory_ended running.old.stopped lines
@@ -69,7 +75,7 @@ fn give_line<D: Disk>(running: &mut Running<D>, alloc: Global, session: u8, line
         drop(call);
         return;
     }
-    match give(
+    match execute(
         &mut running.environment,
         &mut running.journal,
         alloc,
@@ -86,42 +92,46 @@ fn give_line<D: Disk>(running: &mut Running<D>, alloc: Global, session: u8, line
 }
 
 // Gives the next line.
-fn give_next<D: Disk>(running: &mut Running<D>, alloc: Global, given: Given)
-    requires running { (most : ℕ) × (st : Standing) × IsRunning most D.tells (now (D.history (disk_of running.old.environment.log))) running.old.environment.log running.old.environment.kept running.old.journal.items st }
+fn execute_next<D: Disk>(running: &mut Running<D>, alloc: Global, given: ScriptLine)
+    requires running { (most : ℕ) × (st : Standing) × IsRunning most D.observable (now (D.history (disk_of running.old.environment.log))) running.old.environment.log running.old.environment.kept running.old.journal.items st }
     requires bounds { CanGoOn running.old.environment.kept }
     requires sessions { length running.old.stopped ≡ 256 }
     requires line { is_line given ≡ true }
-    ensures runs { (most : ℕ) (st : Standing) → IsRunning most D.tells (now (D.history (disk_of running.old.environment.log))) running.old.environment.log running.old.environment.kept running.old.journal.items st
-        → IsRunning most D.tells (now (D.history (disk_of running.new.environment.log))) running.new.environment.log running.new.environment.kept running.new.journal.items st }
+    ensures runs { (most : ℕ) (st : Standing) → IsRunning most D.observable (now (D.history (disk_of running.old.environment.log))) running.old.environment.log running.old.environment.kept running.old.journal.items st
+        → IsRunning most D.observable (now (D.history (disk_of running.new.environment.log))) running.new.environment.log running.new.environment.kept running.new.journal.items st }
     ensures bounds { CanGoOn running.new.environment.kept }
     ensures sessions { length running.new.stopped ≡ 256 }
     ensures caused { (before : ℕ) → IsCaused before (D.faults (disk_of running.old.environment.log)) running.old.journal.items
         → IsCaused before (D.faults (disk_of running.new.environment.log)) running.new.journal.items }
-    ensures crash { D.tells ≡ true → (most : ℕ) (st : Standing) (log : Log) (start : History) → IsRunning most D.tells (now (D.history (disk_of running.old.environment.log))) running.old.environment.log running.old.environment.kept running.old.journal.items st
+    ensures crash { D.observable ≡ true → (most : ℕ) (st : Standing) (log : Log) (start : History) → IsRunning most D.observable (now (D.history (disk_of running.old.environment.log))) running.old.environment.log running.old.environment.kept running.old.journal.items st
         → IsGuarded most st log start (D.history (disk_of running.old.environment.log)) running.old.environment.log running.old.journal.items None
         → IsGuarded most st log start (D.history (disk_of running.new.environment.log)) running.new.environment.log running.new.journal.items None }
     ensures given { (lines : List Line) → HasGiven running.old.journal.items running.old.memory_ended running.old.stopped lines
         → HasGiven running.new.journal.items running.new.memory_ended running.new.stopped (lines ++ given ∷ []) }
 {
     match given {
-        Given::Session {
+        ScriptLine::Session {
             session,
             line,
             call,
-        } => give_line(running, alloc, session, line, call),
+        } => execute_line(running, alloc, session, line, call),
     }
 }
 
 /// Gives the lines in order. A call that finds no memory is not in the journal, and ends its session,
 /// which gives no further line; the others go on.
-pub fn run<D: Disk>(alloc: Global, environment: Environment<D>, lines: Vec<Given>) -> Running<D>
-    requires start { (most : ℕ) × (st : Standing) × IsAt most D.tells (now (D.history (disk_of environment.log))) environment.log environment.kept st }
+pub fn run<D: Disk>(
+    alloc: Global,
+    environment: Environment<D>,
+    lines: Vec<ScriptLine>,
+) -> Running<D>
+    requires start { (most : ℕ) × (st : Standing) × IsAt most D.observable (now (D.history (disk_of environment.log))) environment.log environment.kept st }
     requires bounds { CanGoOn environment.kept }
     requires lines { list_all is_line lines.items ≡ true }
-    ensures runs { (most : ℕ) (st : Standing) → IsAt most D.tells (now (D.history (disk_of environment.log))) environment.log environment.kept st
-        → IsRunning most D.tells (now (D.history (disk_of result.environment.log))) result.environment.log result.environment.kept result.journal.items st }
+    ensures runs { (most : ℕ) (st : Standing) → IsAt most D.observable (now (D.history (disk_of environment.log))) environment.log environment.kept st
+        → IsRunning most D.observable (now (D.history (disk_of result.environment.log))) result.environment.log result.environment.kept result.journal.items st }
     ensures caused { IsCaused (D.faults (disk_of environment.log)) (D.faults (disk_of result.environment.log)) result.journal.items }
-    ensures crash { D.tells ≡ true → (most : ℕ) (st : Standing) (log : Log) (start : History) → IsAt most D.tells (now (D.history (disk_of environment.log))) environment.log environment.kept st
+    ensures crash { D.observable ≡ true → (most : ℕ) (st : Standing) (log : Log) (start : History) → IsAt most D.observable (now (D.history (disk_of environment.log))) environment.log environment.kept st
         → IsGuarded most st log start (D.history (disk_of environment.log)) environment.log [] None
         → IsGuarded most st log start (D.history (disk_of result.environment.log)) result.environment.log result.journal.items None }
     ensures given { HasGiven result.journal.items result.memory_ended result.stopped lines.items }
@@ -134,7 +144,7 @@ pub fn run<D: Disk>(alloc: Global, environment: Environment<D>, lines: Vec<Given
         stopped: none_stopped(),
     };
     for given in lines {
-        give_next(&mut running, alloc, given);
+        execute_next(&mut running, alloc, given);
     }
     running
 }

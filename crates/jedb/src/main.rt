@@ -1,4 +1,4 @@
-//! The program `jedb`: it hands `je_program`'s top call its words, the folder that they name, the
+//! The program `jedb`: it hands `je_program`'s top call its arguments, the folder that they name, the
 //! standard input and the standard output, and ends with the status that it gives. It decides nothing
 //! itself. It stands on `je_program`, `dir_disk` and `je_io`.
 #![tactic(auto)]
@@ -14,8 +14,8 @@ use std::process::ExitCode;
 use std::rt::{Files, Runtime};
 use std::{env, io};
 
-// The words behind the program's own name; none at all where one of them is no text.
-fn words_of<R: Runtime + AllocGlobal>(rt: &R) -> Result<Vec<String>, AllocError> {
+// The arguments behind the program's own name; none at all where one of them is no text.
+fn args_of<R: Runtime + AllocGlobal>(rt: &R) -> Result<Vec<String>, AllocError> {
     match env::args(rt) {
         Ok(args) => args.skip(1).collect(rt.alloc()),
         Err(e) if e.kind() == ErrorKind::OutOfMemory => Err(AllocError),
@@ -23,9 +23,9 @@ fn words_of<R: Runtime + AllocGlobal>(rt: &R) -> Result<Vec<String>, AllocError>
     }
 }
 
-// The disk over the folder that the words name; over `.` where they name none, and are refused.
-fn disk_of<R: Runtime + AllocGlobal>(rt: &R, words: &[String]) -> Result<DirDisk<R>, AllocError> {
-    match home(rt.alloc(), words)? {
+// The disk over the folder that the arguments name; over `.` where they name none, and are refused.
+fn disk_of<R: Runtime + AllocGlobal>(rt: &R, args: &[String]) -> Result<DirDisk<R>, AllocError> {
+    match home(rt.alloc(), args)? {
         Some(folder) => DirDisk::new(rt, folder.as_str()),
         None => DirDisk::new(rt, "."),
     }
@@ -55,17 +55,17 @@ fn placeholders<R: Files>(rt: &R) -> HeldFiles<R::File> {
     }
 }
 
-// Runs the program, and gives its status. Want of memory before the top call is the one error.
+// Runs the program, and gives its status. Out of memory before the top call is the one error.
 fn run<R: Runtime + AllocGlobal>(rt: &R) -> Result<u8, AllocError>
 where
     R::File: Send,
 {
     let held = placeholders(rt);
-    let words = words_of(rt)?;
-    let disk = disk_of(rt, &words)?;
+    let args = args_of(rt)?;
+    let disk = disk_of(rt, &args)?;
     let mut input = StdSource::new(rt.reader());
     let mut output = StdSink::new(io::writer(rt));
-    let ended = run_je(rt.alloc(), &words, disk, &mut input, &mut output);
+    let ended = run_je(rt.alloc(), &args, disk, &mut input, &mut output);
     let Ended {
         status,
         cause: _,

@@ -1,5 +1,5 @@
 //! A program for timing the locks from outside. It stands on the lock crates, takes a case and a number
-//! N as words, and prints one count. Cases: `own`, N locks of one transaction taken and released;
+//! N as arguments, and prints one count. Cases: `own`, N locks of one transaction taken and released;
 //! `many`, N transactions with 100 locks each; `made`, a chain of N waiters; `chain`, the same and one
 //! search for a cycle along it.
 #![tactic(auto)]
@@ -21,9 +21,9 @@ fn count_of(alloc: Global, case: &str, number: u32) -> Result<u64, AllocError> {
 }
 
 fn main(rt: HostRuntime) -> io::Result<()> {
-    let mut words = env::args(&rt)?;
-    let _program = words.next();
-    let (Some(case), Some(number)) = (words.next(), words.next()) else {
+    let mut args = env::args(&rt)?;
+    let _program = args.next();
+    let (Some(case), Some(number)) = (args.next(), args.next()) else {
         return println!(rt; "0");
     };
     let number = number.as_str().parse::<u32>().unwrap_or(0);

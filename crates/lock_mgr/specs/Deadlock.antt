@@ -5,7 +5,8 @@ use Rattle.std.specs.declared.option.Option.TheVariants.{None, Some}
 use Rattle.std.specs.List.{list_all, filter}
 use Rattle.std.specs.Prelude.{nat_le}
 use Rattle.je_order.specs.declared.txn_id.TxnId.{TxnId}
-use Rattle.waits_for.specs.Cycles.{is_same, is_in, closes_by, is_cycle_by}
+use Rattle.waits_for.specs.Cycles.{is_in, closes_by, is_cycle_by}
+use Rattle.je_order.specs.Transactions.{is_same_txn}
 use Rattle.lock_table.specs.declared.lock.Lock.{Lock}
 use Rattle.lock_table.specs.declared.record_id.RecordId.{RecordId}
 use Rattle.lock_table.specs.Locks.{is_blocking, after_cancel}
@@ -19,7 +20,7 @@ waits v x y = is_in y (waits_for x v)
 
 -- the same once this lock was asked for and waits
 abbrev pub waits_with : Lock → RecordId → Locks → TxnId → TxnId → Bool
-waits_with w at v x y = cond (is_same w.txn x) (is_in y (map (λ o. o.txn) (filter (is_blocking w) (locks_at at v).0))) (waits v x y)
+waits_with w at v x y = cond (is_same_txn w.txn x) (is_in y (map (λ o. o.txn) (filter (is_blocking w) (locks_at at v).0))) (waits v x y)
 
 -- nobody waits for himself by way of others, whoever is named twice on the way
 abbrev pub HasNoCycle : (TxnId → TxnId → Bool) → Type 0
@@ -32,7 +33,7 @@ pub record NoDeadlock (v : Locks) : Type 0 where
 
 -- the waits of the others
 abbrev pub others : TxnId → (TxnId → TxnId → Bool) → TxnId → TxnId → Bool
-others u R x y = not (is_same u x) && R x y
+others u R x y = not (is_same_txn u x) && R x y
 
 -- the greatest of a list
 abbrev pub is_greatest : TxnId → List TxnId → Bool
@@ -57,12 +58,12 @@ victims_of (Waiting owner) = Some []
 victims_of (NotAvailable owner) = None
 victims_of (Victims owner victims) = Some victims
 
--- victims are told only where there are some
-abbrev pub IsToldRight : Requested → Type 0
-IsToldRight Granted = Unit {0}
-IsToldRight (Waiting owner) = Unit {0}
-IsToldRight (NotAvailable owner) = Unit {0}
-IsToldRight (Victims owner victims) = 0 < length victims
+-- victims are named only where there are some
+abbrev pub HasSomeVictims : Requested → Type 0
+HasSomeVictims Granted = Unit {0}
+HasSomeVictims (Waiting owner) = Unit {0}
+HasSomeVictims (NotAvailable owner) = Unit {0}
+HasSomeVictims (Victims owner victims) = 0 < length victims
 
 -- those whose waits were taken back
 abbrev pub taken_back : TxnId → Requested → List TxnId

@@ -8,6 +8,7 @@ use Rattle.waits_for.specs.Cycles.{is_in, is_edge, closes_by, is_cycle_by}
 use Rattle.lock_table.specs.declared.record_id.RecordId.{RecordId}
 use Rattle.lock_table.specs.Table.{Locks, waits_for}
 use Rattle.lock_mgr.specs.Deadlock.{others, is_greatest}
+use Rattle.je_order.specs.Transactions.{txn_cmp}
 
 -- every edge of S is one of R
 abbrev pub IsWithin : (TxnId → TxnId → Bool) → (TxnId → TxnId → Bool) → Type 0
@@ -34,22 +35,18 @@ abbrev pub greatest_from : TxnId → List TxnId → TxnId
 greatest_from f [] = f
 greatest_from f (x ∷ xs) = greatest_from (greater f x) xs
 
--- the order of transaction numbers
-abbrev pub txn_cmp : TxnId → TxnId → Ordering
-txn_cmp x y = nat_cmp x.0 y.0
-
 -- the transaction was seen
-abbrev pub has : BTreeSet TxnId → TxnId → Bool
-has seen x = contains txn_cmp seen x
+abbrev pub is_reached : BTreeSet TxnId → TxnId → Bool
+is_reached seen x = contains txn_cmp seen x
 
 -- each wait of a transaction that was seen is an edge, and leads to one that was seen or is to be looked at
 pub record IsFilling (R : TxnId → TxnId → Bool) (t : TxnId) (edges : List (TxnId × TxnId)) (seen : BTreeSet TxnId) (todo : List TxnId) : Type 0 where
   pub real : IsWithin R (is_edge edges)
-  pub start : (has seen t ≡ true) ⊎ (is_in t todo ≡ true)
-  pub edge : (x y : TxnId) → has seen x ≡ true → R x y ≡ true → is_edge edges x y ≡ true
-  pub stays : (x y : TxnId) → has seen x ≡ true → R x y ≡ true → (has seen y ≡ true) ⊎ (is_in y todo ≡ true)
+  pub start : (is_reached seen t ≡ true) ⊎ (is_in t todo ≡ true)
+  pub edge : (x y : TxnId) → is_reached seen x ≡ true → R x y ≡ true → is_edge edges x y ≡ true
+  pub stays : (x y : TxnId) → is_reached seen x ≡ true → R x y ≡ true → (is_reached seen y ≡ true) ⊎ (is_in y todo ≡ true)
 
 -- how many waits may still be followed
 abbrev pub weight : Locks → BTreeSet TxnId → List (TxnId × RecordId) → ℕ
 weight v seen [] = 0
-weight v seen (e ∷ es) = cond (has seen e.0) 0 (length (waits_for e.0 v)) + weight v seen es
+weight v seen (e ∷ es) = cond (is_reached seen e.0) 0 (length (waits_for e.0 v)) + weight v seen es

@@ -5,10 +5,11 @@ ghost use Rattle.je_order.specs.declared.txn_id.TxnId.{TxnId};
 ghost use Rattle.lock_mode.specs.declared.lock_type.LockType.{LockType};
 ghost use Rattle.waits_for.specs.Cycles.{is_in, is_edge, closes_by};
 ghost use Rattle.lock_table.specs.declared.record_id.RecordId.{RecordId};
-ghost use Rattle.lock_table.specs.Locks.{is_same, lock_of, held_by, blocker, is_blocked, writer_in, after_ask, after_cancel, after_release, after_give_back, WasHeld};
+ghost use Rattle.lock_table.specs.Locks.{lock_of, held_by, blocker, is_blocked, writer_in, after_ask, after_cancel, after_release, after_give_back, WasHeld};
+ghost use Rattle.je_order.specs.Transactions.{is_same_txn};
 ghost use Rattle.lock_table.specs.Records.{is_record};
 ghost use Rattle.lock_table.specs.Table.{locks_at, pending_at, is_waiting, was_granted, wait_pairs, holder_of, IsLockTable};
-ghost use Rattle.lock_mgr.specs.Deadlock.{waits, waits_with, NoDeadlock, AreVictims, owner_of, victims_of as victims_in, taken_back, without_waits, IsToldRight};
+ghost use Rattle.lock_mgr.specs.Deadlock.{waits, waits_with, NoDeadlock, AreVictims, owner_of, victims_of as victims_in, taken_back, without_waits, HasSomeVictims};
 
 use crate::Requested;
 use crate::victims::{reach, victims_of};
@@ -49,7 +50,7 @@ impl LockMgr {
 
     /// Asks for a lock. Where it conflicts with another owner it waits, or, without `wait`, is not
     /// available. A wait that closes cycles costs the greatest transaction of each its wait, one after
-    /// another; these are the victims. The one error is want of memory: then no lock and no wait is
+    /// another; these are the victims. The only error is out of memory: then no lock and no wait is
     /// changed, and the transaction has no wait any more that was granted.
     pub fn request(
         &mut self,
@@ -64,11 +65,11 @@ impl LockMgr {
         ensures waits { IfOk result (λ answer. is_some (victims_in answer) ≡ (is_some (owner_of answer) && wait)) }
         ensures victims { IfOk result (λ answer. IfSome (victims_in answer) (AreVictims (waits_with (lock_of txn asked) at.now self.old))) }
         ensures locks { IfOk result (λ answer. (r : RecordId) → locks_at r self.new ≡ without_waits (taken_back txn answer) (if is_record at.now r then after_ask (lock_of txn asked) (locks_at r self.old) else locks_at r self.old)) }
-        ensures pending { IfOk result (λ answer. (t : TxnId) → is_in t (taken_back txn answer) ≡ false → pending_at t self.new ≡ (if is_same txn t then option_map_or (λ _. Some at.now) (owner_of answer) None else pending_at t self.old)) }
+        ensures pending { IfOk result (λ answer. (t : TxnId) → is_in t (taken_back txn answer) ≡ false → pending_at t self.new ≡ (if is_same_txn txn t then option_map_or (λ _. Some at.now) (owner_of answer) None else pending_at t self.old)) }
         ensures gone { IfOk result (λ answer. (t : TxnId) → is_in t (taken_back txn answer) ≡ true → pending_at t self.new ≡ None) }
-        ensures told { IfOk result IsToldRight }
+        ensures told { IfOk result HasSomeVictims }
         ensures err { OnErr result ((r : RecordId) → locks_at r self.new ≡ locks_at r self.old) }
-        ensures err_pending { OnErr result ((t : TxnId) → is_same txn t ≡ false → pending_at t self.new ≡ pending_at t self.old) }
+        ensures err_pending { OnErr result ((t : TxnId) → is_same_txn txn t ≡ false → pending_at t self.new ≡ pending_at t self.old) }
         ensures free { NoDeadlock self.new }
     {
         request_in(&mut self.table, alloc, txn, at, asked, wait)
@@ -77,7 +78,7 @@ impl LockMgr {
     /// Takes back the transaction's wait, if it has one. It takes no memory.
     pub fn cancel(&mut self, txn: TxnId)
         ensures locks { (r : RecordId) → locks_at r self.new ≡ after_cancel txn (locks_at r self.old) }
-        ensures pending { (t : TxnId) → pending_at t self.new ≡ (if is_same txn t && is_waiting txn self.old then None else pending_at t self.old) }
+        ensures pending { (t : TxnId) → pending_at t self.new ≡ (if is_same_txn txn t && is_waiting txn self.old then None else pending_at t self.old) }
         ensures free { NoDeadlock self.new }
     {
         self.table.cancel(txn);
@@ -99,7 +100,7 @@ impl LockMgr {
     /// of arrival where it conflicts with no other owner. It takes no memory.
     pub fn release_all(&mut self, txn: TxnId)
         ensures locks { (r : RecordId) → locks_at r self.new ≡ after_release txn (locks_at r self.old) }
-        ensures pending { (t : TxnId) → pending_at t self.new ≡ (if is_same txn t then None else pending_at t self.old) }
+        ensures pending { (t : TxnId) → pending_at t self.new ≡ (if is_same_txn txn t then None else pending_at t self.old) }
         ensures free { NoDeadlock self.new }
     {
         self.table.release_all(txn);
@@ -126,7 +127,7 @@ impl LockMgr {
         self.table.held(txn, at)
     }
 
-    /// Who waits for whom. It walks all waits. The one error is want of memory.
+    /// Who waits for whom. It walks all waits. The only error is out of memory.
     pub fn waits(&self, alloc: Global) -> Result<List<(TxnId, TxnId)>, AllocError>
         ensures { IfOk result (λ pairs. pairs ≡ wait_pairs self.now) }
     {
@@ -170,11 +171,11 @@ fn request_in(
     ensures waits { IfOk result (λ answer. is_some (victims_in answer) ≡ (is_some (owner_of answer) && wait)) }
     ensures victims { IfOk result (λ answer. IfSome (victims_in answer) (AreVictims (waits_with (lock_of txn asked) at.now table.old))) }
     ensures locks { IfOk result (λ answer. (r : RecordId) → locks_at r table.new ≡ without_waits (taken_back txn answer) (if is_record at.now r then after_ask (lock_of txn asked) (locks_at r table.old) else locks_at r table.old)) }
-    ensures pending { IfOk result (λ answer. (t : TxnId) → is_in t (taken_back txn answer) ≡ false → pending_at t table.new ≡ (if is_same txn t then option_map_or (λ _. Some at.now) (owner_of answer) None else pending_at t table.old)) }
+    ensures pending { IfOk result (λ answer. (t : TxnId) → is_in t (taken_back txn answer) ≡ false → pending_at t table.new ≡ (if is_same_txn txn t then option_map_or (λ _. Some at.now) (owner_of answer) None else pending_at t table.old)) }
     ensures gone { IfOk result (λ answer. (t : TxnId) → is_in t (taken_back txn answer) ≡ true → pending_at t table.new ≡ None) }
-    ensures told { IfOk result IsToldRight }
+    ensures told { IfOk result HasSomeVictims }
     ensures err { OnErr result ((r : RecordId) → locks_at r table.new ≡ locks_at r table.old) }
-    ensures err_pending { OnErr result ((t : TxnId) → is_same txn t ≡ false → pending_at t table.new ≡ pending_at t table.old) }
+    ensures err_pending { OnErr result ((t : TxnId) → is_same_txn txn t ≡ false → pending_at t table.new ≡ pending_at t table.old) }
     ensures free { NoDeadlock table.new }
 {
     match table.ask(alloc, txn, at, asked)? {
@@ -200,9 +201,9 @@ fn blocked_in(
     ensures locks { IfOk result (λ answer. (r : RecordId) → locks_at r table.new ≡ without_waits (taken_back txn answer) (locks_at r table.old)) }
     ensures pending { IfOk result (λ answer. (t : TxnId) → is_in t (taken_back txn answer) ≡ false → pending_at t table.new ≡ pending_at t table.old) }
     ensures gone { IfOk result (λ answer. (t : TxnId) → is_in t (taken_back txn answer) ≡ true → pending_at t table.new ≡ None) }
-    ensures told { IfOk result IsToldRight }
+    ensures told { IfOk result HasSomeVictims }
     ensures err { OnErr result ((r : RecordId) → locks_at r table.new ≡ after_cancel txn (locks_at r table.old)) }
-    ensures err_pending { OnErr result ((t : TxnId) → is_same txn t ≡ false → pending_at t table.new ≡ pending_at t table.old) }
+    ensures err_pending { OnErr result ((t : TxnId) → is_same_txn txn t ≡ false → pending_at t table.new ≡ pending_at t table.old) }
     ensures free { NoDeadlock table.new }
 {
     if !wait {
@@ -253,7 +254,7 @@ fn answer_of(owner: TxnId, victims: List<(TxnId, List<TxnId>)>) -> Requested
     ensures owner { owner_of result ≡ Some owner }
     ensures victims { victims_in result ≡ Some victims }
     ensures taken { (t : TxnId) → taken_back t result ≡ map (λ v. v.0) victims }
-    ensures told { IsToldRight result }
+    ensures told { HasSomeVictims result }
 {
     if victims.is_empty() {
         return Requested::Waiting { owner };

@@ -1,9 +1,10 @@
 // The victims of a wait that closes cycles.
 ghost use Rattle.std.specs.Prelude.{◌≡◌, ◌+◌, ◌<◌, ◌≤◌, ◌∷◌, ◌++◌, ◌&&◌, ◌||◌, ◌⊎◌, [], true, false, length, IfOk, OnOk};
 ghost use Rattle.je_order.specs.declared.txn_id.TxnId.{TxnId};
-ghost use Rattle.waits_for.specs.Cycles.{is_same, is_in, is_edge, is_cycle};
+ghost use Rattle.waits_for.specs.Cycles.{is_in, is_edge, is_cycle};
+ghost use Rattle.je_order.specs.Transactions.{is_same_txn};
 ghost use Rattle.lock_mgr.specs.Deadlock.{waits, is_greatest};
-ghost use Rattle.lock_mgr.specs.Reach.{IsReach, IsFilling, BreaksAll, greater, has, weight};
+ghost use Rattle.lock_mgr.specs.Reach.{IsReach, IsFilling, BreaksAll, greater, is_reached, weight};
 
 use je_order::{List, TxnId};
 use lock_table::LockTable;
@@ -89,7 +90,7 @@ fn follow(
 
 // Puts the edges from one waiter.
 fn put_edges(edges: &mut Edges, waiter: TxnId, owners: &[TxnId]) -> Result<(), AllocError>
-    ensures { OnOk result ((x y : TxnId) → is_edge edges.new x y ≡ ((is_same x waiter && is_in y owners.now) || is_edge edges.old x y)) }
+    ensures { OnOk result ((x y : TxnId) → is_edge edges.new x y ≡ ((is_same_txn x waiter && is_in y owners.now) || is_edge edges.old x y)) }
 {
     for owner in owners {
         edges.insert(waiter, *owner)?;

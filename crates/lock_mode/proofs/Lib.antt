@@ -1,1 +1,2 @@
+-- The laws of the two tables.
 pub mod Laws

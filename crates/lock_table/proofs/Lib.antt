@@ -1,11 +1,22 @@
-pub mod Least
-pub mod Grants
-pub mod Settled
+-- The least of some transactions, in any grouping.
+pub mod LeastTxn
+-- The waits that stay, behind those that were looked at before.
+pub mod WaitsAfterGrant
+-- What requests, grants and releases keep of one record's owners and waits.
+pub mod OwnersAndWaits
+-- Owners never conflict, and no wait is left that could be granted: what each change keeps of it.
 pub mod Owners
-pub mod Keeping
-pub mod Maps
-pub mod Sound
-pub mod Listing
-pub mod Steps
-pub mod Ranges
-pub mod Walks
+-- What each call keeps of one record: it stays settled, and nobody comes in but the one that asked.
+pub mod RecordCalls
+-- A change of one record's queue, read at every record.
+pub mod QueueMaps
+-- What each call keeps of the whole table.
+pub mod WholeTable
+-- A change of one transaction's list of records, read at every transaction and record.
+pub mod RecordLists
+-- Single steps of the calls.
+pub mod CallSteps
+-- The records of one database stand between the end of the one before it and its own end.
+pub mod DatabaseRanges
+-- Walks along a list: what was found so far, and what the rest gives.
+pub mod ListWalks

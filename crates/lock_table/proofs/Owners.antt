@@ -9,13 +9,16 @@ use Rattle.lock_mode.specs.declared.lock_type.LockType.{LockType}
 use Rattle.lock_mode.specs.Modes.{conflicts_with, upgraded, can_be_held}
 use Rattle.lock_mode.proofs.Laws.{laws}
 use Rattle.lock_table.specs.declared.lock.Lock.{Lock}
-use Rattle.lock_table.specs.Locks.{is_same, is_of, has_lock, without, held_by, is_blocking, is_blocked, upgraded_by, set_by, with_lock, waits_still, granted, AreApart, AreOwners, IsSettled}
-use Rattle.lock_table.proofs.Settled.{same_is, same_itself, same_either, all_map, all_mapped, all_append, all_filter, all_both, none_each, any_filter, lock_blocks}
+use Rattle.lock_table.specs.Locks.{is_of, has_lock, without_txn, held_by, is_blocking, is_blocked, upgraded_by, set_by, with_lock, waits_still, granted, AreApart, AreOwners, IsSettled}
+use Rattle.je_order.specs.Transactions.{is_same_txn}
+use Rattle.lock_table.proofs.OwnersAndWaits.{all_mapped, all_both, any_filter, lock_blocks}
+use Rattle.je_order.proofs.TxnIds.{same_is, same_itself, same_either}
+use Rattle.je_order.proofs.Lists.{all_weaker, all_append, all_kept, none_each}
 
 -- ---- transactions that stand once
 pub has_mapped : (f : Lock → Lock) → ((o : Lock) → (f o).txn ≡ o.txn) → (t : TxnId) (os : List Lock) → has_lock t (map f os) ≡ has_lock t os
 has_mapped f k t [] = refl
-has_mapped f k t (o ∷ os) = let e = k o in let r = has_mapped f k t os in let d : is_of t (f o) ≡ is_of t o = ap (λ u. is_same t u) e in cc
+has_mapped f k t (o ∷ os) = let e = k o in let r = has_mapped f k t os in let d : is_of t (f o) ≡ is_of t o = ap (λ u. is_same_txn t u) e in cc
 
 pub apart_mapped : (f : Lock → Lock) → ((o : Lock) → (f o).txn ≡ o.txn) → (os : List Lock) → AreApart os → AreApart (map f os)
 apart_mapped f k [] a = tt
@@ -25,7 +28,7 @@ pub apart_push : (ls : List Lock) (w : Lock) → AreApart ls → has_lock w.txn 
 apart_push [] w a h = (refl, tt)
 apart_push (l ∷ ls) w a h =
     let k = or_parts (is_of w.txn l) (has_lock w.txn ls) h in
-    let e : has_lock l.txn (w ∷ []) ≡ false = or_from (is_same l.txn w.txn) false (same_either l.txn w.txn ∙ k.0) refl in
+    let e : has_lock l.txn (w ∷ []) ≡ false = or_from (is_same_txn l.txn w.txn) false (same_either l.txn w.txn ∙ k.0) refl in
     (list_any-append (is_of l.txn) ls (w ∷ []) ∙ or_from (has_lock l.txn ls) (has_lock l.txn (w ∷ [])) a.0 e, apart_push ls w a.1 k.1)
 
 pub apart_filter : (p : Lock → Bool) (ls : List Lock) → AreApart ls → AreApart (filter p ls)
@@ -40,10 +43,10 @@ set_txn t m o = ⊎_elim (λ h. ap (λ (l : Lock). l.txn) (cond-true (is_of t o)
 
 -- ---- a request is granted
 turned : (o w : Lock) → can_be_held o.mode ≡ true → can_be_held w.mode ≡ true → is_blocking w o ≡ false → is_blocking o w ≡ false
-turned o w ho hw n = ap (λ b. not b && conflicts_with w.mode o.mode) (same_either o.txn w.txn) ∙ (ap (λ b. not (is_same w.txn o.txn) && b) (laws.symmetric w.mode o.mode hw ho) ∙ n)
+turned o w ho hw n = ap (λ b. not b && conflicts_with w.mode o.mode) (same_either o.txn w.txn) ∙ (ap (λ b. not (is_same_txn w.txn o.txn) && b) (laws.symmetric w.mode o.mode hw ho) ∙ n)
 
-itself : (t : TxnId) (m : LockType) (w : Lock) → is_same t w.txn ≡ true → (not (is_same t w.txn) && conflicts_with w.mode m) ≡ false
-itself t m w h = and_left (not (is_same t w.txn)) (conflicts_with w.mode m) (not_from_true (is_same t w.txn) h)
+itself : (t : TxnId) (m : LockType) (w : Lock) → is_same_txn t w.txn ≡ true → (not (is_same_txn t w.txn) && conflicts_with w.mode m) ≡ false
+itself t m w h = and_left (not (is_same_txn t w.txn)) (conflicts_with w.mode m) (not_from_true (is_same_txn t w.txn) h)
 
 -- what both of two types leave alone, their upgrade leaves alone
 both_free : (p o w : Lock) → can_be_held p.mode ≡ true → can_be_held o.mode ≡ true → can_be_held w.mode ≡ true → w.txn ≡ o.txn → is_blocking o p ≡ false → is_blocking w p ≡ false
@@ -52,8 +55,8 @@ both_free p o w hp ho hw t a b =
     let u = laws.held o.mode w.mode ho in
     let e : conflicts_with p.mode (upgraded o.mode w.mode) ≡ (conflicts_with p.mode o.mode || conflicts_with p.mode w.mode) =
     laws.symmetric p.mode (upgraded o.mode w.mode) hp u ∙ (laws.joins o.mode w.mode p.mode ∙ orred (laws.symmetric o.mode p.mode ho hp) (laws.symmetric w.mode p.mode hw hp)) in
-    let c : (not (is_same o.txn p.txn) && conflicts_with p.mode w.mode) ≡ false = ap (λ (v : TxnId). not (is_same v p.txn) && conflicts_with p.mode w.mode) (sym t) ∙ b in
-    ap (λ b. not (is_same o.txn p.txn) && b) e ∙ spread (not (is_same o.txn p.txn)) (conflicts_with p.mode o.mode) (conflicts_with p.mode w.mode) a c
+    let c : (not (is_same_txn o.txn p.txn) && conflicts_with p.mode w.mode) ≡ false = ap (λ (v : TxnId). not (is_same_txn v p.txn) && conflicts_with p.mode w.mode) (sym t) ∙ b in
+    ap (λ b. not (is_same_txn o.txn p.txn) && b) e ∙ spread (not (is_same_txn o.txn p.txn)) (conflicts_with p.mode o.mode) (conflicts_with p.mode w.mode) a c
   where
     orred : {a b c d : Bool} → a ≡ b → c ≡ d → (a || c) ≡ (b || d)
     orred {a} {b} {c} {d} e f = ap (λ x. x || c) e ∙ ap (λ x. b || x) f
@@ -84,7 +87,7 @@ owners_taken os w a n = ⊎_elim
     })
     (λ k. let e : with_lock w os ≡ os ++ (w ∷ []) = cond-true (can_be_held w.mode) _ os h ∙ cond-false (has_lock w.txn os) (map (upgraded_by w) os) _ k in
     record {
-      agree = subst (λ ls. AllByRecursion (λ o. is_blocked (with_lock w os) o ≡ false) ls) (sym e) (all_append _ os (w ∷ []) (all_map (IsFree os w) _ (same h) os free) (lock_blocks w w os ∙ or_from (is_blocked os w) (is_blocking w w) n (itself w.txn w.mode w (same_itself w.txn)), tt));
+      agree = subst (λ ls. AllByRecursion (λ o. is_blocked (with_lock w os) o ≡ false) ls) (sym e) (all_append _ os (w ∷ []) (all_weaker (IsFree os w) _ (same h) os free) (lock_blocks w w os ∙ or_from (is_blocked os w) (is_blocking w w) n (itself w.txn w.mode w (same_itself w.txn)), tt));
       held = subst (λ ls. AllByRecursion (λ o. can_be_held o.mode ≡ true) ls) (sym e) (all_append _ os (w ∷ []) a.held (h, tt));
       apart = subst AreApart (sym e) (apart_push os w a.apart k);
     })
@@ -93,7 +96,7 @@ owners_taken os w a n = ⊎_elim
     (cases_Bool (can_be_held w.mode))
   where
     free : AllByRecursion (IsFree os w) os
-    free = all_map _ (IsFree os w) (λ o p. (p.0.0, p.0.1, p.1)) os (all_both _ _ os (all_both _ _ os a.agree a.held) (none_each (is_blocking w) os n))
+    free = all_weaker _ (IsFree os w) (λ o p. (p.0.0, p.0.1, p.1)) os (all_both _ _ os (all_both _ _ os a.agree a.held) (none_each (is_blocking w) os n))
 
     same : can_be_held w.mode ≡ true → (o : Lock) → IsFree os w o → is_blocked (with_lock w os) o ≡ false
     same h o p = lock_blocks w o os ∙ or_from (is_blocked os o) (is_blocking o w) p.0 (turned o w p.1 h p.2)
@@ -142,10 +145,10 @@ granted_none [] os a = refl
 granted_none (w ∷ ws) os a = cond-true (is_blocked os w) _ _ a.0 ∙ ap (waits_still w) (granted_none ws os a.1)
 
 -- ---- a lock goes, or is less again
-pub owners_without : (t : TxnId) (os : List Lock) → AreOwners os → AreOwners (without t os)
+pub owners_without : (t : TxnId) (os : List Lock) → AreOwners os → AreOwners (without_txn t os)
 owners_without t os a = record {
-  agree = all_filter _ (λ l. not (is_of t l)) os (all_map _ (λ o. is_blocked (without t os) o ≡ false) (λ o h. any_filter (is_blocking o) (λ l. not (is_of t l)) os h) os a.agree);
-  held = all_filter _ _ os a.held;
+  agree = all_kept _ (λ l. not (is_of t l)) os (all_weaker _ (λ o. is_blocked (without_txn t os) o ≡ false) (λ o h. any_filter (is_blocking o) (λ l. not (is_of t l)) os h) os a.agree);
+  held = all_kept _ _ os a.held;
   apart = apart_filter _ os a.apart;
 }
 
@@ -156,7 +159,7 @@ held_each t h (o ∷ os) a e = ⊎_elim
     (λ i. let f : find (is_of t) (o ∷ os) ≡ Some o = cond-true (is_of t o) (Some o) (find (is_of t) os) i in
     let g : Some o.mode ≡ Some h = sym (ap (λ x. option_map (λ (l : Lock). l.mode) x) f) ∙ e in
     let k : o.mode ≡ h = cc in
-    (λ _. k, all_map _ _ (λ p n m. absurd (both_ways (is_of o.txn p) n (subst (λ (u : TxnId). is_of u p ≡ true) (same_is t o.txn i) m))) os (none_each (is_of o.txn) os a.0)))
+    (λ _. k, all_weaker _ _ (λ p n m. absurd (both_ways (is_of o.txn p) n (subst (λ (u : TxnId). is_of u p ≡ true) (same_is t o.txn i) m))) os (none_each (is_of o.txn) os a.0)))
     (λ i. let f : find (is_of t) (o ∷ os) ≡ find (is_of t) os = cond-false (is_of t o) (Some o) (find (is_of t) os) i in
     (λ m. absurd (both_ways (is_of t o) i m), held_each t h os a.1 (sym (ap (λ x. option_map (λ (l : Lock). l.mode) x) f) ∙ e)))
     (cases_Bool (is_of t o))
@@ -171,7 +174,7 @@ anded false k n = refl
 
 set_blocks : (t : TxnId) (m h : LockType) (v p : Lock) → upgraded m h ≡ h → (is_of t p ≡ true → p.mode ≡ h) → is_blocking v p ≡ false → is_blocking v (set_by t m p) ≡ false
 set_blocks t m h v p u k n = ⊎_elim
-    (λ i. subst (λ (l : Lock). is_blocking v l ≡ false) (sym (cond-true (is_of t p) _ p i)) (anded (not (is_same v.txn p.txn)) {a = conflicts_with p.mode v.mode} (λ e. less_free m h v.mode u (ap (λ x. conflicts_with x v.mode) (sym (k i)) ∙ e)) n))
+    (λ i. subst (λ (l : Lock). is_blocking v l ≡ false) (sym (cond-true (is_of t p) _ p i)) (anded (not (is_same_txn v.txn p.txn)) {a = conflicts_with p.mode v.mode} (λ e. less_free m h v.mode u (ap (λ x. conflicts_with x v.mode) (sym (k i)) ∙ e)) n))
     (λ i. subst (λ (l : Lock). is_blocking v l ≡ false) (sym (cond-false (is_of t p) _ p i)) n)
     (cases_Bool (is_of t p))
 
@@ -185,7 +188,7 @@ less_owner m h o [] u hm e ho hs n = refl
 less_owner m h o (p ∷ os) u hm e ho hs n =
     let k = or_parts (is_blocking o p) (is_blocked os o) n in
     or_from (is_blocking (record { txn = o.txn; mode = m }) p) (is_blocked os (record { txn = o.txn; mode = m }))
-    (anded (not (is_same o.txn p.txn)) {a = conflicts_with p.mode o.mode} (λ f. laws.symmetric p.mode m hs.0 hm ∙ less_free m h p.mode u (ap (λ x. conflicts_with x p.mode) (sym e) ∙ (sym (laws.symmetric p.mode o.mode hs.0 ho) ∙ f))) k.0)
+    (anded (not (is_same_txn o.txn p.txn)) {a = conflicts_with p.mode o.mode} (λ f. laws.symmetric p.mode m hs.0 hm ∙ less_free m h p.mode u (ap (λ x. conflicts_with x p.mode) (sym e) ∙ (sym (laws.symmetric p.mode o.mode hs.0 ho) ∙ f))) k.0)
     (less_owner m h o os u hm e ho hs.1 k.1)
 
 abbrev IsAsBefore : TxnId → LockType → List Lock → Lock → Type 0
@@ -202,7 +205,7 @@ owners_set t m h os a e hm u = record {
     each = held_each t h os a.apart e
 
     as_before : AllByRecursion (IsAsBefore t h os) os
-    as_before = all_map _ (IsAsBefore t h os) (λ o p. (p.0.0, p.0.1, p.1)) os (all_both _ _ os (all_both _ _ os a.agree a.held) each)
+    as_before = all_weaker _ (IsAsBefore t h os) (λ o p. (p.0.0, p.0.1, p.1)) os (all_both _ _ os (all_both _ _ os a.agree a.held) each)
 
     agreeing : (o : Lock) → IsAsBefore t h os o → is_blocked (map (set_by t m) os) (set_by t m o) ≡ false
     agreeing o p = set_frees t m h (set_by t m o) os u each (⊎_elim

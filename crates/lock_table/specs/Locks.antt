@@ -9,10 +9,7 @@ use Rattle.lock_mode.specs.declared.lock_type.LockType.{LockType}
 use Rattle.lock_mode.specs.declared.lock_type.LockType.TheVariants.{Read, Write, RangeRead, RangeWrite, RangeInsert}
 use Rattle.lock_mode.specs.Modes.{conflicts_with, upgraded, can_be_held}
 use Rattle.lock_table.specs.declared.lock.Lock.{Lock}
-
--- two numbers of one transaction
-abbrev pub is_same : TxnId → TxnId → Bool
-is_same x y = x.0 == y.0
+use Rattle.je_order.specs.Transactions.{is_same_txn}
 
 -- a transaction and a type as a lock
 abbrev pub lock_of : TxnId → LockType → Lock
@@ -32,15 +29,15 @@ writer_in os = option_map (λ o. o.txn) (find (λ o. is_write o.mode) os)
 
 -- the lock is this transaction's
 abbrev pub is_of : TxnId → Lock → Bool
-is_of t l = is_same t l.txn
+is_of t l = is_same_txn t l.txn
 
 -- the transaction has a lock in the list
 abbrev pub has_lock : TxnId → List Lock → Bool
 has_lock t ls = list_any (is_of t) ls
 
 -- the list without the transaction's locks
-abbrev pub without : TxnId → List Lock → List Lock
-without t ls = filter (λ l. not (is_of t l)) ls
+abbrev pub without_txn : TxnId → List Lock → List Lock
+without_txn t ls = filter (λ l. not (is_of t l)) ls
 
 -- the type that the transaction holds
 abbrev pub held_by : TxnId → List Lock → Option LockType
@@ -48,7 +45,7 @@ held_by t os = option_map (λ o. o.mode) (find (is_of t) os)
 
 -- a request conflicts with an owner: it is another transaction, and its type conflicts
 abbrev pub is_blocking : Lock → Lock → Bool
-is_blocking w o = not (is_same w.txn o.txn) && conflicts_with o.mode w.mode
+is_blocking w o = not (is_same_txn w.txn o.txn) && conflicts_with o.mode w.mode
 
 -- a request conflicts with an owner of the list
 abbrev pub is_blocked : List Lock → Lock → Bool
@@ -96,11 +93,11 @@ after_ask w q = cond (is_blocked q.0 w) (q.0, q.1 ++ w ∷ []) (with_lock w q.0,
 
 -- after the transaction's wait was taken back
 abbrev pub after_cancel : TxnId → List Lock × List Lock → List Lock × List Lock
-after_cancel t q = (q.0, without t q.1)
+after_cancel t q = (q.0, without_txn t q.1)
 
 -- after the transaction's lock and wait went
 abbrev pub after_release : TxnId → List Lock × List Lock → List Lock × List Lock
-after_release t q = granted (without t q.0) (without t q.1)
+after_release t q = granted (without_txn t q.0) (without_txn t q.1)
 
 -- an owner's lock, set to this type if it is the transaction's
 abbrev pub set_by : TxnId → LockType → Lock → Lock
@@ -108,7 +105,7 @@ set_by t m o = cond (is_of t o) (record { txn = o.txn; mode = m }) o
 
 -- the transaction's lock is this type again, or none
 abbrev pub with_type : TxnId → Option LockType → List Lock → List Lock
-with_type t None os = without t os
+with_type t None os = without_txn t os
 with_type t (Some m) os = map (set_by t m) os
 
 -- after the transaction gave back what it asked for since it held this type

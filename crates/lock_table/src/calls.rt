@@ -5,7 +5,8 @@ ghost use Rattle.std.specs.Option.{option_map_or};
 ghost use Rattle.je_order.specs.declared.txn_id.TxnId.{TxnId};
 ghost use Rattle.lock_mode.specs.declared.lock_type.LockType.{LockType};
 ghost use Rattle.lock_table.specs.declared.record_id.RecordId.{RecordId};
-ghost use Rattle.lock_table.specs.Locks.{is_same, has_lock, held_by, blocker, is_blocked, after_ask, after_cancel, after_release, after_give_back, WasHeld, IsSettled};
+ghost use Rattle.lock_table.specs.Locks.{has_lock, held_by, blocker, is_blocked, after_ask, after_cancel, after_release, after_give_back, WasHeld, IsSettled};
+ghost use Rattle.je_order.specs.Transactions.{is_same_txn};
 ghost use Rattle.lock_table.specs.Records.{record_cmp, is_record, queue_at};
 ghost use Rattle.lock_table.specs.Table.{at_txn, owner_in, is_listed, IsOut, IsSameTable, IsTable};
 
@@ -18,7 +19,8 @@ use lock_mode::LockType;
 use std::alloc::{AllocError, Global};
 use std::collections::{BTreeMap, BTreeSet};
 
-// A request: it waits exactly where it conflicts with another owner. Want of memory changes nothing.
+// A request: it waits exactly where it conflicts with another owner. Running out of memory changes
+// nothing.
 pub(crate) fn ask_in(
     queues: &mut BTreeMap<RecordId, Queue>,
     lists: &mut BTreeMap<TxnId, BTreeSet<RecordId>>,
@@ -32,7 +34,7 @@ pub(crate) fn ask_in(
     ensures table { IsTable queues.new.entries lists.new.entries pending.new.entries }
     ensures answer { IfOk result (λ asked. owner_in asked ≡ blocker lock (queue_at at.now queues.old.entries).0) }
     ensures queues { OnOk result ((r : RecordId) → queue_at r queues.new.entries ≡ (if is_record at.now r then after_ask lock (queue_at r queues.old.entries) else queue_at r queues.old.entries)) }
-    ensures pending { IfOk result (λ asked. (t : TxnId) → at_txn t pending.new.entries ≡ (if is_same lock.txn t then option_map_or (λ _. Some at.now) (owner_in asked) None else at_txn t pending.old.entries)) }
+    ensures pending { IfOk result (λ asked. (t : TxnId) → at_txn t pending.new.entries ≡ (if is_same_txn lock.txn t then option_map_or (λ _. Some at.now) (owner_in asked) None else at_txn t pending.old.entries)) }
     ensures err { OnErr result (IsSameTable (record { records = queues.old.entries; pending = pending.old.entries }) (record { records = queues.new.entries; pending = pending.new.entries })) }
 {
     let Some(owner) = lists::blocker_in(owners_at(queues, at), lock) else {
@@ -57,7 +59,7 @@ fn grant_now(
     requires clear { is_blocked (queue_at at.now queues.old.entries).0 lock ≡ false }
     ensures table { IsTable queues.new.entries lists.new.entries pending.new.entries }
     ensures queues { OnOk result ((r : RecordId) → queue_at r queues.new.entries ≡ (if is_record at.now r then after_ask lock (queue_at r queues.old.entries) else queue_at r queues.old.entries)) }
-    ensures pending { OnOk result ((t : TxnId) → at_txn t pending.new.entries ≡ (if is_same lock.txn t then None else at_txn t pending.old.entries)) }
+    ensures pending { OnOk result ((t : TxnId) → at_txn t pending.new.entries ≡ (if is_same_txn lock.txn t then None else at_txn t pending.old.entries)) }
     ensures err { OnErr result (IsSameTable (record { records = queues.old.entries; pending = pending.old.entries }) (record { records = queues.new.entries; pending = pending.new.entries })) }
 {
     list_at(lists, alloc, lock.txn, at)?;
@@ -80,7 +82,7 @@ fn wait_now(
     requires blocked { is_blocked (queue_at at.now queues.old.entries).0 lock ≡ true }
     ensures table { IsTable queues.new.entries lists.new.entries pending.new.entries }
     ensures queues { OnOk result ((r : RecordId) → queue_at r queues.new.entries ≡ (if is_record at.now r then after_ask lock (queue_at r queues.old.entries) else queue_at r queues.old.entries)) }
-    ensures pending { OnOk result ((t : TxnId) → at_txn t pending.new.entries ≡ (if is_same lock.txn t then Some at.now else at_txn t pending.old.entries)) }
+    ensures pending { OnOk result ((t : TxnId) → at_txn t pending.new.entries ≡ (if is_same_txn lock.txn t then Some at.now else at_txn t pending.old.entries)) }
     ensures err { OnErr result (IsSameTable (record { records = queues.old.entries; pending = pending.old.entries }) (record { records = queues.new.entries; pending = pending.new.entries })) }
 {
     list_at(lists, alloc, lock.txn, at)?;
@@ -94,13 +96,13 @@ fn wait_now(
     }
 }
 
-// Notes that a transaction waits on a record. Want of memory changes nothing.
+// Notes that a transaction waits on a record. Running out of memory changes nothing.
 fn note_wait(
     pending: &mut BTreeMap<TxnId, RecordId>,
     txn: TxnId,
     at: &RecordId,
 ) -> Result<(), AllocError>
-    ensures ok { OnOk result ((t : TxnId) → at_txn t pending.new.entries ≡ (if is_same txn t then Some at.now else at_txn t pending.old.entries)) }
+    ensures ok { OnOk result ((t : TxnId) → at_txn t pending.new.entries ≡ (if is_same_txn txn t then Some at.now else at_txn t pending.old.entries)) }
     ensures err { OnErr result ((t : TxnId) → at_txn t pending.new.entries ≡ at_txn t pending.old.entries) }
 {
     let key = copy_of(at)?;
@@ -116,7 +118,7 @@ pub(crate) fn cancel_in(
 )
     requires { (r : RecordId) → has_lock txn (queue_at r queues.old.entries).1 ≡ true → at_txn txn pending.old.entries ≡ Some r }
     ensures queues { (r : RecordId) → queue_at r queues.new.entries ≡ after_cancel txn (queue_at r queues.old.entries) }
-    ensures pending { (t : TxnId) → at_txn t pending.new.entries ≡ (if is_same txn t && option_map_or (λ r. has_lock txn (queue_at r queues.old.entries).1) (at_txn txn pending.old.entries) false then None else at_txn t pending.old.entries) }
+    ensures pending { (t : TxnId) → at_txn t pending.new.entries ≡ (if is_same_txn txn t && option_map_or (λ r. has_lock txn (queue_at r queues.old.entries).1) (at_txn txn pending.old.entries) false then None else at_txn t pending.old.entries) }
 {
     let Some(at) = pending.get(&txn) else {
         return;
@@ -137,7 +139,7 @@ pub(crate) fn release_in(
     requires settled { (r : RecordId) → IsSettled (queue_at r queues.old.entries) }
     requires listed { (r : RecordId) → is_listed lists.old.entries txn r ≡ false → IsOut txn (queue_at r queues.old.entries) }
     ensures queues { (r : RecordId) → queue_at r queues.new.entries ≡ after_release txn (queue_at r queues.old.entries) }
-    ensures lists { (t : TxnId) (r : RecordId) → is_same txn t ≡ false → is_listed lists.new.entries t r ≡ is_listed lists.old.entries t r }
+    ensures lists { (t : TxnId) (r : RecordId) → is_same_txn txn t ≡ false → is_listed lists.new.entries t r ≡ is_listed lists.old.entries t r }
 {
     let Some(list) = lists.remove(&txn) else {
         return;

@@ -7,9 +7,9 @@ ghost use Rattle.lock_table.specs.Records.{start_bound, end_bound};
 use crate::lists::lesser_of;
 use crate::queue::Queue;
 use crate::{Lock, RecordId};
-use je_order::{Bound as Place, TxnId};
+use je_order::{Bound, TxnId};
 use std::collections::BTreeMap;
-use std::ops::Bound;
+use std::ops;
 
 // The lesser of a transaction and the least owner.
 fn least_with(found: Option<TxnId>, owners: &[Lock]) -> Option<TxnId>
@@ -34,21 +34,21 @@ pub(crate) fn least_in(queues: &BTreeMap<RecordId, Queue>, db: u32) -> Option<Tx
 }
 
 // What stands before a database's first record: the end of the database before it.
-fn start_of(db: u32) -> Bound<RecordId>
+fn start_of(db: u32) -> ops::Bound<RecordId>
     ensures { result ≡ start_bound db }
 {
     if db == 0 {
-        return Bound::Unbounded;
+        return ops::Bound::Unbounded;
     }
-    Bound::Excluded(RecordId {
+    ops::Bound::Excluded(RecordId {
         db: db - 1,
-        at: Place::End,
+        at: Bound::End,
     })
 }
 
 // The end of a database.
-fn end_of(db: u32) -> Bound<RecordId>
+fn end_of(db: u32) -> ops::Bound<RecordId>
     ensures { result ≡ end_bound db }
 {
-    Bound::Included(RecordId { db, at: Place::End })
+    ops::Bound::Included(RecordId { db, at: Bound::End })
 }

@@ -3,7 +3,7 @@ ghost use Rattle.std.specs.Prelude.{◌≡◌, ◌&&◌, true, false, if◌then�
 ghost use Rattle.std.specs.BTreeSet.{contains as set_has};
 ghost use Rattle.je_order.specs.declared.txn_id.TxnId.{TxnId};
 ghost use Rattle.lock_table.specs.declared.record_id.RecordId.{RecordId};
-ghost use Rattle.lock_table.specs.Locks.{is_same};
+ghost use Rattle.je_order.specs.Transactions.{is_same_txn};
 ghost use Rattle.lock_table.specs.Records.{record_cmp, is_record};
 ghost use Rattle.lock_table.specs.Table.{is_listed};
 
@@ -21,14 +21,14 @@ fn list_of(alloc: Global, key: RecordId) -> Result<BTreeSet<RecordId>, AllocErro
     Ok(list)
 }
 
-// Lists a record at a transaction. Want of memory changes nothing.
+// Lists a record at a transaction. Running out of memory changes nothing.
 pub(crate) fn list_at(
     lists: &mut BTreeMap<TxnId, BTreeSet<RecordId>>,
     alloc: Global,
     txn: TxnId,
     at: &RecordId,
 ) -> Result<(), AllocError>
-    ensures ok { OnOk result ((t : TxnId) (r : RecordId) → is_listed lists.new.entries t r ≡ (if is_same txn t && is_record at.now r then true else is_listed lists.old.entries t r)) }
+    ensures ok { OnOk result ((t : TxnId) (r : RecordId) → is_listed lists.new.entries t r ≡ (if is_same_txn txn t && is_record at.now r then true else is_listed lists.old.entries t r)) }
     ensures err { OnErr result ((t : TxnId) (r : RecordId) → is_listed lists.new.entries t r ≡ is_listed lists.old.entries t r) }
 {
     let key = copy_of(at)?;
@@ -43,7 +43,7 @@ pub(crate) fn list_at(
 
 // Takes a record out of a transaction's list. It takes no memory.
 pub(crate) fn unlist_at(lists: &mut BTreeMap<TxnId, BTreeSet<RecordId>>, txn: TxnId, at: &RecordId)
-    ensures { (t : TxnId) (r : RecordId) → is_listed lists.new.entries t r ≡ (if is_same txn t && is_record at.now r then false else is_listed lists.old.entries t r) }
+    ensures { (t : TxnId) (r : RecordId) → is_listed lists.new.entries t r ≡ (if is_same_txn txn t && is_record at.now r then false else is_listed lists.old.entries t r) }
 {
     let Some(list) = lists.get_mut(&txn) else {
         return;

@@ -1,7 +1,7 @@
 // The work on one record's owners and waits, over plain lists.
 ghost use Rattle.std.specs.Prelude.{◌≡◌, ◌+◌, ◌<◌, ◌≤◌, Some, IfOk, map, vec_len, vec_capacity};
 ghost use Rattle.std.specs.List.{filter, find};
-ghost use Rattle.lock_table.specs.Locks.{has_lock, without, held_by, is_blocked, blocker, lesser, with_lock, with_type, upgraded_by, set_by, granted, is_write, writer_in, is_of, is_blocking, waited_for, after_release};
+ghost use Rattle.lock_table.specs.Locks.{has_lock, without_txn, held_by, is_blocked, blocker, lesser, with_lock, with_type, upgraded_by, set_by, granted, is_write, writer_in, is_of, is_blocking, waited_for, after_release};
 
 use crate::Lock;
 use je_order::TxnId;
@@ -125,7 +125,7 @@ pub(crate) fn waited_in(
 
 // Takes the transaction's locks out of the list. It takes no memory.
 pub(crate) fn remove_from(locks: &mut Vec<Lock>, txn: TxnId)
-    ensures items { locks.new.items ≡ without txn locks.old.items }
+    ensures items { locks.new.items ≡ without_txn txn locks.old.items }
     ensures capacity { vec_capacity locks.new ≡ vec_capacity locks.old }
     ensures len { vec_len locks.new ≤ vec_len locks.old }
 {

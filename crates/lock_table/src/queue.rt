@@ -1,6 +1,6 @@
 // The owners and the waits of one record.
 ghost use Rattle.std.specs.Prelude.{◌≡◌, ◌==◌, ◌&&◌, ◌++◌, ◌∷◌, [], length, OnOk, OnErr};
-ghost use Rattle.lock_table.specs.Locks.{has_lock, without, held_by, is_blocked, blocker, with_lock, after_ask, after_cancel, after_release, after_give_back};
+ghost use Rattle.lock_table.specs.Locks.{has_lock, without_txn, held_by, is_blocked, blocker, with_lock, after_ask, after_cancel, after_release, after_give_back};
 
 use crate::{Lock, lists};
 use je_order::TxnId;

@@ -40,7 +40,7 @@ fn first_queue(alloc: Global, lock: Lock) -> Result<Queue, AllocError>
     Ok(queue)
 }
 
-// A transaction asks for a lock on a record. Want of memory changes nothing.
+// A transaction asks for a lock on a record. Running out of memory changes nothing.
 pub(crate) fn ask_at(
     queues: &mut BTreeMap<RecordId, Queue>,
     alloc: Global,

@@ -6,7 +6,8 @@ ghost use Rattle.je_order.specs.declared.txn_id.TxnId.{TxnId};
 ghost use Rattle.lock_mode.specs.declared.lock_type.LockType.{LockType};
 ghost use Rattle.lock_table.specs.declared.record_id.RecordId.{RecordId};
 ghost use Rattle.lock_table.specs.declared.lock.Lock.{Lock};
-ghost use Rattle.lock_table.specs.Locks.{is_same, held_by, blocker, after_ask, after_cancel, after_release, after_give_back, WasHeld, lock_of, writer_in, waited_for};
+ghost use Rattle.lock_table.specs.Locks.{held_by, blocker, after_ask, after_cancel, after_release, after_give_back, WasHeld, lock_of, writer_in, waited_for};
+ghost use Rattle.je_order.specs.Transactions.{is_same_txn};
 ghost use Rattle.lock_table.specs.Records.{is_record, queue_at};
 ghost use Rattle.lock_table.specs.Table.{locks_at, pending_at, is_waiting, was_granted, owner_in, waits_for, wait_pairs, holder_of, IsSameTable, IsLockTable};
 
@@ -56,7 +57,7 @@ impl LockTable {
     }
 
     /// Asks for a lock. It waits exactly where it conflicts with another owner, and the least of these
-    /// is the answer's owner; the wait then stands until a grant or `cancel`. The one error is want of
+    /// is the answer's owner; the wait then stands until a grant or `cancel`. The only error is out of
     /// memory, and nothing is changed by it.
     pub fn ask(
         &mut self,
@@ -68,7 +69,7 @@ impl LockTable {
         requires { is_waiting txn self.old ≡ false }
         ensures answer { IfOk result (λ answer. owner_in answer ≡ blocker (lock_of txn asked) (locks_at at.now self.old).0) }
         ensures locks { OnOk result ((r : RecordId) → locks_at r self.new ≡ (if is_record at.now r then after_ask (lock_of txn asked) (locks_at r self.old) else locks_at r self.old)) }
-        ensures pending { IfOk result (λ answer. (t : TxnId) → pending_at t self.new ≡ (if is_same txn t then option_map_or (λ _. Some at.now) (owner_in answer) None else pending_at t self.old)) }
+        ensures pending { IfOk result (λ answer. (t : TxnId) → pending_at t self.new ≡ (if is_same_txn txn t then option_map_or (λ _. Some at.now) (owner_in answer) None else pending_at t self.old)) }
         ensures settled { IsLockTable self.new }
         ensures err { OnErr result (IsSameTable self.old self.new) }
     {
@@ -86,7 +87,7 @@ impl LockTable {
     /// Takes back the transaction's wait, if it has one. It takes no memory.
     pub fn cancel(&mut self, txn: TxnId)
         ensures locks { (r : RecordId) → locks_at r self.new ≡ after_cancel txn (locks_at r self.old) }
-        ensures pending { (t : TxnId) → pending_at t self.new ≡ (if is_same txn t && is_waiting txn self.old then None else pending_at t self.old) }
+        ensures pending { (t : TxnId) → pending_at t self.new ≡ (if is_same_txn txn t && is_waiting txn self.old then None else pending_at t self.old) }
         ensures settled { IsLockTable self.new }
     {
         cancel_in(&mut self.queues, &mut self.pending, txn);
@@ -108,7 +109,7 @@ impl LockTable {
     /// of arrival where it conflicts with no other owner. It takes no memory.
     pub fn release_all(&mut self, txn: TxnId)
         ensures locks { (r : RecordId) → locks_at r self.new ≡ after_release txn (locks_at r self.old) }
-        ensures pending { (t : TxnId) → pending_at t self.new ≡ (if is_same txn t then None else pending_at t self.old) }
+        ensures pending { (t : TxnId) → pending_at t self.new ≡ (if is_same_txn txn t then None else pending_at t self.old) }
         ensures settled { IsLockTable self.new }
     {
         release_in(&mut self.queues, &mut self.lists, txn);
@@ -164,8 +165,8 @@ impl LockTable {
         least_in(&self.queues, db)
     }
 
-    /// Those that the transaction waits for: the owners that its wait conflicts with. The one error is
-    /// want of memory.
+    /// Those that the transaction waits for: the owners that its wait conflicts with. The only error
+    /// is out of memory.
     pub fn blockers(&self, alloc: Global, txn: TxnId) -> Result<Vec<TxnId>, AllocError>
         ensures { IfOk result (λ found. found.items ≡ waits_for txn self.now) }
     {
@@ -181,7 +182,7 @@ impl LockTable {
     }
 
     /// Who waits for whom: each pair is a waiter and an owner that its wait conflicts with. It walks all
-    /// waits. The one error is want of memory.
+    /// waits. The only error is out of memory.
     pub fn waits(&self, alloc: Global) -> Result<List<(TxnId, TxnId)>, AllocError>
         ensures { IfOk result (λ pairs. pairs ≡ wait_pairs self.now) }
     {

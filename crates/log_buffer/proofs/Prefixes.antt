@@ -6,21 +6,21 @@ use Rattle.std.proofs.lemmas.Bool.{cases_lt, eqb-true}
 use Rattle.std.proofs.lemmas.List.{append-nil, take_at}
 use Rattle.std.specs.Option.{option_map as mapped}
 use Rattle.je_disk.specs.States.{State, Files, appended, appended_by, content, created, created_by, cut}
-use Rattle.je_disk.proofs.Effects.{cut-reads}
+use Rattle.je_disk.proofs.CallEffects.{cut-reads}
 use Rattle.log_entry.specs.declared.entry.Entry.{Entry}
 use Rattle.log_entry.specs.declared.decoder.Decoded.TheVariants.{Torn as NotWhole}
 use Rattle.log_entry.specs.declared.decoder.Torn.TheVariants.{Short}
 use Rattle.log_entry.specs.Reading.{decoded}
-use Rattle.log_file.specs.declared.found.Found.TheVariants.{Run}
-use Rattle.log_file.specs.Scan.{found_by, found_in, no_run, run_with}
+use Rattle.log_file.specs.declared.file_scan.FileScan.TheVariants.{Prefix}
+use Rattle.log_file.specs.Scan.{scan_by, scan_of, no_prefix, prefix_with}
 use Rattle.log_file.specs.Log.{Log, IsLog, AreFileEntries, file_bytes, files_of_log}
-use Rattle.log_file.proofs.FoundLaws.{are_found_again}
+use Rattle.log_file.proofs.FileScanLaws.{are_found_again}
 use Rattle.log_buffer.specs.declared.buffer.LogBuffer.{LogBuffer}
-use Rattle.log_buffer.specs.Buffer.{joined, tail_of}
+use Rattle.log_buffer.specs.Buffer.{joined, unwritten_of}
 use Rattle.log_buffer.specs.Crash.{HoldsPrefix, HoldPrefixes, entries_at}
 use Rattle.log_buffer.specs.Log.{HasLog, log_with}
-use Rattle.log_buffer.proofs.Chances.{cut_prefix, log_file_at}
-use Rattle.log_buffer.proofs.Kept.{ReadUpTo}
+use Rattle.log_buffer.proofs.ChanceMatches.{cut_prefix, log_file_at}
+use Rattle.log_buffer.proofs.CrashWrites.{ReadUpTo}
 
 -- ---- one file
 
@@ -28,18 +28,18 @@ pub nothing_torn : decoded [] ≡ NotWhole Short
 unfolding decoded
 nothing_torn = refl
 
--- a file that was spelled, with nothing behind it
-pub found_alone : (f : ℕ) (entries : List Entry) → f < 2 ^ 32 → AreFileEntries entries → found_in f (file_bytes f entries) ≡ Run (run_with entries)
-found_alone f entries lt ok = ap (found_in f) (sym (append-nil (file_bytes f entries))) ∙ are_found_again f entries [] Short lt ok nothing_torn
+-- a file that was encoded, with nothing behind it
+pub found_alone : (f : ℕ) (entries : List Entry) → f < 2 ^ 32 → AreFileEntries entries → scan_of f (file_bytes f entries) ≡ Prefix (prefix_with entries)
+found_alone f entries lt ok = ap (scan_of f) (sym (append-nil (file_bytes f entries))) ∙ are_found_again f entries [] Short lt ok nothing_torn
 
 pub empty_prefix : (f : ℕ) (entries : List Entry) → HoldsPrefix f entries []
-empty_prefix f entries = record { run = no_run; found = ap (found_by f []) nothing_torn; more = entries; is = refl }
+empty_prefix f entries = record { prefix = no_prefix; found = ap (scan_by f []) nothing_torn; more = entries; is = refl }
 
 -- a prefix that was cut
 prefix_cut : (f n : ℕ) (entries : List Entry) (bytes : List ℕ) → HoldsPrefix f entries bytes → HoldsPrefix f entries (take n bytes)
 prefix_cut f n entries bytes holds =
-    let cut = cut_prefix f n bytes holds.run holds.found in
-    record { run = cut.run; found = cut.found; more = cut.more ++ holds.more; is = holds.is ∙ ap (λ (l : List Entry). l ++ holds.more) cut.is ∙ append_assoc cut.run.entries cut.more holds.more }
+    let cut = cut_prefix f n bytes holds.prefix holds.found in
+    record { prefix = cut.prefix; found = cut.found; more = cut.more ++ holds.more; is = holds.is ∙ ap (λ (l : List Entry). l ++ holds.more) cut.is ∙ append_assoc cut.prefix.entries cut.more holds.more }
 
 -- what a log has in a file begins with these bytes, or they are none
 abbrev IsCutOf : Log → ℕ → List ℕ → Type 0
@@ -51,34 +51,34 @@ cut_holds log f bytes is (inr cut) =
     let ok = log_file_at log f cut.0 is.each cut.2 in
     let front : take (length bytes) (file_bytes f cut.0) ≡ bytes = ap (take (length bytes)) cut.3 ∙ take_at bytes cut.1 (length bytes) refl in
     subst (λ (es : List Entry). HoldsPrefix f es bytes) (sym (ap (λ (o : Option (List Entry)). unwrap_or o []) cut.2))
-    (subst (HoldsPrefix f cut.0) front (cut_prefix f (length bytes) (file_bytes f cut.0) (run_with cut.0) (found_alone f cut.0 ok.0 ok.1)))
+    (subst (HoldsPrefix f cut.0) front (cut_prefix f (length bytes) (file_bytes f cut.0) (prefix_with cut.0) (found_alone f cut.0 ok.0 ok.1)))
 
--- a file and what follows it in the tail are all that the log has there, or it has none
-record IsNone (log : Log) (f : ℕ) (there tail : List ℕ) : Type 0 where
+-- a file and what follows it in the write buffer are all that the log has there, or it has none
+record IsNone (log : Log) (f : ℕ) (there unwritten : List ℕ) : Type 0 where
   there_is : there ≡ []
-  tail_is : tail ≡ []
+  unwritten_is : unwritten ≡ []
 
-record IsAll (log : Log) (f : ℕ) (there tail : List ℕ) : Type 0 where
+record IsAll (log : Log) (f : ℕ) (there unwritten : List ℕ) : Type 0 where
   entries : List Entry
   found : lookup (λ n. n == f) log ≡ Some entries
-  is : file_bytes f entries ≡ there ++ tail
+  is : file_bytes f entries ≡ there ++ unwritten
 
-joined_all : (log : Log) (f : ℕ) (there : Option (List ℕ)) (tail : List ℕ) → joined there tail ≡ files_of_log log f → IsNone log f (unwrap_or there []) tail ⊎ IsAll log f (unwrap_or there []) tail
-joined_all log f there tail is = by_parts (lookup (λ n. n == f) log) tail refl is where
+joined_all : (log : Log) (f : ℕ) (there : Option (List ℕ)) (unwritten : List ℕ) → joined there unwritten ≡ files_of_log log f → IsNone log f (unwrap_or there []) unwritten ⊎ IsAll log f (unwrap_or there []) unwritten
+joined_all log f there unwritten is = by_parts (lookup (λ n. n == f) log) unwritten refl is where
   some_same : (x y : List ℕ) → (let o : Option (List ℕ) = Some x in o) ≡ Some y → x ≡ y
   some_same x y e = cc
 
   by_parts : (o : Option (List Entry)) (t : List ℕ) → lookup (λ n. n == f) log ≡ o → joined there t ≡ option_map (file_bytes f) o → IsNone log f (unwrap_or there []) t ⊎ IsAll log f (unwrap_or there []) t
-  by_parts None [] e same = inl (record { there_is = ap (λ (x : Option (List ℕ)). unwrap_or x []) same; tail_is = refl })
+  by_parts None [] e same = inl (record { there_is = ap (λ (x : Option (List ℕ)). unwrap_or x []) same; unwritten_is = refl })
   by_parts None (b ∷ t) e same = absurd cc
   by_parts (Some es) [] e same = inr (record { entries = es; found = e; is = sym (ap (λ (x : Option (List ℕ)). unwrap_or x []) same) ∙ sym (append-nil (unwrap_or there [])) })
   by_parts (Some es) (b ∷ t) e same = inr (record { entries = es; found = e; is = sym (some_same (unwrap_or there [] ++ b ∷ t) (file_bytes f es) same) })
 
-joined_cut : (log : Log) (f : ℕ) (there : Option (List ℕ)) (tail : List ℕ) → joined there tail ≡ files_of_log log f → IsCutOf log f (unwrap_or there [])
-joined_cut log f there tail is = by_all (joined_all log f there tail is) where
-  by_all : IsNone log f (unwrap_or there []) tail ⊎ IsAll log f (unwrap_or there []) tail → IsCutOf log f (unwrap_or there [])
+joined_cut : (log : Log) (f : ℕ) (there : Option (List ℕ)) (unwritten : List ℕ) → joined there unwritten ≡ files_of_log log f → IsCutOf log f (unwrap_or there [])
+joined_cut log f there unwritten is = by_all (joined_all log f there unwritten is) where
+  by_all : IsNone log f (unwrap_or there []) unwritten ⊎ IsAll log f (unwrap_or there []) unwritten → IsCutOf log f (unwrap_or there [])
   by_all (inl none) = inl none.there_is
-  by_all (inr all) = inr (all.entries, tail, all.found, all.is)
+  by_all (inr all) = inr (all.entries, unwritten, all.found, all.is)
 
 -- the same with the first of the bytes that are to follow it
 part_cut : (log : Log) (f : ℕ) (there : Option (List ℕ)) (bytes part rest : List ℕ) → bytes ≡ part ++ rest → joined there bytes ≡ files_of_log log f → IsCutOf log f (unwrap_or there [] ++ part)
@@ -88,21 +88,21 @@ part_cut log f there bytes part rest parts is = by_all (joined_all log f there b
   no_part (b ∷ p) e = absurd cc
 
   by_all : IsNone log f (unwrap_or there []) bytes ⊎ IsAll log f (unwrap_or there []) bytes → IsCutOf log f (unwrap_or there [] ++ part)
-  by_all (inl none) = inl (ap (λ (x : List ℕ). x ++ part) none.there_is ∙ no_part part (sym none.tail_is ∙ parts))
+  by_all (inl none) = inl (ap (λ (x : List ℕ). x ++ part) none.there_is ∙ no_part part (sym none.unwritten_is ∙ parts))
   by_all (inr all) = inr (all.entries, rest, all.found, all.is ∙ ap (λ (x : List ℕ). unwrap_or there [] ++ x) parts ∙ sym (append_assoc (unwrap_or there []) part rest))
 
 -- ---- all files
 
-pub tail_prefixes : (log : Log) (reads : Files) (tail : ℕ → List ℕ) → IsLog log → ((f : ℕ) → joined (reads f) (tail f) ≡ files_of_log log f) → HoldPrefixes log reads
-tail_prefixes log reads tail is told f = cut_holds log f (content reads f) is (joined_cut log f (reads f) (tail f) (told f))
+pub unwritten_prefixes : (log : Log) (reads : Files) (unwritten : ℕ → List ℕ) → IsLog log → ((f : ℕ) → joined (reads f) (unwritten f) ≡ files_of_log log f) → HoldPrefixes log reads
+unwritten_prefixes log reads unwritten is observed f = cut_holds log f (content reads f) is (joined_cut log f (reads f) (unwritten f) (observed f))
 
 -- files that read as a log
 pub read_prefixes : (log : Log) (reads : Files) → IsLog log → ((f : ℕ) → reads f ≡ files_of_log log f) → HoldPrefixes log reads
-read_prefixes log reads is read = tail_prefixes log reads (λ _. []) is read
+read_prefixes log reads is read = unwritten_prefixes log reads (λ _. []) is read
 
 -- the files below a buffer that has a log
-pub told_prefixes : {D : Type 0} (tells : Bool) (state : State) (buffer : LogBuffer D) (log : Log) → tells ≡ true → HasLog tells state buffer log → HoldPrefixes log state.reads
-told_prefixes tells state buffer log told has = tail_prefixes log state.reads (tail_of buffer) has.is_log (has.told told)
+pub observed_prefixes : {D : Type 0} (observable : Bool) (state : State) (buffer : LogBuffer D) (log : Log) → observable ≡ true → HasLog observable state buffer log → HoldPrefixes log state.reads
+observed_prefixes observable state buffer log observed has = unwritten_prefixes log state.reads (unwritten_of buffer) has.is_log (has.observed observed)
 
 -- files of which the first ones are whole and the others are not there
 pub upto_prefixes : (log : Log) (n : ℕ) (reads : Files) → IsLog log → ReadUpTo log n reads → HoldPrefixes log reads
@@ -148,9 +148,9 @@ appended_content f part s g = by_there (s.reads f) where
 -- the first of the bytes that are to follow a file were put there
 pub grown_prefixes : (log : Log) (f : ℕ) (bytes part rest : List ℕ) (s : State) → IsLog log → HoldPrefixes log s.reads → bytes ≡ part ++ rest → joined (s.reads f) bytes ≡ files_of_log log f →
     HoldPrefixes log (appended f part s).reads
-grown_prefixes log f bytes part rest s is holds parts told g = subst (HoldsPrefix g (entries_at log g)) (sym (appended_content f part s g)) (by_file (g == f) refl) where
+grown_prefixes log f bytes part rest s is holds parts observed g = subst (HoldsPrefix g (entries_at log g)) (sym (appended_content f part s g)) (by_file (g == f) refl) where
   here : HoldsPrefix f (entries_at log f) (content s.reads f ++ part)
-  here = cut_holds log f (content s.reads f ++ part) is (part_cut log f (s.reads f) bytes part rest parts told)
+  here = cut_holds log f (content s.reads f ++ part) is (part_cut log f (s.reads f) bytes part rest parts observed)
 
   by_file : (b : Bool) → (g == f) ≡ b → HoldsPrefix g (entries_at log g) (cond b (content s.reads f ++ part) (content s.reads g))
   by_file true same = subst (λ (n : ℕ). HoldsPrefix n (entries_at log n) (content s.reads f ++ part)) (sym (eqb-true _ _ same)) here
@@ -190,4 +190,4 @@ pub prefixes_grow : (f : ℕ) (entry : Entry) (log : Log) (reads : Files) → Ho
 prefixes_grow f entry log reads holds g =
     let here = holds g in
     let more = more_at f entry log g in
-    record { run = here.run; found = here.found; more = here.more ++ more.more; is = more.is ∙ ap (λ (l : List Entry). l ++ more.more) here.is ∙ append_assoc here.run.entries here.more more.more }
+    record { prefix = here.prefix; found = here.found; more = here.more ++ more.more; is = more.is ∙ ap (λ (l : List Entry). l ++ more.more) here.is ∙ append_assoc here.prefix.entries here.more more.more }

@@ -4,7 +4,7 @@ use Rattle.std.specs.Prelude.{IsSome}
 use Rattle.std.proofs.lemmas.Bool.{cases_order}
 use Rattle.je_disk.specs.States.{State, Files, appended, appended_by, created, created_by, synced, IsPartOfAppend}
 use Rattle.je_disk.specs.Moments.{History, Passes, now}
-use Rattle.je_disk.proofs.Moments.{passes_then, passes_weaken}
+use Rattle.je_disk.proofs.MomentLaws.{passes_then, passes_weaken}
 use Rattle.log_file.specs.Log.{Log}
 use Rattle.log_buffer.specs.Crash.{FilesStay, IsKeptSince, KeepsRead, KeptThrough}
 use Rattle.log_buffer.specs.Writing.{IsPutNext}

@@ -1,5 +1,5 @@
 pub mod Flip
-pub mod Tail
+pub mod WriteBuffer
 pub mod Reads
 pub mod Buffer
 pub mod Log

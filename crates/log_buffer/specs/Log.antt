@@ -1,17 +1,17 @@
--- The log of a buffer: what its disk's files and its tail are together.
+-- The log of a buffer: what its disk's files and its write buffer are together.
 use Rattle.std.specs.Prelude.{◌≡◌, ◌≢◌, ℕ, ◌+◌, ◌*◌, ◌<◌, ◌^◌, ◌==◌, ◌⊎◌, not, nat_le, if◌then◌else◌, Bool, true, Some, None, List, [], ◌∷◌, ◌++◌, length}
 use Rattle.std.specs.Map.{lookup}
 use Rattle.std.specs.List.{filter}
 use Rattle.je_disk.specs.States.{State, Files, content}
 use Rattle.log_entry.specs.declared.entry.Entry.{Entry}
 use Rattle.log_entry.specs.Body.{IsEntry}
-use Rattle.log_entry.specs.Spelling.{spelling}
-use Rattle.log_entry.specs.Run.{last_from}
+use Rattle.log_entry.specs.Encoding.{encoding}
+use Rattle.log_entry.specs.Prefix.{last_from}
 use Rattle.log_file.specs.Scan.{sizes_of}
 use Rattle.log_file.specs.Log.{Log, IsLog, file_bytes, files_of_log}
 use Rattle.log_buffer.specs.declared.buffer.LogBuffer.{LogBuffer}
 use Rattle.log_buffer.specs.Flip.{header_size}
-use Rattle.log_buffer.specs.Buffer.{file_of, offset_of, last_of, first_of, written_of, base_of, tail_of, joined}
+use Rattle.log_buffer.specs.Buffer.{file_of, offset_of, last_of, first_of, written_of, flushed_len_of, unwritten_of, joined}
 
 -- a log with an entry more, at the end of this file, which begins where it is not there
 abbrev pub log_with : ℕ → Entry → Log → Log
@@ -45,31 +45,31 @@ pub record IsFront (log : Log) (f : ℕ) (bytes : List ℕ) : Type 0 where
   pub in_log : lookup (λ n. n == f) log ≡ Some (entries ++ more)
   pub bytes_are : (bytes ≡ []) ⊎ (bytes ≡ file_bytes f entries)
 
--- over a disk in this state the buffer has this log: what a file reads as and what the tail has for it are the file's bytes
-pub record HasLog {D : Type 0} (tells : Bool) (state : State) (buffer : LogBuffer D) (log : Log) : Type 0 where
+-- over a disk in this state the buffer has this log: what a file reads as and what the write buffer has for it are the file's bytes
+pub record HasLog {D : Type 0} (observable : Bool) (state : State) (buffer : LogBuffer D) (log : Log) : Type 0 where
   pub is_log : IsLog log
   pub ends : EndsAt log (file_of buffer) (offset_of buffer) (last_of buffer)
-  pub told : tells ≡ true → (f : ℕ) → joined (state.reads f) (tail_of buffer f) ≡ files_of_log log f
-  pub base : tells ≡ true → written_of buffer ≡ first_of buffer → base_of buffer ≡ length (content state.reads (first_of buffer))
-  -- a file that begins in the tail is not on the disk
-  pub ahead : tells ≡ true → (f : ℕ) → first_of buffer < f → state.reads f ≡ None
-  pub front : tells ≡ true → written_of buffer ≡ first_of buffer → IsFront log (first_of buffer) (content state.reads (first_of buffer))
+  pub observed : observable ≡ true → (f : ℕ) → joined (state.reads f) (unwritten_of buffer f) ≡ files_of_log log f
+  pub flushed_len : observable ≡ true → written_of buffer ≡ first_of buffer → flushed_len_of buffer ≡ length (content state.reads (first_of buffer))
+  -- a file that begins in the write buffer is not on the disk
+  pub ahead : observable ≡ true → (f : ℕ) → first_of buffer < f → state.reads f ≡ None
+  pub front : observable ≡ true → written_of buffer ≡ first_of buffer → IsFront log (first_of buffer) (content state.reads (first_of buffer))
 
 -- the files are this log's, as the disk reads them
 abbrev pub ReadAs : Bool → Files → Log → Type 0
-ReadAs tells reads log = tells ≡ true → (f : ℕ) → reads f ≡ files_of_log log f
+ReadAs observable reads log = observable ≡ true → (f : ℕ) → reads f ≡ files_of_log log f
 
 -- the files are this log's, but for one that has no bytes or is not there
 abbrev pub ReadAsBut : Bool → ℕ → Files → Log → Type 0
-ReadAsBut tells file reads log = tells ≡ true → (content reads file ≡ []) × ((f : ℕ) → f ≢ file → reads f ≡ files_of_log log f)
+ReadAsBut observable file reads log = observable ≡ true → (content reads file ≡ []) × ((f : ℕ) → f ≢ file → reads f ≡ files_of_log log f)
 
--- bytes begin with an entry's spelling
-pub record Spells (bytes : List ℕ) (entry : Entry) : Type 0 where
+-- bytes begin with an entry's encoding
+pub record Encodes (bytes : List ℕ) (entry : Entry) : Type 0 where
   pub prev : ℕ
   pub rest : List ℕ
   pub is_entry : IsEntry entry
   pub small : prev < 2 ^ 32
-  pub bytes_are : bytes ≡ spelling entry prev ++ rest
+  pub bytes_are : bytes ≡ encoding entry prev ++ rest
 
 -- an entry of the log stands at this LSN: in its file, behind the header and the entries before it
 pub record StandsAt (log : Log) (at : ℕ) (entry : Entry) : Type 0 where

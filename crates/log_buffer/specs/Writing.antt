@@ -1,13 +1,13 @@
--- What a disk passes while a tail is written.
+-- What a disk passes while a write buffer is written.
 use Rattle.std.specs.Prelude.{◌≡◌, ◌<◌, ◌⊎◌, ℕ, None, List, [], ◌∷◌, length}
 use Rattle.je_disk.specs.States.{Files, State, created, appended, synced, IsEither, IsPartOfAppend}
 use Rattle.log_file.specs.Log.{Log, IsLog, files_of_log}
 use Rattle.log_buffer.specs.Buffer.{joined}
 
--- a tail has the rest of each of the log's files, and the files above `first` begin in it
-pub record IsTailOf (log : Log) (reads : Files) (tail : ℕ → List ℕ) (first : ℕ) : Type 0 where
+-- a write buffer has the rest of each of the log's files, and the files above `first` begin in it
+pub record IsUnwrittenOf (log : Log) (reads : Files) (unwritten : ℕ → List ℕ) (first : ℕ) : Type 0 where
   pub is_log : IsLog log
-  pub told : (f : ℕ) → joined (reads f) (tail f) ≡ files_of_log log f
+  pub observed : (f : ℕ) → joined (reads f) (unwritten f) ≡ files_of_log log f
   pub ahead : (f : ℕ) → first < f → reads f ≡ None
 
 -- some bytes are being put behind a file's

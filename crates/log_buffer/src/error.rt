@@ -9,9 +9,9 @@ pub enum LogErr {
     /// The disk failed: its count of faults rose, or stands at its last value. The buffer has failed: it
     /// touches the disk no more, and each later call answers this.
     Fault,
-    /// What was read is no entry; never over a disk that tells what it holds.
+    /// What was read is no entry; never over an observable disk.
     Damaged,
-    /// Want of memory. The buffer is as it was.
+    /// Out of memory. The buffer is as it was.
     Memory,
 }
 

@@ -3,11 +3,11 @@ ghost use Rattle.std.specs.Prelude.{◌≡◌, ◌+◌, ◌≤◌, ◌<◌, ◌�
 ghost use Rattle.je_disk.specs.Causes.{HasFault, HasCause};
 ghost use Rattle.je_disk.specs.Moments.{now};
 ghost use Rattle.je_disk.specs.States.{content};
-ghost use Rattle.log_entry.specs.declared.entry.Entry.{Entry as Found};
+ghost use Rattle.log_entry.specs.declared.entry.Entry.{Entry as Appended};
 ghost use Rattle.log_entry.specs.Reading.{number_at};
-ghost use Rattle.log_entry.specs.Spelling.{size_of};
+ghost use Rattle.log_entry.specs.Encoding.{size_of};
 ghost use Rattle.std.specs.Int.{w32};
-ghost use Rattle.log_buffer.specs.Log.{Spells};
+ghost use Rattle.log_buffer.specs.Log.{Encodes};
 ghost use Rattle.log_buffer.specs.Reads.{IsOnlyRead};
 
 use byteorder::{BigEndian, ByteOrder};
@@ -25,7 +25,7 @@ const BODY_MAX: u32 = 20_000_004;
 // The entry that stands at a place of these bytes.
 pub(crate) fn entry_in(alloc: Global, bytes: &[u8], at: usize) -> Result<Option<Entry>, AllocError>
     requires { at ≤ length bytes.now }
-    ensures { (entry : Found) → Spells (drop at bytes.now) entry → IfOk result (λ found. found ≡ Some entry) }
+    ensures { (entry : Appended) → Encodes (drop at bytes.now) entry → IfOk result (λ found. found ≡ Some entry) }
 {
     match decode_at(alloc, bytes, at)? {
         Decoded::Whole { entry, .. } => Ok(Some(entry)),
@@ -35,9 +35,9 @@ pub(crate) fn entry_in(alloc: Global, bytes: &[u8], at: usize) -> Result<Option<
 
 // Whether a file's bytes from an offset on fill this piece; then they do.
 fn fill<D: Disk>(disk: &mut D, f: FileNo, at: u32, into: &mut [u8]) -> Result<bool, DiskErr>
-    ensures whole { D.tells ≡ true → IfOk result (λ whole. IsTrue whole ↔ length into.old ≤ length (drop at (content (now (D.history disk.old)).reads f.0))) }
-    ensures bytes { D.tells ≡ true → IfOk result (λ whole. whole ≡ true → into.new ≡ take (length into.old) (drop at (content (now (D.history disk.old)).reads f.0))) }
-    ensures only_read { IsOnlyRead D.tells D.history D.sync_out D.read_out D.read_of disk.old disk.new }
+    ensures whole { D.observable ≡ true → IfOk result (λ whole. IsTrue whole ↔ length into.old ≤ length (drop at (content (now (D.history disk.old)).reads f.0))) }
+    ensures bytes { D.observable ≡ true → IfOk result (λ whole. whole ≡ true → into.new ≡ take (length into.old) (drop at (content (now (D.history disk.old)).reads f.0))) }
+    ensures only_read { IsOnlyRead D.observable D.history D.sync_out D.read_out D.read_of disk.old disk.new }
     ensures cause { HasFault (D.faults disk.old) (D.faults disk.new) result }
 {
     let len = into.len();
@@ -60,8 +60,8 @@ fn size_by(head: &[u8]) -> Option<usize>
 
 // How many bytes the entry has that stands at a place of a file.
 fn size_at<D: Disk>(disk: &mut D, f: FileNo, at: u32) -> Result<Option<usize>, DiskErr>
-    ensures found { (entry : Found) → D.tells ≡ true → Spells (drop at (content (now (D.history disk.old)).reads f.0)) entry → IfOk result (λ size. size ≡ Some (size_of entry)) }
-    ensures only_read { IsOnlyRead D.tells D.history D.sync_out D.read_out D.read_of disk.old disk.new }
+    ensures found { (entry : Appended) → D.observable ≡ true → Encodes (drop at (content (now (D.history disk.old)).reads f.0)) entry → IfOk result (λ size. size ≡ Some (size_of entry)) }
+    ensures only_read { IsOnlyRead D.observable D.history D.sync_out D.read_out D.read_of disk.old disk.new }
     ensures cause { HasFault (D.faults disk.old) (D.faults disk.new) result }
 {
     let mut head = [0; HEAD];
@@ -79,8 +79,8 @@ fn entry_into<D: Disk>(
     at: u32,
     piece: &mut [u8],
 ) -> Result<Option<Entry>, DiskErr>
-    ensures found { (entry : Found) → D.tells ≡ true → length piece.old ≡ size_of entry → Spells (drop at (content (now (D.history disk.old)).reads f.0)) entry → IfOk result (λ found. found ≡ Some entry) }
-    ensures only_read { IsOnlyRead D.tells D.history D.sync_out D.read_out D.read_of disk.old disk.new }
+    ensures found { (entry : Appended) → D.observable ≡ true → length piece.old ≡ size_of entry → Encodes (drop at (content (now (D.history disk.old)).reads f.0)) entry → IfOk result (λ found. found ≡ Some entry) }
+    ensures only_read { IsOnlyRead D.observable D.history D.sync_out D.read_out D.read_of disk.old disk.new }
     ensures cause { HasCause (D.faults disk.old) (D.faults disk.new) result }
 {
     if !fill(disk, f, at, piece)? {
@@ -98,8 +98,8 @@ fn entry_of<D: Disk>(
     at: u32,
     size: usize,
 ) -> Result<Option<Entry>, DiskErr>
-    ensures found { (entry : Found) → D.tells ≡ true → size ≡ size_of entry → Spells (drop at (content (now (D.history disk.old)).reads f.0)) entry → IfOk result (λ found. found ≡ Some entry) }
-    ensures only_read { IsOnlyRead D.tells D.history D.sync_out D.read_out D.read_of disk.old disk.new }
+    ensures found { (entry : Appended) → D.observable ≡ true → size ≡ size_of entry → Encodes (drop at (content (now (D.history disk.old)).reads f.0)) entry → IfOk result (λ found. found ≡ Some entry) }
+    ensures only_read { IsOnlyRead D.observable D.history D.sync_out D.read_out D.read_of disk.old disk.new }
     ensures cause { HasCause (D.faults disk.old) (D.faults disk.new) result }
 {
     let mut bytes = Vec::new(alloc);
@@ -114,8 +114,8 @@ pub(crate) fn entry_at<D: Disk>(
     f: FileNo,
     at: u32,
 ) -> Result<Option<Entry>, DiskErr>
-    ensures found { (entry : Found) → D.tells ≡ true → Spells (drop at (content (now (D.history disk.old)).reads f.0)) entry → IfOk result (λ found. found ≡ Some entry) }
-    ensures only_read { IsOnlyRead D.tells D.history D.sync_out D.read_out D.read_of disk.old disk.new }
+    ensures found { (entry : Appended) → D.observable ≡ true → Encodes (drop at (content (now (D.history disk.old)).reads f.0)) entry → IfOk result (λ found. found ≡ Some entry) }
+    ensures only_read { IsOnlyRead D.observable D.history D.sync_out D.read_out D.read_of disk.old disk.new }
     ensures cause { HasCause (D.faults disk.old) (D.faults disk.new) result }
 {
     match size_at(disk, f, at)? {

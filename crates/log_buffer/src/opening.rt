@@ -1,18 +1,18 @@
 // Buffers that begin and end.
 ghost use Rattle.std.specs.Prelude.{◌≡◌, ◌≤◌, ◌<◌, ◌/◌, ◌%◌, ◌^◌, ◌*◌, ◌++◌, ◌∷◌, [], true, false, None, length, IfOk, IfErr};
 ghost use Rattle.je_disk.specs.Moments.{now};
-ghost use Rattle.je_disk.specs.States.{synced_marks};
+ghost use Rattle.je_disk.specs.States.{synced_crash_states};
 ghost use Rattle.je_lsn.specs.Naming.{last_file};
-ghost use Rattle.log_entry.specs.Spelling.{spelling};
+ghost use Rattle.log_entry.specs.Encoding.{encoding};
 ghost use Rattle.log_entry.specs.declared.entry.Entry.TheVariants.{FileHeader};
 ghost use Rattle.log_file.specs.Log.{Log, IsLog, entries_of};
-ghost use Rattle.log_buffer.specs.Buffer.{disk_of, first_of, end_of, last_of, file_max_of, has_failed, tail_of, IsWritten};
+ghost use Rattle.log_buffer.specs.Buffer.{disk_of, first_of, end_of, last_of, file_max_of, has_failed, unwritten_of, IsWritten};
 ghost use Rattle.log_buffer.specs.Log.{HasLog, EndsAt, ReadAs, ReadAsBut};
 ghost use Rattle.log_buffer.specs.Crash.{Holds};
-ghost use Rattle.log_buffer.specs.Flip.{lsn_of, header_size};
+ghost use Rattle.log_buffer.specs.Flip.{pos_lsn, header_size};
 
 use crate::LogBuffer;
-use crate::tail::Tail;
+use crate::write_buffer::WriteBuffer;
 use je_disk::Disk;
 use je_lsn::{FileNo, Lsn};
 use std::alloc::{AllocError, Global};
@@ -25,32 +25,32 @@ impl<D: Disk> LogBuffer<D> {
         requires file { at / 2 ^ 32 ≤ last_file }
         requires file_max { file_max ≤ 2 ^ 30 }
         ensures disk { disk_of result ≡ disk }
-        ensures end { lsn_of (end_of result) ≡ at }
+        ensures end { pos_lsn (end_of result) ≡ at }
         ensures last { last_of result ≡ last }
         ensures file_max { file_max_of result ≡ file_max }
         ensures not_failed { has_failed result ≡ false }
         ensures written { IsWritten result }
-        ensures log { (log : Log) → IsLog log → EndsAt log (at / 2 ^ 32) (at % 2 ^ 32) last → ReadAs D.tells (now (D.history disk)).reads log
-            → HasLog D.tells (now (D.history disk)) result log }
-        ensures holds { D.tells ≡ true → (log : Log) → IsLog log → EndsAt log (at / 2 ^ 32) (at % 2 ^ 32) last → ReadAs D.tells (now (D.history disk)).reads log
-            → (now (D.history disk)).marks ≡ synced_marks (now (D.history disk)).reads → Holds log [] (length (entries_of log)) None (first_of result) (now (D.history disk)) }
+        ensures log { (log : Log) → IsLog log → EndsAt log (at / 2 ^ 32) (at % 2 ^ 32) last → ReadAs D.observable (now (D.history disk)).reads log
+            → HasLog D.observable (now (D.history disk)) result log }
+        ensures holds { D.observable ≡ true → (log : Log) → IsLog log → EndsAt log (at / 2 ^ 32) (at % 2 ^ 32) last → ReadAs D.observable (now (D.history disk)).reads log
+            → (now (D.history disk)).crash_states ≡ synced_crash_states (now (D.history disk)).reads → Holds log [] (length (entries_of log)) None (first_of result) (now (D.history disk)) }
     {
         let file = at.file();
         let offset = at.offset();
         LogBuffer {
             disk,
-            tail: Tail::new(alloc),
+            unwritten: WriteBuffer::new(alloc),
             file,
             offset,
             last,
-            base: offset,
+            flushed_len: offset,
             file_max,
             failed: false,
         }
     }
 
     /// The same where the last file has no header yet, as it is not there or is empty: the header goes
-    /// into the tail. Where memory runs out the disk is handed back.
+    /// into the write buffer. Where memory runs out the disk is handed back.
     pub fn create(alloc: Global, disk: D, file: FileNo, file_max: u32) -> Result<LogBuffer<D>, D>
         requires file { file.0 ≤ last_file }
         requires file_max { file_max ≤ 2 ^ 30 }
@@ -59,20 +59,20 @@ impl<D: Disk> LogBuffer<D> {
         ensures last { IfOk result (λ buffer. last_of buffer ≡ 0) }
         ensures file_max { IfOk result (λ buffer. file_max_of buffer ≡ file_max) }
         ensures not_failed { IfOk result (λ buffer. has_failed buffer ≡ false) }
-        ensures log { (before : Log) → IsLog (before ++ (file.0, []) ∷ []) → ReadAsBut D.tells file.0 (now (D.history disk)).reads before
-            → IfOk result (λ buffer. HasLog D.tells (now (D.history disk)) buffer (before ++ (file.0, []) ∷ [])) }
-        ensures holds { D.tells ≡ true → (before : Log) → IsLog (before ++ (file.0, []) ∷ []) → ReadAsBut D.tells file.0 (now (D.history disk)).reads before → (now (D.history disk)).marks ≡ synced_marks (now (D.history disk)).reads
+        ensures log { (before : Log) → IsLog (before ++ (file.0, []) ∷ []) → ReadAsBut D.observable file.0 (now (D.history disk)).reads before
+            → IfOk result (λ buffer. HasLog D.observable (now (D.history disk)) buffer (before ++ (file.0, []) ∷ [])) }
+        ensures holds { D.observable ≡ true → (before : Log) → IsLog (before ++ (file.0, []) ∷ []) → ReadAsBut D.observable file.0 (now (D.history disk)).reads before → (now (D.history disk)).crash_states ≡ synced_crash_states (now (D.history disk)).reads
             → IfOk result (λ buffer. Holds (before ++ (file.0, []) ∷ []) [] (length (entries_of before)) None (first_of buffer) (now (D.history disk))) }
         ensures handed_back { IfErr result (λ given. given ≡ disk) }
     {
-        match header_tail(alloc, file) {
-            Ok(tail) => Ok(LogBuffer {
+        match header_unwritten(alloc, file) {
+            Ok(unwritten) => Ok(LogBuffer {
                 disk,
-                tail,
+                unwritten,
                 file,
                 offset: 26,
                 last: 0,
-                base: 0,
+                flushed_len: 0,
                 file_max,
                 failed: false,
             }),
@@ -80,17 +80,17 @@ impl<D: Disk> LogBuffer<D> {
         }
     }
 
-    /// The disk, with the tail let go.
+    /// The disk, with the write buffer let go.
     pub fn into_disk(self) -> D
         ensures { result ≡ disk_of self }
     {
         let LogBuffer {
             disk,
-            tail: _,
+            unwritten: _,
             file: _,
             offset: _,
             last: _,
-            base: _,
+            flushed_len: _,
             file_max: _,
             failed: _,
         } = self;
@@ -98,12 +98,12 @@ impl<D: Disk> LogBuffer<D> {
     }
 }
 
-// A tail that holds a file's header.
-fn header_tail(alloc: Global, file: FileNo) -> Result<Tail, AllocError>
-    ensures bytes { IfOk result (λ tail. tail.bytes.items ≡ spelling (FileHeader 1 file.0) 0) }
-    ensures starts { IfOk result (λ tail. tail.starts.items ≡ []) }
+// A write buffer that holds a file's header.
+fn header_unwritten(alloc: Global, file: FileNo) -> Result<WriteBuffer, AllocError>
+    ensures bytes { IfOk result (λ unwritten. unwritten.bytes.items ≡ encoding (FileHeader 1 file.0) 0) }
+    ensures starts { IfOk result (λ unwritten. unwritten.starts.items ≡ []) }
 {
-    let mut tail = Tail::new(alloc);
-    tail.push_header(file)?;
-    Ok(tail)
+    let mut unwritten = WriteBuffer::new(alloc);
+    unwritten.push_header(file)?;
+    Ok(unwritten)
 }

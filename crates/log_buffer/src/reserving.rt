@@ -4,24 +4,24 @@ ghost use Rattle.je_lsn.specs.Naming.{last_file};
 ghost use Rattle.log_buffer.specs.Buffer.{end_of, file_max_of, has_failed, room_for, HasRoom, IsUnchanged};
 ghost use Rattle.log_buffer.specs.Flip.{end_after_all};
 
-use crate::place::LAST_FILE;
-use crate::{LogBuffer, LogErr, Place};
+use crate::log_pos::LAST_FILE;
+use crate::{LogBuffer, LogErr, LogPos};
 use je_disk::Disk;
 use std::alloc::AllocError;
 
 // Whether entries of these sizes do not pass the last file, in a log that ends here.
-fn has_files(end: Place, file_max: u32, sizes: &[u32]) -> bool
+fn has_files(end: LogPos, file_max: u32, sizes: &[u32]) -> bool
     requires file { end.file ≤ last_file }
     requires offset { end.offset < 2 ^ 33 }
     ensures { IsTrue result ↔ (end_after_all file_max end sizes.now).file ≤ last_file }
 {
     let mut end = end;
     for size in sizes {
-        let place = end.placed(file_max, *size);
-        if place.file > LAST_FILE {
+        let pos = end.placed(file_max, *size);
+        if pos.file > LAST_FILE {
             return false;
         }
-        end = place.behind(*size);
+        end = pos.behind(*size);
     }
     true
 }
@@ -39,7 +39,7 @@ fn room(sizes: &[u32]) -> Option<usize>
 
 impl<D: Disk> LogBuffer<D> {
     /// Makes room for appends of entries of these sizes, which then take no memory. It answers Full where
-    /// they would pass the last file, and else can only want memory; the log stays as it is.
+    /// they would pass the last file, and else can only run out of memory; the log stays as it is.
     pub fn reserve(&mut self, sizes: &[u32]) -> Result<(), LogErr>
         ensures room { OnOk result (HasRoom self.new sizes.now) }
         ensures full { has_failed self.old ≡ false → (IsErrOf result LogErr.Full ↔ last_file < (end_after_all (file_max_of self.old) (end_of self.old) sizes.now).file) }
@@ -50,7 +50,7 @@ impl<D: Disk> LogBuffer<D> {
         if self.failed {
             return Err(LogErr::Fault);
         }
-        if !has_files(self.place(), self.file_max, sizes) {
+        if !has_files(self.pos(), self.file_max, sizes) {
             return Err(LogErr::Full);
         }
         self.make_room(sizes)?;
@@ -65,6 +65,6 @@ impl<D: Disk> LogBuffer<D> {
         let Some(bytes) = room(sizes) else {
             return Err(AllocError);
         };
-        self.tail.reserve(bytes, sizes.len())
+        self.unwritten.reserve(bytes, sizes.len())
     }
 }

@@ -1,35 +1,35 @@
 // Syncs, and the end of a buffer.
 ghost use Rattle.std.specs.Prelude.{◌≡◌, ◌≤◌, [], ℕ, true, false, Option, Some, None, length, OnOk, OnErr, IfOk, IsErrOf};
-ghost use Rattle.je_disk.specs.Causes.{Rose};
+ghost use Rattle.je_order.specs.Counts.{HasRisen};
 ghost use Rattle.je_disk.specs.Moments.{now, Passes};
-ghost use Rattle.je_disk.specs.States.{synced, synced_marks, IsEither};
+ghost use Rattle.je_disk.specs.States.{synced, synced_crash_states, IsEither};
 ghost use Rattle.log_file.specs.Log.{Log, entries_of};
-ghost use Rattle.log_buffer.specs.Buffer.{disk_of, first_of, end_of, last_of, file_max_of, has_failed, IsWritten, KeepsTail};
+ghost use Rattle.log_buffer.specs.Buffer.{disk_of, first_of, end_of, last_of, file_max_of, has_failed, IsWritten, KeepsUnwritten};
 ghost use Rattle.log_buffer.specs.Log.{HasLog, ReadAs};
 ghost use Rattle.log_buffer.specs.Crash.{KeepsRead, Holds, KeptThrough};
 ghost use Rattle.log_buffer.specs.Growth.{SameJobs};
-ghost use Rattle.log_buffer.specs.Causes.{HasCause, FailsByFault};
+ghost use Rattle.log_buffer.specs.Causes.{HasLogCause, FailsByFault};
 
 use crate::{LogBuffer, LogErr};
 use je_disk::{Disk, SyncDone, SyncJob};
 
 impl<D: Disk> LogBuffer<D> {
-    /// Writes the tail out and begins a sync, which makes stable all that was appended before. A sync
-    /// job that is out is given up.
+    /// Writes the write buffer out and begins a sync, which makes stable all that was appended
+    /// before. A sync job that is out is given up.
     pub fn sync_begin(&mut self) -> Result<D::Job, LogErr>
         ensures begun { IfOk result (λ job. D.sync_out (disk_of self.new) ≡ Some (D.Job.job_number job)) }
         ensures written { OnOk result (IsWritten self.new) }
-        ensures log { (log : Log) → HasLog D.tells (now (D.history (disk_of self.old))) self.old log → OnOk result (HasLog D.tells (now (D.history (disk_of self.new))) self.new log) }
-        ensures whole { (log : Log) → HasLog D.tells (now (D.history (disk_of self.old))) self.old log → OnOk result (ReadAs D.tells (now (D.history (disk_of self.new))).reads log) }
-        ensures crash { D.tells ≡ true → (log removed : Log) (least : ℕ) (begun : Option ℕ) → HasLog D.tells (now (D.history (disk_of self.old))) self.old log → Holds log removed least begun (first_of self.old) (now (D.history (disk_of self.old)))
+        ensures log { (log : Log) → HasLog D.observable (now (D.history (disk_of self.old))) self.old log → OnOk result (HasLog D.observable (now (D.history (disk_of self.new))) self.new log) }
+        ensures whole { (log : Log) → HasLog D.observable (now (D.history (disk_of self.old))) self.old log → OnOk result (ReadAs D.observable (now (D.history (disk_of self.new))).reads log) }
+        ensures crash { D.observable ≡ true → (log removed : Log) (least : ℕ) (begun : Option ℕ) → HasLog D.observable (now (D.history (disk_of self.old))) self.old log → Holds log removed least begun (first_of self.old) (now (D.history (disk_of self.old)))
             → KeptThrough (D.history (disk_of self.old)) (D.history (disk_of self.new)) log removed least }
-        ensures holds { D.tells ≡ true → (log removed : Log) (least : ℕ) (begun : Option ℕ) → HasLog D.tells (now (D.history (disk_of self.old))) self.old log → Holds log removed least begun (first_of self.old) (now (D.history (disk_of self.old)))
+        ensures holds { D.observable ≡ true → (log removed : Log) (least : ℕ) (begun : Option ℕ) → HasLog D.observable (now (D.history (disk_of self.old))) self.old log → Holds log removed least begun (first_of self.old) (now (D.history (disk_of self.old)))
             → OnOk result (Holds log removed least (Some (length (entries_of log))) (first_of self.new) (now (D.history (disk_of self.new)))) }
         ensures end { end_of self.new ≡ end_of self.old }
         ensures last { last_of self.new ≡ last_of self.old }
         ensures file_max { file_max_of self.new ≡ file_max_of self.old }
         ensures by_fault { FailsByFault result }
-        ensures cause { HasCause (has_failed self.old) (has_failed self.new) (D.faults (disk_of self.old)) (D.faults (disk_of self.new)) result }
+        ensures cause { HasLogCause (has_failed self.old) (has_failed self.new) (D.faults (disk_of self.old)) (D.faults (disk_of self.new)) result }
         ensures still { has_failed self.old ≡ true → disk_of self.new ≡ disk_of self.old }
         ensures read_out { D.read_out (disk_of self.new) ≡ D.read_out (disk_of self.old) }
         ensures read_of { D.read_of (disk_of self.new) ≡ D.read_of (disk_of self.old) }
@@ -50,14 +50,14 @@ impl<D: Disk> LogBuffer<D> {
     pub fn sync_end(&mut self, done: <D::Job as SyncJob>::Done) -> Result<(), LogErr>
         requires { D.sync_out (disk_of self.old) ≡ Some (D.Job.Done.done_number done) }
         ensures none_out { has_failed self.old ≡ false → D.sync_out (disk_of self.new) ≡ None }
-        ensures log { (log : Log) → HasLog D.tells (now (D.history (disk_of self.old))) self.old log → OnOk result (HasLog D.tells (now (D.history (disk_of self.new))) self.new log) }
-        ensures crash { D.tells ≡ true → (log removed : Log) (least : ℕ) (begun : ℕ) → HasLog D.tells (now (D.history (disk_of self.old))) self.old log → Holds log removed least (Some begun) (first_of self.old) (now (D.history (disk_of self.old)))
+        ensures log { (log : Log) → HasLog D.observable (now (D.history (disk_of self.old))) self.old log → OnOk result (HasLog D.observable (now (D.history (disk_of self.new))) self.new log) }
+        ensures crash { D.observable ≡ true → (log removed : Log) (least : ℕ) (begun : ℕ) → HasLog D.observable (now (D.history (disk_of self.old))) self.old log → Holds log removed least (Some begun) (first_of self.old) (now (D.history (disk_of self.old)))
             → KeptThrough (D.history (disk_of self.old)) (D.history (disk_of self.new)) log removed least }
-        ensures holds { D.tells ≡ true → (log removed : Log) (least : ℕ) (begun : ℕ) → HasLog D.tells (now (D.history (disk_of self.old))) self.old log → Holds log removed least (Some begun) (first_of self.old) (now (D.history (disk_of self.old)))
+        ensures holds { D.observable ≡ true → (log removed : Log) (least : ℕ) (begun : ℕ) → HasLog D.observable (now (D.history (disk_of self.old))) self.old log → Holds log removed least (Some begun) (first_of self.old) (now (D.history (disk_of self.old)))
             → OnOk result (Holds log removed begun None (first_of self.new) (now (D.history (disk_of self.new)))) }
-        ensures kept { KeepsTail self.old self.new }
+        ensures kept { KeepsUnwritten self.old self.new }
         ensures by_fault { FailsByFault result }
-        ensures cause { HasCause (has_failed self.old) (has_failed self.new) (D.faults (disk_of self.old)) (D.faults (disk_of self.new)) result }
+        ensures cause { HasLogCause (has_failed self.old) (has_failed self.new) (D.faults (disk_of self.old)) (D.faults (disk_of self.new)) result }
         ensures still { has_failed self.old ≡ true → disk_of self.new ≡ disk_of self.old }
         ensures read_out { D.read_out (disk_of self.new) ≡ D.read_out (disk_of self.old) }
         ensures read_of { D.read_of (disk_of self.new) ≡ D.read_of (disk_of self.old) }
@@ -76,17 +76,17 @@ impl<D: Disk> LogBuffer<D> {
         }
     }
 
-    /// Writes the tail out and syncs, and gives the disk back, which a buffer that has failed does not
-    /// touch.
+    /// Writes the write buffer out and syncs, and gives the disk back, which a buffer that has failed
+    /// does not touch.
     pub fn close(self) -> (D, Result<(), LogErr>)
-        ensures whole { (log : Log) → HasLog D.tells (now (D.history (disk_of self))) self log → OnOk result.1 (ReadAs D.tells (now (D.history result.0)).reads log) }
-        ensures stable { D.tells ≡ true → OnOk result.1 ((now (D.history result.0)).marks ≡ synced_marks (now (D.history result.0)).reads) }
-        ensures crash { D.tells ≡ true → (log removed : Log) (least : ℕ) (begun : Option ℕ) → HasLog D.tells (now (D.history (disk_of self))) self log → Holds log removed least begun (first_of self) (now (D.history (disk_of self)))
+        ensures whole { (log : Log) → HasLog D.observable (now (D.history (disk_of self))) self log → OnOk result.1 (ReadAs D.observable (now (D.history result.0)).reads log) }
+        ensures stable { D.observable ≡ true → OnOk result.1 ((now (D.history result.0)).crash_states ≡ synced_crash_states (now (D.history result.0)).reads) }
+        ensures crash { D.observable ≡ true → (log removed : Log) (least : ℕ) (begun : Option ℕ) → HasLog D.observable (now (D.history (disk_of self))) self log → Holds log removed least begun (first_of self) (now (D.history (disk_of self)))
             → KeptThrough (D.history (disk_of self)) (D.history result.0) log removed least }
-        ensures kept { D.tells ≡ true → (log : Log) → HasLog D.tells (now (D.history (disk_of self))) self log → OnOk result.1 (KeepsRead log [] (length (entries_of log)) (now (D.history result.0))) }
+        ensures kept { D.observable ≡ true → (log : Log) → HasLog D.observable (now (D.history (disk_of self))) self log → OnOk result.1 (KeepsRead log [] (length (entries_of log)) (now (D.history result.0))) }
         ensures by_fault { FailsByFault result.1 }
         ensures never_falls { D.faults (disk_of self) ≤ D.faults result.0 }
-        ensures fault { has_failed self ≡ false → OnErr result.1 (Rose (D.faults (disk_of self)) (D.faults result.0)) }
+        ensures fault { has_failed self ≡ false → OnErr result.1 (HasRisen (D.faults (disk_of self)) (D.faults result.0)) }
         ensures failed { has_failed self ≡ true → IsErrOf result.1 LogErr.Fault }
         ensures still { has_failed self ≡ true → result.0 ≡ disk_of self }
         ensures jobs { SameJobs D.sync_out D.read_out D.read_of (disk_of self) result.0 }
@@ -104,11 +104,11 @@ impl<D: Disk> LogBuffer<D> {
 
 // Makes stable what the files read as.
 fn sync<D: Disk>(disk: &mut D) -> Result<(), LogErr>
-    ensures done { D.tells ≡ true → OnOk result (now (D.history disk.new) ≡ synced (now (D.history disk.old))) }
-    ensures moments { D.tells ≡ true → Passes (D.history disk.old) (D.history disk.new) (IsEither (now (D.history disk.old)) (synced (now (D.history disk.old)))) }
+    ensures done { D.observable ≡ true → OnOk result (now (D.history disk.new) ≡ synced (now (D.history disk.old))) }
+    ensures moments { D.observable ≡ true → Passes (D.history disk.old) (D.history disk.new) (IsEither (now (D.history disk.old)) (synced (now (D.history disk.old)))) }
     ensures by_fault { FailsByFault result }
     ensures never_falls { D.faults disk.old ≤ D.faults disk.new }
-    ensures fault { OnErr result (Rose (D.faults disk.old) (D.faults disk.new)) }
+    ensures fault { OnErr result (HasRisen (D.faults disk.old) (D.faults disk.new)) }
     ensures sync_out { D.sync_out disk.new ≡ D.sync_out disk.old }
     ensures read_out { D.read_out disk.new ≡ D.read_out disk.old }
     ensures read_of { D.read_of disk.new ≡ D.read_of disk.old }

@@ -158,7 +158,7 @@ tail_taken bytes number start redo txn node db e are read =
     let w = whole_read (CkptEnd number start redo (record { 0 = txn }) node db a.value b.value) b.rest e b.next in
     record { summary = a.value; held = b.value; summary_fits = a.fits; held_fits = b.fits; parts = and_then a.takes (ends b.takes w.0); made = w.1 }
 
--- before it the numbers that were drawn last
+-- before it the numbers that were allocated last
 abbrev last_read : ℕ → ℕ → ℕ → List ℕ → Option Entry
 last_read number start redo bytes =
     number_in w64 bytes >>= λ txn. number_in w64 txn.1 >>= λ node. number_in w32 node.1 >>= λ db. tail_read number start redo txn.0 node.0 db.0 db.1

@@ -7,8 +7,8 @@ use Rattle.std.specs.List.{AllByRecursion, flat_map}
 use Rattle.std.proofs.lemmas.Bool.{eqb-true, leb-true, le-leb, lt-leb}
 use Rattle.std.proofs.lemmas.List.{append-nil, length-append}
 use Rattle.je_order.specs.declared.name.Name.{Name}
-use Rattle.je_bytes.specs.Reading.{AreBytes, byte_in, number_in, run_in, IsReadAsWritten}
-use Rattle.je_bytes.proofs.Fields.{Takes, Takes-then, two_bytes, four_bytes, eight_bytes, number_in-takes, number_in-again, run_in-takes, run_in-again}
+use Rattle.je_bytes.specs.Reading.{AreBytes, byte_in, number_in, bytes_in, IsReadAsWritten}
+use Rattle.je_bytes.proofs.Fields.{Takes, Takes-then, two_bytes, four_bytes, eight_bytes, number_in-takes, number_in-again, bytes_in-takes, bytes_in-again}
 use Rattle.log_entry.specs.declared.child_slot.ChildSlot.{ChildSlot}
 use Rattle.log_entry.specs.declared.record_slot.RecordSlot.{RecordSlot}
 use Rattle.log_entry.specs.declared.root.Root.{Root}
@@ -102,8 +102,8 @@ string_in-takes : (bytes text rest : List ℕ) → AreBytes bytes → string_in 
 unfolding string_in
 string_in-takes bytes text rest are e =
     let n = step two bytes _ (text, rest) are e in
-    let g = test_held (leb n.value 4096) (run_in n.value n.rest) (text, rest) n.next in
-    let r = run_in-takes n.value n.rest text rest n.takes.rest_fits g.1 in
+    let g = test_held (leb n.value 4096) (bytes_in n.value n.rest) (text, rest) n.next in
+    let r = bytes_in-takes n.value n.rest text rest n.takes.rest_fits g.1 in
     let both = Takes-then bytes (to_be_bytes w16 n.value) n.rest text rest n.takes r.0 in
     let small : n.value ≤ 4096 = leb-true _ _ g.0 in
     (subst (λ (k : ℕ). Takes bytes (to_be_bytes w16 k ++ text) rest) (sym r.1) both, omega (arith, r.1))
@@ -111,14 +111,14 @@ string_in-takes bytes text rest are e =
 string_in-again : (text rest : List ℕ) → length text ≤ 4096 → string_in (string text ++ rest) ≡ Some (text, rest)
 unfolding string_in
 string_in-again text rest le =
-    rw (number_in-again w16 (2 ^ 16) two_bytes (length text) (text ++ rest) (omega arith), le-leb _ _ le, run_in-again text rest) refl
+    rw (number_in-again w16 (2 ^ 16) two_bytes (length text) (text ++ rest) (omega arith), le-leb _ _ le, bytes_in-again text rest) refl
 
 -- a string whose length is too great
 pub string_in-long : {E : Type 0} (bytes rest : List ℕ) (len : ℕ) (read : Result ℕ E) → result_ok read ≡ Some len → IfOk read (λ n. number_in w16 bytes ≡ Some (n, rest)) → 4096 < len → string_in bytes ≡ None
 unfolding string_in
 string_in-long bytes rest len (Ok n) is next long =
     let same : n ≡ len = some_is n len is in
-    bind_is (number_in w16 bytes) (λ (l : ℕ × List ℕ). cond (leb l.0 4096) (run_in l.0 l.1) None) (n, rest) next ∙ ap (λ (t : Bool). cond t (run_in n rest) None) (lt-leb n 4096 (omega (arith, same)))
+    bind_is (number_in w16 bytes) (λ (l : ℕ × List ℕ). cond (leb l.0 4096) (bytes_in l.0 l.1) None) (n, rest) next ∙ ap (λ (t : Bool). cond t (bytes_in n rest) None) (lt-leb n 4096 (omega (arith, same)))
 string_in-long bytes rest len (Err e) is next long = absurd cc
 
 a_string : IsField (λ (text : List ℕ). length text ≤ 4096) string string_in

@@ -9,7 +9,7 @@ use Rattle.log_entry.specs.Fields.{◌>>=◌}
 use Rattle.log_entry.specs.Items.{items_in, rises_from}
 use Rattle.log_entry.specs.Writing.{Puts}
 use Rattle.log_entry.proofs.FieldLaws.{bind_is}
-use Rattle.log_entry.proofs.Putting.{puts_behind, puts_stops, puts_same}
+use Rattle.log_entry.proofs.VectorAppends.{puts_behind, puts_stops, puts_same}
 
 -- ---- reading
 

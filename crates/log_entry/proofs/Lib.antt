@@ -1,9 +1,18 @@
-pub mod Putting
-pub mod Decoding
-pub mod BodyParts
+-- A field that is read is the field that was written, and what was written is read again, whatever follows it.
 pub mod FieldLaws
-pub mod ItemLaws
+-- A body that is read is the body that was written, and what was written is read again.
 pub mod BodyLaws
-pub mod ReadingLaws
+-- An entry put at the end of a vector, a piece at a time.
 pub mod WritingLaws
-pub mod RunLaws
+-- Texts put at the end of a vector, one behind another.
+pub mod VectorAppends
+-- How bytes are decoded, a step at a time.
+pub mod DecodeSteps
+-- The bodies whose last fields are read at once.
+pub mod BodyParts
+-- Lists that are read, looked through and written item by item.
+pub mod ItemLaws
+-- What is read at the front of bytes is what was written there, whatever follows it.
+pub mod ReadingLaws
+-- A file's valid prefix: what it is encoded as, and how an append makes it longer.
+pub mod PrefixLaws

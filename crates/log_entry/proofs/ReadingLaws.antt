@@ -8,7 +8,7 @@ use Rattle.std.proofs.lemmas.List.{append-nil, length-append, length-take, lengt
 use Rattle.std.proofs.Math.Seq.{take-length}
 use Rattle.je_bytes.specs.Adler.{adler32_of}
 use Rattle.je_bytes.specs.Reading.{AreBytes}
-use Rattle.je_bytes.proofs.Sums.{adler32_of-lt}
+use Rattle.je_bytes.proofs.AdlerSums.{adler32_of-lt}
 use Rattle.je_bytes.proofs.Fields.{AreBytes-take, AreBytes-drop, four_bytes}
 use Rattle.log_entry.specs.declared.entry.Entry.{Entry}
 use Rattle.log_entry.specs.declared.decoder.Decoded.{Decoded}
@@ -16,8 +16,8 @@ use Rattle.log_entry.specs.declared.decoder.Decoded.TheVariants.{Whole, Torn as 
 use Rattle.log_entry.specs.declared.decoder.Torn.{Torn}
 use Rattle.log_entry.specs.declared.decoder.Torn.TheVariants.{Short, BadSum, BadKind}
 use Rattle.log_entry.specs.Body.{IsEntry, kind_of, body_of, body_size_of, entry_in}
-use Rattle.log_entry.specs.Spelling.{head, summed, spelling, size_of}
-use Rattle.log_entry.specs.Reading.{number_at, known, whole_in, summed_in, decoded, IsFound, IsOneSpelling}
+use Rattle.log_entry.specs.Encoding.{head, summed, encoding, size_of}
+use Rattle.log_entry.specs.Reading.{number_at, known, whole_in, summed_in, decoded, IsFound, IsOneEncoding}
 use Rattle.log_entry.proofs.BodyLaws.{entry_in-takes, entry_in-again, length-body_of, body_small}
 
 -- the fields of a whole entry at the front of the bytes
@@ -102,18 +102,18 @@ decoded-long bytes e prev n is =
     let has = fields-decoded bytes e prev n is in
     (omega (arith, has.1), omega (arith, has.1, has.0.long))
 
--- ---- what is spelled is read
+-- ---- what is encoded is read
 
-pub length-spelling : (e : Entry) (prev : ℕ) → length (spelling e prev) ≡ size_of e
-unfolding spelling summed
-length-spelling e prev = omega (arith, length-body_of e)
+pub length-encoding : (e : Entry) (prev : ℕ) → length (encoding e prev) ≡ size_of e
+unfolding encoding summed
+length-encoding e prev = omega (arith, length-body_of e)
 
 whole_front : (n : ℕ) (xs : List ℕ) → length xs ≡ n → take n xs ≡ xs
 whole_front n xs is = subst (λ (k : ℕ). take k xs ≡ xs) is (take-length xs)
 
-pub fields-spelling : (e : Entry) (prev : ℕ) → IsEntry e → prev < 2 ^ 32 → HasFields (spelling e prev) e prev (body_size_of e)
-unfolding spelling summed
-fields-spelling e prev is lt =
+pub fields-encoding : (e : Entry) (prev : ℕ) → IsEntry e → prev < 2 ^ 32 → HasFields (encoding e prev) e prev (body_size_of e)
+unfolding encoding summed
+fields-encoding e prev is lt =
     let len : length (body_of e) ≡ body_size_of e = length-body_of e in
     let small : length (body_of e) < 2 ^ 32 = omega (arith, body_small e is, len) in
     let sum = adler32_of (head (kind_of e) prev (length (body_of e)) ++ body_of e) in
@@ -127,15 +127,15 @@ fields-spelling e prev is lt =
       body = ap (entry_in (kind_of e)) (whole_front (body_size_of e) (body_of e) len) ∙ entry_in-again e is;
     }
 
-pub decoded-again : (e : Entry) (prev : ℕ) (rest : List ℕ) → IsEntry e → prev < 2 ^ 32 → decoded (spelling e prev ++ rest) ≡ Whole e prev (size_of e)
-decoded-again e prev rest is lt = decoded-fields (spelling e prev ++ rest) e prev (body_size_of e) (fields-append (spelling e prev) rest e prev (body_size_of e) (fields-spelling e prev is lt))
+pub decoded-again : (e : Entry) (prev : ℕ) (rest : List ℕ) → IsEntry e → prev < 2 ^ 32 → decoded (encoding e prev ++ rest) ≡ Whole e prev (size_of e)
+decoded-again e prev rest is lt = decoded-fields (encoding e prev ++ rest) e prev (body_size_of e) (fields-append (encoding e prev) rest e prev (body_size_of e) (fields-encoding e prev is lt))
 
-pub only : (r : Result Decoded AllocError) (bytes : List ℕ) (e : Entry) (p : ℕ) (rest : List ℕ) → IfOk r (λ found. found ≡ decoded bytes) → IsEntry e → p < 2 ^ 32 → bytes ≡ spelling e p ++ rest
+pub only : (r : Result Decoded AllocError) (bytes : List ℕ) (e : Entry) (p : ℕ) (rest : List ℕ) → IfOk r (λ found. found ≡ decoded bytes) → IsEntry e → p < 2 ^ 32 → bytes ≡ encoding e p ++ rest
     → IfOk r (λ found. found ≡ Whole e p (size_of e))
 only (Ok found) bytes e p rest is entry lt same = is ∙ ap decoded same ∙ decoded-again e p rest entry lt
 only (Err e) bytes f p rest is entry lt same = tt
 
--- ---- what is read was spelled
+-- ---- what is read was encoded
 
 piece : (k i : ℕ) (bytes : List ℕ) → drop i bytes ≡ take k (drop i bytes) ++ drop (i + k) bytes
 piece k i bytes = sym (take-append-drop k (drop i bytes)) ∙ ap (λ (r : List ℕ). take k (drop i bytes) ++ r) (drop-drop k i bytes)
@@ -162,10 +162,10 @@ from_kind bytes e prev len are has =
     e4 ∙ ap (λ (r : List ℕ). k ∷ r) (e5 ∙ ap (λ (r : List ℕ). 0 ∷ r) (e6 ∙ ap (λ (r : List ℕ). to_be_bytes w32 prev ++ r) (e10 ∙ ap (λ (r : List ℕ). to_be_bytes w32 len ++ r) e14)))
     ∙ regroup k 0 (to_be_bytes w32 prev) (to_be_bytes w32 len) (take len (drop 14 bytes)) (drop (14 + len) bytes)
 
-pub spelling-fields : (bytes : List ℕ) (e : Entry) (prev len : ℕ) → AreBytes bytes → HasFields bytes e prev len
-    → IsEntry e × (prev < 2 ^ 32) × (len ≡ body_size_of e) × (bytes ≡ spelling e prev ++ drop (14 + len) bytes)
-unfolding spelling summed
-spelling-fields bytes e prev len are has =
+pub encoding-fields : (bytes : List ℕ) (e : Entry) (prev len : ℕ) → AreBytes bytes → HasFields bytes e prev len
+    → IsEntry e × (prev < 2 ^ 32) × (len ≡ body_size_of e) × (bytes ≡ encoding e prev ++ drop (14 + len) bytes)
+unfolding encoding summed
+encoding-fields bytes e prev len are has =
     let long : 14 + len ≤ length bytes = has.long in
     let body = take len (drop 14 bytes) in
     let read = entry_in-takes (get_or bytes 4 0) body e (AreBytes-take len (drop 14 bytes) (AreBytes-drop 14 bytes are)) has.body in
@@ -186,24 +186,24 @@ spelling-fields bytes e prev len are has =
       whole ∙ sym (append_assoc (to_be_bytes w32 (adler32_of (summed e prev))) (summed e prev) (drop (14 + len) bytes)),
     )
 
--- a whole entry that was found is spelled at the front
+-- a whole entry that was found is encoded at the front
 pub found : (bytes : List ℕ) (d : Decoded) → AreBytes bytes → decoded bytes ≡ d → IsFound bytes d
 found bytes (NotWhole torn) are is = tt
 found bytes (Whole e prev n) are is =
     let has = fields-decoded bytes e prev n is in
     let len = number_at w32 10 bytes in
-    let s = spelling-fields bytes e prev len are has.0 in
-    (s.0, s.1, has.1 ∙ ap (λ (k : ℕ). 14 + k) s.2, subst (λ (k : ℕ). bytes ≡ spelling e prev ++ drop k bytes) (sym has.1) s.3)
+    let s = encoding-fields bytes e prev len are has.0 in
+    (s.0, s.1, has.1 ∙ ap (λ (k : ℕ). 14 + k) s.2, subst (λ (k : ℕ). bytes ≡ encoding e prev ++ drop k bytes) (sym has.1) s.3)
 
 pub found_if : (r : Result Decoded AllocError) (bytes : List ℕ) → AreBytes bytes → IfOk r (λ d. d ≡ decoded bytes) → IfOk r (IsFound bytes)
 found_if (Ok d) bytes are is = found bytes d are (sym is)
 found_if (Err e) bytes are is = tt
 
--- ---- no spelling begins another
+-- ---- no encoding begins another
 
-pub one : IsOneSpelling
+pub one : IsOneEncoding
 one e f p q rest is_e is_f lt_p lt_q same =
-    let whole_f : decoded (spelling f q) ≡ Whole f q (size_of f) = ap decoded (sym (append-nil (spelling f q))) ∙ decoded-again f q [] is_f lt_q in
+    let whole_f : decoded (encoding f q) ≡ Whole f q (size_of f) = ap decoded (sym (append-nil (encoding f q))) ∙ decoded-again f q [] is_f lt_q in
     let whole_e = decoded-again e p rest is_e lt_p in
     let both : Whole f q (size_of f) ≡ Whole e p (size_of e) = sym whole_f ∙ ap decoded same ∙ whole_e in
     (cc, cc)

@@ -8,25 +8,25 @@ use borrow.Rule.Slice.PartMut.{put_mid, post_of}
 use Rattle.std.proofs.Math.Seq.{drop-append-add}
 use Rattle.je_bytes.specs.Adler.{adler32_of}
 use Rattle.log_entry.specs.declared.entry.Entry.{Entry}
-use Rattle.log_entry.specs.Spelling.{summed, spelling}
-use Rattle.log_entry.specs.Writing.{KeepsFront}
+use Rattle.log_entry.specs.Encoding.{summed, encoding}
+use Rattle.log_entry.specs.Writing.{KeepsOldBytes}
 
-pub keeps_front : (old x new : List ℕ) → new ≡ old ++ x → KeepsFront old new
+pub keeps_front : (old x new : List ℕ) → new ≡ old ++ x → KeepsOldBytes old new
 keeps_front old x new is = ap (take (length old)) is ∙ take_at old x (length old) refl
 
 take_less : (m n : ℕ) (xs : List ℕ) → take m (take (m + n) xs) ≡ take m xs
 take_less m n xs = take-take m (m + n) xs (omega arith)
 
-pub keeps_then : (old x mid new : List ℕ) → mid ≡ old ++ x → KeepsFront mid new → KeepsFront old new
+pub keeps_then : (old x mid new : List ℕ) → mid ≡ old ++ x → KeepsOldBytes mid new → KeepsOldBytes old new
 keeps_then old x mid new is keeps =
     let len : length mid ≡ length old + length x = ap length is ∙ length-append old x in
     sym (take_less (length old) (length x) new) ∙ ap (λ (n : ℕ). take (length old) (take n new)) (sym len) ∙ ap (take (length old)) keeps ∙ keeps_front old x mid is
 
--- an entry that is signed is spelled
+-- an entry that is signed is encoded
 pub signed : (old mid new : List ℕ) (e : Entry) (prev : ℕ) → mid ≡ old ++ (to_be_bytes w32 0 ++ summed e prev)
     → new ≡ take (length old) mid ++ (to_be_bytes w32 (adler32_of (drop (length old + 4) mid)) ++ drop (length old + 4) mid)
-    → new ≡ old ++ spelling e prev
-unfolding spelling
+    → new ≡ old ++ encoding e prev
+unfolding encoding
 signed old mid new e prev is written =
     let front : take (length old) mid ≡ old = ap (take (length old)) is ∙ take_at old (to_be_bytes w32 0 ++ summed e prev) (length old) refl in
     let after : drop (length old + 4) mid ≡ summed e prev = ap (drop (length old + 4)) is ∙ drop-append-add old (to_be_bytes w32 0 ++ summed e prev) 4 in
@@ -34,7 +34,7 @@ signed old mid new e prev is written =
     ∙ ap (λ (x : List ℕ). old ++ (to_be_bytes w32 (adler32_of x) ++ x)) after
 
 pub signed_from : (old mid new : List ℕ) (start : ℕ) (e : Entry) (prev : ℕ) → start ≡ length old → mid ≡ old ++ (to_be_bytes w32 0 ++ summed e prev)
-    → new ≡ take start mid ++ (to_be_bytes w32 (adler32_of (drop (start + 4) mid)) ++ drop (start + 4) mid) → new ≡ old ++ spelling e prev
+    → new ≡ take start mid ++ (to_be_bytes w32 (adler32_of (drop (start + 4) mid)) ++ drop (start + 4) mid) → new ≡ old ++ encoding e prev
 signed_from old mid new start e prev start_is is written =
     signed old mid new e prev is (subst (λ (k : ℕ). new ≡ take k mid ++ (to_be_bytes w32 (adler32_of (drop (k + 4) mid)) ++ drop (k + 4) mid)) start_is written)
 

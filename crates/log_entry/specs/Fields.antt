@@ -2,7 +2,7 @@
 use Rattle.std.specs.Prelude.{ℕ, ◌≤◌, ◌==◌, ◌&&◌, nat_le, if◌then◌else◌, List, ◌∷◌, ◌++◌, length, Option, Some, None}
 use Rattle.std.specs.Int.{w16, w64, to_be_bytes}
 use Rattle.je_order.specs.declared.name.Name.{Name}
-use Rattle.je_bytes.specs.Reading.{byte_in, number_in, run_in}
+use Rattle.je_bytes.specs.Reading.{byte_in, number_in, bytes_in}
 
 -- one field, and then what is read after it
 infixl 10 ◌>>=◌
@@ -28,7 +28,7 @@ name_bytes name = string name.key ++ string name.dup
 unfoldable pub string_in : List ℕ → Option (List ℕ × List ℕ)
 string_in bytes = do
   len ← number_in w16 bytes
-  if nat_le len.0 4096 then run_in len.0 len.1 else None
+  if nat_le len.0 4096 then bytes_in len.0 len.1 else None
 
 -- a record's name, and the bytes after it
 unfoldable pub name_in : List ℕ → Option (Name × List ℕ)

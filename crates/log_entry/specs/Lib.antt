@@ -2,7 +2,7 @@ pub mod Fields
 pub mod Items
 pub mod Body
 pub mod Parts
-pub mod Spelling
+pub mod Encoding
 pub mod Writing
 pub mod Reading
-pub mod Run
+pub mod Prefix

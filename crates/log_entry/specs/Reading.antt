@@ -7,7 +7,7 @@ use Rattle.log_entry.specs.declared.decoder.Decoded.{Decoded}
 use Rattle.log_entry.specs.declared.decoder.Decoded.TheVariants.{Whole, Torn as NotWhole}
 use Rattle.log_entry.specs.declared.decoder.Torn.TheVariants.{Short, BadSum, BadKind}
 use Rattle.log_entry.specs.Body.{IsEntry, entry_in}
-use Rattle.log_entry.specs.Spelling.{spelling, size_of}
+use Rattle.log_entry.specs.Encoding.{encoding, size_of}
 
 -- the number at a place of the bytes
 abbrev pub number_at : Width → ℕ → List ℕ → ℕ
@@ -32,11 +32,11 @@ summed_in len bytes =
 unfoldable pub decoded : List ℕ → Decoded
 decoded bytes = if nat_lt (length bytes) 14 then NotWhole Short else summed_in (number_at w32 10 bytes) bytes
 
--- a whole entry that was found is one, and its spelling is what the bytes begin with
+-- a whole entry that was found is one, and its encoding is what the bytes begin with
 abbrev pub IsFound : List ℕ → Decoded → Type 0
 IsFound bytes (NotWhole torn) = Unit {0}
-IsFound bytes (Whole entry prev len) = IsEntry entry × (prev < 2 ^ 32) × (len ≡ size_of entry) × (bytes ≡ spelling entry prev ++ drop len bytes)
+IsFound bytes (Whole entry prev len) = IsEntry entry × (prev < 2 ^ 32) × (len ≡ size_of entry) × (bytes ≡ encoding entry prev ++ drop len bytes)
 
--- no entry's spelling begins that of another, nor its own with another prev field
-abbrev pub IsOneSpelling : Type 0
-IsOneSpelling = (e f : Entry) (p q : ℕ) (rest : List ℕ) → IsEntry e → IsEntry f → p < 2 ^ 32 → q < 2 ^ 32 → spelling f q ≡ spelling e p ++ rest → (f ≡ e) × (q ≡ p)
+-- the encoding is prefix-free: no entry's encoding begins that of another, nor its own with another prev field
+abbrev pub IsOneEncoding : Type 0
+IsOneEncoding = (e f : Entry) (p q : ℕ) (rest : List ℕ) → IsEntry e → IsEntry f → p < 2 ^ 32 → q < 2 ^ 32 → encoding f q ≡ encoding e p ++ rest → (f ≡ e) × (q ≡ p)

@@ -2,10 +2,10 @@
 ghost use Rattle.std.specs.Prelude.{◌≡◌, ◌==◌, ◌+◌, ◌≤◌, ℕ, ◌<◌, ◌^◌, ◌++◌, List, length, drop, take, IfOk, MatchResult};
 ghost use Rattle.std.specs.Int.{w32};
 ghost use Rattle.je_bytes.specs.Adler.{adler32_of};
-ghost use Rattle.log_entry.specs.declared.entry.Entry.{Entry as Found};
+ghost use Rattle.log_entry.specs.declared.entry.Entry.{Entry as Appended};
 ghost use Rattle.log_entry.specs.declared.decoder.Decoded.TheVariants.{Whole, Torn as NotWhole};
 ghost use Rattle.log_entry.specs.Body.{IsEntry};
-ghost use Rattle.log_entry.specs.Spelling.{spelling, size_of};
+ghost use Rattle.log_entry.specs.Encoding.{encoding, size_of};
 ghost use Rattle.log_entry.specs.Reading.{decoded, number_at as number_there, whole_in, IsFound};
 
 use crate::Entry;
@@ -17,7 +17,7 @@ use std::alloc::{AllocError, Global};
 /// What bytes begin with.
 #[derive(Drop)]
 pub enum Decoded {
-    /// An entry, its prev field, and how many bytes its spelling has. Other bytes may follow.
+    /// An entry, its prev field, and how many bytes its encoding has. Other bytes may follow.
     Whole { entry: Entry, prev: u32, len: usize },
     /// No entry.
     Torn(Torn),
@@ -98,14 +98,14 @@ fn decode_front(alloc: Global, bytes: &[u8]) -> Result<Decoded, AllocError>
     }
 }
 
-/// What the bytes begin with. Bytes may follow the entry: the cost is that of the entry alone. The one
-/// error is want of memory.
+/// What the bytes begin with. Bytes may follow the entry: the cost is that of the entry alone. The
+/// only error is out of memory.
 pub fn decode(alloc: Global, bytes: &[u8]) -> Result<Decoded, AllocError>
     ensures exact { IfOk result (λ found. found ≡ decoded bytes.now) }
     // What is found is what the bytes begin with.
     ensures found { IfOk result (IsFound bytes.now) }
     // An entry that the bytes begin with is found.
-    ensures only { (e : Found) (p : ℕ) (rest : List ℕ) → IsEntry e → p < 2 ^ 32 → bytes.now ≡ spelling e p ++ rest
+    ensures only { (e : Appended) (p : ℕ) (rest : List ℕ) → IsEntry e → p < 2 ^ 32 → bytes.now ≡ encoding e p ++ rest
         → IfOk result (λ found. found ≡ Whole e p (size_of e)) }
 {
     decode_front(alloc, bytes)

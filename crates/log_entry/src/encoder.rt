@@ -4,7 +4,7 @@ ghost use Rattle.std.specs.Int.{w32, to_be_bytes};
 ghost use Rattle.je_bytes.specs.Adler.{adler32_of};
 ghost use Rattle.log_entry.specs.Body.{IsEntry};
 ghost use Rattle.log_entry.specs.Parts.{entry_by};
-ghost use Rattle.log_entry.specs.Spelling.{spelling, head, summed, size_of};
+ghost use Rattle.log_entry.specs.Encoding.{encoding, head, summed, size_of};
 ghost use Rattle.log_entry.specs.Writing.{Puts};
 
 use crate::body_writer::body_size;
@@ -14,11 +14,11 @@ use byteorder::{BigEndian, ByteOrder};
 use je_bytes::{adler32, put_u32};
 use std::alloc::{AllocError, Global};
 
-/// How many bytes the entry's spelling has, whatever its prev field.
+/// How many bytes the entry's encoding has, whatever its prev field.
 pub fn size(entry: &Entry) -> u32
     requires { IsEntry entry.now }
     ensures value { result ≡ size_of entry.now }
-    ensures spelled { (prev : ℕ) → length (spelling entry.now prev) ≡ result }
+    ensures encoded { (prev : ℕ) → length (encoding entry.now prev) ≡ result }
 {
     14 + body_size(entry)
 }
@@ -60,11 +60,11 @@ fn sign(bytes: &mut [u8], start: usize)
     BigEndian::write_u32(&mut bytes[start..], sum);
 }
 
-/// Puts the entry's spelling at the end, in the time of the entry alone. Want of memory changes nothing,
-/// and does not come where the vector has room for the spelling.
+/// Puts the entry's encoding at the end, in the time of the entry alone. Running out of memory changes
+/// nothing, and does not come where the vector has room for the encoding.
 pub fn encode_onto(entry: &Entry, prev: u32, onto: &mut Vec<u8>) -> Result<(), AllocError>
     requires { IsEntry entry.now }
-    ensures ok { OnOk result (onto.new.items ≡ onto.old.items ++ spelling entry.now prev) }
+    ensures ok { OnOk result (onto.new.items ≡ onto.old.items ++ encoding entry.now prev) }
     ensures err { OnErr result (onto.new.items ≡ onto.old.items) }
     ensures fits { length onto.old.items + size_of entry.now ≤ vec_capacity onto.old → IsOk result }
     ensures capacity { vec_capacity onto.old ≤ vec_capacity onto.new }
@@ -79,7 +79,7 @@ pub fn encode_ref_onto(
     onto: &mut Vec<u8>,
 ) -> Result<(), AllocError>
     requires { IsEntry (entry_by entry.now) }
-    ensures ok { OnOk result (onto.new.items ≡ onto.old.items ++ spelling (entry_by entry.now) prev) }
+    ensures ok { OnOk result (onto.new.items ≡ onto.old.items ++ encoding (entry_by entry.now) prev) }
     ensures err { OnErr result (onto.new.items ≡ onto.old.items) }
     ensures fits { length onto.old.items + size_of (entry_by entry.now) ≤ vec_capacity onto.old → IsOk result }
     ensures capacity { vec_capacity onto.old ≤ vec_capacity onto.new }
@@ -98,10 +98,10 @@ pub fn encode_ref_onto(
     }
 }
 
-/// The entry's spelling. The one error is want of memory.
+/// The entry's encoding. The only error is out of memory.
 pub fn encode(alloc: Global, entry: &Entry, prev: u32) -> Result<Vec<u8>, AllocError>
     requires { IsEntry entry.now }
-    ensures { IfOk result (λ bytes. bytes.items ≡ spelling entry.now prev) }
+    ensures { IfOk result (λ bytes. bytes.items ≡ encoding entry.now prev) }
 {
     let mut bytes = Vec::new(alloc);
     encode_onto(entry, prev, &mut bytes)?;

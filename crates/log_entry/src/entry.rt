@@ -60,8 +60,8 @@ pub enum Entry {
         number: u64,
     },
     /// The checkpoint that began at `start` ended: from where on changes are redone, the numbers that
-    /// were drawn last, the LSN of a `FileSummary` if there is one, and the roots of the databases'
-    /// trees, whose databases' numbers rise strictly.
+    /// were allocated last, the LSN of a `FileSummary` if there is one, and the roots of the
+    /// databases' trees, whose databases' numbers rise strictly.
     CkptEnd {
         number: u64,
         start: Lsn,

@@ -1,7 +1,7 @@
-//! Log entries: what the log keeps, and the one spelling of each as bytes. It stands on `je_bytes` for
-//! numbers and the checksum, on `je_order` for names, and on `je_lsn`. Upward it promises that `encode` writes an
-//! entry's spelling and `decode` finds exactly what was written, whatever follows it; that no spelling
-//! begins another; and, of a file, what its run of entries is and how an append makes it longer.
+//! Log entries: what the log keeps, and the one encoding of each as bytes. It stands on `je_bytes` for numbers
+//! and the checksum, on `je_order` for names, and on `je_lsn`. Upward it promises that `encode` writes an entry's
+//! encoding and `decode` finds exactly what was written, whatever follows it; that no encoding begins another;
+//! and, of a file, what its valid prefix is and how an append makes it longer.
 #![tactic(auto)]
 
 pub mod body_reader;
@@ -26,6 +26,6 @@ pub use encoder::{encode, encode_onto, encode_ref_onto, ref_size, size};
 pub use entry::Entry;
 pub use entry_ref::EntryRef;
 pub use file_usage::FileUsage;
-pub use laws::{one_spelling, runs_are_spellings};
+pub use laws::{one_encoding, prefixes_are_encodings};
 pub use record_slot::RecordSlot;
 pub use root::Root;

@@ -32,7 +32,10 @@ pub(crate) fn ref_body_size(entry: &EntryRef<'_>) -> u32
     match *entry {
         EntryRef::Whole(entry) => body_size(entry),
         EntryRef::Put {
-            key, dup, value, ..
+            key,
+            dup,
+            value,
+            ..
         } => (16 + key.len() + dup.len() + value.len()) as u32,
         EntryRef::Delete { key, dup, .. } => (16 + key.len() + dup.len()) as u32,
     }

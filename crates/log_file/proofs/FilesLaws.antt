@@ -13,10 +13,10 @@ use Rattle.log_entry.specs.declared.entry.Entry.{Entry}
 use Rattle.log_entry.specs.declared.decoder.Torn.TheVariants.{Short}
 use Rattle.log_entry.specs.declared.decoder.Decoded.TheVariants.{Torn as NotWhole}
 use Rattle.log_entry.specs.Reading.{decoded}
-use Rattle.log_file.specs.Scan.{found_in}
-use Rattle.log_file.specs.Log.{Log, AreFileEntries, AreFiles, file_bytes, files_of_log, log_in, entries_found}
+use Rattle.log_file.specs.Scan.{scan_of}
+use Rattle.log_file.specs.Log.{Log, AreFileEntries, AreFiles, file_bytes, files_of_log, log_in, entries_scanned}
 use Rattle.log_file.specs.Laws.{AreOneList, LogsAreFound}
-use Rattle.log_file.proofs.FoundLaws.{are_found_again}
+use Rattle.log_file.proofs.FileScanLaws.{are_found_again}
 
 -- ---- lists under rising numbers
 
@@ -94,44 +94,44 @@ are_one_list reads a b is_a is_b =
 -- ---- the files of a log
 
 -- each file's number and bytes
-abbrev pub spelled_files : Log → List (ℕ × List ℕ)
-spelled_files log = map (λ file. (file.0, file_bytes file.0 file.1)) log
+abbrev pub encoded_files : Log → List (ℕ × List ℕ)
+encoded_files log = map (λ file. (file.0, file_bytes file.0 file.1)) log
 
-same_numbers : (log : Log) → map (λ file. file.0) (spelled_files log) ≡ map (λ file. file.0) log
+same_numbers : (log : Log) → map (λ file. file.0) (encoded_files log) ≡ map (λ file. file.0) log
 same_numbers [] = refl
 same_numbers (file ∷ log) = ap (λ (l : List ℕ). file.0 ∷ l) (same_numbers log)
 
-lookup-spelled : (log : Log) (f : ℕ) → lookup (λ n. n == f) (spelled_files log) ≡ files_of_log log f
-lookup-spelled [] f = refl
-lookup-spelled (file ∷ log) f = by_case (file.0 == f) refl (lookup-spelled log f)
+lookup-encoded : (log : Log) (f : ℕ) → lookup (λ n. n == f) (encoded_files log) ≡ files_of_log log f
+lookup-encoded [] f = refl
+lookup-encoded (file ∷ log) f = by_case (file.0 == f) refl (lookup-encoded log f)
   where
-    by_case : (b : Bool) → (file.0 == f) ≡ b → lookup (λ n. n == f) (spelled_files log) ≡ files_of_log log f →
-        cond b (Some (file_bytes file.0 file.1)) (lookup (λ n. n == f) (spelled_files log)) ≡ option_map (file_bytes f) (cond b (Some file.1) (lookup (λ n. n == f) log))
+    by_case : (b : Bool) → (file.0 == f) ≡ b → lookup (λ n. n == f) (encoded_files log) ≡ files_of_log log f →
+        cond b (Some (file_bytes file.0 file.1)) (lookup (λ n. n == f) (encoded_files log)) ≡ option_map (file_bytes f) (cond b (Some file.1) (lookup (λ n. n == f) log))
     by_case true here rest = ap (λ (n : ℕ). Some (file_bytes n file.1)) (eqb-true _ _ here)
     by_case false here rest = rest
 
-pub are_spelled_files : (reads : Files) (log : Log) → IsStrictlyIncreasing (map (λ file. file.0) log) → ((f : ℕ) → reads f ≡ files_of_log log f) → AreFiles reads (spelled_files log)
-are_spelled_files reads log rising same = record {
+pub are_encoded_files : (reads : Files) (log : Log) → IsStrictlyIncreasing (map (λ file. file.0) log) → ((f : ℕ) → reads f ≡ files_of_log log f) → AreFiles reads (encoded_files log)
+are_encoded_files reads log rising same = record {
   rising = subst IsStrictlyIncreasing (sym (same_numbers log)) rising;
-  each = λ f. lookup-spelled log f ∙ sym (same f);
+  each = λ f. lookup-encoded log f ∙ sym (same f);
 }
 
 nothing_torn : decoded [] ≡ NotWhole Short
 unfolding decoded
 nothing_torn = refl
 
--- the entries of a file that was spelled
-pub entries-spelled : (f : ℕ) (entries : List Entry) → f < 2 ^ 32 → AreFileEntries entries → entries_found (found_in f (file_bytes f entries)) ≡ entries
-entries-spelled f entries lt are =
-    ap (λ (x : List ℕ). entries_found (found_in f x)) (sym (append-nil (file_bytes f entries)))
-    ∙ ap entries_found (are_found_again f entries [] Short lt are nothing_torn)
+-- the entries of a file that was encoded
+pub entries-encoded : (f : ℕ) (entries : List Entry) → f < 2 ^ 32 → AreFileEntries entries → entries_scanned (scan_of f (file_bytes f entries)) ≡ entries
+entries-encoded f entries lt are =
+    ap (λ (x : List ℕ). entries_scanned (scan_of f x)) (sym (append-nil (file_bytes f entries)))
+    ∙ ap entries_scanned (are_found_again f entries [] Short lt are nothing_torn)
 
-pub log_in-spelled : (log : Log) → AllByRecursion (λ file. (file.0 < 2 ^ 32) × AreFileEntries file.1) log → log_in (spelled_files log) ≡ log
-log_in-spelled [] all = refl
-log_in-spelled (file ∷ log) all =
-    ap (λ (es : List Entry). let p : ℕ × List Entry = (file.0, es) in p ∷ log_in (spelled_files log)) (entries-spelled file.0 file.1 all.0.0 all.0.1)
-    ∙ ap (λ (l : Log). file ∷ l) (log_in-spelled log all.1)
+pub log_in-encoded : (log : Log) → AllByRecursion (λ file. (file.0 < 2 ^ 32) × AreFileEntries file.1) log → log_in (encoded_files log) ≡ log
+log_in-encoded [] all = refl
+log_in-encoded (file ∷ log) all =
+    ap (λ (es : List Entry). let p : ℕ × List Entry = (file.0, es) in p ∷ log_in (encoded_files log)) (entries-encoded file.0 file.1 all.0.0 all.0.1)
+    ∙ ap (λ (l : Log). file ∷ l) (log_in-encoded log all.1)
 
 pub logs_are_found : LogsAreFound
 logs_are_found reads held log is are same =
-    ap log_in (are_one_list reads held (spelled_files log) are (are_spelled_files reads log is.rising same)) ∙ log_in-spelled log is.each
+    ap log_in (are_one_list reads held (encoded_files log) are (are_encoded_files reads log is.rising same)) ∙ log_in-encoded log is.each

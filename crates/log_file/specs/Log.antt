@@ -7,18 +7,18 @@ use Rattle.je_disk.specs.States.{Files}
 use Rattle.log_entry.specs.declared.entry.Entry.{Entry}
 use Rattle.log_entry.specs.declared.entry.Entry.TheVariants.{FileHeader}
 use Rattle.log_entry.specs.Body.{IsEntry}
-use Rattle.log_entry.specs.Run.{spelled}
-use Rattle.log_file.specs.declared.found.Found.{Found}
-use Rattle.log_file.specs.declared.found.Found.TheVariants.{Run}
-use Rattle.log_file.specs.Scan.{may_follow, sizes_of, found_in}
+use Rattle.log_entry.specs.Prefix.{encoded}
+use Rattle.log_file.specs.declared.file_scan.FileScan.{FileScan}
+use Rattle.log_file.specs.declared.file_scan.FileScan.TheVariants.{Prefix}
+use Rattle.log_file.specs.Scan.{may_follow, sizes_of, scan_of}
 
 -- a log: its files' numbers, rising, each with the entries behind the file's header
 abbrev pub Log : Type 0
 Log = List (ℕ × List Entry)
 
--- the bytes of a file: its header and then its entries, spelled one after another
+-- the bytes of a file: its header and then its entries, encoded one after another
 abbrev pub file_bytes : ℕ → List Entry → List ℕ
-file_bytes f entries = spelled 0 0 (FileHeader 1 f ∷ entries)
+file_bytes f entries = encoded 0 0 (FileHeader 1 f ∷ entries)
 
 -- entries that may stand behind a file's header: each is an entry, none is a header, and all end below 2^32
 pub record AreFileEntries (es : List Entry) : Type 0 where
@@ -44,11 +44,11 @@ pub record AreFiles (reads : Files) (held : List (ℕ × List ℕ)) : Type 0 whe
   pub rising : IsStrictlyIncreasing (map (λ file. file.0) held)
   pub each : (f : ℕ) → lookup (λ n. n == f) held ≡ reads f
 
--- the entries of a run; none where there is no run
-abbrev pub entries_found : Found → List Entry
-entries_found (Run run) = run.entries
-entries_found found = []
+-- the entries of a valid prefix; none where there is no valid prefix
+abbrev pub entries_scanned : FileScan → List Entry
+entries_scanned (Prefix prefix) = prefix.entries
+entries_scanned found = []
 
--- the log that files hold: of each the entries of its run
+-- the log that files hold: of each the entries of its valid prefix
 abbrev pub log_in : List (ℕ × List ℕ) → Log
-log_in held = map (λ file. (file.0, entries_found (found_in file.0 file.1))) held
+log_in held = map (λ file. (file.0, entries_scanned (scan_of file.0 file.1))) held

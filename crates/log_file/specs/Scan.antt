@@ -4,12 +4,12 @@ use Rattle.log_entry.specs.declared.entry.Entry.{Entry}
 use Rattle.log_entry.specs.declared.entry.Entry.TheVariants.{FileHeader}
 use Rattle.log_entry.specs.declared.decoder.Decoded.{Decoded}
 use Rattle.log_entry.specs.declared.decoder.Decoded.TheVariants.{Whole, Torn as NotWhole}
-use Rattle.log_entry.specs.Spelling.{size_of}
+use Rattle.log_entry.specs.Encoding.{size_of}
 use Rattle.log_entry.specs.Reading.{decoded}
-use Rattle.log_entry.specs.Run.{run_on, last_from}
-use Rattle.log_file.specs.declared.file_run.FileRun.{FileRun}
-use Rattle.log_file.specs.declared.found.Found.{Found}
-use Rattle.log_file.specs.declared.found.Found.TheVariants.{Run, VersionUnknown, Damaged}
+use Rattle.log_entry.specs.Prefix.{prefix_on, last_from}
+use Rattle.log_file.specs.declared.valid_prefix.ValidPrefix.{ValidPrefix}
+use Rattle.log_file.specs.declared.file_scan.FileScan.{FileScan}
+use Rattle.log_file.specs.declared.file_scan.FileScan.TheVariants.{Prefix, VersionUnknown, Damaged}
 
 -- whether an entry may stand behind a file's header: each but another header
 abbrev pub may_follow : Entry → Bool
@@ -29,29 +29,29 @@ front at (entry ∷ entries) =
 
 -- the entries behind the 26 bytes of a file's header; the first of them has prev field 0, as the header has
 abbrev pub entries_behind : List ℕ → List Entry
-entries_behind bytes = front 26 (run_on 0 26 (drop 26 bytes)).entries
+entries_behind bytes = front 26 (prefix_on 0 26 (drop 26 bytes)).entries
 
 -- a header and these entries: the offset of the last one, and the offset where they end
-abbrev pub run_with : List Entry → FileRun
-run_with entries = record { entries = entries; last = last_from 0 26 entries; end = 26 + sizes_of entries }
+abbrev pub prefix_with : List Entry → ValidPrefix
+prefix_with entries = record { entries = entries; last = last_from 0 26 entries; end = 26 + sizes_of entries }
 
 -- no whole header, and so nothing
-abbrev pub no_run : FileRun
-no_run = record { entries = []; last = 0; end = 0 }
+abbrev pub no_prefix : ValidPrefix
+no_prefix = record { entries = []; last = 0; end = 0 }
 
 -- what the bytes of file f are whose first entry is this one, with this prev field
-abbrev pub found_first : ℕ → List ℕ → ℕ → Entry → Found
-found_first f bytes prev (FileHeader version file) =
+abbrev pub scan_first : ℕ → List ℕ → ℕ → Entry → FileScan
+scan_first f bytes prev (FileHeader version file) =
     if not (prev == 0) then Damaged else
     if not (version == 1) then VersionUnknown version else
-    if file == f then Run (run_with (entries_behind bytes)) else Damaged
-found_first f bytes prev entry = Damaged
+    if file == f then Prefix (prefix_with (entries_behind bytes)) else Damaged
+scan_first f bytes prev entry = Damaged
 
 -- what the bytes of file f are that begin so
-abbrev pub found_by : ℕ → List ℕ → Decoded → Found
-found_by f bytes (NotWhole torn) = Run no_run
-found_by f bytes (Whole entry prev len) = found_first f bytes prev entry
+abbrev pub scan_by : ℕ → List ℕ → Decoded → FileScan
+scan_by f bytes (NotWhole torn) = Prefix no_prefix
+scan_by f bytes (Whole entry prev len) = scan_first f bytes prev entry
 
 -- what the bytes of file f are
-abbrev pub found_in : ℕ → List ℕ → Found
-found_in f bytes = found_by f bytes (decoded bytes)
+abbrev pub scan_of : ℕ → List ℕ → FileScan
+scan_of f bytes = scan_by f bytes (decoded bytes)

@@ -1,13 +1,13 @@
 // What holds of all files and logs.
-ghost use Rattle.log_file.specs.Laws.{AreFoundAgain, AreSpelledBack, AreLongest, GrowByAppend, AreOneList, LogsAreFound};
+ghost use Rattle.log_file.specs.Laws.{AreFoundAgain, AreEncodedBack, AreLongest, GrowByAppend, AreOneList, LogsAreFound};
 ghost use Rattle.log_file.specs.Placed.{PlacedAreEntries, PlacedGoLast, PlacedGoOn, FrontsArePlaced, PlacedAreInOrder};
 
-/// A file's bytes that were spelled entry by entry are found again, also before a rest that begins
-/// with no whole entry; the run of any file's bytes is spelled as they begin, and no run is longer; and
-/// a file with one entry more has the entry's spelling at its end.
+/// A file's bytes that were encoded entry by entry are found again, also before a torn tail that begins
+/// with no whole entry; the valid prefix of any file's bytes is encoded as they begin, and no valid
+/// prefix is longer; and a file with one entry more has the entry's encoding at its end.
 pub fn files_are_found()
     ensures again { AreFoundAgain }
-    ensures back { AreSpelledBack }
+    ensures back { AreEncodedBack }
     ensures longest { AreLongest }
     ensures grows { GrowByAppend }
 {}

@@ -5,9 +5,9 @@ ghost use Rattle.je_disk.specs.Moments.{now, Passes};
 ghost use Rattle.je_disk.specs.States.{content};
 ghost use Rattle.je_disk.specs.Causes.{HasCause};
 ghost use Rattle.log_file.specs.Reading.{IsScanOf};
-ghost use Rattle.log_file.specs.Scan.{found_in};
+ghost use Rattle.log_file.specs.Scan.{scan_of};
 
-use crate::{Found, scan_bytes};
+use crate::{FileScan, scan_bytes};
 use je_disk::{Disk, DiskErr};
 use je_lsn::FileNo;
 use std::alloc::{AllocError, Global};
@@ -16,8 +16,8 @@ use std::alloc::{AllocError, Global};
 #[derive(Drop)]
 pub struct Scanned {
     /// What the file's bytes are.
-    pub found: Found,
-    /// How many bytes the file has: those behind the run's end are its rest.
+    pub found: FileScan,
+    /// How many bytes the file has: those behind the valid prefix's end are its torn tail.
     pub len: u64,
 }
 
@@ -25,10 +25,10 @@ pub struct Scanned {
 /// once, whole, into memory that is free again afterwards. `Failed` comes only where the disk counted a
 /// fault; Memory is free. The disk's state stays the same, and so do the jobs that are out.
 pub fn scan<D: Disk>(alloc: Global, disk: &mut D, f: FileNo) -> Result<Scanned, DiskErr>
-    ensures scanned { IfOk result (λ scanned. IsScanOf D.tells (now (D.history disk.old)).reads f.0 scanned) }
-    ensures same { D.tells ≡ true → now (D.history disk.new) ≡ now (D.history disk.old) }
-    ensures moments { D.tells ≡ true → Passes (D.history disk.old) (D.history disk.new) (λ s. s ≡ now (D.history disk.old)) }
-    ensures jobs { (D.sync_out disk.new ≡ D.sync_out disk.old) × (D.read_out disk.new ≡ D.read_out disk.old) × (D.read_of disk.new ≡ D.read_of disk.old) × (D.drawn disk.new ≡ D.drawn disk.old) }
+    ensures scanned { IfOk result (λ scanned. IsScanOf D.observable (now (D.history disk.old)).reads f.0 scanned) }
+    ensures same { D.observable ≡ true → now (D.history disk.new) ≡ now (D.history disk.old) }
+    ensures moments { D.observable ≡ true → Passes (D.history disk.old) (D.history disk.new) (λ s. s ≡ now (D.history disk.old)) }
+    ensures jobs { (D.sync_out disk.new ≡ D.sync_out disk.old) × (D.read_out disk.new ≡ D.read_out disk.old) × (D.read_of disk.new ≡ D.read_of disk.old) × (D.last_job disk.new ≡ D.last_job disk.old) }
     ensures cause { HasCause (D.faults disk.old) (D.faults disk.new) result }
 {
     let bytes = read_whole(alloc, disk, f)?;
@@ -38,7 +38,7 @@ pub fn scan<D: Disk>(alloc: Global, disk: &mut D, f: FileNo) -> Result<Scanned, 
 // What a file is that has these bytes.
 fn scan_whole(alloc: Global, bytes: &[u8], f: FileNo) -> Result<Scanned, AllocError>
     ensures are { AreBytes bytes.now }
-    ensures scanned { IfOk result (λ scanned. (scanned.found ≡ found_in f.0 bytes.now) × (scanned.len ≡ length bytes.now)) }
+    ensures scanned { IfOk result (λ scanned. (scanned.found ≡ scan_of f.0 bytes.now) × (scanned.len ≡ length bytes.now)) }
 {
     let found = scan_bytes(alloc, bytes, f)?;
     Ok(Scanned {
@@ -49,10 +49,10 @@ fn scan_whole(alloc: Global, bytes: &[u8], f: FileNo) -> Result<Scanned, AllocEr
 
 // The bytes of a file; none where it is not there.
 fn read_whole<D: Disk>(alloc: Global, disk: &mut D, f: FileNo) -> Result<Vec<u8>, DiskErr>
-    ensures bytes { D.tells ≡ true → IfOk result (λ bytes. bytes.items ≡ content (now (D.history disk.old)).reads f.0) }
-    ensures same { D.tells ≡ true → now (D.history disk.new) ≡ now (D.history disk.old) }
-    ensures moments { D.tells ≡ true → Passes (D.history disk.old) (D.history disk.new) (λ s. s ≡ now (D.history disk.old)) }
-    ensures jobs { (D.sync_out disk.new ≡ D.sync_out disk.old) × (D.read_out disk.new ≡ D.read_out disk.old) × (D.read_of disk.new ≡ D.read_of disk.old) × (D.drawn disk.new ≡ D.drawn disk.old) }
+    ensures bytes { D.observable ≡ true → IfOk result (λ bytes. bytes.items ≡ content (now (D.history disk.old)).reads f.0) }
+    ensures same { D.observable ≡ true → now (D.history disk.new) ≡ now (D.history disk.old) }
+    ensures moments { D.observable ≡ true → Passes (D.history disk.old) (D.history disk.new) (λ s. s ≡ now (D.history disk.old)) }
+    ensures jobs { (D.sync_out disk.new ≡ D.sync_out disk.old) × (D.read_out disk.new ≡ D.read_out disk.old) × (D.read_of disk.new ≡ D.read_of disk.old) × (D.last_job disk.new ≡ D.last_job disk.old) }
     ensures cause { HasCause (D.faults disk.old) (D.faults disk.new) result }
 {
     let len = disk.len(f)?;

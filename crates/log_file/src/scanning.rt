@@ -1,11 +1,11 @@
 // Scanning the bytes of a file.
 ghost use Rattle.std.specs.Prelude.{◌≡◌, ◌≤◌, ◌<◌, ◌^◌, length, IfOk, MatchOption};
 ghost use Rattle.log_entry.specs.Body.{IsEntry};
-ghost use Rattle.log_entry.specs.Spelling.{size_of};
-ghost use Rattle.log_file.specs.Scan.{may_follow as may_follow_header, no_run as nothing_run, run_with, entries_behind, found_in, found_first};
-ghost use Rattle.log_file.specs.Scanning.{end_in_run, IsNext, IsLast};
+ghost use Rattle.log_entry.specs.Encoding.{size_of};
+ghost use Rattle.log_file.specs.Scan.{may_follow as may_follow_header, no_prefix as nothing_prefix, prefix_with, entries_behind, scan_of, scan_first};
+ghost use Rattle.log_file.specs.Scanning.{end_in_prefix, IsNext, IsPrefixEnd};
 
-use crate::{FileRun, Found};
+use crate::{FileScan, ValidPrefix};
 use je_lsn::FileNo;
 use je_order::List;
 use log_entry::{Decoded, Entry, decode, decode_at, size};
@@ -24,18 +24,19 @@ fn may_follow(entry: &Entry) -> bool
     !matches!(entry, Entry::FileHeader { .. })
 }
 
-// The next entry of a run, and where it ends.
+// The next entry of a valid prefix, and where it ends.
 #[derive(Drop)]
 struct Next {
     entry: Entry,
     end: u32,
 }
 
-// Where a run that goes on with this entry, which stands at the offset `at` and has this prev field,
-// goes on behind it; None where the run ends before it. `last` is the offset of the entry before.
+// Where a valid prefix that goes on with this entry, which stands at the offset `at` and has this
+// prev field, goes on behind it; None where the valid prefix ends before it. `last` is the offset of
+// the entry before.
 fn end_of(entry: &Entry, prev: u32, at: u32, last: u32) -> Option<u32>
     requires { IsEntry entry.now }
-    ensures { result ≡ end_in_run entry.now prev at last }
+    ensures { result ≡ end_in_prefix entry.now prev at last }
 {
     if prev != last {
         return None;
@@ -46,11 +47,11 @@ fn end_of(entry: &Entry, prev: u32, at: u32, last: u32) -> Option<u32>
     at.checked_add(size(entry))
 }
 
-// The next entry of a run that goes on at an offset behind an entry at the offset `last`, in the time
-// of that entry; None where the run ends.
+// The next entry of a valid prefix that goes on at an offset behind an entry at the offset `last`, in
+// the time of that entry; None where the valid prefix ends.
 fn next_entry(alloc: Global, bytes: &[u8], at: u32, last: u32) -> Result<Option<Next>, AllocError>
     requires { at ≤ length bytes.now }
-    ensures { IfOk result (λ next. MatchOption next (IsLast bytes.now at last) (IsNext bytes.now at last)) }
+    ensures { IfOk result (λ next. MatchOption next (IsPrefixEnd bytes.now at last) (IsNext bytes.now at last)) }
 {
     let Decoded::Whole { entry, prev, .. } = decode_at(alloc, bytes, at as usize)? else {
         return Ok(None);
@@ -64,10 +65,10 @@ fn next_entry(alloc: Global, bytes: &[u8], at: u32, last: u32) -> Result<Option<
     }
 }
 
-// The run of bytes that begin with the file's header.
-fn scan_behind(alloc: Global, bytes: &[u8]) -> Result<FileRun, AllocError>
+// The valid prefix of bytes that begin with the file's header.
+fn scan_behind(alloc: Global, bytes: &[u8]) -> Result<ValidPrefix, AllocError>
     requires { 26 ≤ length bytes.now }
-    ensures { IfOk result (λ run. run ≡ run_with (entries_behind bytes.now)) }
+    ensures { IfOk result (λ prefix. prefix ≡ prefix_with (entries_behind bytes.now)) }
 {
     let mut entries = Vec::new(alloc);
     let mut last = 0;
@@ -77,18 +78,18 @@ fn scan_behind(alloc: Global, bytes: &[u8]) -> Result<FileRun, AllocError>
         last = at;
         at = end;
     }
-    Ok(FileRun {
+    Ok(ValidPrefix {
         entries: List::from_vec(entries),
         last,
         end: at,
     })
 }
 
-// A file without a run.
-fn no_run(alloc: Global) -> FileRun
-    ensures { result ≡ nothing_run }
+// A file without a valid prefix.
+fn no_prefix(alloc: Global) -> ValidPrefix
+    ensures { result ≡ nothing_prefix }
 {
-    FileRun {
+    ValidPrefix {
         entries: List::new(alloc),
         last: 0,
         end: 0,
@@ -96,42 +97,42 @@ fn no_run(alloc: Global) -> FileRun
 }
 
 // What bytes are whose first entry is this one, with this prev field.
-fn found_behind(
+fn scan_after_header(
     alloc: Global,
     bytes: &[u8],
     f: FileNo,
     first: &Entry,
     prev: u32,
-) -> Result<Found, AllocError>
+) -> Result<FileScan, AllocError>
     requires { size_of first.now ≤ length bytes.now }
-    ensures { IfOk result (λ found. found ≡ found_first f.0 bytes.now prev first.now) }
+    ensures { IfOk result (λ found. found ≡ scan_first f.0 bytes.now prev first.now) }
 {
     let Entry::FileHeader { version, file } = first else {
-        return Ok(Found::Damaged);
+        return Ok(FileScan::Damaged);
     };
     if prev != 0 {
-        return Ok(Found::Damaged);
+        return Ok(FileScan::Damaged);
     }
     if *version != VERSION {
-        return Ok(Found::VersionUnknown { version: *version });
+        return Ok(FileScan::VersionUnknown { version: *version });
     }
     if *file != f.0 {
-        return Ok(Found::Damaged);
+        return Ok(FileScan::Damaged);
     }
-    Ok(Found::Run(scan_behind(alloc, bytes)?))
+    Ok(FileScan::Prefix(scan_behind(alloc, bytes)?))
 }
 
-/// What the bytes of the file of this number are. Each entry is decoded once, at its place. The one
-/// error is want of memory.
-pub fn scan_bytes(alloc: Global, bytes: &[u8], f: FileNo) -> Result<Found, AllocError>
-    ensures { IfOk result (λ found. found ≡ found_in f.0 bytes.now) }
+/// What the bytes of the file of this number are. Each entry is decoded once, at its place. The
+/// only error is out of memory.
+pub fn scan_bytes(alloc: Global, bytes: &[u8], f: FileNo) -> Result<FileScan, AllocError>
+    ensures { IfOk result (λ found. found ≡ scan_of f.0 bytes.now) }
 {
     match decode(alloc, bytes)? {
         Decoded::Whole { entry, prev, .. } => {
-            let found = found_behind(alloc, bytes, f, &entry, prev);
+            let found = scan_after_header(alloc, bytes, f, &entry, prev);
             drop(entry);
             found
         }
-        Decoded::Torn(_) => Ok(Found::Run(no_run(alloc))),
+        Decoded::Torn(_) => Ok(FileScan::Prefix(no_prefix(alloc))),
     }
 }

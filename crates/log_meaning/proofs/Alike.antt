@@ -13,22 +13,23 @@ use Rattle.log_entry.specs.declared.entry.Entry.{Entry}
 use Rattle.log_entry.specs.declared.entry.Entry.TheVariants.{FileHeader, Put, Delete, Commit}
 use Rattle.log_entry.specs.declared.decoder.Decoded.{Decoded}
 use Rattle.log_entry.specs.declared.decoder.Decoded.TheVariants.{Whole, Torn as NotWhole}
-use Rattle.log_entry.specs.Spelling.{size_of}
+use Rattle.log_entry.specs.Encoding.{size_of}
 use Rattle.log_entry.specs.Reading.{decoded}
-use Rattle.log_entry.specs.Run.{run_on}
+use Rattle.log_entry.specs.Prefix.{run_on}
 use Rattle.log_entry.proofs.FieldLaws.{eight}
-use Rattle.log_file.specs.declared.found.Found.{Found}
-use Rattle.log_file.specs.declared.found.Found.TheVariants.{Run, VersionUnknown as OtherVersion, Damaged as NoHeader}
+use Rattle.log_file.specs.declared.file_scan.FileScan.{Found}
+use Rattle.log_file.specs.declared.file_scan.FileScan.TheVariants.{Run, VersionUnknown as OtherVersion, Damaged as NoHeader}
 use Rattle.log_file.specs.Scan.{may_follow, front, entries_behind, run_with, found_first, found_by, found_in}
 use Rattle.log_file.specs.Log.{Log, entries_of, entries_found, log_in}
-use Rattle.log_replay.specs.declared.finding.Finding.{Finding}
-use Rattle.log_replay.specs.declared.finding.Finding.TheVariants.{Damaged, Missing, Tree}
+use Rattle.log_replay.specs.declared.corruption.Corruption.{Finding}
+use Rattle.log_replay.specs.declared.corruption.Corruption.TheVariants.{Damaged, Missing, Tree}
 use Rattle.log_replay.specs.Rows.{Rows, RowChange, no_rows, data_at, store_of}
 use Rattle.log_replay.specs.Replay.{nothing_replayed, replayed, changes_of, txn_in, db_in, greatest}
 use Rattle.log_replay.specs.Wrong.{or_else, wrong_record}
 use Rattle.log_replay.specs.Meaning.{Meaning as ReplayMeaning, meaning_of as replay_meaning_of}
-use Rattle.log_replay.specs.Reading.{lsn_at, finding_at, finding_behind, finding_in, gap_in, marked_entry, marked, marked_log, lsn_in, judged_by as replay_judged_by, judged as replay_judged, reading_by as replay_reading_by}
-use Rattle.log_replay.proofs.ListLaws.{all_append, all_of_map}
+use Rattle.log_replay.specs.Reading.{lsn_at, finding_at, finding_behind, finding_in, gap_in, marked_entry, marked, marked_log, marked_lsn, judged_by as replay_judged_by, judged as replay_judged, reading_by as replay_reading_by}
+use Rattle.log_replay.proofs.ListLaws.{all_of_map}
+use Rattle.je_order.proofs.Lists.{all_append}
 use Rattle.log_trees.specs.Placed.{Placed, placed_from, placed}
 use Rattle.log_trees.specs.Changes.{Written, unwritten, LoggedChange, rows_after}
 use Rattle.log_trees.specs.Walk.{and_then, read_roots}
@@ -102,26 +103,26 @@ marked_all (file ∷ log) =
     map-append (λ (p : Placed). mark_entry with_lsn p.0 p.1) (placed_from file.0 26 file.1) (placed log)
     ∙ ap₂ (λ (a b : List Entry). a ++ b) (marked_from file.0 26 file.1) (marked_all log)
 
-lsn_read : (w : Written) → w.at < 2 ^ 64 → lsn_in (option_map (with_lsn w.at) w.value) ≡ lsn_there w
+lsn_read : (w : Written) → w.at < 2 ^ 64 → marked_lsn (option_map (with_lsn w.at) w.value) ≡ lsn_there w
 lsn_read w lt = by_value w.value
   where
     number : bytes_number_in w64 (to_be_bytes w64 w.at) ≡ Some (w.at, [])
     number = ap (bytes_number_in w64) (sym (append-nil (to_be_bytes w64 w.at))) ∙ eight.again w.at [] lt
 
-    by_value : (v : Option (List ℕ)) → lsn_in (option_map (with_lsn w.at) v) ≡ unwrap_or (option_map (λ (x : List ℕ). w.at) v) 0
+    by_value : (v : Option (List ℕ)) → marked_lsn (option_map (with_lsn w.at) v) ≡ unwrap_or (option_map (λ (x : List ℕ). w.at) v) 0
     by_value None = refl
     by_value (Some v) = ap (λ (o : Option (ℕ × List ℕ)). unwrap_or (option_map (λ (n : ℕ × List ℕ). n.0) o) 0) number
 
 lsn_is : (log : Log) (d : ℕ) (x : Name) → AllByRecursion (λ e. is_plain e ≡ true) (entries_of log) → AllByRecursion (λ (p : Placed). p.0 < 2 ^ 64) (placed log) →
-    lsn_in (data_at x ((replayed (marked_log log) nothing_replayed).rows d)) ≡ lsn_there (record_at (redone 0 (placed log)) d x)
+    marked_lsn (data_at x ((replayed (marked_log log) nothing_replayed).rows d)) ≡ lsn_there (record_at (redone 0 (placed log)) d x)
 lsn_is log d x plain low =
     let es : List Placed = placed log in
     let is = alike with_lsn es (plain_placed log plain) in
     let done : List LoggedChange = (redone 0 es).done in
-    ap (λ (l : List Entry). lsn_in (data_at x ((replayed l nothing_replayed).rows d))) (sym (marked_all log))
-    ∙ ap (λ (rows : Rows). lsn_in (data_at x (rows d))) is.rows
-    ∙ ap lsn_in (listed_by_name (map (mark_change with_lsn) done) d x)
-    ∙ ap (λ (w : Written). lsn_in w.value) (last-marked with_lsn d x done unwritten)
+    ap (λ (l : List Entry). marked_lsn (data_at x ((replayed l nothing_replayed).rows d))) (sym (marked_all log))
+    ∙ ap (λ (rows : Rows). marked_lsn (data_at x (rows d))) is.rows
+    ∙ ap marked_lsn (listed_by_name (map (mark_change with_lsn) done) d x)
+    ∙ ap (λ (w : Written). marked_lsn w.value) (last-marked with_lsn d x done unwritten)
     ∙ lsn_read (record_at (redone 0 es) d x)
     (last-holds (λ (w : Written). w.at < 2 ^ 64) d x done unwritten (omega arith) (done_below (2 ^ 64) es (plain_placed log plain) low))
 

@@ -10,7 +10,8 @@ use Rattle.log_entry.specs.declared.entry.Entry.TheVariants.{Put, Delete, Migrat
 use Rattle.log_entry.specs.declared.root.Root.{Root}
 use Rattle.log_replay.specs.Rows.{number_in}
 use Rattle.log_replay.specs.Replay.{txn_in}
-use Rattle.log_replay.proofs.ListLaws.{all_weaker, all_append, all_both}
+use Rattle.log_replay.proofs.ListLaws.{all_both}
+use Rattle.je_order.proofs.Lists.{all_weaker, all_append}
 use Rattle.log_trees.specs.Placed.{Placed}
 use Rattle.log_trees.specs.Changes.{Written, unwritten, LoggedChange, is_of, last_of}
 use Rattle.log_trees.specs.Images.{NamedLsn}

@@ -5,10 +5,11 @@ use Rattle.std.specs.List.{AllByRecursion}
 use Rattle.je_model.specs.declared.store.Store.{Store}
 use Rattle.je_model.specs.Store.{store_after}
 use Rattle.log_file.specs.Log.{log_in}
-use Rattle.log_replay.specs.declared.finding.Finding.{Finding}
+use Rattle.log_replay.specs.declared.corruption.Corruption.{Finding}
 use Rattle.log_replay.specs.Rows.{is_environment}
 use Rattle.log_replay.specs.Reading.{gap_behind, gap_in}
-use Rattle.log_replay.proofs.ListLaws.{all_weaker, filter-all}
+use Rattle.log_replay.proofs.ListLaws.{filter-all}
+use Rattle.je_order.proofs.Lists.{all_weaker}
 use Rattle.log_replay.proofs.WrongLaws.{environment_is_none}
 use Rattle.log_trees.specs.Placed.{Placed, placed}
 use Rattle.log_trees.specs.Trees.{rows_of_roots}

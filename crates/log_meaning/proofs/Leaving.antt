@@ -12,9 +12,10 @@ use Rattle.je_model.specs.declared.store.Kind.TheVariants.{Plain}
 use Rattle.je_model.specs.declared.store.TheConstants.{MOST_DATABASES}
 use Rattle.je_model.specs.Store.{store_after}
 use Rattle.log_replay.specs.Rows.{Row, Rows, number_in, numbers_of, is_catalog_row, are_distinct, are_plain, is_environment, pair_of, database_in, store_of, no_rows}
-use Rattle.log_replay.proofs.Entries.{lookup_is_data}
-use Rattle.log_replay.proofs.Loaded.{same_rows}
-use Rattle.log_replay.proofs.ListLaws.{all_weaker, all_of_map, map_same}
+use Rattle.log_replay.proofs.MapRows.{lookup_is_data}
+use Rattle.log_replay.proofs.LoadedRows.{same_rows}
+use Rattle.log_replay.proofs.ListLaws.{all_of_map, map_same}
+use Rattle.je_order.proofs.Lists.{all_weaker}
 use Rattle.log_trees.specs.Placed.{Placed}
 use Rattle.log_trees.specs.Changes.{unwritten}
 use Rattle.log_meaning.specs.Checkpoint.{restarted}

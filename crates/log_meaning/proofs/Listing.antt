@@ -4,11 +4,12 @@ use Rattle.std.specs.Prelude.{◌&&◌}
 use Rattle.std.proofs.lemmas.Bool.{eqb-true, eqb-false, eq-eqb, ne_eqb, cond-true, cond-false, cond_both}
 use Rattle.je_order.specs.declared.name.Name.{Name}
 use Rattle.je_order.specs.Order.{name_cmp}
-use Rattle.node_core.proofs.Order.{same as same_name, equal_of}
+use Rattle.node_core.proofs.NameOrder.{same as same_name}
+use Rattle.je_order.proofs.Orderings.{equal_from_test}
 use Rattle.log_replay.specs.Rows.{Row, Rows, rows_with, no_rows, IsRising}
 use Rattle.log_replay.specs.Wrong.{or_else}
-use Rattle.log_replay.proofs.Entries.{lookup_is_data}
-use Rattle.log_replay.proofs.Loaded.{found}
+use Rattle.log_replay.proofs.MapRows.{lookup_is_data}
+use Rattle.log_replay.proofs.LoadedRows.{found}
 use Rattle.log_replay.proofs.RowLaws.{rising-changed, rising-nil}
 use Rattle.log_trees.specs.Changes.{Written, unwritten, LoggedChange, is_of, last_of, rows_after}
 use Rattle.log_trees.proofs.Bounds.{eq_turned}
@@ -31,11 +32,11 @@ found-filter test q (r ∷ rows) = by_tests (test r.0) (is_eq (name_cmp q r.0)) 
     by_tests : (t e : Bool) → test r.0 ≡ t → is_eq (name_cmp q r.0) ≡ e → found (filter (λ (s : Row). test s.0) rows) q ≡ cond (test q) (found rows q) None →
         found (cond t (r ∷ filter (λ (s : Row). test s.0) rows) (filter (λ (s : Row). test s.0) rows)) q ≡ cond (test q) (cond e (Some r.1) (found rows q)) None
     by_tests true true t e rest =
-        let at : q ≡ r.0 = same_name q r.0 (equal_of _ e) in
+        let at : q ≡ r.0 = same_name q r.0 (equal_from_test _ e) in
         cond-true (is_eq (name_cmp q r.0)) (Some r.1) (found (filter (λ (s : Row). test s.0) rows) q) e ∙ sym (cond-true (test q) (Some r.1) None (ap test at ∙ t))
     by_tests true false t e rest = cond-false (is_eq (name_cmp q r.0)) (Some r.1) (found (filter (λ (s : Row). test s.0) rows) q) e ∙ rest
     by_tests false true t e rest =
-        let at : q ≡ r.0 = same_name q r.0 (equal_of _ e) in
+        let at : q ≡ r.0 = same_name q r.0 (equal_from_test _ e) in
         let not_in : test q ≡ false = ap test at ∙ t in
         rest ∙ cond-false (test q) (found rows q) None not_in ∙ sym (cond-false (test q) (Some r.1) None not_in)
     by_tests false false t e rest = rest

@@ -8,8 +8,8 @@ use Rattle.log_entry.specs.declared.entry.Entry.TheVariants.{CkptEnd}
 use Rattle.log_entry.specs.Body.{IsEntry}
 use Rattle.log_entry.specs.Items.{rises, root_before}
 use Rattle.log_file.specs.Log.{log_in}
-use Rattle.log_replay.specs.declared.finding.Finding.{Finding}
-use Rattle.log_replay.specs.declared.finding.Finding.TheVariants.{Missing}
+use Rattle.log_replay.specs.declared.corruption.Corruption.{Finding}
+use Rattle.log_replay.specs.declared.corruption.Corruption.TheVariants.{Missing}
 use Rattle.log_replay.specs.Rows.{is_environment, store_of}
 use Rattle.log_replay.specs.Wrong.{or_else, wrong_record}
 use Rattle.log_replay.specs.Reading.{lsn_at, finding_in, gap_behind}

@@ -9,7 +9,7 @@ use Rattle.log_entry.specs.declared.entry.Entry.{Entry}
 use Rattle.log_entry.specs.declared.entry.Entry.TheVariants.{Put, Delete, Commit}
 use Rattle.log_replay.specs.Rows.{Rows, no_rows, RowChange, rows_changed}
 use Rattle.log_replay.specs.Replay.{Replay, nothing_replayed, changes_of, changes_of_others, replayed_entry, replayed}
-use Rattle.log_replay.proofs.ListLaws.{all_append}
+use Rattle.je_order.proofs.Lists.{all_append}
 use Rattle.log_trees.specs.Placed.{Placed}
 use Rattle.log_trees.specs.Changes.{Written, LoggedChange, is_of, last_of, rows_after}
 use Rattle.log_meaning.specs.Redo.{Redo, nothing_redone, set_at, unset_at, redo_entry, redo_all, from, redone}

@@ -7,11 +7,12 @@ use Rattle.std.proofs.lemmas.List.{append-nil}
 use Rattle.std.proofs.lemmas.List.Elements.{filter-append}
 use Rattle.std.specs.List.{AllByRecursion}
 use Rattle.je_order.specs.declared.name.Name.{Name}
-use Rattle.node_core.proofs.Order.{same as same_name, equal_of}
+use Rattle.node_core.proofs.NameOrder.{same as same_name}
+use Rattle.je_order.proofs.Orderings.{equal_from_test}
 use Rattle.log_entry.specs.declared.entry.Entry.{Entry}
 use Rattle.log_entry.specs.declared.entry.Entry.TheVariants.{Put, Delete, Commit, In, Bin, BinDelta, CkptStart, CkptEnd, FileSummary}
 use Rattle.log_replay.specs.Wrong.{or_else}
-use Rattle.log_replay.proofs.ListLaws.{all_weaker, all_append}
+use Rattle.je_order.proofs.Lists.{all_weaker, all_append}
 use Rattle.log_trees.specs.Placed.{Placed}
 use Rattle.log_trees.specs.Changes.{Written, unwritten, LoggedChange, is_of, last_of, changes_from}
 use Rattle.log_trees.specs.Trees.{rows_of_roots}
@@ -124,7 +125,7 @@ free_same : (d : ℕ) (x : Name) (c : LoggedChange) (cs : List LoggedChange) →
 free_same d x c cs of none =
     let both = and_parts (c.db == d) _ of in
     let db : c.db ≡ d = eqb-true c.db d both.0 in
-    let name : c.name ≡ x = same_name c.name x (equal_of _ both.1) in
+    let name : c.name ≡ x = same_name c.name x (equal_from_test _ both.1) in
     subst (λ (y : Name). has d y cs ≡ false) name (subst (λ (e : ℕ). has e c.name cs ≡ false) db none)
 
 has-push : (d : ℕ) (x : Name) (cs : List LoggedChange) (c : LoggedChange) → is_of d x c ≡ false → has d x cs ≡ false → has d x (cs ++ c ∷ []) ≡ false

@@ -9,7 +9,7 @@ use Rattle.log_trees.specs.Changes.{LoggedChange}
 use Rattle.log_trees.specs.Trees.{rows_of_roots}
 use Rattle.log_meaning.specs.Redo.{Redo, redone}
 
--- the end of a checkpoint: its LSN and number, the LSN from which on entries are redone, the numbers that were drawn last, and the roots
+-- the end of a checkpoint: its LSN and number, the LSN from which on entries are redone, the numbers that were allocated last, and the roots
 pub record Checkpoint : Type 0 where
   pub at : ℕ
   pub number : ℕ

@@ -65,7 +65,7 @@ StandsFewer = (es : List Placed) (base next : ℕ) (is_open fewer_open : ℕ →
     → Stands es base next fewer_open rows fewer_live logged
 
 -- a log that was found, whatever is in it: all its entries are below `base`, read again it gives the records, and no change waits whose
--- transaction's number is drawn again
+-- transaction's number is allocated again
 abbrev pub StandsOpen : Type 0
 StandsOpen = (es : List Placed) (base : ℕ) (is_open : ℕ → Bool) (rows : ℕ → Name → Option (List ℕ)) (is_live : ℕ → Bool)
     → 0 < base → AllByRecursion (λ p. p.0 < base) es → (last_checkpoint es).redo ≤ base

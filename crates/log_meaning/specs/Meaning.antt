@@ -1,4 +1,4 @@
--- What a log means: the store, and the numbers that were drawn last.
+-- What a log means: the store, and the numbers that were allocated last.
 use Rattle.std.specs.Prelude.{◌≡◌, ◌<◌, ◌≤◌, ℕ, ◌==◌, max, if◌then◌else◌, List, [], ◌∷◌, Option, option_map, unwrap_or, IfSome}
 use Rattle.je_order.specs.declared.name.Name.{Name}
 use Rattle.je_model.specs.declared.store.Store.{Store}
@@ -13,7 +13,7 @@ use Rattle.log_trees.specs.Walk.{Walk}
 use Rattle.log_meaning.specs.Redo.{Redo, from, redone, record_at}
 use Rattle.log_meaning.specs.Checkpoint.{Checkpoint, behind, restarted}
 
--- the store; the transaction, node and database numbers that were drawn last; and the number of the last checkpoint that ended, 0 where none did
+-- the store; the transaction, node and database numbers that were allocated last; and the number of the last checkpoint that ended, 0 where none did
 pub record Meaning : Type 0 where
   pub store : Store
   pub last_txn : ℕ

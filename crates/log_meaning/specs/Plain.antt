@@ -4,7 +4,7 @@ use Rattle.std.specs.List.{AllByRecursion}
 use Rattle.log_entry.specs.declared.entry.Entry.{Entry}
 use Rattle.log_entry.specs.declared.entry.Entry.TheVariants.{Put, Delete, Commit}
 use Rattle.log_file.specs.Log.{Log, entries_of, log_in}
-use Rattle.log_replay.specs.declared.finding.Finding.{Finding}
+use Rattle.log_replay.specs.declared.corruption.Corruption.{Finding}
 use Rattle.log_replay.specs.Rows.{RowChange}
 use Rattle.log_replay.specs.Replay.{replayed, nothing_replayed, changes_of}
 use Rattle.log_replay.specs.Meaning.{Meaning as ReplayMeaning}

@@ -2,8 +2,8 @@
 -- the trees of the last checkpoint's roots; then the files from its redo LSN on; then the records that are left.
 use Rattle.std.specs.Prelude.{ℕ, ◌/◌, ◌^◌, ◌==◌, nat_le, nat_lt, if◌then◌else◌, List, [], ◌∷◌, Option, None, Some, Result, Ok, Err, map, filter, option_map}
 use Rattle.log_file.specs.Log.{log_in}
-use Rattle.log_replay.specs.declared.finding.Finding.{Finding}
-use Rattle.log_replay.specs.declared.finding.Finding.TheVariants.{Missing, Tree}
+use Rattle.log_replay.specs.declared.corruption.Corruption.{Finding}
+use Rattle.log_replay.specs.declared.corruption.Corruption.TheVariants.{Missing, Tree}
 use Rattle.log_replay.specs.Reading.{lsn_at, finding_in, gap_behind, gap_in}
 use Rattle.log_trees.specs.Placed.{Placed, placed}
 use Rattle.log_trees.specs.Walk.{and_then, Walk, nowhere, read_roots}

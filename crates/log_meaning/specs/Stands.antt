@@ -22,8 +22,8 @@ abbrev pub has : ℕ → Name → List LoggedChange → Bool
 has d x changes = list_any (is_of d x) changes
 
 -- `es`: the log's entries. `base`: an LSN above those that were found when the environment was opened, and not above later ones. `next`: no
--- entry stands behind it. `is_open`: the catalog, its databases, and numbers that were not drawn. `rows`: the data of each name. `is_live`:
--- the active transactions, and numbers that were not drawn. `logged`: what each of these has logged
+-- entry stands behind it. `is_open`: the catalog, its databases, and numbers that were not allocated. `rows`: the data of each name.
+-- `is_live`: the active transactions, and numbers that were not allocated. `logged`: what each of these has logged
 pub record Stands (es : List Placed) (base next : ℕ) (is_open : ℕ → Bool) (rows : ℕ → Name → Option (List ℕ)) (is_live : ℕ → Bool) (logged : ℕ → List LoggedChange) : Type 0 where
   pub begun : base ≤ next
   pub reach : ((last_checkpoint es).at ≤ next) × ((last_checkpoint es).redo ≤ next)

@@ -8,7 +8,7 @@ use Rattle.log_entry.specs.declared.entry.Entry.TheVariants.{Put, Delete, Commit
 use Rattle.log_entry.specs.declared.child_slot.ChildSlot.{ChildSlot}
 use Rattle.log_entry.specs.declared.record_slot.RecordSlot.{RecordSlot}
 use Rattle.log_entry.specs.declared.root.Root.{Root}
-use Rattle.log_replay.specs.declared.finding.Finding.TheVariants.{Missing, Tree}
+use Rattle.log_replay.specs.declared.corruption.Corruption.TheVariants.{Missing, Tree}
 use Rattle.log_trees.specs.Placed.{Placed}
 use Rattle.log_meaning.specs.Meaning.{Meaning}
 use Rattle.log_meaning.specs.Reading.{meaning_in}

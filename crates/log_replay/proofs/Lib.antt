@@ -1,21 +1,42 @@
-pub mod Entries
-pub mod Waiting
+-- What the maps of std do to a database's records, as the definitions on lists say it.
+pub mod MapRows
+-- The changes that wait for a commit, while entries come.
+pub mod PendingChanges
+-- What holds of each element of a list, and what tests find.
 pub mod ListLaws
+-- The records of one database: names and their order, what a name finds, and what a change leaves.
 pub mod RowLaws
+-- The store that records make, and what a logged change leaves of it.
 pub mod StoreLaws
+-- How many records and databases a logged change leaves.
 pub mod TotalLaws
-pub mod LogLaws
-pub mod LoggedLaws
-pub mod Changes
-pub mod Opening
-pub mod ReplayLaws
+-- No record is wrong exactly where the records are those of an environment.
 pub mod WrongLaws
-pub mod Mapping
-pub mod Passing
+-- What a log means, and what one more transaction in it leaves.
+pub mod LogLaws
+-- A replay that is under way, from entry to entry.
+pub mod ReplayLaws
+-- What one more transaction in a log leaves, and how long the log is then.
+pub mod LoggedLaws
+-- Several changes of records, one after another.
+pub mod RowChanges
+-- The databases that a catalog names are those that the records make.
+pub mod OpeningStore
+-- A list that a loop makes of another one, item by item.
+pub mod ListMapping
+-- Moments that pass while a disk's state stays the same.
+pub mod UnchangedMoments
+-- Numbers between rising numbers of files.
 pub mod GapLaws
+-- What the files of a log hold, and what is wrong with them.
 pub mod FilesLaws
+-- The files of a listing, with the bytes that a disk reads.
 pub mod ListedLaws
+-- A reading of files that is under way, and what it comes to.
 pub mod ReadingLaws
+-- The second replay, in which each put has its LSN for its data.
 pub mod PlacingLaws
+-- A log whose files are there whole is read again.
 pub mod AgainLaws
-pub mod Loaded
+-- Records that go in many at a time.
+pub mod LoadedRows

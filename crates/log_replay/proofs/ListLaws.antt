@@ -3,6 +3,7 @@ use Rattle.std.proofs.Common.{◌≡◌, List, [], ◌∷◌, ◌++◌, Bool, tr
 use Rattle.std.specs.List.{AllByRecursion, list_all, list_any}
 use Rattle.std.proofs.lemmas.Bool.{and_parts, and_from, or_parts, cases_Bool, cond_both, cond-true, cond-false, true≢false}
 use Rattle.std.proofs.lemmas.Option.{none-some, same_Some}
+use Rattle.je_order.proofs.Lists.{none_each}
 pub use Rattle.log_file.proofs.ListLaws.{all_weaker, all_append}
 
 -- ---- each element
@@ -21,16 +22,6 @@ pub all_from_true : {X : Type 0} (p : X → Bool) (xs : List X) → AllByRecursi
 all_from_true p [] h = refl
 all_from_true p (x ∷ xs) h = and_from (p x) (list_all p xs) h.0 (all_from_true p xs h.1)
 
--- each element fails a test that none passes
-pub none_true : {X : Type 0} (p : X → Bool) (xs : List X) → list_any p xs ≡ false → AllByRecursion (λ x. p x ≡ false) xs
-none_true p [] h = tt
-none_true p (x ∷ xs) h = let s = or_parts (p x) (list_any p xs) h in (s.0, none_true p xs s.1)
-
--- and the other way
-pub none_from_false : {X : Type 0} (p : X → Bool) (xs : List X) → AllByRecursion (λ x. p x ≡ false) xs → list_any p xs ≡ false
-none_from_false p [] h = refl
-none_from_false p (x ∷ xs) h = ap₂ (λ a b. a || b) h.0 (none_from_false p xs h.1)
-
 -- two facts of each element make a third
 pub all_both : {X : Type 0} (P Q R : X → Type 0) → ((x : X) → P x → Q x → R x) →
     (xs : List X) → AllByRecursion P xs → AllByRecursion Q xs → AllByRecursion R xs
@@ -41,20 +32,6 @@ all_both P Q R both (x ∷ xs) h k = (both x h.0 k.0, all_both P Q R both xs h.1
 pub all_parts : {X : Type 0} (P : X → Type 0) (xs ys : List X) → AllByRecursion P (xs ++ ys) → AllByRecursion P xs × AllByRecursion P ys
 all_parts P [] ys h = (tt, h)
 all_parts P (x ∷ xs) ys h = let s = all_parts P xs ys h.1 in ((h.0, s.0), s.1)
-
--- what holds of each element holds of those that a filter keeps
-pub all_filter : {X : Type 0} (P : X → Type 0) (p : X → Bool) (xs : List X) → AllByRecursion P xs → AllByRecursion P (filter p xs)
-all_filter P p [] h = tt
-all_filter P p (x ∷ xs) h =
-    let rest = all_filter P p xs h.1 in
-    cond_both (p x) (x ∷ filter p xs) (filter p xs) (λ l. AllByRecursion P l) (λ e. (h.0, rest)) (λ e. rest)
-
--- a filter keeps what passes
-pub filter_all_pass : {X : Type 0} (p : X → Bool) (xs : List X) → AllByRecursion (λ x. p x ≡ true) (filter p xs)
-filter_all_pass p [] = tt
-filter_all_pass p (x ∷ xs) =
-    let rest = filter_all_pass p xs in
-    cond_both (p x) (x ∷ filter p xs) (filter p xs) (λ l. AllByRecursion (λ y. p y ≡ true) l) (λ e. (e, rest)) (λ e. rest)
 
 -- a filter that all pass keeps the list
 pub filter-all : {X : Type 0} (p : X → Bool) (xs : List X) → AllByRecursion (λ x. p x ≡ true) xs → filter p xs ≡ xs
@@ -132,7 +109,7 @@ pub any_found : {X : Type 0} (p q : X → Bool) (xs : List X) (x : X) → find p
 any_found p q xs x h passes =
     ⊎_elim
     (λ (e : list_any q xs ≡ true). e)
-    (λ (e : list_any q xs ≡ false). absurd (true≢false (sym passes ∙ (found (λ y. q y ≡ false) p xs x h (none_true q xs e)).0)))
+    (λ (e : list_any q xs ≡ false). absurd (true≢false (sym passes ∙ (found (λ y. q y ≡ false) p xs x h (none_each q xs e)).0)))
     (cases_Bool (list_any q xs))
 
 -- some element that a map gives passes where some element passes before it

@@ -8,7 +8,7 @@ use Rattle.std.proofs.lemmas.Map.Views.{list_any-from_Contains, Contains-from_an
 use Rattle.std.specs.List.{AllByRecursion, list_any, Contains}
 use Rattle.std.specs.List.Sorted.{IsStrictlyIncreasing}
 use Rattle.std.specs.Map.{lookup}
-use Rattle.je_disk.specs.States.{Files, content, IsRising, IsListing}
+use Rattle.je_disk.specs.States.{Files, content, AreRisingNumbers, IsListing}
 use Rattle.je_lsn.specs.declared.file_no.FileNo.{FileNo}
 use Rattle.log_file.specs.Log.{AreFiles}
 use Rattle.log_replay.specs.Reading.{files_read}
@@ -21,22 +21,22 @@ pub read_length : (reads : Files) (files : List FileNo) → length (files_read r
 read_length reads [] = refl
 read_length reads (f ∷ files) = ap suc (read_length reads files)
 
-pub read_told : (reads : Files) (files : List FileNo) → AllByRecursion (λ (e : ℕ × List ℕ). e.1 ≡ content reads e.0) (files_read reads files)
-read_told reads [] = tt
-read_told reads (f ∷ files) = (refl, read_told reads files)
+pub read_observed : (reads : Files) (files : List FileNo) → AllByRecursion (λ (e : ℕ × List ℕ). e.1 ≡ content reads e.0) (files_read reads files)
+read_observed reads [] = tt
+read_observed reads (f ∷ files) = (refl, read_observed reads files)
 
 -- files of these numbers with these bytes are the ones that are read
 pub same_files : (reads : Files) (files : List FileNo) (held : List (ℕ × List ℕ)) → map (λ e. e.0) held ≡ map (λ f. f.0) files →
     AllByRecursion (λ (e : ℕ × List ℕ). e.1 ≡ content reads e.0) held → held ≡ files_read reads files
-same_files reads [] [] numbers told = refl
-same_files reads [] (x ∷ held) numbers told = absurd cc
-same_files reads (f ∷ files) [] numbers told = absurd cc
-same_files reads (f ∷ files) (x ∷ held) numbers told =
+same_files reads [] [] numbers observed = refl
+same_files reads [] (x ∷ held) numbers observed = absurd cc
+same_files reads (f ∷ files) [] numbers observed = absurd cc
+same_files reads (f ∷ files) (x ∷ held) numbers observed =
     let first : x.0 ≡ f.0 = cc in
     let others : map (λ (e : ℕ × List ℕ). e.0) held ≡ map (λ (g : FileNo). g.0) files = cc in
     let is : x ≡ (f.0, content reads f.0) =
-    ap (λ (b : List ℕ). let p : ℕ × List ℕ = (x.0, b) in p) told.0 ∙ ap (λ (n : ℕ). let p : ℕ × List ℕ = (n, content reads n) in p) first in
-    ap (λ (p : ℕ × List ℕ). p ∷ held) is ∙ ap (λ (l : List (ℕ × List ℕ)). let p : ℕ × List ℕ = (f.0, content reads f.0) in p ∷ l) (same_files reads files held others told.1)
+    ap (λ (b : List ℕ). let p : ℕ × List ℕ = (x.0, b) in p) observed.0 ∙ ap (λ (n : ℕ). let p : ℕ × List ℕ = (n, content reads n) in p) first in
+    ap (λ (p : ℕ × List ℕ). p ∷ held) is ∙ ap (λ (l : List (ℕ × List ℕ)). let p : ℕ × List ℕ = (f.0, content reads f.0) in p ∷ l) (same_files reads files held others observed.1)
 
 -- what is read under a number: the file where it is among the files, else nothing
 lookup_read : (reads : Files) (files : List FileNo) (n : ℕ) →
@@ -61,14 +61,14 @@ none_read reads n None is h = refl
 none_read reads n (Some bytes) is h = absurd (h refl)
 
 pub listed : (reads : Files) (files : List FileNo) (held : List (ℕ × List ℕ)) → map (λ e. e.0) held ≡ map (λ f. f.0) files →
-    AllByRecursion (λ (e : ℕ × List ℕ). e.1 ≡ content reads e.0) held → IsRising files → IsListing reads files → AreFiles reads held
-listed reads files held numbers told rising listing =
+    AllByRecursion (λ (e : ℕ × List ℕ). e.1 ≡ content reads e.0) held → AreRisingNumbers files → IsListing reads files → AreFiles reads held
+listed reads files held numbers observed rising listing =
     let there : (n : ℕ) → Contains (map (λ (f : FileNo). f.0) files) n → IsSome (reads n) = λ n. (listing n).0 in
     let back : (n : ℕ) → IsSome (reads n) → Contains (map (λ (f : FileNo). f.0) files) n = λ n. (listing n).1 in
     record {
       rising = subst IsStrictlyIncreasing (sym numbers) rising;
       each = λ n.
-          ap (lookup (λ k. k == n)) (same_files reads files held numbers told) ∙ lookup_read reads files n
+          ap (lookup (λ k. k == n)) (same_files reads files held numbers observed) ∙ lookup_read reads files n
           ∙ elim (cases_Bool (list_any (nat_eq n) (map (λ (f : FileNo). f.0) files))) [
             | inl is ↦ rw is (some_content reads n (reads n) refl (there n (Contains-from_any (λ x y. eqb-true x y) n (map (λ (f : FileNo). f.0) files) is)))
             | inr is ↦ rw is (none_read reads n (reads n) refl

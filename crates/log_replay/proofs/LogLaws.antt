@@ -9,13 +9,14 @@ use Rattle.log_entry.specs.declared.entry.Entry.{Entry}
 use Rattle.log_entry.specs.declared.entry.Entry.TheVariants.{Put, Delete, Commit}
 use Rattle.log_file.specs.Log.{Log, entries_of}
 use Rattle.log_replay.specs.declared.replayed.Replayed.{Replayed}
-use Rattle.log_replay.specs.Rows.{Row, Rows, RowChange, rows_in, row_changed, rows_changed, rows_with, number_in, store_of}
+use Rattle.log_replay.specs.Rows.{Row, Rows, RowChange, rows_in, row_changed, rows_changed, rows_with, catalog_number, store_of}
 use Rattle.log_replay.specs.Replay.{Replay, nothing_replayed, changes_of, replayed_entry, replayed, txn_in, db_in, greatest}
 use Rattle.log_replay.specs.Meaning.{Meaning, meaning_of}
-use Rattle.log_replay.specs.Reading.{judged, judged_by}
+use Rattle.log_replay.specs.Reading.{validated, validated_by}
 use Rattle.log_replay.specs.Answer.{IsReplayed}
 use Rattle.log_replay.specs.Kept.{IsOfBefore, IsKept}
-use Rattle.log_replay.proofs.ListLaws.{all_weaker, all_append, all_filter, all_to_map}
+use Rattle.log_replay.proofs.ListLaws.{all_to_map}
+use Rattle.je_order.proofs.Lists.{all_weaker, all_append, all_kept}
 use Rattle.log_replay.proofs.StoreLaws.{number_of_row, store_of-same, is_environment-same, row_changed-there}
 use Rattle.log_replay.proofs.WrongLaws.{none_is_environment, environment_is_none}
 
@@ -24,7 +25,7 @@ use Rattle.log_replay.proofs.WrongLaws.{none_is_environment, environment_is_none
 -- the number in a record's data is at most this, if there is data
 abbrev pub value_at_most : ℕ → Option (List ℕ) → Type 0
 value_at_most most None = Unit {0}
-value_at_most most (Some value) = number_in value ≤ most
+value_at_most most (Some value) = catalog_number value ≤ most
 
 -- a change has numbers at most these, the one in a catalog record included
 pub record IsWithin (last_txn last_db : ℕ) (change : RowChange) : Type 0 where
@@ -35,23 +36,23 @@ pub record IsWithin (last_txn last_db : ℕ) (change : RowChange) : Type 0 where
 -- records have numbers at most this
 pub record AreWithin (last_db : ℕ) (rows : Rows) : Type 0 where
   pub unused : (db : ℕ) → last_db < db → rows db ≡ []
-  pub numbers : AllByRecursion (λ (r : Row). number_in r.1 ≤ last_db) (rows 0)
+  pub numbers : AllByRecursion (λ (r : Row). catalog_number r.1 ≤ last_db) (rows 0)
 
 -- a change with such a number keeps the catalog's numbers at most this
 numbers_with : (last_db : ℕ) (at : Name) (value : Option (List ℕ)) (rows : List Row) → value_at_most last_db value →
-    AllByRecursion (λ (r : Row). number_in r.1 ≤ last_db) rows → AllByRecursion (λ (r : Row). number_in r.1 ≤ last_db) (rows_with at value rows)
-numbers_with last_db at None rows fits all = all_filter (λ (r : Row). number_in r.1 ≤ last_db) (λ r. not (is_eq (name_cmp r.0 at))) rows all
+    AllByRecursion (λ (r : Row). catalog_number r.1 ≤ last_db) rows → AllByRecursion (λ (r : Row). catalog_number r.1 ≤ last_db) (rows_with at value rows)
+numbers_with last_db at None rows fits all = all_kept (λ (r : Row). catalog_number r.1 ≤ last_db) (λ r. not (is_eq (name_cmp r.0 at))) rows all
 numbers_with last_db at (Some value) rows fits all =
-    let P : Row → Type 0 = λ r. number_in r.1 ≤ last_db in
+    let P : Row → Type 0 = λ r. catalog_number r.1 ≤ last_db in
     all_append P (filter (λ (r : Row). is_lt (name_cmp r.0 at)) rows) ((at, value) ∷ filter (λ (r : Row). is_gt (name_cmp r.0 at)) rows)
-    (all_filter P (λ r. is_lt (name_cmp r.0 at)) rows all) (fits, all_filter P (λ r. is_gt (name_cmp r.0 at)) rows all)
+    (all_kept P (λ r. is_lt (name_cmp r.0 at)) rows all) (fits, all_kept P (λ r. is_gt (name_cmp r.0 at)) rows all)
 
 -- a change within the numbers keeps records within them
 pub within-changed : (last_txn last_db : ℕ) (c : RowChange) (rows : Rows) → IsWithin last_txn last_db c → AreWithin last_db rows → AreWithin last_db (row_changed c rows)
 within-changed last_txn last_db c rows here all = record {
   unused = λ db above. row_changed-there c rows db (λ e. let at_most : c.db ≤ last_db = here.db in absurd (omega arith)) ∙ all.unused db above;
   numbers =
-      cond_both (0 == c.db) (rows_with c.name c.value (rows 0)) (rows 0) (λ l. AllByRecursion (λ (r : Row). number_in r.1 ≤ last_db) l)
+      cond_both (0 == c.db) (rows_with c.name c.value (rows 0)) (rows 0) (λ l. AllByRecursion (λ (r : Row). catalog_number r.1 ≤ last_db) l)
       (λ e. numbers_with last_db c.name c.value (rows 0) (here.number (sym (eqb-true 0 c.db e))) all.numbers)
       (λ e. all.numbers);
 }
@@ -69,14 +70,14 @@ record IsReplayWithin (last_txn last_db : ℕ) (replay : Replay) : Type 0 where
   rows : AreWithin last_db replay.rows
 
 -- what the number of a put says of its database, and of a catalog record
-put_within : (last_db db : ℕ) (value : List ℕ) → cond (db == 0) (number_in value) db ≤ last_db → (db ≤ last_db) × (db ≡ 0 → number_in value ≤ last_db)
+put_within : (last_db db : ℕ) (value : List ℕ) → cond (db == 0) (catalog_number value) db ≤ last_db → (db ≤ last_db) × (db ≡ 0 → catalog_number value ≤ last_db)
 put_within last_db db value h = (
   ⊎_elim
       (λ (e : (db == 0) ≡ true). let zero_is : db ≡ 0 = eqb-true db 0 e in let r : db ≤ last_db = omega arith in r)
-      (λ (e : (db == 0) ≡ false). let is : cond (db == 0) (number_in value) db ≡ db = cond-false (db == 0) (number_in value) db e in let r : db ≤ last_db = omega arith in r)
+      (λ (e : (db == 0) ≡ false). let is : cond (db == 0) (catalog_number value) db ≡ db = cond-false (db == 0) (catalog_number value) db e in let r : db ≤ last_db = omega arith in r)
       (cases_Bool (db == 0)),
-  λ e. let is : cond (db == 0) (number_in value) db ≡ number_in value = cond-true (db == 0) (number_in value) db (eq-eqb db 0 e) in
-      let r : number_in value ≤ last_db = omega arith in r,
+  λ e. let is : cond (db == 0) (catalog_number value) db ≡ catalog_number value = cond-true (db == 0) (catalog_number value) db (eq-eqb db 0 e) in
+      let r : catalog_number value ≤ last_db = omega arith in r,
 )
 
 -- an entry within the numbers keeps a replay within them
@@ -95,9 +96,9 @@ within-entry last_txn last_db (Delete txn db name) replay txn_fits db_fits all =
   rows = all.rows;
 }
 within-entry last_txn last_db (Commit txn) replay txn_fits db_fits all = record {
-  pending = all_filter (IsWithin last_txn last_db) (λ c. not (c.txn == txn.0)) replay.pending all.pending;
+  pending = all_kept (IsWithin last_txn last_db) (λ c. not (c.txn == txn.0)) replay.pending all.pending;
   rows = within-all_changed last_txn last_db (changes_of txn.0 replay.pending) replay.rows
-      (all_filter (IsWithin last_txn last_db) (λ c. c.txn == txn.0) replay.pending all.pending) all.rows;
+      (all_kept (IsWithin last_txn last_db) (λ c. c.txn == txn.0) replay.pending all.pending) all.rows;
 }
 within-entry last_txn last_db entry replay txn_fits db_fits all = all
 
@@ -139,20 +140,20 @@ kept_opened entries found is =
           (λ c h. record { txn = h.txn; db = h.db }) replay.pending within.pending;
       unused = λ db above. is.rows db ∙ within.rows.unused db above;
       numbers = all_to_map number_of_row (λ n. n ≤ greatest db_in entries) (rows 0)
-          (subst (λ l. AllByRecursion (λ (r : Row). number_in r.1 ≤ greatest db_in entries) l) (sym (is.rows 0)) within.rows.numbers);
+          (subst (λ l. AllByRecursion (λ (r : Row). catalog_number r.1 ≤ greatest db_in entries) l) (sym (is.rows 0)) within.rows.numbers);
     }))
 
 -- a log that is kept has a meaning
-pub kept_judged : (log : Log) (rows : Rows) (last_txn last_db : ℕ) → IsKept (entries_of log) rows last_txn last_db → judged log ≡ Ok (meaning_of (entries_of log))
-kept_judged log rows last_txn last_db kept =
+pub kept_validated : (log : Log) (rows : Rows) (last_txn last_db : ℕ) → IsKept (entries_of log) rows last_txn last_db → validated log ≡ Ok (meaning_of (entries_of log))
+kept_validated log rows last_txn last_db kept =
     let replay : Replay = replayed (entries_of log) nothing_replayed in
-    ap (judged_by log) (environment_is_none replay.rows (is_environment-same replay.rows rows kept.same ∙ kept.environment))
+    ap (validated_by log) (environment_is_none replay.rows (is_environment-same replay.rows rows kept.same ∙ kept.environment))
 
 -- and its store is that of the records
 pub kept_store : (entries : List Entry) (rows : Rows) (last_txn last_db : ℕ) → IsKept entries rows last_txn last_db → (meaning_of entries).store ≡ store_of rows
 kept_store entries rows last_txn last_db kept = store_of-same (replayed entries nothing_replayed).rows rows kept.same
 
--- a transaction that logs nothing only draws its number
+-- a transaction that logs nothing only allocates its id
 pub kept_later : (entries : List Entry) (rows : Rows) (last_txn txn last_db : ℕ) → IsKept entries rows last_txn last_db → last_txn ≤ txn → IsKept entries rows txn last_db
 kept_later entries rows last_txn txn last_db kept later = record {
   same = kept.same;

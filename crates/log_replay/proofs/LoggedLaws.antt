@@ -8,7 +8,7 @@ use Rattle.std.proofs.lemmas.Bool.{cond-true, cond-false, eq-eqb, ne_eqb, not_fr
 use Rattle.std.proofs.lemmas.List.Elements.{filter-append}
 use Rattle.log_entry.specs.declared.entry.Entry.{Entry}
 use Rattle.log_entry.specs.declared.entry.Entry.TheVariants.{Commit}
-use Rattle.log_entry.specs.Spelling.{size_of}
+use Rattle.log_entry.specs.Encoding.{size_of}
 use Rattle.log_file.specs.Scan.{may_follow}
 use Rattle.db_catalog.specs.declared.db_record.DbRecord.{DbRecord}
 use Rattle.db_catalog.specs.declared.db_kind.DbKind.TheVariants.{Plain as PlainRecord}
@@ -19,30 +19,31 @@ use Rattle.je_model.specs.declared.change.Change.TheVariants.{Set, Unset, Make, 
 use Rattle.je_model.specs.declared.store.Kind.TheVariants.{Plain}
 use Rattle.je_model.specs.Store.{changed}
 use Rattle.je_model.specs.Evaluation.{plain_name}
-use Rattle.log_replay.specs.Rows.{Row, Rows, no_rows, RowChange, row_changed, rows_changed, number_in, numbers_of, is_environment, IsRising, store_of}
+use Rattle.log_replay.specs.Rows.{Row, Rows, no_rows, RowChange, row_changed, rows_changed, catalog_number, numbers_of, is_environment, IsRising, store_of}
 use Rattle.log_replay.specs.Replay.{Replay, nothing_replayed, changes_of, changes_of_others, replayed_entry, replayed}
-use Rattle.log_replay.specs.Logging.{catalog_entry, entries_of, entry_of}
+use Rattle.log_replay.specs.Logging.{catalog_entry, entries_of, change_entry}
 use Rattle.log_replay.specs.Laws.{AreLoggedFirst, FirstEntry}
 use Rattle.log_replay.specs.Kept.{IsOfBefore, IsKept, row_change_of, HasNumber, MayBeLogged, last_db_after, entries_with}
-use Rattle.log_replay.proofs.ListLaws.{all_weaker, all_of_map, all_to_map, filter-all, filter-none, found}
+use Rattle.log_replay.proofs.ListLaws.{all_of_map, all_to_map, filter-all, filter-none, found}
+use Rattle.je_order.proofs.Lists.{all_weaker}
 use Rattle.log_replay.proofs.RowLaws.{row_of_data, rising-nil}
-use Rattle.log_replay.proofs.StoreLaws.{number_of_row, store_of-same, is_environment-same, has_number-above, rising-row_changed, number_in-record, store_of-changed}
+use Rattle.log_replay.proofs.StoreLaws.{number_of_row, store_of-same, is_environment-same, has_number-above, rising-row_changed, catalog_number-record, store_of-changed}
 use Rattle.log_replay.proofs.LogLaws.{IsWithin, AreWithin, within-changed}
 use Rattle.log_replay.proofs.ReplayLaws.{replayed-append}
 
 -- ---- an entry's length
 
 -- no number changes an entry's length
-pub size_of-entry_of : (txn number : ℕ) (change : Change) → size_of (entry_of txn number change) ≡ size_of (entry_of 0 0 change)
-size_of-entry_of txn number (Set db at value) = refl
-size_of-entry_of txn number (Unset db at) = refl
-size_of-entry_of txn number (Make db Plain) = refl
-size_of-entry_of txn number (Remove db) = refl
-size_of-entry_of txn number (Rename db to) = refl
-size_of-entry_of txn number (Empty db) = refl
+pub size_of-change_entry : (txn number : ℕ) (change : Change) → size_of (change_entry txn number change) ≡ size_of (change_entry 0 0 change)
+size_of-change_entry txn number (Set db at value) = refl
+size_of-change_entry txn number (Unset db at) = refl
+size_of-change_entry txn number (Make db Plain) = refl
+size_of-change_entry txn number (Remove db) = refl
+size_of-change_entry txn number (Rename db to) = refl
+size_of-change_entry txn number (Empty db) = refl
 
 -- what the catalog's only change is logged as
-only : (record_of : List ℕ → Option DbRecord) (txn number : ℕ) (change : Change) → entries_of record_of txn number change ≡ entry_of txn number change ∷ [] →
+only : (record_of : List ℕ → Option DbRecord) (txn number : ℕ) (change : Change) → entries_of record_of txn number change ≡ change_entry txn number change ∷ [] →
     FirstEntry record_of txn number change
 only record_of txn number change is = ([], is, λ one. refl)
 
@@ -61,25 +62,25 @@ first_entries record_of plain txn number (Empty db) =
     only record_of txn number (Empty db) (ap (λ (r : Option DbRecord). map (catalog_entry txn) (renewed db number r)) (plain db).1)
 
 -- a change's entry may stand behind a file's header
-pub follows-entry_of : (txn number : ℕ) (change : Change) → may_follow (entry_of txn number change) ≡ true
-follows-entry_of txn number (Set db at value) = refl
-follows-entry_of txn number (Unset db at) = refl
-follows-entry_of txn number (Make db kind) = refl
-follows-entry_of txn number (Remove db) = refl
-follows-entry_of txn number (Rename db to) = refl
-follows-entry_of txn number (Empty db) = refl
+pub follows-change_entry : (txn number : ℕ) (change : Change) → may_follow (change_entry txn number change) ≡ true
+follows-change_entry txn number (Set db at value) = refl
+follows-change_entry txn number (Unset db at) = refl
+follows-change_entry txn number (Make db kind) = refl
+follows-change_entry txn number (Remove db) = refl
+follows-change_entry txn number (Rename db to) = refl
+follows-change_entry txn number (Empty db) = refl
 
 -- ---- entries behind a log
 
 -- the entry of a change puts the change behind the pending ones
-replayed-entry_of : (txn number : ℕ) (change : Change) (replay : Replay) →
-    replayed_entry (entry_of txn number change) replay ≡ record { rows = replay.rows; pending = replay.pending ++ row_change_of txn number change ∷ [] }
-replayed-entry_of txn number (Set db at value) replay = refl
-replayed-entry_of txn number (Unset db at) replay = refl
-replayed-entry_of txn number (Make db kind) replay = refl
-replayed-entry_of txn number (Remove db) replay = refl
-replayed-entry_of txn number (Rename db to) replay = refl
-replayed-entry_of txn number (Empty db) replay = refl
+replayed-change_entry : (txn number : ℕ) (change : Change) (replay : Replay) →
+    replayed_entry (change_entry txn number change) replay ≡ record { rows = replay.rows; pending = replay.pending ++ row_change_of txn number change ∷ [] }
+replayed-change_entry txn number (Set db at value) replay = refl
+replayed-change_entry txn number (Unset db at) replay = refl
+replayed-change_entry txn number (Make db kind) replay = refl
+replayed-change_entry txn number (Remove db) replay = refl
+replayed-change_entry txn number (Rename db to) replay = refl
+replayed-change_entry txn number (Empty db) replay = refl
 
 -- a change is logged by its transaction
 row_change_of-txn : (txn number : ℕ) (change : Change) → (row_change_of txn number change).txn ≡ txn
@@ -116,14 +117,14 @@ replayed-transaction last_txn last_db txn c replay before later own =
 
 -- ---- the numbers of a change that may be logged
 
--- a database's number was drawn
+-- a database's number was allocated
 has_number-within : (rows : Rows) (last_db : ℕ) (name : List ℕ) (number : ℕ) → AllByRecursion (λ n. n ≤ last_db) (numbers_of rows) → HasNumber rows name number → number ≤ last_db
 has_number-within rows last_db name number numbers has =
     let row = row_of_data (plain_name name) (rows 0) has.0 has.1 in
-    let known : number_in row.0.1 ≤ last_db =
-    (found (λ (r : Row). number_in r.1 ≤ last_db) (λ r. is_eq (name_cmp r.0 (plain_name name))) (rows 0) row.0 row.1
+    let known : catalog_number row.0.1 ≤ last_db =
+    (found (λ (r : Row). catalog_number r.1 ≤ last_db) (λ r. is_eq (name_cmp r.0 (plain_name name))) (rows 0) row.0 row.1
     (all_of_map number_of_row (λ n. n ≤ last_db) (rows 0) numbers)).0 in
-    subst (λ n. n ≤ last_db) (ap number_in row.2 ∙ has.2) known
+    subst (λ n. n ≤ last_db) (ap catalog_number row.2 ∙ has.2) known
 
 -- the change's numbers are at most the last ones after it
 within-row_change_of : (rows : Rows) (last_db txn number : ℕ) (change : Change) → is_environment rows ≡ true → AllByRecursion (λ n. n ≤ last_db) (numbers_of rows) →
@@ -141,7 +142,7 @@ within-row_change_of rows last_db txn number (Unset db at) env numbers may = rec
 within-row_change_of rows last_db txn number (Make db Plain) env numbers may = record {
   txn = omega arith;
   db = omega arith;
-  number = λ e. subst (λ n. n ≤ number) (sym (number_in-record number may.4)) (omega arith);
+  number = λ e. subst (λ n. n ≤ number) (sym (catalog_number-record number may.4)) (omega arith);
 }
 within-row_change_of rows last_db txn number (Remove db) env numbers may = absurd may
 within-row_change_of rows last_db txn number (Rename db to) env numbers may = absurd may
@@ -163,20 +164,20 @@ pub kept_logged : (entries : List Entry) (rows new_rows : Rows) (last_txn last_d
     MayBeLogged rows last_db number change → last_txn < txn → ((db : ℕ) → new_rows db ≡ row_changed (row_change_of txn number change) rows db) →
     IsKept (entries_with entries txn number change) new_rows txn (last_db_after last_db number change)
 kept_logged entries rows new_rows last_txn last_db txn number change kept may later new =
-    let entry : Entry = entry_of txn number change in
+    let entry : Entry = change_entry txn number change in
     let commit : Entry = Commit (record { 0 = txn }) in
     let c : RowChange = row_change_of txn number change in
     let after : ℕ = last_db_after last_db number change in
     let before : Replay = replayed entries nothing_replayed in
     let replay : replayed (entries_with entries txn number change) nothing_replayed ≡ record { rows = row_changed c before.rows; pending = before.pending } =
     replayed-append entries (entry ∷ commit ∷ []) nothing_replayed
-    ∙ ap (replayed_entry commit) (replayed-entry_of txn number change before)
+    ∙ ap (replayed_entry commit) (replayed-change_entry txn number change before)
     ∙ replayed-transaction last_txn last_db txn c before kept.pending later (row_change_of-txn txn number change) in
     let within : AreWithin after (row_changed c rows) =
     within-changed txn after c rows (within-row_change_of rows last_db txn number change kept.environment kept.numbers may)
     (record {
       unused = λ db above. let grows = last_db-grows rows last_db number change may in kept.unused db (omega arith);
-      numbers = all_weaker (λ (r : Row). number_in r.1 ≤ last_db) (λ r. number_in r.1 ≤ after)
+      numbers = all_weaker (λ (r : Row). catalog_number r.1 ≤ last_db) (λ r. catalog_number r.1 ≤ after)
           (λ r h. let grows = last_db-grows rows last_db number change may in omega arith) (rows 0)
           (all_of_map number_of_row (λ n. n ≤ last_db) (rows 0) kept.numbers);
     }) in
@@ -192,7 +193,7 @@ kept_logged entries rows new_rows last_txn last_db txn number change kept may la
           before.pending kept.pending);
       unused = λ db above. new db ∙ within.unused db above;
       numbers = all_to_map number_of_row (λ n. n ≤ after) (new_rows 0)
-          (subst (λ l. AllByRecursion (λ (r : Row). number_in r.1 ≤ after) l) (sym (new 0)) within.numbers);
+          (subst (λ l. AllByRecursion (λ (r : Row). catalog_number r.1 ≤ after) l) (sym (new 0)) within.numbers);
     }
 
 -- the store that is kept then is the changed one

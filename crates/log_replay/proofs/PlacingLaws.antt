@@ -4,11 +4,11 @@ use Rattle.std.proofs.lemmas.List.{append-nil}
 use Rattle.je_disk.specs.States.{Files, content}
 use Rattle.je_lsn.specs.declared.file_no.FileNo.{FileNo}
 use Rattle.log_entry.specs.declared.entry.Entry.{Entry}
-use Rattle.log_entry.specs.Spelling.{size_of}
-use Rattle.log_file.specs.Scan.{found_in, sizes_of}
-use Rattle.log_file.specs.Log.{entries_found, log_in}
+use Rattle.log_entry.specs.Encoding.{size_of}
+use Rattle.log_file.specs.Scan.{scan_of, sizes_of}
+use Rattle.log_file.specs.Log.{entries_scanned, log_in}
 use Rattle.log_replay.specs.declared.replaying.Replaying.{Replaying}
-use Rattle.log_replay.specs.Reading.{marked, marked_entry, marked_log, files_read, lsn_at, lsn_in, lsn_of}
+use Rattle.log_replay.specs.Reading.{marked, marked_entry, marked_log, files_read, lsn_at, marked_lsn, lsn_of}
 use Rattle.log_replay.specs.declared.place.Place.{Place}
 use Rattle.log_replay.specs.Rows.{Row, rows_in, data_at}
 use Rattle.log_replay.specs.Loading.{loaded}
@@ -43,22 +43,22 @@ marking_begins reads files going is = record { done = []; parts = refl; replay =
 
 -- one file more, of these bytes
 pub marking_goes_on : (reads : Files) (files left rest : List FileNo) (f : FileNo) (bytes : List ℕ) (entries : List Entry) (old new : Replaying) → IsMarking reads files left old →
-    left ≡ f ∷ rest → bytes ≡ content reads f.0 → entries ≡ marked f.0 26 (entries_found (found_in f.0 bytes)) → HasTaken entries old new → IsMarking reads files rest new
-marking_goes_on reads files left rest f bytes entries old new so_far is told marked_are taken = record {
+    left ≡ f ∷ rest → bytes ≡ content reads f.0 → entries ≡ marked f.0 26 (entries_scanned (scan_of f.0 bytes)) → HasTaken entries old new → IsMarking reads files rest new
+marking_goes_on reads files left rest f bytes entries old new so_far is observed marked_are taken = record {
   done = so_far.done ++ entries;
   parts =
       append_assoc so_far.done entries (marked_log (log_in (files_read reads rest)))
-      ∙ ap (λ (l : List Entry). so_far.done ++ (l ++ marked_log (log_in (files_read reads rest)))) (marked_are ∙ ap (λ (b : List ℕ). marked f.0 26 (entries_found (found_in f.0 b))) told)
+      ∙ ap (λ (l : List Entry). so_far.done ++ (l ++ marked_log (log_in (files_read reads rest)))) (marked_are ∙ ap (λ (b : List ℕ). marked f.0 26 (entries_scanned (scan_of f.0 b))) observed)
       ∙ ap (λ (l : List FileNo). so_far.done ++ marked_log (log_in (files_read reads l))) (sym is)
       ∙ so_far.parts;
   replay = taken so_far.done so_far.replay;
 }
 
--- a file without a run, which has no entries
+-- a file without a valid prefix, which has no entries
 pub marking_passes : (reads : Files) (files left rest : List FileNo) (f : FileNo) (bytes : List ℕ) (going : Replaying) → IsMarking reads files left going →
-    left ≡ f ∷ rest → bytes ≡ content reads f.0 → entries_found (found_in f.0 bytes) ≡ [] → IsMarking reads files rest going
-marking_passes reads files left rest f bytes going so_far is told none =
-    marking_goes_on reads files left rest f bytes [] going going so_far is told (sym (ap (marked f.0 26) none)) (λ before h. subst (λ (l : List Entry). IsReplayOf l going) (sym (append-nil before)) h)
+    left ≡ f ∷ rest → bytes ≡ content reads f.0 → entries_scanned (scan_of f.0 bytes) ≡ [] → IsMarking reads files rest going
+marking_passes reads files left rest f bytes going so_far is observed none =
+    marking_goes_on reads files left rest f bytes [] going going so_far is observed (sym (ap (marked f.0 26) none)) (λ before h. subst (λ (l : List Entry). IsReplayOf l going) (sym (append-nil before)) h)
 
 pub marking_ends : (reads : Files) (files left : List FileNo) (going : Replaying) → IsMarking reads files left going → left ≡ [] → IsReplayOf (marked_log (log_in (files_read reads files))) going
 marking_ends reads files left going so_far is =
@@ -68,6 +68,6 @@ marking_ends reads files left going so_far is =
 -- the LSN that the second replay has for a place
 pub lsn_answer : (reads : Files) (files : List FileNo) (going : Replaying) (kept : List (ℕ × List Row)) (place : Place) (value : Option (List ℕ)) (lsn : ℕ) →
     IsReplayOf (marked_log (log_in (files_read reads files))) going → ((db : ℕ) → rows_in kept db ≡ loaded going.loading db) →
-    lsn ≡ lsn_in value → value ≡ data_at place.name (rows_in kept place.db) → lsn ≡ lsn_of (log_in (files_read reads files)) place
-lsn_answer reads files going kept place value lsn is settled lsn_is value_is =
-    lsn_is ∙ ap lsn_in (value_is ∙ ap (data_at place.name) (settled place.db ∙ is.stands.rows place.db))
+    lsn ≡ marked_lsn value → value ≡ data_at place.name (rows_in kept place.db) → lsn ≡ lsn_of (log_in (files_read reads files)) place
+lsn_answer reads files going kept place value lsn is flushed lsn_is value_is =
+    lsn_is ∙ ap marked_lsn (value_is ∙ ap (data_at place.name) (flushed place.db ∙ is.stands.rows place.db))

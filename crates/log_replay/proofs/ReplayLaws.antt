@@ -76,4 +76,4 @@ takes_result (Err e) entry old new stands txn db = tt
 -- the records with what waited among them are those of the replay
 pub all_loaded : (entries : List Entry) (going : Replaying) (kept : List (ℕ × List Row)) → ((db : ℕ) → rows_in kept db ≡ loaded going.loading db) →
     IsReplayOf entries going → rows_in kept ≡ (replayed entries nothing_replayed).rows
-all_loaded entries going kept settled is = fun_ext (λ (db : ℕ). settled db ∙ is.stands.rows db)
+all_loaded entries going kept flushed is = fun_ext (λ (db : ℕ). flushed db ∙ is.stands.rows db)

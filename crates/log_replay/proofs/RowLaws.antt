@@ -12,13 +12,15 @@ use Rattle.std.proofs.lemmas.Map.Lookups.{exact_bytes}
 use Rattle.std.proofs.lemmas.List.{map-append, nil_from_length}
 use Rattle.std.proofs.lemmas.List.Filters.{length-filter_both}
 use Rattle.std.proofs.lemmas.List.Kept.{IsStrictlySortedBy-filter}
-use Rattle.je_order.specs.Order.{bytes_cmp, name_cmp}
+use Rattle.je_order.specs.Order.{bytes_cmp, name_cmp, is_same_bytes}
 use Rattle.je_order.specs.declared.name.Name.{Name}
 use Rattle.je_model.specs.declared.store.Kind.TheVariants.{Plain}
-use Rattle.je_model.specs.Store.{is_same, pair_at, pairs_with, pairs_without}
+use Rattle.je_model.specs.Store.{pair_at, pairs_with, pairs_without}
 use Rattle.je_model.specs.Evaluation.{plain_name}
 use Rattle.log_replay.specs.Rows.{Row, rows_with, row_at, data_at, IsRising, are_plain, pair_of}
-use Rattle.log_replay.proofs.ListLaws.{all_true, all_from_true, all_weaker, all_append, all_filter, filter_all_pass, filter-all, filter-none, find-map, filter-map, none_found}
+use Rattle.log_replay.proofs.ListLaws.{all_true, all_from_true, filter-all, filter-none, find-map, filter-map, none_found}
+use Rattle.je_order.proofs.Lists.{all_weaker, all_append, all_kept, filter_all_pass}
+use Rattle.je_order.proofs.Orderings.{less_from_test, equal_from_test, greater_from_test, name_exact}
 
 -- data comes from a record
 row_of_mapped : (o : Option Row) (bytes : List ℕ) → option_map (λ (r : Row). r.1) o ≡ Some bytes → (row : Row) × (o ≡ Some row) × (row.1 ≡ bytes)
@@ -37,46 +39,15 @@ not_twice false = refl
 
 -- ---- names
 
--- two orders tell nothing apart together only where neither does
-then_equal : (o p : Ordering) → ordering_then o p ≡ Equal → (o ≡ Equal) × (p ≡ Equal)
-then_equal Less p h = (h, cc)
-then_equal Equal p h = (refl, h)
-then_equal Greater p h = (h, cc)
-
 -- an order and then nothing is that order
 ordering_then-equal : (o : Ordering) → ordering_then o Equal ≡ o
 ordering_then-equal Less = refl
 ordering_then-equal Equal = refl
 ordering_then-equal Greater = refl
 
--- `is_eq` is `Equal`
-pub equal_from_test : (o : Ordering) → is_eq o ≡ true → o ≡ Equal
-equal_from_test Less h = cc
-equal_from_test Equal h = refl
-equal_from_test Greater h = cc
-
--- `is_lt` is `Less`
-pub less_from_test : (o : Ordering) → is_lt o ≡ true → o ≡ Less
-less_from_test Less h = refl
-less_from_test Equal h = cc
-less_from_test Greater h = cc
-
--- `is_gt` is `Greater`
-pub greater_from_test : (o : Ordering) → is_gt o ≡ true → o ≡ Greater
-greater_from_test Less h = cc
-greater_from_test Equal h = cc
-greater_from_test Greater h = refl
-
 -- the order of names is a total order
 pub name_total : IsTotalOrder name_cmp
 name_total = then_total (on_total (λ (n : Name). n.key) nat_list_cmp_total) (on_total (λ (n : Name). n.dup) nat_list_cmp_total)
-
--- names that the order does not tell apart are the same
-pub name_exact : (a b : Name) → name_cmp a b ≡ Equal → a ≡ b
-name_exact a b h =
-    let s = then_equal (bytes_cmp a.key b.key) (bytes_cmp a.dup b.dup) h in
-    let make : List ℕ → List ℕ → Name = λ k d. record { key = k; dup = d } in
-    ap₂ make (exact_bytes a.key b.key s.0) (exact_bytes a.dup b.dup s.1)
 
 -- where a name stands before another, this one stands behind it
 pub name_flipped : (a b : Name) → name_cmp a b ≡ Less → name_cmp b a ≡ Greater
@@ -113,8 +84,8 @@ plain_from_dups rows h =
 pub pair_at-rows : (rows : List Row) (key : List ℕ) → are_plain rows ≡ true →
     pair_at key (map pair_of rows) ≡ option_map pair_of (row_at (plain_name key) rows)
 pair_at-rows rows key plain =
-    find-map pair_of (λ p. is_same p.0 key) (λ r. is_eq (name_cmp r.0 (plain_name key))) rows
-    (all_weaker (λ (r : Row). r.0.dup ≡ []) (λ r. is_same r.0.key key ≡ is_eq (name_cmp r.0 (plain_name key)))
+    find-map pair_of (λ p. is_same_bytes p.0 key) (λ r. is_eq (name_cmp r.0 (plain_name key))) rows
+    (all_weaker (λ (r : Row). r.0.dup ≡ []) (λ r. is_same_bytes r.0.key key ≡ is_eq (name_cmp r.0 (plain_name key)))
     (λ r e. ap is_eq (sym (name_cmp-plain r.0 key e))) rows (dups_empty rows plain))
 
 -- data set in the records is set in the pairs
@@ -139,21 +110,21 @@ pub pairs_without-rows : (rows : List Row) (at : Name) → are_plain rows ≡ tr
 pairs_without-rows rows at plain dup =
     let by_key : (r : Row) → r.0.dup ≡ [] → name_cmp r.0 at ≡ bytes_cmp r.0.key at.key =
     λ r e. ap (λ n. name_cmp r.0 n) (plain_name-key at dup) ∙ name_cmp-plain r.0 at.key e in
-    sym (filter-map pair_of (λ p. not (is_same p.0 at.key)) (λ r. not (is_eq (name_cmp r.0 at))) rows
-    (all_weaker (λ (r : Row). r.0.dup ≡ []) (λ r. not (is_same r.0.key at.key) ≡ not (is_eq (name_cmp r.0 at)))
+    sym (filter-map pair_of (λ p. not (is_same_bytes p.0 at.key)) (λ r. not (is_eq (name_cmp r.0 at))) rows
+    (all_weaker (λ (r : Row). r.0.dup ≡ []) (λ r. not (is_same_bytes r.0.key at.key) ≡ not (is_eq (name_cmp r.0 at)))
     (λ r e. ap (λ o. not (is_eq o)) (sym (by_key r e))) rows (dups_empty rows plain)))
 
 -- a change with an empty dup leaves records plain
 pub plain-changed : (rows : List Row) (at : Name) (value : Option (List ℕ)) → are_plain rows ≡ true → at.dup ≡ [] → are_plain (rows_with at value rows) ≡ true
 plain-changed rows at None plain dup =
-    plain_from_dups (rows_with at None rows) (all_filter (λ r. r.0.dup ≡ []) (λ r. not (is_eq (name_cmp r.0 at))) rows (dups_empty rows plain))
+    plain_from_dups (rows_with at None rows) (all_kept (λ r. r.0.dup ≡ []) (λ r. not (is_eq (name_cmp r.0 at))) rows (dups_empty rows plain))
 plain-changed rows at (Some value) plain dup =
     let empty = dups_empty rows plain in
     let P : Row → Type 0 = λ r. r.0.dup ≡ [] in
     plain_from_dups (rows_with at (Some value) rows)
     (all_append P (filter (λ r. is_lt (name_cmp r.0 at)) rows) ((at, value) ∷ filter (λ r. is_gt (name_cmp r.0 at)) rows)
-    (all_filter P (λ r. is_lt (name_cmp r.0 at)) rows empty)
-    (dup, all_filter P (λ r. is_gt (name_cmp r.0 at)) rows empty))
+    (all_kept P (λ r. is_lt (name_cmp r.0 at)) rows empty)
+    (dup, all_kept P (λ r. is_gt (name_cmp r.0 at)) rows empty))
 
 -- ---- rising names
 

@@ -13,27 +13,28 @@ use Rattle.je_model.specs.declared.change.Change.TheVariants.{Set, Unset, Make}
 use Rattle.je_model.specs.Store.{record_count}
 use Rattle.je_model.specs.Evaluation.{plain_name}
 use Rattle.db_catalog.specs.Catalog.{record_bytes}
-use Rattle.log_replay.specs.Rows.{Row, Rows, RowChange, row_changed, rows_with, data_at, number_in, are_distinct, is_environment, IsRising, database_in, store_of, pair_of}
+use Rattle.log_replay.specs.Rows.{Row, Rows, RowChange, row_changed, rows_with, data_at, catalog_number, are_distinct, is_environment, IsRising, database_in, store_of, pair_of}
 use Rattle.db_catalog.specs.Planning.{kind_in_catalog}
 use Rattle.log_replay.specs.Kept.{row_change_of, HasNumber, MayBeLogged}
-use Rattle.log_replay.proofs.ListLaws.{none_true, all_weaker, all_of_map}
+use Rattle.log_replay.proofs.ListLaws.{all_of_map}
+use Rattle.je_order.proofs.Lists.{none_each, all_weaker}
 use Rattle.log_replay.proofs.RowLaws.{split_where_none, length-set_new, length-set_again, length-unset, row_of_data, no_row_of_data}
-use Rattle.log_replay.proofs.StoreLaws.{number_of_row, environment_parts, catalog_numbers, has_number-above, has_number-among, row_changed-there, row_changed-here, number_in-record}
+use Rattle.log_replay.proofs.StoreLaws.{number_of_row, environment_parts, catalog_numbers, has_number-above, has_number-among, row_changed-there, row_changed-here, catalog_number-record}
 
 -- how many records stand under a catalog record's number
 abbrev records_under : Rows → Row → ℕ
-records_under rows row = length (rows (number_in row.1))
+records_under rows row = length (rows (catalog_number row.1))
 
 -- the records of a store, counted by the catalog
 counted : (rows : Rows) (catalog : List Row) → sum_by (λ (d : Database). length d.pairs) (map (database_in rows) catalog) ≡ sum_by (records_under rows) catalog
 counted rows [] = refl
 counted rows (r ∷ catalog) =
     sum_by-cons (λ (d : Database). length d.pairs) (database_in rows r) (map (database_in rows) catalog)
-    ∙ ap₂ (λ a b. a + b) (length-map (rows (number_in r.1)) pair_of) (counted rows catalog)
+    ∙ ap₂ (λ a b. a + b) (length-map (rows (catalog_number r.1)) pair_of) (counted rows catalog)
     ∙ sym (sum_by-cons (records_under rows) r catalog)
 
 -- where no record changes, the sums are the same
-sums_same : (a b : Rows) (catalog : List Row) → AllByRecursion (λ r. b (number_in r.1) ≡ a (number_in r.1)) catalog →
+sums_same : (a b : Rows) (catalog : List Row) → AllByRecursion (λ r. b (catalog_number r.1) ≡ a (catalog_number r.1)) catalog →
     sum_by (records_under b) catalog ≡ sum_by (records_under a) catalog
 sums_same a b [] h = refl
 sums_same a b (r ∷ catalog) h =
@@ -45,7 +46,7 @@ sums_differ : (a b : Rows) (number : ℕ) (catalog : List Row) → are_distinct 
     sum_by (records_under b) catalog + length (a number) ≡ sum_by (records_under a) catalog + length (b number)
 sums_differ a b number [] apart there same = absurd (false≢true there)
 sums_differ a b number (r ∷ catalog) apart there same =
-    let here = number_in r.1 in
+    let here = catalog_number r.1 in
     let later = list_any (λ m. m == number) (map number_of_row catalog) in
     let parts = and_parts (not (list_any (λ m. m == here) (map number_of_row catalog))) (are_distinct (map number_of_row catalog)) apart in
     let one = sum_by-cons (records_under a) r catalog in
@@ -53,13 +54,13 @@ sums_differ a b number (r ∷ catalog) apart there same =
     ⊎_elim
     (λ (e : (here == number) ≡ true).
     let at : here ≡ number = eqb-true here number e in
-    let others : AllByRecursion (λ (y : Row). (number_in y.1 == here) ≡ false) catalog =
+    let others : AllByRecursion (λ (y : Row). (catalog_number y.1 == here) ≡ false) catalog =
     all_of_map number_of_row (λ m. (m == here) ≡ false) catalog
-    (none_true (λ m. m == here) (map number_of_row catalog) (not-true (list_any (λ m. m == here) (map number_of_row catalog)) parts.0)) in
+    (none_each (λ m. m == here) (map number_of_row catalog) (not-true (list_any (λ m. m == here) (map number_of_row catalog)) parts.0)) in
     let rest : sum_by (records_under b) catalog ≡ sum_by (records_under a) catalog =
     sums_same a b catalog
-    (all_weaker (λ (y : Row). (number_in y.1 == here) ≡ false) (λ y. b (number_in y.1) ≡ a (number_in y.1))
-    (λ y h. same (number_in y.1) (λ f. eqb-false (number_in y.1) here h (f ∙ sym at))) catalog others) in
+    (all_weaker (λ (y : Row). (catalog_number y.1 == here) ≡ false) (λ y. b (catalog_number y.1) ≡ a (catalog_number y.1))
+    (λ y h. same (catalog_number y.1) (λ f. eqb-false (catalog_number y.1) here h (f ∙ sym at))) catalog others) in
     omega (arith, one, two, rest, ap (λ n. length (a n)) at, ap (λ n. length (b n)) at))
     (λ (e : (here == number) ≡ false).
     let before : length (b here) ≡ length (a here) = ap length (same here (eqb-false here number e)) in
@@ -124,7 +125,7 @@ databases-unset rows number txn name at env has = databases-change rows name (ro
 -- a database more, with no record
 made_totals : (rows : Rows) (last_db number txn : ℕ) (name bytes : List ℕ) →
     is_environment rows ≡ true → IsRising (rows 0) → ((db : ℕ) → last_db < db → rows db ≡ []) →
-    data_at (plain_name name) (rows 0) ≡ None → number ≡ last_db + 1 → number_in bytes ≡ number →
+    data_at (plain_name name) (rows 0) ≡ None → number ≡ last_db + 1 → catalog_number bytes ≡ number →
     (record_count (store_of (row_changed (record { txn = txn; db = 0; name = plain_name name; value = Some bytes }) rows)) ≡ record_count (store_of rows))
     × (length (store_of (row_changed (record { txn = txn; db = 0; name = plain_name name; value = Some bytes }) rows)).databases ≡ length (store_of rows).databases + 1)
 made_totals rows last_db number txn name bytes env up unused absent number_is number_new =
@@ -137,20 +138,20 @@ made_totals rows last_db number txn name bytes env up unused absent number_is nu
     let split : lower ++ higher ≡ rows 0 = split_where_none (rows 0) at up (no_row_of_data at (rows 0) absent) in
     let not_catalog : number ≢ 0 = λ e. absurd (omega arith) in
     let above_last : last_db < number = omega arith in
-    let empty : after (number_in bytes) ≡ [] = ap after number_new ∙ row_changed-there c rows number not_catalog ∙ unused number above_last in
+    let empty : after (catalog_number bytes) ≡ [] = ap after number_new ∙ row_changed-there c rows number not_catalog ∙ unused number above_last in
     let kept : sum_by (records_under after) (rows 0) ≡ sum_by (records_under rows) (rows 0) =
     sums_same rows after (rows 0)
-    (all_weaker (λ (r : Row). number_in r.1 ≢ 0) (λ r. after (number_in r.1) ≡ rows (number_in r.1)) (λ r h. row_changed-there c rows (number_in r.1) h) (rows 0)
+    (all_weaker (λ (r : Row). catalog_number r.1 ≢ 0) (λ r. after (catalog_number r.1) ≡ rows (catalog_number r.1)) (λ r h. row_changed-there c rows (catalog_number r.1) h) (rows 0)
     (catalog_numbers (rows 0) (environment_parts rows env).catalog)) in
     let before_is : record_count (store_of rows) ≡ sum_by (records_under rows) (rows 0) = counted rows (rows 0) in
     let after_is : record_count (store_of after) ≡ sum_by (records_under after) (lower ++ new ∷ higher) = counted after (after 0) in
     let with_new : sum_by (records_under after) (lower ++ new ∷ higher) ≡ sum_by (records_under after) lower + sum_by (records_under after) (new ∷ higher) =
     sum_by-append (records_under after) lower (new ∷ higher) in
-    let of_new : sum_by (records_under after) (new ∷ higher) ≡ length (after (number_in bytes)) + sum_by (records_under after) higher =
+    let of_new : sum_by (records_under after) (new ∷ higher) ≡ length (after (catalog_number bytes)) + sum_by (records_under after) higher =
     sum_by-cons (records_under after) new higher in
     let without : sum_by (records_under after) (rows 0) ≡ sum_by (records_under after) lower + sum_by (records_under after) higher =
     ap (λ l. sum_by (records_under after) l) (sym split) ∙ sum_by-append (records_under after) lower higher in
-    let none : length (after (number_in bytes)) ≡ 0 = ap length empty in
+    let none : length (after (catalog_number bytes)) ≡ 0 = ap length empty in
     let databases_before : length (store_of rows).databases ≡ length (rows 0) = length-map (rows 0) (database_in rows) in
     let databases_after : length (store_of after).databases ≡ length (lower ++ new ∷ higher) = length-map (after 0) (database_in after) in (
       omega arith,
@@ -163,7 +164,7 @@ pub record_count-make : (rows : Rows) (last_db number txn : ℕ) (name : List �
     record_count (store_of (row_changed (row_change_of txn number (Make name kind)) rows)) ≡ record_count (store_of rows)
 record_count-make rows last_db number txn name Plain env up unused may =
     (made_totals rows last_db number txn name (record_bytes (record { number = number; kind = kind_in_catalog Plain })) env (up 0) unused may.1 may.3
-    (number_in-record number may.4)).0
+    (catalog_number-record number may.4)).0
 
 -- and is one more
 pub databases-make : (rows : Rows) (last_db number txn : ℕ) (name : List ℕ) (kind : Kind) →
@@ -171,4 +172,4 @@ pub databases-make : (rows : Rows) (last_db number txn : ℕ) (name : List ℕ) 
     length (store_of (row_changed (row_change_of txn number (Make name kind)) rows)).databases ≡ length (store_of rows).databases + 1
 databases-make rows last_db number txn name Plain env up unused may =
     (made_totals rows last_db number txn name (record_bytes (record { number = number; kind = kind_in_catalog Plain })) env (up 0) unused may.1 may.3
-    (number_in-record number may.4)).1
+    (catalog_number-record number may.4)).1

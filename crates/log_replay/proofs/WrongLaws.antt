@@ -9,8 +9,8 @@ use Rattle.std.specs.List.{list_all, list_any}
 use Rattle.je_order.specs.declared.name.Name.{Name}
 use Rattle.je_model.specs.declared.store.TheConstants.{MOST_DATABASES}
 use Rattle.log_replay.specs.declared.place.Place.{Place}
-use Rattle.log_replay.specs.Rows.{Row, Rows, is_catalog_row, number_in, are_distinct, are_plain, numbers_of, is_environment}
-use Rattle.log_replay.specs.Wrong.{or_else, is_right_behind, wrong_in_catalog, wrong_in_plain, lesser, least, wrong_database, wrong_under, wrong_record}
+use Rattle.log_replay.specs.Rows.{Row, Rows, is_catalog_row, catalog_number, are_distinct, are_plain, numbers_of, is_environment}
+use Rattle.log_replay.specs.Wrong.{or_else, is_right_behind, wrong_in_catalog, wrong_in_plain, lesser_number, least_number, wrong_database, wrong_under, wrong_record}
 
 is_none : {A : Type 0} → Option A → Bool
 is_none None = true
@@ -23,7 +23,7 @@ are_others before ns = list_all (λ n. not (list_any (λ m. m == n) before)) ns
 -- the test of a whole catalog behind records of these numbers
 abbrev is_catalog_behind : List ℕ → List Row → Bool
 is_catalog_behind before rows =
-    list_all is_catalog_row rows && are_others before (map (λ r. number_in r.1) rows) && are_distinct (map (λ r. number_in r.1) rows)
+    list_all is_catalog_row rows && are_others before (map (λ r. catalog_number r.1) rows) && are_distinct (map (λ r. catalog_number r.1) rows)
     && nat_le (length before + length rows) MOST_DATABASES
 
 others_more : (before ns : List ℕ) (n : ℕ) → are_others (before ++ n ∷ []) ns ≡ (are_others before ns && not (list_any (λ m. m == n) ns))
@@ -83,8 +83,8 @@ unfolding is_none
 catalog_none before [] few =
     let fits : nat_le (length before + 0) MOST_DATABASES ≡ true = grind (arith, nat_tests) in rw fits refl
 catalog_none before (r ∷ rows) few =
-    let n = number_in r.1 in
-    let ns = map (λ (x : Row). number_in x.1) rows in
+    let n = catalog_number r.1 in
+    let ns = map (λ (x : Row). catalog_number x.1) rows in
     let longer : length (before ++ n ∷ []) ≡ length before + 1 = length-append before (n ∷ []) in
     let behind : nat_lt (length before) MOST_DATABASES ≡ true → is_none (wrong_in_catalog (before ++ n ∷ []) rows) ≡ is_catalog_behind (before ++ n ∷ []) rows =
     λ room. catalog_none (before ++ n ∷ []) rows (let lt : length before < MOST_DATABASES = grind (arith, nat_tests) in omega (arith, longer, lt)) in
@@ -99,7 +99,7 @@ catalog_none before (r ∷ rows) few =
 
 -- ---- the databases
 
-lesser_is : (k n : ℕ) (o : Option ℕ) → lesser k o ≡ Some n → (n ≡ k) ⊎ (o ≡ Some n)
+lesser_is : (k n : ℕ) (o : Option ℕ) → lesser_number k o ≡ Some n → (n ≡ k) ⊎ (o ≡ Some n)
 lesser_is k n None h = let is : k ≡ n = cc in inl (sym is)
 lesser_is k n (Some m) h =
     let is : min k m ≡ n = cc in
@@ -111,34 +111,34 @@ lesser_is k n (Some m) h =
       ]
     ]
 
-lesser_some : (k : ℕ) (o : Option ℕ) → lesser k o ≡ None → ⊥
+lesser_some : (k : ℕ) (o : Option ℕ) → lesser_number k o ≡ None → ⊥
 lesser_some k None h = cc
 lesser_some k (Some m) h = cc
 
 -- the least of those that pass passes
-least_passes : (p : ℕ → Bool) (ns : List ℕ) (n : ℕ) → least (filter p ns) ≡ Some n → p n ≡ true
+least_passes : (p : ℕ → Bool) (ns : List ℕ) (n : ℕ) → least_number (filter p ns) ≡ Some n → p n ≡ true
 least_passes p [] n h = cc
 least_passes p (k ∷ ns) n h = by_case (p k) refl h (least_passes p ns n)
   where
-    by_case : (b : Bool) → p k ≡ b → least (cond b (k ∷ filter p ns) (filter p ns)) ≡ Some n → (least (filter p ns) ≡ Some n → p n ≡ true) → p n ≡ true
-    by_case true is found behind = elim (lesser_is k n (least (filter p ns)) found) [ inl same ↦ ap p same ∙ is | inr there ↦ behind there ]
+    by_case : (b : Bool) → p k ≡ b → least_number (cond b (k ∷ filter p ns) (filter p ns)) ≡ Some n → (least_number (filter p ns) ≡ Some n → p n ≡ true) → p n ≡ true
+    by_case true is found behind = elim (lesser_is k n (least_number (filter p ns)) found) [ inl same ↦ ap p same ∙ is | inr there ↦ behind there ]
     by_case false is found behind = behind found
 
-least_none : (q : ℕ → Bool) (ns : List ℕ) → least (filter (λ n. not (q n)) ns) ≡ None → list_all q ns ≡ true
+least_none : (q : ℕ → Bool) (ns : List ℕ) → least_number (filter (λ n. not (q n)) ns) ≡ None → list_all q ns ≡ true
 least_none q [] h = refl
 least_none q (k ∷ ns) h = by_case (q k) refl h (least_none q ns)
   where
-    by_case : (b : Bool) → q k ≡ b → least (cond (not b) (k ∷ filter (λ n. not (q n)) ns) (filter (λ n. not (q n)) ns)) ≡ None →
-        (least (filter (λ n. not (q n)) ns) ≡ None → list_all q ns ≡ true) → (b && list_all q ns) ≡ true
+    by_case : (b : Bool) → q k ≡ b → least_number (cond (not b) (k ∷ filter (λ n. not (q n)) ns) (filter (λ n. not (q n)) ns)) ≡ None →
+        (least_number (filter (λ n. not (q n)) ns) ≡ None → list_all q ns ≡ true) → (b && list_all q ns) ≡ true
     by_case true is none behind = behind none
-    by_case false is none behind = absurd (lesser_some k (least (filter (λ n. not (q n)) ns)) none)
+    by_case false is none behind = absurd (lesser_some k (least_number (filter (λ n. not (q n)) ns)) none)
 
-least_of_none : (q : ℕ → Bool) (ns : List ℕ) → list_all q ns ≡ true → least (filter (λ n. not (q n)) ns) ≡ None
+least_of_none : (q : ℕ → Bool) (ns : List ℕ) → list_all q ns ≡ true → least_number (filter (λ n. not (q n)) ns) ≡ None
 least_of_none q [] h = refl
 least_of_none q (k ∷ ns) h = by_case (q k) h (least_of_none q ns)
   where
-    by_case : (b : Bool) → (b && list_all q ns) ≡ true → (list_all q ns ≡ true → least (filter (λ n. not (q n)) ns) ≡ None) →
-        least (cond (not b) (k ∷ filter (λ n. not (q n)) ns) (filter (λ n. not (q n)) ns)) ≡ None
+    by_case : (b : Bool) → (b && list_all q ns) ≡ true → (list_all q ns ≡ true → least_number (filter (λ n. not (q n)) ns) ≡ None) →
+        least_number (cond (not b) (k ∷ filter (λ n. not (q n)) ns) (filter (λ n. not (q n)) ns)) ≡ None
     by_case true all behind = behind all
     by_case false all behind = cc
 
@@ -216,9 +216,9 @@ none_is_catalog rows h =
 -- the least of what was found and of what is left
 abbrev pub lesser_of_both : Option ℕ → Option ℕ → Option ℕ
 lesser_of_both None other = other
-lesser_of_both (Some n) other = lesser n other
+lesser_of_both (Some n) other = lesser_number n other
 
-pub lesser_more : (found rest : Option ℕ) (n m : ℕ) → Some m ≡ lesser n found → lesser_of_both (Some m) rest ≡ lesser_of_both found (lesser n rest)
-lesser_more None rest n m is = let e : m ≡ n = cc in ap (λ (k : ℕ). lesser k rest) e
+pub lesser_more : (found rest : Option ℕ) (n m : ℕ) → Some m ≡ lesser_number n found → lesser_of_both (Some m) rest ≡ lesser_of_both found (lesser_number n rest)
+lesser_more None rest n m is = let e : m ≡ n = cc in ap (λ (k : ℕ). lesser_number k rest) e
 lesser_more (Some k) None n m is = let e : m ≡ min n k = cc in ap (λ (x : ℕ). Some x) (omega (arith, e))
 lesser_more (Some k) (Some l) n m is = let e : m ≡ min n k = cc in ap (λ (x : ℕ). Some x) (omega (arith, e))

@@ -7,16 +7,16 @@ use Rattle.je_lsn.specs.declared.file_no.FileNo.{FileNo}
 use Rattle.log_entry.specs.declared.entry.Entry.{Entry}
 use Rattle.log_file.specs.Log.{AreFiles, entries_of, log_in}
 use Rattle.je_model.specs.Store.{record_count}
-use Rattle.log_replay.specs.declared.finding.Finding.{Finding}
-use Rattle.log_replay.specs.declared.finding.Finding.TheVariants.{Tree}
+use Rattle.log_replay.specs.declared.corruption.Corruption.{Corruption}
+use Rattle.log_replay.specs.declared.corruption.Corruption.TheVariants.{Tree}
 use Rattle.log_replay.specs.declared.log_read.ReadLog.{ReadLog}
 use Rattle.log_replay.specs.declared.log_read.LogRead.{LogRead}
-use Rattle.log_replay.specs.declared.log_read.LogRead.TheVariants.{Read, Found}
-use Rattle.log_replay.specs.declared.reading.Weighed.{Weighed}
-use Rattle.log_replay.specs.declared.reading.Weighed.TheVariants.{Answer as Answered, Wrong as WrongAt}
+use Rattle.log_replay.specs.declared.log_read.LogRead.TheVariants.{Read, Corrupt}
+use Rattle.log_replay.specs.declared.reading.Checked.{Checked}
+use Rattle.log_replay.specs.declared.reading.Checked.TheVariants.{Answer as Answered, Wrong as WrongAt}
 use Rattle.log_replay.specs.declared.replayed.Replayed.{Replayed}
-use Rattle.log_replay.specs.declared.replayed.Judged.{Judged}
-use Rattle.log_replay.specs.declared.replayed.Judged.TheVariants.{Right, Wrong}
+use Rattle.log_replay.specs.declared.replayed.Validated.{Validated}
+use Rattle.log_replay.specs.declared.replayed.Validated.TheVariants.{Right, Wrong}
 use Rattle.log_replay.specs.Rows.{rows_in, store_of, IsRising}
 use Rattle.log_replay.specs.Replay.{replayed, nothing_replayed}
 use Rattle.log_replay.specs.Meaning.{meaning_of}
@@ -24,7 +24,7 @@ use Rattle.log_replay.specs.Wrong.{wrong_record}
 use Rattle.log_replay.specs.Reading.{reading_of, files_read, lsn_of}
 use Rattle.log_replay.specs.UnderWay.{IsTailOf}
 
--- a replay of these entries: its records are those of an environment, and the numbers are those drawn last
+-- a replay of these entries: its records are those of an environment, and the numbers are those allocated last
 pub record IsReplayed (entries : List Entry) (found : Replayed) : Type 0 where
   pub rows : (db : ℕ) → rows_in found.rows db ≡ (replayed entries nothing_replayed).rows db
   pub rising : (db : ℕ) → IsRising (rows_in found.rows db)
@@ -35,9 +35,9 @@ pub record IsReplayed (entries : List Entry) (found : Replayed) : Type 0 where
   pub records : found.totals.records ≡ record_count found.opening
 
 -- what the records of these entries come to
-abbrev pub IsJudged : List Entry → Judged → Type 0
-IsJudged entries (Right found) = IsReplayed entries found
-IsJudged entries (Wrong place) = wrong_record (replayed entries nothing_replayed).rows ≡ Some place
+abbrev pub IsValidated : List Entry → Validated → Type 0
+IsValidated entries (Right found) = IsReplayed entries found
+IsValidated entries (Wrong place) = wrong_record (replayed entries nothing_replayed).rows ≡ Some place
 
 -- a log of these files was read
 pub record IsLogOf (held : List (ℕ × List ℕ)) (log : ReadLog) : Type 0 where
@@ -46,26 +46,26 @@ pub record IsLogOf (held : List (ℕ × List ℕ)) (log : ReadLog) : Type 0 wher
   pub replay : IsReplayed (entries_of (log_in held)) log.replayed
   pub tail : IsTailOf held log.tail
 
--- the finding of files: it is the first; of a wrong record, the LSN is known where the disk tells
-abbrev pub IsFindingOf : Bool → List (ℕ × List ℕ) → Finding → Type 0
-IsFindingOf tells held (Tree lsn) = (known : ℕ) × (reading_of held ≡ Err (Tree known)) × (tells ≡ true → known ≡ lsn)
-IsFindingOf tells held finding = reading_of held ≡ Err finding
+-- the corruption of files: it is the first; of a wrong record, the LSN is known if the disk is observable
+abbrev pub IsCorruptionOf : Bool → List (ℕ × List ℕ) → Corruption → Type 0
+IsCorruptionOf observable held (Tree lsn) = (known : ℕ) × (reading_of held ≡ Err (Tree known)) × (observable ≡ true → known ≡ lsn)
+IsCorruptionOf observable held corruption = reading_of held ≡ Err corruption
 
 -- the answer for files
 abbrev pub IsAnswerFor : Bool → List (ℕ × List ℕ) → LogRead → Type 0
-IsAnswerFor tells held (Read log) = IsLogOf held log
-IsAnswerFor tells held (Found finding) = IsFindingOf tells held finding
+IsAnswerFor observable held (Read log) = IsLogOf held log
+IsAnswerFor observable held (Corrupt corruption) = IsCorruptionOf observable held corruption
 
--- the answer for the files of these numbers: with the bytes that they have, where the disk tells, and as all of the disk's
--- files, where these numbers are its listing
-pub record IsReadingOf (tells : Bool) (reads : Files) (files : List FileNo) (read : LogRead) : Type 0 where
+-- the answer for the files of these numbers: with the bytes that they have, if the disk is observable, and as all of the disk's files,
+-- where these numbers are its listing
+pub record IsReadingOf (observable : Bool) (reads : Files) (files : List FileNo) (read : LogRead) : Type 0 where
   pub held : List (ℕ × List ℕ)
   pub numbers : map (λ file. file.0) held ≡ map (λ f. f.0) files
-  pub told : tells ≡ true → held ≡ files_read reads files
-  pub listed : tells ≡ true → IsListing reads files → AreFiles reads held
-  pub answer : IsAnswerFor tells held read
+  pub observed : observable ≡ true → held ≡ files_read reads files
+  pub listed : observable ≡ true → IsListing reads files → AreFiles reads held
+  pub answer : IsAnswerFor observable held read
 
 -- what files come to that were read: an answer, or a place whose LSN makes one
-abbrev pub IsWeighed : Bool → Files → List FileNo → Weighed → Type 0
-IsWeighed tells reads files (Answered read) = IsReadingOf tells reads files read
-IsWeighed tells reads files (WrongAt place) = (lsn : ℕ) → (tells ≡ true → lsn ≡ lsn_of (log_in (files_read reads files)) place) → IsReadingOf tells reads files (Found (Tree lsn))
+abbrev pub IsChecked : Bool → Files → List FileNo → Checked → Type 0
+IsChecked observable reads files (Answered read) = IsReadingOf observable reads files read
+IsChecked observable reads files (WrongAt place) = (lsn : ℕ) → (observable ≡ true → lsn ≡ lsn_of (log_in (files_read reads files)) place) → IsReadingOf observable reads files (Corrupt (Tree lsn))

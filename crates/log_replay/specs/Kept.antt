@@ -1,4 +1,4 @@
--- What an environment keeps of its log while it runs: the records in memory, and the numbers drawn last.
+-- What an environment keeps of its log while it runs: the records in memory, and the numbers allocated last.
 use Rattle.std.specs.Prelude.{ℕ, ◌≡◌, ◌≤◌, ◌<◌, ◌^◌, ◌+◌, ◌++◌, ◌∷◌, [], List, None, Some, true, IsTrue, length}
 use Rattle.std.specs.List.{AllByRecursion}
 use Rattle.log_entry.specs.declared.entry.Entry.{Entry}
@@ -11,16 +11,16 @@ use Rattle.je_model.specs.Evaluation.{plain_name}
 use Rattle.db_catalog.specs.declared.db_kind.DbKind.TheVariants.{Plain as PlainRecord}
 use Rattle.db_catalog.specs.Catalog.{record_bytes}
 use Rattle.db_catalog.specs.Planning.{kind_in_catalog}
-use Rattle.log_replay.specs.Rows.{Rows, RowChange, data_at, number_in, numbers_of, is_environment, IsRising}
+use Rattle.log_replay.specs.Rows.{Rows, RowChange, data_at, catalog_number, numbers_of, is_environment, IsRising}
 use Rattle.log_replay.specs.Replay.{replayed, nothing_replayed}
-use Rattle.log_replay.specs.Logging.{entry_of}
+use Rattle.log_replay.specs.Logging.{change_entry}
 
 -- a pending change whose transaction and database numbers are at most these
 pub record IsOfBefore (last_txn last_db : ℕ) (change : RowChange) : Type 0 where
   pub txn : change.txn ≤ last_txn
   pub db : change.db ≤ last_db
 
--- the records are what replaying the log's entries leaves, and no later number than these was drawn
+-- the records are what replaying the log's entries leaves, and no later number than these was allocated
 pub record IsKept (entries : List Entry) (rows : Rows) (last_txn last_db : ℕ) : Type 0 where
   pub same : (db : ℕ) → (replayed entries nothing_replayed).rows db ≡ rows db
   pub environment : is_environment rows ≡ true
@@ -42,7 +42,7 @@ row_change_of txn number (Empty db) =
 
 -- the database of that name has the number
 abbrev pub HasNumber : Rows → List ℕ → ℕ → Type 0
-HasNumber rows name number = (bytes : List ℕ) × (data_at (plain_name name) (rows 0) ≡ Some bytes) × (number_in bytes ≡ number)
+HasNumber rows name number = (bytes : List ℕ) × (data_at (plain_name name) (rows 0) ≡ Some bytes) × (catalog_number bytes ≡ number)
 
 -- a change may be logged in the database of that number: it is the number of the database that the change names, or
 -- the change makes a database whose name and number are new, where one more may be there. No transaction removes,
@@ -67,4 +67,4 @@ last_db_after last_db number (Empty db) = number
 
 -- the entries of a log after a transaction with one change was logged in it
 abbrev pub entries_with : List Entry → ℕ → ℕ → Change → List Entry
-entries_with entries txn number change = entries ++ entry_of txn number change ∷ Commit (record { 0 = txn }) ∷ []
+entries_with entries txn number change = entries ++ change_entry txn number change ∷ Commit (record { 0 = txn }) ∷ []

@@ -32,14 +32,14 @@ abbrev pub plain_catalog : List ℕ → Option DbRecord
 plain_catalog name = Some (record { number = 0; kind = PlainRecord })
 
 -- the first of them, in a catalog of plain databases
-abbrev pub entry_of : ℕ → ℕ → Change → Entry
-entry_of txn number (Set db at value) = Put (record { 0 = txn }) number at value
-entry_of txn number (Unset db at) = Delete (record { 0 = txn }) number at
-entry_of txn number (Make db kind) =
+abbrev pub change_entry : ℕ → ℕ → Change → Entry
+change_entry txn number (Set db at value) = Put (record { 0 = txn }) number at value
+change_entry txn number (Unset db at) = Delete (record { 0 = txn }) number at
+change_entry txn number (Make db kind) =
     Put (record { 0 = txn }) 0 (plain_name db) (record_bytes (record { number = number; kind = kind_in_catalog kind }))
-entry_of txn number (Remove db) = Delete (record { 0 = txn }) 0 (plain_name db)
-entry_of txn number (Rename db to) = Delete (record { 0 = txn }) 0 (plain_name db)
-entry_of txn number (Empty db) = Put (record { 0 = txn }) 0 (plain_name db) (record_bytes (record { number = number; kind = PlainRecord }))
+change_entry txn number (Remove db) = Delete (record { 0 = txn }) 0 (plain_name db)
+change_entry txn number (Rename db to) = Delete (record { 0 = txn }) 0 (plain_name db)
+change_entry txn number (Empty db) = Put (record { 0 = txn }) 0 (plain_name db) (record_bytes (record { number = number; kind = PlainRecord }))
 
 -- one entry logs the change; a rename takes two
 abbrev pub HasOneEntry : Change → Type 0

@@ -6,7 +6,7 @@ use Rattle.je_model.specs.Store.{no_databases}
 use Rattle.log_replay.specs.Rows.{store_of}
 use Rattle.log_replay.specs.Replay.{replayed, nothing_replayed, txn_in, db_in, greatest}
 
--- the store, and the transaction and database numbers that were drawn last
+-- the store, and the transaction and database numbers that were allocated last
 pub record Meaning : Type 0 where
   pub store : Store
   pub last_txn : ℕ

@@ -2,7 +2,7 @@
 use Rattle.std.specs.Prelude.{ℕ, ◌++◌, ◌∷◌, [], ◌==◌, List, None, Some, not, filter, max, if◌then◌else◌}
 use Rattle.log_entry.specs.declared.entry.Entry.{Entry}
 use Rattle.log_entry.specs.declared.entry.Entry.TheVariants.{Put, Delete, Commit}
-use Rattle.log_replay.specs.Rows.{Rows, no_rows, RowChange, rows_changed, number_in}
+use Rattle.log_replay.specs.Rows.{Rows, no_rows, RowChange, rows_changed, catalog_number}
 
 -- what a replay has so far: the records, and the changes whose transactions are not committed, in order
 pub record Replay : Type 0 where
@@ -44,7 +44,7 @@ txn_in entry = 0
 
 -- the greatest database number in an entry: the one that it is for, or the one in a catalog record
 abbrev pub db_in : Entry → ℕ
-db_in (Put txn db name value) = if db == 0 then number_in value else db
+db_in (Put txn db name value) = if db == 0 then catalog_number value else db
 db_in (Delete txn db name) = db
 db_in entry = 0
 

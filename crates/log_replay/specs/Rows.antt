@@ -15,7 +15,7 @@ use Rattle.je_model.specs.declared.store.Kind.TheVariants.{Plain}
 use Rattle.db_catalog.specs.declared.db_record.DbRecord.{DbRecord}
 use Rattle.db_catalog.specs.declared.db_kind.DbKind.{DbKind}
 use Rattle.db_catalog.specs.declared.db_kind.DbKind.TheVariants.{Plain as PlainRecord}
-use Rattle.db_catalog.specs.Catalog.{record_in}
+use Rattle.db_catalog.specs.Catalog.{db_record_in}
 
 -- a record: its name and its data
 abbrev pub Row : Type 0
@@ -82,12 +82,12 @@ abbrev pub number_or_0 : Option DbRecord → ℕ
 number_or_0 None = 0
 number_or_0 (Some record_) = plain_number record_.kind record_.number
 
-abbrev pub number_in : List ℕ → ℕ
-number_in bytes = number_or_0 (record_in bytes)
+abbrev pub catalog_number : List ℕ → ℕ
+catalog_number bytes = number_or_0 (db_record_in bytes)
 
 -- whether a catalog record is right: the key is a database's name, the dup is empty, and the data has a number
 abbrev pub is_catalog_row : Row → Bool
-is_catalog_row row = is_word row.0.key && (length row.0.dup == 0) && not (number_in row.1 == 0)
+is_catalog_row row = is_word row.0.key && (length row.0.dup == 0) && not (catalog_number row.1 == 0)
 
 -- whether no number stands twice
 abbrev pub are_distinct : List ℕ → Bool
@@ -100,7 +100,7 @@ are_plain rows = list_all (λ r. length r.0.dup == 0) rows
 
 -- the numbers that the catalog has, in order of the names
 abbrev pub numbers_of : Rows → List ℕ
-numbers_of rows = map (λ r. number_in r.1) (rows 0)
+numbers_of rows = map (λ r. catalog_number r.1) (rows 0)
 
 -- whether records are those of an environment: the catalog's are right and have numbers of their own, each database's
 -- are right, and there are no more databases than there may be
@@ -115,7 +115,7 @@ pair_of row = (row.0.key, row.1)
 
 -- the database that a catalog record names, with the records under its number
 abbrev pub database_in : Rows → Row → Database
-database_in rows row = record { name = row.0.key; kind = Plain; pairs = map pair_of (rows (number_in row.1)) }
+database_in rows row = record { name = row.0.key; kind = Plain; pairs = map pair_of (rows (catalog_number row.1)) }
 
 -- the store that records make
 abbrev pub store_of : Rows → Store

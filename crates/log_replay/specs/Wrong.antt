@@ -5,7 +5,7 @@ use Rattle.std.specs.List.{list_any}
 use Rattle.je_order.specs.declared.name.Name.{Name}
 use Rattle.je_model.specs.declared.store.TheConstants.{MOST_DATABASES}
 use Rattle.log_replay.specs.declared.place.Place.{Place}
-use Rattle.log_replay.specs.Rows.{Row, Rows, number_in, numbers_of, is_catalog_row, are_plain}
+use Rattle.log_replay.specs.Rows.{Row, Rows, catalog_number, numbers_of, is_catalog_row, are_plain}
 
 -- the first of two that is there
 abbrev pub or_else : {A : Type 0} → Option A → Option A → Option A
@@ -16,30 +16,30 @@ or_else None other = other
 -- database more
 abbrev pub is_right_behind : List ℕ → Row → Bool
 is_right_behind before row =
-    is_catalog_row row && not (list_any (λ n. n == number_in row.1) before) && nat_lt (length before) MOST_DATABASES
+    is_catalog_row row && not (list_any (λ n. n == catalog_number row.1) before) && nat_lt (length before) MOST_DATABASES
 
 -- the name of the first record of a catalog that is wrong, where records of these numbers stand before it
 abbrev pub wrong_in_catalog : List ℕ → List Row → Option Name
 wrong_in_catalog before [] = None
 wrong_in_catalog before (row ∷ rows) =
-    if is_right_behind before row then wrong_in_catalog (before ++ number_in row.1 ∷ []) rows else Some row.0
+    if is_right_behind before row then wrong_in_catalog (before ++ catalog_number row.1 ∷ []) rows else Some row.0
 
 -- the name of the first record that is wrong in a plain database: its dup is not empty
 abbrev pub wrong_in_plain : List Row → Option Name
 wrong_in_plain rows = option_map (λ r. r.0) (find (λ r. not (length r.0.dup == 0)) rows)
 
 -- the least of numbers
-abbrev pub lesser : ℕ → Option ℕ → Option ℕ
-lesser n None = Some n
-lesser n (Some m) = Some (min n m)
+abbrev pub lesser_number : ℕ → Option ℕ → Option ℕ
+lesser_number n None = Some n
+lesser_number n (Some m) = Some (min n m)
 
-abbrev pub least : List ℕ → Option ℕ
-least [] = None
-least (n ∷ ns) = lesser n (least ns)
+abbrev pub least_number : List ℕ → Option ℕ
+least_number [] = None
+least_number (n ∷ ns) = lesser_number n (least_number ns)
 
 -- the least number of a database that the catalog names and that has a wrong record
 abbrev pub wrong_database : Rows → Option ℕ
-wrong_database rows = least (filter (λ n. not (are_plain (rows n))) (numbers_of rows))
+wrong_database rows = least_number (filter (λ n. not (are_plain (rows n))) (numbers_of rows))
 
 -- the place of the first wrong record of that database
 abbrev pub wrong_under : Rows → Option ℕ → Option Place

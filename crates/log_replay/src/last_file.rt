@@ -7,7 +7,7 @@ pub struct LastFile {
     pub file: FileNo,
     /// The offset of its last entry, 0 where that is the header or there is none.
     pub last: u32,
-    /// Where its run ends; 0 where it lacks a whole header.
+    /// Where its valid prefix ends; 0 where it lacks a whole header.
     pub end: u32,
     /// How many bytes it has.
     pub len: u64,

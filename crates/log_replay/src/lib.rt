@@ -1,12 +1,12 @@
 //! What a log without checkpoints means: the store that replaying its entries leaves, with the numbers
-//! that were drawn last, or what is wrong with its files. It stands on the files of logs, the catalog
-//! and the model; the program opens its files with it, and keeps the records that a replay left in
-//! memory. Upward it promises that `read_log` finds the store, the numbers and the records that the
-//! definitions say, or the first finding in the order of reading, and that `Rows` changes its records
-//! as they say.
+//! that were allocated last, or what is wrong with its files. It stands on the files of logs, the
+//! catalog and the model; the program opens its files with it, and keeps the records that a replay
+//! left in memory. Upward it promises that `read_log` finds the store, the numbers and the records
+//! that the definitions say, or the first corruption in the order of reading, and that `Rows` changes
+//! its records as they say.
 #![tactic(auto)]
 
-pub mod finding;
+pub mod corruption;
 pub mod last_file;
 pub mod laws;
 mod loading;
@@ -23,7 +23,7 @@ mod replaying;
 pub mod rows;
 mod table;
 
-pub use finding::Finding;
+pub use corruption::Corruption;
 pub use last_file::LastFile;
 pub use laws::{changes_are_logged, logs_are_read};
 pub use log_read::{LogRead, ReadLog};

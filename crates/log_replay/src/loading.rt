@@ -15,8 +15,9 @@ const MOST_WAITING: usize = 134_217_728;
 /// How many bytes a put takes beside those of its name and data, about.
 const PUT_BYTES: usize = 80;
 
-/// Records that a replay sets. The puts of one database wait, and go in sorted: a map that grows by names
-/// in no order reads memory in no order. After want of memory nothing is known of them, and the replay ends.
+/// Records that a replay sets. The puts of one database wait, and go in sorted: a map that grows by names in
+/// no order reads memory in no order. After running out of memory nothing is known of them, and the replay
+/// ends.
 #[derive(Drop)]
 pub(crate) struct Loading {
     /// The records without the puts that wait.
@@ -58,7 +59,7 @@ impl Loading {
         if db == self.db && self.bytes < MOST_WAITING {
             return Ok(());
         }
-        self.settle(alloc)?;
+        self.flush(alloc)?;
         self.db = db;
         Ok(())
     }
@@ -84,7 +85,7 @@ impl Loading {
     pub(crate) fn unset(&mut self, alloc: Global, db: u32, name: Name) -> Result<(), AllocError>
         ensures { OnOk result ((txn d : ℕ) → loaded self.new d ≡ row_changed (record { txn = txn; db = db; name = name; value = None }) (loaded self.old) d) }
     {
-        self.settle(alloc)?;
+        self.flush(alloc)?;
         let name = SortKey::new(alloc, name)?;
         self.rows.unset(db, &name);
         drop(name);
@@ -92,7 +93,7 @@ impl Loading {
     }
 
     /// Puts what waits among the records.
-    pub(crate) fn settle(&mut self, alloc: Global) -> Result<(), AllocError>
+    pub(crate) fn flush(&mut self, alloc: Global) -> Result<(), AllocError>
         ensures rows { OnOk result ((d : ℕ) → rows_in self.new.rows d ≡ loaded self.old d) }
         ensures none { OnOk result (self.new.waiting.items ≡ []) }
     {
@@ -106,7 +107,7 @@ impl Loading {
         ensures { IfOk result (λ rows. (d : ℕ) → rows_in rows d ≡ loaded self d) }
     {
         let mut loading = self;
-        loading.settle(alloc)?;
+        loading.flush(alloc)?;
         Ok(loading.rows)
     }
 }

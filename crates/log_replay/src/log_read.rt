@@ -1,5 +1,5 @@
 // What reading a log comes to.
-use crate::{Finding, LastFile, Replayed};
+use crate::{Corruption, LastFile, Replayed};
 
 /// A log that was read.
 #[derive(Drop)]
@@ -16,5 +16,5 @@ pub enum LogRead {
     /// The log means something.
     Read(ReadLog),
     /// It does not, and this is why.
-    Found(Finding),
+    Corrupt(Corruption),
 }

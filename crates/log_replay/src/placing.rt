@@ -4,8 +4,8 @@ ghost use Rattle.std.specs.Int.{w64, to_be_bytes};
 ghost use Rattle.je_disk.specs.Moments.{now, Passes};
 ghost use Rattle.je_disk.specs.Causes.{HasCause};
 ghost use Rattle.log_entry.specs.declared.entry.Entry.TheVariants.{Put};
-ghost use Rattle.log_file.specs.Log.{AreFileEntries, entries_found, log_in};
-ghost use Rattle.log_replay.specs.Reading.{files_read, lsn_in, lsn_of as lsn_of_place, marked, marked_entry};
+ghost use Rattle.log_file.specs.Log.{AreFileEntries, entries_scanned, log_in};
+ghost use Rattle.log_replay.specs.Reading.{files_read, marked_lsn, lsn_of as lsn_of_place, marked, marked_entry};
 ghost use Rattle.log_replay.specs.Rows.{data_at, rows_in};
 ghost use Rattle.log_replay.specs.UnderWay.{HasTaken, IsReplayOf};
 
@@ -17,7 +17,7 @@ use je_disk::{Disk, DiskErr};
 use je_lsn::{FileNo, Lsn};
 use je_order::{List, Name, Octets, TxnId, copy_of};
 use log_entry::{Entry, size};
-use log_file::{Found, Scanned, scan};
+use log_file::{FileScan, Scanned, scan};
 use record_map::SortKey;
 use std::alloc::{AllocError, Global};
 
@@ -69,19 +69,19 @@ fn mark(alloc: Global, f: FileNo, entries: List<Entry>) -> Result<List<Entry>, A
     Ok(List::from_vec(out))
 }
 
-// The entries of what was scanned; none where there is no run.
+// The entries of what was scanned; none where there is no valid prefix.
 fn entries_of(alloc: Global, scanned: Scanned) -> List<Entry>
-    ensures { result ≡ entries_found scanned.found }
+    ensures { result ≡ entries_scanned scanned.found }
 {
     match scanned.found {
-        Found::Run(run) => run.entries,
+        FileScan::Prefix(prefix) => prefix.entries,
         _ => List::new(alloc),
     }
 }
 
 // The LSN that a marked put has for its data, 0 where there is none or it has fewer bytes.
 fn lsn_from(marked: Option<&[u8]>) -> Lsn
-    ensures { result ≡ lsn_in (option_copied marked.entry) }
+    ensures { result ≡ marked_lsn (option_copied marked.entry) }
 {
     let Some(bytes) = marked else {
         return Lsn::new(FileNo(0), 0);
@@ -97,7 +97,7 @@ fn lsn_from(marked: Option<&[u8]>) -> Lsn
 
 // The LSN that the record of a place has for its data, 0 where there is no such record.
 fn lsn_at(alloc: Global, rows: &Rows, place: &Place) -> Result<Lsn, AllocError>
-    ensures { IfOk result (λ lsn. lsn ≡ lsn_in (data_at place.now.name (rows_in rows.now place.now.db))) }
+    ensures { IfOk result (λ lsn. lsn ≡ marked_lsn (data_at place.now.name (rows_in rows.now place.now.db))) }
 {
     let name = SortKey::new(alloc, copy_of(&place.name)?)?;
     let lsn = lsn_from(rows.get(place.db, &name));
@@ -112,8 +112,8 @@ fn take_marked(
     scanned: Scanned,
     replaying: &mut Replaying,
 ) -> Result<(), AllocError>
-    requires { AreFileEntries (entries_found scanned.found) }
-    ensures { OnOk result (HasTaken (marked f.0 26 (entries_found scanned.found)) replaying.old replaying.new) }
+    requires { AreFileEntries (entries_scanned scanned.found) }
+    ensures { OnOk result (HasTaken (marked f.0 26 (entries_scanned scanned.found)) replaying.old replaying.new) }
 {
     let entries = mark(alloc, f, entries_of(alloc, scanned))?;
     replaying.take_all(alloc, entries)
@@ -128,17 +128,17 @@ fn find_lsn<D: Disk>(
     replaying: &mut Replaying,
 ) -> Result<Lsn, DiskErr>
     requires { IsReplayOf [] replaying.old }
-    ensures lsn { D.tells ≡ true → IfOk result (λ lsn. lsn ≡ lsn_of_place (log_in (files_read (now (D.history disk.old)).reads files.now)) place.now) }
-    ensures same { D.tells ≡ true → now (D.history disk.new) ≡ now (D.history disk.old) }
-    ensures moments { D.tells ≡ true → Passes (D.history disk.old) (D.history disk.new) (λ s. s ≡ now (D.history disk.old)) }
-    ensures jobs { (D.sync_out disk.new ≡ D.sync_out disk.old) × (D.read_out disk.new ≡ D.read_out disk.old) × (D.read_of disk.new ≡ D.read_of disk.old) × (D.drawn disk.new ≡ D.drawn disk.old) }
+    ensures lsn { D.observable ≡ true → IfOk result (λ lsn. lsn ≡ lsn_of_place (log_in (files_read (now (D.history disk.old)).reads files.now)) place.now) }
+    ensures same { D.observable ≡ true → now (D.history disk.new) ≡ now (D.history disk.old) }
+    ensures moments { D.observable ≡ true → Passes (D.history disk.old) (D.history disk.new) (λ s. s ≡ now (D.history disk.old)) }
+    ensures jobs { (D.sync_out disk.new ≡ D.sync_out disk.old) × (D.read_out disk.new ≡ D.read_out disk.old) × (D.read_of disk.new ≡ D.read_of disk.old) × (D.last_job disk.new ≡ D.last_job disk.old) }
     ensures cause { HasCause (D.faults disk.old) (D.faults disk.new) result }
 {
     for f in files {
         let scanned = scan(alloc, disk, *f)?;
         take_marked(alloc, *f, scanned, replaying)?;
     }
-    replaying.loading.settle(alloc)?;
+    replaying.loading.flush(alloc)?;
     Ok(lsn_at(alloc, &replaying.loading.rows, place)?)
 }
 
@@ -150,10 +150,10 @@ pub(crate) fn lsn_of<D: Disk>(
     files: &[FileNo],
     place: Place,
 ) -> Result<Lsn, DiskErr>
-    ensures lsn { D.tells ≡ true → IfOk result (λ lsn. lsn ≡ lsn_of_place (log_in (files_read (now (D.history disk.old)).reads files.now)) place) }
-    ensures same { D.tells ≡ true → now (D.history disk.new) ≡ now (D.history disk.old) }
-    ensures moments { D.tells ≡ true → Passes (D.history disk.old) (D.history disk.new) (λ s. s ≡ now (D.history disk.old)) }
-    ensures jobs { (D.sync_out disk.new ≡ D.sync_out disk.old) × (D.read_out disk.new ≡ D.read_out disk.old) × (D.read_of disk.new ≡ D.read_of disk.old) × (D.drawn disk.new ≡ D.drawn disk.old) }
+    ensures lsn { D.observable ≡ true → IfOk result (λ lsn. lsn ≡ lsn_of_place (log_in (files_read (now (D.history disk.old)).reads files.now)) place) }
+    ensures same { D.observable ≡ true → now (D.history disk.new) ≡ now (D.history disk.old) }
+    ensures moments { D.observable ≡ true → Passes (D.history disk.old) (D.history disk.new) (λ s. s ≡ now (D.history disk.old)) }
+    ensures jobs { (D.sync_out disk.new ≡ D.sync_out disk.old) × (D.read_out disk.new ≡ D.read_out disk.old) × (D.read_of disk.new ≡ D.read_of disk.old) × (D.last_job disk.new ≡ D.last_job disk.old) }
     ensures cause { HasCause (D.faults disk.old) (D.faults disk.new) result }
 {
     let mut replaying = Replaying::new(alloc);

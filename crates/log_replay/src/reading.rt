@@ -2,72 +2,74 @@
 ghost use Rattle.std.specs.Prelude.{◌≡◌, ◌==◌, ◌<◌, ◌+◌, ◌∷◌, [], nat_lt, ℕ, List as Items, Bool, true, Some, None, IfOk, map, length, option_map, if◌then◌else◌};
 ghost use Rattle.je_disk.specs.Moments.{now, Passes};
 ghost use Rattle.je_disk.specs.Causes.{HasCause};
-ghost use Rattle.je_disk.specs.States.{Files, IsRising};
+ghost use Rattle.je_disk.specs.States.{Files, AreRisingNumbers};
 ghost use Rattle.std.specs.List.Sorted.{IsStrictlyIncreasing};
 ghost use Rattle.je_lsn.specs.declared.file_no.FileNo.{FileNo as FileNumber};
-ghost use Rattle.log_file.specs.declared.found.Found.TheVariants.{Run};
-ghost use Rattle.log_file.specs.Scan.{found_in};
+ghost use Rattle.log_file.specs.declared.file_scan.FileScan.TheVariants.{Prefix};
+ghost use Rattle.log_file.specs.Scan.{scan_of};
 ghost use Rattle.je_lsn.specs.Naming.{last_file};
-ghost use Rattle.log_replay.specs.declared.finding.Finding.TheVariants.{Damaged};
+ghost use Rattle.log_replay.specs.declared.corruption.Corruption.TheVariants.{Damaged};
 ghost use Rattle.log_replay.specs.declared.reading.FilesRead.TheVariants.{All as AllRead};
-ghost use Rattle.log_replay.specs.Reading.{finding_behind, gap_in, gap_behind as gap_behind_number, lsn_at};
+ghost use Rattle.log_replay.specs.Reading.{corruption_behind, gap_in, gap_behind as gap_behind_number, lsn_at};
 ghost use Rattle.log_replay.specs.UnderWay.{IsReplayOf, IsReadOf, IsFileRead, AreRead};
-ghost use Rattle.log_replay.specs.Answer.{IsReadingOf, IsWeighed};
+ghost use Rattle.log_replay.specs.Answer.{IsReadingOf, IsChecked};
 
 use crate::place::Place;
 use crate::placing::lsn_of;
-use crate::replayed::{Judged, judge};
+use crate::replayed::{Validated, validate};
 use crate::replaying::Replaying;
-use crate::{Finding, LastFile, LogRead, ReadLog};
+use crate::{Corruption, LastFile, LogRead, ReadLog};
 use je_disk::{Disk, DiskErr};
 use je_lsn::{FileNo, Lsn};
-use log_file::{FileRun, Found, Scanned, scan};
+use log_file::{FileScan, Scanned, ValidPrefix, scan};
 use std::alloc::{AllocError, Global};
 
 /// The greatest number of a log file.
 const LAST_FILE: u32 = 0xffff_fffe;
 
-// What was read of one file: it is right where it stands, and its entries were replayed, or a finding.
+// What was read of one file: it is right where it stands, and its entries were replayed, or a
+// corruption.
 #[derive(Drop)]
 enum FileRead {
     GoesOn(LastFile),
-    Stops(Finding),
+    Stops(Corruption),
 }
 
-// What was read of all files: their entries were replayed, with the last file, or a finding.
+// What was read of all files: their entries were replayed, with the last file, or a corruption.
 #[derive(Drop)]
 enum FilesRead {
     All(Option<LastFile>),
-    Stopped(Finding),
+    Stopped(Corruption),
 }
 
-// What is wrong with a file of so many bytes whose run ends there.
-fn finding_of_run(f: FileNo, is_last: bool, len: u64, end: u32) -> Option<Finding>
-    ensures { result ≡ (if nat_lt last_file f.0 then Some (Damaged (lsn_at f.0 0)) else finding_behind is_last f.0 len end) }
+// What is wrong with a file of so many bytes whose valid prefix ends there.
+fn corruption_of_prefix(f: FileNo, is_last: bool, len: u64, end: u32) -> Option<Corruption>
+    ensures { result ≡ (if nat_lt last_file f.0 then Some (Damaged (lsn_at f.0 0)) else corruption_behind is_last f.0 len end) }
 {
     if f.0 > LAST_FILE {
-        return Some(Finding::Damaged(Lsn::new(f, 0)));
+        return Some(Corruption::Damaged(Lsn::new(f, 0)));
     }
     if !is_last && (end == 0 || u64::from(end) != len) {
-        return Some(Finding::Damaged(Lsn::new(f, end)));
+        return Some(Corruption::Damaged(Lsn::new(f, end)));
     }
     None
 }
 
-// What was read of a file of so many bytes that has a run; its entries are replayed, if it is right.
-fn take_run(
+// What was read of a file of so many bytes that has a valid prefix; its entries are replayed, if it
+// is right.
+fn take_prefix(
     alloc: Global,
     f: FileNo,
     is_last: bool,
     len: u64,
-    run: FileRun,
+    prefix: ValidPrefix,
     replaying: &mut Replaying,
 ) -> Result<FileRead, AllocError>
-    ensures { (bytes : Items ℕ) → found_in f.0 bytes ≡ Run run → len ≡ length bytes → IfOk result (IsReadOf is_last f.0 bytes replaying.old replaying.new) }
+    ensures { (bytes : Items ℕ) → scan_of f.0 bytes ≡ Prefix prefix → len ≡ length bytes → IfOk result (IsReadOf is_last f.0 bytes replaying.old replaying.new) }
 {
-    let FileRun { entries, last, end } = run;
-    if let Some(finding) = finding_of_run(f, is_last, len, end) {
-        return Ok(FileRead::Stops(finding));
+    let ValidPrefix { entries, last, end } = prefix;
+    if let Some(corruption) = corruption_of_prefix(f, is_last, len, end) {
+        return Ok(FileRead::Stops(corruption));
     }
     replaying.take_all(alloc, entries)?;
     Ok(FileRead::GoesOn(LastFile {
@@ -86,15 +88,15 @@ fn take_file(
     scanned: Scanned,
     replaying: &mut Replaying,
 ) -> Result<FileRead, AllocError>
-    ensures { (bytes : Items ℕ) → scanned.found ≡ found_in f.0 bytes → scanned.len ≡ length bytes → IfOk result (IsReadOf is_last f.0 bytes replaying.old replaying.new) }
+    ensures { (bytes : Items ℕ) → scanned.found ≡ scan_of f.0 bytes → scanned.len ≡ length bytes → IfOk result (IsReadOf is_last f.0 bytes replaying.old replaying.new) }
 {
     let Scanned { found, len } = scanned;
     match found {
-        Found::VersionUnknown { version } => {
-            Ok(FileRead::Stops(Finding::VersionUnknown { file: f, version }))
+        FileScan::VersionUnknown { version } => {
+            Ok(FileRead::Stops(Corruption::VersionUnknown { file: f, version }))
         }
-        Found::Damaged => Ok(FileRead::Stops(Finding::Damaged(Lsn::new(f, 0)))),
-        Found::Run(run) => take_run(alloc, f, is_last, len, run, replaying),
+        FileScan::Damaged => Ok(FileRead::Stops(Corruption::Damaged(Lsn::new(f, 0)))),
+        FileScan::Prefix(prefix) => take_prefix(alloc, f, is_last, len, prefix, replaying),
     }
 }
 
@@ -106,10 +108,10 @@ fn read_file<D: Disk>(
     is_last: bool,
     replaying: &mut Replaying,
 ) -> Result<FileRead, DiskErr>
-    ensures read { IfOk result (IsFileRead D.tells (now (D.history disk.old)).reads is_last f.0 replaying.old replaying.new) }
-    ensures same { D.tells ≡ true → now (D.history disk.new) ≡ now (D.history disk.old) }
-    ensures moments { D.tells ≡ true → Passes (D.history disk.old) (D.history disk.new) (λ s. s ≡ now (D.history disk.old)) }
-    ensures jobs { (D.sync_out disk.new ≡ D.sync_out disk.old) × (D.read_out disk.new ≡ D.read_out disk.old) × (D.read_of disk.new ≡ D.read_of disk.old) × (D.drawn disk.new ≡ D.drawn disk.old) }
+    ensures read { IfOk result (IsFileRead D.observable (now (D.history disk.old)).reads is_last f.0 replaying.old replaying.new) }
+    ensures same { D.observable ≡ true → now (D.history disk.new) ≡ now (D.history disk.old) }
+    ensures moments { D.observable ≡ true → Passes (D.history disk.old) (D.history disk.new) (λ s. s ≡ now (D.history disk.old)) }
+    ensures jobs { (D.sync_out disk.new ≡ D.sync_out disk.old) × (D.read_out disk.new ≡ D.read_out disk.old) × (D.read_of disk.new ≡ D.read_of disk.old) × (D.last_job disk.new ≡ D.last_job disk.old) }
     ensures cause { HasCause (D.faults disk.old) (D.faults disk.new) result }
 {
     let scanned = scan(alloc, disk, f)?;
@@ -124,10 +126,10 @@ fn read_files<D: Disk>(
     replaying: &mut Replaying,
 ) -> Result<FilesRead, DiskErr>
     requires { IsReplayOf [] replaying.old }
-    ensures read { IfOk result (AreRead D.tells (now (D.history disk.old)).reads files.now replaying.new) }
-    ensures same { D.tells ≡ true → now (D.history disk.new) ≡ now (D.history disk.old) }
-    ensures moments { D.tells ≡ true → Passes (D.history disk.old) (D.history disk.new) (λ s. s ≡ now (D.history disk.old)) }
-    ensures jobs { (D.sync_out disk.new ≡ D.sync_out disk.old) × (D.read_out disk.new ≡ D.read_out disk.old) × (D.read_of disk.new ≡ D.read_of disk.old) × (D.drawn disk.new ≡ D.drawn disk.old) }
+    ensures read { IfOk result (AreRead D.observable (now (D.history disk.old)).reads files.now replaying.new) }
+    ensures same { D.observable ≡ true → now (D.history disk.new) ≡ now (D.history disk.old) }
+    ensures moments { D.observable ≡ true → Passes (D.history disk.old) (D.history disk.new) (λ s. s ≡ now (D.history disk.old)) }
+    ensures jobs { (D.sync_out disk.new ≡ D.sync_out disk.old) × (D.read_out disk.new ≡ D.read_out disk.old) × (D.read_of disk.new ≡ D.read_of disk.old) × (D.last_job disk.new ≡ D.last_job disk.old) }
     ensures cause { HasCause (D.faults disk.old) (D.faults disk.new) result }
 {
     let mut tail = None;
@@ -135,7 +137,7 @@ fn read_files<D: Disk>(
     for f in files {
         left -= 1;
         match read_file(alloc, disk, *f, left == 0, replaying)? {
-            FileRead::Stops(finding) => return Ok(FilesRead::Stopped(finding)),
+            FileRead::Stops(corruption) => return Ok(FilesRead::Stopped(corruption)),
             FileRead::GoesOn(file) => tail = Some(file),
         }
     }
@@ -171,7 +173,7 @@ fn gap_behind(file: FileNo, rest: &[FileNo]) -> Option<FileNo>
 
 // The first number between rising numbers of files that is not among them.
 fn gap_between(files: &[FileNo]) -> Option<FileNo>
-    requires { IsRising files.now }
+    requires { AreRisingNumbers files.now }
     ensures { option_map (λ f. f.0) result ≡ gap_in (map (λ f. f.0) files.now) }
 {
     match files {
@@ -182,66 +184,69 @@ fn gap_between(files: &[FileNo]) -> Option<FileNo>
 
 // What files come to that were read: an answer, or the place of a record that breaks a rule.
 #[derive(Drop)]
-enum Weighed {
+enum Checked {
     Answer(LogRead),
     Wrong(Place),
 }
 
 // What files come to whose entries were replayed, where none is missing between them.
-fn weigh_records(
+fn validate_records(
     alloc: Global,
     replaying: Replaying,
     tail: Option<LastFile>,
-) -> Result<Weighed, AllocError>
-    ensures { (tells : Bool) (reads : Files) (files : Items FileNumber) → IsRising files → gap_in (map (λ f. f.0) files) ≡ None → AreRead tells reads files replaying (AllRead tail) → IfOk result (IsWeighed tells reads files) }
+) -> Result<Checked, AllocError>
+    ensures { (observable : Bool) (reads : Files) (files : Items FileNumber) → AreRisingNumbers files → gap_in (map (λ f. f.0) files) ≡ None → AreRead observable reads files replaying (AllRead tail) → IfOk result (IsChecked observable reads files) }
 {
-    match judge(alloc, replaying)? {
-        Judged::Right(replayed) => Ok(Weighed::Answer(LogRead::Read(ReadLog { replayed, tail }))),
-        Judged::Wrong(place) => Ok(Weighed::Wrong(place)),
+    match validate(alloc, replaying)? {
+        Validated::Right(replayed) => Ok(Checked::Answer(LogRead::Read(ReadLog {
+            replayed,
+            tail,
+        }))),
+        Validated::Wrong(place) => Ok(Checked::Wrong(place)),
     }
 }
 
 // What files come to that were read, with what was replayed of them.
-fn weigh(
+fn validate_files(
     alloc: Global,
     files: &[FileNo],
     read: FilesRead,
     replaying: Replaying,
-) -> Result<Weighed, AllocError>
-    requires { IsRising files.now }
-    ensures { (tells : Bool) (reads : Files) → AreRead tells reads files.now replaying read → IfOk result (IsWeighed tells reads files.now) }
+) -> Result<Checked, AllocError>
+    requires { AreRisingNumbers files.now }
+    ensures { (observable : Bool) (reads : Files) → AreRead observable reads files.now replaying read → IfOk result (IsChecked observable reads files.now) }
 {
     let tail = match read {
         FilesRead::All(tail) => tail,
-        FilesRead::Stopped(finding) => return Ok(Weighed::Answer(LogRead::Found(finding))),
+        FilesRead::Stopped(corruption) => return Ok(Checked::Answer(LogRead::Corrupt(corruption))),
     };
     if let Some(missing) = gap_between(files) {
-        let finding = Finding::Missing(Lsn::new(missing, 0));
-        return Ok(Weighed::Answer(LogRead::Found(finding)));
+        let corruption = Corruption::Missing(Lsn::new(missing, 0));
+        return Ok(Checked::Answer(LogRead::Corrupt(corruption)));
     }
-    weigh_records(alloc, replaying, tail)
+    validate_records(alloc, replaying, tail)
 }
 
-/// Reads the files of a log whose numbers these are, rising: each once, whole, and each once more where
-/// a record breaks a rule. Where the disk tells, and these are all its files, the answer is what they
-/// mean, or the first finding. The disk's state stays the same, and so do the jobs that are out. `Failed`
-/// comes only where the disk counted a fault; Memory is free, and comes for a count of records beyond a
-/// u64's too.
+/// Reads the files of a log whose numbers these are, rising: each once, whole, and each once more where a
+/// record breaks a rule. If the disk is observable, and these are all its files, the answer is what they
+/// mean, or the first corruption. The disk's state stays the same, and so do the jobs that are out.
+/// `Failed` comes only where the disk counted a fault; Memory is free, and comes for a count of records
+/// beyond a u64's too.
 pub fn read_log<D: Disk>(alloc: Global, disk: &mut D, files: &[FileNo]) -> Result<LogRead, DiskErr>
-    requires { IsRising files.now }
-    ensures read { IfOk result (IsReadingOf D.tells (now (D.history disk.old)).reads files.now) }
-    ensures same { D.tells ≡ true → now (D.history disk.new) ≡ now (D.history disk.old) }
-    ensures moments { D.tells ≡ true → Passes (D.history disk.old) (D.history disk.new) (λ s. s ≡ now (D.history disk.old)) }
-    ensures jobs { (D.sync_out disk.new ≡ D.sync_out disk.old) × (D.read_out disk.new ≡ D.read_out disk.old) × (D.read_of disk.new ≡ D.read_of disk.old) × (D.drawn disk.new ≡ D.drawn disk.old) }
+    requires { AreRisingNumbers files.now }
+    ensures read { IfOk result (IsReadingOf D.observable (now (D.history disk.old)).reads files.now) }
+    ensures same { D.observable ≡ true → now (D.history disk.new) ≡ now (D.history disk.old) }
+    ensures moments { D.observable ≡ true → Passes (D.history disk.old) (D.history disk.new) (λ s. s ≡ now (D.history disk.old)) }
+    ensures jobs { (D.sync_out disk.new ≡ D.sync_out disk.old) × (D.read_out disk.new ≡ D.read_out disk.old) × (D.read_of disk.new ≡ D.read_of disk.old) × (D.last_job disk.new ≡ D.last_job disk.old) }
     ensures cause { HasCause (D.faults disk.old) (D.faults disk.new) result }
 {
     let mut replaying = Replaying::new(alloc);
     let read = read_files(alloc, disk, files, &mut replaying)?;
-    match weigh(alloc, files, read, replaying)? {
-        Weighed::Answer(answer) => Ok(answer),
-        Weighed::Wrong(place) => {
+    match validate_files(alloc, files, read, replaying)? {
+        Checked::Answer(answer) => Ok(answer),
+        Checked::Wrong(place) => {
             let lsn = lsn_of(alloc, disk, files, place)?;
-            Ok(LogRead::Found(Finding::Tree(lsn)))
+            Ok(LogRead::Corrupt(Corruption::Tree(lsn)))
         }
     }
 }

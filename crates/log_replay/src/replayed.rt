@@ -4,7 +4,7 @@ ghost use Rattle.log_entry.specs.declared.entry.Entry.{Entry as AnyEntry};
 ghost use Rattle.je_model.specs.Store.{no_databases, record_count};
 ghost use Rattle.log_replay.specs.Rows.{rows_in, store_of, is_catalog_row, IsRising};
 ghost use Rattle.log_replay.specs.UnderWay.{IsReplayOf};
-ghost use Rattle.log_replay.specs.Answer.{IsJudged};
+ghost use Rattle.log_replay.specs.Answer.{IsValidated};
 ghost use Rattle.std.specs.List.{list_all};
 
 use crate::place::Place;
@@ -22,13 +22,13 @@ pub struct Replayed {
     pub opening: Store,
     /// How much the store holds.
     pub totals: Totals,
-    /// The transaction number that was drawn last, 0 where none was.
+    /// The transaction number that was allocated last, 0 where none was.
     pub last_txn: u64,
-    /// The database number that was drawn last, 0 where none was.
+    /// The database number that was allocated last, 0 where none was.
     pub last_db: u32,
 }
 
-// How much a store holds. A count beyond a u64's is answered as want of memory.
+// How much a store holds. A count beyond a u64's is answered as out of memory.
 fn totals_of(store: &Store) -> Result<Totals, AllocError>
     ensures databases { IfOk result (λ totals. totals.databases ≡ length store.now.databases) }
     ensures records { IfOk result (λ totals. totals.records ≡ record_count store.now) }
@@ -48,7 +48,7 @@ fn totals_of(store: &Store) -> Result<Totals, AllocError>
 
 /// What the records of a replay come to.
 #[derive(Drop)]
-pub(crate) enum Judged {
+pub(crate) enum Validated {
     /// They are those of an environment.
     Right(Replayed),
     /// The first record that breaks a rule.
@@ -68,15 +68,15 @@ fn opened(alloc: Global, rows: &Rows) -> Result<(Store, Totals), AllocError>
 }
 
 /// What comes of a replay that has all entries of a log.
-pub(crate) fn judge(alloc: Global, replaying: Replaying) -> Result<Judged, AllocError>
-    ensures { IfOk result (λ judged. (entries : Items AnyEntry) → IsReplayOf entries replaying → IsJudged entries judged) }
+pub(crate) fn validate(alloc: Global, replaying: Replaying) -> Result<Validated, AllocError>
+    ensures { IfOk result (λ validated. (entries : Items AnyEntry) → IsReplayOf entries replaying → IsValidated entries validated) }
 {
     let rows = replaying.loading.into_rows(alloc)?;
     if let Some(place) = rows.wrong_record(alloc)? {
-        return Ok(Judged::Wrong(place));
+        return Ok(Validated::Wrong(place));
     }
     let (opening, totals) = opened(alloc, &rows)?;
-    Ok(Judged::Right(Replayed {
+    Ok(Validated::Right(Replayed {
         rows,
         opening,
         totals,
@@ -85,8 +85,8 @@ pub(crate) fn judge(alloc: Global, replaying: Replaying) -> Result<Judged, Alloc
     }))
 }
 
-/// What a replay finds where there is no file yet: no records, and no numbers drawn. It takes no
-/// memory.
+/// What a replay finds where there is no file yet: no records, and no numbers allocated. It takes
+/// no memory.
 pub fn new_environment(alloc: Global) -> Replayed
     ensures rows { (db : ℕ) → rows_in result.rows db ≡ [] }
     ensures rising { (db : ℕ) → IsRising (rows_in result.rows db) }

@@ -2,8 +2,8 @@
 ghost use Rattle.std.specs.Prelude.{◌≡◌, ◌==◌, true, ℕ, [], length, Option, None, Some, IfOk, OnOk, OnErr, option_copied, map, filter, not, if◌then◌else◌};
 ghost use Rattle.std.specs.List.{list_all};
 ghost use Rattle.log_replay.specs.Rows.{IsRising, RowChange, rows_in, rows_put, row_changed, data_at, are_plain, pair_of, is_catalog_row, numbers_of, store_of};
-ghost use Rattle.log_replay.specs.Wrong.{least, lesser as lesser_of, wrong_in_catalog, wrong_in_plain, wrong_under, wrong_database, wrong_record};
-ghost use Rattle.log_replay.specs.Opening.{named_by, database_named};
+ghost use Rattle.log_replay.specs.Wrong.{least_number, lesser_number as lesser_of, wrong_in_catalog, wrong_in_plain, wrong_under, wrong_database, wrong_record};
+ghost use Rattle.log_replay.specs.Opening.{named_by, database_with_rows};
 
 use crate::named::Named;
 use crate::place::Place;
@@ -80,8 +80,8 @@ impl Rows {
         }
     }
 
-    /// Sets the name to the data in the database of that number, which need not be there before. Want
-    /// of memory changes no record.
+    /// Sets the name to the data in the database of that number, which need not be there before.
+    /// Running out of memory changes no record.
     pub fn set(
         &mut self,
         alloc: Global,
@@ -104,7 +104,7 @@ impl Rows {
     }
 
     /// Sets each name to its data, in order, in the database of that number, which need not be there before.
-    /// After want of memory some of them may be set.
+    /// After running out of memory some of them may be set.
     pub(crate) fn put_all(
         &mut self,
         alloc: Global,
@@ -169,7 +169,7 @@ impl Rows {
 
     /// The least of these databases that has a record that is wrong in a plain one.
     fn least_wrong(&self, numbers: &[u32]) -> Option<u32>
-        ensures { result ≡ least (filter (λ n. not (are_plain (rows_in self.now n))) numbers.now) }
+        ensures { result ≡ least_number (filter (λ n. not (are_plain (rows_in self.now n))) numbers.now) }
     {
         let mut found = None;
         for number in numbers {
@@ -240,7 +240,7 @@ impl Rows {
         alloc: Global,
         catalog: List<Named>,
     ) -> Result<List<Database>, AllocError>
-        ensures { IfOk result (λ databases. databases ≡ map (database_named (rows_in self.now)) catalog) }
+        ensures { IfOk result (λ databases. databases ≡ map (database_with_rows (rows_in self.now)) catalog) }
     {
         let mut databases = Vec::new(alloc);
         for named in catalog.into_vec() {

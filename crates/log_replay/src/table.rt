@@ -1,6 +1,6 @@
 // The records of one database.
 ghost use Rattle.std.specs.Prelude.{◌≡◌, true, ℕ, List as Items, [], length, Option, None, Some, IfOk, OnOk, OnErr, option_copied, map};
-ghost use Rattle.log_replay.specs.Rows.{IsRising, rows_with, rows_put, data_at, are_plain, pair_of, is_catalog_row, number_in};
+ghost use Rattle.log_replay.specs.Rows.{IsRising, rows_with, rows_put, data_at, are_plain, pair_of, is_catalog_row, catalog_number};
 ghost use Rattle.log_replay.specs.Wrong.{is_right_behind, wrong_in_catalog as wrong_in_catalog_rows, wrong_in_plain as wrong_in_plain_rows};
 ghost use Rattle.log_replay.specs.Opening.{named_by};
 ghost use Rattle.std.specs.List.{list_all};
@@ -39,7 +39,7 @@ impl Model for Table {
 // Whether a catalog record of this name and number is right behind records of other numbers. There are
 // at most as many of these as there may be databases.
 fn is_right(name: &SortKey, number: u32, before: &[u32]) -> bool
-    ensures { (data_ : Items ℕ) → number_in data_ ≡ number → result ≡ is_right_behind before.now (name.now, data_) }
+    ensures { (data_ : Items ℕ) → catalog_number data_ ≡ number → result ≡ is_right_behind before.now (name.now, data_) }
 {
     Word::is_word(name.key())
         && name.dup().is_empty()
@@ -113,7 +113,7 @@ impl Table {
         }
     }
 
-    /// Sets the name to the data. Want of memory changes nothing.
+    /// Sets the name to the data. Running out of memory changes nothing.
     pub(crate) fn set(&mut self, alloc: Global, name: Name, value: Octets) -> Result<(), AllocError>
         ensures ok { OnOk result (self.new ≡ rows_with name (Some value) self.old) }
         ensures err { OnErr result (self.new ≡ self.old) }
@@ -124,8 +124,8 @@ impl Table {
         Ok(())
     }
 
-    /// Sets each name to its data, in order. Many are sorted first and go in side by side. After want of
-    /// memory some of them may be set.
+    /// Sets each name to its data, in order. Many are sorted first and go in side by side. After running
+    /// out of memory some of them may be set.
     pub(crate) fn put_all(
         &mut self,
         alloc: Global,
@@ -190,7 +190,7 @@ impl Table {
 
     /// The numbers in the records of a catalog, in order.
     pub(crate) fn numbers(&self, alloc: Global) -> Result<List<u32>, AllocError>
-        ensures { IfOk result (λ numbers. numbers ≡ map (λ r. number_in r.1) self.now) }
+        ensures { IfOk result (λ numbers. numbers ≡ map (λ r. catalog_number r.1) self.now) }
     {
         let mut numbers = Vec::new(alloc);
         for (_key, data) in &self.records {

@@ -6,7 +6,8 @@ use Rattle.std.proofs.lemmas.Cmp.{upto}
 use Rattle.std.specs.List.{AllByRecursion}
 use Rattle.je_order.specs.declared.name.Name.{Name}
 use Rattle.je_order.specs.Order.{name_cmp}
-use Rattle.node_core.proofs.Order.{total, same, itself, turned, equal_of}
+use Rattle.node_core.proofs.NameOrder.{total, same, itself, turned}
+use Rattle.je_order.proofs.Orderings.{equal_from_test}
 use Rattle.log_trees.specs.Images.{NamedLsn}
 use Rattle.log_trees.specs.Sound.{least_name, is_below, is_within, AreUp}
 
@@ -25,7 +26,7 @@ no_turn false h = false≢true h
 pub apart : (x y bound : Name) (t : Bool) → is_lt (name_cmp x bound) ≡ t → is_lt (name_cmp y bound) ≡ not t → is_eq (name_cmp x y) ≡ false
 apart x y bound t a b =
     false_from_ne_true (is_eq (name_cmp x y))
-    (λ e. let is : x ≡ y = same x y (equal_of _ e) in no_turn t (sym a ∙ ap (λ (n : Name). is_lt (name_cmp n bound)) is ∙ b))
+    (λ e. let is : x ≡ y = same x y (equal_from_test _ e) in no_turn t (sym a ∙ ap (λ (n : Name). is_lt (name_cmp n bound)) is ∙ b))
 
 lt_turned : (x y : Name) → is_lt (name_cmp y x) ≡ is_gt (name_cmp x y)
 lt_turned x y = ap is_lt (turned x y (name_cmp x y) refl) ∙ by_order (name_cmp x y)

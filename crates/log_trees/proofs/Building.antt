@@ -12,8 +12,9 @@ use Rattle.log_entry.specs.declared.record_slot.RecordSlot.{RecordSlot}
 use Rattle.node_core.specs.declared.slot.Marked.{Marked}
 use Rattle.node_core.specs.declared.node.Node.{Node}
 use Rattle.node_core.specs.Sorted.{AllAbove, Rises}
-use Rattle.node_core.proofs.Order.{same, equal_of}
-use Rattle.node_log.specs.Slots.{lsn_in, version_in, slot_of_record, slot_of_child, fresh}
+use Rattle.node_core.proofs.NameOrder.{same}
+use Rattle.je_order.proofs.Orderings.{equal_from_test}
+use Rattle.node_log.specs.Slots.{lsn_in, shown_version, slot_of_record, slot_of_child, fresh}
 use Rattle.node_log.specs.Images.{bin_of}
 use Rattle.log_trees.specs.Placed.{Placed, entry_at}
 use Rattle.log_trees.specs.Images.{NamedLsn, named, slot_shown, node_in, node_at, image}
@@ -44,7 +45,7 @@ records_shown P [] all = tt
 records_shown P (r ∷ slots) all = one r.lsn all.0 (records_shown P slots all.1)
   where
     one : (o : Option ℕ) → IfSome o (λ lsn. P (r.name, lsn)) → AllByRecursion P (flat_map slot_shown (map of_record slots)) →
-        AllByRecursion P (named r.name (lsn_in (version_in o)) ++ flat_map slot_shown (map of_record slots))
+        AllByRecursion P (named r.name (lsn_in (shown_version o)) ++ flat_map slot_shown (map of_record slots))
     one None h rest = rest
     one (Some lsn) h rest = (h, rest)
 
@@ -103,7 +104,7 @@ below_none : (x : Name) (slots : List RecordSlot) → AllAbove x (map of_record 
 below_none x [] above = refl
 below_none x (r ∷ slots) above = one r.lsn (below_none x slots above.1)
   where
-    one : (o : Option ℕ) → found x (flat_map slot_shown (map of_record slots)) ≡ None → found x (named r.name (lsn_in (version_in o)) ++ flat_map slot_shown (map of_record slots)) ≡ None
+    one : (o : Option ℕ) → found x (flat_map slot_shown (map of_record slots)) ≡ None → found x (named r.name (lsn_in (shown_version o)) ++ flat_map slot_shown (map of_record slots)) ≡ None
     one None rest = rest
     one (Some lsn) rest = let other : is_eq (name_cmp x r.name) ≡ false = ap is_eq above.0 in rw other rest
 
@@ -115,10 +116,10 @@ found_slot x (r ∷ slots) up = by_test (is_eq (name_cmp x r.name)) r.lsn refl (
   where
     by_test : (b : Bool) (o : Option ℕ) → is_eq (name_cmp x r.name) ≡ b →
         found x (flat_map slot_shown (map of_record slots)) ≡ option_and_then (λ (s : RecordSlot). s.lsn) (find (λ (s : RecordSlot). is_eq (name_cmp x s.name)) slots) →
-        found x (named r.name (lsn_in (version_in o)) ++ flat_map slot_shown (map of_record slots))
+        found x (named r.name (lsn_in (shown_version o)) ++ flat_map slot_shown (map of_record slots))
         ≡ option_and_then (λ (s : RecordSlot). s.lsn) (cond b (Some (record { name = r.name; lsn = o })) (find (λ (s : RecordSlot). is_eq (name_cmp x s.name)) slots))
     by_test true None is rest =
-        let at : x ≡ r.name = same x r.name (equal_of _ is) in
+        let at : x ≡ r.name = same x r.name (equal_from_test _ is) in
         subst (λ (y : Name). found y (flat_map slot_shown (map of_record slots)) ≡ None) (sym at) (below_none r.name slots up.0)
     by_test true (Some lsn) is rest = rw is refl
     by_test false None is rest = rest

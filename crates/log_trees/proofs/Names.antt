@@ -15,11 +15,11 @@ use Rattle.node_core.specs.declared.slot.Marked.{Marked}
 use Rattle.node_core.specs.declared.node.Node.{Node}
 use Rattle.node_core.specs.Sorted.{AllAbove, Rises, put_all}
 use Rattle.node_core.specs.Changes.{set_now}
-use Rattle.node_core.proofs.Finding.{rises_put_all}
+use Rattle.node_core.proofs.SlotLookup.{rises_put_all}
 use Rattle.node_log.specs.Slots.{lsn_in, slot_of_record, slot_of_child, fresh}
 use Rattle.node_log.specs.Images.{bin_of, node_of, node_with, with_delta}
-use Rattle.node_log.proofs.Rising.{records_rise, children_rise}
-use Rattle.log_replay.proofs.ListLaws.{all_append}
+use Rattle.node_log.proofs.RisingSlots.{records_rise, children_rise}
+use Rattle.je_order.proofs.Lists.{all_append}
 use Rattle.log_trees.specs.Placed.{Placed, entry_at}
 use Rattle.log_trees.specs.Images.{NamedLsn, named, slot_shown, slots_shown, node_in, node_at}
 use Rattle.log_trees.specs.Sound.{AreUp}

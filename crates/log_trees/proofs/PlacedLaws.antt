@@ -7,11 +7,11 @@ use Rattle.std.proofs.lemmas.Map.Keys.{sorted_from_strictly_increasing}
 use Rattle.std.specs.List.{AllByRecursion}
 use Rattle.std.specs.List.Sorted.{IsStrictlySortedBy}
 use Rattle.log_entry.specs.declared.entry.Entry.{Entry}
-use Rattle.log_entry.specs.Spelling.{size_of}
+use Rattle.log_entry.specs.Encoding.{size_of}
 use Rattle.log_file.specs.Scan.{sizes_of}
 use Rattle.log_file.specs.Log.{Log, AreFileEntries}
 use Rattle.log_replay.specs.Reading.{lsn_at}
-use Rattle.log_replay.proofs.ListLaws.{all_weaker, all_append}
+use Rattle.je_order.proofs.Lists.{all_weaker, all_append}
 use Rattle.log_trees.specs.Placed.{Placed, placed_from, placed, AreInOrder, PlacedAreEntries, PlacedGoLast, PlacedGoOn, FrontsArePlaced, PlacedAreInOrder}
 
 -- an entry of file f at an offset

@@ -16,12 +16,12 @@ use Rattle.node_core.specs.declared.slot.Marked.{Marked}
 use Rattle.node_core.specs.declared.node.Node.{Node}
 use Rattle.node_core.specs.Sorted.{put_all}
 use Rattle.node_core.specs.Changes.{set_now}
-use Rattle.node_core.proofs.Order.{total, same, turned}
+use Rattle.node_core.proofs.NameOrder.{total, same, turned}
 use Rattle.node_log.specs.Slots.{slot_of_record}
 use Rattle.node_log.specs.Images.{node_of, node_with, with_delta, bin_of}
-use Rattle.log_replay.specs.declared.finding.Finding.{Finding}
-use Rattle.log_replay.specs.declared.finding.Finding.TheVariants.{Tree}
-use Rattle.log_replay.proofs.ListLaws.{all_weaker, all_append, none_from_false}
+use Rattle.log_replay.specs.declared.corruption.Corruption.{Finding}
+use Rattle.log_replay.specs.declared.corruption.Corruption.TheVariants.{Tree}
+use Rattle.je_order.proofs.Lists.{all_weaker, all_append, each_none}
 use Rattle.log_trees.specs.Placed.{Placed, entry_at}
 use Rattle.log_trees.specs.Changes.{LoggedChange}
 use Rattle.log_trees.specs.Images.{NamedLsn, slots_shown, node_in, node_at}
@@ -159,7 +159,7 @@ here-ok files es home d above level low high at seen n is db level_is within own
     ∙ cond-true (may_stand level low high seen n) (Ok n) (Err (Tree at))
     (and_from (n.level == level) (not (list_any (λ m. m == n.number) seen) && are_within low high n) (eq-eqb n.level level level_is)
     (and_from (not (list_any (λ m. m == n.number) seen)) (are_within low high n)
-    (not_from_false (list_any (λ m. m == n.number) seen) (none_from_false (λ m. m == n.number) seen new)) within))
+    (not_from_false (list_any (λ m. m == n.number) seen) (each_none (λ m. m == n.number) seen new)) within))
   where
     new : AllByRecursion (λ m. (m == n.number) ≡ false) seen
     new = all_weaker (λ m. IsIn d above low high (home m) → ⊥) (λ m. (m == n.number) ≡ false)

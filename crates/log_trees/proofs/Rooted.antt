@@ -8,7 +8,8 @@ use Rattle.je_order.specs.declared.name.Name.{Name}
 use Rattle.je_order.specs.Order.{name_cmp}
 use Rattle.log_entry.specs.declared.root.Root.{Root}
 use Rattle.log_entry.specs.Items.{rises, rises_from, root_before}
-use Rattle.node_core.proofs.Order.{same, equal_of}
+use Rattle.node_core.proofs.NameOrder.{same}
+use Rattle.je_order.proofs.Orderings.{equal_from_test}
 use Rattle.log_trees.specs.Placed.{Placed}
 use Rattle.log_trees.specs.Changes.{Written, unwritten, LoggedChange, is_of, last_of}
 use Rattle.log_trees.specs.Images.{NamedLsn, level_of, level_at}
@@ -56,7 +57,7 @@ last_loaded es d x (s ∷ slots) up = by_test (is_eq (name_cmp x s.0)) refl (las
     by_test : (b : Bool) → is_eq (name_cmp x s.0) ≡ b → last_of d x (map (loaded es d) slots) unwritten ≡ written_at es d x (found x slots) →
         last_of d x (map (loaded es d) slots) (cond (is_of d x (loaded es d s)) (loaded es d s).written unwritten) ≡ written_at es d x (cond b (Some s.1) (found x slots))
     by_test true is rest =
-        let at : x ≡ s.0 = same x s.0 (equal_of _ is) in
+        let at : x ≡ s.0 = same x s.0 (equal_from_test _ is) in
         let make : Name → Written = λ y. record { at = s.1; value = data_of es d y s.1 } in
         ap (last_of d x (map (loaded es d) slots)) (cond-true (is_of d x (loaded es d s)) (loaded es d s).written unwritten (here true (eq_turned x s.0 true is)))
         ∙ last_of-none d x (map (loaded es d) slots) (loaded es d s).written

@@ -9,7 +9,8 @@ use Rattle.je_order.specs.Order.{name_cmp}
 use Rattle.node_core.specs.declared.slot.Marked.{Marked}
 use Rattle.node_core.specs.declared.node.Node.{Node}
 use Rattle.node_log.specs.Slots.{lsn_in}
-use Rattle.log_replay.proofs.ListLaws.{all_weaker, all_append, filter-all}
+use Rattle.log_replay.proofs.ListLaws.{filter-all}
+use Rattle.je_order.proofs.Lists.{all_weaker, all_append}
 use Rattle.log_trees.specs.Placed.{Placed}
 use Rattle.log_trees.specs.Images.{NamedLsn, named, slot_shown, slots_shown, node_at, slots_of_level, image}
 use Rattle.log_trees.specs.Trees.{slots_at, found, child_behind, child_over, shows}

@@ -12,7 +12,8 @@ use Rattle.log_entry.specs.declared.entry.Entry.TheVariants.{BinDelta}
 use Rattle.log_entry.specs.declared.root.Root.{Root}
 use Rattle.node_core.specs.declared.node.Node.{Node}
 use Rattle.node_log.specs.Images.{node_with}
-use Rattle.log_replay.proofs.ListLaws.{all_weaker, all_append, filter_all_pass, map_same}
+use Rattle.log_replay.proofs.ListLaws.{map_same}
+use Rattle.je_order.proofs.Lists.{all_weaker, all_append, filter_all_pass}
 use Rattle.log_trees.specs.Placed.{Placed, entry_at}
 use Rattle.log_trees.specs.Changes.{LoggedChange}
 use Rattle.log_trees.specs.Images.{NamedLsn, slots_shown, node_in, node_at, slots_of_level, image, level_of, level_at}

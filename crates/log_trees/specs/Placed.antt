@@ -3,7 +3,7 @@ use Rattle.std.specs.Prelude.{◌≡◌, ℕ, ◌+◌, ◌<◌, ◌==◌, List, 
 use Rattle.std.specs.List.{AllByRecursion, flat_map}
 use Rattle.std.specs.Map.{lookup}
 use Rattle.log_entry.specs.declared.entry.Entry.{Entry}
-use Rattle.log_entry.specs.Spelling.{size_of}
+use Rattle.log_entry.specs.Encoding.{size_of}
 use Rattle.log_file.specs.Scan.{sizes_of}
 use Rattle.log_file.specs.Log.{Log, IsLog, entries_of}
 use Rattle.log_replay.specs.Reading.{lsn_at}

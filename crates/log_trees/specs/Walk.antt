@@ -7,8 +7,8 @@ use Rattle.log_entry.specs.declared.entry.Entry.TheVariants.{Bin, BinDelta}
 use Rattle.log_entry.specs.declared.root.Root.{Root}
 use Rattle.node_core.specs.declared.node.Node.{Node}
 use Rattle.node_log.specs.Images.{node_of, node_with}
-use Rattle.log_replay.specs.declared.finding.Finding.{Finding}
-use Rattle.log_replay.specs.declared.finding.Finding.TheVariants.{Missing, Tree}
+use Rattle.log_replay.specs.declared.corruption.Corruption.{Finding}
+use Rattle.log_replay.specs.declared.corruption.Corruption.TheVariants.{Missing, Tree}
 use Rattle.log_trees.specs.Placed.{Placed, entry_at}
 use Rattle.log_trees.specs.Changes.{LoggedChange}
 use Rattle.log_trees.specs.Images.{NamedLsn, slots_shown}

@@ -1,3 +1,3 @@
-pub mod Marks
+pub mod CrashStates
 pub mod Memory
 pub mod Replay

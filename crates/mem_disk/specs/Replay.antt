@@ -11,19 +11,19 @@ use Rattle.mem_disk.specs.declared.change.Change.{Change}
 use Rattle.mem_disk.specs.declared.change.Change.TheVariants.{Create, Append, Cut, Remove, Sync, BeginSync, EndSync}
 
 -- the state after one change
-abbrev pub changed : Change → State → State
-changed (Create f) s = created f.0 s
-changed (Append f bytes) s = appended f.0 bytes s
-changed (Cut f len) s = cut f.0 len s
-changed (Remove f) s = removed f.0 s
-changed Sync s = synced s
-changed BeginSync s = job_begun s
-changed EndSync s = job_ended s
+abbrev pub state_changed : Change → State → State
+state_changed (Create f) s = created f.0 s
+state_changed (Append f bytes) s = appended f.0 bytes s
+state_changed (Cut f len) s = cut f.0 len s
+state_changed (Remove f) s = removed f.0 s
+state_changed Sync s = synced s
+state_changed BeginSync s = job_begun s
+state_changed EndSync s = job_ended s
 
 -- the state after some changes
 abbrev pub replay_from : State → List Change → State
 replay_from s [] = s
-replay_from s (change ∷ rest) = replay_from (changed change s) rest
+replay_from s (change ∷ rest) = replay_from (state_changed change s) rest
 
 -- the state after some changes of an empty disk
 abbrev pub replay : List Change → State

@@ -1,10 +1,10 @@
 // One file, as a record of changes leaves it.
 ghost use Rattle.std.specs.Prelude.{◌≡◌, ◌++◌, None, Some, IfOk, OnOk};
 ghost use Rattle.je_disk.specs.States.{nothing};
-ghost use Rattle.mem_disk.specs.Marks.{view_of, file_in, traced, changed_in, created_in, appended_in, cut_in, removed_in, synced_in, begun_in, ended_in};
+ghost use Rattle.mem_disk.specs.CrashStates.{view_of, file_in, traced, changed_in, created_in, appended_in, cut_in, removed_in, synced_in, begun_in, ended_in};
 ghost use Rattle.mem_disk.specs.Replay.{replay};
 
-use crate::{Change, FileMark};
+use crate::{Change, MemCrashState};
 use je_lsn::FileNo;
 use std::alloc::{AllocError, Global};
 
@@ -12,8 +12,8 @@ use std::alloc::{AllocError, Global};
 #[derive(Drop)]
 pub struct FileState {
     reads: Option<Vec<u8>>,
-    mark: FileMark,
-    job: Option<FileMark>,
+    crash_state: MemCrashState,
+    job: Option<MemCrashState>,
 }
 
 impl FileState {
@@ -23,21 +23,21 @@ impl FileState {
     {
         FileState {
             reads: None,
-            mark: FileMark::none(alloc),
+            crash_state: MemCrashState::none(alloc),
             job: None,
         }
     }
 
     /// What a crash keeps of the file.
-    pub fn into_mark(self) -> FileMark
-        ensures { result ≡ self.mark }
+    pub fn into_crash_state(self) -> MemCrashState
+        ensures { result ≡ self.crash_state }
     {
         let FileState {
             reads: _,
-            mark,
+            crash_state,
             job: _,
         } = self;
-        mark
+        crash_state
     }
 
     fn create(&mut self, alloc: Global)
@@ -47,7 +47,7 @@ impl FileState {
             return;
         }
         self.reads = Some(Vec::new(alloc));
-        self.mark.begin();
+        self.crash_state.begin();
         if let Some(job) = &mut self.job {
             job.begin();
         }
@@ -60,7 +60,7 @@ impl FileState {
     {
         let len = bytes.len() as u64;
         self.reads = Some(Vec::from_slice(alloc, bytes)?);
-        self.mark.begin_with(len);
+        self.crash_state.begin_with(len);
         if let Some(job) = &mut self.job {
             job.begin_with(len);
         }
@@ -75,7 +75,7 @@ impl FileState {
         };
         there.extend_from_slice(bytes)?;
         let len = there.len() as u64;
-        self.mark.grow(len);
+        self.crash_state.grow(len);
         if let Some(job) = &mut self.job {
             job.grow(len);
         }
@@ -92,7 +92,7 @@ impl FileState {
             return;
         }
         there.truncate(len as usize);
-        self.mark.shorten(len);
+        self.crash_state.shorten(len);
         if let Some(job) = &mut self.job {
             job.shorten(len);
         }
@@ -105,7 +105,7 @@ impl FileState {
             return;
         }
         self.reads = None;
-        self.mark.remove();
+        self.crash_state.remove();
         if let Some(job) = &mut self.job {
             job.remove();
         }
@@ -114,9 +114,9 @@ impl FileState {
     fn sync(&mut self, alloc: Global) -> Result<(), AllocError>
         ensures { OnOk result (view_of self.new ≡ synced_in (view_of self.old)) }
     {
-        self.mark = FileMark::synced(alloc, &self.reads)?;
+        self.crash_state = MemCrashState::synced(alloc, &self.reads)?;
         if self.job.is_some() {
-            self.job = Some(FileMark::synced(alloc, &self.reads)?);
+            self.job = Some(MemCrashState::synced(alloc, &self.reads)?);
         }
         Ok(())
     }
@@ -124,7 +124,7 @@ impl FileState {
     fn begin_sync(&mut self, alloc: Global) -> Result<(), AllocError>
         ensures { OnOk result (view_of self.new ≡ begun_in (view_of self.old)) }
     {
-        self.job = Some(FileMark::synced(alloc, &self.reads)?);
+        self.job = Some(MemCrashState::synced(alloc, &self.reads)?);
         Ok(())
     }
 
@@ -132,7 +132,7 @@ impl FileState {
         ensures { view_of self.new ≡ ended_in (view_of self.old) }
     {
         if let Some(job) = self.job.take() {
-            self.mark = job;
+            self.crash_state = job;
         }
     }
 

@@ -40,8 +40,8 @@ abbrev pub upper_half : ℕ → Node → Node
 upper_half new n = record { db = n.db; number = new; level = n.level; full = None; slots = drop (stay_of n) n.slots }
 
 -- a node of which no slot was set since its full image, which is at this LSN
-abbrev pub settled : Option ℕ → Node → Node
-settled full n = record { db = n.db; number = n.number; level = n.level; full = full; slots = map unmarked n.slots }
+abbrev pub with_changed_cleared : Option ℕ → Node → Node
+with_changed_cleared full n = record { db = n.db; number = n.number; level = n.level; full = full; slots = map unmarked n.slots }
 
 -- where a delta can be logged, its slots put into these make the image that the node has now
 abbrev pub IsFullImage : List Marked → Node → Type 0

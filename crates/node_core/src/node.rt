@@ -3,7 +3,7 @@ ghost use Rattle.std.specs.Prelude.{◌≡◌, ◌&&◌, not, [], Some, None, Li
 ghost use Rattle.node_core.specs.declared.slot.Marked.{Marked as MarkedSlot};
 ghost use Rattle.node_core.specs.Sorted.{IsPlace, IsAt, HasRoom, at as slot_at};
 ghost use Rattle.node_core.specs.Changes.{is_committed, has_committed, changed, slots_in, committed};
-ghost use Rattle.node_core.specs.Nodes.{with_slot, without_slot, lower_half, upper_half, settled, IsFullImage};
+ghost use Rattle.node_core.specs.Nodes.{with_slot, without_slot, lower_half, upper_half, with_changed_cleared, IsFullImage};
 
 use crate::{Marked, Slot, Slots};
 use je_lsn::Lsn;
@@ -68,7 +68,7 @@ impl Node {
 
     /// Puts the slot over the one of its name, or at its place between the others. A slot with a version
     /// that an image shows counts as changed since the last full image. Slots are moved, and no name is
-    /// copied. Want of memory changes nothing, and does not come where the name has a slot.
+    /// copied. Running out of memory changes nothing, and does not come where the name has a slot.
     pub fn put_slot(&mut self, slot: Slot) -> Result<(), AllocError>
         requires { HasRoom slot.name self.old.slots }
         ensures ok { OnOk result (self.new ≡ with_slot slot self.old) }
@@ -98,7 +98,7 @@ impl Node {
     }
 
     /// Splits the node: the first half of the slots, rounded up, stays, and the rest goes to a node with
-    /// the new number. Both halves have to be logged in full. Want of memory changes nothing.
+    /// the new number. Both halves have to be logged in full. Running out of memory changes nothing.
     pub fn split(&mut self, new: u64) -> Result<Node, AllocError>
         ensures upper { IfOk result (λ upper. upper ≡ upper_half new self.old) }
         ensures lower { OnOk result (self.new ≡ lower_half self.old) }
@@ -118,8 +118,8 @@ impl Node {
 
     /// Says at which LSN the node's full image now is, if a delta may be logged to it. No slot counts as
     /// changed since.
-    pub fn settle(&mut self, full: Option<Lsn>)
-        ensures value { self.new ≡ settled full self.old }
+    pub fn clear_changed(&mut self, full: Option<Lsn>)
+        ensures value { self.new ≡ with_changed_cleared full self.old }
         ensures image { IsFullImage (committed self.new.slots) self.new }
     {
         self.full = full;
@@ -127,7 +127,7 @@ impl Node {
     }
 
     /// Copies of the slots that a delta shows: those that were set since the node was logged in full and
-    /// have a committed version. The one error is want of memory.
+    /// have a committed version. The only error is out of memory.
     pub fn changed_slots(&self, alloc: Global) -> Result<List<Slot>, AllocError>
         ensures { IfOk result (λ slots. slots ≡ slots_in (changed self.now.slots)) }
     {

@@ -153,7 +153,7 @@ impl Slots {
         }
     }
 
-    // Leaves so many slots, and gives the others. Want of memory changes nothing.
+    // Leaves so many slots, and gives the others. Running out of memory changes nothing.
     pub(crate) fn split_off(&mut self, stay: usize) -> Result<Slots, AllocError>
         requires { stay ≤ length self.old }
         ensures upper { IfOk result (λ upper. upper ≡ drop stay self.old) }

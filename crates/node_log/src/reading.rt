@@ -30,7 +30,7 @@ fn filled(
     for slot in slots.into_vec() {
         node.put_slot(slot)?;
     }
-    node.settle(None);
+    node.clear_changed(None);
     Ok(node)
 }
 
@@ -128,7 +128,7 @@ fn whole(alloc: Global, entry: &Entry) -> Result<Option<Node>, AllocError>
 /// The node that an entry shows, whole or together with a delta. None exactly where the first is no IN
 /// and no BIN, where the second is no delta of that BIN's database and node, or where both together have
 /// more than 128 slots. The node's `full` is the delta's; without a delta the caller knows where the
-/// entry stands. Names are copied. The one error is want of memory.
+/// entry stands. Names are copied. The only error is out of memory.
 pub fn from_entries(
     alloc: Global,
     full: &Entry,

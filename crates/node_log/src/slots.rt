@@ -2,7 +2,7 @@
 ghost use Rattle.std.specs.Prelude.{◌≡◌, map, IfOk};
 ghost use Rattle.std.specs.List.{flat_map};
 ghost use Rattle.node_core.specs.Changes.{committed, slots_in};
-ghost use Rattle.node_log.specs.Slots.{lsn_in, version_in, record_of, child_of, slot_of_record, slot_of_child};
+ghost use Rattle.node_log.specs.Slots.{lsn_in, shown_version, record_of, child_of, slot_of_record, slot_of_child};
 
 use je_lsn::Lsn;
 use je_order::{List, copy_of};
@@ -22,7 +22,7 @@ fn lsn_of(version: Version) -> Option<Lsn>
 
 // The version that a record's slot shows.
 fn version_of(lsn: Option<Lsn>) -> Version
-    ensures { result ≡ version_in lsn }
+    ensures { result ≡ shown_version lsn }
 {
     match lsn {
         Some(lsn) => Version::There(lsn),

@@ -8,7 +8,7 @@ use node_core::Node;
 use std::alloc::{AllocError, Global};
 
 /// The entry that shows the node whole: a BIN with its committed slots, deleted ones too, or an IN with
-/// its children that have an image. Names are copied. The one error is want of memory.
+/// its children that have an image. Names are copied. The only error is out of memory.
 pub fn to_entry(alloc: Global, node: &Node) -> Result<Entry, AllocError>
     ensures { IfOk result (λ entry. entry ≡ entry_of node.now) }
 {
@@ -29,7 +29,7 @@ pub fn to_entry(alloc: Global, node: &Node) -> Result<Entry, AllocError>
 }
 
 /// The entry that shows what was set in a BIN since its last full image; None where no delta can show it.
-/// Names are copied. The one error is want of memory.
+/// Names are copied. The only error is out of memory.
 pub fn to_delta(alloc: Global, node: &Node) -> Result<Option<Entry>, AllocError>
     ensures { IfOk result (λ entry. entry ≡ delta_of node.now) }
 {

@@ -1,1 +1,2 @@
+-- A catalog of one database.
 pub mod CatalogLaw

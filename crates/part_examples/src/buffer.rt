@@ -54,7 +54,7 @@ fn sevens(alloc: Global, len: u16) -> Result<Octets, AllocError>
     Octets::from_slice(alloc, &bytes)
 }
 
-// A put whose spelling has 14 + 16 + 4 + len bytes.
+// A put whose encoding has 14 + 16 + 4 + len bytes.
 fn put(alloc: Global, txn: u64, len: u16) -> Result<Entry, AllocError>
     ensures entry { IfOk result (λ entry. IsEntry entry) }
     ensures follows { IfOk result (λ entry. may_follow entry ≡ true) }

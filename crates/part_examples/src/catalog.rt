@@ -1,6 +1,6 @@
 // Plans of calls on databases, over a catalog of one database, and what logs their changes.
 ghost use Rattle.std.specs.Prelude.{◌≡◌, true};
-ghost use Rattle.je_model.specs.Store.{is_same};
+ghost use Rattle.je_order.specs.Order.{is_same_bytes};
 ghost use Rattle.je_order.specs.Words.{is_word};
 ghost use Rattle.db_catalog.specs.Planning.{is_catalog_call};
 ghost use Rattle.db_catalog.specs.declared.db_kind.DbKind.TheVariants.{Plain as PlainRecord};
@@ -21,7 +21,7 @@ struct OneDatabase {
 
 impl OneDatabase {
     fn is_named(&self, name: &Word) -> bool
-        ensures { result ≡ is_same self.now.name name.now }
+        ensures { result ≡ is_same_bytes self.now.name name.now }
     {
         cmp_bytes(self.name.as_slice(), name.as_slice()).is_eq()
     }
@@ -30,15 +30,15 @@ impl OneDatabase {
 impl CatalogView for OneDatabase {
     ghost use Rattle.std.specs.Prelude.{◌∷◌, [], Some, None, if◌then◌else◌};
     ghost use Rattle.je_model.specs.declared.store.Kind.TheVariants.{Plain};
-    ghost use Rattle.je_model.specs.Store.{is_same};
+    ghost use Rattle.je_order.specs.Order.{is_same_bytes};
     ghost use Rattle.db_catalog.specs.declared.db_kind.DbKind.TheVariants.{Plain as PlainRecord};
     ghost use Rattle.part_examples.proofs.CatalogLaw.{one_record};
 
     ghost seen = { λ v. record { databases = record { name = v.name; kind = Plain; pairs = [] } ∷ [] } };
 
-    ghost record_of = { λ v name. if is_same v.name name then Some (record { number = v.number; kind = PlainRecord }) else None };
+    ghost record_of = { λ v name. if is_same_bytes v.name name then Some (record { number = v.number; kind = PlainRecord }) else None };
 
-    ghost laws = { λ v name. one_record (is_same v.name name) v.name v.number };
+    ghost laws = { λ v name. one_record (is_same_bytes v.name name) v.name v.number };
 
     fn has(&self, _alloc: Global, name: &Word) -> Result<bool, AllocError> {
         if self.is_named(name) {

@@ -7,7 +7,8 @@ use byteorder::{BigEndian, ByteOrder};
 use je_bytes::adler32;
 use je_order::{Name, Octets, TxnId};
 use log_entry::{
-    Decoded, Entry, Torn, decode, decode_at, encode_onto, one_spelling, runs_are_spellings, size,
+    Decoded, Entry, Torn, decode, decode_at, encode_onto, one_encoding, prefixes_are_encodings,
+    size,
 };
 use std::alloc::{AllocError, Global};
 
@@ -103,8 +104,8 @@ fn encodes_a_file(rt: HostRuntime) {
         assert!(rt; put_onto(rt.alloc(), &mut bytes, number, prev) == Ok(len));
     }
     assert!(rt; bytes.as_slice() == first().as_slice());
-    one_spelling();
-    runs_are_spellings();
+    one_encoding();
+    prefixes_are_encodings();
 }
 
 // The last entry of the file with one byte changed and, where `signed`, the checksum made anew.

@@ -3,7 +3,7 @@ use crate::samples::first;
 use Bytes::{Alone, Cut, With};
 use je_lsn::FileNo;
 use log_entry::Entry;
-use log_file::{Found, scan_bytes};
+use log_file::{FileScan, scan_bytes};
 use std::alloc::{AllocError, Global};
 
 // What a file's bytes are. Of a run: how many entries it has, the offset of the last one, and its end.
@@ -16,9 +16,9 @@ enum Told {
 
 fn tell(alloc: Global, bytes: &[u8], f: u32) -> Result<Told, AllocError> {
     match scan_bytes(alloc, bytes, FileNo(f))? {
-        Found::Run(run) => Ok(Told::Run(run.entries.len(), run.last, run.end)),
-        Found::VersionUnknown { version } => Ok(Told::VersionUnknown(version)),
-        Found::Damaged => Ok(Told::Damaged),
+        FileScan::Prefix(run) => Ok(Told::Run(run.entries.len(), run.last, run.end)),
+        FileScan::VersionUnknown { version } => Ok(Told::VersionUnknown(version)),
+        FileScan::Damaged => Ok(Told::Damaged),
     }
 }
 
@@ -143,7 +143,7 @@ fn are_handed_on(entries: &[Entry]) -> bool {
 }
 
 fn hands_on(alloc: Global) -> Result<bool, AllocError> {
-    let Found::Run(run) = scan_bytes(alloc, first(), FileNo(0))? else {
+    let FileScan::Prefix(run) = scan_bytes(alloc, first(), FileNo(0))? else {
         return Ok(false);
     };
     let same = are_handed_on(run.entries.as_slice());

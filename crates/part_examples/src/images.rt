@@ -1,6 +1,6 @@
 // The images of nodes, written and read back.
 use crate::nodes::Held::{self, Deleted, There, Unset};
-use crate::nodes::Step::{self, Put, Settle};
+use crate::nodes::Step::{self, ClearChanged, Put};
 use crate::nodes::{self, come};
 use crate::slots::name;
 use je_lsn::{FileNo, Lsn};
@@ -32,7 +32,7 @@ static CHANGED: [Step; 6] = [
     Put(b'a', There(26)),
     Put(b'b', Unset),
     Put(b'c', Deleted),
-    Settle(90),
+    ClearChanged(90),
     Put(b'a', Deleted),
     Put(b'd', There(120)),
 ];

@@ -6,6 +6,8 @@
 #![tactic(auto)]
 
 #[cfg(test)]
+mod arguments;
+#[cfg(test)]
 mod buffer;
 #[cfg(test)]
 mod bytes;
@@ -61,5 +63,3 @@ mod table;
 mod values;
 #[cfg(test)]
 mod vectors;
-#[cfg(test)]
-mod words;

@@ -84,27 +84,35 @@ static STOPPED: [Row; 8] = [
 static GOING: [Row; 2] = [(IsLong(1, 5), Ok(true), 3), (IsLong(2, 1), Ok(true), 3)];
 
 // What stays of each file, how many bytes may, and whether the file must or may be there.
-static MARKS: [(u32, &[u8], u64, bool, bool); 3] = [
+static CRASH_STATES: [(u32, &[u8], u64, bool, bool); 3] = [
     (1, b"abc", 5, true, true),
     (2, b"w", 4, true, true),
     (3, b"", 0, false, false),
 ];
 
-fn has_mark(
+fn has_crash_state(
     alloc: Global,
     disk: &MemDisk,
     f: u32,
     stable: &[u8],
     rest: (u64, bool, bool),
 ) -> Result<bool, AllocError> {
-    let mark = disk.mark(alloc, FileNo(f))?;
-    Ok(mark.stable.as_slice() == stable && (mark.reach, mark.must, mark.may) == rest)
+    let crash_state = disk.crash_state(alloc, FileNo(f))?;
+    Ok(
+        crash_state.stable.as_slice() == stable
+            && (
+                crash_state.max_len,
+                crash_state.exists_always,
+                crash_state.may_exist,
+            ) == rest,
+    )
 }
 
-fn has_marks(alloc: Global, disk: &MemDisk) -> Result<bool, AllocError> {
+fn has_crash_states(alloc: Global, disk: &MemDisk) -> Result<bool, AllocError> {
     let mut same = true;
-    for &(f, stable, reach, must, may) in &MARKS {
-        same = same && has_mark(alloc, disk, f, stable, (reach, must, may))?;
+    for &(f, stable, max_len, exists_always, may_exist) in &CRASH_STATES {
+        same = same
+            && has_crash_state(alloc, disk, f, stable, (max_len, exists_always, may_exist))?;
     }
     Ok(same)
 }
@@ -115,7 +123,7 @@ fn stops_and_tells_what_stays(rt: HostRuntime) {
     let mut disk = MemDisk::new(alloc);
     disk.stop_after(5);
     assert!(rt; come(alloc, &mut disk, &STOPPED));
-    assert!(rt; has_marks(alloc, &disk) == Ok(true));
+    assert!(rt; has_crash_states(alloc, &disk) == Ok(true));
     disk.stop_after(u64::MAX);
     assert!(rt; come(alloc, &mut disk, &GOING));
 }

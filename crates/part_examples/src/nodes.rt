@@ -1,7 +1,7 @@
 // The slots of a node: in order, split, and as a delta shows them.
 use crate::slots::{name, put};
 use Held::{Deleted, There, Unset};
-use Step::{Finds, HasImage, HasKeys, HasNoImage, Holds, Put, Remove, Settle, Shows, Splits};
+use Step::{ClearChanged, Finds, HasImage, HasKeys, HasNoImage, Holds, Put, Remove, Shows, Splits};
 use je_lsn::{FileNo, Lsn};
 use je_order::copy_of;
 use node_core::{Node, Slot, Version, slots_are_their_names};
@@ -20,7 +20,7 @@ pub enum Held {
 pub enum Step {
     Put(u8, Held),
     Remove(u8),
-    Settle(u32),
+    ClearChanged(u32),
     HasKeys(&'static [u8]),
     /// The record's place, and how many are below it.
     Finds(u8, Option<usize>, usize),
@@ -124,8 +124,8 @@ fn comes(alloc: Global, node: &mut Node, step: Step) -> Result<bool, AllocError>
     match step {
         Put(key, held) => put(alloc, node, key, version(held)),
         Remove(key) => remove(alloc, node, key),
-        Settle(offset) => {
-            node.settle(Some(at(offset)));
+        ClearChanged(offset) => {
+            node.clear_changed(Some(at(offset)));
             Ok(true)
         }
         HasKeys(keys) => Ok(has_keys(node, keys)),
@@ -173,7 +173,7 @@ static SHOWN: [Step; 16] = [
     Put(b'a', There(26)),
     Put(b'b', There(62)),
     Put(b'd', There(98)),
-    Settle(200),
+    ClearChanged(200),
     Shows(&[]),
     Put(b'c', Unset),
     Put(b'd', There(240)),
@@ -184,7 +184,7 @@ static SHOWN: [Step; 16] = [
     // no delta can show that a committed slot was lost, nor that it is unset
     Remove(b'a'),
     HasNoImage,
-    Settle(200),
+    ClearChanged(200),
     Put(b'b', Unset),
     HasNoImage,
 ];

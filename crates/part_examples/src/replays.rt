@@ -3,7 +3,7 @@ use crate::samples::{first, second};
 use je_disk::{Disk, DiskErr};
 use je_lsn::{FileNo, Lsn};
 use je_model::{Store, Totals};
-use log_replay::{Finding, LogRead, Replayed, new_environment, read_log};
+use log_replay::{Corruption, LogRead, Replayed, new_environment, read_log};
 use mem_disk::MemDisk;
 use std::alloc::Global;
 
@@ -40,10 +40,10 @@ fn has_t(store: &Store, wanted: &[(u8, u8)]) -> bool {
 
 // Whether the entry at this offset of file 0 is the first that put a wrong record.
 fn is_wrong_at(alloc: Global, bytes: &[u8], offset: u32) -> Result<bool, DiskErr> {
-    let LogRead::Found(finding) = read(alloc, &[bytes])? else {
+    let LogRead::Corrupt(corruption) = read(alloc, &[bytes])? else {
         return Ok(false);
     };
-    Ok(finding == Finding::Tree(Lsn::new(FileNo(0), offset)))
+    Ok(corruption == Corruption::Tree(Lsn::new(FileNo(0), offset)))
 }
 
 // Whether the replay of both files found all that they have.

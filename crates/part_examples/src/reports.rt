@@ -11,7 +11,7 @@ enum Said {
     Logged(u64),
     Begun,
     Durable(u64),
-    Found,
+    FileScan,
     Names,
     KeyExist,
     NotFound,
@@ -33,7 +33,7 @@ fn answer_of(alloc: Global, said: Said) -> Result<Answer, AllocError> {
         Said::Logged(commit) => Answer::Logged { commit },
         Said::Begun => Answer::Done,
         Said::Durable(commit) => Answer::Durable { commit },
-        Said::Found => Answer::Rec {
+        Said::FileScan => Answer::Rec {
             key: Octets::from_slice(alloc, b"\x00\xff")?,
             value: Octets::new(alloc),
         },
@@ -70,7 +70,7 @@ static JOURNAL: [(u8, u32, Said); 15] = [
     (1, 1, Said::Logged(1)),
     (0, 0, Said::Begun),
     (0, 0, Said::Durable(1)),
-    (2, 3, Said::Found),
+    (2, 3, Said::FileScan),
     (2, 4, Said::Logged(2)),
     (3, 5, Said::Logged(3)),
     (1, 6, Said::NotFound),

@@ -1,4 +1,4 @@
-// Files that the examples read, spelled out by hand as the format's description says.
+// Files that the examples read, written out by hand as the format's description says.
 
 /// File 0 after transaction 1 made the database `t`, number 1, and transaction 2 put the pair of `a` and
 /// `1` into it.

@@ -1,5 +1,5 @@
 // Scripts that are read, and scripts that are none.
-use je_model::{Call, Given, Kind};
+use je_model::{Call, Kind, ScriptLine};
 use je_order::{Octets, Word};
 use script_text::{ParseErr, parse};
 use std::alloc::{AllocError, Global};
@@ -31,8 +31,8 @@ fn call_at(alloc: Global, line: u32) -> Result<Call, AllocError> {
     })
 }
 
-fn is_given(alloc: Global, given: &Given, session: u8, line: u32) -> Result<bool, AllocError> {
-    let want = Given::Session {
+fn is_given(alloc: Global, given: &ScriptLine, session: u8, line: u32) -> Result<bool, AllocError> {
+    let want = ScriptLine::Session {
         session,
         line,
         call: call_at(alloc, line)?,
@@ -46,7 +46,7 @@ fn is_given(alloc: Global, given: &Given, session: u8, line: u32) -> Result<bool
 static LINES: [(u8, u32); 5] = [(1, 3), (64, 4), (9, 5), (10, 6), (2, 7)];
 
 // Whether those are the calls.
-fn are_given(alloc: Global, lines: &[Given]) -> Result<bool, AllocError> {
+fn are_given(alloc: Global, lines: &[ScriptLine]) -> Result<bool, AllocError> {
     let mut same = lines.len() == LINES.len();
     for (given, (session, line)) in lines.iter().zip(&LINES) {
         same = same && is_given(alloc, given, *session, *line)?;

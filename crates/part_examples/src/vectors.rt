@@ -27,7 +27,7 @@ enum Fields {
     FileSummary(&'static [(u32, u64, u64)]),
 }
 
-// What an entry is, its prev field, and its spelling.
+// What an entry is, its prev field, and its encoding.
 static VECTORS: [(Fields, u32, &[u8]); 9] = [
     (
         Delete(7, 3, (b"k", b"dd")),
@@ -241,8 +241,8 @@ fn is_end(entry: &Entry, fields: Fields) -> bool {
         return false;
     };
     let same = (*number, start.as_u64(), redo.as_u64()) == (count, begun, from);
-    let drawn = (last_txn.0, *last_node, *last_db) == (txn, of, base);
-    same && drawn && is_place(*summary, usage) && are_roots(roots.as_slice(), rows)
+    let last_job = (last_txn.0, *last_node, *last_db) == (txn, of, base);
+    same && last_job && is_place(*summary, usage) && are_roots(roots.as_slice(), rows)
 }
 
 fn is_entry(entry: &Entry, fields: Fields) -> bool {
@@ -260,32 +260,32 @@ fn is_entry(entry: &Entry, fields: Fields) -> bool {
     }
 }
 
-fn is_spelled(alloc: Global, entry: &Entry, prev: u32, bytes: &[u8]) -> Result<bool, AllocError>
+fn is_encoded(alloc: Global, entry: &Entry, prev: u32, bytes: &[u8]) -> Result<bool, AllocError>
     requires { IsEntry entry.now }
 {
-    let spelling = encode(alloc, entry, prev)?;
-    let same = spelling.as_slice() == bytes;
-    drop(spelling);
+    let encoding = encode(alloc, entry, prev)?;
+    let same = encoding.as_slice() == bytes;
+    drop(encoding);
     Ok(same)
 }
 
 // Whether the bytes are that entry with this prev field, read and written.
-fn spells(alloc: Global, bytes: &[u8], fields: Fields, want: u32) -> Result<bool, AllocError> {
+fn encodes(alloc: Global, bytes: &[u8], fields: Fields, want: u32) -> Result<bool, AllocError> {
     match decode(alloc, bytes)? {
         Decoded::Whole { entry, prev, len } => {
             let same = is_entry(&entry, fields) && (prev, len) == (want, bytes.len());
-            let spelled = is_spelled(alloc, &entry, prev, bytes);
+            let encoded = is_encoded(alloc, &entry, prev, bytes);
             drop(entry);
-            Ok(same && spelled?)
+            Ok(same && encoded?)
         }
         Decoded::Torn(_) => Ok(false),
     }
 }
 
 #[test]
-fn spells_each_kind(rt: HostRuntime) {
+fn encodes_each_kind(rt: HostRuntime) {
     for &(fields, prev, bytes) in &VECTORS {
-        assert!(rt; spells(rt.alloc(), bytes, fields, prev) == Ok(true));
+        assert!(rt; encodes(rt.alloc(), bytes, fields, prev) == Ok(true));
     }
 }
 

@@ -1,3 +1,6 @@
+-- What is held of names, and the order that it shows.
 pub mod HeldLaws
+-- What lies on either side of an edge.
 pub mod EdgeLaws
+-- The order of names, and what a list has under a name.
 pub mod NameLaws

@@ -120,8 +120,8 @@ impl Cells {
         cells.range((Bound::Included(low), end)).count()
     }
 
-    /// Puts the cell under the name, in place of the one that is there. Want of memory changes nothing,
-    /// and does not come where the name has a cell.
+    /// Puts the cell under the name, in place of the one that is there. Running out of memory changes
+    /// nothing, and does not come where the name has a cell.
     pub fn insert(&mut self, name: SortKey, cell: Cell) -> Result<(), AllocError>
         ensures ok { OnOk result (self.new ≡ insert_entry name_cmp self.old name cell) }
         ensures others { OnOk result ((x : Name) → value_at x self.new ≡ (if is_eq (name_cmp name x) then Some cell else value_at x self.old)) }

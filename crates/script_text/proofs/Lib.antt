@@ -1,7 +1,14 @@
-mod Cuts
-mod Digits
-mod Reading
-mod Scripted
-mod Sending
-mod Waits
-mod Gets
+-- A text cut at its first blank or line feed.
+mod TextCuts
+-- Hexadecimal digits, one byte after another.
+mod HexDigits
+-- What the lines of a script give, one line after another.
+mod ScriptLines
+-- A script's plan has only calls that the grammar has lines for.
+mod PlanCalls
+-- Texts sent through a buffer.
+mod BufferedText
+-- Which calls wait, along a journal.
+mod WaitingCalls
+-- What the words of a get spell.
+mod GetCalls

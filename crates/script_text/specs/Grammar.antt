@@ -8,8 +8,8 @@ use Rattle.je_order.specs.Words.{is_word}
 use Rattle.je_model.specs.declared.store.Kind.TheVariants.{Plain}
 use Rattle.je_model.specs.declared.call.Call.{Call}
 use Rattle.je_model.specs.declared.call.Call.TheVariants.{Create, Put, Get, Delete}
-use Rattle.je_model.specs.declared.plan.Given.{Given}
-use Rattle.je_model.specs.declared.plan.Given.TheVariants.{Session}
+use Rattle.je_model.specs.declared.plan.ScriptLine.{ScriptLine}
+use Rattle.je_model.specs.declared.plan.ScriptLine.TheVariants.{Session}
 use Rattle.je_model.specs.declared.plan.RunPlan.{RunPlan}
 use Rattle.script_text.specs.Words.{words_of}
 use Rattle.script_text.specs.declared.parsing.TheConstants.{MOST_LINES}
@@ -17,9 +17,9 @@ use Rattle.script_text.specs.declared.parsing.ParseErr.{ParseErr}
 use Rattle.script_text.specs.declared.parsing.ParseErr.TheVariants.{BadScript, Memory}
 
 -- the lines of a script: each ends with a line feed, which the last one may lack
-abbrev pub lines_of : List ℕ → List (List ℕ)
-lines_of [] = []
-lines_of (c ∷ rest) = if c == 10 then [] ∷ lines_of rest else onto_first c (lines_of rest)
+abbrev pub text_lines : List ℕ → List (List ℕ)
+text_lines [] = []
+text_lines (c ∷ rest) = if c == 10 then [] ∷ text_lines rest else onto_first c (text_lines rest)
 
 -- a session is s1 to s64, its number without a leading zero
 abbrev pub is_digit : ℕ → Bool
@@ -98,11 +98,11 @@ call_of verb words =
     else None
 
 -- a line with a call is a session, and the call's words
-abbrev pub given_by : ℕ → Option ℕ → Option Call → Option Given
+abbrev pub given_by : ℕ → Option ℕ → Option Call → Option ScriptLine
 given_by line (Some session) (Some call) = Some (Session session line call)
 given_by line session call = None
 
-abbrev pub given_of : ℕ → List (List ℕ) → Option Given
+abbrev pub given_of : ℕ → List (List ℕ) → Option ScriptLine
 given_of line (session ∷ verb ∷ words) = given_by line (session_of session) (call_of verb words)
 given_of line words = None
 
@@ -112,11 +112,11 @@ is_skipped [] = true
 is_skipped (c ∷ text) = c == 35
 
 -- what a line gives: nothing or a call; it is bad where it is none of these, has a byte outside ASCII, or is past the last line
-abbrev pub good_or_bad : ℕ → Option Given → Result (Option Given) ℕ
+abbrev pub good_or_bad : ℕ → Option ScriptLine → Result (Option ScriptLine) ℕ
 good_or_bad line (Some given) = Ok (Some given)
 good_or_bad line None = Err line
 
-abbrev pub line_gives : ℕ → List ℕ → Result (Option Given) ℕ
+abbrev pub line_gives : ℕ → List ℕ → Result (Option ScriptLine) ℕ
 line_gives line text =
     if nat_lt MOST_LINES line || not (list_all (λ c. nat_lt c 128) text) then Err line
     else if is_skipped text then Ok None
@@ -130,30 +130,30 @@ has_line (Get db key rmw) = true
 has_line (Delete db key) = true
 has_line call = false
 
-abbrev pub is_line : Given → Bool
+abbrev pub is_line : ScriptLine → Bool
 is_line (Session session line call) = has_line call
 
 -- what a line gives and then what the lines behind it give; the first bad line counts
-abbrev pub before_others : Option Given → Result (List Given) ℕ → Result (List Given) ℕ
+abbrev pub before_others : Option ScriptLine → Result (List ScriptLine) ℕ → Result (List ScriptLine) ℕ
 before_others given (Ok others) = Ok (option_to_list given ++ others)
 before_others given (Err line) = Err line
 
-abbrev pub and_then : Result (Option Given) ℕ → Result (List Given) ℕ → Result (List Given) ℕ
+abbrev pub and_then : Result (Option ScriptLine) ℕ → Result (List ScriptLine) ℕ → Result (List ScriptLine) ℕ
 and_then (Ok given) others = before_others given others
 and_then (Err line) others = Err line
 
 -- what lines give, the first of them with that number
-abbrev pub lines_give : ℕ → List (List ℕ) → Result (List Given) ℕ
+abbrev pub lines_give : ℕ → List (List ℕ) → Result (List ScriptLine) ℕ
 lines_give line [] = Ok []
 lines_give line (text ∷ texts) = and_then (line_gives line text) (lines_give (line + 1) texts)
 
-abbrev pub as_plan : Result (List Given) ℕ → Result RunPlan ℕ
+abbrev pub as_plan : Result (List ScriptLine) ℕ → Result RunPlan ℕ
 as_plan (Ok lines) = Ok (record { lines = lines })
 as_plan (Err line) = Err line
 
 -- the plan that a script asks for, or the number of its first bad line
 abbrev pub plan_of : List ℕ → Result RunPlan ℕ
-plan_of script = as_plan (lines_give 1 (lines_of script))
+plan_of script = as_plan (lines_give 1 (text_lines script))
 
 -- a function has answered what the grammar says, unless memory ran out
 abbrev pub Gives : {X : Type 0} → Result X ParseErr → Result X ℕ → Type 0

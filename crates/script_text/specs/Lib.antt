@@ -1,4 +1,4 @@
 pub mod Grammar
-pub mod Page
+pub mod OutBuffer
 pub mod Report
 pub mod Words

@@ -8,7 +8,7 @@ mod bytes;
 mod calls;
 mod cutting;
 mod lines;
-mod page;
+mod out_buffer;
 pub mod parsing;
 pub mod reporting;
 mod session;

@@ -8,7 +8,7 @@ use crate::calls::call_of;
 use crate::lines::cut_line;
 use crate::session::session_number;
 use crate::words::Words;
-use je_model::{Given, RunPlan};
+use je_model::{RunPlan, ScriptLine};
 use je_order::List;
 use std::alloc::{AllocError, AllocFailed, Global};
 
@@ -20,7 +20,7 @@ pub const MOST_LINES: u32 = 1_000_000;
 pub enum ParseErr {
     /// The line with this number, counted from 1, is the first one outside the grammar.
     BadScript { line: u32 },
-    /// Want of memory.
+    /// Out of memory.
     Memory,
 }
 
@@ -72,7 +72,7 @@ fn plan_of(alloc: Global, input: &[u8]) -> Result<RunPlan, ParseErr>
     })
 }
 
-fn keep(lines: &mut Vec<Given>, given: Option<Given>) -> Result<(), AllocError>
+fn keep(lines: &mut Vec<ScriptLine>, given: Option<ScriptLine>) -> Result<(), AllocError>
     ensures { OnOk result (lines.new.items ≡ lines.old.items ++ option_to_list given) }
 {
     if let Some(given) = given {
@@ -82,7 +82,7 @@ fn keep(lines: &mut Vec<Given>, given: Option<Given>) -> Result<(), AllocError>
 }
 
 // What one line gives: a call, or nothing.
-fn given_by_line(alloc: Global, line: u32, text: &[u8]) -> Result<Option<Given>, ParseErr>
+fn given_by_line(alloc: Global, line: u32, text: &[u8]) -> Result<Option<ScriptLine>, ParseErr>
     ensures answer { Gives result (line_gives line text.now) }
     ensures within { OnOk result (line ≤ MOST_LINES) }
 {
@@ -111,7 +111,7 @@ fn is_skipped(text: &[u8]) -> bool
 }
 
 // The call of a line, if it is one.
-fn given_of(alloc: Global, line: u32, text: &[u8]) -> Result<Option<Given>, AllocError>
+fn given_of(alloc: Global, line: u32, text: &[u8]) -> Result<Option<ScriptLine>, AllocError>
     ensures { IfOk result (λ given. given ≡ given_of line (words_of text.now)) }
 {
     let mut words = Words::new(text);
@@ -127,7 +127,7 @@ fn given_of(alloc: Global, line: u32, text: &[u8]) -> Result<Option<Given>, Allo
     let Some(call) = call_of(alloc, verb, words)? else {
         return Ok(None);
     };
-    Ok(Some(Given::Session {
+    Ok(Some(ScriptLine::Session {
         session,
         line,
         call,

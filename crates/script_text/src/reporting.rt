@@ -1,12 +1,12 @@
 // Printing a report.
 ghost use Rattle.std.specs.Prelude.{◌≡◌, ◌<◌, ◌≤◌, ◌+◌, ◌++◌, [], length, take, drop, slice_get, Some, count_by, OnOk, OnErr};
 ghost use Rattle.std.specs.List.{flat_map};
-ghost use Rattle.je_io.specs.Faults.{Rose};
+ghost use Rattle.je_order.specs.Counts.{HasRisen};
 ghost use Rattle.je_io.specs.Sink.{Gains, GainsPart};
-ghost use Rattle.script_text.specs.Page.{Adds, point};
+ghost use Rattle.script_text.specs.OutBuffer.{Adds, point};
 ghost use Rattle.script_text.specs.Report.{end_line, NoneWaits, event_text, events_text, if_waiting, is_logged_call, own_line, report_text, settled_line, waiting_after};
 
-use crate::page::Page;
+use crate::out_buffer::OutBuffer;
 use crate::texts::{put_call, put_line, put_number};
 use crate::waiting::{first_waiting, is_settled, may_settle, settles, settling_text};
 use je_io::{Failed, Sink};
@@ -16,18 +16,18 @@ use je_model::{Answer, Event, Totals};
 /// number of commits and what the final store holds. It takes no memory. `Failed` is a fault of the
 /// sink, which then has the first bytes of the text, any number of them.
 pub fn report<K: Sink>(events: &[Event], totals: &Totals, out: &mut K) -> Result<(), Failed>
-    ensures told { OnOk result
+    ensures observed { OnOk result
         (Gains (K.written out.old) (K.written out.new) (report_text events.now totals.now)) }
     ensures part { OnErr result
         (GainsPart (K.written out.old) (K.written out.new) (report_text events.now totals.now)) }
     ensures never_falls { K.faults out.old ≤ K.faults out.new }
-    ensures cause { OnErr result (Rose (K.faults out.old) (K.faults out.new)) }
+    ensures cause { OnErr result (HasRisen (K.faults out.old) (K.faults out.new)) }
 {
-    let mut page = Page::new();
-    put_events(&mut page, out, events);
-    put_end(&mut page, out, commits_of(events), totals);
-    page.flush(out);
-    if page.has_failed() {
+    let mut buffer = OutBuffer::new();
+    put_events(&mut buffer, out, events);
+    put_end(&mut buffer, out, commits_of(events), totals);
+    buffer.flush(out);
+    if buffer.has_failed() {
         Err(Failed)
     } else {
         Ok(())
@@ -58,28 +58,28 @@ fn commits_of(events: &[Event]) -> usize
     commits
 }
 
-fn put_end<K: Sink>(page: &mut Page, out: &mut K, commits: usize, totals: &Totals)
-    ensures { Adds (point (K.written out.old) (K.faults out.old) page.old)
-        (point (K.written out.new) (K.faults out.new) page.new)
+fn put_end<K: Sink>(buffer: &mut OutBuffer, out: &mut K, commits: usize, totals: &Totals)
+    ensures { Adds (point (K.written out.old) (K.faults out.old) buffer.old)
+        (point (K.written out.new) (K.faults out.new) buffer.new)
         (end_line commits totals.now) }
 {
-    page.put(out, b"end commits ");
-    put_number(page, out, commits as u64);
-    page.put(out, b" databases ");
-    put_number(page, out, totals.databases);
-    page.put(out, b" records ");
-    put_number(page, out, totals.records);
-    page.put(out, b"\n");
+    buffer.put(out, b"end commits ");
+    put_number(buffer, out, commits as u64);
+    buffer.put(out, b" databases ");
+    put_number(buffer, out, totals.databases);
+    buffer.put(out, b" records ");
+    put_number(buffer, out, totals.records);
+    buffer.put(out, b"\n");
 }
 
-fn put_events<K: Sink>(page: &mut Page, out: &mut K, events: &[Event])
-    ensures { Adds (point (K.written out.old) (K.faults out.old) page.old)
-        (point (K.written out.new) (K.faults out.new) page.new)
+fn put_events<K: Sink>(buffer: &mut OutBuffer, out: &mut K, events: &[Event])
+    ensures { Adds (point (K.written out.old) (K.faults out.old) buffer.old)
+        (point (K.written out.new) (K.faults out.new) buffer.new)
         (events_text [] events.now) }
 {
     let mut first = 0;
     for at in 0..events.len() {
-        put_event(page, out, &events[first..at], &events[at]);
+        put_event(buffer, out, &events[first..at], &events[at]);
         first = next_first(events, first, at);
     }
 }
@@ -99,18 +99,18 @@ fn next_first(events: &[Event], first: usize, at: usize) -> usize
     }
 }
 
-fn put_event<K: Sink>(page: &mut Page, out: &mut K, before: &[Event], event: &Event)
-    ensures { Adds (point (K.written out.old) (K.faults out.old) page.old)
-        (point (K.written out.new) (K.faults out.new) page.new)
+fn put_event<K: Sink>(buffer: &mut OutBuffer, out: &mut K, before: &[Event], event: &Event)
+    ensures { Adds (point (K.written out.old) (K.faults out.old) buffer.old)
+        (point (K.written out.new) (K.faults out.new) buffer.new)
         (event_text before.now event.now) }
 {
-    put_own_line(page, out, event);
-    put_settled(page, out, before, event);
+    put_own_line(buffer, out, event);
+    put_settled(buffer, out, before, event);
 }
 
-fn put_own_line<K: Sink>(page: &mut Page, out: &mut K, event: &Event)
-    ensures { Adds (point (K.written out.old) (K.faults out.old) page.old)
-        (point (K.written out.new) (K.faults out.new) page.new)
+fn put_own_line<K: Sink>(buffer: &mut OutBuffer, out: &mut K, event: &Event)
+    ensures { Adds (point (K.written out.old) (K.faults out.old) buffer.old)
+        (point (K.written out.new) (K.faults out.new) buffer.new)
         (own_line event.now) }
 {
     match event {
@@ -119,35 +119,35 @@ fn put_own_line<K: Sink>(page: &mut Page, out: &mut K, event: &Event)
             line,
             call: _,
             answer,
-        } => put_call(page, out, *session, *line, answer),
+        } => put_call(buffer, out, *session, *line, answer),
         Event::SyncBegin { answer: _ } => {}
         Event::SyncEnd { answer: _ } => {}
     }
 }
 
 // The lines of the calls that have waited for the event.
-fn put_settled<K: Sink>(page: &mut Page, out: &mut K, before: &[Event], event: &Event)
-    ensures { Adds (point (K.written out.old) (K.faults out.old) page.old)
-        (point (K.written out.new) (K.faults out.new) page.new)
+fn put_settled<K: Sink>(buffer: &mut OutBuffer, out: &mut K, before: &[Event], event: &Event)
+    ensures { Adds (point (K.written out.old) (K.faults out.old) buffer.old)
+        (point (K.written out.new) (K.faults out.new) buffer.new)
         (flat_map (settled_line event.now) (waiting_after before.now)) }
 {
     if !may_settle(event) {
         return;
     }
     for k in 0..before.len() {
-        put_if_settled(page, out, &before[k], &before[k + 1..], event);
+        put_if_settled(buffer, out, &before[k], &before[k + 1..], event);
     }
 }
 
 fn put_if_settled<K: Sink>(
-    page: &mut Page,
+    buffer: &mut OutBuffer,
     out: &mut K,
     call: &Event,
     later: &[Event],
     event: &Event,
 )
-    ensures { Adds (point (K.written out.old) (K.faults out.old) page.old)
-        (point (K.written out.new) (K.faults out.new) page.new)
+    ensures { Adds (point (K.written out.old) (K.faults out.old) buffer.old)
+        (point (K.written out.new) (K.faults out.new) buffer.new)
         (flat_map (settled_line event.now) (if_waiting call.now later.now)) }
 {
     if let Event::Call {
@@ -158,7 +158,7 @@ fn put_if_settled<K: Sink>(
     } = call
     {
         if settles(*commit, event) && !is_settled(*commit, later) {
-            put_line(page, out, *session, *line, settling_text(event));
+            put_line(buffer, out, *session, *line, settling_text(event));
         }
     }
 }

@@ -236,7 +236,7 @@ impl Level {
         nodes[place] = nodes[place].marked(from);
     }
 
-    /// Puts the node under a low that no node has. Want of memory changes nothing.
+    /// Puts the node under a low that no node has. Running out of memory changes nothing.
     pub fn put(&mut self, low: SortKey, node: Node) -> Result<(), AllocError>
         requires { value_at low self.old ≡ None }
         ensures put { OnOk result (HasPut self.old self.new low node) }

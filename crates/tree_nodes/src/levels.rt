@@ -176,7 +176,7 @@ impl Levels {
     }
 
     /// Splits a node of the level: from `middle` on its names are those of the new node. The level below has
-    /// that low. Want of memory changes nothing.
+    /// that low. Running out of memory changes nothing.
     pub fn split(&mut self, level: usize, middle: SortKey, node: Node) -> Result<(), AllocError>
         requires there { level < length self.old }
         requires free { value_at middle (row_of self.old level) ≡ None }
@@ -200,7 +200,7 @@ impl Levels {
         remove_in(self.levels.as_mut_slice(), level, low);
     }
 
-    /// Puts a root above the top. Want of memory changes nothing.
+    /// Puts a root above the top. Running out of memory changes nothing.
     pub fn raise(&mut self, alloc: Global, root: Node) -> Result<(), AllocError>
         ensures ok { OnOk result (HasRaised self.old self.new root) }
         ensures err { OnErr result (self.new ≡ self.old) }

@@ -2,18 +2,15 @@
 use Rattle.std.specs.Prelude.{Bool, true, false, not, ◌&&◌, ◌==◌, List, [], ◌∷◌}
 use Rattle.std.specs.List.{list_any, filter}
 use Rattle.je_order.specs.declared.txn_id.TxnId.{TxnId}
-
--- two numbers of one transaction
-abbrev pub is_same : TxnId → TxnId → Bool
-is_same x y = x.0 == y.0
+use Rattle.je_order.specs.Transactions.{is_same_txn}
 
 -- the pair is that of these two
 abbrev pub is_pair : TxnId → TxnId → TxnId × TxnId → Bool
-is_pair x y e = is_same x e.0 && is_same y e.1
+is_pair x y e = is_same_txn x e.0 && is_same_txn y e.1
 
 -- the pair leads from this one
 abbrev pub is_from : TxnId → TxnId × TxnId → Bool
-is_from x e = is_same x e.0
+is_from x e = is_same_txn x e.0
 
 -- x waits for y
 abbrev pub is_edge : List (TxnId × TxnId) → TxnId → TxnId → Bool
@@ -31,7 +28,7 @@ closes_by waits (x ∷ xs) = leads_by waits x x xs
 
 -- x is in the list
 abbrev pub is_in : TxnId → List TxnId → Bool
-is_in x list = list_any (is_same x) list
+is_in x list = list_any (is_same_txn x) list
 
 -- no transaction is in the list twice
 abbrev pub names_each_once : List TxnId → Bool

@@ -38,7 +38,8 @@ impl Edges {
         }
     }
 
-    /// Puts the edge from a waiter to the one that it waits for. Want of memory changes nothing.
+    /// Puts the edge from a waiter to the one that it waits for. Running out of memory changes
+    /// nothing.
     pub fn insert(&mut self, waiter: TxnId, owner: TxnId) -> Result<(), AllocError>
         ensures ok { OnOk result ((x y : _) → is_edge self.new x y ≡ (is_pair x y (waiter, owner) || is_edge self.old x y)) }
         ensures err { OnErr result (self.new ≡ self.old) }

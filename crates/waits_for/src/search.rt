@@ -3,8 +3,9 @@ ghost use Rattle.std.specs.Prelude.{◌≡◌, ◌+◌, ◌<◌, ◌∷◌, [], 
 ghost use Rattle.std.specs.Option.{IfSome, IfNone};
 ghost use Rattle.std.specs.List.{slice_get};
 ghost use Rattle.je_order.specs.declared.txn_id.TxnId.{TxnId};
-ghost use Rattle.waits_for.specs.Cycles.{is_edge, closes, is_cycle, is_in, is_same};
-ghost use Rattle.waits_for.specs.Walk.{has, IsTree, IsWalk, left};
+ghost use Rattle.waits_for.specs.Cycles.{is_edge, closes, is_cycle, is_in};
+ghost use Rattle.je_order.specs.Transactions.{is_same_txn};
+ghost use Rattle.waits_for.specs.Walk.{is_seen, IsTree, IsWalk, left};
 
 use crate::Edges;
 use je_order::TxnId;
@@ -73,7 +74,7 @@ fn follow(
     y: TxnId,
 ) -> Result<(), AllocError>
     requires walk { IsWalk edges.now from seen.old (todo.old.items ++ (x, y) ∷ []) }
-    requires other { is_same y from ≡ false }
+    requires other { is_same_txn y from ≡ false }
     ensures walk { OnOk result (IsWalk edges.now from seen.new todo.new.items) }
     ensures left { OnOk result (left edges.now seen.new todo.new.items ≡ left edges.now seen.old todo.old.items) }
 {
@@ -99,7 +100,7 @@ fn path_to(
     last: TxnId,
 ) -> Result<Vec<TxnId>, AllocError>
     requires tree { IsTree edges.now from seen.now }
-    requires last { has seen.now last ≡ true }
+    requires last { is_seen seen.now last ≡ true }
     requires closes { is_edge edges.now last from ≡ true }
     ensures cycle { IfOk result (λ list. is_cycle edges.now list.items ≡ true) }
     ensures first { IfOk result (λ list. slice_get list.items 0 ≡ Some from) }

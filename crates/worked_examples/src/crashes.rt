@@ -1,6 +1,6 @@
 // Runs that stop at each call of the disk. What a crash may leave then opens to the commits that were
 // durable, or to those and the one that was under way.
-use crate::fixture::{FIRST, RUN, RUN_SMALL, Ran, run_script, run_words, strings};
+use crate::fixture::{FIRST, RUN, RUN_SMALL, Ran, run_args, run_script, strings};
 use je_lsn::FileNo;
 use je_model::{Answer, Event};
 use mem_disk::MemDisk;
@@ -123,9 +123,13 @@ fn is_left_whole(
     f: FileNo,
     bytes: &[u8],
 ) -> Result<bool, AllocError> {
-    let mark = disk.mark(alloc, f)?;
+    let crash_state = disk.crash_state(alloc, f)?;
     let len = bytes.len();
-    Ok(mark.must && mark.stable.len() == len && mark.reach == len as u64)
+    Ok(
+        crash_state.exists_always
+            && crash_state.stable.len() == len
+            && crash_state.max_len == len as u64,
+    )
 }
 
 // Each file but the last one is left whole by any crash.
@@ -156,16 +160,16 @@ fn assert_opens(
 }
 
 // What a crash may leave of the last file: the shortest piece, and whether the file may be gone.
-fn last_mark(
+fn last_crash_state(
     rt: &impl Abort,
     alloc: Global,
     disk: &MemDisk,
     f: FileNo,
     len: usize,
 ) -> Result<(usize, bool), AllocError> {
-    let mark = disk.mark(alloc, f)?;
-    assert!(rt; mark.may && mark.reach == len as u64);
-    Ok((mark.stable.len(), !mark.must))
+    let crash_state = disk.crash_state(alloc, f)?;
+    assert!(rt; crash_state.may_exist && crash_state.max_len == len as u64);
+    Ok((crash_state.stable.len(), !crash_state.exists_always))
 }
 
 // The files, with each piece of the last one that a crash may leave, open to so many commits or to one
@@ -185,7 +189,7 @@ fn assert_pieces_open(
         prefixes.last = *f;
         prefixes.found.clear();
     }
-    let (shortest, may_go) = last_mark(rt, alloc, disk, *f, bytes.len())?;
+    let (shortest, may_go) = last_crash_state(rt, alloc, disk, *f, bytes.len())?;
     if may_go {
         let image = without_last(alloc, files)?;
         assert_opens(rt, alloc, image, prefixes, least)?;
@@ -215,14 +219,14 @@ fn assert_images_open(
 fn stop_after(
     rt: &impl Abort,
     alloc: Global,
-    words: &[&str],
+    args: &[&str],
     script: &[u8],
     calls: u64,
     prefixes: &mut Prefixes,
 ) -> Result<Option<usize>, AllocError> {
     let mut disk = MemDisk::new(alloc);
     disk.stop_after(calls);
-    let ran = run_words(alloc, words, disk, script)?;
+    let ran = run_args(alloc, args, disk, script)?;
     assert_images_open(rt, alloc, &ran, prefixes)?;
     if ran.status == 0 {
         Ok(Some(ran.disk.files(alloc)?.len()))
@@ -236,12 +240,12 @@ fn stop_after(
 fn stop_at_each_call(
     rt: &impl Abort,
     alloc: Global,
-    words: &[&str],
+    args: &[&str],
     script: &[u8],
     prefixes: &mut Prefixes,
 ) -> Result<Option<usize>, AllocError> {
     for calls in 0..1_000u64 {
-        let files = stop_after(rt, alloc, words, script, calls, prefixes)?;
+        let files = stop_after(rt, alloc, args, script, calls, prefixes)?;
         if files.is_some() {
             return Ok(files);
         }

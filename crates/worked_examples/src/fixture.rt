@@ -29,7 +29,7 @@ pub fn disk_of(ran: Box<Ran>) -> MemDisk {
     disk
 }
 
-// The words of a right command line, and of one for log files of at most 4,096 bytes.
+// The arguments of a valid command line, and of one for log files of at most 4,096 bytes.
 pub const RUN: [&str; 3] = ["run", "--home", "store"];
 
 pub const RUN_SMALL: [&str; 5] = ["run", "--home", "store", "--file-max", "4096"];
@@ -53,23 +53,23 @@ pub const FIRST_LOG: &[u8] =
 \x09\x13\x00\xe9\x02\x00\x00\x00\x00\x3e\x00\x00\x00\x12\x00\x00\x00\x00\x00\x00\x00\x02\x00\x00\x00\x01\x00\x01a\x00\x001\
 \x04\xfa\x00\x64\x05\x00\x00\x00\x00\x54\x00\x00\x00\x08\x00\x00\x00\x00\x00\x00\x00\x02";
 
-pub fn strings(alloc: Global, words: &[&str]) -> Result<Vec<String>, AllocError> {
+pub fn strings(alloc: Global, args: &[&str]) -> Result<Vec<String>, AllocError> {
     let mut strings = Vec::new(alloc);
-    for word in words {
+    for word in args {
         strings.push(String::from_str(alloc, word)?)?;
     }
     Ok(strings)
 }
 
-// Runs the program with these words, this input and this output.
+// Runs the program with these arguments, this input and this output.
 pub fn run_with<S: Source>(
     alloc: Global,
-    words: &[&str],
+    args: &[&str],
     disk: MemDisk,
     input: &mut S,
     mut output: MemSink,
 ) -> Result<Box<Ran>, AllocError> {
-    let words = strings(alloc, words)?;
+    let args = strings(alloc, args)?;
     let Ended {
         status,
         cause: _,
@@ -78,7 +78,7 @@ pub fn run_with<S: Source>(
         journal,
         opening: _,
         rows: _,
-    } = run_je(alloc, &words, disk, input, &mut output);
+    } = run_je(alloc, &args, disk, input, &mut output);
     let ran = Ran {
         status,
         output,
@@ -88,25 +88,25 @@ pub fn run_with<S: Source>(
     Ok(Box::new(alloc, ran)?)
 }
 
-// Runs a script over a disk, with these words.
-pub fn run_words(
+// Runs a script over a disk, with these arguments.
+pub fn run_args(
     alloc: Global,
-    words: &[&str],
+    args: &[&str],
     disk: MemDisk,
     script: &[u8],
 ) -> Result<Box<Ran>, AllocError> {
     let mut input = MemSource::new(script);
-    run_with(alloc, words, disk, &mut input, MemSink::new(alloc))
+    run_with(alloc, args, disk, &mut input, MemSink::new(alloc))
 }
 
 // The same with log files of at most 4,096 bytes.
 pub fn run_small(alloc: Global, disk: MemDisk, script: &[u8]) -> Result<Box<Ran>, AllocError> {
-    run_words(alloc, &RUN_SMALL, disk, script)
+    run_args(alloc, &RUN_SMALL, disk, script)
 }
 
-// The same with the words of a right command line.
+// The same with the arguments of a valid command line.
 pub fn run_script(alloc: Global, disk: MemDisk, script: &[u8]) -> Result<Box<Ran>, AllocError> {
-    run_words(alloc, &RUN, disk, script)
+    run_args(alloc, &RUN, disk, script)
 }
 
 // The disk that the first example leaves.

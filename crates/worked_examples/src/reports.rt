@@ -1,7 +1,7 @@
 // What scripts write, and which bytes they leave.
 use crate::fixture::{
     FIRST, FIRST_LOG, FIRST_TEXT, HEADER, RUN, assert_leaves, assert_ran, first_disk, holds_files,
-    ones, put_line, run_script, run_words,
+    ones, put_line, run_args, run_script,
 };
 use mem_disk::MemDisk;
 use std::alloc::{AllocError, Global};
@@ -43,7 +43,7 @@ fn create_put_get(rt: HostRuntime) -> Result<(), Fail> {
     Ok(())
 }
 
-// Wrong words and scripts outside the grammar, with the status and what is written.
+// Invalid arguments and scripts outside the grammar, with the status and what is written.
 static WRONG: [(&[&str], &[u8], u8, &str); 10] = [
     (&[], FIRST, 2, "fault usage\n"),
     (&["run"], FIRST, 2, "fault usage\n"),
@@ -76,12 +76,12 @@ static WRONG: [(&[&str], &[u8], u8, &str); 10] = [
 fn assert_refused(
     rt: &impl Abort,
     alloc: Global,
-    words: &[&str],
+    args: &[&str],
     script: &[u8],
     status: u8,
     text: &str,
 ) -> Result<(), AllocError> {
-    let ran = run_words(alloc, words, MemDisk::new(alloc), script)?;
+    let ran = run_args(alloc, args, MemDisk::new(alloc), script)?;
     assert_ran(rt, &ran, status, text);
     assert!(rt; holds_files(alloc, &ran.disk, &[])?);
     Ok(())
@@ -89,8 +89,8 @@ fn assert_refused(
 
 #[test]
 fn words_and_scripts(rt: HostRuntime) -> Result<(), Fail> {
-    for &(words, script, status, text) in &WRONG {
-        assert_refused(&rt, rt.alloc(), words, script, status, text)?;
+    for &(args, script, status, text) in &WRONG {
+        assert_refused(&rt, rt.alloc(), args, script, status, text)?;
     }
     Ok(())
 }

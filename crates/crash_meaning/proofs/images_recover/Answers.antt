@@ -1,4 +1,4 @@
-use Rattle.crash_meaning.proofs.Recoveries.{images_recover}
+use Rattle.crash_meaning.proofs.RecoveryLaws.{images_recover}
 use Rattle.crash_meaning.proofs.images_recover.Goals as goal
 
 pub returns : goal.returns

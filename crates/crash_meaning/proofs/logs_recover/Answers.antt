@@ -1,4 +1,4 @@
-use Rattle.crash_meaning.proofs.Recoveries.{logs_recover, longer_logs_recover}
+use Rattle.crash_meaning.proofs.RecoveryLaws.{logs_recover, longer_logs_recover}
 use Rattle.crash_meaning.proofs.logs_recover.Goals as goal
 
 pub returns : goal.returns

@@ -1,6 +1,7 @@
 use Rattle.std.proofs.Common.{sym, subst}
 use Rattle.db_catalog.specs.Planning.{IsCatalogLog}
-use Rattle.db_catalog.proofs.PlanningLaws.{if_ok, planned_logged}
+use Rattle.db_catalog.proofs.PlanningLaws.{planned_logged}
+use Rattle.je_order.proofs.Results.{if_ok}
 use Rattle.db_catalog.proofs.planning.catalog_changes.Goals as goal
 
 pub returns-clause-planned : goal.returns-clause-planned

@@ -1,4 +1,4 @@
-use Rattle.dir_disk.proofs.Reading.{all_read}
+use Rattle.dir_disk.proofs.WholeReads.{all_read}
 use Rattle.dir_disk.proofs.job.whole.Goals as goal
 
 pub returns-clause-all : goal.returns-clause-all

@@ -1,5 +1,5 @@
 use Rattle.std.proofs.Common.{◌∙◌}
-use Rattle.dir_disk.proofs.Numbers.{numbers_rise}
+use Rattle.dir_disk.proofs.FileNumbers.{numbers_rise}
 use Rattle.dir_disk.proofs.pieces.in_order.Goals as goal
 
 pub returns-clause-rising : goal.returns-clause-rising

@@ -1,6 +1,6 @@
 use Rattle.std.proofs.Common.{◌+◌, ◌%◌, refl, ap, ◌∙◌, zero-add, arith}
 use Rattle.je_bytes.specs.Adler.{adler32_of, sum_of, running_sum_of}
-use Rattle.je_bytes.proofs.Sums.{sum_of-block, running_sum_of-block}
+use Rattle.je_bytes.proofs.AdlerSums.{sum_of-block, running_sum_of-block}
 use Rattle.je_bytes.proofs.checksum.adler32.Goals as goal
 
 pub loop-rest-preserved : goal.loop-rest-preserved

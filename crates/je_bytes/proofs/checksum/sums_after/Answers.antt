@@ -1,5 +1,5 @@
 use Rattle.std.proofs.Common.{arith}
-use Rattle.je_bytes.proofs.Sums.{sum_of-next, running_sum_of-next}
+use Rattle.je_bytes.proofs.AdlerSums.{sum_of-next, running_sum_of-next}
 use Rattle.je_bytes.proofs.checksum.sums_after.Goals as goal
 
 pub loop-byte-preserved : goal.loop-byte-preserved

@@ -1,4 +1,4 @@
-use Rattle.je_lsn.proofs.Digits.{digit-letter}
+use Rattle.je_lsn.proofs.FileNames.{digit-letter}
 use Rattle.je_lsn.proofs.naming.hex_digit.Goals as goal
 
 pub returns-else-value-le9 : goal.returns-else-value-le9

@@ -1,6 +1,6 @@
 use Rattle.std.proofs.Common.{◌≡◌, length, rules, arith, sym, ◌∙◌, ap}
 use Rattle.je_lsn.specs.Naming.{name_of}
-use Rattle.je_lsn.proofs.Digits.{named_once, spelled_so, unnamed}
+use Rattle.je_lsn.proofs.FileNames.{named_once, spelled_so, unnamed}
 use Rattle.je_lsn.proofs.naming.parse_name.Goals as goal
 
 pub returns-then-name-ne12-clause-none : goal.returns-then-name-ne12-clause-none

@@ -12,49 +12,49 @@ use Rattle.je_program.proofs.UntouchedLaws.{left_alone}
 use Rattle.je_program.proofs.opening.open.Goals as goal
 
 pub returns-in-Ok-clause-left_alone : goal.returns-in-Ok-clause-left_alone
-returns-in-Ok-clause-left_alone g c = λ told.
+returns-in-Ok-clause-left_alone g c = λ observed.
     let history = g.D.Disk.history in
     if_err_map c.go_on.result (λ s. (old new : History) → LeavesUnreadable s.cause old new) (λ s. LeavesUnreadable s.cause (history c.args.disk) (history s.disk)) (λ s alone. alone (history c.args.disk) (history s.disk)) c.go_on.ensures.left_alone
 
 pub returns-in-Err-clause-left_alone : goal.returns-in-Err-clause-left_alone
-returns-in-Err-clause-left_alone g c = λ told.
-    left_alone c.in-Err.cause (g.D.Disk.history c.args.disk) (g.D.Disk.history c.read_disk.new.disk) (record { same = c.read_disk.ensures.same told; moments = c.read_disk.ensures.moments told })
+returns-in-Err-clause-left_alone g c = λ observed.
+    left_alone c.in-Err.cause (g.D.Disk.history c.args.disk) (g.D.Disk.history c.read_disk.new.disk) (record { same = c.read_disk.ensures.same observed; moments = c.read_disk.ensures.moments observed })
 
 pub returns-in-Ok-clause-entry : goal.returns-in-Ok-clause-entry
-returns-in-Ok-clause-entry g c = λ told.
+returns-in-Ok-clause-entry g c = λ observed.
     let history = g.D.Disk.history in
     let mounted = history c.read_disk.new.disk in
-    let later = c.go_on.ensures.entry told (now (history c.args.disk)).reads (c.in-Ok.ensures.read) (ap (λ s. s.reads) (c.read_disk.ensures.same told)) in
+    let later = c.go_on.ensures.entry observed (now (history c.args.disk)).reads (c.in-Ok.ensures.read) (ap (λ s. s.reads) (c.read_disk.ensures.same observed)) in
     if_ok_map c.go_on.result (λ o. KeepsEntry mounted (history (disk_of o.environment.log))) (λ o. KeepsEntry (history c.args.disk) (history (disk_of o.environment.log)))
-    (λ o is. entry_later (history c.args.disk) mounted (history (disk_of o.environment.log)) (c.read_disk.ensures.moments told) (c.read_disk.ensures.same told) is) later
+    (λ o is. entry_later (history c.args.disk) mounted (history (disk_of o.environment.log)) (c.read_disk.ensures.moments observed) (c.read_disk.ensures.same observed) is) later
 
 pub returns-in-Ok-clause-stopped_entry : goal.returns-in-Ok-clause-stopped_entry
-returns-in-Ok-clause-stopped_entry g c = λ told.
+returns-in-Ok-clause-stopped_entry g c = λ observed.
     let history = g.D.Disk.history in
     let mounted = history c.read_disk.new.disk in
-    let later = c.go_on.ensures.stopped_entry told (now (history c.args.disk)).reads (c.in-Ok.ensures.read) (ap (λ s. s.reads) (c.read_disk.ensures.same told)) in
+    let later = c.go_on.ensures.stopped_entry observed (now (history c.args.disk)).reads (c.in-Ok.ensures.read) (ap (λ s. s.reads) (c.read_disk.ensures.same observed)) in
     if_err_map c.go_on.result (λ s. KeepsEntry mounted (history s.disk)) (λ s. KeepsEntry (history c.args.disk) (history s.disk))
-    (λ s is. entry_later (history c.args.disk) mounted (history s.disk) (c.read_disk.ensures.moments told) (c.read_disk.ensures.same told) is) later
+    (λ s is. entry_later (history c.args.disk) mounted (history s.disk) (c.read_disk.ensures.moments observed) (c.read_disk.ensures.same observed) is) later
 
 pub returns-in-Err-clause-stopped_entry : goal.returns-in-Err-clause-stopped_entry
-returns-in-Err-clause-stopped_entry g c = λ told.
-    entry_still (g.D.Disk.history c.args.disk) (g.D.Disk.history c.read_disk.new.disk) (c.read_disk.ensures.moments told) (c.read_disk.ensures.same told)
+returns-in-Err-clause-stopped_entry g c = λ observed.
+    entry_still (g.D.Disk.history c.args.disk) (g.D.Disk.history c.read_disk.new.disk) (c.read_disk.ensures.moments observed) (c.read_disk.ensures.same observed)
 
 pub returns-in-Ok-clause-stopped : goal.returns-in-Ok-clause-stopped
 returns-in-Ok-clause-stopped g c =
     let faults = g.D.Disk.faults in
     let reads = (now (g.D.Disk.history c.args.disk)).reads in
     let mounted = c.read_disk.new.disk in
-    if_err_both c.go_on.result (λ s. StopsBy g.D.Disk.tells reads (faults mounted) (faults s.disk) s.cause) (λ s. faults mounted ≤ faults s.disk)
-    (λ s. StopsBy g.D.Disk.tells reads (faults c.args.disk) (faults s.disk) s.cause)
-    (λ s stops later. stops_earlier g.D.Disk.tells reads (faults c.args.disk) (faults mounted) (faults s.disk) s.cause c.read_disk.ensures.never_falls later stops)
+    if_err_both c.go_on.result (λ s. StopsBy g.D.Disk.observable reads (faults mounted) (faults s.disk) s.cause) (λ s. faults mounted ≤ faults s.disk)
+    (λ s. StopsBy g.D.Disk.observable reads (faults c.args.disk) (faults s.disk) s.cause)
+    (λ s stops later. stops_earlier g.D.Disk.observable reads (faults c.args.disk) (faults mounted) (faults s.disk) s.cause c.read_disk.ensures.never_falls later stops)
     (c.go_on.ensures.stopped reads) c.go_on.ensures.stopped_faults
 
 pub returns-in-Ok-clause-opened : goal.returns-in-Ok-clause-opened
-returns-in-Ok-clause-opened g c = c.go_on.ensures.opened (now (g.D.Disk.history c.args.disk)).reads c.in-Ok.ensures.read (λ told. ap (λ s. s.reads) (c.read_disk.ensures.same told))
+returns-in-Ok-clause-opened g c = c.go_on.ensures.opened (now (g.D.Disk.history c.args.disk)).reads c.in-Ok.ensures.read (λ observed. ap (λ s. s.reads) (c.read_disk.ensures.same observed))
 
 pub returns-in-Ok-clause-crash : goal.returns-in-Ok-clause-crash
-returns-in-Ok-clause-crash g c = λ told. c.go_on.ensures.crash told (now (g.D.Disk.history c.args.disk)).reads c.in-Ok.ensures.read (ap (λ s. s.reads) (c.read_disk.ensures.same told))
+returns-in-Ok-clause-crash g c = λ observed. c.go_on.ensures.crash observed (now (g.D.Disk.history c.args.disk)).reads c.in-Ok.ensures.read (ap (λ s. s.reads) (c.read_disk.ensures.same observed))
 
 pub returns-in-Ok-clause-bounds : goal.returns-in-Ok-clause-bounds
 returns-in-Ok-clause-bounds g c = c.go_on.ensures.bounds

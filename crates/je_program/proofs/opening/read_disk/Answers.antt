@@ -2,47 +2,47 @@ use Rattle.std.proofs.Common.{◌≡◌, ◌∙◌, true, ap, subst}
 use Rattle.je_disk.specs.Moments.{now}
 use Rattle.je_disk.specs.States.{Files, IsListing}
 use Rattle.log_replay.specs.declared.log_read.LogRead.{LogRead}
-use Rattle.log_replay.specs.declared.log_read.LogRead.TheVariants.{Read, Found}
+use Rattle.log_replay.specs.declared.log_read.LogRead.TheVariants.{Read, Corrupt}
 use Rattle.log_replay.specs.Answer.{IsReadingOf}
-use Rattle.je_program.proofs.OpeningLaws.{finding_told, passes_on, read_small, reading_along}
+use Rattle.je_program.proofs.OpeningLaws.{corruption_observed, passes_on, read_small, reading_along}
 use Rattle.je_program.proofs.opening.read_disk.Goals as goal
 
 pub returns-in-Read-clause-read : goal.returns-in-Read-clause-read
 returns-in-Read-clause-read g c =
-    let tells = g.D.Disk.tells in
+    let observable = g.D.Disk.observable in
     let reads : g.row.D.Denot → Files = λ d. (now (g.D.Disk.history d)).reads in
     let at_entry = reads c.args.disk.now in
     let files = c.in_ok-files.files.items in
-    let mounted : tells ≡ true → reads c.mount.new.self ≡ at_entry = λ t. ap (λ s. s.reads) (c.mount.ensures.same t) in
-    let listed : tells ≡ true → reads c.list.new.self ≡ at_entry = λ t. ap (λ s. s.reads) (c.list.ensures.same t) ∙ mounted t in
-    let reading : IsReadingOf tells at_entry files (Read c.in-Read.read) =
-    reading_along tells (reads c.list.new.self) at_entry files (Read c.in-Read.read) listed
-    (subst (λ (r : LogRead). IsReadingOf tells (reads c.list.new.self) files r) c.in-Read.is
-    (subst (λ l. IsReadingOf tells (reads c.list.new.self) l c.in_ok-read.field-0) c.deref.ensures.value c.in_ok-read.ensures.read)) in
+    let mounted : observable ≡ true → reads c.mount.new.self ≡ at_entry = λ t. ap (λ s. s.reads) (c.mount.ensures.same t) in
+    let listed : observable ≡ true → reads c.list.new.self ≡ at_entry = λ t. ap (λ s. s.reads) (c.list.ensures.same t) ∙ mounted t in
+    let reading : IsReadingOf observable at_entry files (Read c.in-Read.read) =
+    reading_along observable (reads c.list.new.self) at_entry files (Read c.in-Read.read) listed
+    (subst (λ (r : LogRead). IsReadingOf observable (reads c.list.new.self) files r) c.in-Read.is
+    (subst (λ l. IsReadingOf observable (reads c.list.new.self) l c.in_ok-read.field-0) c.deref.ensures.value c.in_ok-read.ensures.read)) in
     record {
       files = files;
       rising = c.in_ok-files.ensures.rising;
       listed = λ t. subst (λ (f : Files). IsListing f files) (mounted t) (c.in_ok-files.ensures.listed t);
       reading = reading;
-      small = read_small tells at_entry files c.in-Read.read reading;
+      small = read_small observable at_entry files c.in-Read.read reading;
     }
 
 pub returns-clause-stops : goal.returns-clause-stops
 returns-clause-stops g c = λ t.
-    let tells = g.D.Disk.tells in
+    let observable = g.D.Disk.observable in
     let reads : g.row.D.Denot → Files = λ d. (now (g.D.Disk.history d)).reads in
     let at_entry = reads c.args.disk.now in
     let files = c.in_ok-files.files.items in
-    let mounted : tells ≡ true → reads c.mount.new.self ≡ at_entry = λ t. ap (λ s. s.reads) (c.mount.ensures.same t) in
-    let listed : tells ≡ true → reads c.list.new.self ≡ at_entry = λ t. ap (λ s. s.reads) (c.list.ensures.same t) ∙ mounted t in
-    let reading : IsReadingOf tells at_entry files (Found c.in-Found.finding) =
-    reading_along tells (reads c.list.new.self) at_entry files (Found c.in-Found.finding) listed
-    (subst (λ (r : LogRead). IsReadingOf tells (reads c.list.new.self) files r) c.in-Found.is
-    (subst (λ l. IsReadingOf tells (reads c.list.new.self) l c.in_ok-read.field-0) c.deref.ensures.value c.in_ok-read.ensures.read)) in
+    let mounted : observable ≡ true → reads c.mount.new.self ≡ at_entry = λ t. ap (λ s. s.reads) (c.mount.ensures.same t) in
+    let listed : observable ≡ true → reads c.list.new.self ≡ at_entry = λ t. ap (λ s. s.reads) (c.list.ensures.same t) ∙ mounted t in
+    let reading : IsReadingOf observable at_entry files (FileScan c.in-FileScan.corruption) =
+    reading_along observable (reads c.list.new.self) at_entry files (FileScan c.in-FileScan.corruption) listed
+    (subst (λ (r : LogRead). IsReadingOf observable (reads c.list.new.self) files r) c.in-FileScan.is
+    (subst (λ l. IsReadingOf observable (reads c.list.new.self) l c.in_ok-read.field-0) c.deref.ensures.value c.in_ok-read.ensures.read)) in
     record {
       held = reading.held;
       are = reading.listed t (subst (λ (f : Files). IsListing f files) (mounted t) (c.in_ok-files.ensures.listed t));
-      reads = finding_told tells reading.held c.in-Found.finding reading.answer t;
+      reads = corruption_observed observable reading.held c.in-FileScan.corruption reading.answer t;
     }
 
 pub returns-in_err-mount-clause-same : goal.returns-in_err-mount-clause-same

@@ -6,87 +6,87 @@ use Rattle.je_program.specs.Untouched.{LeavesUnreadable}
 use Rattle.je_program.proofs.program.run_je.Goals as goal
 
 pub returns-clause-unreadable_untouched : goal.returns-clause-unreadable_untouched
-returns-clause-unreadable_untouched g c = λ finding is told.
-    let a = c.work-attempt in
-    subst (λ why. LeavesUnreadable why (g.D.Disk.history c.args.disk) (g.D.Disk.history a.result.disk)) is (a.ensures.left_alone told)
+returns-clause-unreadable_untouched g c = λ corruption is observed.
+    let a = c.run_unprinted-run_result in
+    subst (λ why. LeavesUnreadable why (g.D.Disk.history c.args.disk) (g.D.Disk.history a.result.disk)) is (a.ensures.left_alone observed)
 
 pub returns-clause-acknowledged : goal.returns-clause-acknowledged
 returns-clause-acknowledged g c = λ done.
-    let a = c.work-attempt in
+    let a = c.run_unprinted-run_result in
     let opened = done_opened a.result.cause a.result.opened done a.ensures.runs in
     let run = a.ensures.run opened in
     done_acknowledged a.result.journal.items a.result.cause done (a.ensures.ends opened (done_is_no_memory a.result.cause done)) run.3.synced_at_once
 
 pub returns-clause-complete : goal.returns-clause-complete
-returns-clause-complete g c = λ bytes plan meaning taken left short plans told means.
-    let a = c.work-attempt in
+returns-clause-complete g c = λ bytes plan meaning taken left short plans observed means.
+    let a = c.run_unprinted-run_result in
     let faults = g.S.Source.faults in
     completes (now (g.D.Disk.history c.args.disk)).reads (g.S.Source.left c.args.input.now) (faults c.args.input.now) (faults a.new.input) (g.D.Disk.faults c.args.disk) (g.D.Disk.faults a.result.disk)
     a.result.cause a.result.opened a.result.journal.items bytes plan meaning left short plans means
     (λ usage. (let wrong = a.ensures.usage usage in cc)) a.ensures.stopped a.ensures.runs
-    (λ finding is. a.ensures.unreadable finding is told) a.ensures.ends a.ensures.caused.failed
+    (λ corruption is. a.ensures.unreadable corruption is observed) a.ensures.ends a.ensures.caused.failed
 
 pub returns-clause-unreadable_found : goal.returns-clause-unreadable_found
-returns-clause-unreadable_found g c = λ bytes plan finding taken left short plans told has.
-    let a = c.work-attempt in
+returns-clause-unreadable_found g c = λ bytes plan corruption taken left short plans observed has.
+    let a = c.run_unprinted-run_result in
     let faults = g.S.Source.faults in
     finds (now (g.D.Disk.history c.args.disk)).reads (g.S.Source.left c.args.input.now) (faults c.args.input.now) (faults a.new.input) (g.D.Disk.faults c.args.disk) (g.D.Disk.faults a.result.disk)
-    a.result.cause a.result.opened bytes plan finding left short plans has
+    a.result.cause a.result.opened bytes plan corruption left short plans has
     (λ usage. (let wrong = a.ensures.usage usage in cc)) a.ensures.stopped a.ensures.runs
-    (λ f is. a.ensures.unreadable f is told)
-    (λ opened. (let starts = (a.ensures.run opened).3.starts in (_, record { held = starts.held; are = starts.told told; reads = starts.means })))
+    (λ f is. a.ensures.unreadable f is observed)
+    (λ opened. (let starts = (a.ensures.run opened).3.starts in (_, record { held = starts.held; are = starts.observed observed; reads = starts.means })))
     a.ensures.caused.failed
 
 pub returns-clause-usage : goal.returns-clause-usage
-returns-clause-usage g c = c.work-attempt.ensures.usage
+returns-clause-usage g c = c.run_unprinted-run_result.ensures.usage
 
 pub returns-clause-usage_found : goal.returns-clause-usage_found
-returns-clause-usage_found g c = c.work-attempt.ensures.wrong
+returns-clause-usage_found g c = c.run_unprinted-run_result.ensures.wrong
 
 pub returns-clause-untouched : goal.returns-clause-untouched
-returns-clause-untouched g c = c.work-attempt.ensures.untouched
+returns-clause-untouched g c = c.run_unprinted-run_result.ensures.untouched
 
 pub returns-clause-read_whole : goal.returns-clause-read_whole
-returns-clause-read_whole g c = c.work-attempt.ensures.script
+returns-clause-read_whole g c = c.run_unprinted-run_result.ensures.script
 
 pub returns-clause-runs : goal.returns-clause-runs
-returns-clause-runs g c = c.work-attempt.ensures.runs
+returns-clause-runs g c = c.run_unprinted-run_result.ensures.runs
 
 pub returns-clause-given : goal.returns-clause-given
-returns-clause-given g c = c.work-attempt.ensures.given
+returns-clause-given g c = c.run_unprinted-run_result.ensures.given
 
 pub returns-clause-run : goal.returns-clause-run
-returns-clause-run g c = c.work-attempt.ensures.run
+returns-clause-run g c = c.run_unprinted-run_result.ensures.run
 
 pub returns-clause-unopened : goal.returns-clause-unopened
-returns-clause-unopened g c = c.work-attempt.ensures.unopened
+returns-clause-unopened g c = c.run_unprinted-run_result.ensures.unopened
 
 pub returns-clause-ends : goal.returns-clause-ends
-returns-clause-ends g c = c.work-attempt.ensures.ends
+returns-clause-ends g c = c.run_unprinted-run_result.ensures.ends
 
 pub returns-clause-files : goal.returns-clause-files
-returns-clause-files g c = c.work-attempt.ensures.files
+returns-clause-files g c = c.run_unprinted-run_result.ensures.files
 
 pub returns-clause-crash : goal.returns-clause-crash
-returns-clause-crash g c = c.work-attempt.ensures.crash
+returns-clause-crash g c = c.run_unprinted-run_result.ensures.crash
 
 pub returns-clause-crash_unopened : goal.returns-clause-crash_unopened
-returns-clause-crash_unopened g c = c.work-attempt.ensures.crash_unopened
+returns-clause-crash_unopened g c = c.run_unprinted-run_result.ensures.crash_unopened
 
 pub returns-clause-unreadable : goal.returns-clause-unreadable
-returns-clause-unreadable g c = c.work-attempt.ensures.unreadable
+returns-clause-unreadable g c = c.run_unprinted-run_result.ensures.unreadable
 
 pub returns-clause-disk_faults : goal.returns-clause-disk_faults
-returns-clause-disk_faults g c = c.work-attempt.ensures.caused.never_falls
+returns-clause-disk_faults g c = c.run_unprinted-run_result.ensures.caused.never_falls
 
 pub returns-clause-disk_failed : goal.returns-clause-disk_failed
-returns-clause-disk_failed g c = c.work-attempt.ensures.caused.failed
+returns-clause-disk_failed g c = c.run_unprinted-run_result.ensures.caused.failed
 
 pub returns-clause-faults : goal.returns-clause-faults
-returns-clause-faults g c = c.work-attempt.ensures.caused.fault
+returns-clause-faults g c = c.run_unprinted-run_result.ensures.caused.fault
 
 pub returns-clause-input_faults : goal.returns-clause-input_faults
-returns-clause-input_faults g c = c.work-attempt.ensures.source
+returns-clause-input_faults g c = c.run_unprinted-run_result.ensures.source
 
 pub returns-clause-output_faults : goal.returns-clause-output_faults
 returns-clause-output_faults g c = c.write_output-status.ensures.never_falls

@@ -5,17 +5,17 @@ use Rattle.je_program.proofs.reading.read_script.Goals as goal
 
 pub returns-then-len-gt-MOST_INPUT-clause-stopped : goal.returns-then-len-gt-MOST_INPUT-clause-stopped
 returns-then-len-gt-MOST_INPUT-clause-stopped g c =
-    long_input (g.S.Source.left c.args.input.now) (g.S.Source.left c.read_all.new.input) c.in_ok-bytes.bytes.items c.in_ok-bytes.ensures.told (omega arith)
+    long_input (g.S.Source.left c.args.input.now) (g.S.Source.left c.read_all.new.input) c.in_ok-bytes.bytes.items c.in_ok-bytes.ensures.observed (omega arith)
 
 pub returns-in-Ok-clause-read : goal.returns-in-Ok-clause-read
 returns-in-Ok-clause-read g c =
     let short : length c.in_ok-bytes.bytes.items ≤ MOST_INPUT = omega arith in
-    reads_plan (g.S.Source.left c.args.input.now) (g.S.Source.left c.read_all.new.input) c.in_ok-bytes.bytes.items c.in-Ok.plan c.in_ok-bytes.ensures.told short
+    reads_plan (g.S.Source.left c.args.input.now) (g.S.Source.left c.read_all.new.input) c.in_ok-bytes.bytes.items c.in-Ok.plan c.in_ok-bytes.ensures.observed short
     (rw c.deref.ensures.value at c.in-Ok.ensures.answer)
 
 pub returns-in-Err-BadScript-clause-stopped : goal.returns-in-Err-BadScript-clause-stopped
 returns-in-Err-BadScript-clause-stopped g c =
     let short : length c.in_ok-bytes.bytes.items ≤ MOST_INPUT = omega arith in
     let says = rw c.in-Err-BadScript.field-0-is at c.in-Err-BadScript.ensures.answer in
-    bad_line (g.S.Source.left c.args.input.now) (g.S.Source.left c.read_all.new.input) c.in_ok-bytes.bytes.items c.in-Err-BadScript.line c.in_ok-bytes.ensures.told short
+    bad_line (g.S.Source.left c.args.input.now) (g.S.Source.left c.read_all.new.input) c.in_ok-bytes.bytes.items c.in-Err-BadScript.line c.in_ok-bytes.ensures.observed short
     (rw c.deref.ensures.value at says)

@@ -15,8 +15,8 @@ loop-given-init g c =
     let env = c.args.environment in
     let faults = g.D.Disk.faults (disk_of env.log) in
     record {
-      runs = λ most st here. subst (λ (l : List Event). IsRunning most g.D.Disk.tells (now (g.D.Disk.history (disk_of env.log))) env.log env.kept l st) empty (runs_none _ _ _ _ _ st here);
-      crash = λ told most st log start here guarded. subst (λ (l : List Event). IsGuarded most st log start (g.D.Disk.history (disk_of env.log)) env.log l None) empty guarded;
+      runs = λ most st here. subst (λ (l : List Event). IsRunning most g.D.Disk.observable (now (g.D.Disk.history (disk_of env.log))) env.log env.kept l st) empty (runs_none _ _ _ _ _ st here);
+      crash = λ observed most st log start here guarded. subst (λ (l : List Event). IsGuarded most st log start (g.D.Disk.history (disk_of env.log)) env.log l None) empty guarded;
       bounds = c.requires.bounds;
       sessions = c.none_stopped.ensures.len;
       lines = search (rules, c.requires.lines);
@@ -27,10 +27,10 @@ loop-given-init g c =
 pub loop-given-preserved : goal.loop-given-preserved
 loop-given-preserved g c =
     let inv = c.loop-given.invariant in
-    let step = c.give_next.ensures in
+    let step = c.execute_next.ensures in
     record {
       runs = λ most st here. step.runs most st (inv.runs most st here);
-      crash = λ told most st log start here guarded. step.crash told most st log start (inv.runs most st here) (inv.crash told most st log start here guarded);
+      crash = λ observed most st log start here guarded. step.crash observed most st log start (inv.runs most st here) (inv.crash observed most st log start here guarded);
       bounds = step.bounds;
       sessions = step.sessions;
       lines = (first_line c.in-Some.given (into_iter_items c.next.new.self) (into_iter_items c.loop-given.given-iterator) c.in-Some.ensures.steps.0 inv.lines).1;
@@ -38,11 +38,11 @@ loop-given-preserved g c =
       given = step.given c.loop-given.yielded inv.given;
     }
 
-pub give_next-requires-clause-running : goal.give_next-requires-clause-running
-give_next-requires-clause-running g c κs within =
+pub execute_next-requires-clause-running : goal.execute_next-requires-clause-running
+execute_next-requires-clause-running g c κs within =
     let start = c.requires.start in
     (start.0, start.1, c.loop-given.invariant.runs start.0 start.1 start.2)
 
-pub give_next-requires-clause-line : goal.give_next-requires-clause-line
-give_next-requires-clause-line g c κs within =
+pub execute_next-requires-clause-line : goal.execute_next-requires-clause-line
+execute_next-requires-clause-line g c κs within =
     (first_line c.in-Some.given (into_iter_items c.next.new.self) (into_iter_items c.loop-given.given-iterator) c.in-Some.ensures.steps.0 c.loop-given.invariant.lines).0

@@ -17,9 +17,9 @@ abbrev pub invariant-loop-given : goal.invariant-loop-given
 invariant-loop-given g l =
     let history = g.D.Disk.history in
     record {
-      runs : (most : ℕ) (st : Standing) → IsAt most g.D.Disk.tells (now (history (disk_of l.initial.running.environment.log))) l.initial.running.environment.log l.initial.running.environment.kept st
-          → IsRunning most g.D.Disk.tells (now (history (disk_of l.running.environment.log))) l.running.environment.log l.running.environment.kept l.running.journal.items st;
-      crash : g.D.Disk.tells ≡ true → (most : ℕ) (st : Standing) (log : Log) (start : History) → IsAt most g.D.Disk.tells (now (history (disk_of l.initial.running.environment.log))) l.initial.running.environment.log l.initial.running.environment.kept st
+      runs : (most : ℕ) (st : Standing) → IsAt most g.D.Disk.observable (now (history (disk_of l.initial.running.environment.log))) l.initial.running.environment.log l.initial.running.environment.kept st
+          → IsRunning most g.D.Disk.observable (now (history (disk_of l.running.environment.log))) l.running.environment.log l.running.environment.kept l.running.journal.items st;
+      crash : g.D.Disk.observable ≡ true → (most : ℕ) (st : Standing) (log : Log) (start : History) → IsAt most g.D.Disk.observable (now (history (disk_of l.initial.running.environment.log))) l.initial.running.environment.log l.initial.running.environment.kept st
           → IsGuarded most st log start (history (disk_of l.initial.running.environment.log)) l.initial.running.environment.log [] None
           → IsGuarded most st log start (history (disk_of l.running.environment.log)) l.running.environment.log l.running.journal.items None;
       bounds : CanGoOn l.running.environment.kept;

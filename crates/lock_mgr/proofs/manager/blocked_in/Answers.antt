@@ -3,7 +3,7 @@ use Rattle.je_order.specs.declared.txn_id.TxnId.{TxnId}
 use Rattle.waits_for.specs.Cycles.{is_in}
 use Rattle.lock_table.specs.Table.{locks_at}
 use Rattle.lock_mgr.specs.Deadlock.{waits, without_waits}
-use Rattle.lock_mgr.proofs.Free.{free_taken, free_victims, victims_stand}
+use Rattle.lock_mgr.proofs.NoDeadlockLaws.{free_taken, free_victims, victims_stand}
 use Rattle.lock_mgr.proofs.manager.blocked_in.Goals as goal
 
 pub returns-then-not-wait-clause-waits : goal.returns-then-not-wait-clause-waits

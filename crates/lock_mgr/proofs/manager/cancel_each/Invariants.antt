@@ -4,7 +4,7 @@ use Rattle.waits_for.specs.Cycles.{is_in}
 use Rattle.lock_table.specs.declared.record_id.RecordId.{RecordId}
 use Rattle.lock_table.specs.Table.{locks_at, pending_at, is_waiting, IsLockTable}
 use Rattle.lock_mgr.specs.Deadlock.{without_waits}
-use Rattle.lock_mgr.proofs.Free.{IsGoing}
+use Rattle.lock_mgr.proofs.NoDeadlockLaws.{IsGoing}
 use Rattle.lock_mgr.proofs.manager.cancel_each.Given as goal
 
 abbrev pub invariant-loop-victim : goal.invariant-loop-victim

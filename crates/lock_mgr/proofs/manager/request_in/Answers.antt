@@ -2,13 +2,13 @@ use Rattle.std.proofs.Common.{ap, sym, ◌∙◌, ◌≡◌, true, false}
 use Rattle.std.specs.Option.{is_some}
 use Rattle.lock_table.specs.Locks.{is_blocked, lock_of}
 use Rattle.lock_table.specs.Table.{locks_at}
-use Rattle.lock_table.proofs.Steps.{blocked_some}
+use Rattle.lock_table.proofs.CallSteps.{blocked_some}
 use Rattle.std.proofs.lemmas.Option.{IfSome_then}
 use Rattle.std.proofs.lemmas.Result.{on_err_weaker}
 use Rattle.lock_mgr.specs.Deadlock.{waits, waits_with, victims_of}
-use Rattle.lock_mgr.proofs.Greatest.{if_ok}
-use Rattle.lock_mgr.proofs.Rounds.{same_victims}
-use Rattle.lock_mgr.proofs.Free.{free_same, free_granted, IsPut, no_wait, put_waits, put_through, put_undone, put_stands}
+use Rattle.je_order.proofs.Results.{if_ok}
+use Rattle.lock_mgr.proofs.CycleLaws.{same_victims}
+use Rattle.lock_mgr.proofs.NoDeadlockLaws.{free_same, free_granted, IsPut, no_wait, put_waits, put_through, put_undone, put_stands}
 use Rattle.lock_mgr.proofs.manager.request_in.Goals as goal
 
 pub returns-in_err-ask-clause-free : goal.returns-in_err-ask-clause-free

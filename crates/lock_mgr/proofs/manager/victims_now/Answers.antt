@@ -1,7 +1,7 @@
 use Rattle.waits_for.specs.Cycles.{is_edge}
 use Rattle.lock_mgr.specs.Deadlock.{waits}
-use Rattle.lock_mgr.proofs.Greatest.{if_ok}
-use Rattle.lock_mgr.proofs.Rounds.{all_broken}
+use Rattle.je_order.proofs.Results.{if_ok}
+use Rattle.lock_mgr.proofs.CycleLaws.{all_broken}
 use Rattle.lock_mgr.proofs.manager.victims_now.Goals as goal
 
 pub returns : goal.returns

@@ -1,7 +1,7 @@
 use Rattle.std.proofs.Common.{sym, ◌∙◌, arith, length-append}
 use Rattle.lock_mgr.specs.Deadlock.{waits}
 use Rattle.lock_table.specs.Table.{waits_for}
-use Rattle.lock_mgr.proofs.Filling.{known, followed, weight_follows}
+use Rattle.lock_mgr.proofs.EdgeSearch.{known, followed, weight_follows}
 use Rattle.lock_mgr.proofs.victims.follow.Goals as goal
 
 pub returns-then-contains-clause-filling : goal.returns-then-contains-clause-filling

@@ -3,7 +3,7 @@ use Rattle.std.proofs.lemmas.Grind.{common_steps}
 use Rattle.je_order.specs.declared.txn_id.TxnId.{TxnId}
 use Rattle.lock_mgr.specs.Deadlock.{is_greatest}
 use Rattle.lock_mgr.specs.Reach.{greatest_from}
-use Rattle.lock_mgr.proofs.Greatest.{greatest_list}
+use Rattle.lock_mgr.proofs.GreatestTxn.{greatest_list}
 use Rattle.lock_mgr.proofs.victims.greatest.Goals as goal
 
 pub returns : goal.returns

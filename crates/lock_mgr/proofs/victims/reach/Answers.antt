@@ -1,8 +1,8 @@
 use Rattle.std.proofs.Common.{◌≡◌, []}
-use Rattle.waits_for.proofs.Ends.{nothing_popped}
+use Rattle.waits_for.proofs.SearchEnds.{nothing_popped}
 use Rattle.lock_mgr.specs.Deadlock.{waits}
 use Rattle.lock_mgr.specs.Reach.{IsFilling}
-use Rattle.lock_mgr.proofs.Filling.{filled}
+use Rattle.lock_mgr.proofs.EdgeSearch.{filled}
 use Rattle.lock_mgr.proofs.victims.reach.Goals as goal
 
 pub returns : goal.returns

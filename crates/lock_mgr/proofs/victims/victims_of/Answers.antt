@@ -2,9 +2,9 @@ use Rattle.std.proofs.Common.{◌≡◌, ◌∷◌, [], true, subst, append_asso
 use Rattle.waits_for.specs.Cycles.{is_edge, is_cycle_by, edges_without}
 use Rattle.lock_mgr.specs.Deadlock.{is_greatest, others}
 use Rattle.lock_mgr.specs.Reach.{BreaksAll}
-use Rattle.lock_mgr.proofs.Rounds.{victim_waits, same_breaks}
-use Rattle.lock_mgr.proofs.Filling.{fewer, edge_others}
-use Rattle.lock_mgr.proofs.Greatest.{append_none}
+use Rattle.lock_mgr.proofs.CycleLaws.{victim_waits, same_breaks}
+use Rattle.lock_mgr.proofs.EdgeSearch.{fewer, edge_others}
+use Rattle.lock_mgr.proofs.GreatestTxn.{append_none}
 use Rattle.lock_mgr.proofs.victims.victims_of.Goals as goal
 
 pub loop-victims-smaller : goal.loop-victims-smaller

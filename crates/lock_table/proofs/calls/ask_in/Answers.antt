@@ -2,7 +2,7 @@ use Rattle.std.proofs.Common.{ap, sym, ◌∙◌}
 use Rattle.std.specs.Option.{is_some}
 use Rattle.lock_table.specs.Locks.{blocker}
 use Rattle.lock_table.specs.Records.{queue_at}
-use Rattle.lock_table.proofs.Steps.{blocked_some}
+use Rattle.lock_table.proofs.CallSteps.{blocked_some}
 use Rattle.lock_table.proofs.calls.ask_in.Goals as goal
 
 pub grant_now-requires-clause-clear : goal.grant_now-requires-clause-clear

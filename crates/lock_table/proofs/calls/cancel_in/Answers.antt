@@ -1,7 +1,7 @@
 use Rattle.std.proofs.Common.{ap, sym, ◌∙◌}
 use Rattle.lock_table.specs.Locks.{has_lock}
 use Rattle.lock_table.specs.Records.{queue_at}
-use Rattle.lock_table.proofs.Steps.{not_pending, not_waiting, cancelled}
+use Rattle.lock_table.proofs.CallSteps.{not_pending, not_waiting, cancelled}
 use Rattle.lock_table.proofs.calls.cancel_in.Goals as goal
 
 pub returns-in_default-clause-queues : goal.returns-in_default-clause-queues

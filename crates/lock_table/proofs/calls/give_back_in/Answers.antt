@@ -1,7 +1,7 @@
 use Rattle.std.proofs.Common.{ap, sym, ◌∙◌}
 use Rattle.lock_table.specs.Locks.{has_lock}
 use Rattle.lock_table.specs.Records.{queue_at}
-use Rattle.lock_table.proofs.Steps.{given_out}
+use Rattle.lock_table.proofs.CallSteps.{given_out}
 use Rattle.lock_table.proofs.calls.give_back_in.Goals as goal
 
 pub returns-clause-lists : goal.returns-clause-lists

@@ -2,9 +2,9 @@ use Rattle.std.proofs.Common.{None, refl, sym, ◌∙◌}
 use Rattle.std.proofs.lemmas.Bool.{both_ways}
 use Rattle.lock_table.specs.Records.{queue_at}
 use Rattle.lock_table.specs.Table.{at_txn, is_listed}
-use Rattle.lock_table.proofs.Listing.{changed_there}
-use Rattle.lock_table.proofs.Sound.{sound_ask, sound_same}
-use Rattle.lock_table.proofs.Steps.{listed_from}
+use Rattle.lock_table.proofs.RecordLists.{changed_there}
+use Rattle.lock_table.proofs.WholeTable.{sound_ask, sound_same}
+use Rattle.lock_table.proofs.CallSteps.{listed_from}
 use Rattle.lock_table.proofs.calls.grant_now.Goals as goal
 
 pub returns-clause-table : goal.returns-clause-table

@@ -1,4 +1,4 @@
-use Rattle.lock_table.proofs.Steps.{release_begins, release_step}
+use Rattle.lock_table.proofs.CallSteps.{release_begins, release_step}
 use Rattle.lock_table.proofs.calls.release_each.Goals as goal
 
 pub loop-at-init : goal.loop-at-init

@@ -1,5 +1,5 @@
 use Rattle.std.proofs.Common.{length}
-use Rattle.lock_table.proofs.Steps.{IsUnderWay}
+use Rattle.lock_table.proofs.CallSteps.{IsUnderWay}
 use Rattle.lock_table.proofs.calls.release_each.Given as goal
 
 abbrev pub invariant-loop-at : goal.invariant-loop-at

@@ -2,7 +2,7 @@ use Rattle.std.proofs.Common.{ap, sym, false}
 use Rattle.std.specs.Option.{option_map_or}
 use Rattle.std.specs.BTreeSet.{contains}
 use Rattle.lock_table.specs.Records.{record_cmp, queue_at}
-use Rattle.lock_table.proofs.Keeping.{release_nothing}
+use Rattle.lock_table.proofs.RecordCalls.{release_nothing}
 use Rattle.lock_table.proofs.calls.release_in.Goals as goal
 
 pub returns-in_default-clause-queues : goal.returns-in_default-clause-queues

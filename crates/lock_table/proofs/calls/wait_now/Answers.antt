@@ -1,8 +1,8 @@
 use Rattle.std.proofs.Common.{refl, sym, ◌∙◌, Some}
 use Rattle.lock_table.specs.Records.{queue_at}
 use Rattle.lock_table.specs.Table.{at_txn, is_listed}
-use Rattle.lock_table.proofs.Sound.{sound_told, sound_same}
-use Rattle.lock_table.proofs.Steps.{listed_from, undone}
+use Rattle.lock_table.proofs.WholeTable.{sound_told, sound_same}
+use Rattle.lock_table.proofs.CallSteps.{listed_from, undone}
 use Rattle.lock_table.proofs.calls.wait_now.Goals as goal
 
 pub returns-in_err-list_at-clause-table : goal.returns-in_err-list_at-clause-table

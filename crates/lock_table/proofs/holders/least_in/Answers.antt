@@ -1,7 +1,7 @@
 use Rattle.std.proofs.Common.{ap, sym, ◌∙◌, map}
 use Rattle.lock_table.specs.Locks.{lesser, least}
-use Rattle.lock_table.proofs.Least.{lesser_none}
-use Rattle.lock_table.proofs.Ranges.{in_db, least_owner, least_more}
+use Rattle.lock_table.proofs.LeastTxn.{lesser_none}
+use Rattle.lock_table.proofs.DatabaseRanges.{in_db, least_owner, least_more}
 use Rattle.lock_table.proofs.holders.least_in.Goals as goal
 
 pub loop-queue-init : goal.loop-queue-init

@@ -2,7 +2,7 @@ use Rattle.std.proofs.Common.{◌≡◌}
 use Rattle.std.specs.Prelude.{◌==◌}
 use Rattle.std.specs.List.{filter}
 use Rattle.lock_table.specs.Locks.{lesser}
-use Rattle.lock_table.proofs.Ranges.{least_owner}
+use Rattle.lock_table.proofs.DatabaseRanges.{least_owner}
 use Rattle.lock_table.proofs.holders.least_in.Given as goal
 
 abbrev pub invariant-loop-queue : goal.invariant-loop-queue

@@ -1,6 +1,6 @@
 use Rattle.std.proofs.Common.{ap, sym}
 use Rattle.std.specs.Option.{is_some}
-use Rattle.lock_table.proofs.Listing.{list_written, list_same, list_added, on_err}
+use Rattle.lock_table.proofs.RecordLists.{list_written, list_same, list_added, on_err}
 use Rattle.lock_table.proofs.listed.list_at.Goals as goal
 
 pub returns-in_err-insert-clause-err : goal.returns-in_err-insert-clause-err

@@ -1,4 +1,4 @@
-use Rattle.lock_table.proofs.Listing.{first_key}
+use Rattle.lock_table.proofs.RecordLists.{first_key}
 use Rattle.lock_table.proofs.listed.list_of.Goals as goal
 
 pub returns : goal.returns

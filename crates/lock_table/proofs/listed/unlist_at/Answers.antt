@@ -1,6 +1,6 @@
 use Rattle.std.proofs.Common.{ap, sym}
 use Rattle.std.specs.Option.{is_some}
-use Rattle.lock_table.proofs.Listing.{list_written}
+use Rattle.lock_table.proofs.RecordLists.{list_written}
 use Rattle.lock_table.proofs.listed.unlist_at.Goals as goal
 
 pub returns-then-not-is_empty : goal.returns-then-not-is_empty

@@ -1,6 +1,6 @@
 use Rattle.std.proofs.Common.{◌≡◌, ◌≤◌, ◌+◌, ◌-◌, take, drop, vec_len, vec_capacity}
 use Rattle.lock_table.specs.Locks.{granted}
-use Rattle.lock_table.proofs.Grants.{behind}
+use Rattle.lock_table.proofs.WaitsAfterGrant.{behind}
 use Rattle.lock_table.proofs.lists.grant_in.Given as goal
 
 abbrev pub invariant-loop-at : goal.invariant-loop-at

@@ -1,4 +1,4 @@
-use Rattle.lock_table.proofs.Least.{lesser_first, lesser_second}
+use Rattle.lock_table.proofs.LeastTxn.{lesser_first, lesser_second}
 use Rattle.lock_table.proofs.lists.lesser_of.Goals as goal
 
 pub returns-in-Some : goal.returns-in-Some

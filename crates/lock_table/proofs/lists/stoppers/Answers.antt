@@ -2,7 +2,7 @@ use Rattle.std.proofs.Common.{◌∙◌, sym, ap, map, refl, List}
 use Rattle.std.specs.List.{filter}
 use Rattle.lock_table.specs.declared.lock.Lock.{Lock}
 use Rattle.lock_table.specs.Locks.{is_blocking}
-use Rattle.lock_table.proofs.Walks.{walked, one_passes, one_fails}
+use Rattle.lock_table.proofs.ListWalks.{walked, one_passes, one_fails}
 use Rattle.lock_table.proofs.lists.stoppers.Goals.{then-is_stopping+in_ok-push, else-is_stopping}
 use Rattle.lock_table.proofs.lists.stoppers.Goals as goal
 

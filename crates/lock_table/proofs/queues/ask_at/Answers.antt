@@ -2,7 +2,7 @@ use Rattle.std.proofs.Common.{ap, sym, ◌∙◌}
 use Rattle.std.specs.Option.{is_some}
 use Rattle.std.proofs.lemmas.Result.{on_ok_weaker, on_err_weaker}
 use Rattle.lock_table.specs.Locks.{after_ask}
-use Rattle.lock_table.proofs.Maps.{queue_written, queue_absent, queue_added, same_written, is_nothing}
+use Rattle.lock_table.proofs.QueueMaps.{queue_written, queue_absent, queue_added, same_written, is_nothing}
 use Rattle.lock_table.proofs.queues.ask_at.Goals as goal
 
 pub returns-in-Some-clause-ok : goal.returns-in-Some-clause-ok

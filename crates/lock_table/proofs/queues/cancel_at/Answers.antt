@@ -1,7 +1,7 @@
 use Rattle.std.proofs.Common.{refl, ap, sym}
 use Rattle.std.specs.Option.{is_some}
 use Rattle.lock_table.specs.Locks.{after_cancel}
-use Rattle.lock_table.proofs.Maps.{queue_written, queue_absent, queue_removed, is_nothing}
+use Rattle.lock_table.proofs.QueueMaps.{queue_written, queue_absent, queue_removed, is_nothing}
 use Rattle.lock_table.proofs.queues.cancel_at.Goals as goal
 
 pub returns-in_default : goal.returns-in_default

@@ -4,7 +4,7 @@ use Rattle.lock_table.specs.declared.lock.Lock.{Lock}
 use Rattle.lock_table.specs.declared.record_id.RecordId.{RecordId}
 use Rattle.lock_table.specs.Locks.{waited_for}
 use Rattle.lock_table.specs.Records.{queue_at}
-use Rattle.lock_table.proofs.Walks.{gives_more, gives_all}
+use Rattle.lock_table.proofs.ListWalks.{gives_more, gives_all}
 use Rattle.lock_table.proofs.table.pairs_in.Goals as goal
 
 pub loop-txn-preserved : goal.loop-txn-preserved

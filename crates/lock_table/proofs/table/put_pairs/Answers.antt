@@ -1,6 +1,6 @@
 use Rattle.std.proofs.Common.{refl, map}
 use Rattle.je_order.specs.declared.txn_id.TxnId.{TxnId}
-use Rattle.lock_table.proofs.Walks.{walked, one_more}
+use Rattle.lock_table.proofs.ListWalks.{walked, one_more}
 use Rattle.lock_table.proofs.table.put_pairs.Goals as goal
 
 pub loop-owner-preserved : goal.loop-owner-preserved

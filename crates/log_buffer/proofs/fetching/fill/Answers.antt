@@ -27,9 +27,9 @@ filled n old there new is all =
 pub returns-clause-whole : goal.returns-clause-whole
 returns-clause-whole g c =
     let there = drop c.args.at (content (now (g.D.Disk.history c.args.disk.now)).reads c.args.f.0) in
-    λ told. all_read c.in_ok-count.count (length c.args.into.now) (length there) (rw c.from.ensures at (c.in_ok-count.ensures.count told))
+    λ observed. all_read c.in_ok-count.count (length c.args.into.now) (length there) (rw c.from.ensures at (c.in_ok-count.ensures.count observed))
 
 pub returns-clause-bytes : goal.returns-clause-bytes
 returns-clause-bytes g c =
     let there = drop c.args.at (content (now (g.D.Disk.history c.args.disk.now)).reads c.args.f.0) in
-    λ told whole. filled c.in_ok-count.count c.args.into.now there c.read.new.into (rw c.from.ensures at (c.in_ok-count.ensures.bytes told)) whole
+    λ observed whole. filled c.in_ok-count.count c.args.into.now there c.read.new.into (rw c.from.ensures at (c.in_ok-count.ensures.bytes observed)) whole

@@ -1,5 +1,5 @@
 use Rattle.log_buffer.proofs.GrowthLaws.{appended_is_placed, appended_are_placed}
-use Rattle.log_buffer.proofs.Lasting.{appended_is_last}
+use Rattle.log_buffer.proofs.LastEntry.{appended_is_last}
 use Rattle.log_buffer.proofs.laws.entries_go_last.Goals as goal
 
 pub returns-clause-last : goal.returns-clause-last

@@ -1,4 +1,4 @@
-use Rattle.log_buffer.proofs.Places.{are_bounded, all_after, appends_join}
+use Rattle.log_buffer.proofs.LogPositions.{are_bounded, all_after, appends_join}
 use Rattle.log_buffer.proofs.laws.files_are_bounded.Goals as goal
 
 pub returns-clause-bounded : goal.returns-clause-bounded

@@ -1,6 +1,6 @@
-use Rattle.log_buffer.proofs.Left.{kept_is_left}
-use Rattle.log_buffer.proofs.Chances.{appended_have_no_chance, cuts_have_no_chance, reads_have_no_chance}
-use Rattle.log_buffer.proofs.KeptOpening.{cuts_keep}
+use Rattle.log_buffer.proofs.CrashImages.{kept_is_left}
+use Rattle.log_buffer.proofs.ChanceMatches.{appended_have_no_chance, cuts_have_no_chance, reads_have_no_chance}
+use Rattle.log_buffer.proofs.CrashOpen.{cuts_keep}
 use Rattle.log_buffer.proofs.laws.kept_is_left.Goals as goal
 
 pub returns-clause-left : goal.returns-clause-left

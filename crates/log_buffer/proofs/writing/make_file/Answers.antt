@@ -1,20 +1,20 @@
 use Rattle.std.proofs.Common.{ap, ◌∙◌}
 use Rattle.je_disk.specs.States.{created}
-use Rattle.log_buffer.proofs.Rooms.{on_ok}
-use Rattle.log_buffer.proofs.Passing.{made_synced, made_next}
-use Rattle.log_buffer.proofs.Faults.{fault_again, fault_then}
+use Rattle.log_buffer.proofs.WriteBufferRoom.{on_ok}
+use Rattle.log_buffer.proofs.AppendMoments.{made_synced, made_next}
+use Rattle.log_buffer.proofs.DiskFaults.{fault_again, fault_then}
 use Rattle.log_buffer.proofs.writing.make_file.Goals as goal
 
 pub returns-clause-moments : goal.returns-clause-moments
 returns-clause-moments g c =
-    λ told. made_next c.args.f.0 (g.D.Disk.history c.args.disk.now) (g.D.Disk.history c.sync_now.new.self) (g.D.Disk.history c.create.new.self)
-    (c.sync_now.ensures.moments told) (c.in_ok-sync_now.ensures.done told) (c.create.ensures.moments told)
+    λ observed. made_next c.args.f.0 (g.D.Disk.history c.args.disk.now) (g.D.Disk.history c.sync_now.new.self) (g.D.Disk.history c.create.new.self)
+    (c.sync_now.ensures.moments observed) (c.in_ok-sync_now.ensures.done observed) (c.create.ensures.moments observed)
 
 pub returns-in_err-sync_now-clause-moments : goal.returns-in_err-sync_now-clause-moments
-returns-in_err-sync_now-clause-moments g c = λ told. made_synced c.args.f.0 (g.D.Disk.history c.args.disk.now) (g.D.Disk.history c.sync_now.new.self) (c.sync_now.ensures.moments told)
+returns-in_err-sync_now-clause-moments g c = λ observed. made_synced c.args.f.0 (g.D.Disk.history c.args.disk.now) (g.D.Disk.history c.sync_now.new.self) (c.sync_now.ensures.moments observed)
 
 pub returns-clause-state : goal.returns-clause-state
-returns-clause-state g c = λ told. on_ok c.create.result _ _ (c.create.ensures.done told) (λ done. done ∙ ap (created c.args.f.0) (c.in_ok-sync_now.ensures.done told))
+returns-clause-state g c = λ observed. on_ok c.create.result _ _ (c.create.ensures.done observed) (λ done. done ∙ ap (created c.args.f.0) (c.in_ok-sync_now.ensures.done observed))
 
 pub returns-clause-sync_out : goal.returns-clause-sync_out
 returns-clause-sync_out g c = c.create.ensures.sync_out ∙ c.sync_now.ensures.sync_out

@@ -1,6 +1,6 @@
 use Rattle.std.specs.Int.{w16}
 use Rattle.log_entry.specs.Items.{counted_bytes, record_slot_bytes}
-use Rattle.log_entry.proofs.Putting.{puts_then, puts_stops}
+use Rattle.log_entry.proofs.VectorAppends.{puts_then, puts_stops}
 use Rattle.log_entry.proofs.body_writer.put_bin.Goals as goal
 
 pub returns-in_err-put_node : goal.returns-in_err-put_node

@@ -2,7 +2,7 @@ use Rattle.std.proofs.Common.{◌++◌}
 use Rattle.std.specs.Int.{w16, w32, w64, to_be_bytes}
 use Rattle.log_entry.specs.Fields.{optional_bytes}
 use Rattle.log_entry.specs.Items.{counted_bytes, root_bytes}
-use Rattle.log_entry.proofs.Putting.{puts_then, puts_stops}
+use Rattle.log_entry.proofs.VectorAppends.{puts_then, puts_stops}
 use Rattle.log_entry.proofs.body_writer.put_ckpt_end.Goals as goal
 
 pub returns-in_err-put_checkpoint : goal.returns-in_err-put_checkpoint

@@ -1,5 +1,5 @@
 use Rattle.log_entry.specs.Fields.{name_bytes}
-use Rattle.log_entry.proofs.Putting.{puts_then, puts_stops}
+use Rattle.log_entry.proofs.VectorAppends.{puts_then, puts_stops}
 use Rattle.log_entry.proofs.body_writer.put_delete.Goals as goal
 
 pub returns-in_err-put_txn : goal.returns-in_err-put_txn

@@ -1,7 +1,7 @@
 use Rattle.std.proofs.Common.{ℕ, ◌++◌, ◌∙◌, ap}
 use Rattle.std.specs.Int.{w16, w64, to_be_bytes}
 use Rattle.log_entry.specs.Items.{counted_bytes, record_slot_bytes}
-use Rattle.log_entry.proofs.Putting.{puts_behind, puts_then, puts_stops, stops_unchanged}
+use Rattle.log_entry.proofs.VectorAppends.{puts_behind, puts_then, puts_stops, stops_unchanged}
 use Rattle.log_entry.proofs.body_writer.put_delta.Goals as goal
 
 pub returns-in_err-put_node : goal.returns-in_err-put_node

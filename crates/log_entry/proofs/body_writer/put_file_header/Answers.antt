@@ -1,7 +1,7 @@
 use Rattle.std.proofs.Common.{◌++◌}
 use Rattle.std.specs.Int.{w32, to_be_bytes}
 use Rattle.log_entry.specs.Body.{magic}
-use Rattle.log_entry.proofs.Putting.{puts_behind, stops_unchanged, puts_all}
+use Rattle.log_entry.proofs.VectorAppends.{puts_behind, stops_unchanged, puts_all}
 use Rattle.log_entry.proofs.body_writer.put_file_header.Goals as goal
 
 pub returns-in_err-put_u32 : goal.returns-in_err-put_u32

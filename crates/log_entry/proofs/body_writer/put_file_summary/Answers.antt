@@ -2,7 +2,7 @@ use Rattle.std.proofs.Common.{length}
 use Rattle.std.specs.List.{flat_map}
 use Rattle.std.specs.Int.{w32, to_be_bytes}
 use Rattle.log_entry.specs.Items.{file_usage_bytes}
-use Rattle.log_entry.proofs.Putting.{puts_behind, stops_unchanged}
+use Rattle.log_entry.proofs.VectorAppends.{puts_behind, stops_unchanged}
 use Rattle.log_entry.proofs.body_writer.put_file_summary.Goals as goal
 
 pub returns-in_err-put_u32 : goal.returns-in_err-put_u32

@@ -1,7 +1,7 @@
 use Rattle.std.proofs.Common.{[], ◌∷◌}
 use Rattle.std.specs.Int.{w16}
 use Rattle.log_entry.specs.Items.{counted_bytes, child_slot_bytes}
-use Rattle.log_entry.proofs.Putting.{puts_behind, puts_then, puts_stops, push_stops}
+use Rattle.log_entry.proofs.VectorAppends.{puts_behind, puts_then, puts_stops, push_stops}
 use Rattle.log_entry.proofs.body_writer.put_internal.Goals as goal
 
 pub returns-in_err-put_node : goal.returns-in_err-put_node

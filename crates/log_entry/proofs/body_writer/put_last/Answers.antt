@@ -1,6 +1,6 @@
 use Rattle.std.proofs.Common.{◌++◌}
 use Rattle.std.specs.Int.{w32, w64, to_be_bytes}
-use Rattle.log_entry.proofs.Putting.{puts_behind, stops_unchanged, puts_all}
+use Rattle.log_entry.proofs.VectorAppends.{puts_behind, stops_unchanged, puts_all}
 use Rattle.log_entry.proofs.body_writer.put_last.Goals as goal
 
 pub returns-in_err-put_u64 : goal.returns-in_err-put_u64

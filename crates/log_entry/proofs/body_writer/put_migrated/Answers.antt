@@ -1,7 +1,7 @@
 use Rattle.std.proofs.Common.{◌++◌}
 use Rattle.std.specs.Int.{w32, to_be_bytes}
 use Rattle.log_entry.specs.Fields.{name_bytes}
-use Rattle.log_entry.proofs.Putting.{puts_behind, puts_then, puts_stops, stops_unchanged, puts_slice}
+use Rattle.log_entry.proofs.VectorAppends.{puts_behind, puts_then, puts_stops, stops_unchanged, puts_slice}
 use Rattle.log_entry.proofs.body_writer.put_migrated.Goals as goal
 
 pub returns-in_err-put_u32 : goal.returns-in_err-put_u32

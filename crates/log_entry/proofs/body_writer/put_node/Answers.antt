@@ -1,5 +1,5 @@
 use Rattle.std.specs.Int.{w32, w64, to_be_bytes}
-use Rattle.log_entry.proofs.Putting.{puts_behind, stops_unchanged, puts_all}
+use Rattle.log_entry.proofs.VectorAppends.{puts_behind, stops_unchanged, puts_all}
 use Rattle.log_entry.proofs.body_writer.put_node.Goals as goal
 
 pub returns-in_err-put_u32 : goal.returns-in_err-put_u32

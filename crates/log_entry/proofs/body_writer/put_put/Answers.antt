@@ -1,6 +1,6 @@
 use Rattle.std.proofs.Common.{◌++◌}
 use Rattle.log_entry.specs.Fields.{name_bytes}
-use Rattle.log_entry.proofs.Putting.{puts_then, puts_stops, puts_slice}
+use Rattle.log_entry.proofs.VectorAppends.{puts_then, puts_stops, puts_slice}
 use Rattle.log_entry.proofs.body_writer.put_put.Goals as goal
 
 pub returns-in_err-put_txn : goal.returns-in_err-put_txn

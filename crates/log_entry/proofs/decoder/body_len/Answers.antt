@@ -1,4 +1,4 @@
-use Rattle.log_entry.proofs.Decoding.{short_is, cut_is, bad_sum_is, sum_is}
+use Rattle.log_entry.proofs.DecodeSteps.{short_is, cut_is, bad_sum_is, sum_is}
 use Rattle.log_entry.proofs.decoder.body_len.Goals as goal
 
 pub returns-then-bytes-lt14 : goal.returns-then-bytes-lt14

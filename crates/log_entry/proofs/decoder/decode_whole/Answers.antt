@@ -2,7 +2,7 @@ use Rattle.std.proofs.Common.{◌+◌, get_or, take, drop}
 use Rattle.std.specs.Int.{w32}
 use Rattle.log_entry.specs.Body.{entry_in}
 use Rattle.log_entry.specs.Reading.{number_at}
-use Rattle.log_entry.proofs.Decoding.{flags_are_unknown, body_is_unknown, entry_is_whole}
+use Rattle.log_entry.proofs.DecodeSteps.{flags_are_unknown, body_is_unknown, entry_is_whole}
 use Rattle.log_entry.proofs.decoder.decode_whole.Goals as goal
 
 pub returns-then-bytes-ne0 : goal.returns-then-bytes-ne0

@@ -1,4 +1,4 @@
-use Rattle.log_entry.proofs.Decoding.{sum_tested}
+use Rattle.log_entry.proofs.DecodeSteps.{sum_tested}
 use Rattle.log_entry.proofs.decoder.is_sum_right.Goals as goal
 
 pub returns : goal.returns

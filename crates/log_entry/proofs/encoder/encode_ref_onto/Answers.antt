@@ -2,10 +2,10 @@ use Rattle.std.proofs.Common.{◌≡◌, ◌∙◌, ◌++◌, length, arith, ap}
 use Rattle.std.specs.Prelude.{vec_capacity}
 use Rattle.std.specs.Int.{w32, to_be_bytes}
 use Rattle.log_entry.specs.Parts.{entry_by}
-use Rattle.log_entry.specs.Spelling.{summed}
+use Rattle.log_entry.specs.Encoding.{summed}
 use Rattle.std.proofs.lemmas.List.{take_at}
 use Rattle.log_entry.proofs.WritingLaws.{signed_from}
-use Rattle.log_entry.proofs.Putting.{room_unsigned}
+use Rattle.log_entry.proofs.VectorAppends.{room_unsigned}
 use Rattle.log_entry.proofs.encoder.encode_ref_onto.Goals as goal
 
 pub returns-in-Ok-clause-ok : goal.returns-in-Ok-clause-ok

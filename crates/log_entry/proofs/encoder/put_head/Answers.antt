@@ -1,6 +1,6 @@
 use Rattle.std.proofs.Common.{[], ◌∷◌, ◌++◌}
 use Rattle.std.specs.Int.{w32, to_be_bytes}
-use Rattle.log_entry.proofs.Putting.{puts_behind, push_stops, stops_unchanged, puts_all}
+use Rattle.log_entry.proofs.VectorAppends.{puts_behind, push_stops, stops_unchanged, puts_all}
 use Rattle.log_entry.proofs.encoder.put_head.Goals as goal
 
 pub returns-in_err-push : goal.returns-in_err-push

@@ -1,8 +1,8 @@
 use Rattle.std.specs.Int.{w32, to_be_bytes}
 use Rattle.log_entry.specs.Body.{body_of}
 use Rattle.log_entry.specs.Parts.{entry_by}
-use Rattle.log_entry.specs.Spelling.{summed}
-use Rattle.log_entry.proofs.Putting.{puts_behind, puts_then, puts_stops, stops_unchanged, puts_same, summed_is}
+use Rattle.log_entry.specs.Encoding.{summed}
+use Rattle.log_entry.proofs.VectorAppends.{puts_behind, puts_then, puts_stops, stops_unchanged, puts_same, summed_is}
 use Rattle.log_entry.proofs.encoder.put_unsigned.Goals as goal
 
 pub returns-in_err-put_u32 : goal.returns-in_err-put_u32

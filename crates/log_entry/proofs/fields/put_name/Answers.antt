@@ -1,6 +1,6 @@
 use Rattle.std.proofs.Common.{ap₂, List, ℕ, ◌++◌}
 use Rattle.log_entry.specs.Fields.{string}
-use Rattle.log_entry.proofs.Putting.{puts_same}
+use Rattle.log_entry.proofs.VectorAppends.{puts_same}
 use Rattle.log_entry.proofs.fields.put_name.Goals as goal
 
 pub returns : goal.returns

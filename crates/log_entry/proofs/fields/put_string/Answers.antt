@@ -1,6 +1,6 @@
 use Rattle.std.specs.Int.{w16, to_be_bytes}
 use Rattle.std.proofs.Common.{length}
-use Rattle.log_entry.proofs.Putting.{puts_behind, stops_unchanged, puts_slice}
+use Rattle.log_entry.proofs.VectorAppends.{puts_behind, stops_unchanged, puts_slice}
 use Rattle.log_entry.proofs.fields.put_string.Goals as goal
 
 pub returns-in_err-put_u16 : goal.returns-in_err-put_u16

@@ -1,5 +1,5 @@
 use Rattle.log_entry.specs.Fields.{string}
-use Rattle.log_entry.proofs.Putting.{puts_then, puts_stops}
+use Rattle.log_entry.proofs.VectorAppends.{puts_then, puts_stops}
 use Rattle.log_entry.proofs.fields.put_strings.Goals as goal
 
 pub returns-in_err-put_string : goal.returns-in_err-put_string

@@ -1,7 +1,7 @@
 use Rattle.std.proofs.Common.{length}
 use Rattle.std.specs.Int.{w16, to_be_bytes}
 use Rattle.std.specs.List.{flat_map}
-use Rattle.log_entry.proofs.Putting.{puts_behind, stops_unchanged}
+use Rattle.log_entry.proofs.VectorAppends.{puts_behind, stops_unchanged}
 use Rattle.log_entry.proofs.items.put_counted.Goals as goal
 
 pub returns-in_err-put_u16 : goal.returns-in_err-put_u16

@@ -1,25 +1,25 @@
 use Rattle.std.proofs.Common.{◌≡◌, ◌∙◌, arith}
 use Rattle.je_disk.specs.States.{State}
 use Rattle.je_disk.specs.Moments.{now}
-use Rattle.je_disk.proofs.Moments.{passes_then, passes_weaken}
+use Rattle.je_disk.proofs.MomentLaws.{passes_then, passes_weaken}
 use Rattle.log_file.proofs.reading.read_whole.Goals as goal
 
 pub returns-clause-same : goal.returns-clause-same
-returns-clause-same g c = λ told. c.in_ok-count.ensures.same told ∙ c.in_ok-len.ensures.same told
+returns-clause-same g c = λ observed. c.in_ok-count.ensures.same observed ∙ c.in_ok-len.ensures.same observed
 
 pub returns-clause-moments : goal.returns-clause-moments
-returns-clause-moments g c = λ told.
+returns-clause-moments g c = λ observed.
     let history = g.D.Disk.history in
     let old = history c.args.disk.now in
-    passes_then old (history c.len.new.self) (history c.read.new.self) (λ (s : State). s ≡ now old) (c.in_ok-len.ensures.moments told)
-    (passes_weaken (history c.len.new.self) (history c.read.new.self) (λ (s : State). s ≡ now (history c.len.new.self)) (λ (s : State). s ≡ now old) (λ s is. is ∙ c.in_ok-len.ensures.same told) (c.in_ok-count.ensures.moments told))
+    passes_then old (history c.len.new.self) (history c.read.new.self) (λ (s : State). s ≡ now old) (c.in_ok-len.ensures.moments observed)
+    (passes_weaken (history c.len.new.self) (history c.read.new.self) (λ (s : State). s ≡ now (history c.len.new.self)) (λ (s : State). s ≡ now old) (λ s is. is ∙ c.in_ok-len.ensures.same observed) (c.in_ok-count.ensures.moments observed))
 
 pub returns-clause-jobs : goal.returns-clause-jobs
 returns-clause-jobs g c = (
   c.in_ok-count.ensures.sync_out ∙ c.in_ok-len.ensures.sync_out,
   c.in_ok-count.ensures.read_out ∙ c.in_ok-len.ensures.read_out,
   c.in_ok-count.ensures.read_of ∙ c.in_ok-len.ensures.read_of,
-  c.in_ok-count.ensures.drawn ∙ c.in_ok-len.ensures.drawn,
+  c.in_ok-count.ensures.last_job ∙ c.in_ok-len.ensures.last_job,
 )
 
 pub returns-clause-cause : goal.returns-clause-cause

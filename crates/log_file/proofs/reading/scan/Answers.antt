@@ -5,7 +5,7 @@ pub returns-clause-scanned : goal.returns-clause-scanned
 returns-clause-scanned g c = record {
   bytes = c.deref.result.now;
   are = c.in_ok-scan_whole.ensures.are;
-  told = λ told. c.deref.ensures.value ∙ c.in_ok-bytes.ensures.bytes told;
+  observed = λ observed. c.deref.ensures.value ∙ c.in_ok-bytes.ensures.bytes observed;
   found = c.in_ok-scan_whole.ensures.scanned.0;
   len = c.in_ok-scan_whole.ensures.scanned.1;
 }

@@ -1,5 +1,5 @@
 use Rattle.std.proofs.Common.{◌≡◌, true, arith, rules}
-use Rattle.log_file.proofs.ScanLaws.{end_is}
+use Rattle.log_file.proofs.ScanSteps.{end_is}
 use Rattle.log_file.proofs.scanning.end_of.Goals as goal
 
 pub returns : goal.returns

@@ -1,5 +1,5 @@
 use Rattle.std.proofs.Common.{◌∙◌, sym, drop}
-use Rattle.log_file.proofs.ScanLaws.{torn_ends, whole_ends, whole_goes_on, whole_size}
+use Rattle.log_file.proofs.ScanSteps.{torn_ends, whole_ends, whole_goes_on, whole_size}
 use Rattle.log_file.proofs.scanning.next_entry.Goals as goal
 
 pub returns-in_default : goal.returns-in_default

@@ -1,12 +1,12 @@
 use Rattle.std.proofs.Common.{◌∙◌, ap, subst, refl, sym, arith, get_or, drop, ◌+◌, ◌≡◌}
 use Rattle.std.proofs.lemmas.List.{drop_all}
 use Rattle.je_disk.specs.Moments.{now}
-use Rattle.je_disk.proofs.Moments.{passes_none}
-use Rattle.log_file.specs.Log.{AreFileEntries, entries_found}
+use Rattle.je_disk.proofs.MomentLaws.{passes_none}
+use Rattle.log_file.specs.Log.{AreFileEntries, entries_scanned}
 use Rattle.log_replay.specs.Reading.{marked}
 use Rattle.log_replay.specs.Rows.{data_at, rows_in}
-use Rattle.log_replay.proofs.FilesLaws.{entries_found-are}
-use Rattle.log_replay.proofs.Passing.{cause_later, cause_memory, cause_none, stays, passes_again, content_again}
+use Rattle.log_replay.proofs.FilesLaws.{entries_scanned-are}
+use Rattle.log_replay.proofs.UnchangedMoments.{cause_later, cause_memory, cause_none, stays, passes_again, content_again}
 use Rattle.log_replay.proofs.GapLaws.{item_at}
 use Rattle.log_replay.proofs.PlacingLaws.{marking_begins, marking_goes_on, marking_ends, lsn_answer}
 use Rattle.log_replay.proofs.placing.find_lsn.Goals as goal
@@ -15,7 +15,7 @@ pub take_marked-requires : goal.take_marked-requires
 take_marked-requires g c =
     let scan = c.in_ok-scanned.ensures.scanned in
     let f = get_or c.args.files.now c.loop-f.f-index (record { 0 = 0 }) in
-    subst AreFileEntries (sym (ap entries_found scan.found)) (entries_found-are f.0 scan.bytes scan.are)
+    subst AreFileEntries (sym (ap entries_scanned scan.found)) (entries_scanned-are f.0 scan.bytes scan.are)
 
 pub loop-f-init : goal.loop-f-init
 loop-f-init g c =
@@ -38,9 +38,9 @@ loop-f-preserved g c =
     record {
       marking = λ t.
           marking_goes_on (now start).reads c.args.files.now (drop c.loop-f.f-index c.args.files.now) (drop (c.loop-f.f-index + 1) c.args.files.now) f scan.bytes
-          (marked f.0 26 (entries_found c.in_ok-scanned.scanned.found)) c.loop-f.replaying c.take_marked.new.replaying (before.marking t)
+          (marked f.0 26 (entries_scanned c.in_ok-scanned.scanned.found)) c.loop-f.replaying c.take_marked.new.replaying (before.marking t)
           (item_at c.args.files.now c.loop-f.f-index c.loop-f-test.true)
-          (content_again start (history c.loop-f.disk) scan.bytes f.0 (before.same t) (scan.told t)) (ap (marked f.0 26) (ap entries_found scan.found))
+          (content_again start (history c.loop-f.disk) scan.bytes f.0 (before.same t) (scan.observed t)) (ap (marked f.0 26) (ap entries_scanned scan.found))
           c.in_ok-take_marked.ensures;
       same = λ t. c.in_ok-scanned.ensures.same t ∙ before.same t;
       moments = λ t.
@@ -57,10 +57,10 @@ loop-f-preserved g c =
 pub returns-clause-lsn : goal.returns-clause-lsn
 returns-clause-lsn g c t =
     let reads = (now (g.D.Disk.history c.args.disk.now)).reads in
-    lsn_answer reads c.args.files.now c.loop-f.replaying c.settle.new.self.rows c.args.place.now (data_at c.args.place.now.name (rows_in c.settle.new.self.rows c.args.place.now.db)) c.in_ok-lsn_at.field-0
+    lsn_answer reads c.args.files.now c.loop-f.replaying c.flush.new.self.rows c.args.place.now (data_at c.args.place.now.name (rows_in c.flush.new.self.rows c.args.place.now.db)) c.in_ok-lsn_at.field-0
     (marking_ends reads c.args.files.now (drop c.loop-f.f-index c.args.files.now) c.loop-f.replaying (c.loop-f.invariant.marking t)
     (drop_all c.loop-f.f-index c.args.files.now (omega (arith, c.loop-f-test.false))))
-    c.in_ok-settle.ensures.rows c.in_ok-lsn_at.ensures refl
+    c.in_ok-flush.ensures.rows c.in_ok-lsn_at.ensures refl
 
 pub returns-in_err-scanned-clause-same : goal.returns-in_err-scanned-clause-same
 returns-in_err-scanned-clause-same g c t = c.in_err-scanned.ensures.same t ∙ c.loop-f.invariant.same t

@@ -3,7 +3,7 @@ use Rattle.std.proofs.lemmas.List.{nil_from_length}
 use Rattle.std.specs.List.{AllByRecursion}
 use Rattle.std.specs.Vec.Iter.{into_iter_items}
 use Rattle.log_entry.specs.Body.{IsEntry}
-use Rattle.log_entry.specs.Spelling.{size_of}
+use Rattle.log_entry.specs.Encoding.{size_of}
 use Rattle.log_file.specs.Scan.{sizes_of}
 use Rattle.log_replay.specs.Reading.{marked_entry}
 use Rattle.log_replay.proofs.PlacingLaws.{ends_below, marked_all, marked_more}

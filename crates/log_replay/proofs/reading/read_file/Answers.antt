@@ -1,10 +1,10 @@
-use Rattle.log_replay.proofs.Passing.{cause_again, cause_memory, cause_none, stays}
+use Rattle.log_replay.proofs.UnchangedMoments.{cause_again, cause_memory, cause_none, stays}
 use Rattle.log_replay.proofs.reading.read_file.Goals as goal
 
 pub returns-clause-read : goal.returns-clause-read
 returns-clause-read g c =
     let scan = c.in_ok-scanned.ensures.scanned in
-    record { bytes = scan.bytes; are = scan.are; told = scan.told; is = c.in_ok-take_file.ensures scan.bytes scan.found scan.len }
+    record { bytes = scan.bytes; are = scan.are; observed = scan.observed; is = c.in_ok-take_file.ensures scan.bytes scan.found scan.len }
 
 pub returns-in_err-scanned-clause-same : goal.returns-in_err-scanned-clause-same
 returns-in_err-scanned-clause-same g c = c.in_err-scanned.ensures.same

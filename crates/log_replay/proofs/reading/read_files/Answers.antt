@@ -1,11 +1,11 @@
 use Rattle.std.proofs.Common.{List, ◌≡◌, ◌∙◌, ap, sym, subst, refl, ℕ, arith, get_or, drop, length, ◌+◌, ◌-◌, ◌==◌}
 use Rattle.je_disk.specs.Moments.{now}
 use Rattle.je_disk.specs.States.{State}
-use Rattle.je_disk.proofs.Moments.{passes_none}
+use Rattle.je_disk.proofs.MomentLaws.{passes_none}
 use Rattle.std.proofs.Math.ListN.{drop_of_length-le}
 use Rattle.je_lsn.specs.declared.file_no.FileNo.{FileNo}
 use Rattle.log_replay.specs.UnderWay.{IsFileRead, IsReading}
-use Rattle.log_replay.proofs.Passing.{cause_later, cause_none, stays, passes_again}
+use Rattle.log_replay.proofs.UnchangedMoments.{cause_later, cause_none, stays, passes_again}
 use Rattle.log_replay.proofs.GapLaws.{item_at, one_left}
 use Rattle.log_replay.proofs.ReadingLaws.{reading_begins, reading_goes_on, reading_stops, read_along}
 use Rattle.log_replay.proofs.reading.read_files.Goals as goal
@@ -14,7 +14,7 @@ pub loop-f-init : goal.loop-f-init
 loop-f-init g c =
     let start = g.D.Disk.history c.args.disk.now in
     record {
-      reading = reading_begins g.D.Disk.tells (now start).reads c.args.files.now c.args.replaying.now c.requires;
+      reading = reading_begins g.D.Disk.observable (now start).reads c.args.files.now c.args.replaying.now c.requires;
       left = refl;
       same = λ t. refl;
       moments = λ t. passes_none start (λ s. s ≡ now start);
@@ -25,22 +25,22 @@ loop-f-init g c =
 pub returns-in-Stops-clause-read : goal.returns-in-Stops-clause-read
 returns-in-Stops-clause-read g c =
     let history = g.D.Disk.history in
-    let tells = g.D.Disk.tells in
+    let observable = g.D.Disk.observable in
     let before = c.loop-f.invariant in
     let reads = (now (history c.args.disk.now)).reads in
     let f = get_or c.args.files.now c.loop-f.f-index (record { 0 = 0 }) in
     let last = c.loop-f.left - 1 == 0 in
     let at = item_at c.args.files.now c.loop-f.f-index c.loop-f-test.true in
     let left : length (drop (c.loop-f.f-index + 1) c.args.files.now) ≡ c.loop-f.left - 1 = omega (arith, ap length at, before.left) in
-    reading_stops tells reads c.args.files.now (drop c.loop-f.f-index c.args.files.now) (drop (c.loop-f.f-index + 1) c.args.files.now) f c.loop-f.replaying c.read_file.new.replaying
-    c.loop-f.tail c.in-Stops.finding last before.reading at (ap (λ (n : ℕ). n == 0) left)
-    (read_along tells reads (now (history c.loop-f.disk)).reads last f.0 c.loop-f.replaying c.read_file.new.replaying _ (λ t. ap (λ (s : State). s.reads) (before.same t))
-    (subst (IsFileRead tells (now (history c.loop-f.disk)).reads last f.0 c.loop-f.replaying c.read_file.new.replaying) c.in-Stops.is c.in_ok-finding.ensures.read))
+    reading_stops observable reads c.args.files.now (drop c.loop-f.f-index c.args.files.now) (drop (c.loop-f.f-index + 1) c.args.files.now) f c.loop-f.replaying c.read_file.new.replaying
+    c.loop-f.tail c.in-Stops.corruption last before.reading at (ap (λ (n : ℕ). n == 0) left)
+    (read_along observable reads (now (history c.loop-f.disk)).reads last f.0 c.loop-f.replaying c.read_file.new.replaying _ (λ t. ap (λ (s : State). s.reads) (before.same t))
+    (subst (IsFileRead observable (now (history c.loop-f.disk)).reads last f.0 c.loop-f.replaying c.read_file.new.replaying) c.in-Stops.is c.in_ok-corruption.ensures.read))
 
 pub loop-f-preserved : goal.loop-f-preserved
 loop-f-preserved g c =
     let history = g.D.Disk.history in
-    let tells = g.D.Disk.tells in
+    let observable = g.D.Disk.observable in
     let before = c.loop-f.invariant in
     let start = history c.args.disk.now in
     let reads = (now start).reads in
@@ -48,13 +48,13 @@ loop-f-preserved g c =
     let last = c.loop-f.left - 1 == 0 in
     let at = item_at c.args.files.now c.loop-f.f-index c.loop-f-test.true in
     let left : length (drop (c.loop-f.f-index + 1) c.args.files.now) ≡ c.loop-f.left - 1 = omega (arith, ap length at, before.left) in
-    let read = c.in_ok-finding.ensures in
+    let read = c.in_ok-corruption.ensures in
     record {
       reading =
-          reading_goes_on tells reads c.args.files.now (drop c.loop-f.f-index c.args.files.now) (drop (c.loop-f.f-index + 1) c.args.files.now) f c.loop-f.replaying c.read_file.new.replaying
+          reading_goes_on observable reads c.args.files.now (drop c.loop-f.f-index c.args.files.now) (drop (c.loop-f.f-index + 1) c.args.files.now) f c.loop-f.replaying c.read_file.new.replaying
           c.loop-f.tail c.in-GoesOn.file last before.reading at (ap (λ (n : ℕ). n == 0) left)
-          (read_along tells reads (now (history c.loop-f.disk)).reads last f.0 c.loop-f.replaying c.read_file.new.replaying _ (λ t. ap (λ (s : State). s.reads) (before.same t))
-          (subst (IsFileRead tells (now (history c.loop-f.disk)).reads last f.0 c.loop-f.replaying c.read_file.new.replaying) c.in-GoesOn.is read.read));
+          (read_along observable reads (now (history c.loop-f.disk)).reads last f.0 c.loop-f.replaying c.read_file.new.replaying _ (λ t. ap (λ (s : State). s.reads) (before.same t))
+          (subst (IsFileRead observable (now (history c.loop-f.disk)).reads last f.0 c.loop-f.replaying c.read_file.new.replaying) c.in-GoesOn.is read.read));
       left = sym left;
       same = λ t. read.same t ∙ before.same t;
       moments = λ t.
@@ -63,32 +63,32 @@ loop-f-preserved g c =
       never_falls = omega (arith, before.never_falls, read.cause.never_falls);
     }
 
-pub returns-in_err-finding-clause-same : goal.returns-in_err-finding-clause-same
-returns-in_err-finding-clause-same g c t = c.in_err-finding.ensures.same t ∙ c.loop-f.invariant.same t
+pub returns-in_err-corruption-clause-same : goal.returns-in_err-corruption-clause-same
+returns-in_err-corruption-clause-same g c t = c.in_err-corruption.ensures.same t ∙ c.loop-f.invariant.same t
 
-pub returns-in_err-finding-clause-moments : goal.returns-in_err-finding-clause-moments
-returns-in_err-finding-clause-moments g c t =
+pub returns-in_err-corruption-clause-moments : goal.returns-in_err-corruption-clause-moments
+returns-in_err-corruption-clause-moments g c t =
     passes_again (g.D.Disk.history c.args.disk.now) (g.D.Disk.history c.loop-f.disk) (g.D.Disk.history c.read_file.new.disk)
-    (c.loop-f.invariant.same t) (c.loop-f.invariant.moments t) (c.in_err-finding.ensures.moments t)
+    (c.loop-f.invariant.same t) (c.loop-f.invariant.moments t) (c.in_err-corruption.ensures.moments t)
 
-pub returns-in_err-finding-clause-jobs : goal.returns-in_err-finding-clause-jobs
-returns-in_err-finding-clause-jobs g c =
+pub returns-in_err-corruption-clause-jobs : goal.returns-in_err-corruption-clause-jobs
+returns-in_err-corruption-clause-jobs g c =
     let first = c.loop-f.invariant.jobs in
-    let then_ = c.in_err-finding.ensures.jobs in
+    let then_ = c.in_err-corruption.ensures.jobs in
     (then_.0 ∙ first.0, then_.1 ∙ first.1, then_.2 ∙ first.2, then_.3 ∙ first.3)
 
 pub returns-in-Stops-clause-same : goal.returns-in-Stops-clause-same
-returns-in-Stops-clause-same g c t = c.in_ok-finding.ensures.same t ∙ c.loop-f.invariant.same t
+returns-in-Stops-clause-same g c t = c.in_ok-corruption.ensures.same t ∙ c.loop-f.invariant.same t
 
 pub returns-in-Stops-clause-moments : goal.returns-in-Stops-clause-moments
 returns-in-Stops-clause-moments g c t =
     passes_again (g.D.Disk.history c.args.disk.now) (g.D.Disk.history c.loop-f.disk) (g.D.Disk.history c.read_file.new.disk)
-    (c.loop-f.invariant.same t) (c.loop-f.invariant.moments t) (c.in_ok-finding.ensures.moments t)
+    (c.loop-f.invariant.same t) (c.loop-f.invariant.moments t) (c.in_ok-corruption.ensures.moments t)
 
 pub returns-in-Stops-clause-jobs : goal.returns-in-Stops-clause-jobs
 returns-in-Stops-clause-jobs g c =
     let first = c.loop-f.invariant.jobs in
-    let then_ = c.in_ok-finding.ensures.jobs in
+    let then_ = c.in_ok-corruption.ensures.jobs in
     (then_.0 ∙ first.0, then_.1 ∙ first.1, then_.2 ∙ first.2, then_.3 ∙ first.3)
 
 pub returns-clause-same : goal.returns-clause-same
@@ -100,15 +100,15 @@ returns-clause-moments g c = c.loop-f.invariant.moments
 pub returns-clause-jobs : goal.returns-clause-jobs
 returns-clause-jobs g c = c.loop-f.invariant.jobs
 
-pub returns-in_err-finding-clause-cause : goal.returns-in_err-finding-clause-cause
-returns-in_err-finding-clause-cause g c =
+pub returns-in_err-corruption-clause-cause : goal.returns-in_err-corruption-clause-cause
+returns-in_err-corruption-clause-cause g c =
     let faults = g.D.Disk.faults in
-    cause_later (faults c.args.disk.now) (faults c.loop-f.disk) (faults c.read_file.new.disk) c.from_residual.result c.in_err-finding.field-0.0 c.loop-f.invariant.never_falls c.from_residual.ensures.1 c.in_err-finding.ensures.cause
+    cause_later (faults c.args.disk.now) (faults c.loop-f.disk) (faults c.read_file.new.disk) c.from_residual.result c.in_err-corruption.field-0.0 c.loop-f.invariant.never_falls c.from_residual.ensures.1 c.in_err-corruption.ensures.cause
 
 pub returns-in-Stops-clause-cause : goal.returns-in-Stops-clause-cause
 returns-in-Stops-clause-cause g c =
     let faults = g.D.Disk.faults in
-    cause_none (faults c.args.disk.now) (faults c.loop-f.disk) (faults c.read_file.new.disk) c.loop-f.invariant.never_falls c.in_ok-finding.ensures.cause.never_falls
+    cause_none (faults c.args.disk.now) (faults c.loop-f.disk) (faults c.read_file.new.disk) c.loop-f.invariant.never_falls c.in_ok-corruption.ensures.cause.never_falls
 
 pub returns-clause-cause : goal.returns-clause-cause
 returns-clause-cause g c =
@@ -120,5 +120,5 @@ overflow_sub-left g c = one_left c.args.files.now c.loop-f.f-index c.loop-f.left
 
 pub returns-clause-read : goal.returns-clause-read
 returns-clause-read g c =
-    subst (λ (left : List FileNo). IsReading g.D.Disk.tells (now (g.D.Disk.history c.args.disk.now)).reads c.args.files.now left c.loop-f.replaying c.loop-f.tail)
+    subst (λ (left : List FileNo). IsReading g.D.Disk.observable (now (g.D.Disk.history c.args.disk.now)).reads c.args.files.now left c.loop-f.replaying c.loop-f.tail)
     (drop_of_length-le c.args.files.now c.loop-f-test.false) c.loop-f.invariant.reading

@@ -7,11 +7,11 @@ abbrev pub invariant-loop-f : goal.invariant-loop-f
 invariant-loop-f g l =
     let history = g.D.Disk.history in
     record {
-      reading : IsReading g.D.Disk.tells (now (history l.initial.disk)).reads l.files (drop l.f-index l.files) l.replaying l.tail;
+      reading : IsReading g.D.Disk.observable (now (history l.initial.disk)).reads l.files (drop l.f-index l.files) l.replaying l.tail;
       left : l.left ≡ length (drop l.f-index l.files);
-      same : g.D.Disk.tells ≡ true → now (history l.disk) ≡ now (history l.initial.disk);
-      moments : g.D.Disk.tells ≡ true → Passes (history l.initial.disk) (history l.disk) (λ s. s ≡ now (history l.initial.disk));
+      same : g.D.Disk.observable ≡ true → now (history l.disk) ≡ now (history l.initial.disk);
+      moments : g.D.Disk.observable ≡ true → Passes (history l.initial.disk) (history l.disk) (λ s. s ≡ now (history l.initial.disk));
       jobs : (g.D.Disk.sync_out l.disk ≡ g.D.Disk.sync_out l.initial.disk) × (g.D.Disk.read_out l.disk ≡ g.D.Disk.read_out l.initial.disk)
-          × (g.D.Disk.read_of l.disk ≡ g.D.Disk.read_of l.initial.disk) × (g.D.Disk.drawn l.disk ≡ g.D.Disk.drawn l.initial.disk);
+          × (g.D.Disk.read_of l.disk ≡ g.D.Disk.read_of l.initial.disk) × (g.D.Disk.last_job l.disk ≡ g.D.Disk.last_job l.initial.disk);
       never_falls : g.D.Disk.faults l.initial.disk ≤ g.D.Disk.faults l.disk;
     }

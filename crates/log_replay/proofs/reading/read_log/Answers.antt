@@ -1,23 +1,23 @@
 use Rattle.std.proofs.Common.{◌∙◌, subst}
 use Rattle.je_disk.specs.Moments.{now}
-use Rattle.log_replay.specs.declared.reading.Weighed.TheVariants.{Wrong}
-use Rattle.log_replay.specs.Answer.{IsWeighed}
-use Rattle.log_replay.proofs.Passing.{cause_again, cause_later, cause_memory, cause_none, stays, passes_again, lsn_again}
+use Rattle.log_replay.specs.declared.reading.Checked.TheVariants.{Wrong}
+use Rattle.log_replay.specs.Answer.{IsChecked}
+use Rattle.log_replay.proofs.UnchangedMoments.{cause_again, cause_later, cause_memory, cause_none, stays, passes_again, lsn_again}
 use Rattle.log_replay.proofs.reading.read_log.Goals as goal
 
 pub returns-in-Answer-clause-read : goal.returns-in-Answer-clause-read
 returns-in-Answer-clause-read g c =
-    let tells = g.D.Disk.tells in
+    let observable = g.D.Disk.observable in
     let reads = (now (g.D.Disk.history c.args.disk.now)).reads in
-    subst (IsWeighed tells reads c.args.files.now) c.in-Answer.is (c.in_ok-answer.ensures tells reads c.in_ok-read.ensures.read)
+    subst (IsChecked observable reads c.args.files.now) c.in-Answer.is (c.in_ok-answer.ensures observable reads c.in_ok-read.ensures.read)
 
 pub returns-in_ok-lsn-in-Wrong-clause-read : goal.returns-in_ok-lsn-in-Wrong-clause-read
 returns-in_ok-lsn-in-Wrong-clause-read g c =
-    let tells = g.D.Disk.tells in
+    let observable = g.D.Disk.observable in
     let reads = (now (g.D.Disk.history c.args.disk.now)).reads in
-    let weighed : IsWeighed tells reads c.args.files.now (Wrong c.in-Wrong.place) =
-    subst (IsWeighed tells reads c.args.files.now) c.in-Wrong.is (c.in_ok-answer.ensures tells reads c.in_ok-read.ensures.read) in
-    weighed c.in_ok-lsn-in-Wrong.lsn
+    let checked : IsChecked observable reads c.args.files.now (Wrong c.in-Wrong.place) =
+    subst (IsChecked observable reads c.args.files.now) c.in-Wrong.is (c.in_ok-answer.ensures observable reads c.in_ok-read.ensures.read) in
+    checked c.in_ok-lsn-in-Wrong.lsn
     (λ t. lsn_again (g.D.Disk.history c.args.disk.now) (g.D.Disk.history c.read_files.new.disk) c.args.files.now c.in-Wrong.place c.in_ok-lsn-in-Wrong.lsn (c.in_ok-read.ensures.same t) (c.in_ok-lsn-in-Wrong.ensures.lsn t))
 
 pub returns-in_err-lsn-in-Wrong-clause-moments : goal.returns-in_err-lsn-in-Wrong-clause-moments

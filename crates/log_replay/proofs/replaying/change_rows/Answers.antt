@@ -4,7 +4,7 @@ use Rattle.log_replay.specs.declared.pending_change.PendingChange.{PendingChange
 use Rattle.log_replay.specs.Rows.{row_changed, rows_changed}
 use Rattle.log_replay.specs.Loading.{loaded}
 use Rattle.log_replay.specs.Pending.{as_change}
-use Rattle.log_replay.proofs.Changes.{rows_changed-same}
+use Rattle.log_replay.proofs.RowChanges.{rows_changed-same}
 use Rattle.log_replay.proofs.replaying.change_rows.Goals as goal
 
 pub loop-change-preserved : goal.loop-change-preserved

@@ -1,7 +1,7 @@
 use Rattle.std.proofs.Common.{None, Some, rules}
 use Rattle.std.proofs.lemmas.Result.{on_ok_weaker}
 use Rattle.log_replay.specs.Loading.{loaded}
-use Rattle.log_replay.proofs.Changes.{committed, waits}
+use Rattle.log_replay.proofs.RowChanges.{committed, waits}
 use Rattle.log_replay.proofs.replaying.take_entry.Goals as goal
 
 pub returns-in-Put : goal.returns-in-Put

@@ -1,7 +1,7 @@
 use Rattle.std.proofs.Common.{arith, ◌<◌, ◌≤◌, length}
-use Rattle.mem_disk.specs.Marks.{view_of, file_in}
+use Rattle.mem_disk.specs.CrashStates.{view_of, file_in}
 use Rattle.mem_disk.specs.Replay.{replay}
-use Rattle.mem_disk.proofs.Marking.{traced-begun, traced-step, traced-end}
+use Rattle.mem_disk.proofs.CrashStateLaws.{traced-begun, traced-step, traced-end}
 use Rattle.mem_disk.proofs.file_state.file_after.Goals as goal
 
 pub loop-change-init : goal.loop-change-init

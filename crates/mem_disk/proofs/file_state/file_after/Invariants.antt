@@ -1,5 +1,5 @@
 use Rattle.std.proofs.Common.{◌≡◌, drop}
-use Rattle.mem_disk.specs.Marks.{view_of, file_in, traced}
+use Rattle.mem_disk.specs.CrashStates.{view_of, file_in, traced}
 use Rattle.mem_disk.specs.Replay.{replay}
 use Rattle.mem_disk.proofs.file_state.file_after.Given as goal
 

@@ -1,4 +1,4 @@
-use Rattle.node_core.proofs.Finding.{at_put, put_in_place, at_without, same_lists}
+use Rattle.node_core.proofs.SlotLookup.{at_put, put_in_place, at_without, same_lists}
 use Rattle.node_core.proofs.laws.slots_are_their_names.Goals as goal
 
 pub returns-clause-put : goal.returns-clause-put

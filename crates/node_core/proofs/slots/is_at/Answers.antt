@@ -3,7 +3,7 @@ use Rattle.std.specs.Prelude.{is_some}
 use Rattle.std.proofs.lemmas.Option.{slice_get_read}
 use Rattle.je_order.specs.Order.{name_cmp}
 use Rattle.node_core.specs.declared.slot.Marked.{Marked}
-use Rattle.node_core.proofs.Places.{is_found, is_there, is_missed, is_past}
+use Rattle.node_core.proofs.SlotPositions.{is_found, is_there, is_missed, is_past}
 use Rattle.node_core.proofs.slots.is_at.Goals as goal
 
 pub returns-then-index-marked-clause-there : goal.returns-then-index-marked-clause-there

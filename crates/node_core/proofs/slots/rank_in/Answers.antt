@@ -1,6 +1,6 @@
 use Rattle.std.proofs.Common.{rules}
 use Rattle.std.proofs.lemmas.List.Sorted.{IsPartitionPoint-from_clause}
-use Rattle.node_core.proofs.Places.{is_under, partitioned, place_from}
+use Rattle.node_core.proofs.SlotPositions.{is_under, partitioned, place_from}
 use Rattle.node_core.proofs.slots.rank_in.Goals as goal
 
 pub returns : goal.returns

@@ -1,4 +1,4 @@
-use Rattle.node_log.proofs.Entries.{images_are_entries, deltas_are_entries}
+use Rattle.node_log.proofs.EntryLimits.{images_are_entries, deltas_are_entries}
 use Rattle.node_log.proofs.laws.images_are_entries.Goals as goal
 
 pub returns-clause-full : goal.returns-clause-full

@@ -1,4 +1,4 @@
-use Rattle.node_log.proofs.ReadBack.{images_are_read_back, deltas_are_read_back}
+use Rattle.node_log.proofs.NodeReadBack.{images_are_read_back, deltas_are_read_back}
 use Rattle.node_log.proofs.laws.nodes_are_read_back.Goals as goal
 
 pub returns-clause-full : goal.returns-clause-full

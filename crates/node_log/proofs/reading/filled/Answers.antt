@@ -4,7 +4,7 @@ use Rattle.std.specs.Vec.Iter.{into_iter_items}
 use Rattle.node_core.specs.declared.slot.Slot.{Slot}
 use Rattle.node_core.specs.declared.node.Node.{Node}
 use Rattle.node_core.specs.Changes.{set_now}
-use Rattle.node_log.proofs.Filling.{fills, settled_is}
+use Rattle.node_log.proofs.NodeFromSlots.{fills, cleared_is}
 use Rattle.node_log.proofs.reading.filled.Goals as goal
 
 pub loop-slot-preserved : goal.loop-slot-preserved
@@ -21,5 +21,5 @@ loop-slot-preserved c =
 pub returns : goal.returns
 returns c =
     let none : into_iter_items c.loop-slot.slot-iterator ≡ [] = first_of (search rules, grind (arith, common_steps)) in
-    settled_is c.loop-slot.node c.settle.new.self c.args.db c.args.number c.args.level (into_iter_items c.loop-slot.slot-iterator) c.args.slots
-    c.settle.ensures.value c.loop-slot.invariant.0 none c.loop-slot.invariant.1 c.loop-slot.invariant.2 c.loop-slot.invariant.3
+    cleared_is c.loop-slot.node c.clear_changed.new.self c.args.db c.args.number c.args.level (into_iter_items c.loop-slot.slot-iterator) c.args.slots
+    c.clear_changed.ensures.value c.loop-slot.invariant.0 none c.loop-slot.invariant.1 c.loop-slot.invariant.2 c.loop-slot.invariant.3

@@ -4,7 +4,7 @@ use Rattle.node_core.specs.declared.slot.Slot.{Slot}
 use Rattle.node_core.specs.declared.slot.Marked.{Marked}
 use Rattle.node_core.specs.Sorted.{put_all}
 use Rattle.node_core.specs.Changes.{set_now}
-use Rattle.node_log.proofs.Filling.{no_room}
+use Rattle.node_log.proofs.NodeFromSlots.{no_room}
 use Rattle.node_log.proofs.reading.put_slots.Goals as goal
 
 pub returns-then-not-has_room-clause-room : goal.returns-then-not-has_room-clause-room

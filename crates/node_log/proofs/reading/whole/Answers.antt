@@ -1,7 +1,7 @@
 use Rattle.std.proofs.Common.{◌∙◌, map, ap, subst}
 use Rattle.log_entry.specs.Body.{IsEntry}
 use Rattle.node_log.specs.Slots.{slot_of_child, slot_of_record}
-use Rattle.node_log.proofs.Filling.{children_slots, records_slots, in_shown, bin_shown}
+use Rattle.node_log.proofs.NodeFromSlots.{children_slots, records_slots, in_shown, bin_shown}
 use Rattle.node_log.proofs.reading.whole.Goals as goal
 
 pub filled-requires-clause-rises : goal.filled-requires-clause-rises

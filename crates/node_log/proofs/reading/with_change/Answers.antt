@@ -1,7 +1,7 @@
 use Rattle.std.proofs.Common.{◌≡◌, Option, subst, arith}
 use Rattle.std.specs.Prelude.{IfOk}
 use Rattle.node_core.specs.declared.node.Node.{Node}
-use Rattle.node_log.proofs.Filling.{entry_shown}
+use Rattle.node_log.proofs.NodeFromSlots.{entry_shown}
 use Rattle.node_log.proofs.reading.with_change.Goals as goal
 
 pub returns-else-number-node : goal.returns-else-number-node

@@ -1,5 +1,5 @@
 use Rattle.std.proofs.Common.{sym}
-use Rattle.node_log.proofs.Filling.{with_none, with_some}
+use Rattle.node_log.proofs.NodeFromSlots.{with_none, with_some}
 use Rattle.node_log.proofs.reading.with_records.Goals as goal
 
 pub returns-then-not-branch : goal.returns-then-not-branch

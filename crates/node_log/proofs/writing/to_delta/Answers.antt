@@ -1,5 +1,5 @@
 use Rattle.std.proofs.Common.{◌≡◌, arith}
-use Rattle.node_log.proofs.Filling.{delta_is}
+use Rattle.node_log.proofs.NodeFromSlots.{delta_is}
 use Rattle.node_log.proofs.writing.to_delta.Goals as goal
 
 pub returns : goal.returns

@@ -1,4 +1,4 @@
-use Rattle.script_text.proofs.Scripted.{scripted_if}
+use Rattle.script_text.proofs.PlanCalls.{scripted_if}
 use Rattle.script_text.proofs.parsing.parse.Goals as goal
 
 pub returns-clause-lines : goal.returns-clause-lines

@@ -1,16 +1,16 @@
 use Rattle.std.proofs.Common.{[], ◌++◌, take, refl, sym, ap, ◌∙◌, arith}
 use Rattle.std.proofs.lemmas.List.{append-nil, drop_all}
-use Rattle.script_text.specs.Page.{point}
+use Rattle.script_text.specs.OutBuffer.{point}
 use Rattle.script_text.specs.Report.{events_text}
-use Rattle.script_text.proofs.Sending.{adds_none, adds_same, adds_then}
-use Rattle.script_text.proofs.Waits.{events_step}
+use Rattle.script_text.proofs.BufferedText.{adds_none, adds_same, adds_then}
+use Rattle.script_text.proofs.WaitingCalls.{events_step}
 use Rattle.script_text.proofs.reporting.put_events.Goals as goal
 
 pub loop-at-init : goal.loop-at-init
 loop-at-init g c = (
   omega arith,
   tt,
-  ([], adds_none (point (g.K.Sink.written c.args.out.now) (g.K.Sink.faults c.args.out.now) c.args.page.now), refl),
+  ([], adds_none (point (g.K.Sink.written c.args.out.now) (g.K.Sink.faults c.args.out.now) c.args.buffer.now), refl),
 )
 
 pub loop-at-preserved : goal.loop-at-preserved

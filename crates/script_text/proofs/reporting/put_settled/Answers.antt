@@ -1,20 +1,20 @@
 use Rattle.std.proofs.Common.{[], ◌++◌, refl, sym, ap, ◌∙◌}
 use Rattle.std.specs.List.{flat_map}
 use Rattle.std.proofs.lemmas.List.{append-nil, drop_all}
-use Rattle.script_text.specs.Page.{point}
+use Rattle.script_text.specs.OutBuffer.{point}
 use Rattle.script_text.specs.Report.{settled_line, waiting_after}
-use Rattle.script_text.proofs.Sending.{adds_none, adds_same, adds_then}
-use Rattle.script_text.proofs.Waits.{nothing_settled, settled_step}
+use Rattle.script_text.proofs.BufferedText.{adds_none, adds_same, adds_then}
+use Rattle.script_text.proofs.WaitingCalls.{nothing_settled, settled_step}
 use Rattle.script_text.proofs.reporting.put_settled.Goals as goal
 
 pub returns-then-not-may_settle : goal.returns-then-not-may_settle
 returns-then-not-may_settle g c =
     let none = nothing_settled c.args.event.now c.if-not-may_settle.ensures (waiting_after c.args.before.now) in
-    adds_same _ _ (sym none) (adds_none (point (g.K.Sink.written c.args.out.now) (g.K.Sink.faults c.args.out.now) c.args.page.now))
+    adds_same _ _ (sym none) (adds_none (point (g.K.Sink.written c.args.out.now) (g.K.Sink.faults c.args.out.now) c.args.buffer.now))
 
 pub loop-k-init : goal.loop-k-init
 loop-k-init g c =
-    ([], adds_none (point (g.K.Sink.written c.args.out.now) (g.K.Sink.faults c.args.out.now) c.args.page.now), refl)
+    ([], adds_none (point (g.K.Sink.written c.args.out.now) (g.K.Sink.faults c.args.out.now) c.args.buffer.now), refl)
 
 pub loop-k-preserved : goal.loop-k-preserved
 loop-k-preserved g c =

@@ -1,5 +1,5 @@
 use Rattle.std.proofs.Common.{◌∙◌}
-use Rattle.script_text.proofs.Sending.{adds_same, word_is}
+use Rattle.script_text.proofs.BufferedText.{adds_same, word_is}
 use Rattle.script_text.proofs.texts.put_answer.Goals as goal
 
 pub returns-in_default : goal.returns-in_default

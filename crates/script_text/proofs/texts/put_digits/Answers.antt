@@ -1,14 +1,14 @@
 use Rattle.std.proofs.Common.{sym, ap}
 use Rattle.std.proofs.lemmas.List.{take_all}
 use Rattle.hex.specs.Hex.{encode_lower}
-use Rattle.script_text.specs.Page.{point}
-use Rattle.script_text.proofs.Digits.{encode_lower-nil, encode_lower_more}
-use Rattle.script_text.proofs.Sending.{adds_none, adds_same, adds_then}
+use Rattle.script_text.specs.OutBuffer.{point}
+use Rattle.script_text.proofs.HexDigits.{encode_lower-nil, encode_lower_more}
+use Rattle.script_text.proofs.BufferedText.{adds_none, adds_same, adds_then}
 use Rattle.script_text.proofs.texts.put_digits.Goals as goal
 
 pub loop-byte-init : goal.loop-byte-init
 loop-byte-init g c =
-    adds_same _ _ (sym encode_lower-nil) (adds_none (point (g.K.Sink.written c.args.out.now) (g.K.Sink.faults c.args.out.now) c.args.page.now))
+    adds_same _ _ (sym encode_lower-nil) (adds_none (point (g.K.Sink.written c.args.out.now) (g.K.Sink.faults c.args.out.now) c.args.buffer.now))
 
 pub loop-byte-preserved : goal.loop-byte-preserved
 loop-byte-preserved g c =

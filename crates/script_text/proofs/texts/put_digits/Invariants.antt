@@ -1,8 +1,8 @@
 use Rattle.std.proofs.Common.{take}
 use Rattle.hex.specs.Hex.{encode_lower}
-use Rattle.script_text.specs.Page.{Adds, point}
+use Rattle.script_text.specs.OutBuffer.{Adds, point}
 use Rattle.script_text.proofs.texts.put_digits.Given as goal
 
 abbrev pub invariant-loop-byte : goal.invariant-loop-byte
 invariant-loop-byte g l =
-    Adds (point (g.K.Sink.written l.initial.out) (g.K.Sink.faults l.initial.out) l.initial.page) (point (g.K.Sink.written l.out) (g.K.Sink.faults l.out) l.page) (encode_lower (take l.byte-index l.bytes))
+    Adds (point (g.K.Sink.written l.initial.out) (g.K.Sink.faults l.initial.out) l.initial.buffer) (point (g.K.Sink.written l.out) (g.K.Sink.faults l.out) l.buffer) (encode_lower (take l.byte-index l.bytes))

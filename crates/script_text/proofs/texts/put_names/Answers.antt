@@ -2,9 +2,9 @@ use Rattle.std.proofs.Common.{◌≡◌, ◌+◌, ◌<◌, ◌∷◌, [], ◌++�
 use Rattle.std.specs.List.{flat_map}
 use Rattle.std.proofs.lemmas.List.{append-nil, take_all, take_more}
 use Rattle.std.proofs.lemmas.List.Concat.{flat_map-append}
-use Rattle.script_text.specs.Page.{point}
+use Rattle.script_text.specs.OutBuffer.{point}
 use Rattle.script_text.specs.Report.{name_text}
-use Rattle.script_text.proofs.Sending.{adds_none, adds_same, adds_then}
+use Rattle.script_text.proofs.BufferedText.{adds_none, adds_same, adds_then}
 use Rattle.script_text.proofs.texts.put_names.Goals as goal
 
 -- one name more
@@ -17,7 +17,7 @@ next_name names k name within is =
     ∙ ap (flat_map name_text) (sym (take_more names k name within))
 
 pub loop-k-init : goal.loop-k-init
-loop-k-init g c = adds_none (point (g.K.Sink.written c.args.out.now) (g.K.Sink.faults c.args.out.now) c.args.page.now)
+loop-k-init g c = adds_none (point (g.K.Sink.written c.args.out.now) (g.K.Sink.faults c.args.out.now) c.args.buffer.now)
 
 pub loop-k-preserved : goal.loop-k-preserved
 loop-k-preserved g c =

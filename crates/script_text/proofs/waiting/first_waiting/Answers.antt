@@ -1,5 +1,5 @@
 use Rattle.std.proofs.Common.{refl, arith}
-use Rattle.script_text.proofs.Waits.{first_step}
+use Rattle.script_text.proofs.WaitingCalls.{first_step}
 use Rattle.script_text.proofs.waiting.first_waiting.Goals as goal
 
 pub loop-first-preserved : goal.loop-first-preserved

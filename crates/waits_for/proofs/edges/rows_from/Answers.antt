@@ -5,7 +5,7 @@ use Rattle.std.specs.declared.ops.Bound.TheVariants.{Included}
 use Rattle.je_order.specs.declared.txn_id.TxnId.{TxnId}
 use Rattle.std.proofs.lemmas.List.Elements.{recursion_from_All}
 use Rattle.waits_for.specs.Cycles.{is_from}
-use Rattle.waits_for.proofs.Pairs.{pair_cmp, txn, filter_same, in_row}
+use Rattle.waits_for.proofs.EdgeSets.{pair_cmp, txn, filter_same, in_row}
 use Rattle.waits_for.proofs.edges.rows_from.Goals as goal
 
 pub returns : goal.returns

@@ -1,6 +1,6 @@
 use Rattle.std.proofs.Common.{◌<◌, arith}
 use Rattle.std.specs.BTreeMap.{btree_map_len}
-use Rattle.waits_for.proofs.Walks.{begun, adds_from, none_in_empty, one_more}
+use Rattle.waits_for.proofs.SearchSteps.{begun, adds_from, none_in_empty, one_more}
 use Rattle.waits_for.proofs.search.begin.Goals as goal
 
 pub returns : goal.returns

@@ -1,8 +1,8 @@
 use Rattle.std.proofs.Common.{sym, ◌∙◌, ◌≡◌, []}
 use Rattle.waits_for.specs.Walk.{IsWalk}
-use Rattle.waits_for.proofs.Members.{same_is}
-use Rattle.waits_for.proofs.Walks.{last_real}
-use Rattle.waits_for.proofs.Ends.{none_left, nothing_popped}
+use Rattle.je_order.proofs.TxnIds.{same_is}
+use Rattle.waits_for.proofs.SearchSteps.{last_real}
+use Rattle.waits_for.proofs.SearchEnds.{none_left, nothing_popped}
 use Rattle.waits_for.proofs.search.find_cycle.Goals as goal
 
 pub path_to-requires-clause-closes : goal.path_to-requires-clause-closes

@@ -1,5 +1,5 @@
 use Rattle.std.proofs.Common.{refl, sym, ◌∙◌}
-use Rattle.waits_for.proofs.Walks.{visited, known, left_visited, adds_from, one_more}
+use Rattle.waits_for.proofs.SearchSteps.{visited, known, left_visited, adds_from, one_more}
 use Rattle.waits_for.proofs.search.follow.Goals as goal
 
 pub returns-then-contains_key-clause-walk : goal.returns-then-contains_key-clause-walk

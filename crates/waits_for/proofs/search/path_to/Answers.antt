@@ -2,14 +2,15 @@ use Rattle.std.proofs.Common.{arith, ◌≡◌, [], ◌∷◌, false, reverse, a
 use Rattle.std.proofs.lemmas.Bool.{and_from}
 use Rattle.std.proofs.lemmas.List.{reverse-append}
 use Rattle.std.proofs.lemmas.Bool.Decides.{nat_tests}
-use Rattle.waits_for.specs.Cycles.{is_same, is_edge, leads_to}
-use Rattle.waits_for.proofs.Walks.{ranks_fall}
-use Rattle.waits_for.proofs.Ends.{closed_path, once_back, path_start}
+use Rattle.waits_for.specs.Cycles.{is_edge, leads_to}
+use Rattle.je_order.specs.Transactions.{is_same_txn}
+use Rattle.waits_for.proofs.SearchSteps.{ranks_fall}
+use Rattle.waits_for.proofs.SearchEnds.{closed_path, once_back, path_start}
 use Rattle.waits_for.proofs.search.path_to.Goals as goal
 
 pub loop-at-smaller : goal.loop-at-smaller
 loop-at-smaller c =
-    let other : is_same c.loop-at.at c.args.from ≡ false = grind (arith, nat_tests) in
+    let other : is_same_txn c.loop-at.at c.args.from ≡ false = grind (arith, nat_tests) in
     ranks_fall c.args.edges.now c.args.from c.args.seen.now c.loop-at.at c.in-Some.step.now c.requires.tree other c.in-Some.ensures.value
 
 pub loop-at-preserved : goal.loop-at-preserved
@@ -19,7 +20,7 @@ loop-at-preserved c =
     let at = c.loop-at.at in
     let before = c.in-Some.step.now.before in
     let path = c.loop-at.path.items in
-    let other : is_same at c.args.from ≡ false = grind (arith, nat_tests) in
+    let other : is_same_txn at c.args.from ≡ false = grind (arith, nat_tests) in
     let back : reverse c.push.new.self.items ≡ at ∷ reverse path = ap reverse c.in_ok-push.ensures.items ∙ reverse-append path (at ∷ []) in
     record {
       there = c.requires.tree.back_seen at c.in-Some.step.now (sym c.in-Some.ensures.value) other;

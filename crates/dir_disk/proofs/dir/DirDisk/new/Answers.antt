@@ -8,5 +8,5 @@ returns g c = record {
   faults = refl;
   sync_out = ap (λ (j : Jobs). j.sync) c.new-2.ensures;
   read_out = ap (λ (j : Jobs). j.reading) c.new-2.ensures;
-  drawn = ap (λ (j : Jobs). j.drawn) c.new-2.ensures;
+  last_job = ap (λ (j : Jobs). j.last_job) c.new-2.ensures;
 }

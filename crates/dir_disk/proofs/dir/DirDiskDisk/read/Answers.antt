@@ -1,18 +1,18 @@
 use Rattle.std.proofs.Common.{ap}
 use Rattle.je_disk.specs.declared.jobs.Jobs.{Jobs}
-use Rattle.dir_disk.proofs.Faults.{untold, is_kept}
+use Rattle.dir_disk.proofs.FaultCauses.{untold, is_kept}
 use Rattle.dir_disk.proofs.dir.DirDiskDisk.read.Goals as goal
 
 pub returns : goal.returns
 returns g c = record {
-  within = is_kept _ _ _ c.judged.ensures.ok c.read-answer.ensures;
+  within = is_kept _ _ _ c.map_fault.ensures.ok c.read-answer.ensures;
   count = λ t. absurd (untold t);
   bytes = λ t. absurd (untold t);
   same = λ t. absurd (untold t);
   moments = λ t. absurd (untold t);
-  sync_out = ap (λ (j : Jobs). j.sync) c.judged.ensures.jobs;
-  read_out = ap (λ (j : Jobs). j.reading) c.judged.ensures.jobs;
-  read_of = ap (λ (j : Jobs). j.file.0) c.judged.ensures.jobs;
-  drawn = ap (λ (j : Jobs). j.drawn) c.judged.ensures.jobs;
-  cause = c.judged.ensures.cause;
+  sync_out = ap (λ (j : Jobs). j.sync) c.map_fault.ensures.jobs;
+  read_out = ap (λ (j : Jobs). j.reading) c.map_fault.ensures.jobs;
+  read_of = ap (λ (j : Jobs). j.file.0) c.map_fault.ensures.jobs;
+  last_job = ap (λ (j : Jobs). j.last_job) c.map_fault.ensures.jobs;
+  cause = c.map_fault.ensures.cause;
 }

@@ -1,5 +1,5 @@
 use Rattle.std.proofs.Common.{arith}
-use Rattle.je_io.proofs.Flow.{rose}
+use Rattle.je_io.proofs.SourceSinkSteps.{rose}
 use Rattle.je_io.proofs.std_source.StdSourceSource.read.Goals as goal
 
 pub returns-in-Err-clause-cause : goal.returns-in-Err-clause-cause

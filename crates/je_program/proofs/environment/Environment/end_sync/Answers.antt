@@ -4,35 +4,35 @@ use Rattle.je_disk.specs.States.{State}
 use Rattle.log_buffer.specs.Buffer.{disk_of}
 use Rattle.log_file.specs.Log.{entries_of}
 use Rattle.je_program.specs.Guarded.{log_after}
-use Rattle.je_program.proofs.BothLaws.{as_told, of_told}
+use Rattle.je_program.proofs.BothLaws.{as_observed, of_observed}
 use Rattle.je_program.proofs.SyncLaws.{ended_safely, not_ended_safely}
 use Rattle.je_program.proofs.environment.Environment.end_sync.Goals as goal
 
 pub returns-in-Ok-clause-crash : goal.returns-in-Ok-clause-crash
-returns-in-Ok-clause-crash g c = λ told most st log start journal here none guarded.
+returns-in-Ok-clause-crash g c = λ observed most st log start journal here none guarded.
     let state : g.row.D.Denot → State = λ d. now (g.D.Disk.history d) in
     let old = c.args.self.now.log in
     let new = c.sync_end.new.self in
     let held = log_after most st journal log in
     let keeping = (guarded.works none).keeping in
-    let has = as_told g.D.Disk.tells (state (disk_of old)) old held told keeping.has in
+    let has = as_observed g.D.Disk.observable (state (disk_of old)) old held observed keeping.has in
     ended_safely most st log start c.args.self.now.kept.commits (g.D.Disk.history (disk_of old)) (g.D.Disk.history (disk_of new)) old new journal none here.commits guarded
-    (c.sync_end.ensures.crash told held [] guarded.least (length (entries_of held)) has keeping.holds)
+    (c.sync_end.ensures.crash observed held [] guarded.least (length (entries_of held)) has keeping.holds)
     (record {
-      has = of_told g.D.Disk.tells (state (disk_of new)) new held told (c.in-Ok.ensures.log held has);
+      has = of_observed g.D.Disk.observable (state (disk_of new)) new held observed (c.in-Ok.ensures.log held has);
       whole = keeping.whole;
-      holds = c.in-Ok.ensures.holds told held [] guarded.least (length (entries_of held)) has keeping.holds;
+      holds = c.in-Ok.ensures.holds observed held [] guarded.least (length (entries_of held)) has keeping.holds;
     })
 
 pub returns-in-Err-clause-crash : goal.returns-in-Err-clause-crash
-returns-in-Err-clause-crash g c = λ told most st log start journal here none guarded.
+returns-in-Err-clause-crash g c = λ observed most st log start journal here none guarded.
     let state : g.row.D.Denot → State = λ d. now (g.D.Disk.history d) in
     let old = c.args.self.now.log in
     let new = c.sync_end.new.self in
     let held = log_after most st journal log in
     let keeping = (guarded.works none).keeping in
     not_ended_safely most st log start (g.D.Disk.history (disk_of old)) (g.D.Disk.history (disk_of new)) old new journal (Some (length (entries_of held))) none guarded
-    (c.sync_end.ensures.crash told held [] guarded.least (length (entries_of held)) (as_told g.D.Disk.tells (state (disk_of old)) old held told keeping.has) keeping.holds)
+    (c.sync_end.ensures.crash observed held [] guarded.least (length (entries_of held)) (as_observed g.D.Disk.observable (state (disk_of old)) old held observed keeping.has) keeping.holds)
     (c.in-Err.ensures.cause.failed.1 (ap Err c.in-Err.ensures.by_fault))
 
 pub returns-in-Ok-clause-ends : goal.returns-in-Ok-clause-ends

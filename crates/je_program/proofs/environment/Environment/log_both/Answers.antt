@@ -1,13 +1,13 @@
 use Rattle.std.proofs.Common.{◌≡◌, ◌∷◌, [], ◌+◌, ℕ, refl, ap, sym, subst, ◌∙◌, arith, None}
-use Rattle.je_disk.specs.Causes.{Rose}
+use Rattle.je_order.specs.Counts.{HasRisen}
 use Rattle.je_disk.specs.Moments.{now, History}
 use Rattle.je_disk.specs.States.{State}
 use Rattle.log_buffer.specs.Buffer.{disk_of, end_of, file_max_of}
 use Rattle.log_buffer.specs.Flip.{end_after_all}
 use Rattle.log_entry.specs.declared.entry.Entry.{Entry}
 use Rattle.log_entry.specs.declared.entry.Entry.TheVariants.{Commit}
-use Rattle.log_entry.specs.Spelling.{size_of}
-use Rattle.log_replay.specs.Logging.{entry_of}
+use Rattle.log_entry.specs.Encoding.{size_of}
+use Rattle.log_replay.specs.Logging.{change_entry}
 use Rattle.log_replay.specs.Rows.{rows_in}
 use Rattle.log_buffer.specs.Growth.{log_with_all}
 use Rattle.je_program.specs.Environment.{logged_sizes}
@@ -15,7 +15,7 @@ use Rattle.je_program.specs.Logging.{rows_after}
 use Rattle.je_program.specs.Planning.{end_behind}
 use Rattle.log_file.specs.Log.{Log}
 use Rattle.log_buffer.specs.Crash.{KeptThrough}
-use Rattle.log_buffer.specs.declared.place.Place.{Place}
+use Rattle.log_buffer.specs.declared.log_pos.LogPos.{LogPos}
 use Rattle.je_program.specs.Guarded.{IsKeeping}
 use Rattle.je_program.proofs.GuardLaws.{keeping_unchanged, logs_nothing_safely}
 use Rattle.je_program.proofs.LoggingLaws.{can_go_on, end_along, end_found, gains_along, keeps_unchanged, logs_nothing, rows_after_is, sizes_are}
@@ -24,17 +24,17 @@ use Rattle.je_program.proofs.environment.Environment.log_both.Goals as goal
 pub returns-then-is_err-clause-logs : goal.returns-then-is_err-clause-logs
 returns-then-is_err-clause-logs g c = λ change is. (
   record { rows = λ d. refl; totals = refl; last_txn = refl; last_db = refl; end = refl; file_max = refl; commits = refl; fault = refl },
-  keeps_unchanged g.D.Disk.tells (λ d. now (g.D.Disk.history d)) c.args.self.now.log c.reserve.new.self c.reserve.ensures.unchanged,
+  keeps_unchanged g.D.Disk.observable (λ d. now (g.D.Disk.history d)) c.args.self.now.log c.reserve.new.self c.reserve.ensures.unchanged,
 )
 
 pub returns-in_err-change_rows-clause-logs : goal.returns-in_err-change_rows-clause-logs
 returns-in_err-change_rows-clause-logs g c = λ change is.
     let state : g.row.D.Denot → State = λ d. now (g.D.Disk.history d) in
     let old = c.args.self.now in
-    logs_nothing g.D.Disk.tells (state (disk_of old.log)) (state (disk_of c.reserve.new.self)) old.log c.reserve.new.self old.kept (record old.kept { rows = c.change_rows.new.rows })
+    logs_nothing g.D.Disk.observable (state (disk_of old.log)) (state (disk_of c.reserve.new.self)) old.log c.reserve.new.self old.kept (record old.kept { rows = c.change_rows.new.rows })
     c.args.number change c.args.totals c.from_residual.result c.from_residual.ensures.0
     (record { rows = c.in_err-change_rows.ensures.err; totals = refl; last_txn = refl; last_db = refl; end = refl; file_max = refl; commits = refl; fault = refl })
-    (keeps_unchanged g.D.Disk.tells state old.log c.reserve.new.self c.reserve.ensures.unchanged)
+    (keeps_unchanged g.D.Disk.observable state old.log c.reserve.new.self c.reserve.ensures.unchanged)
 
 pub returns-in-Ok-clause-logs : goal.returns-in-Ok-clause-logs
 returns-in-Ok-clause-logs g c = λ change is.
@@ -43,7 +43,7 @@ returns-in-Ok-clause-logs g c = λ change is.
     let reserved = c.reserve.new.self in
     let same = c.reserve.ensures.unchanged in
     let txn = old.kept.last_txn + 1 in
-    let entry : c.args.entry.now ≡ entry_of txn c.args.number change = is.0 in
+    let entry : c.args.entry.now ≡ change_entry txn c.args.number change = is.0 in
     let commit : c.args.commit.now ≡ Commit (record { 0 = txn }) = is.1 in
     let sizes : size_of c.args.entry.now ∷ 22 ∷ [] ≡ logged_sizes (change ∷ []) = ap (λ (e : Entry). size_of e ∷ 22 ∷ []) entry ∙ sizes_are txn c.args.number change is.2 in
     let end : c.unwrap-end.result ≡ end_behind old.kept change =
@@ -71,9 +71,9 @@ returns-in-Ok-clause-logs g c = λ change is.
         file_max = c.in-Ok.ensures.file_max ∙ same.kept.max ∙ c.requires.works.file_max;
         works = c.in-Ok.ensures.works;
       },
-      gains_along g.D.Disk.tells (state (disk_of old.log)) (state (disk_of reserved)) (state (disk_of c.append_both.new.log)) old.log reserved c.append_both.new.log
-          (c.args.entry.now ∷ c.args.commit.now ∷ []) (entry_of txn c.args.number change ∷ Commit (record { 0 = txn }) ∷ [])
-          (keeps_unchanged g.D.Disk.tells state old.log reserved same) (ap (λ (e : Entry). e ∷ c.args.commit.now ∷ []) entry ∙ ap (λ (e : Entry). entry_of txn c.args.number change ∷ e ∷ []) commit) gains,
+      gains_along g.D.Disk.observable (state (disk_of old.log)) (state (disk_of reserved)) (state (disk_of c.append_both.new.log)) old.log reserved c.append_both.new.log
+          (c.args.entry.now ∷ c.args.commit.now ∷ []) (change_entry txn c.args.number change ∷ Commit (record { 0 = txn }) ∷ [])
+          (keeps_unchanged g.D.Disk.observable state old.log reserved same) (ap (λ (e : Entry). e ∷ c.args.commit.now ∷ []) entry ∙ ap (λ (e : Entry). change_entry txn c.args.number change ∷ e ∷ []) commit) gains,
     )
 
 pub returns-in-Ok-clause-bounds : goal.returns-in-Ok-clause-bounds
@@ -81,7 +81,7 @@ returns-in-Ok-clause-bounds g c =
     let old = c.args.self.now in
     let change = c.requires.logs.0 in
     let txn = old.kept.last_txn + 1 in
-    let entry : c.args.entry.now ≡ entry_of txn c.args.number change = c.requires.logs.1.0 in
+    let entry : c.args.entry.now ≡ change_entry txn c.args.number change = c.requires.logs.1.0 in
     let sizes : size_of c.args.entry.now ∷ 22 ∷ [] ≡ logged_sizes (change ∷ []) = ap (λ (e : Entry). size_of e ∷ 22 ∷ []) entry ∙ sizes_are txn c.args.number change c.requires.logs.1.2 in
     let end : c.unwrap-end.result ≡ end_behind old.kept change =
     end_found (end_after_all old.kept.file_max old.kept.end (c.size-size.result ∷ 22 ∷ [])) c.unwrap-end.result (sym c.unwrap-end.ensures ∙ c.end_of_transaction.ensures)
@@ -104,18 +104,18 @@ returns-in-Err-clause-cause g c =
     let same : faults (disk_of c.reserve.new.self) ≡ faults (disk_of c.args.self.now.log) = ap faults c.reserve.ensures.unchanged.disk in
     record {
       never_falls = omega (arith, c.append_both.ensures.never_falls, same);
-      fault = λ is. subst (λ (n : ℕ). Rose n (faults (disk_of c.append_both.new.log))) same c.in-Err.ensures.fault;
+      fault = λ is. subst (λ (n : ℕ). HasRisen n (faults (disk_of c.append_both.new.log))) same c.in-Err.ensures.fault;
     }
 
 pub returns-then-is_err-clause-crash : goal.returns-then-is_err-clause-crash
-returns-then-is_err-clause-crash g c = λ told held least keeping.
+returns-then-is_err-clause-crash g c = λ observed held least keeping.
     let state : g.row.D.Denot → State = λ d. now (g.D.Disk.history d) in
     let old = c.args.self.now in
     let same = c.reserve.ensures.unchanged in
     (ap (λ d. g.D.Disk.history d) same.disk, keeping_unchanged state old.log c.reserve.new.self held least None same keeping)
 
 pub returns-in_err-change_rows-clause-crash : goal.returns-in_err-change_rows-clause-crash
-returns-in_err-change_rows-clause-crash g c = λ told held least keeping.
+returns-in_err-change_rows-clause-crash g c = λ observed held least keeping.
     let state : g.row.D.Denot → State = λ d. now (g.D.Disk.history d) in
     let old = c.args.self.now in
     let same = c.reserve.ensures.unchanged in
@@ -124,7 +124,7 @@ returns-in_err-change_rows-clause-crash g c = λ told held least keeping.
     c.from_residual.result c.from_residual.ensures.0 (ap (λ d. g.D.Disk.history d) same.disk) (keeping_unchanged state old.log c.reserve.new.self held least None same keeping)
 
 pub returns-in-Ok-clause-crash : goal.returns-in-Ok-clause-crash
-returns-in-Ok-clause-crash g c = λ told held least keeping.
+returns-in-Ok-clause-crash g c = λ observed held least keeping.
     let state : g.row.D.Denot → State = λ d. now (g.D.Disk.history d) in
     let old = c.args.self.now in
     let reserved = c.reserve.new.self in
@@ -135,17 +135,17 @@ returns-in-Ok-clause-crash g c = λ told held least keeping.
     let log_is : log_with_all (file_max_of reserved) (end_of reserved) both held
     ≡ log_with_all old.kept.file_max old.kept.end both held =
     ap (λ (m : ℕ). log_with_all m (end_of reserved) both held) (same.kept.max ∙ c.requires.works.file_max)
-    ∙ ap (λ (p : Place). log_with_all old.kept.file_max p both held) (same.kept.end ∙ c.requires.works.end) in
-    let through = c.append_both.ensures.crash told held least keeps in (
+    ∙ ap (λ (p : LogPos). log_with_all old.kept.file_max p both held) (same.kept.end ∙ c.requires.works.end) in
+    let through = c.append_both.ensures.crash observed held least keeps in (
       subst (λ (h : History). KeptThrough h (g.D.Disk.history (disk_of new)) (log_with_all old.kept.file_max old.kept.end both held) [] least)
           (ap (λ d. g.D.Disk.history d) same.disk)
           (subst (λ (l : Log). KeptThrough (g.D.Disk.history (disk_of reserved)) (g.D.Disk.history (disk_of new)) l [] least) log_is through),
-      λ ne. subst (λ (l : Log). IsKeeping (state (disk_of new)) new l least None) log_is (c.in-Ok.ensures.keeps told held least keeps),
+      λ ne. subst (λ (l : Log). IsKeeping (state (disk_of new)) new l least None) log_is (c.in-Ok.ensures.keeps observed held least keeps),
       λ ok e. cc,
     )
 
 pub returns-in-Err-clause-crash : goal.returns-in-Err-clause-crash
-returns-in-Err-clause-crash g c = λ told held least keeping.
+returns-in-Err-clause-crash g c = λ observed held least keeping.
     let state : g.row.D.Denot → State = λ d. now (g.D.Disk.history d) in
     let old = c.args.self.now in
     let reserved = c.reserve.new.self in
@@ -156,8 +156,8 @@ returns-in-Err-clause-crash g c = λ told held least keeping.
     let log_is : log_with_all (file_max_of reserved) (end_of reserved) both held
     ≡ log_with_all old.kept.file_max old.kept.end both held =
     ap (λ (m : ℕ). log_with_all m (end_of reserved) both held) (same.kept.max ∙ c.requires.works.file_max)
-    ∙ ap (λ (p : Place). log_with_all old.kept.file_max p both held) (same.kept.end ∙ c.requires.works.end) in
-    let through = c.append_both.ensures.crash told held least keeps in (
+    ∙ ap (λ (p : LogPos). log_with_all old.kept.file_max p both held) (same.kept.end ∙ c.requires.works.end) in
+    let through = c.append_both.ensures.crash observed held least keeps in (
       subst (λ (h : History). KeptThrough h (g.D.Disk.history (disk_of new)) (log_with_all old.kept.file_max old.kept.end both held) [] least)
           (ap (λ d. g.D.Disk.history d) same.disk)
           (subst (λ (l : Log). KeptThrough (g.D.Disk.history (disk_of reserved)) (g.D.Disk.history (disk_of new)) l [] least) log_is through),

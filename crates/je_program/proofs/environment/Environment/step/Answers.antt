@@ -19,7 +19,7 @@ log-requires-clause-entry g c κs within =
     let kept = c.args.self.now.kept in
     let log = c.args.self.now.log in
     let logged : IsLogged kept c.requires.here.1 c.args.call.now c.in-Logs.number c.in-Logs.change c.in-Logs.totals =
-    plan_of c.requires.here.0 g.D.Disk.tells (now (g.D.Disk.history (disk_of log))) log kept c.requires.here.1 c.args.call.now (Logs c.in-Logs.number c.in-Logs.change c.in-Logs.totals)
+    plan_of c.requires.here.0 g.D.Disk.observable (now (g.D.Disk.history (disk_of log))) log kept c.requires.here.1 c.args.call.now (Logs c.in-Logs.number c.in-Logs.change c.in-Logs.totals)
     c.requires.here.2 c.in_default.is c.requires.bounds.last_db c.in_ok-answer.ensures.word c.requires.line (sym c.in-Logs.is ∙ c.in_ok-answer.ensures.planned) in
     logged.entry (kept.last_txn + 1) (omega arith)
 
@@ -28,7 +28,7 @@ log-requires-clause-one g c κs within =
     let kept = c.args.self.now.kept in
     let log = c.args.self.now.log in
     let logged : IsLogged kept c.requires.here.1 c.args.call.now c.in-Logs.number c.in-Logs.change c.in-Logs.totals =
-    plan_of c.requires.here.0 g.D.Disk.tells (now (g.D.Disk.history (disk_of log))) log kept c.requires.here.1 c.args.call.now (Logs c.in-Logs.number c.in-Logs.change c.in-Logs.totals)
+    plan_of c.requires.here.0 g.D.Disk.observable (now (g.D.Disk.history (disk_of log))) log kept c.requires.here.1 c.args.call.now (Logs c.in-Logs.number c.in-Logs.change c.in-Logs.totals)
     c.requires.here.2 c.in_default.is c.requires.bounds.last_db c.in_ok-answer.ensures.word c.requires.line (sym c.in-Logs.is ∙ c.in_ok-answer.ensures.planned) in
     one_entry (rows_in kept.rows) kept.last_db c.in-Logs.number c.in-Logs.change logged.may
 
@@ -37,7 +37,7 @@ log-requires-clause-room g c κs within =
     let kept = c.args.self.now.kept in
     let log = c.args.self.now.log in
     let logged : IsLogged kept c.requires.here.1 c.args.call.now c.in-Logs.number c.in-Logs.change c.in-Logs.totals =
-    plan_of c.requires.here.0 g.D.Disk.tells (now (g.D.Disk.history (disk_of log))) log kept c.requires.here.1 c.args.call.now (Logs c.in-Logs.number c.in-Logs.change c.in-Logs.totals)
+    plan_of c.requires.here.0 g.D.Disk.observable (now (g.D.Disk.history (disk_of log))) log kept c.requires.here.1 c.args.call.now (Logs c.in-Logs.number c.in-Logs.change c.in-Logs.totals)
     c.requires.here.2 c.in_default.is c.requires.bounds.last_db c.in_ok-answer.ensures.word c.requires.line (sym c.in-Logs.is ∙ c.in_ok-answer.ensures.planned) in
     logged.room
 
@@ -45,53 +45,53 @@ pub returns-in-Answered-clause-goes_on : goal.returns-in-Answered-clause-goes_on
 returns-in-Answered-clause-goes_on g c = λ most st here.
     let kept = c.args.self.now.kept in
     let log = c.args.self.now.log in
-    answered_goes_on most g.D.Disk.tells (now (g.D.Disk.history (disk_of log))) log kept st c.args.call.now c.in-Answered.answer here c.in_default.is c.if-self-ge-LAST_TXN.false
-    (plan_of most g.D.Disk.tells (now (g.D.Disk.history (disk_of log))) log kept st c.args.call.now (Answered c.in-Answered.answer)
+    answered_goes_on most g.D.Disk.observable (now (g.D.Disk.history (disk_of log))) log kept st c.args.call.now c.in-Answered.answer here c.in_default.is c.if-self-ge-LAST_TXN.false
+    (plan_of most g.D.Disk.observable (now (g.D.Disk.history (disk_of log))) log kept st c.args.call.now (Answered c.in-Answered.answer)
     here c.in_default.is c.requires.bounds.last_db c.in_ok-answer.ensures.word c.requires.line (sym c.in-Answered.is ∙ c.in_ok-answer.ensures.planned))
 
 pub returns-in-Logs-clause-goes_on : goal.returns-in-Logs-clause-goes_on
 returns-in-Logs-clause-goes_on g c = λ most st here.
     let kept = c.args.self.now.kept in
     let log = c.args.self.now.log in
-    logged_goes_on most g.D.Disk.tells (now (g.D.Disk.history (disk_of log))) (now (g.D.Disk.history (disk_of c.log.new.self.log))) log c.log.new.self.log kept c.log.new.self.kept st c.args.call.now
+    logged_goes_on most g.D.Disk.observable (now (g.D.Disk.history (disk_of log))) (now (g.D.Disk.history (disk_of c.log.new.self.log))) log c.log.new.self.log kept c.log.new.self.kept st c.args.call.now
     c.in-Logs.number c.in-Logs.change c.in-Logs.totals c.log.result here c.in_default.is c.if-self-ge-LAST_TXN.false c.requires.bounds.offset
-    (plan_of most g.D.Disk.tells (now (g.D.Disk.history (disk_of log))) log kept st c.args.call.now (Logs c.in-Logs.number c.in-Logs.change c.in-Logs.totals)
+    (plan_of most g.D.Disk.observable (now (g.D.Disk.history (disk_of log))) log kept st c.args.call.now (Logs c.in-Logs.number c.in-Logs.change c.in-Logs.totals)
     here c.in_default.is c.requires.bounds.last_db c.in_ok-answer.ensures.word c.requires.line (sym c.in-Logs.is ∙ c.in_ok-answer.ensures.planned))
     c.log.ensures.logs
 
 pub returns-in-Answered-clause-crash : goal.returns-in-Answered-clause-crash
-returns-in-Answered-clause-crash g c = λ told most st log start session line journal here guarded.
+returns-in-Answered-clause-crash g c = λ observed most st log start session line journal here guarded.
     let kept = c.args.self.now.kept in
     let buffer = c.args.self.now.log in
-    let planned = plan_of most g.D.Disk.tells (now (g.D.Disk.history (disk_of buffer))) buffer kept (after_events (log_rule most) st journal) c.args.call.now (Answered c.in-Answered.answer)
+    let planned = plan_of most g.D.Disk.observable (now (g.D.Disk.history (disk_of buffer))) buffer kept (after_events (log_rule most) st journal) c.args.call.now (Answered c.in-Answered.answer)
     here c.in_default.is c.requires.bounds.last_db c.in_ok-answer.ensures.word c.requires.line (sym c.in-Answered.is ∙ c.in_ok-answer.ensures.planned) in
     guarded_quiet most st log start (g.D.Disk.history (disk_of buffer)) buffer journal session line c.args.call.now c.in-Answered.answer
     (plain_unlogged c.in-Answered.answer planned.1) (plain_no_fault c.in-Answered.answer planned.1) guarded
 
 pub returns-in-Logs-clause-crash : goal.returns-in-Logs-clause-crash
-returns-in-Logs-clause-crash g c = λ told most st log start session line journal here guarded.
+returns-in-Logs-clause-crash g c = λ observed most st log start session line journal here guarded.
     let kept = c.args.self.now.kept in
     let buffer = c.args.self.now.log in
     let history = g.D.Disk.history (disk_of buffer) in
     let standing = after_events (log_rule most) st journal in
-    let here_told : IsAt most true (now history) buffer kept standing = subst (λ (t : Bool). IsAt most t (now history) buffer kept standing) told here in
+    let here_observed : IsAt most true (now history) buffer kept standing = subst (λ (t : Bool). IsAt most t (now history) buffer kept standing) observed here in
     let none : standing.fault ≡ None = sym here.fault ∙ c.in_default.is in
-    let logged = plan_of most g.D.Disk.tells (now history) buffer kept standing c.args.call.now (Logs c.in-Logs.number c.in-Logs.change c.in-Logs.totals)
+    let logged = plan_of most g.D.Disk.observable (now history) buffer kept standing c.args.call.now (Logs c.in-Logs.number c.in-Logs.change c.in-Logs.totals)
     here c.in_default.is c.requires.bounds.last_db c.in_ok-answer.ensures.word c.requires.line (sym c.in-Logs.is ∙ c.in_ok-answer.ensures.planned) in
     let keeping = (guarded.works none).keeping in
     goes_on_safely most st log start history (g.D.Disk.history (disk_of c.log.new.self.log)) buffer c.log.new.self.log kept c.log.new.self.kept journal session line c.args.call.now
-    c.in-Logs.number c.in-Logs.change c.in-Logs.totals g.D.Disk.tells c.log.result here_told none guarded logged
+    c.in-Logs.number c.in-Logs.change c.in-Logs.totals g.D.Disk.observable c.log.result here_observed none guarded logged
     (both_logged (now history) buffer kept standing c.args.call.now c.in-Logs.number c.in-Logs.change c.in-Logs.totals (log_after most st journal log) guarded.least keeping (here.valid none).at_end logged c.if-self-ge-LAST_TXN.false)
-    c.log.ensures.logs (c.log.ensures.crash told (log_after most st journal log) guarded.least keeping)
+    c.log.ensures.logs (c.log.ensures.crash observed (log_after most st journal log) guarded.least keeping)
 
 pub returns-in-Some-clause-crash : goal.returns-in-Some-clause-crash
-returns-in-Some-clause-crash g c = λ told most st log start session line journal here guarded.
+returns-in-Some-clause-crash g c = λ observed most st log start session line journal here guarded.
     guarded_quiet most st log start (g.D.Disk.history (disk_of c.args.self.now.log)) c.args.self.now.log journal session line c.args.call.now (Invalid c.in-Some.first) refl refl guarded
 
 pub returns-then-self-ge-LAST_TXN-clause-crash : goal.returns-then-self-ge-LAST_TXN-clause-crash
-returns-then-self-ge-LAST_TXN-clause-crash g c = λ told most st log start session line journal here guarded.
+returns-then-self-ge-LAST_TXN-clause-crash g c = λ observed most st log start session line journal here guarded.
     guarded_quiet most st log start (g.D.Disk.history (disk_of c.args.self.now.log)) c.args.self.now.log journal session line c.args.call.now IdsEnded refl refl guarded
 
 pub returns-in_err-answer-clause-crash : goal.returns-in_err-answer-clause-crash
-returns-in_err-answer-clause-crash g c = λ told most st log start session line journal here guarded.
+returns-in_err-answer-clause-crash g c = λ observed most st log start session line journal here guarded.
     goes_nowhere most st log start (g.D.Disk.history (disk_of c.args.self.now.log)) c.args.self.now.log journal session line c.args.call.now c.from_residual.result c.from_residual.ensures.0 guarded

@@ -1,4 +1,4 @@
-use Rattle.lock_mgr.proofs.Free.{free_cancel}
+use Rattle.lock_mgr.proofs.NoDeadlockLaws.{free_cancel}
 use Rattle.lock_mgr.proofs.manager.LockMgr.cancel.Goals as goal
 
 pub invariant_of-self : goal.invariant_of-self

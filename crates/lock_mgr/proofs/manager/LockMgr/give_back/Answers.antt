@@ -2,8 +2,8 @@ use Rattle.std.proofs.Common.{sym, ◌≡◌, Some, subst}
 use Rattle.std.specs.Option.{IsSome}
 use Rattle.lock_table.specs.Locks.{held_by}
 use Rattle.lock_table.specs.Table.{locks_at}
-use Rattle.lock_table.proofs.Steps.{some_held}
-use Rattle.lock_mgr.proofs.Free.{free_give_back}
+use Rattle.lock_table.proofs.CallSteps.{some_held}
+use Rattle.lock_mgr.proofs.NoDeadlockLaws.{free_give_back}
 use Rattle.lock_mgr.proofs.manager.LockMgr.give_back.Goals as goal
 
 pub invariant_of-self : goal.invariant_of-self

@@ -1,4 +1,4 @@
-use Rattle.lock_mgr.proofs.Free.{free_new}
+use Rattle.lock_mgr.proofs.NoDeadlockLaws.{free_new}
 use Rattle.lock_mgr.proofs.manager.LockMgr.new.Goals as goal
 
 pub invariant_of-result : goal.invariant_of-result

@@ -1,4 +1,4 @@
-use Rattle.lock_mgr.proofs.Free.{free_release}
+use Rattle.lock_mgr.proofs.NoDeadlockLaws.{free_release}
 use Rattle.lock_mgr.proofs.manager.LockMgr.release_all.Goals as goal
 
 pub invariant_of-self : goal.invariant_of-self

@@ -1,7 +1,7 @@
 use Rattle.lock_table.specs.Records.{queue_at}
 use Rattle.lock_table.specs.Table.{at_txn, is_listed}
-use Rattle.lock_table.proofs.Listing.{unless}
-use Rattle.lock_table.proofs.Sound.{sound_cancel}
+use Rattle.lock_table.proofs.RecordLists.{unless}
+use Rattle.lock_table.proofs.WholeTable.{sound_cancel}
 use Rattle.lock_table.proofs.table.LockTable.cancel.Goals as goal
 
 pub invariant_of-self : goal.invariant_of-self

@@ -3,8 +3,8 @@ use Rattle.lock_table.specs.Records.{queue_at}
 use Rattle.lock_table.specs.Table.{locks_at, at_txn, is_listed}
 use Rattle.std.specs.Option.{IsSome}
 use Rattle.lock_table.specs.Locks.{held_by}
-use Rattle.lock_table.proofs.Sound.{sound_give_back}
-use Rattle.lock_table.proofs.Steps.{some_held}
+use Rattle.lock_table.proofs.WholeTable.{sound_give_back}
+use Rattle.lock_table.proofs.CallSteps.{some_held}
 use Rattle.lock_table.proofs.table.LockTable.give_back.Goals as goal
 
 pub invariant_of-self : goal.invariant_of-self

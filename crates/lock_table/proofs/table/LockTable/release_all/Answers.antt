@@ -1,8 +1,8 @@
 use Rattle.std.proofs.Common.{None}
 use Rattle.lock_table.specs.Records.{queue_at}
 use Rattle.lock_table.specs.Table.{at_txn, is_listed}
-use Rattle.lock_table.proofs.Listing.{changed_there, changed_at}
-use Rattle.lock_table.proofs.Sound.{sound_release}
+use Rattle.lock_table.proofs.RecordLists.{changed_there, changed_at}
+use Rattle.lock_table.proofs.WholeTable.{sound_release}
 use Rattle.lock_table.proofs.table.LockTable.release_all.Goals as goal
 
 pub invariant_of-self : goal.invariant_of-self

@@ -1,5 +1,5 @@
 use Rattle.std.proofs.Common.{arith}
-use Rattle.log_buffer.proofs.Causing.{only_faults, on_fault}
+use Rattle.log_buffer.proofs.FaultCauses.{only_faults, on_fault}
 use Rattle.log_buffer.proofs.buffer.LogBuffer.append_reserved.Goals as goal
 
 pub returns-clause-by_fault : goal.returns-clause-by_fault

@@ -1,20 +1,20 @@
 use Rattle.std.proofs.Common.{ℕ, ◌/◌, ◌-◌, [], length, refl, ap, sym, subst, ◌∙◌, arith}
 use Rattle.je_disk.specs.Moments.{now}
 use Rattle.log_buffer.specs.Log.{EndsAt}
-use Rattle.log_buffer.proofs.Tails.{bytes_for_none}
-use Rattle.log_buffer.proofs.Rooms.{same_for}
-use Rattle.log_buffer.proofs.Ending.{log_at_end}
-use Rattle.log_buffer.proofs.KeptOpening.{synced_holds}
+use Rattle.log_buffer.proofs.WriteBuffers.{bytes_for_none}
+use Rattle.log_buffer.proofs.WriteBufferRoom.{same_for}
+use Rattle.log_buffer.proofs.LogEnds.{log_at_end}
+use Rattle.log_buffer.proofs.CrashOpen.{synced_holds}
 use Rattle.log_buffer.proofs.buffer.LogBuffer.resume.Goals as goal
 
 pub returns-clause-log : goal.returns-clause-log
 returns-clause-log g c =
     λ log is ends read.
-    log_at_end g.D.Disk.tells (now (g.D.Disk.history c.args.disk)) _ log
+    log_at_end g.D.Disk.observable (now (g.D.Disk.history c.args.disk)) _ log
     (record {
       empty = λ f. same_for [] [] c.new.result.bytes.items c.new.result.starts.items c.file-file.result.0 f c.new.ensures.bytes c.new.ensures.starts ∙ bytes_for_none c.file-file.result.0 f;
       first = let starts = ap length c.new.ensures.starts in omega (arith, starts);
-      base = refl;
+      flushed_len = refl;
     })
     is
     (subst (λ (k : ℕ). EndsAt log k c.offset-offset.result c.args.last) (sym c.file-file.ensures)
@@ -23,8 +23,8 @@ returns-clause-log g c =
 
 pub returns-clause-holds : goal.returns-clause-holds
 returns-clause-holds g c =
-    λ told log is ends read stable.
+    λ observed log is ends read stable.
     synced_holds log c.file-file.result.0 c.offset-offset.result c.args.last (c.file-file.result.0 - length c.new.result.starts.items) (now (g.D.Disk.history c.args.disk)) is
     (subst (λ (k : ℕ). EndsAt log k c.offset-offset.result c.args.last) (sym c.file-file.ensures)
     (subst (λ (k : ℕ). EndsAt log (c.args.at / 4294967296) k c.args.last) (sym c.offset-offset.ensures) ends))
-    (omega arith) (read told) stable
+    (omega arith) (read observed) stable

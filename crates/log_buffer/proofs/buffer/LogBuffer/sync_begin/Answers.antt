@@ -5,42 +5,42 @@ use Rattle.je_disk.specs.States.{State}
 use Rattle.log_file.specs.Log.{entries_of}
 use Rattle.log_buffer.specs.Buffer.{file_of, offset_of, last_of, first_of}
 use Rattle.log_buffer.specs.Crash.{Holds}
-use Rattle.log_buffer.proofs.KeptSyncs.{holds_begun, begun_through}
-use Rattle.log_buffer.proofs.Prefixes.{told_prefixes}
-use Rattle.log_buffer.proofs.Still.{log_still, tail_over}
-use Rattle.log_buffer.proofs.Causing.{cause_err, err_is, failed_not, cause_then_ok, cause_then_fault}
+use Rattle.log_buffer.proofs.CrashSync.{holds_begun, begun_through}
+use Rattle.log_buffer.proofs.Prefixes.{observed_prefixes}
+use Rattle.log_buffer.proofs.UnchangedBuffer.{log_still, unwritten_over}
+use Rattle.log_buffer.proofs.FaultCauses.{cause_err, err_is, failed_not, cause_then_ok, cause_then_fault}
 use Rattle.log_buffer.proofs.buffer.LogBuffer.sync_begin.Goals as goal
 
 pub returns-in-Ok-clause-holds : goal.returns-in-Ok-clause-holds
 returns-in-Ok-clause-holds g c =
     let written = c.write_out.new.self in
-    λ told log removed least begun has h.
+    λ observed log removed least begun has h.
     let has_written = c.in_ok-write_out.ensures.grew.log log has in
-    subst (Holds log removed least (Some (length (entries_of log))) (first_of written)) (sym (c.in-Ok.ensures.done told))
+    subst (Holds log removed least (Some (length (entries_of log))) (first_of written)) (sym (c.in-Ok.ensures.done observed))
     (holds_begun log removed least (file_of written) (offset_of written) (last_of written) (first_of written) begun (now (g.D.Disk.history written.disk)) has_written.is_log has_written.ends (omega arith)
-    (c.in_ok-write_out.ensures.whole log has told) (c.in_ok-write_out.ensures.grew.holds told log removed least begun has h))
+    (c.in_ok-write_out.ensures.whole log has observed) (c.in_ok-write_out.ensures.grew.holds observed log removed least begun has h))
 
 pub returns-in-Ok-clause-log : goal.returns-in-Ok-clause-log
 returns-in-Ok-clause-log g c =
     let written = c.write_out.new.self in
     λ log has.
-    log_still g.D.Disk.tells (now (g.D.Disk.history written.disk)) _ written _ log (λ told. ap (λ (s : State). s.reads) (c.in-Ok.ensures.done told)) (tail_over written) (c.in_ok-write_out.ensures.grew.log log has)
+    log_still g.D.Disk.observable (now (g.D.Disk.history written.disk)) _ written _ log (λ observed. ap (λ (s : State). s.reads) (c.in-Ok.ensures.done observed)) (unwritten_over written) (c.in_ok-write_out.ensures.grew.log log has)
 
 pub returns-in-Ok-clause-crash : goal.returns-in-Ok-clause-crash
 returns-in-Ok-clause-crash g c =
     let written = c.write_out.new.self in
-    λ told log removed least begun has h.
+    λ observed log removed least begun has h.
     begun_through log removed least (first_of written) begun (g.D.Disk.history c.args.self.now.disk) (g.D.Disk.history written.disk) (g.D.Disk.history c.begin_sync.new.self)
-    (c.in_ok-write_out.ensures.grew.crash told log removed least begun has h) (told_prefixes g.D.Disk.tells _ written log told (c.in_ok-write_out.ensures.grew.log log has)) (c.in_ok-write_out.ensures.grew.holds told log removed least begun has h)
-    (c.begin_sync.ensures.moments told)
+    (c.in_ok-write_out.ensures.grew.crash observed log removed least begun has h) (observed_prefixes g.D.Disk.observable _ written log observed (c.in_ok-write_out.ensures.grew.log log has)) (c.in_ok-write_out.ensures.grew.holds observed log removed least begun has h)
+    (c.begin_sync.ensures.moments observed)
 
 pub returns-in-Err-clause-crash : goal.returns-in-Err-clause-crash
 returns-in-Err-clause-crash g c =
     let written = c.write_out.new.self in
-    λ told log removed least begun has h.
+    λ observed log removed least begun has h.
     begun_through log removed least (first_of written) begun (g.D.Disk.history c.args.self.now.disk) (g.D.Disk.history written.disk) (g.D.Disk.history c.begin_sync.new.self)
-    (c.in_ok-write_out.ensures.grew.crash told log removed least begun has h) (told_prefixes g.D.Disk.tells _ written log told (c.in_ok-write_out.ensures.grew.log log has)) (c.in_ok-write_out.ensures.grew.holds told log removed least begun has h)
-    (c.begin_sync.ensures.moments told)
+    (c.in_ok-write_out.ensures.grew.crash observed log removed least begun has h) (observed_prefixes g.D.Disk.observable _ written log observed (c.in_ok-write_out.ensures.grew.log log has)) (c.in_ok-write_out.ensures.grew.holds observed log removed least begun has h)
+    (c.begin_sync.ensures.moments observed)
 
 pub returns-in-Ok-clause-cause : goal.returns-in-Ok-clause-cause
 returns-in-Ok-clause-cause g c = cause_then_ok _ _ _ _ _ c.write_out.result _ _ c.in_ok-write_out.was c.write_out.ensures.cause c.begin_sync.ensures.cause.never_falls

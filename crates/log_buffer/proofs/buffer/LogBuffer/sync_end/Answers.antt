@@ -3,33 +3,33 @@ use Rattle.je_disk.specs.States.{State}
 use Rattle.je_disk.specs.Moments.{now}
 use Rattle.log_buffer.specs.Buffer.{first_of}
 use Rattle.log_buffer.specs.Crash.{Holds}
-use Rattle.log_buffer.proofs.KeptSyncs.{holds_ended, ended_through}
-use Rattle.log_buffer.proofs.Prefixes.{told_prefixes}
-use Rattle.log_buffer.proofs.Still.{log_still, tail_over, tail_same}
-use Rattle.log_buffer.proofs.Causing.{cause_ok, cause_failed, cause_fault}
+use Rattle.log_buffer.proofs.CrashSync.{holds_ended, ended_through}
+use Rattle.log_buffer.proofs.Prefixes.{observed_prefixes}
+use Rattle.log_buffer.proofs.UnchangedBuffer.{log_still, unwritten_over, unwritten_same}
+use Rattle.log_buffer.proofs.FaultCauses.{cause_ok, cause_failed, cause_fault}
 use Rattle.log_buffer.proofs.buffer.LogBuffer.sync_end.Goals as goal
 
 pub returns-in-Ok-clause-holds : goal.returns-in-Ok-clause-holds
 returns-in-Ok-clause-holds g c =
     let old = c.args.self.now in
-    λ told log removed least begun has h.
-    subst (Holds log removed begun None (first_of old)) (sym (c.in-Ok.ensures.done told)) (holds_ended log removed least (first_of old) begun (now (g.D.Disk.history old.disk)) h)
+    λ observed log removed least begun has h.
+    subst (Holds log removed begun None (first_of old)) (sym (c.in-Ok.ensures.done observed)) (holds_ended log removed least (first_of old) begun (now (g.D.Disk.history old.disk)) h)
 
 pub returns-in-Ok-clause-log : goal.returns-in-Ok-clause-log
 returns-in-Ok-clause-log g c =
-    λ log has. log_still g.D.Disk.tells (now (g.D.Disk.history c.args.self.now.disk)) _ c.args.self.now _ log (λ told. ap (λ (s : State). s.reads) (c.in-Ok.ensures.done told)) (tail_over c.args.self.now) has
+    λ log has. log_still g.D.Disk.observable (now (g.D.Disk.history c.args.self.now.disk)) _ c.args.self.now _ log (λ observed. ap (λ (s : State). s.reads) (c.in-Ok.ensures.done observed)) (unwritten_over c.args.self.now) has
 
 pub returns-in-Ok-clause-crash : goal.returns-in-Ok-clause-crash
-returns-in-Ok-clause-crash g c = λ told log removed least begun has h. ended_through log removed least (first_of c.args.self.now) begun (g.D.Disk.history c.args.self.now.disk) (g.D.Disk.history c.end_sync.new.self) (told_prefixes g.D.Disk.tells _ c.args.self.now log told has) h (c.end_sync.ensures.moments told)
+returns-in-Ok-clause-crash g c = λ observed log removed least begun has h. ended_through log removed least (first_of c.args.self.now) begun (g.D.Disk.history c.args.self.now.disk) (g.D.Disk.history c.end_sync.new.self) (observed_prefixes g.D.Disk.observable _ c.args.self.now log observed has) h (c.end_sync.ensures.moments observed)
 
 pub returns-in-Ok-clause-kept : goal.returns-in-Ok-clause-kept
-returns-in-Ok-clause-kept g c = tail_over c.args.self.now
+returns-in-Ok-clause-kept g c = unwritten_over c.args.self.now
 
 pub returns-in-Err-clause-crash : goal.returns-in-Err-clause-crash
-returns-in-Err-clause-crash g c = λ told log removed least begun has h. ended_through log removed least (first_of c.args.self.now) begun (g.D.Disk.history c.args.self.now.disk) (g.D.Disk.history c.end_sync.new.self) (told_prefixes g.D.Disk.tells _ c.args.self.now log told has) h (c.end_sync.ensures.moments told)
+returns-in-Err-clause-crash g c = λ observed log removed least begun has h. ended_through log removed least (first_of c.args.self.now) begun (g.D.Disk.history c.args.self.now.disk) (g.D.Disk.history c.end_sync.new.self) (observed_prefixes g.D.Disk.observable _ c.args.self.now log observed has) h (c.end_sync.ensures.moments observed)
 
 pub returns-in-Err-clause-kept : goal.returns-in-Err-clause-kept
-returns-in-Err-clause-kept g c = tail_over c.args.self.now
+returns-in-Err-clause-kept g c = unwritten_over c.args.self.now
 
 pub returns-in-Ok-clause-cause : goal.returns-in-Ok-clause-cause
 returns-in-Ok-clause-cause g c = cause_ok _ _ _ _ _ c.if-self.false refl c.end_sync.ensures.cause.never_falls
@@ -41,4 +41,4 @@ pub returns-then-self-clause-cause : goal.returns-then-self-clause-cause
 returns-then-self-clause-cause g c = cause_failed _ _ _ _ c.if-self.true c.if-self.true refl
 
 pub returns-then-self-clause-kept : goal.returns-then-self-clause-kept
-returns-then-self-clause-kept g c = tail_same c.args.self.now
+returns-then-self-clause-kept g c = unwritten_same c.args.self.now

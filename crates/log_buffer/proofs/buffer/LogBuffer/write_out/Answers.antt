@@ -2,12 +2,12 @@ use Rattle.std.proofs.Common.{◌≡◌, ◌≤◌, ◌+◌, ℕ, List, [], leng
 use Rattle.je_disk.specs.Moments.{now}
 use Rattle.log_buffer.specs.Buffer.{room_for}
 use Rattle.log_buffer.specs.Crash.{Holds}
-use Rattle.log_buffer.proofs.KeptWriting.{tail_is}
-use Rattle.log_buffer.proofs.Tails.{bytes_for_none}
-use Rattle.log_buffer.proofs.Rooms.{same_for}
-use Rattle.log_buffer.proofs.Ending.{log_written}
+use Rattle.log_buffer.proofs.CrashWriteOut.{unwritten_is}
+use Rattle.log_buffer.proofs.WriteBuffers.{bytes_for_none}
+use Rattle.log_buffer.proofs.WriteBufferRoom.{same_for}
+use Rattle.log_buffer.proofs.LogEnds.{log_written}
 use Rattle.log_buffer.proofs.GrowthLaws.{tried_failed}
-use Rattle.log_buffer.proofs.Causing.{cause_ok, cause_failed, cause_fault}
+use Rattle.log_buffer.proofs.FaultCauses.{cause_ok, cause_failed, cause_fault}
 use Rattle.log_buffer.proofs.buffer.LogBuffer.write_out.Goals as goal
 
 pub returns-then-self-clause-tried : goal.returns-then-self-clause-tried
@@ -16,45 +16,45 @@ returns-then-self-clause-tried g c = tried_failed _ _ _ _ _ _ _ c.if-self.true
 pub returns-in-Ok-clause-grew : goal.returns-in-Ok-clause-grew
 returns-in-Ok-clause-grew g c =
     let old = c.args.self.now in
-    let tail = c.write_tail.ensures in
+    let unwritten = c.write_unwritten.ensures in
     record {
       log = λ log has.
-          log_written g.D.Disk.tells (now (g.D.Disk.history old.disk)) (now (g.D.Disk.history c.write_tail.new.disk)) old _ log
+          log_written g.D.Disk.observable (now (g.D.Disk.history old.disk)) (now (g.D.Disk.history c.write_unwritten.new.disk)) old _ log
           (record {
             empty = λ f. same_for [] [] c.clear.new.self.bytes.items c.clear.new.self.starts.items old.file.0 f c.clear.ensures.bytes c.clear.ensures.starts ∙ bytes_for_none old.file.0 f;
             first = let starts = ap length c.clear.ensures.starts in omega (arith, starts);
-            base = refl;
+            flushed_len = refl;
           })
           refl refl refl c.in-Ok.ensures.done has;
-      crash = λ told log removed least begun has h. tail.crash told log removed least begun (tail_is g.D.Disk.tells (now (g.D.Disk.history old.disk)) old log told has) h;
-      holds = λ told log removed least begun has h.
-          subst (λ (n : ℕ). Holds log removed least begun n (now (g.D.Disk.history c.write_tail.new.disk))) (let starts = ap length c.clear.ensures.starts in omega (arith, starts))
-          (c.in-Ok.ensures.holds told log removed least begun (tail_is g.D.Disk.tells (now (g.D.Disk.history old.disk)) old log told has) h);
+      crash = λ observed log removed least begun has h. unwritten.crash observed log removed least begun (unwritten_is g.D.Disk.observable (now (g.D.Disk.history old.disk)) old log observed has) h;
+      holds = λ observed log removed least begun has h.
+          subst (λ (n : ℕ). Holds log removed least begun n (now (g.D.Disk.history c.write_unwritten.new.disk))) (let starts = ap length c.clear.ensures.starts in omega (arith, starts))
+          (c.in-Ok.ensures.holds observed log removed least begun (unwritten_is g.D.Disk.observable (now (g.D.Disk.history old.disk)) old log observed has) h);
       end = refl;
       max = refl;
       failed = sym c.if-self.false;
-      jobs = record { syncs = tail.sync_out; reads = tail.read_out; file = tail.read_of };
+      jobs = record { syncs = unwritten.sync_out; reads = unwritten.read_out; file = unwritten.read_of };
     }
 
 pub returns-in-Err-clause-tried : goal.returns-in-Err-clause-tried
 returns-in-Err-clause-tried g c =
     let old = c.args.self.now in
-    let tail = c.write_tail.ensures in
+    let unwritten = c.write_unwritten.ensures in
     record {
-      crash = λ told log removed least begun has h. tail.crash told log removed least begun (tail_is g.D.Disk.tells (now (g.D.Disk.history old.disk)) old log told has) h;
+      crash = λ observed log removed least begun has h. unwritten.crash observed log removed least begun (unwritten_is g.D.Disk.observable (now (g.D.Disk.history old.disk)) old log observed has) h;
       max = refl;
       failed = refl;
-      jobs = record { syncs = tail.sync_out; reads = tail.read_out; file = tail.read_of };
+      jobs = record { syncs = unwritten.sync_out; reads = unwritten.read_out; file = unwritten.read_of };
     }
 
 pub returns-then-self-clause-cause : goal.returns-then-self-clause-cause
 returns-then-self-clause-cause g c = cause_failed _ _ _ _ c.if-self.true c.if-self.true refl
 
 pub returns-in-Ok-clause-cause : goal.returns-in-Ok-clause-cause
-returns-in-Ok-clause-cause g c = cause_ok _ _ _ _ _ c.if-self.false refl c.write_tail.ensures.cause.never_falls
+returns-in-Ok-clause-cause g c = cause_ok _ _ _ _ _ c.if-self.false refl c.write_unwritten.ensures.cause.never_falls
 
 pub returns-in-Err-clause-cause : goal.returns-in-Err-clause-cause
-returns-in-Err-clause-cause g c = cause_fault _ _ _ _ _ c.if-self.false refl c.write_tail.ensures.cause.never_falls refl c.in-Err.ensures.cause.failed
+returns-in-Err-clause-cause g c = cause_fault _ _ _ _ _ c.if-self.false refl c.write_unwritten.ensures.cause.never_falls refl c.in-Err.ensures.cause.failed
 
 -- room that bytes leave when they go
 more_spare : (bytes left : List ℕ) (room most more : ℕ) → left ≡ [] → more ≡ most → length bytes + room ≤ most → length left + room ≤ more
@@ -70,11 +70,11 @@ returns-in-Ok-clause-written g c =
     λ f. same_for [] [] c.clear.new.self.bytes.items c.clear.new.self.starts.items last f c.clear.ensures.bytes c.clear.ensures.starts ∙ bytes_for_none last f
 
 pub returns-in-Ok-clause-whole : goal.returns-in-Ok-clause-whole
-returns-in-Ok-clause-whole g c = λ log has told f. c.in-Ok.ensures.done told f ∙ has.told told f
+returns-in-Ok-clause-whole g c = λ log has observed f. c.in-Ok.ensures.done observed f ∙ has.observed observed f
 
 pub returns-in-Ok-clause-room : goal.returns-in-Ok-clause-room
 returns-in-Ok-clause-room g c =
-    let old = c.args.self.now.tail in
+    let old = c.args.self.now.unwritten in
     λ sizes room. record {
       bytes = more_spare old.bytes.items c.clear.new.self.bytes.items (room_for sizes) (vec_capacity old.bytes) (vec_capacity c.clear.new.self.bytes) c.clear.ensures.bytes c.clear.ensures.bytes_capacity room.bytes;
       files = none_begun c.clear.new.self.starts.items old.starts.items (length sizes) (vec_capacity old.starts) (vec_capacity c.clear.new.self.starts) c.clear.ensures.starts c.clear.ensures.capacity room.files;

@@ -1,6 +1,6 @@
 use Rattle.std.proofs.Common.{ap}
 use Rattle.std.specs.Int.{w64, to_be_bytes}
-use Rattle.log_entry.proofs.Putting.{puts_then, puts_all, puts_same}
+use Rattle.log_entry.proofs.VectorAppends.{puts_then, puts_all, puts_same}
 use Rattle.log_entry.proofs.child_slot.ChildSlotItem.put.Goals as goal
 
 pub returns : goal.returns

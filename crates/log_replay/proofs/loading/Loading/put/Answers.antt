@@ -2,7 +2,7 @@ use Rattle.std.proofs.Common.{◌∙◌, ◌++◌, ◌∷◌, [], List, ℕ, ap�
 use Rattle.je_order.specs.declared.name.Name.{Name}
 use Rattle.log_replay.specs.Rows.{rows_in}
 use Rattle.log_replay.specs.Loading.{loaded}
-use Rattle.log_replay.proofs.Loaded.{put_waits}
+use Rattle.log_replay.proofs.LoadedRows.{put_waits}
 use Rattle.log_replay.proofs.loading.Loading.put.Goals as goal
 
 pub returns : goal.returns

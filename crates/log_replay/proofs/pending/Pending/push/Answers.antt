@@ -1,6 +1,6 @@
 use Rattle.std.proofs.Common.{[]}
-use Rattle.log_replay.proofs.Entries.{list_is_found, list_is_absent, is_there}
-use Rattle.log_replay.proofs.Waiting.{pending_pushed}
+use Rattle.log_replay.proofs.MapRows.{list_is_found, list_is_absent, is_there}
+use Rattle.log_replay.proofs.PendingChanges.{pending_pushed}
 use Rattle.log_replay.proofs.pending.Pending.push.Goals as goal
 
 pub returns-in_ok-push-in-Some : goal.returns-in_ok-push-in-Some

@@ -1,4 +1,4 @@
-use Rattle.log_replay.proofs.Waiting.{pending_taken}
+use Rattle.log_replay.proofs.PendingChanges.{pending_taken}
 use Rattle.log_replay.proofs.pending.Pending.take.Goals as goal
 
 pub returns-clause-rest : goal.returns-clause-rest

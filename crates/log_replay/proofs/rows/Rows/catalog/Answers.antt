@@ -1,7 +1,7 @@
 use Rattle.std.proofs.Common.{◌∙◌, ap, sym}
 use Rattle.std.specs.List.{list_all}
 use Rattle.log_replay.specs.Rows.{is_catalog_row, rows_in}
-use Rattle.log_replay.proofs.Entries.{list_is_found}
+use Rattle.log_replay.proofs.MapRows.{list_is_found}
 use Rattle.log_replay.proofs.rows.Rows.catalog.Goals as goal
 
 pub catalog-requires : goal.catalog-requires

@@ -1,4 +1,4 @@
-use Rattle.log_replay.proofs.Entries.{no_rows_rise}
+use Rattle.log_replay.proofs.MapRows.{no_rows_rise}
 use Rattle.log_replay.proofs.rows.Rows.new.Goals as goal
 
 pub invariant_of-result : goal.invariant_of-result

@@ -1,8 +1,8 @@
 use Rattle.std.proofs.Common.{◌≡◌, ◌∙◌, ap, sym, List}
 use Rattle.std.proofs.lemmas.Result.{on_ok_weaker}
 use Rattle.log_replay.specs.Rows.{Row, rows_put}
-use Rattle.log_replay.proofs.Entries.{list_is_found, list_is_absent, is_there, rising_updated}
-use Rattle.log_replay.proofs.Loaded.{rows_put_in}
+use Rattle.log_replay.proofs.MapRows.{list_is_found, list_is_absent, is_there, rising_updated}
+use Rattle.log_replay.proofs.LoadedRows.{rows_put_in}
 use Rattle.log_replay.proofs.rows.Rows.put_all.Goals as goal
 
 pub invariant_of-self : goal.invariant_of-self

@@ -1,7 +1,7 @@
 use Rattle.std.proofs.Common.{◌≡◌, ◌∙◌, ap, sym, List, Some}
 use Rattle.std.proofs.lemmas.Result.{on_ok_weaker}
 use Rattle.log_replay.specs.Rows.{Row, rows_with}
-use Rattle.log_replay.proofs.Entries.{on_err_weaker, rows_set, rows_same, list_is_found, list_is_absent, is_there, rising_updated}
+use Rattle.log_replay.proofs.MapRows.{on_err_weaker, rows_set, rows_same, list_is_found, list_is_absent, is_there, rising_updated}
 use Rattle.log_replay.proofs.rows.Rows.set.Goals as goal
 
 pub invariant_of-self : goal.invariant_of-self

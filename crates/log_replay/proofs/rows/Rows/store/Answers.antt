@@ -1,5 +1,5 @@
 use Rattle.log_replay.specs.Rows.{rows_in}
-use Rattle.log_replay.proofs.Opening.{store_by}
+use Rattle.log_replay.proofs.OpeningStore.{store_by}
 use Rattle.log_replay.proofs.rows.Rows.store.Goals as goal
 
 pub returns : goal.returns

@@ -1,6 +1,6 @@
 use Rattle.std.proofs.Common.{◌∙◌, ap, sym, List, None}
 use Rattle.log_replay.specs.Rows.{Row, rows_with}
-use Rattle.log_replay.proofs.Entries.{rows_set, list_is_found, is_there, rising_updated}
+use Rattle.log_replay.proofs.MapRows.{rows_set, list_is_found, is_there, rising_updated}
 use Rattle.log_replay.proofs.rows.Rows.unset.Goals as goal
 
 pub invariant_of-self-2 : goal.invariant_of-self-2

@@ -1,7 +1,7 @@
 use Rattle.std.proofs.Common.{rules}
 use Rattle.log_replay.specs.Rows.{is_catalog_row}
 use Rattle.log_replay.specs.Opening.{named_by}
-use Rattle.log_replay.proofs.Mapping.{map_begins, map_goes_on, map_ends}
+use Rattle.log_replay.proofs.ListMapping.{map_begins, map_goes_on, map_ends}
 use Rattle.log_replay.proofs.ListLaws.{first_true}
 use Rattle.log_replay.proofs.table.Table.catalog.Goals as goal
 

@@ -1,6 +1,6 @@
 use Rattle.std.proofs.Common.{◌∙◌, ap, Some}
 use Rattle.log_replay.specs.Rows.{data_at}
-use Rattle.log_replay.proofs.Entries.{lookup_is_data}
+use Rattle.log_replay.proofs.MapRows.{lookup_is_data}
 use Rattle.log_replay.proofs.table.Table.get.Goals as goal
 
 pub returns-in-Some : goal.returns-in-Some

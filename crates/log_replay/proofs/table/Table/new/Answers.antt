@@ -1,4 +1,4 @@
-use Rattle.log_replay.proofs.Entries.{rising_from_keys}
+use Rattle.log_replay.proofs.MapRows.{rising_from_keys}
 use Rattle.log_replay.proofs.table.Table.new.Goals as goal
 
 pub invariant_of-result : goal.invariant_of-result

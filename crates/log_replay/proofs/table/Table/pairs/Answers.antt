@@ -1,6 +1,6 @@
 use Rattle.std.proofs.Common.{rules}
 use Rattle.log_replay.specs.Rows.{pair_of}
-use Rattle.log_replay.proofs.Mapping.{map_begins, map_goes_on, map_ends}
+use Rattle.log_replay.proofs.ListMapping.{map_begins, map_goes_on, map_ends}
 use Rattle.log_replay.proofs.table.Table.pairs.Goals as goal
 
 pub loop-key-init : goal.loop-key-init

@@ -3,8 +3,8 @@ use Rattle.std.proofs.lemmas.Result.{on_ok_weaker}
 use Rattle.std.proofs.lemmas.List.{map-id}
 use Rattle.std.proofs.lemmas.Iterator.Adapters.{fact_from_extend, YieldsList-from_vec}
 use Rattle.log_replay.specs.Rows.{Row, rows_put}
-use Rattle.log_replay.proofs.Entries.{rising_from_keys}
-use Rattle.log_replay.proofs.Loaded.{inserts_are_puts, appends_are_puts}
+use Rattle.log_replay.proofs.MapRows.{rising_from_keys}
+use Rattle.log_replay.proofs.LoadedRows.{inserts_are_puts, appends_are_puts}
 use Rattle.log_replay.proofs.table.Table.put_all.Goals as goal
 
 pub invariant_of-self : goal.invariant_of-self

@@ -3,7 +3,7 @@ use Rattle.std.specs.BTreeMap.{insert_entry}
 use Rattle.je_order.specs.Order.{name_cmp}
 use Rattle.je_order.specs.declared.name.Name.{Name}
 use Rattle.log_replay.specs.Rows.{Row, rows_with}
-use Rattle.log_replay.proofs.Entries.{insert_is_set, rising_from_keys}
+use Rattle.log_replay.proofs.MapRows.{insert_is_set, rising_from_keys}
 use Rattle.log_replay.proofs.table.Table.set.Goals as goal
 
 pub returns-clause-ok : goal.returns-clause-ok

@@ -1,6 +1,6 @@
 use Rattle.std.proofs.Common.{◌∙◌, ap, List, None}
 use Rattle.log_replay.specs.Rows.{Row, rows_with}
-use Rattle.log_replay.proofs.Entries.{remove_is_unset, rising_from_keys}
+use Rattle.log_replay.proofs.MapRows.{remove_is_unset, rising_from_keys}
 use Rattle.log_replay.proofs.table.Table.unset.Goals as goal
 
 pub returns-clause-value : goal.returns-clause-value

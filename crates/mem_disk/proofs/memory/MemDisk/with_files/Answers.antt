@@ -4,7 +4,7 @@ use Rattle.je_lsn.specs.declared.file_no.FileNo.{FileNo}
 use Rattle.je_disk.specs.States.{synced}
 use Rattle.je_disk.specs.declared.jobs.Jobs.{Jobs}
 use Rattle.mem_disk.specs.Replay.{listed, held}
-use Rattle.mem_disk.proofs.Replaying.{now-history_of}
+use Rattle.mem_disk.proofs.ChangeReplay.{now-history_of}
 use Rattle.mem_disk.proofs.memory.MemDisk.with_files.Goals as goal
 
 pub returns : goal.returns
@@ -16,5 +16,5 @@ returns c = record {
   stop = c.new-2.ensures.stop;
   sync_out = ap (λ (j : Jobs). j.sync) c.new-3.ensures;
   read_out = ap (λ (j : Jobs). j.reading) c.new-3.ensures;
-  drawn = ap (λ (j : Jobs). j.drawn) c.new-3.ensures;
+  last_job = ap (λ (j : Jobs). j.last_job) c.new-3.ensures;
 }

@@ -1,10 +1,11 @@
 use Rattle.std.proofs.Common.{inr, refl, ap, sym, ◌∙◌, ◌+◌, Some}
 use Rattle.je_disk.specs.declared.jobs.Jobs.{Jobs}
-use Rattle.je_disk.proofs.Moments.{passes_none}
+use Rattle.je_disk.proofs.MomentLaws.{passes_none}
 use Rattle.mem_disk.specs.declared.change.Change.TheVariants.{BeginSync}
 use Rattle.mem_disk.specs.Replay.{history_of}
-use Rattle.mem_disk.proofs.Calling.{call_failed, no_fault, late_fault, due_at, no_value, no_ok, at_error, passes_same}
-use Rattle.mem_disk.proofs.Replaying.{pushed_now, pushed_passes}
+use Rattle.mem_disk.proofs.CallCounts.{call_failed, no_fault, late_fault, due_at, passes_same}
+use Rattle.je_order.proofs.Results.{no_value, no_ok, at_error}
+use Rattle.mem_disk.proofs.ChangeReplay.{pushed_now, pushed_passes}
 use Rattle.mem_disk.proofs.memory.MemDiskDisk.begin_sync.Goals as goal
 
 pub returns-in_err-call : goal.returns-in_err-call
@@ -16,8 +17,8 @@ returns-in_err-call c = record {
   none_out = at_error _ (ap (λ (j : Jobs). j.sync) c.give_up_sync.ensures);
   read_out = ap (λ (j : Jobs). j.reading) c.give_up_sync.ensures;
   read_of = ap (λ (j : Jobs). j.file.0) c.give_up_sync.ensures;
-  drawn = no_value _ _ c.from_residual.ensures.0;
-  undrawn = at_error _ (ap (λ (j : Jobs). j.drawn) c.give_up_sync.ensures);
+  last_job = no_value _ _ c.from_residual.ensures.0;
+  no_new_job = at_error _ (ap (λ (j : Jobs). j.last_job) c.give_up_sync.ensures);
   cause = call_failed _ _ c.in_err-call.field-0.0 _ c.from_residual.ensures.0 c.from_residual.ensures.1 c.in_err-call.ensures.cause;
   unchanged = at_error _ refl;
   due = λ _. c.from_residual.ensures.0;
@@ -33,8 +34,8 @@ returns-in_default c = record {
   none_out = ap (λ (j : Jobs). j.sync) c.give_up_sync.ensures;
   read_out = ap (λ (j : Jobs). j.reading) c.give_up_sync.ensures;
   read_of = ap (λ (j : Jobs). j.file.0) c.give_up_sync.ensures;
-  drawn = tt;
-  undrawn = ap (λ (j : Jobs). j.drawn) c.give_up_sync.ensures;
+  last_job = tt;
+  no_new_job = ap (λ (j : Jobs). j.last_job) c.give_up_sync.ensures;
   cause = late_fault _ _ _ _ c.in_ok-call.ensures.steady c.fault.ensures.failed c.fault.ensures.rose c.fault.ensures.never_falls;
   unchanged = refl;
   due = λ _. refl;
@@ -45,13 +46,13 @@ pub returns-in-Ok : goal.returns-in-Ok
 returns-in-Ok c = record {
   done = pushed_now _ _ BeginSync c.in-Ok.ensures.ok;
   moments = pushed_passes _ _ BeginSync _ c.in-Ok.ensures.ok (inr refl);
-  number = c.new.ensures ∙ c.in-Some.ensures.some ∙ ap (λ (j : Jobs). j.drawn + 1) c.give_up_sync.ensures;
+  number = c.new.ensures ∙ c.in-Some.ensures.some ∙ ap (λ (j : Jobs). j.last_job + 1) c.give_up_sync.ensures;
   begun = ap (λ (j : Jobs). j.sync) c.begin_sync-in-Ok.ensures ∙ ap (λ n. Some n) (sym c.new.ensures);
   none_out = tt;
   read_out = ap (λ (j : Jobs). j.reading) c.begin_sync-in-Ok.ensures ∙ ap (λ (j : Jobs). j.reading) c.give_up_sync.ensures;
   read_of = ap (λ (j : Jobs). j.file.0) c.begin_sync-in-Ok.ensures ∙ ap (λ (j : Jobs). j.file.0) c.give_up_sync.ensures;
-  drawn = ap (λ (j : Jobs). j.drawn) c.begin_sync-in-Ok.ensures ∙ sym c.new.ensures;
-  undrawn = tt;
+  last_job = ap (λ (j : Jobs). j.last_job) c.begin_sync-in-Ok.ensures ∙ sym c.new.ensures;
+  no_new_job = tt;
   cause = no_fault _ _ _ c.in_ok-call.ensures.steady;
   unchanged = tt;
   due = (due_at _ _ _ _ _ c.in_ok-call.ensures.made c.in_ok-call.ensures.due).1;
@@ -67,8 +68,8 @@ returns-in-Err c = record {
   none_out = ap (λ (j : Jobs). j.sync) c.give_up_sync.ensures;
   read_out = ap (λ (j : Jobs). j.reading) c.give_up_sync.ensures;
   read_of = ap (λ (j : Jobs). j.file.0) c.give_up_sync.ensures;
-  drawn = tt;
-  undrawn = ap (λ (j : Jobs). j.drawn) c.give_up_sync.ensures;
+  last_job = tt;
+  no_new_job = ap (λ (j : Jobs). j.last_job) c.give_up_sync.ensures;
   cause = late_fault _ _ _ _ c.in_ok-call.ensures.steady c.fault-in-Err.ensures.failed c.fault-in-Err.ensures.rose c.fault-in-Err.ensures.never_falls;
   unchanged = ap history_of c.in-Err.ensures.err;
   due = λ _. refl;

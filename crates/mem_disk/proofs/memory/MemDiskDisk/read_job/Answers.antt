@@ -1,7 +1,8 @@
 use Rattle.std.proofs.Common.{inl, refl, ap, sym, ◌∙◌, ◌+◌, Some}
 use Rattle.je_disk.specs.declared.jobs.Jobs.{Jobs}
-use Rattle.je_disk.proofs.Moments.{passes_none}
-use Rattle.mem_disk.proofs.Calling.{call_failed, no_fault, late_fault, is_due, no_value, no_ok, at_error}
+use Rattle.je_disk.proofs.MomentLaws.{passes_none}
+use Rattle.mem_disk.proofs.CallCounts.{call_failed, no_fault, late_fault, is_due}
+use Rattle.je_order.proofs.Results.{no_value, no_ok, at_error}
 use Rattle.mem_disk.proofs.memory.MemDiskDisk.read_job.Goals as goal
 
 pub returns-in_err-call : goal.returns-in_err-call
@@ -13,8 +14,8 @@ returns-in_err-call c = record {
   read_of = no_ok _ _ c.from_residual.ensures.0;
   none_out = at_error _ (ap (λ (j : Jobs). j.reading) c.give_up_reading.ensures);
   sync_out = ap (λ (j : Jobs). j.sync) c.give_up_reading.ensures;
-  drawn = no_value _ _ c.from_residual.ensures.0;
-  undrawn = at_error _ (ap (λ (j : Jobs). j.drawn) c.give_up_reading.ensures);
+  last_job = no_value _ _ c.from_residual.ensures.0;
+  no_new_job = at_error _ (ap (λ (j : Jobs). j.last_job) c.give_up_reading.ensures);
   cause = call_failed _ _ c.in_err-call.field-0.0 _ c.from_residual.ensures.0 c.from_residual.ensures.1 c.in_err-call.ensures.cause;
   due = (λ _. inl (is_due _ _ _ _ c.in_err-call.ensures.made (c.in_err-call.ensures.due.0 refl)), λ _. c.from_residual.ensures.0);
   counted = record { calls = c.call.ensures.made; fails = ap (λ v. v.items) c.call.ensures.fails; stop = c.call.ensures.stop };
@@ -41,11 +42,11 @@ returns-in_default-clause-none_out c = ap (λ (j : Jobs). j.reading) c.give_up_r
 pub returns-in_default-clause-sync_out : goal.returns-in_default-clause-sync_out
 returns-in_default-clause-sync_out c = ap (λ (j : Jobs). j.sync) c.give_up_reading.ensures
 
-pub returns-in_default-clause-drawn : goal.returns-in_default-clause-drawn
-returns-in_default-clause-drawn c = tt
+pub returns-in_default-clause-last_job : goal.returns-in_default-clause-last_job
+returns-in_default-clause-last_job c = tt
 
-pub returns-in_default-clause-undrawn : goal.returns-in_default-clause-undrawn
-returns-in_default-clause-undrawn c = ap (λ (j : Jobs). j.drawn) c.give_up_reading.ensures
+pub returns-in_default-clause-no_new_job : goal.returns-in_default-clause-no_new_job
+returns-in_default-clause-no_new_job c = ap (λ (j : Jobs). j.last_job) c.give_up_reading.ensures
 
 pub returns-in_default-clause-cause : goal.returns-in_default-clause-cause
 returns-in_default-clause-cause c = late_fault _ _ _ _ c.in_ok-call.ensures.steady c.fault.ensures.failed c.fault.ensures.rose c.fault.ensures.never_falls
@@ -60,7 +61,7 @@ pub returns-clause-moments : goal.returns-clause-moments
 returns-clause-moments c = passes_none _ _
 
 pub returns-clause-number : goal.returns-clause-number
-returns-clause-number c = c.new.ensures ∙ c.in-Some.ensures.some ∙ ap (λ (j : Jobs). j.drawn + 1) c.give_up_reading.ensures
+returns-clause-number c = c.new.ensures ∙ c.in-Some.ensures.some ∙ ap (λ (j : Jobs). j.last_job + 1) c.give_up_reading.ensures
 
 pub returns-clause-begun : goal.returns-clause-begun
 returns-clause-begun c = ap (λ (j : Jobs). j.reading) c.begin_reading.ensures ∙ ap (λ n. Some n) (sym c.new.ensures)
@@ -74,11 +75,11 @@ returns-clause-none_out c = tt
 pub returns-clause-sync_out : goal.returns-clause-sync_out
 returns-clause-sync_out c = ap (λ (j : Jobs). j.sync) c.begin_reading.ensures ∙ ap (λ (j : Jobs). j.sync) c.give_up_reading.ensures
 
-pub returns-clause-drawn : goal.returns-clause-drawn
-returns-clause-drawn c = ap (λ (j : Jobs). j.drawn) c.begin_reading.ensures ∙ sym c.new.ensures
+pub returns-clause-last_job : goal.returns-clause-last_job
+returns-clause-last_job c = ap (λ (j : Jobs). j.last_job) c.begin_reading.ensures ∙ sym c.new.ensures
 
-pub returns-clause-undrawn : goal.returns-clause-undrawn
-returns-clause-undrawn c = tt
+pub returns-clause-no_new_job : goal.returns-clause-no_new_job
+returns-clause-no_new_job c = tt
 
 pub returns-clause-cause : goal.returns-clause-cause
 returns-clause-cause c = no_fault _ _ _ c.in_ok-call.ensures.steady

@@ -1,9 +1,10 @@
 use Rattle.std.proofs.Common.{inr, refl, ap, ◌∙◌}
-use Rattle.je_disk.proofs.Moments.{passes_none}
+use Rattle.je_disk.proofs.MomentLaws.{passes_none}
 use Rattle.mem_disk.specs.declared.change.Change.TheVariants.{Remove}
 use Rattle.mem_disk.specs.Replay.{history_of}
-use Rattle.mem_disk.proofs.Calling.{call_failed, no_fault, late_fault, due_at, no_ok, at_error, passes_same}
-use Rattle.mem_disk.proofs.Replaying.{pushed_now, pushed_passes}
+use Rattle.mem_disk.proofs.CallCounts.{call_failed, no_fault, late_fault, due_at, passes_same}
+use Rattle.je_order.proofs.Results.{no_ok, at_error}
+use Rattle.mem_disk.proofs.ChangeReplay.{pushed_now, pushed_passes}
 use Rattle.mem_disk.proofs.memory.MemDiskDisk.remove.Goals as goal
 
 pub returns-in_err-call : goal.returns-in_err-call
@@ -13,7 +14,7 @@ returns-in_err-call c = record {
   sync_out = refl;
   read_out = refl;
   read_of = refl;
-  drawn = refl;
+  last_job = refl;
   cause = call_failed _ _ c.in_err-call.field-0.0 _ c.from_residual.ensures.0 c.from_residual.ensures.1 c.in_err-call.ensures.cause;
   unchanged = at_error _ refl;
   due = λ _. c.from_residual.ensures.0;
@@ -27,7 +28,7 @@ returns-in-Ok c = record {
   sync_out = refl;
   read_out = refl;
   read_of = refl;
-  drawn = refl;
+  last_job = refl;
   cause = no_fault _ _ _ c.in_ok-call.ensures.steady;
   unchanged = tt;
   due = (due_at _ _ _ _ _ c.in_ok-call.ensures.made c.in_ok-call.ensures.due).1;
@@ -41,7 +42,7 @@ returns-in-Err c = record {
   sync_out = refl;
   read_out = refl;
   read_of = refl;
-  drawn = refl;
+  last_job = refl;
   cause = late_fault _ _ _ _ c.in_ok-call.ensures.steady c.fault.ensures.failed c.fault.ensures.rose c.fault.ensures.never_falls;
   unchanged = ap history_of c.in-Err.ensures.err;
   due = λ _. refl;

@@ -1,6 +1,6 @@
 use Rattle.std.proofs.Common.{◌∙◌, Bool, cond, None, sym, ap, subst}
 use Rattle.node_core.specs.declared.slot.Marked.{Marked}
-use Rattle.node_core.proofs.Images.{GoesOn, may_put, put_goes_on, with_slot_is}
+use Rattle.node_core.proofs.NodeImages.{GoesOn, may_put, put_goes_on, with_slot_is}
 use Rattle.node_core.proofs.node.Node.put_slot.Goals as goal
 
 pub returns-else-hides-clause-image : goal.returns-else-hides-clause-image

@@ -1,5 +1,5 @@
 use Rattle.std.proofs.Common.{◌∙◌, sym}
-use Rattle.node_core.proofs.Images.{without_full, without_still}
+use Rattle.node_core.proofs.NodeImages.{without_full, without_still}
 use Rattle.node_core.proofs.node.Node.remove_slot.Goals as goal
 use Rattle.node_core.proofs.node.Node.remove_slot.Goals.{then-has_committed, else-has_committed}
 

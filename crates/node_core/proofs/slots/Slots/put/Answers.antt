@@ -1,7 +1,7 @@
 use Rattle.std.proofs.Common.{◌∙◌, List, refl, sym, ap, subst}
 use Rattle.node_core.specs.declared.slot.Marked.{Marked}
 use Rattle.node_core.specs.Sorted.{IsPlace, IsAt, put}
-use Rattle.node_core.proofs.Places.{put_set, put_insert, are_set, are_insert, none_there}
+use Rattle.node_core.proofs.SlotPositions.{put_set, put_insert, are_set, are_insert, none_there}
 use Rattle.node_core.proofs.slots.Slots.put.Goals as goal
 
 pub invariant_of-self : goal.invariant_of-self

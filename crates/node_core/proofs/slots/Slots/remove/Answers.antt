@@ -1,7 +1,7 @@
 use Rattle.std.proofs.Common.{◌∙◌, List, refl, sym, ap, subst}
 use Rattle.node_core.specs.declared.slot.Marked.{Marked}
 use Rattle.node_core.specs.Sorted.{IsPlace, IsAt, without}
-use Rattle.node_core.proofs.Places.{without_at, without_none, are_remove, none_there}
+use Rattle.node_core.proofs.SlotPositions.{without_at, without_none, are_remove, none_there}
 use Rattle.node_core.proofs.slots.Slots.remove.Goals as goal
 
 pub invariant_of-self : goal.invariant_of-self

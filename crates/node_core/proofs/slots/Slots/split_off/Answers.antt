@@ -1,4 +1,4 @@
-use Rattle.node_core.proofs.Places.{are_take, are_drop}
+use Rattle.node_core.proofs.SlotPositions.{are_take, are_drop}
 use Rattle.node_core.proofs.slots.Slots.split_off.Goals as goal
 
 pub invariant_of-result : goal.invariant_of-result

@@ -1,7 +1,7 @@
 use Rattle.std.proofs.Common.{◌≡◌, ◌∙◌, length, map, ap, arith}
 use Rattle.std.proofs.lemmas.List.{length-map}
 use Rattle.node_core.specs.Changes.{unmarked}
-use Rattle.node_core.proofs.Places.{are_unmarked, written_over}
+use Rattle.node_core.proofs.SlotPositions.{are_unmarked, written_over}
 use Rattle.node_core.proofs.slots.Slots.unmark.Goals as goal
 
 pub invariant_of-self : goal.invariant_of-self

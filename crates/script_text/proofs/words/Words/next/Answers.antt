@@ -2,7 +2,7 @@ use Rattle.std.proofs.Common.{◌+◌, ◌∙◌, sym, ap}
 use Rattle.std.specs.Option.{option_copied}
 use Rattle.std.proofs.lemmas.List.{take_rest}
 use Rattle.script_text.specs.Words.{words_left}
-use Rattle.script_text.proofs.Cuts.{words_cut, words_whole}
+use Rattle.script_text.proofs.TextCuts.{words_cut, words_whole}
 use Rattle.script_text.proofs.words.Words.next.Goals as goal
 
 pub returns-in-Some-clause-next : goal.returns-in-Some-clause-next

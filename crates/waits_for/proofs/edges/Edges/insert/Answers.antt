@@ -1,6 +1,6 @@
 use Rattle.std.proofs.Common.{◌<◌, ◌^◌, arith}
 use Rattle.std.proofs.lemmas.Map.Views.{All-insert_key}
-use Rattle.waits_for.proofs.Pairs.{pair_cmp, pair_inserted}
+use Rattle.waits_for.proofs.EdgeSets.{pair_cmp, pair_inserted}
 use Rattle.waits_for.proofs.edges.Edges.insert.Goals as goal
 
 pub invariant_of-self-2 : goal.invariant_of-self-2

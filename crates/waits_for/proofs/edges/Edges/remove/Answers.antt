@@ -2,7 +2,7 @@ use Rattle.std.proofs.Common.{◌<◌, ◌^◌, not}
 use Rattle.std.proofs.lemmas.List.Elements.{recursion_from_All, All-from_recursion}
 use Rattle.je_order.specs.declared.txn_id.TxnId.{TxnId}
 use Rattle.waits_for.specs.Cycles.{is_from, edges_without}
-use Rattle.waits_for.proofs.Members.{all_kept}
+use Rattle.je_order.proofs.Lists.{all_kept}
 use Rattle.waits_for.proofs.edges.Edges.remove.Goals as goal
 
 pub invariant_of-self : goal.invariant_of-self

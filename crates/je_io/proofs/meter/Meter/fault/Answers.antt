@@ -1,6 +1,0 @@
-use Rattle.std.proofs.Common.{arith}
-use Rattle.je_io.proofs.Flow.{rose}
-use Rattle.je_io.proofs.meter.Meter.fault.Goals as goal
-
-pub returns-clause-rose : goal.returns-clause-rose
-returns-clause-rose c = rose c.args.self.now.faults c.saturating_add-self.result (omega arith) c.saturating_add-self.ensures

@@ -1,0 +1,8 @@
+-- What holds of each element of a list.
+pub mod Lists
+-- What a test of an ordering says, and names that compare as equal.
+pub mod Orderings
+-- Two numbers of one transaction.
+pub mod TxnIds
+-- What a result says that is an error, and one that is said in other words.
+pub mod Results

@@ -1,5 +1,0 @@
-use Rattle.std.proofs.Common.{rules}
-use Rattle.je_program.proofs.attempt.end_cause.Goals as goal
-
-pub returns-else-memory_ended-clause-journal : goal.returns-else-memory_ended-clause-journal
-returns-else-memory_ended-clause-journal c = search rules

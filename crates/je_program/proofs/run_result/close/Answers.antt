@@ -1,0 +1,25 @@
+use Rattle.std.proofs.Common.{[], None, inl, refl, sym, ◌∙◌}
+use Rattle.je_disk.specs.Moments.{now}
+use Rattle.je_program.proofs.BothLaws.{as_observed}
+use Rattle.je_program.proofs.run_result.close.Goals as goal
+
+pub returns-in_default-Ok-clause-crash : goal.returns-in_default-Ok-clause-crash
+returns-in_default-Ok-clause-crash g c = λ observed held least keeps.
+    let buffer = c.args.log in
+    let k = keeps (sym c.has_failed.ensures ∙ c.if-has_failed.false) in
+    c.close.ensures.crash observed held [] least None (as_observed g.D.Disk.observable (now (g.D.Disk.history buffer.disk)) buffer held observed k.has) k.holds
+
+pub returns-in_default-Err-clause-crash : goal.returns-in_default-Err-clause-crash
+returns-in_default-Err-clause-crash g c = λ observed held least keeps.
+    let buffer = c.args.log in
+    let k = keeps (sym c.has_failed.ensures ∙ c.if-has_failed.false) in
+    c.close.ensures.crash observed held [] least None (as_observed g.D.Disk.observable (now (g.D.Disk.history buffer.disk)) buffer held observed k.has) k.holds
+
+pub returns-in_default-Err-2-clause-crash : goal.returns-in_default-Err-2-clause-crash
+returns-in_default-Err-2-clause-crash g c = λ observed held least keeps.
+    let buffer = c.args.log in
+    let k = keeps (sym c.has_failed.ensures ∙ c.if-has_failed.false) in
+    c.close.ensures.crash observed held [] least None (as_observed g.D.Disk.observable (now (g.D.Disk.history buffer.disk)) buffer held observed k.has) k.holds
+
+pub returns-in_default-Ok-clause-cause : goal.returns-in_default-Ok-clause-cause
+returns-in_default-Ok-clause-cause g c = inl refl

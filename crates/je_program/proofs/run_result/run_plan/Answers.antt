@@ -1,0 +1,127 @@
+use Rattle.std.proofs.Common.{◌∙◌, Bool, List, sym, ap, subst}
+use Rattle.je_disk.specs.Moments.{now}
+use Rattle.je_model.specs.declared.event.Event.{Event}
+use Rattle.je_model.specs.declared.plan.ScriptLine.{ScriptLine}
+use Rattle.je_model.specs.declared.store.Store.{Store}
+use Rattle.je_model.specs.Journal.{lines_of}
+use Rattle.log_buffer.specs.Buffer.{disk_of}
+use Rattle.je_program.specs.Crash.{ImagesMean, IsSafeRun, KeepsEntry, IsSafeProgram}
+use Rattle.je_program.specs.Guarded.{log_opened}
+use Rattle.je_program.specs.Environment.{IsAt}
+use Rattle.je_program.specs.Program.{totals_of, final_store, MeanStore, EndsBy, ClosesRun}
+use Rattle.je_program.specs.Run.{HasRun, AreFirstLines, of_session}
+use Rattle.je_program.proofs.FinishLaws.{ran_cause, runs_if, ran_after_reading, ran_not_unreadable, ends_by, final_is, caused_earlier}
+use Rattle.je_program.specs.declared.cause.Cause.{Cause}
+use Rattle.je_program.specs.Untouched.{LeavesUnreadable}
+use Rattle.je_program.proofs.UntouchedLaws.{ran_alone}
+use Rattle.je_program.proofs.run_result.run_plan.Goals as goal
+
+pub returns-in-Ok-clause-runs : goal.returns-in-Ok-clause-runs
+returns-in-Ok-clause-runs g c =
+    let f = c.finish in
+    runs_if f.result.cause f.result.opened (ran_cause c.run-running.result.journal.items c.run-running.result.memory_ended f.result.cause f.ensures.memory f.ensures.ends) f.ensures.opened
+
+pub returns-in-Ok-clause-after_reading : goal.returns-in-Ok-clause-after_reading
+returns-in-Ok-clause-after_reading g c =
+    let f = c.finish in
+    ran_after_reading f.result.cause (ran_cause c.run-running.result.journal.items c.run-running.result.memory_ended f.result.cause f.ensures.memory f.ensures.ends)
+
+pub returns-in-Ok-clause-run : goal.returns-in-Ok-clause-run
+returns-in-Ok-clause-run g c = λ opened.
+    let st = c.in-Ok.ensures.opened.0 in
+    let at = c.in-Ok.ensures.opened.1 in
+    let running = c.run-running.ensures.runs c.args.file_max st at.here in
+    let files = (now (g.D.Disk.history c.args.disk)).reads in
+    let run : HasRun c.args.file_max g.D.Disk.observable files c.in-Ok.opened.opening c.run-running.result.journal.items st = record { starts = at.starts; answers = running.answers; synced_at_once = running.synced } in (
+      st,
+      subst (λ (s : Store). HasRun c.args.file_max g.D.Disk.observable files s c.finish.result.journal.items st) (sym c.finish.ensures.opening)
+          (subst (λ (j : List Event). HasRun c.args.file_max g.D.Disk.observable files c.in-Ok.opened.opening j st) (sym c.finish.ensures.journal) run),
+    )
+
+pub returns-in-Ok-clause-unreadable : goal.returns-in-Ok-clause-unreadable
+returns-in-Ok-clause-unreadable g c = λ corruption is observed.
+    let f = c.finish in
+    absurd (ran_not_unreadable f.result.cause corruption (ran_cause c.run-running.result.journal.items c.run-running.result.memory_ended f.result.cause f.ensures.memory f.ensures.ends) is)
+
+pub returns-in-Ok-clause-front : goal.returns-in-Ok-clause-front
+returns-in-Ok-clause-front g c = λ opened session.
+    let front = c.run-running.ensures.given.front session in
+    subst (λ (j : List Event). AreFirstLines (of_session session (lines_of j)) (of_session session c.args.plan.lines)) (sym c.finish.ensures.journal)
+    (subst (λ (l : List ScriptLine). AreFirstLines (of_session session (lines_of c.run-running.result.journal.items)) (of_session session l)) c.into_vec.ensures front)
+
+pub returns-in-Ok-clause-ends : goal.returns-in-Ok-clause-ends
+returns-in-Ok-clause-ends g c = λ opened other.
+    let f = c.finish in
+    subst (λ (j : List Event). EndsBy j f.result.cause) (sym f.ensures.journal)
+    (ends_by c.run-running.result.journal.items c.run-running.result.memory_ended f.result.cause f.ensures.memory f.ensures.ends other)
+
+pub returns-in-Ok-clause-caused : goal.returns-in-Ok-clause-caused
+returns-in-Ok-clause-caused g c =
+    let f = c.finish in
+    let j = c.run-running.result.journal.items in
+    let faults = g.D.Disk.faults in
+    subst (λ (l : List Event). ClosesRun (faults c.args.disk) (faults f.result.disk) l f.result.cause) (sym f.ensures.journal)
+    (f.ensures.caused (faults c.args.disk)
+    (caused_earlier (faults c.args.disk) (faults c.in-Ok.opened.environment.log.disk) (faults c.run-running.result.environment.log.disk) j c.in-Ok.ensures.faults c.run-running.ensures.caused))
+
+pub returns-in-Ok-clause-totals : goal.returns-in-Ok-clause-totals
+returns-in-Ok-clause-totals g c = λ opened.
+    let f = c.finish in
+    let st = c.in-Ok.ensures.opened.0 in
+    let at = c.in-Ok.ensures.opened.1 in
+    let running = c.run-running.ensures.runs c.args.file_max st at.here in
+    let j = c.run-running.result.journal.items in
+    f.ensures.totals c.args.file_max st running ∙ ap totals_of (final_is c.args.file_max st c.in-Ok.opened.opening j at.starts.store
+    ∙ ap (λ (s : Store). final_store s j) (sym f.ensures.opening) ∙ ap (λ (l : List Event). final_store f.result.opening l) (sym f.ensures.journal))
+
+pub returns-in-Ok-clause-files : goal.returns-in-Ok-clause-files
+returns-in-Ok-clause-files g c = λ done observed.
+    let f = c.finish in
+    let st = c.in-Ok.ensures.opened.0 in
+    let at = c.in-Ok.ensures.opened.1 in
+    let running = c.run-running.ensures.runs c.args.file_max st at.here in
+    let j = c.run-running.result.journal.items in
+    let same = final_is c.args.file_max st c.in-Ok.opened.opening j at.starts.store
+    ∙ ap (λ (s : Store). final_store s j) (sym f.ensures.opening) ∙ ap (λ (l : List Event). final_store f.result.opening l) (sym f.ensures.journal) in
+    subst (λ (s : Store). MeanStore (now (g.D.Disk.history f.result.disk)).reads s) same (f.ensures.files c.args.file_max st running at.starts.fault done observed)
+
+pub returns-in-Ok-clause-crash : goal.returns-in-Ok-clause-crash
+returns-in-Ok-clause-crash g c = λ observed is_opened.
+    let f = c.finish in
+    let at = c.in-Ok.ensures.crash observed in
+    let env = c.in-Ok.opened.environment in
+    let history = g.D.Disk.history in
+    let j = c.run-running.result.journal.items in
+    let held = log_opened at.starts.held in
+    let start = history (disk_of env.log) in
+    let here : IsAt c.args.file_max g.D.Disk.observable (now (history (disk_of env.log))) env.log env.kept at.st =
+    subst (λ (t : Bool). IsAt c.args.file_max t (now (history (disk_of env.log))) env.log env.kept at.st) (sym observed) at.here in
+    let running = c.run-running.ensures.runs c.args.file_max at.st here in
+    let guarded = c.run-running.ensures.crash observed c.args.file_max at.st held start here at.guarded in
+    let run : IsSafeProgram (history c.args.disk) (history f.result.disk) c.in-Ok.opened.opening j f.result.cause = record {
+      start = start;
+      stable = at.stable;
+      before = c.in-Ok.ensures.entry observed;
+      run = subst (λ (s : Store). IsSafeRun s start (history f.result.disk) j) at.starts.store (f.ensures.crash observed c.args.file_max start at.st held running guarded);
+      ends = λ done. subst (λ (s : Store). ImagesMean (now (history f.result.disk)) s) (final_is c.args.file_max at.st c.in-Ok.opened.opening j at.starts.store)
+          (f.ensures.crash_end observed c.args.file_max start at.st held running guarded at.starts.fault done);
+    } in
+    subst (λ (s : Store). IsSafeProgram (history c.args.disk) (history f.result.disk) s f.result.journal.items f.result.cause) (sym f.ensures.opening)
+    (subst (λ (l : List Event). IsSafeProgram (history c.args.disk) (history f.result.disk) c.in-Ok.opened.opening l f.result.cause) (sym f.ensures.journal) run)
+
+pub returns-in-Err-clause-crash_unopened : goal.returns-in-Err-clause-crash_unopened
+returns-in-Err-clause-crash_unopened g c = λ observed opened. subst (λ d. KeepsEntry (g.D.Disk.history c.args.disk) (g.D.Disk.history d)) (sym c.unopened.ensures.disk) (c.in-Err.ensures.stopped_entry observed)
+
+pub returns-in-Ok-clause-left_alone : goal.returns-in-Ok-clause-left_alone
+returns-in-Ok-clause-left_alone g c = λ observed.
+    let f = c.finish in
+    ran_alone f.result.cause (g.D.Disk.history c.args.disk) (g.D.Disk.history f.result.disk) (ran_cause c.run-running.result.journal.items c.run-running.result.memory_ended f.result.cause f.ensures.memory f.ensures.ends)
+
+pub returns-in-Err-clause-left_alone : goal.returns-in-Err-clause-left_alone
+returns-in-Err-clause-left_alone g c = λ observed.
+    let history = g.D.Disk.history in
+    subst (λ (why : Cause). LeavesUnreadable why (history c.args.disk) (history c.unopened.result.disk)) (sym c.unopened.ensures.cause)
+    (subst (λ d. LeavesUnreadable c.in-Err.field-0.cause (history c.args.disk) (history d)) (sym c.unopened.ensures.disk) (c.in-Err.ensures.left_alone observed))
+
+pub returns-in-Err-clause-unopened : goal.returns-in-Err-clause-unopened
+returns-in-Err-clause-unopened g c = λ opened. (c.unopened.ensures.opening, c.unopened.ensures.journal)

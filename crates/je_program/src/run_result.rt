@@ -1,0 +1,208 @@
+// A program's work, up to its output.
+ghost use Rattle.std.specs.Prelude.{◌≡◌, ◌≢◌, ◌≤◌, ◌^◌, ◌⊎◌, [], ℕ, None, true, false, map, string_bytes, length, Some};
+ghost use Rattle.std.specs.List.{list_all};
+ghost use Rattle.je_model.specs.declared.plan.RunPlan.{RunPlan};
+ghost use Rattle.script_text.specs.Grammar.{is_line};
+ghost use Rattle.command_line.specs.Arguments.{file_max_in, is_taken};
+ghost use Rattle.je_disk.specs.Moments.{History, now};
+ghost use Rattle.log_buffer.specs.Buffer.{disk_of, has_failed};
+ghost use Rattle.log_buffer.specs.Log.{HasLog, ReadAs};
+ghost use Rattle.log_buffer.specs.Crash.{KeepsRead, KeptThrough};
+ghost use Rattle.log_file.specs.Log.{Log, entries_of};
+ghost use Rattle.log_replay.specs.declared.corruption.Corruption.{Corruption as Wrong};
+ghost use Rattle.je_model.specs.Answers.{Standing, after_events};
+ghost use Rattle.je_model.specs.Journal.{lines_of};
+ghost use Rattle.je_model.specs.Store.{no_databases};
+ghost use Rattle.je_program.specs.declared.cause.Cause.{Cause as Why};
+ghost use Rattle.je_program.specs.Crash.{ImagesMean, IsSafeProgram, IsSafeRun, KeepsEntry};
+ghost use Rattle.je_program.specs.Guarded.{IsGuarded, KeepsIfWorks};
+ghost use Rattle.je_program.specs.Environment.{log_rule};
+ghost use Rattle.je_program.specs.Untouched.{LeavesUnreadable};
+ghost use Rattle.je_program.specs.Files.{HasCorruption};
+ghost use Rattle.je_program.specs.Program.{ClosesBy, ClosesRun, EndsBy, IsGivenTo, IsStopped, MeanStore, ReadsPlan, RunsIf, final_store, is_before_disk, totals_of};
+ghost use Rattle.je_program.specs.Run.{HasRun, IsCaused, AreFirstLines, IsRunning, cause_of_journal, of_session};
+
+use crate::cause::Cause;
+use crate::ending::journal_cause;
+use crate::environment::Environment;
+use crate::opening::{Opened, Stopped, open};
+use crate::run_request::{RunRequest, read_request};
+use crate::running::{Running, run};
+use je_disk::Disk;
+use je_io::Source;
+use je_model::{Event, RunPlan, Store, Totals};
+use log_buffer::LogBuffer;
+use log_replay::Rows;
+use std::alloc::Global;
+
+/// What a program came to, before its output is written: the cause of its end, whether its environment
+/// was opened and the script run, the disk, the journal, the store at entry, how much the store holds at
+/// the end, and the records that were kept in memory.
+pub struct RunResult<D> {
+    pub cause: Cause,
+    pub opened: bool,
+    pub disk: D,
+    pub journal: Vec<Event>,
+    pub opening: Store,
+    pub totals: Totals,
+    pub rows: Rows,
+}
+
+/// A program that ended before its environment was opened.
+pub fn unopened<D>(alloc: Global, cause: Cause, disk: D) -> RunResult<D>
+    ensures cause { result.cause ≡ cause }
+    ensures opened { result.opened ≡ false }
+    ensures disk { result.disk ≡ disk }
+    ensures journal { result.journal.items ≡ [] }
+    ensures opening { result.opening ≡ no_databases }
+{
+    RunResult {
+        cause,
+        opened: false,
+        disk,
+        journal: Vec::new(alloc),
+        opening: Store::new(alloc),
+        totals: Totals {
+            databases: 0,
+            records: 0,
+        },
+        rows: Rows::new(alloc),
+    }
+}
+
+// Closes a log: writes it out, and syncs, unless the disk failed before. A disk fault is the cause of the
+// end, unless there was no memory.
+fn close<D: Disk>(log: LogBuffer<D>, cause: Cause) -> (D, Cause)
+    ensures written { (held : Log) → HasLog D.observable (now (D.history (disk_of log))) log held → has_failed log ≡ false → result.1 ≡ Why.Done
+        → ReadAs D.observable (now (D.history result.0)).reads held }
+    ensures crash { D.observable ≡ true → (held : Log) (least : ℕ) → KeepsIfWorks (has_failed log) (now (D.history (disk_of log))) log held least → KeptThrough (D.history (disk_of log)) (D.history result.0) held [] least }
+    ensures kept { D.observable ≡ true → (held : Log) → HasLog D.observable (now (D.history (disk_of log))) log held → has_failed log ≡ false → result.1 ≡ Why.Done → KeepsRead held [] (length (entries_of held)) (now (D.history result.0)) }
+    ensures still { has_failed log ≡ true → result.0 ≡ disk_of log }
+    ensures cause { ClosesBy (D.faults (disk_of log)) (D.faults result.0) cause result.1 }
+    ensures never_falls { D.faults (disk_of log) ≤ D.faults result.0 }
+{
+    if log.has_failed() {
+        return (log.into_disk(), cause);
+    }
+    match log.close() {
+        (disk, Ok(())) => (disk, cause),
+        (disk, Err(_)) if cause == Cause::Memory => (disk, cause),
+        (disk, Err(_)) => (disk, Cause::Disk),
+    }
+}
+
+// How a run ends before it is closed.
+fn end_cause(memory_ended: bool, journal: &[Event]) -> Cause
+    ensures memory { memory_ended ≡ true → result ≡ Why.Memory }
+    ensures journal { memory_ended ≡ false → result ≡ cause_of_journal journal.now }
+{
+    if memory_ended {
+        Cause::Memory
+    } else {
+        journal_cause(journal)
+    }
+}
+
+// Ends a run: closes its environment.
+fn finish<D: Disk>(running: Running<D>, opening: Store) -> RunResult<D>
+    ensures opened { result.opened ≡ true }
+    ensures opening { result.opening ≡ opening }
+    ensures journal { result.journal.items ≡ running.journal.items }
+    ensures memory { running.memory_ended ≡ true → result.cause ≡ Why.Memory }
+    ensures ends { running.memory_ended ≡ false → EndsBy running.journal.items result.cause }
+    ensures caused { (before : ℕ) → IsCaused before (D.faults (disk_of running.environment.log)) running.journal.items → ClosesRun before (D.faults result.disk) running.journal.items result.cause }
+    ensures crash { D.observable ≡ true → (most : ℕ) (start : History) (st : Standing) (log : Log) → IsRunning most D.observable (now (D.history (disk_of running.environment.log))) running.environment.log running.environment.kept running.journal.items st
+        → IsGuarded most st log start (D.history (disk_of running.environment.log)) running.environment.log running.journal.items None
+        → IsSafeRun st.store start (D.history result.disk) running.journal.items }
+    ensures crash_end { D.observable ≡ true → (most : ℕ) (start : History) (st : Standing) (log : Log) → IsRunning most D.observable (now (D.history (disk_of running.environment.log))) running.environment.log running.environment.kept running.journal.items st
+        → IsGuarded most st log start (D.history (disk_of running.environment.log)) running.environment.log running.journal.items None → st.fault ≡ None → result.cause ≡ Why.Done
+        → ImagesMean (now (D.history result.disk)) (after_events (log_rule most) st running.journal.items).store }
+    ensures totals { (most : ℕ) (st : Standing) → IsRunning most D.observable (now (D.history (disk_of running.environment.log))) running.environment.log running.environment.kept running.journal.items st
+        → result.totals ≡ totals_of (after_events (log_rule most) st running.journal.items).store }
+    ensures files { (most : ℕ) (st : Standing) → IsRunning most D.observable (now (D.history (disk_of running.environment.log))) running.environment.log running.environment.kept running.journal.items st
+        → st.fault ≡ None → result.cause ≡ Why.Done → D.observable ≡ true → MeanStore (now (D.history result.disk)).reads (after_events (log_rule most) st running.journal.items).store }
+{
+    let Running {
+        environment,
+        journal,
+        memory_ended,
+        stopped: _,
+    } = running;
+    let Environment { log, kept } = environment;
+    let cause = end_cause(memory_ended, &journal);
+    let (disk, cause) = close(log, cause);
+    RunResult {
+        cause,
+        opened: true,
+        disk,
+        journal,
+        opening,
+        totals: kept.totals,
+        rows: kept.rows,
+    }
+}
+
+/// Runs a plan over a disk: opens the environment, gives the lines, and closes it.
+pub fn run_plan<D: Disk>(alloc: Global, disk: D, file_max: u32, plan: RunPlan) -> RunResult<D>
+    requires file_max { file_max ≤ 2 ^ 30 }
+    requires lines { list_all is_line plan.lines ≡ true }
+    ensures runs { RunsIf result.cause result.opened }
+    ensures after_reading { is_before_disk result.cause ≡ false }
+    ensures run { result.opened ≡ true → (st : Standing) × HasRun file_max D.observable (now (D.history disk)).reads result.opening result.journal.items st }
+    ensures crash { D.observable ≡ true → result.opened ≡ true → IsSafeProgram (D.history disk) (D.history result.disk) result.opening result.journal.items result.cause }
+    ensures crash_unopened { D.observable ≡ true → result.opened ≡ false → KeepsEntry (D.history disk) (D.history result.disk) }
+    ensures unopened { result.opened ≡ false → (result.opening ≡ no_databases) × (result.journal.items ≡ []) }
+    ensures unreadable { (corruption : Wrong) → result.cause ≡ Why.Unreadable corruption → D.observable ≡ true → HasCorruption (now (D.history disk)).reads corruption }
+    ensures lines { result.opened ≡ true → result.cause ≢ Why.Memory → lines_of result.journal.items ≡ plan.lines }
+    ensures front { result.opened ≡ true → (session : ℕ) → AreFirstLines (of_session session (lines_of result.journal.items)) (of_session session plan.lines) }
+    ensures ends { result.opened ≡ true → result.cause ≢ Why.Memory → EndsBy result.journal.items result.cause }
+    ensures caused { ClosesRun (D.faults disk) (D.faults result.disk) result.journal.items result.cause }
+    ensures totals { result.opened ≡ true → result.totals ≡ totals_of (final_store result.opening result.journal.items) }
+    ensures files { result.cause ≡ Why.Done → D.observable ≡ true → MeanStore (now (D.history result.disk)).reads (final_store result.opening result.journal.items) }
+    ensures left_alone { D.observable ≡ true → LeavesUnreadable result.cause (D.history disk) (D.history result.disk) }
+{
+    match open(alloc, disk, file_max) {
+        Ok(opened) => {
+            let Opened {
+                environment,
+                opening,
+            } = opened;
+            let running = run(alloc, environment, plan.lines.into_vec());
+            finish(running, opening)
+        }
+        Err(Stopped { cause, disk }) => unopened(alloc, cause, disk),
+    }
+}
+
+/// Does all that a program does but its output: looks at its arguments, reads its script, and runs it
+/// over the disk.
+pub fn run_unprinted<D: Disk, S: Source>(
+    alloc: Global,
+    args: &[String],
+    disk: D,
+    input: &mut S,
+) -> RunResult<D>
+    ensures usage { result.cause ≡ Why.Usage → is_taken (map string_bytes args.now) ≡ false }
+    ensures wrong { is_taken (map string_bytes args.now) ≡ false → (result.cause ≡ Why.Usage) ⊎ (result.cause ≡ Why.Memory) }
+    ensures stopped { IsStopped (S.left input.old) (S.faults input.old) (S.faults input.new) result.cause }
+    ensures script { is_before_disk result.cause ≡ false → result.cause ≢ Why.Memory → (plan : RunPlan) × ReadsPlan (S.left input.old) (S.left input.new) plan }
+    ensures given { result.opened ≡ true → (plan : RunPlan) × IsGivenTo (S.left input.old) (S.left input.new) result.journal.items result.cause plan }
+    ensures untouched { is_before_disk result.cause ≡ true → result.disk ≡ disk }
+    ensures runs { RunsIf result.cause result.opened }
+    ensures run { result.opened ≡ true → (file_max : ℕ) × (st : Standing) × (file_max_in (map string_bytes args.now) ≡ Some file_max) × HasRun file_max D.observable (now (D.history disk)).reads result.opening result.journal.items st }
+    ensures crash { D.observable ≡ true → result.opened ≡ true → IsSafeProgram (D.history disk) (D.history result.disk) result.opening result.journal.items result.cause }
+    ensures crash_unopened { D.observable ≡ true → result.opened ≡ false → KeepsEntry (D.history disk) (D.history result.disk) }
+    ensures unopened { result.opened ≡ false → (result.opening ≡ no_databases) × (result.journal.items ≡ []) }
+    ensures unreadable { (corruption : Wrong) → result.cause ≡ Why.Unreadable corruption → D.observable ≡ true → HasCorruption (now (D.history disk)).reads corruption }
+    ensures ends { result.opened ≡ true → result.cause ≢ Why.Memory → EndsBy result.journal.items result.cause }
+    ensures caused { ClosesRun (D.faults disk) (D.faults result.disk) result.journal.items result.cause }
+    ensures totals { result.opened ≡ true → result.totals ≡ totals_of (final_store result.opening result.journal.items) }
+    ensures files { result.cause ≡ Why.Done → D.observable ≡ true → MeanStore (now (D.history result.disk)).reads (final_store result.opening result.journal.items) }
+    ensures source { S.faults input.old ≤ S.faults input.new }
+    ensures left_alone { D.observable ≡ true → LeavesUnreadable result.cause (D.history disk) (D.history result.disk) }
+{
+    match read_request(alloc, args, input) {
+        Ok(RunRequest { file_max, plan }) => run_plan(alloc, disk, file_max, plan),
+        Err(cause) => unopened(alloc, cause, disk),
+    }
+}

@@ -1,0 +1,42 @@
+-- The records of one database stand between the end of the one before it and its own end.
+use Rattle.std.proofs.Common.{◌≡◌, ℕ, Bool, cond, List, [], ◌∷◌, ◌++◌, map, Some, Option, refl, ap, sym, ◌∙◌, arith, zero, suc}
+use Rattle.std.specs.Prelude.{◌==◌}
+use Rattle.std.specs.List.{filter, flat_map}
+use Rattle.std.specs.BTreeMap.Range.{range_contains}
+use Rattle.std.proofs.lemmas.Bool.Decides.{nat_tests}
+use Rattle.je_order.specs.declared.bound.Bound.{Bound}
+use Rattle.je_order.specs.declared.bound.Bound.TheVariants.{At, End}
+use Rattle.je_order.specs.declared.txn_id.TxnId.{TxnId}
+use Rattle.lock_table.specs.declared.lock.Lock.{Lock}
+use Rattle.lock_table.specs.declared.record_id.RecordId.{RecordId}
+use Rattle.lock_table.specs.Locks.{lesser, least}
+use Rattle.lock_table.specs.Records.{record_cmp, start_bound, end_bound}
+use Rattle.lock_table.proofs.LeastTxn.{lesser_assoc}
+
+in_db_at : (db n : ℕ) (at : Bound) → range_contains record_cmp (start_bound db) (end_bound db) (record { db = n; at = at }) ≡ (n == db)
+in_db_at zero n (At m) = grind (arith, nat_tests)
+in_db_at zero n End = grind (arith, nat_tests)
+in_db_at (suc d) n (At m) = grind (arith, nat_tests)
+in_db_at (suc d) n End = grind (arith, nat_tests)
+
+filter_alike : {X : Type 0} (p q : X → Bool) → ((x : X) → p x ≡ q x) → (xs : List X) → filter p xs ≡ filter q xs
+filter_alike p q h [] = refl
+filter_alike p q h (x ∷ xs) = ap (λ b. cond b (x ∷ filter p xs) (filter p xs)) (h x) ∙ ap (λ ys. cond (q x) (x ∷ ys) ys) (filter_alike p q h xs)
+
+pub in_db : (db : ℕ) (es : List (RecordId × (List Lock × List Lock))) → filter (λ e. range_contains record_cmp (start_bound db) (end_bound db) e.0) es ≡ filter (λ e. e.0.db == db) es
+in_db db es = filter_alike _ (λ e. e.0.db == db) (λ e. in_db_at db e.0.db e.0.at) es
+
+pub least_append : (xs ys : List TxnId) → least (xs ++ ys) ≡ lesser (least xs) (least ys)
+least_append [] ys = refl
+least_append (x ∷ xs) ys = ap (lesser (Some x)) (least_append xs ys) ∙ sym (lesser_assoc (Some x) (least xs) (least ys))
+
+map_append : (xs ys : List Lock) → map (λ (o : Lock). o.txn) (xs ++ ys) ≡ map (λ (o : Lock). o.txn) xs ++ map (λ (o : Lock). o.txn) ys
+map_append [] ys = refl
+map_append (x ∷ xs) ys = ap (λ zs. x.txn ∷ zs) (map_append xs ys)
+
+-- the least of the owners of these records
+abbrev pub least_owner : List (RecordId × (List Lock × List Lock)) → Option TxnId
+least_owner es = least (map (λ o. o.txn) (flat_map (λ e. e.1.0) es))
+
+pub least_more : (found : Option TxnId) (e : RecordId × (List Lock × List Lock)) (es : List (RecordId × (List Lock × List Lock))) → lesser (lesser found (least (map (λ o. o.txn) e.1.0))) (least_owner es) ≡ lesser found (least_owner (e ∷ es))
+least_more found e es = lesser_assoc found (least (map (λ o. o.txn) e.1.0)) (least_owner es) ∙ ap (lesser found) (sym (least_append (map (λ o. o.txn) e.1.0) (map (λ o. o.txn) (flat_map (λ e. e.1.0) es))) ∙ ap least (sym (map_append e.1.0 (flat_map (λ e. e.1.0) es))))

@@ -1,5 +1,0 @@
-use Rattle.log_entry.proofs.ReadingLaws.{one}
-use Rattle.log_entry.proofs.laws.one_spelling.Goals as goal
-
-pub returns : goal.returns
-returns c = one

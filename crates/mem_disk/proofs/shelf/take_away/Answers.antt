@@ -1,5 +1,0 @@
-use Rattle.std.proofs.Common.{rules}
-use Rattle.mem_disk.proofs.shelf.take_away.Goals as goal
-
-pub returns : goal.returns
-returns c = search rules

@@ -1,0 +1,90 @@
+// What a crash keeps of one file.
+ghost use Rattle.std.specs.Prelude.{◌≡◌, None, Some, option_map, IfOk, OnOk, OnErr};
+ghost use Rattle.je_disk.specs.States.{begun, grown, shortened, dropped, synced_crash_state};
+ghost use Rattle.mem_disk.specs.CrashStates.{crash_state_of, file_bytes_of};
+
+use std::alloc::{AllocError, Global};
+
+/// What a crash keeps of one file. It may leave the file with its stable bytes, and behind them any
+/// bytes, up to the greatest length.
+#[derive(Drop)]
+pub struct MemCrashState {
+    /// The file's first bytes, which stay since the last sync that finished.
+    pub stable: Vec<u8>,
+    /// The greatest length that the file had since then, in bytes.
+    pub max_len: u64,
+    /// Whether the file is there in any case.
+    pub exists_always: bool,
+    /// Whether the file may be there.
+    pub may_exist: bool,
+}
+
+impl MemCrashState {
+    /// The crash state of a file that is not there, and was not. It takes no memory.
+    pub(crate) fn none(alloc: Global) -> MemCrashState
+        ensures { crash_state_of result ≡ synced_crash_state None }
+    {
+        MemCrashState {
+            stable: Vec::new(alloc),
+            max_len: 0,
+            exists_always: false,
+            may_exist: false,
+        }
+    }
+
+    /// The crash state of a file that a sync has made stable.
+    pub(crate) fn synced(
+        alloc: Global,
+        reads: &Option<Vec<u8>>,
+    ) -> Result<MemCrashState, AllocError>
+        ensures { IfOk result (λ crash_state. crash_state_of crash_state ≡ synced_crash_state (file_bytes_of reads.now)) }
+    {
+        match reads {
+            Some(there) => Ok(MemCrashState {
+                stable: Vec::from_slice(alloc, there.as_slice())?,
+                max_len: there.len() as u64,
+                exists_always: true,
+                may_exist: true,
+            }),
+            None => Ok(MemCrashState::none(alloc)),
+        }
+    }
+
+    /// The file begins.
+    pub(crate) fn begin(&mut self)
+        ensures { crash_state_of self.new ≡ begun (crash_state_of self.old) }
+    {
+        self.stable.clear();
+        self.may_exist = true;
+    }
+
+    /// The file has grown to a length.
+    pub(crate) fn grow(&mut self, len: u64)
+        ensures { crash_state_of self.new ≡ grown len (crash_state_of self.old) }
+    {
+        self.max_len = self.max_len.max(len);
+        self.may_exist = true;
+    }
+
+    /// The file begins, with this length.
+    pub(crate) fn begin_with(&mut self, len: u64)
+        ensures { crash_state_of self.new ≡ grown len (begun (crash_state_of self.old)) }
+    {
+        self.begin();
+        self.grow(len);
+    }
+
+    /// The file was cut to a length.
+    pub(crate) fn shorten(&mut self, len: u64)
+        ensures { crash_state_of self.new ≡ shortened len (crash_state_of self.old) }
+    {
+        self.stable.truncate(len as usize);
+    }
+
+    /// The file was removed.
+    pub(crate) fn remove(&mut self)
+        ensures { crash_state_of self.new ≡ dropped (crash_state_of self.old) }
+    {
+        self.exists_always = false;
+    }
+}

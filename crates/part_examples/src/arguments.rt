@@ -1,0 +1,109 @@
+// The arguments of the command line.
+use command_line::parse;
+use std::alloc::{AllocError, Global};
+
+// The arguments of a line, which single blanks part.
+fn split(alloc: Global, line: &str) -> Result<Vec<String>, AllocError> {
+    let mut args = Vec::new(alloc);
+    for word in line.split(' ') {
+        args.push(String::from_str(alloc, word)?)?;
+    }
+    Ok(args)
+}
+
+// Lines whose arguments are valid, with the folder and the file length that they give.
+static RIGHT: [(&str, &str, u32); 14] = [
+    ("run --home d", "d", 10_000_000),
+    ("run --home=d", "d", 10_000_000),
+    ("run --home=", "", 10_000_000),
+    ("run --home=-d", "-d", 10_000_000),
+    ("run --home -", "-", 10_000_000),
+    ("run --home d --", "d", 10_000_000),
+    ("run --home run", "run", 10_000_000),
+    ("run --home=--file-max", "--file-max", 10_000_000),
+    ("run --home d --file-max 4096", "d", 4_096),
+    ("run --home d --file-max=8192", "d", 8_192),
+    ("run --file-max 1073741824 --home d", "d", 1_073_741_824),
+    ("run --file-max=9999999 --home=d", "d", 9_999_999),
+    ("run --home d --file-max +4096", "d", 4_096),
+    ("run --home d --file-max=004096", "d", 4_096),
+];
+
+// Lines whose arguments are invalid.
+static WRONG: [&str; 37] = [
+    "run",
+    "run --home",
+    "--home d",
+    "run --home d --home e",
+    "run --home d extra",
+    "run --home d -- --",
+    "help",
+    "run --help",
+    "Run --home d",
+    "",
+    "ru --home d",
+    "run --hom d",
+    "run -h",
+    "help run",
+    "--help",
+    "run --home -d",
+    "run d",
+    "run -- --home d",
+    "-- run --home d",
+    "--home d run",
+    "jedb run --home d",
+    "run --file-max 8192",
+    "run --home d --file-max",
+    "run --home d --file-max=",
+    "run --home d --file-max 4095",
+    "run --home d --file-max 1073741825",
+    "run --home d --file-max 4294971392",
+    "run --home d --file-max -1",
+    "run --home d --file-max=-1",
+    "run --home d --file-max=-4096",
+    "run --home d --file-max 5k",
+    "run --home d --file-max ++4096",
+    "run --home d --file-max 0x1000",
+    "run --home d --file-max 8192 --file-max 8192",
+    "run --home d --file-max 8192 16384",
+    "run --home d --file_max 8192",
+    "--file-max 8192 run --home d",
+];
+
+fn gives(alloc: Global, line: &str, home: &str, file_max: u32) -> Result<bool, AllocError> {
+    let args = split(alloc, line)?;
+    match parse(alloc, args.as_slice())? {
+        Some(options) => Ok(options.home.as_str() == home && options.file_max == file_max),
+        None => Ok(false),
+    }
+}
+
+fn are_wrong(alloc: Global, args: &[String]) -> Result<bool, AllocError> {
+    Ok(parse(alloc, args)?.is_none())
+}
+
+fn is_wrong(alloc: Global, line: &str) -> Result<bool, AllocError> {
+    let args = split(alloc, line)?;
+    let wrong = are_wrong(alloc, args.as_slice());
+    drop(args);
+    wrong
+}
+
+#[test]
+fn right_words_give_the_options(rt: HostRuntime) {
+    for &(line, home, file_max) in &RIGHT {
+        assert!(rt;
+            gives(rt.alloc(), line, home, file_max) == Ok(true),
+            "{line}"
+        );
+    }
+}
+
+#[test]
+fn other_words_are_wrong(rt: HostRuntime) {
+    let none: [String; 0] = [];
+    assert!(rt; are_wrong(rt.alloc(), none.as_slice()) == Ok(true));
+    for line in &WRONG {
+        assert!(rt; is_wrong(rt.alloc(), line) == Ok(true), "{line}");
+    }
+}
