@@ -4,6 +4,7 @@ ghost use Rattle.je_lsn.specs.Naming.{last_file};
 ghost use Rattle.log_entry.specs.Body.{IsEntry};
 ghost use Rattle.log_file.specs.Scan.{may_follow};
 
+use crate::rows::first_wrong;
 use Logged::{Commit, Put};
 use Step::{
     Append, CommitInSync, EndsAt, Fill, IsDamaged, IsWrittenBefore, IsWrittenPast, Read, ReadFile,
@@ -191,13 +192,13 @@ fn comes(alloc: Global, buffer: &mut LogBuffer<MemDisk>, step: Step) -> Result<b
     }
 }
 
-fn come(alloc: Global, buffer: &mut LogBuffer<MemDisk>, steps: &[Step]) -> Result<bool, LogErr> {
-    for step in steps {
-        if !comes(alloc, buffer, *step)? {
-            return Ok(false);
-        }
-    }
-    Ok(true)
+// The first step that does not come as it says.
+fn wrong_step(
+    alloc: Global,
+    buffer: &mut LogBuffer<MemDisk>,
+    steps: &[Step],
+) -> Result<Option<usize>, LogErr> {
+    first_wrong(steps, |step| comes(alloc, buffer, *step))
 }
 
 // A buffer over an empty disk, whose first file has this number.
@@ -264,17 +265,18 @@ static FILES: [Step; 17] = [
     Remove(0),
 ];
 
-fn goes_through(alloc: Global) -> Result<bool, LogErr> {
+// The first step that does not come so, and whether the files are then those.
+fn goes_through(alloc: Global) -> Result<(Option<usize>, bool), LogErr> {
     let mut buffer = made(alloc, 0)?;
-    let came = come(alloc, &mut buffer, &FILES);
+    let wrong = wrong_step(alloc, &mut buffer, &FILES);
     // 26 + 2,034 + 22
     let left = leaves(alloc, buffer, &[(1, 2_082)]);
-    Ok(came? && left?)
+    Ok((wrong?, left?))
 }
 
 #[test]
 fn goes_through_files(rt: HostRuntime) {
-    assert!(rt; goes_through(rt.alloc()) == Ok(true));
+    assert_eq!(rt; goes_through(rt.alloc()), Ok((None, true)));
 }
 
 // 26 + 60,034 passes 4,096, where the file holds its header alone; so the commit goes into file 4.
@@ -292,19 +294,20 @@ static RESUMED: [Step; 4] = [
     Read(Put(2, 60_000), 3, 26),
 ];
 
-fn goes_on(alloc: Global) -> Result<bool, LogErr> {
+// The first step that does not come so before the resume, the first after it, and whether the files are then those.
+fn goes_on(alloc: Global) -> Result<(Option<usize>, Option<usize>, bool), LogErr> {
     let mut buffer = made(alloc, 3)?;
-    let came = come(alloc, &mut buffer, &WRITTEN);
+    let wrong = wrong_step(alloc, &mut buffer, &WRITTEN);
     let mut buffer = LogBuffer::resume(alloc, buffer.into_disk(), at(4, 48), 26, 4_096);
-    let went_on = come(alloc, &mut buffer, &RESUMED);
+    let then_wrong = wrong_step(alloc, &mut buffer, &RESUMED);
     // 26 + 60,034, and 26 + 22 + 22
     let left = leaves(alloc, buffer, &[(3, 60_060), (4, 70)]);
-    Ok(came? && went_on? && left?)
+    Ok((wrong?, then_wrong?, left?))
 }
 
 #[test]
 fn goes_on_after_a_resume(rt: HostRuntime) {
-    assert!(rt; goes_on(rt.alloc()) == Ok(true));
+    assert_eq!(rt; goes_on(rt.alloc()), Ok((None, None, true)));
 }
 
 // 400 puts of 4,034 bytes, each of which fills a file, are 1,613,600 bytes: the tail is written out on
@@ -324,16 +327,16 @@ fn are_long(files: &[(u32, usize)], want: usize) -> bool {
     same
 }
 
-fn goes_through_many(alloc: Global) -> Result<bool, LogErr> {
+fn goes_through_many(alloc: Global) -> Result<(Option<usize>, bool), LogErr> {
     let mut buffer = made(alloc, 0)?;
-    let came = come(alloc, &mut buffer, &MANY);
+    let wrong = wrong_step(alloc, &mut buffer, &MANY);
     let files = close(alloc, buffer)?;
     let long = files.len() == 400 && are_long(&files, 4_060);
     drop(files);
-    Ok(came? && long)
+    Ok((wrong?, long))
 }
 
 #[test]
 fn writes_a_long_tail_out(rt: HostRuntime) {
-    assert!(rt; goes_through_many(rt.alloc()) == Ok(true));
+    assert_eq!(rt; goes_through_many(rt.alloc()), Ok((None, true)));
 }

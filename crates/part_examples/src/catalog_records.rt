@@ -1,4 +1,5 @@
 // The bytes of the catalog's records.
+use crate::rows::first_wrong;
 use db_catalog::{DbKind, DbRecord};
 use std::alloc::{AllocError, Global};
 
@@ -28,7 +29,12 @@ static KINDS: [(DbRecord, &[u8]); 4] = [
                 len: 4_096,
             },
         },
-        b"\x00\x00\x00\x02\x02\x00\x00\x00\x01\x00\x00\xff\xff\x00\x00\x10\x00",
+        b"\
+\x00\x00\x00\x02\
+\x02\
+\x00\x00\x00\x01\
+\x00\x00\xff\xff\
+\x00\x00\x10\x00",
     ),
     (
         DbRecord {
@@ -39,7 +45,12 @@ static KINDS: [(DbRecord, &[u8]); 4] = [
                 separator: 0x2c,
             },
         },
-        b"\xff\xff\xff\xff\x03\x00\x00\x01\x02\x00\x00\x00\x03\x2c",
+        b"\
+\xff\xff\xff\xff\
+\x03\
+\x00\x00\x01\x02\
+\x00\x00\x00\x03\
+\x2c",
     ),
 ];
 
@@ -52,29 +63,64 @@ fn is_written(alloc: Global, record: &DbRecord, bytes: &[u8]) -> Result<bool, Al
 
 #[test]
 fn writes_and_reads_each_kind(rt: HostRuntime) {
-    for (record, bytes) in &KINDS {
-        assert!(rt; is_written(rt.alloc(), record, bytes) == Ok(true));
-        assert!(rt; DbRecord::from_bytes(bytes) == Some(*record));
-    }
+    let wrong = first_wrong(&KINDS, |(record, bytes)| {
+        Ok::<bool, AllocError>(
+            is_written(rt.alloc(), record, bytes)? && DbRecord::from_bytes(bytes) == Some(*record),
+        )
+    });
+    assert_eq!(rt; wrong, Ok(None));
 }
 
 // A byte more or less, a kind that is none, and a slice outside its limits.
 static WRONG: [&[u8]; 10] = [
     b"",
     b"\x00\x00\x00\x01",
-    b"\x00\x00\x00\x01\x00\x00",
-    b"\x00\x00\x00\x01\x01\x00",
+    b"\
+\x00\x00\x00\x01\
+\x00\
+\x00",
+    b"\
+\x00\x00\x00\x01\
+\x01\
+\x00",
     b"\x00\x00\x00\x01\x04",
-    b"\x00\x00\x00\x02\x02\x00\x00\x00\x01\x00\x01\x00\x00\x00\x00\x10\x00",
-    b"\x00\x00\x00\x02\x02\x00\x00\x00\x01\x00\x00\xff\xff\x00\x00\x00\x00",
-    b"\x00\x00\x00\x02\x02\x00\x00\x00\x01\x00\x00\xff\xff\x00\x00\x10\x01",
-    b"\x00\x00\x00\x02\x02\x00\x00\x00\x01\x00\x00\xff\xff\x00\x00\x10\x00\x00",
-    b"\x00\x00\x00\x02\x03\x00\x00\x00\x01\x00\x00\x00\x03",
+    b"\
+\x00\x00\x00\x02\
+\x02\
+\x00\x00\x00\x01\
+\x00\x01\x00\x00\
+\x00\x00\x10\x00",
+    b"\
+\x00\x00\x00\x02\
+\x02\
+\x00\x00\x00\x01\
+\x00\x00\xff\xff\
+\x00\x00\x00\x00",
+    b"\
+\x00\x00\x00\x02\
+\x02\
+\x00\x00\x00\x01\
+\x00\x00\xff\xff\
+\x00\x00\x10\x01",
+    b"\
+\x00\x00\x00\x02\
+\x02\
+\x00\x00\x00\x01\
+\x00\x00\xff\xff\
+\x00\x00\x10\x00\
+\x00",
+    b"\
+\x00\x00\x00\x02\
+\x03\
+\x00\x00\x00\x01\
+\x00\x00\x00\x03",
 ];
 
 #[test]
 fn reads_nothing_else(rt: HostRuntime) {
-    for bytes in &WRONG {
-        assert!(rt; DbRecord::from_bytes(bytes).is_none());
-    }
+    let wrong = first_wrong(
+        &WRONG,
+        |bytes| Ok::<bool, AllocError>(DbRecord::from_bytes(bytes).is_none()),
+    );
+    assert_eq!(rt; wrong, Ok(None));
 }

@@ -1,4 +1,5 @@
 // Cycles in who waits for whom.
+use crate::rows::first_wrong;
 use Step::{Checks, Contains, Finds, Insert};
 use je_order::TxnId;
 use std::alloc::{AllocError, Global};
@@ -41,21 +42,12 @@ fn comes(alloc: Global, edges: &mut Edges, step: Step) -> Result<bool, AllocErro
     }
 }
 
-fn come(alloc: Global, edges: &mut Edges, steps: &[Step]) -> Result<bool, AllocError> {
-    for step in steps {
-        if !comes(alloc, edges, *step)? {
-            return Ok(false);
-        }
-    }
-    Ok(true)
-}
-
-// Whether the steps come so where nobody waits yet.
-fn come_new(alloc: Global, steps: &[Step]) -> Result<bool, AllocError> {
+// The first step that does not come so where nobody waits yet.
+fn wrong_step(alloc: Global, steps: &[Step]) -> Result<Option<usize>, AllocError> {
     let mut edges = Edges::new(alloc);
-    let came = come(alloc, &mut edges, steps);
+    let wrong = first_wrong(steps, |step| comes(alloc, &mut edges, *step));
     drop(edges);
-    came
+    wrong
 }
 
 // Two that wait for each other, and one that waits for one of them.
@@ -87,6 +79,6 @@ static WAYS: [Step; 10] = [
 
 #[test]
 fn finds_the_cycle_of_the_lesser_way(rt: HostRuntime) {
-    assert!(rt; come_new(rt.alloc(), &TWO) == Ok(true));
-    assert!(rt; come_new(rt.alloc(), &WAYS) == Ok(true));
+    assert_eq!(rt; wrong_step(rt.alloc(), &TWO), Ok(None));
+    assert_eq!(rt; wrong_step(rt.alloc(), &WAYS), Ok(None));
 }

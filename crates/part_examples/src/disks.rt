@@ -241,12 +241,12 @@ fn take<D: Disk>(alloc: Global, disk: &mut D, step: Step) -> Result<bool, DiskEr
     }
 }
 
-/// Whether of each step there comes what is wanted.
-pub fn come<D: Disk>(alloc: Global, disk: &mut D, rows: &[Row]) -> bool {
-    for (step, want, faults) in rows {
+/// The first step of which there does not come what is wanted.
+pub fn wrong_step<D: Disk>(alloc: Global, disk: &mut D, rows: &[Row]) -> Option<usize> {
+    for (at, (step, want, faults)) in rows.iter().enumerate() {
         if take(alloc, disk, *step) != *want || disk.faults() != *faults {
-            return false;
+            return Some(at);
         }
     }
-    true
+    None
 }

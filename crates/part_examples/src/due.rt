@@ -1,8 +1,10 @@
 // What a sync job of a folder syncs, by how many files and folders.
+use crate::rows::first_wrong;
 use Step::{Append, AppendInJob, Cut, Due, GiveJobUp, Mount, Remove, Sync};
 use dir_disk::folder::Folder;
 use je_disk::{SyncDone, SyncJob};
 use je_lsn::FileNo;
+use std::alloc::AllocError;
 use std::io;
 use std::io::{Error, ErrorKind};
 
@@ -60,13 +62,10 @@ fn take(folder: &mut Folder<HostRuntime>, step: Step) -> io::Result<()> {
     }
 }
 
-// Takes the steps on a new folder of this path.
-fn take_all(rt: &HostRuntime, path: &str, steps: &[Step]) -> io::Result<()> {
+// The first step on a new folder of this path that fails.
+fn wrong_step(rt: &HostRuntime, path: &str, steps: &[Step]) -> Result<Option<usize>, AllocError> {
     let mut folder = Folder::new(rt, path)?;
-    for step in steps {
-        take(&mut folder, *step)?;
-    }
-    Ok(())
+    first_wrong(steps, |step| Ok(take(&mut folder, *step).is_ok()))
 }
 
 // The file, the folder and the folder's name at first, then what was written or cut. A job that failed
@@ -107,6 +106,6 @@ static SINCE: [Step; 11] = [
 
 #[test]
 fn syncs_what_is_due(rt: HostRuntime) {
-    assert!(rt; take_all(&rt, "due", &STEPS).is_ok());
-    assert!(rt; take_all(&rt, "since", &SINCE).is_ok());
+    assert_eq!(rt; wrong_step(&rt, "due", &STEPS), Ok(None));
+    assert_eq!(rt; wrong_step(&rt, "since", &SINCE), Ok(None));
 }

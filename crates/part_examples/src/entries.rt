@@ -2,6 +2,7 @@
 ghost use Rattle.std.specs.Prelude.{◌≤◌, length, IfOk};
 ghost use Rattle.log_entry.specs.Body.{IsEntry};
 
+use crate::rows::first_wrong;
 use crate::samples::first;
 use byteorder::{BigEndian, ByteOrder};
 use je_bytes::adler32;
@@ -91,18 +92,22 @@ fn read_onto(
 #[test]
 fn decodes_a_file(rt: HostRuntime) {
     let mut bytes = Vec::new(rt.alloc());
-    for &(_, at, prev, len) in &PLACES {
-        assert!(rt; at < 138 && read_onto(rt.alloc(), &mut bytes, at) == Ok(Some((prev, len))));
-    }
+    let wrong = first_wrong(&PLACES, |&(_, at, prev, len)| {
+        Ok::<bool, AllocError>(
+            at < 138 && read_onto(rt.alloc(), &mut bytes, at)? == Some((prev, len)),
+        )
+    });
+    assert_eq!(rt; wrong, Ok(None));
     assert!(rt; bytes.as_slice() == first().as_slice());
 }
 
 #[test]
 fn encodes_a_file(rt: HostRuntime) {
     let mut bytes = Vec::new(rt.alloc());
-    for &(number, _, prev, len) in &PLACES {
-        assert!(rt; put_onto(rt.alloc(), &mut bytes, number, prev) == Ok(len));
-    }
+    let wrong = first_wrong(&PLACES, |&(number, _, prev, len)| {
+        Ok::<bool, AllocError>(put_onto(rt.alloc(), &mut bytes, number, prev)? == len)
+    });
+    assert_eq!(rt; wrong, Ok(None));
     assert!(rt; bytes.as_slice() == first().as_slice());
     one_encoding();
     prefixes_are_encodings();
@@ -151,8 +156,9 @@ static CHANGES: [(usize, usize, u8, bool, Torn); 11] = [
 
 #[test]
 fn tells_why_none_is_whole(rt: HostRuntime) {
-    for &(len, at, to, signed, why) in &CHANGES {
+    let wrong = first_wrong(&CHANGES, |&(len, at, to, signed, why)| {
         let bytes = changed(at, to, signed);
-        assert!(rt; len < 23 && torn(rt.alloc(), &bytes[..len]) == Ok(Some(why)));
-    }
+        Ok::<bool, AllocError>(len < 23 && torn(rt.alloc(), &bytes[..len])? == Some(why))
+    });
+    assert_eq!(rt; wrong, Ok(None));
 }

@@ -11,18 +11,19 @@ use std::sync::{Mutex, Wait};
 use std::test::Fail;
 use std::{fs, io, thread};
 
-// Whether of each step on a new disk over the folder there comes what is wanted.
-fn come(rt: &HostRuntime, path: &str, rows: &[Row]) -> Result<bool, AllocError> {
+// The first step on a new disk over the folder of which there does not come what is wanted.
+fn wrong_step(rt: &HostRuntime, path: &str, rows: &[Row]) -> Result<Option<usize>, AllocError> {
     let mut disk = DirDisk::new(rt, path)?;
-    let came = disks::come(rt.alloc(), &mut disk, rows);
+    let wrong = disks::wrong_step(rt.alloc(), &mut disk, rows);
     drop(disk);
-    Ok(came)
+    Ok(wrong)
 }
 
 #[test]
 fn is_a_disk(rt: HostRuntime) {
     for (path, rows) in &disks::SCRIPTS {
-        assert!(rt; come(&rt, path, rows) == Ok(true));
+        let wrong = wrong_step(&rt, path, rows);
+        assert!(rt; wrong == Ok(None), "{path}: {wrong:?}");
     }
 }
 
@@ -63,10 +64,10 @@ fn has_text(rt: &HostRuntime, path: &str, want: &str) -> bool {
 #[test]
 fn keeps_files_in_a_folder(rt: HostRuntime) {
     assert!(rt; make_kept(&rt).is_ok());
-    assert!(rt; come(&rt, "kept", &KEPT) == Ok(true));
+    assert_eq!(rt; wrong_step(&rt, "kept", &KEPT), Ok(None));
     assert!(rt; has_text(&rt, "kept/00000003.jdb", "abcde"));
     assert!(rt; matches!(fs::exists(&rt, "kept/00000006.jdb"), Ok(false)));
-    assert!(rt; come(&rt, "kept", &GONE_ON) == Ok(true));
+    assert_eq!(rt; wrong_step(&rt, "kept", &GONE_ON), Ok(None));
 }
 
 static ON_A_FILE: [Row; 2] = [
@@ -77,7 +78,7 @@ static ON_A_FILE: [Row; 2] = [
 #[test]
 fn is_no_disk_where_a_file_stands(rt: HostRuntime) {
     assert!(rt; fs::write(&rt, "no_folder", "a file").is_ok());
-    assert!(rt; come(&rt, "no_folder", &ON_A_FILE) == Ok(true));
+    assert_eq!(rt; wrong_step(&rt, "no_folder", &ON_A_FILE), Ok(None));
 }
 
 // A sync whose job runs while the disk is free for others.
@@ -143,9 +144,9 @@ static FAULTS: [Row; 4] = [
 
 #[test]
 fn counts_faults(rt: HostRuntime) {
-    assert!(rt; come(&rt, "faults", &MADE) == Ok(true));
+    assert_eq!(rt; wrong_step(&rt, "faults", &MADE), Ok(None));
     assert!(rt; fs::create_dir(&rt, "faults/00000007.jdb").is_ok());
-    assert!(rt; come(&rt, "faults", &FAULTS) == Ok(true));
+    assert_eq!(rt; wrong_step(&rt, "faults", &FAULTS), Ok(None));
 }
 
 // A device that cannot be synced stands where a log file should. What the system let go it does not tell
@@ -161,7 +162,7 @@ static LOST: [Row; 6] = [
 
 #[test]
 fn trusts_no_sync_after_one_that_failed(rt: HostRuntime) {
-    assert!(rt; come(&rt, "lost", &MADE) == Ok(true));
+    assert_eq!(rt; wrong_step(&rt, "lost", &MADE), Ok(None));
     assert!(rt; symlink(&rt, "/dev/null", "lost/00000008.jdb").is_ok());
-    assert!(rt; come(&rt, "lost", &LOST) == Ok(true));
+    assert_eq!(rt; wrong_step(&rt, "lost", &LOST), Ok(None));
 }

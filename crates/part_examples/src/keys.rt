@@ -1,4 +1,5 @@
 // Names sorted by the heads of their keys.
+use crate::rows::first_wrong;
 use je_order::{Name, Octets};
 use log_replay::SortKey;
 use std::alloc::{AllocError, Global};
@@ -56,9 +57,10 @@ static ROWS: [(&[u8], &[u8], Ordering); 7] = [
 
 #[test]
 fn sorts_as_names(rt: HostRuntime) {
-    for &(a, b, want) in &ROWS {
-        assert!(rt; compared(rt.alloc(), a, b) == Ok((want, want.is_eq())));
-    }
+    let wrong = first_wrong(&ROWS, |&(a, b, want)| {
+        Ok::<bool, AllocError>(compared(rt.alloc(), a, b)? == (want, want.is_eq()))
+    });
+    assert_eq!(rt; wrong, Ok(None));
 }
 
 // Whether the name of a key comes back.

@@ -1,5 +1,6 @@
 // The lock manager: deadlocks and their victims, and what it tells of locks.
 use crate::record_ids::record;
+use crate::rows::first_wrong;
 use Step::{Ask, GiveBack, Grants, HasHolder, NobodyWaits, Release, Tells};
 use je_order::TxnId;
 use lock_mgr::{LockMgr, Requested};
@@ -125,21 +126,12 @@ fn comes(locks: &mut LockMgr, alloc: Global, step: Step) -> Result<bool, AllocEr
     }
 }
 
-fn come(locks: &mut LockMgr, alloc: Global, steps: &[Step]) -> Result<bool, AllocError> {
-    for step in steps {
-        if !comes(locks, alloc, *step)? {
-            return Ok(false);
-        }
-    }
-    Ok(true)
-}
-
-// Whether the steps come so in a new manager.
-fn come_new(alloc: Global, steps: &[Step]) -> Result<bool, AllocError> {
+// The first step that does not come so in a new manager.
+fn wrong_step(alloc: Global, steps: &[Step]) -> Result<Option<usize>, AllocError> {
     let mut locks = LockMgr::new(alloc);
-    let came = come(&mut locks, alloc, steps);
+    let wrong = first_wrong(steps, |step| comes(&mut locks, alloc, *step));
     drop(locks);
-    came
+    wrong
 }
 
 // Transactions 2 and 3 each write a record and then ask for the other's: 3 is the victim, and 2 gets
@@ -176,11 +168,11 @@ static WRITTEN: [Step; 5] = [
 
 #[test]
 fn deadlocks_have_victims(rt: HostRuntime) {
-    assert!(rt; come_new(rt.alloc(), &CROSSED) == Ok(true));
-    assert!(rt; come_new(rt.alloc(), &UPGRADES) == Ok(true));
+    assert_eq!(rt; wrong_step(rt.alloc(), &CROSSED), Ok(None));
+    assert_eq!(rt; wrong_step(rt.alloc(), &UPGRADES), Ok(None));
 }
 
 #[test]
 fn tells_of_the_locks(rt: HostRuntime) {
-    assert!(rt; come_new(rt.alloc(), &WRITTEN) == Ok(true));
+    assert_eq!(rt; wrong_step(rt.alloc(), &WRITTEN), Ok(None));
 }

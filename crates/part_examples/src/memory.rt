@@ -2,21 +2,23 @@
 use crate::disks::Change::{Append, Cut, Nothing, Remove, Sync};
 use crate::disks::Step::{Do, GiveSyncUp, IsLong, NoJob, Reads, SyncAround};
 use crate::disks::{self, Row};
+use crate::rows::first_wrong;
 use je_disk::DiskErr;
 use je_lsn::FileNo;
 use mem_disk::MemDisk;
 use std::alloc::{AllocError, Global};
 
-// Whether of each step there comes what is wanted.
-fn come(alloc: Global, disk: &mut MemDisk, rows: &[Row]) -> bool {
-    disks::come(alloc, disk, rows)
+// The first step of which there does not come what is wanted.
+fn wrong_step(alloc: Global, disk: &mut MemDisk, rows: &[Row]) -> Option<usize> {
+    disks::wrong_step(alloc, disk, rows)
 }
 
 #[test]
 fn is_a_disk(rt: HostRuntime) {
     let alloc = rt.alloc();
-    for (_, rows) in &disks::SCRIPTS {
-        assert!(rt; come(alloc, &mut MemDisk::new(alloc), rows));
+    for (name, rows) in &disks::SCRIPTS {
+        let wrong = wrong_step(alloc, &mut MemDisk::new(alloc), rows);
+        assert!(rt; wrong.is_none(), "{name}: {wrong:?}");
     }
 }
 
@@ -43,29 +45,36 @@ static JOBS: [Row; 4] = [
     (NoJob, Ok(true), 2),
 ];
 
-// Whether the steps come so where these calls fail, and then the others on a disk with the files that are left.
-fn come_failing(
+// The first step that does not come so where these calls fail, or of the others on a disk with the files that are
+// left.
+fn wrong_failing(
     alloc: Global,
     calls: &[u64],
     rows: &[Row],
     others: &[Row],
-) -> Result<bool, AllocError> {
+) -> Result<(Option<usize>, Option<usize>), AllocError> {
     let mut disk = MemDisk::new(alloc);
     let told = disk.fail_calls(alloc, calls);
-    let came = come(alloc, &mut disk, rows);
+    let wrong = wrong_step(alloc, &mut disk, rows);
     let files = disk.files(alloc);
     drop(disk);
     told?;
     let mut again = MemDisk::with_files(alloc, files?)?;
-    let then_came = come(alloc, &mut again, others);
+    let then_wrong = wrong_step(alloc, &mut again, others);
     drop(again);
-    Ok(came && then_came)
+    Ok((wrong, then_wrong))
 }
 
 #[test]
 fn fails_where_told(rt: HostRuntime) {
-    assert!(rt; come_failing(rt.alloc(), &[2, 4, 5], &TOLD, &AGAIN) == Ok(true));
-    assert!(rt; come_failing(rt.alloc(), &[1, 3], &JOBS, &[]) == Ok(true));
+    assert_eq!(rt;
+        wrong_failing(rt.alloc(), &[2, 4, 5], &TOLD, &AGAIN),
+        Ok((None, None))
+    );
+    assert_eq!(rt;
+        wrong_failing(rt.alloc(), &[1, 3], &JOBS, &[]),
+        Ok((None, None))
+    );
 }
 
 // Calls 1 to 5 work; the fifth appends bytes that no sync made stable.
@@ -108,13 +117,14 @@ fn has_crash_state(
     )
 }
 
-fn has_crash_states(alloc: Global, disk: &MemDisk) -> Result<bool, AllocError> {
-    let mut same = true;
-    for &(f, stable, max_len, exists_always, may_exist) in &CRASH_STATES {
-        same = same
-            && has_crash_state(alloc, disk, f, stable, (max_len, exists_always, may_exist))?;
-    }
-    Ok(same)
+// The first file whose mark is another.
+fn wrong_mark(alloc: Global, disk: &MemDisk) -> Result<Option<usize>, AllocError> {
+    first_wrong(
+        &CRASH_STATES,
+        |&(f, stable, max_len, exists_always, may_exist)| {
+            has_crash_state(alloc, disk, f, stable, (max_len, exists_always, may_exist))
+        },
+    )
 }
 
 #[test]
@@ -122,8 +132,8 @@ fn stops_and_tells_what_stays(rt: HostRuntime) {
     let alloc = rt.alloc();
     let mut disk = MemDisk::new(alloc);
     disk.stop_after(5);
-    assert!(rt; come(alloc, &mut disk, &STOPPED));
-    assert!(rt; has_crash_states(alloc, &disk) == Ok(true));
+    assert_eq!(rt; wrong_step(alloc, &mut disk, &STOPPED), None);
+    assert_eq!(rt; wrong_mark(alloc, &disk), Ok(None));
     disk.stop_after(u64::MAX);
-    assert!(rt; come(alloc, &mut disk, &GOING));
+    assert_eq!(rt; wrong_step(alloc, &mut disk, &GOING), None);
 }

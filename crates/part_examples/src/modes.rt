@@ -1,4 +1,5 @@
 // Which types of locks conflict, and what an upgrade comes to.
+use crate::rows::first_wrong;
 use lock_mode::LockType::{self, RangeInsert, RangeRead, RangeWrite, Read, Write};
 use lock_mode::{conflicts, upgrade};
 
@@ -22,9 +23,13 @@ fn waits(held: LockType) -> [bool; 5] {
 
 #[test]
 fn conflicts_as_the_table(rt: HostRuntime) {
-    for &(held, want) in &WAITS {
-        assert!(rt; waits(held).as_slice() == want);
-    }
+    assert_eq!(rt;
+        first_wrong(
+            &WAITS,
+            |row| Ok::<bool, ()>(waits(row.0).as_slice() == row.1)
+        ),
+        Ok(None)
+    );
 }
 
 // What is held, and what it comes to with each type that is asked, in the same order.
@@ -53,7 +58,11 @@ fn upgraded(held: LockType) -> [LockType; 5] {
 
 #[test]
 fn upgrades_as_the_table(rt: HostRuntime) {
-    for &(held, want) in &UPGRADED {
-        assert!(rt; upgraded(held).as_slice() == want);
-    }
+    assert_eq!(rt;
+        first_wrong(
+            &UPGRADED,
+            |row| Ok::<bool, ()>(upgraded(row.0).as_slice() == row.1)
+        ),
+        Ok(None)
+    );
 }

@@ -1,4 +1,5 @@
 // The names of log files, and places in the log.
+use crate::rows::first_wrong;
 use je_lsn::{FileNo, Lsn, file_name, parse_name};
 use je_order::copy_of;
 use std::alloc::{AllocError, Global};
@@ -22,13 +23,17 @@ static OTHERS: [&[u8]; 7] = [
 
 #[test]
 fn names_files(rt: HostRuntime) {
-    for &(f, name) in &FILES {
-        assert!(rt; file_name(FileNo(f)).as_slice() == name);
-        assert!(rt; parse_name(name) == Some(FileNo(f)));
-    }
-    for &name in &OTHERS {
-        assert!(rt; parse_name(name).is_none());
-    }
+    let wrong = first_wrong(&FILES, |&(f, name)| {
+        Ok::<bool, AllocError>(
+            file_name(FileNo(f)).as_slice() == name && parse_name(name) == Some(FileNo(f)),
+        )
+    });
+    assert_eq!(rt; wrong, Ok(None));
+    let wrong = first_wrong(
+        &OTHERS,
+        |name| Ok::<bool, AllocError>(parse_name(name).is_none()),
+    );
+    assert_eq!(rt; wrong, Ok(None));
 }
 
 // Whether the place is printed so.

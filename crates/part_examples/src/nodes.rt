@@ -1,4 +1,5 @@
 // The slots of a node: in order, split, and as a delta shows them.
+use crate::rows::first_wrong;
 use crate::slots::{name, put};
 use Held::{Deleted, There, Unset};
 use Step::{ClearChanged, Finds, HasImage, HasKeys, HasNoImage, Holds, Put, Remove, Shows, Splits};
@@ -138,14 +139,13 @@ fn comes(alloc: Global, node: &mut Node, step: Step) -> Result<bool, AllocError>
     }
 }
 
-/// Whether each step comes as it says.
-pub fn come(alloc: Global, node: &mut Node, steps: &[Step]) -> Result<bool, AllocError> {
-    for step in steps {
-        if !comes(alloc, node, *step)? {
-            return Ok(false);
-        }
-    }
-    Ok(true)
+/// The first step that does not come as it says.
+pub fn wrong_step(
+    alloc: Global,
+    node: &mut Node,
+    steps: &[Step],
+) -> Result<Option<usize>, AllocError> {
+    first_wrong(steps, |step| comes(alloc, node, *step))
 }
 
 // The third slot is put once more. Of the names that are removed the second has no slot.
@@ -189,21 +189,21 @@ static SHOWN: [Step; 16] = [
     HasNoImage,
 ];
 
-// Whether the steps come so on a new node.
-fn come_new(alloc: Global, steps: &[Step]) -> Result<bool, AllocError> {
+// The first step that does not come so on a new node.
+fn wrong_of_new(alloc: Global, steps: &[Step]) -> Result<Option<usize>, AllocError> {
     let mut node = Node::new(alloc, 1, 2, 1);
-    let came = come(alloc, &mut node, steps);
+    let wrong = wrong_step(alloc, &mut node, steps);
     drop(node);
-    came
+    wrong
 }
 
 #[test]
 fn keeps_slots_in_order(rt: HostRuntime) {
-    assert!(rt; come_new(rt.alloc(), &ORDERED) == Ok(true));
+    assert_eq!(rt; wrong_of_new(rt.alloc(), &ORDERED), Ok(None));
     slots_are_their_names();
 }
 
 #[test]
 fn tells_what_a_delta_shows(rt: HostRuntime) {
-    assert!(rt; come_new(rt.alloc(), &SHOWN) == Ok(true));
+    assert_eq!(rt; wrong_of_new(rt.alloc(), &SHOWN), Ok(None));
 }

@@ -1,4 +1,5 @@
 // Scripts that are read, and scripts that are none.
+use crate::rows::first_wrong;
 use je_model::{Call, Kind, ScriptLine};
 use je_order::{Octets, Word};
 use script_text::{ParseErr, parse};
@@ -101,7 +102,8 @@ static BAD: [(&[u8], u32); 25] = [
 // The first bad line, and what makes it bad.
 #[test]
 fn names_the_first_bad_line(rt: HostRuntime) {
-    for &(text, line) in &BAD {
-        assert!(rt; parse(rt.alloc(), text).err() == Some(ParseErr::BadScript { line }));
-    }
+    let wrong = first_wrong(&BAD, |&(text, line)| {
+        Ok::<bool, AllocError>(parse(rt.alloc(), text).err() == Some(ParseErr::BadScript { line }))
+    });
+    assert_eq!(rt; wrong, Ok(None));
 }

@@ -1,4 +1,5 @@
 // Reading whole inputs and writing whole texts, with faults on the way.
+use crate::rows::first_wrong;
 use je_io::{
     Failed, MemSink, MemSource, ReadErr, Sink, Source, StdSink, StdSource, read_all, write_all,
 };
@@ -50,9 +51,8 @@ fn reads_each(alloc: Global, most: usize, want: &[u8]) -> Result<bool, ReadErr> 
 
 #[test]
 fn reads_to_the_end_or_the_limit(rt: HostRuntime) {
-    for &(most, want) in &READS {
-        assert!(rt; reads_each(rt.alloc(), most, want) == Ok(true));
-    }
+    let wrong = first_wrong(&READS, |&(most, want)| reads_each(rt.alloc(), most, want));
+    assert_eq!(rt; wrong, Ok(None));
 }
 
 // A read that fails in the middle is answered, and the source goes on behind it.
@@ -83,26 +83,27 @@ static SHORT: [Row; 3] = [
     (b"more", false, b"onet", 2),
 ];
 
-// Whether each row comes so.
-fn writes_each(sink: &mut MemSink, rows: &[Row]) -> bool {
-    for &(text, well, bytes, faults) in rows {
+// The first row that does not come so.
+fn wrong_write(sink: &mut MemSink, rows: &[Row]) -> Option<usize> {
+    for (at, &(text, well, bytes, faults)) in rows.iter().enumerate() {
         let written = write_all(sink, text).is_ok();
         if (written, sink.bytes(), sink.faults()) != (well, bytes, faults) {
-            return false;
+            return Some(at);
         }
     }
-    true
+    None
 }
 
 #[test]
 fn writes_all_or_the_first_bytes(rt: HostRuntime) {
     let mut sink = MemSink::new(rt.alloc());
-    let whole = writes_each(&mut sink, &WHOLE);
+    let wrong = wrong_write(&mut sink, &WHOLE);
     drop(sink);
+    assert_eq!(rt; wrong, None);
     let mut sink = MemSink::failing(rt.alloc(), 4);
-    let short = writes_each(&mut sink, &SHORT);
+    let wrong = wrong_write(&mut sink, &SHORT);
     drop(sink);
-    assert!(rt; whole && short);
+    assert_eq!(rt; wrong, None);
 }
 
 // Over a writer of the library with room for three bytes.

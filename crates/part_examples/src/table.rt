@@ -1,5 +1,6 @@
 // The lock table: phantoms wait, and upgrades are given back.
 use crate::record_ids::record;
+use crate::rows::first_wrong;
 use Step::{Ask, Blocks, Cancel, GiveBack, Grants, HasHolder, Release, Tells, Waits};
 use je_order::TxnId;
 use lock_mode::LockType::{self, RangeInsert, RangeRead, Read, Write};
@@ -118,21 +119,12 @@ fn comes(table: &mut LockTable, alloc: Global, step: Step) -> Result<bool, Alloc
     }
 }
 
-fn come(table: &mut LockTable, alloc: Global, steps: &[Step]) -> Result<bool, AllocError> {
-    for step in steps {
-        if !comes(table, alloc, *step)? {
-            return Ok(false);
-        }
-    }
-    Ok(true)
-}
-
-// Whether the steps come so on a new table.
-fn come_new(alloc: Global, steps: &[Step]) -> Result<bool, AllocError> {
+// The first step that does not come so on a new table.
+fn wrong_step(alloc: Global, steps: &[Step]) -> Result<Option<usize>, AllocError> {
     let mut table = LockTable::new(alloc);
-    let came = come(&mut table, alloc, steps);
+    let wrong = first_wrong(steps, |step| comes(&mut table, alloc, *step));
     drop(table);
-    came
+    wrong
 }
 
 // Transaction 4 reads a and c as ranges; 5 writes the new record b, and waits at c until 4 ends.
@@ -172,6 +164,6 @@ static UPGRADE: [Step; 10] = [
 
 #[test]
 fn grants_what_is_free(rt: HostRuntime) {
-    assert!(rt; come_new(rt.alloc(), &PHANTOM) == Ok(true));
-    assert!(rt; come_new(rt.alloc(), &UPGRADE) == Ok(true));
+    assert_eq!(rt; wrong_step(rt.alloc(), &PHANTOM), Ok(None));
+    assert_eq!(rt; wrong_step(rt.alloc(), &UPGRADE), Ok(None));
 }

@@ -1,4 +1,5 @@
 // Byte order, and each kind of value.
+use crate::rows::first_wrong;
 use je_order::{Bound, List, Name, Octets, TxnId, Word, cmp_bytes, cmp_name, copy_of};
 use std::alloc::{AllocError, Global};
 use std::cmp::Ordering;
@@ -14,9 +15,11 @@ static ORDERED: [(&[u8], &[u8], Ordering); 5] = [
 
 #[test]
 fn orders_bytes(rt: HostRuntime) {
-    for &(a, b, want) in &ORDERED {
-        assert!(rt; cmp_bytes(a, b) == want);
-    }
+    let wrong = first_wrong(
+        &ORDERED,
+        |&(a, b, want)| Ok::<bool, AllocError>(cmp_bytes(a, b) == want),
+    );
+    assert_eq!(rt; wrong, Ok(None));
 }
 
 fn keys(alloc: Global) -> Result<Octets, AllocError> {
@@ -93,8 +96,10 @@ fn is_copied(alloc: Global, text: &[u8]) -> Result<bool, AllocError> {
 #[test]
 fn takes_names_of_databases(rt: HostRuntime) {
     assert!(rt; Word::is_word(b"t_9"));
-    for &text in &NOT_WORDS {
-        assert!(rt; !Word::is_word(text));
-    }
+    let wrong = first_wrong(
+        &NOT_WORDS,
+        |text| Ok::<bool, AllocError>(!Word::is_word(text)),
+    );
+    assert_eq!(rt; wrong, Ok(None));
     assert!(rt; is_copied(rt.alloc(), b"people") == Ok(true));
 }
