@@ -19,13 +19,14 @@ pub struct DirDisk<R: Files + AllocGlobal + Clone + Drop> {
 }
 
 impl<R: Files + AllocGlobal + Clone + Drop> DirDisk<R> {
-    ghost use Rattle.std.specs.Prelude.{◌≡◌, ◌≤◌, codes, if◌then◌else◌, length, string_bytes, ◌==◌, None, Ok, IfOk};
+    ghost use Rattle.std.specs.Prelude.{◌≡◌, ◌≤◌, string_bytes, None, Ok, IfOk};
     ghost use Rattle.je_disk.specs.Causes.{HasFault, HasCause};
     ghost use Rattle.je_order.specs.Counts.{HasRisen};
 
-    /// The folder of this path, which need not be there. Nothing is done to it yet.
+    /// The folder of this path, which need not be there. Nothing is done to it yet. An empty path, as a variable of a
+    /// shell gives that is not set, names no folder: the disk over it cannot be mounted.
     pub fn new(rt: &R, path: &str) -> Result<DirDisk<R>, AllocError>
-        ensures path { IfOk result (λ disk. string_bytes disk.folder.dir_path.path ≡ (if length path.now == 0 then codes "." else path.now)) }
+        ensures path { IfOk result (λ disk. string_bytes disk.folder.dir_path.path ≡ path.now) }
         ensures faults { IfOk result (λ disk. disk.faults ≡ 0) }
         ensures sync_out { IfOk result (λ disk. disk.jobs.sync ≡ None) }
         ensures read_out { IfOk result (λ disk. disk.jobs.reading ≡ None) }
@@ -79,7 +80,7 @@ impl<R: Files + AllocGlobal + Clone + Drop> Disk for DirDisk<R>
 where
     R::File: Send,
 {
-    ghost use Rattle.std.specs.Prelude.{◌≡◌, false, None, IsErr};
+    ghost use Rattle.std.specs.Prelude.{◌≡◌, [], false, None, IsErr, string_bytes};
     ghost use Rattle.je_disk.specs.Causes.{HasFault};
     ghost use Rattle.je_disk.specs.Moments.{History};
     ghost use Rattle.je_disk.specs.States.{nothing};
@@ -102,7 +103,13 @@ where
 
     ghost last_job = { λ disk. disk.jobs.last_job };
 
-    fn mount(&mut self) -> Result<(), DiskErr> {
+    fn mount(&mut self) -> Result<(), DiskErr>
+        ensures sync_out { self.new.jobs.sync ≡ None }
+        ensures read_out { self.new.jobs.reading ≡ None }
+        ensures last_job { self.new.jobs.last_job ≡ self.old.jobs.last_job }
+        ensures cause { HasFault self.old.faults self.new.faults result }
+        ensures empty { string_bytes self.old.folder.dir_path.path ≡ [] → IsErr result }
+    {
         self.jobs.give_up_sync();
         self.jobs.give_up_reading();
         let answer = self.folder.mount();

@@ -25,12 +25,11 @@ fn if_there<T>(answer: io::Result<T>) -> io::Result<Option<T>> {
 }
 
 impl<R: Files + AllocGlobal + Clone + Drop> DirPath<R> {
-    ghost use Rattle.std.specs.Prelude.{◌≡◌, codes, IfOk, if◌then◌else◌, length, string_bytes, ◌==◌};
+    ghost use Rattle.std.specs.Prelude.{◌≡◌, [], IfOk, IsErr, string_bytes};
 
     pub fn new(rt: &R, path: &str) -> Result<DirPath<R>, AllocError>
-        ensures path { IfOk result (λ dir_path. string_bytes dir_path.path ≡ (if length path.now == 0 then codes "." else path.now)) }
+        ensures path { IfOk result (λ dir_path. string_bytes dir_path.path ≡ path.now) }
     {
-        let path = if path.is_empty() { "." } else { path };
         Ok(DirPath {
             rt: rt.clone()?,
             path: String::from_str(rt.alloc(), path)?,
@@ -41,18 +40,32 @@ impl<R: Files + AllocGlobal + Clone + Drop> DirPath<R> {
         self.rt.alloc()
     }
 
+    // The path, by which every call of the system goes. An empty one, as a variable of a shell gives that is not
+    // set, names no folder: it is not the current one.
+    fn path(&self) -> io::Result<&str>
+        ensures empty { string_bytes self.now.path ≡ [] → IsErr result }
+    {
+        if self.path.is_empty() {
+            return Err(Error::from(ErrorKind::InvalidFilename));
+        }
+        Ok(self.path.as_str())
+    }
+
     fn path_of(&self, f: FileNo) -> io::Result<String> {
         let name = file_name(f);
         let Ok(name) = std::str::from_utf8(name.as_slice()) else {
             return Err(Error::from(ErrorKind::InvalidFilename));
         };
-        let folder = self.path.as_str();
+        let folder = self.path()?;
         Ok(format!(in self.rt.alloc(); "{folder}/{name}")?)
     }
 
-    /// Whether the folder is there. Anything else of its name is an error.
-    pub fn is_there(&self) -> io::Result<bool> {
-        match if_there(self.rt.metadata(self.path.as_str()))? {
+    /// Whether the folder is there. Anything else of its name is an error, and so is an empty name.
+    pub fn is_there(&self) -> io::Result<bool>
+        ensures empty { string_bytes self.now.path ≡ [] → IsErr result }
+    {
+        let path = self.path()?;
+        match if_there(self.rt.metadata(path))? {
             Some(found) if found.is_dir() => Ok(true),
             Some(_) => Err(Error::from(ErrorKind::NotADirectory)),
             None => Ok(false),
@@ -60,19 +73,17 @@ impl<R: Files + AllocGlobal + Clone + Drop> DirPath<R> {
     }
 
     pub fn make_folder(&self) -> io::Result<()> {
-        fs::create_dir(&self.rt, self.path.as_str())
+        fs::create_dir(&self.rt, self.path()?)
     }
 
     /// The folder itself, to be synced.
     pub fn folder(&self) -> io::Result<R::File> {
-        OpenOptions::new()
-            .read(true)
-            .open(&self.rt, self.path.as_str())
+        OpenOptions::new().read(true).open(&self.rt, self.path()?)
     }
 
     /// The folder above this one, to be synced.
     pub fn above(&self) -> io::Result<R::File> {
-        let above = match Path::new(self.path.as_str()).parent() {
+        let above = match Path::new(self.path()?).parent() {
             Some(above) if !above.as_os_str().is_empty() => above.as_str(),
             _ => ".",
         };
@@ -82,7 +93,7 @@ impl<R: Files + AllocGlobal + Clone + Drop> DirPath<R> {
     /// The numbers of the log files; none where there is no folder.
     pub fn numbers(&self, alloc: Global) -> io::Result<BTreeSet<u32>> {
         let mut numbers = BTreeSet::new(alloc);
-        let Some(entries) = if_there(fs::read_dir(&self.rt, self.path.as_str()))? else {
+        let Some(entries) = if_there(fs::read_dir(&self.rt, self.path()?))? else {
             return Ok(numbers);
         };
         for entry in entries {

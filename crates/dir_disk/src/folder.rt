@@ -1,5 +1,5 @@
 // The folder and its open files.
-ghost use Rattle.std.specs.Prelude.{◌≡◌, ◌≤◌, codes, false, if◌then◌else◌, length, string_bytes, ◌==◌, IfOk, IsErr};
+ghost use Rattle.std.specs.Prelude.{◌≡◌, ◌≤◌, [], false, length, string_bytes, IfOk, IsErr};
 ghost use Rattle.je_disk.specs.States.{AreRisingNumbers};
 
 use crate::dir_path::DirPath;
@@ -61,7 +61,7 @@ fn push_opened<F: Drop>(handles: &mut Vec<F>, opened: io::Result<F>) -> io::Resu
 
 impl<R: Files + AllocGlobal + Clone + Drop> Folder<R> {
     pub fn new(rt: &R, path: &str) -> Result<Folder<R>, AllocError>
-        ensures path { IfOk result (λ folder. string_bytes folder.dir_path.path ≡ (if length path.now == 0 then codes "." else path.now)) }
+        ensures path { IfOk result (λ folder. string_bytes folder.dir_path.path ≡ path.now) }
     {
         let lost = Arc::new(rt.alloc(), AtomicBool::new(false))?;
         let dir_path = DirPath::new(rt, path)?;
@@ -76,8 +76,11 @@ impl<R: Files + AllocGlobal + Clone + Drop> Folder<R> {
         })
     }
 
-    /// Forgets the open files. A folder that is not there is no error, and anything else of its name is.
-    pub fn mount(&mut self) -> io::Result<()> {
+    /// Forgets the open files. A folder that is not there is no error; anything else of its name is, and so is an
+    /// empty name.
+    pub fn mount(&mut self) -> io::Result<()>
+        ensures empty { string_bytes self.old.dir_path.path ≡ [] → IsErr result }
+    {
         self.files.clear();
         self.entries = Pending::Nothing;
         self.name = Pending::Nothing;

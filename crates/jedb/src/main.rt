@@ -23,11 +23,11 @@ fn args_of<R: Runtime + AllocGlobal>(rt: &R) -> Result<Vec<String>, AllocError> 
     }
 }
 
-// The disk over the folder that the arguments name; over `.` where they name none, and are refused.
+// The disk over the folder that the arguments name; over none where they name none, and are refused.
 fn disk_of<R: Runtime + AllocGlobal>(rt: &R, args: &[String]) -> Result<DirDisk<R>, AllocError> {
     match home(rt.alloc(), args)? {
         Some(folder) => DirDisk::new(rt, folder.as_str()),
-        None => DirDisk::new(rt, "."),
+        None => DirDisk::new(rt, ""),
     }
 }
 

@@ -81,6 +81,23 @@ fn is_no_disk_where_a_file_stands(rt: HostRuntime) {
     assert_eq!(rt; wrong_step(&rt, "no_folder", &ON_A_FILE), Ok(None));
 }
 
+// An empty name, as a variable of a shell gives that is not set, is no folder: not the one above all, and not the
+// current one.
+static NO_NAME: [Row; 5] = [
+    (Mount, Err(DiskErr::Failed), 1),
+    (Do(Append(5, b"x")), Err(DiskErr::Failed), 2),
+    (Do(Create(5)), Err(DiskErr::Failed), 3),
+    (Do(Sync), Err(DiskErr::Failed), 4),
+    (Do(Remove(5)), Err(DiskErr::Failed), 5),
+];
+
+#[test]
+fn is_no_disk_without_a_name(rt: HostRuntime) {
+    assert_eq!(rt; wrong_step(&rt, "", &NO_NAME), Ok(None));
+    assert!(rt; matches!(fs::exists(&rt, "00000005.jdb"), Ok(false)));
+    assert!(rt; matches!(fs::exists(&rt, "/00000005.jdb"), Ok(false)));
+}
+
 // A sync whose job runs while the disk is free for others.
 fn sync_by_job(rt: &impl Wait, disk: &Mutex<DirDisk<HostRuntime>>) -> Result<(), DiskErr> {
     let job = disk.lock(rt).begin_sync()?;
