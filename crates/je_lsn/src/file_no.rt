@@ -1,5 +1,8 @@
 // A log file's number.
 
+/// The greatest number of a log file.
+pub const LAST_FILE: u32 = 0xffff_fffe;
+
 /// A log file's number, from 0. Later files have greater numbers. The greatest number, 0xffffffff,
 /// names no file.
 #[derive(Clone, Copy, Debug, PartialEq, Eq, PartialOrd, Ord, Hash)]

@@ -7,6 +7,6 @@ pub mod file_no;
 pub mod lsn;
 pub mod naming;
 
-pub use file_no::FileNo;
+pub use file_no::{FileNo, LAST_FILE};
 pub use lsn::Lsn;
-pub use naming::{file_name, parse_name};
+pub use naming::{file_name, hex_digit, parse_name};

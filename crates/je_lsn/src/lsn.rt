@@ -31,6 +31,13 @@ impl Lsn {
         }
     }
 
+    /// The LSN with this number.
+    pub fn from_u64(number: u64) -> Lsn
+        ensures { result ≡ number }
+    {
+        Lsn { number }
+    }
+
     pub fn file(self) -> FileNo
         ensures { result.0 ≡ self / 2 ^ 32 }
     {

@@ -1,13 +1,16 @@
 // The names of log files.
-ghost use Rattle.std.specs.Prelude.{◌≡◌, ◌≢◌, ℕ, ◌<◌, ◌≤◌, IfSome, IsNone, length};
+ghost use Rattle.std.specs.Prelude.{◌≡◌, ◌≢◌, ℕ, ◌<◌, ◌≤◌, IfSome, IsNone, length, false};
+ghost use Rattle.std.specs.Fmt.{digit_glyph};
 ghost use Rattle.je_lsn.specs.Naming.{digit, digit_value, name_of, number_in_name, last_file};
 
-use crate::FileNo;
+use crate::{FileNo, LAST_FILE};
 
+/// The lower-case hexadecimal digit of a value.
 #[tactic(auto, unfolding(crate::specs::Naming::digit))]
-fn hex_digit(value: u32) -> u8
+pub fn hex_digit(value: u32) -> u8
     requires { value < 16 }
-    ensures { result ≡ digit value }
+    ensures digit { result ≡ digit value }
+    ensures glyph { result ≡ digit_glyph false value }
 {
     if value <= 9 {
         b'0' + value as u8
@@ -75,7 +78,7 @@ pub fn parse_name(name: &[u8]) -> Option<FileNo>
         return None;
     }
     let f = FileNo(number(name));
-    if f.0 == u32::MAX {
+    if f.0 > LAST_FILE {
         return None;
     }
     if file_name(f).as_slice() != name {

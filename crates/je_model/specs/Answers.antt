@@ -1,7 +1,8 @@
 -- What each event of a journal may answer: the first refusal of the order whose cause holds, else evaluation's
 -- answer (Getting Started with Transaction Processing; the order of refusals is this project's own).
 use Rattle.std.specs.Prelude.{ℕ, ◌+◌, ◌≡◌, ◌⊎◌, ◌∷◌, [], List, Option, None, Some, Bool, nat_lt, nat_le, is_some, length, if◌then◌else◌}
-use Rattle.je_model.specs.declared.store.TheConstants.{MOST_DATABASES, LAST_TXN, LAST_DATABASE, KEY_LIMIT, VALUE_LIMIT}
+use Rattle.je_model.specs.declared.store.TheConstants.{MOST_DATABASES, LAST_TXN, LAST_DATABASE}
+use Rattle.je_order.specs.declared.limits.TheConstants.{KEY_LIMIT, VALUE_LIMIT}
 use Rattle.je_model.specs.declared.store.Store.{Store}
 use Rattle.je_model.specs.declared.call.Call.{Call}
 use Rattle.je_model.specs.declared.call.Call.TheVariants.{Create, List as Lists, Remove as Removes, Rename as Renames, Truncate, Put, PutNo, Get, Delete}

@@ -26,7 +26,5 @@ pub use isolation::Isolation;
 pub use laws::stores_stay_right;
 pub use plan::{RunPlan, ScriptLine};
 pub use record_change::RecordChange;
-pub use store::{
-    Database, KEY_LIMIT, Kind, LAST_DATABASE, LAST_TXN, MOST_DATABASES, Store, VALUE_LIMIT,
-};
+pub use store::{Database, Kind, LAST_DATABASE, LAST_TXN, MOST_DATABASES, Store};
 pub use totals::Totals;

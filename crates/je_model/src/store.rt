@@ -65,9 +65,3 @@ pub const LAST_DATABASE: u32 = 0xffff_ffff;
 
 /// The last number that a transaction may have: 2^63 - 1.
 pub const LAST_TXN: u64 = 0x7fff_ffff_ffff_ffff;
-
-/// The most bytes that a key may have.
-pub const KEY_LIMIT: usize = 4_096;
-
-/// The most bytes that a record's data may have, in a plain database.
-pub const VALUE_LIMIT: usize = 65_536;

@@ -6,6 +6,7 @@
 
 pub mod bound;
 pub mod exact;
+pub mod limits;
 pub mod list;
 pub mod name;
 pub mod octets;
@@ -15,6 +16,7 @@ pub mod word;
 
 pub use bound::Bound;
 pub use exact::{Exact, copy_of};
+pub use limits::{KEY_LIMIT, SLOT_LIMIT, VALUE_LIMIT};
 pub use list::List;
 pub use name::Name;
 pub use octets::Octets;

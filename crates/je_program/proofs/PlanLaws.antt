@@ -7,7 +7,8 @@ use Rattle.je_order.specs.Order.{name_cmp}
 use Rattle.je_order.specs.Words.{is_word, is_word_character}
 use Rattle.je_order.specs.declared.name.Name.{Name}
 use Rattle.je_disk.specs.States.{State}
-use Rattle.je_model.specs.declared.store.TheConstants.{MOST_DATABASES, LAST_DATABASE, KEY_LIMIT, VALUE_LIMIT}
+use Rattle.je_model.specs.declared.store.TheConstants.{MOST_DATABASES, LAST_DATABASE}
+use Rattle.je_order.specs.declared.limits.TheConstants.{KEY_LIMIT, VALUE_LIMIT}
 use Rattle.je_model.specs.declared.store.Store.{Store}
 use Rattle.je_model.specs.declared.store.Database.{Database}
 use Rattle.je_model.specs.declared.store.Kind.{Kind}

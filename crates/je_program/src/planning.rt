@@ -16,8 +16,8 @@ ghost use Rattle.je_program.specs.Environment.{logged_sizes};
 ghost use Rattle.je_program.specs.Planning.{IsLogPos, number_named, logs_with_room, planned_create, planned_put, planned_get, planned_delete, planned_of, records_with};
 
 use crate::kept::{COMMIT_SIZE, Kept, LAST_FILE};
-use je_model::{Answer, Call, Change, KEY_LIMIT, Kind, MOST_DATABASES, Totals, VALUE_LIMIT};
-use je_order::{Name, Octets, Word, copy_of};
+use je_model::{Answer, Call, Change, Kind, MOST_DATABASES, Totals};
+use je_order::{KEY_LIMIT, Name, Octets, VALUE_LIMIT, Word, copy_of};
 use log_buffer::LogPos;
 use log_replay::{SortKey, number_of as number_in_record};
 use std::alloc::{AllocError, Global};

@@ -3,17 +3,12 @@ ghost use Rattle.std.specs.Prelude.{◌≡◌, IfOk, Some, None};
 ghost use Rattle.log_entry.specs.Body.{file_header_in, record_in, put_in, delete_in, migrated_in, commit_in, internal_in, bin_in, delta_in, ckpt_start_in, ckpt_end_in, file_summary_in, entry_in};
 
 use crate::Entry;
-use crate::fields::{lsn_of, name_of, read_optional, read_strings};
+use crate::fields::{name_of, read_optional, read_strings};
 use crate::items::{read_counted, read_rising};
 use je_bytes::Reader;
-use je_order::{Name, Octets, TxnId};
+use je_lsn::Lsn;
+use je_order::{Name, Octets, SLOT_LIMIT, TxnId, VALUE_LIMIT};
 use std::alloc::{AllocError, Global};
-
-/// The greatest length of a value, in bytes.
-const MAX_VALUE: usize = 65_536;
-
-/// The most slots that a node has.
-const MOST_SLOTS: u32 = 128;
 
 /// The most roots that a checkpoint's end has.
 const MOST_ROOTS: u32 = 65_535;
@@ -47,7 +42,7 @@ fn read_record(alloc: Global, reader: &mut Reader<'_>) -> Result<Option<(Name, O
         return Ok(None);
     };
     let value = reader.rest();
-    if value.len() > MAX_VALUE {
+    if value.len() > VALUE_LIMIT {
         return Ok(None);
     }
     Ok(Some((name_of(alloc, key, dup)?, Octets::from_slice(alloc, value)?)))
@@ -142,7 +137,7 @@ fn read_internal(alloc: Global, bytes: &[u8]) -> Result<Option<Entry>, AllocErro
     if level < 2 || level > 64 {
         return Ok(None);
     }
-    let Some(slots) = read_counted(alloc, &mut reader, MOST_SLOTS)? else {
+    let Some(slots) = read_counted(alloc, &mut reader, SLOT_LIMIT as u32)? else {
         return Ok(None);
     };
     if slots.is_empty() {
@@ -167,7 +162,7 @@ fn read_bin(alloc: Global, bytes: &[u8]) -> Result<Option<Entry>, AllocError>
     let Ok(node) = reader.u64() else {
         return Ok(None);
     };
-    let Some(slots) = read_counted(alloc, &mut reader, MOST_SLOTS)? else {
+    let Some(slots) = read_counted(alloc, &mut reader, SLOT_LIMIT as u32)? else {
         return Ok(None);
     };
     Ok(Some(Entry::Bin { db, node, slots }))
@@ -187,13 +182,13 @@ fn read_delta(alloc: Global, bytes: &[u8]) -> Result<Option<Entry>, AllocError>
     let Ok(full) = reader.u64() else {
         return Ok(None);
     };
-    let Some(slots) = read_counted(alloc, &mut reader, MOST_SLOTS)? else {
+    let Some(slots) = read_counted(alloc, &mut reader, SLOT_LIMIT as u32)? else {
         return Ok(None);
     };
     Ok(Some(Entry::BinDelta {
         db,
         node,
-        full: lsn_of(full),
+        full: Lsn::from_u64(full),
         slots,
     }))
 }
@@ -241,8 +236,8 @@ fn read_ckpt_end(alloc: Global, bytes: &[u8]) -> Result<Option<Entry>, AllocErro
     };
     Ok(Some(Entry::CkptEnd {
         number,
-        start: lsn_of(start),
-        redo: lsn_of(redo),
+        start: Lsn::from_u64(start),
+        redo: Lsn::from_u64(redo),
         last_txn: TxnId(last_txn),
         last_node,
         last_db,

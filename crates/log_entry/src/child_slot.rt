@@ -1,7 +1,7 @@
 // A slot of an IN.
 ghost use Rattle.std.specs.Prelude.{◌≡◌};
 
-use crate::fields::{lsn_of, put_name, read_name};
+use crate::fields::{put_name, read_name};
 use crate::item::Item;
 use je_bytes::{Reader, put_u64};
 use je_lsn::Lsn;
@@ -37,7 +37,7 @@ impl Item for ChildSlot {
         };
         Ok(Some(ChildSlot {
             name,
-            child: lsn_of(child),
+            child: Lsn::from_u64(child),
         }))
     }
 

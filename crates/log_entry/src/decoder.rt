@@ -10,9 +10,12 @@ ghost use Rattle.log_entry.specs.Reading.{decoded, number_at as number_there, wh
 
 use crate::Entry;
 use crate::body_reader::read_body;
+use crate::encoder::HEAD_SIZE;
 use byteorder::{BigEndian, ByteOrder};
 use je_bytes::adler32;
 use std::alloc::{AllocError, Global};
+
+const HEAD: usize = HEAD_SIZE as usize;
 
 /// What bytes begin with.
 #[derive(Drop)]
@@ -56,11 +59,11 @@ fn is_sum_right(bytes: &[u8], len: usize) -> bool
 fn body_len(bytes: &[u8]) -> Result<usize, Torn>
     ensures { MatchResult result (λ len. (14 + len ≤ length bytes.now) × (decoded bytes.now ≡ whole_in len bytes.now)) (λ torn. decoded bytes.now ≡ NotWhole torn) }
 {
-    if bytes.len() < 14 {
+    if bytes.len() < HEAD {
         return Err(Torn::Short);
     }
     let len = number_at(bytes, 10) as usize;
-    if bytes.len() < 14 + len {
+    if bytes.len() < HEAD + len {
         return Err(Torn::Short);
     }
     if !is_sum_right(bytes, len) {
@@ -78,13 +81,13 @@ fn decode_whole(alloc: Global, bytes: &[u8], len: usize) -> Result<Decoded, Allo
         return Ok(Decoded::Torn(Torn::BadKind));
     }
     let prev = number_at(bytes, 6);
-    let Some(entry) = read_body(alloc, bytes[4], &bytes[14..14 + len])? else {
+    let Some(entry) = read_body(alloc, bytes[4], &bytes[HEAD..HEAD + len])? else {
         return Ok(Decoded::Torn(Torn::BadKind));
     };
     Ok(Decoded::Whole {
         entry,
         prev,
-        len: 14 + len,
+        len: HEAD + len,
     })
 }
 

@@ -14,13 +14,17 @@ use byteorder::{BigEndian, ByteOrder};
 use je_bytes::{adler32, put_u32};
 use std::alloc::{AllocError, Global};
 
+/// How many bytes an entry has before its body: the checksum, the kind, the flags, the prev field and the body's
+/// length.
+pub const HEAD_SIZE: u32 = 14;
+
 /// How many bytes the entry's encoding has, whatever its prev field.
 pub fn size(entry: &Entry) -> u32
     requires { IsEntry entry.now }
     ensures value { result ≡ size_of entry.now }
     ensures encoded { (prev : ℕ) → length (encoding entry.now prev) ≡ result }
 {
-    14 + body_size(entry)
+    HEAD_SIZE + body_size(entry)
 }
 
 /// The same for an entry that is handed over by its parts.

@@ -5,19 +5,16 @@ ghost use Rattle.log_entry.specs.Fields.{IsName, string, name_bytes, string_in, 
 ghost use Rattle.log_entry.specs.Writing.{Puts};
 
 use je_bytes::{Reader, put_u16, put_u64};
-use je_lsn::{FileNo, Lsn};
-use je_order::{Name, Octets};
+use je_lsn::Lsn;
+use je_order::{KEY_LIMIT, Name, Octets};
 use std::alloc::{AllocError, Global};
-
-/// The greatest length of a key and of a dup, in bytes.
-const MAX_NAME: usize = 4_096;
 
 #[tactic(auto, unfolding(crate::specs::Fields::string_in))]
 fn read_string<'a>(reader: &mut Reader<'a>) -> Option<&'a [u8]>
     ensures { MatchOption result (string_in reader.old ≡ None) (λ bytes. string_in reader.old ≡ Some (bytes.now, reader.new)) }
 {
     let len = reader.u16().ok()? as usize;
-    if len > MAX_NAME {
+    if len > KEY_LIMIT {
         return None;
     }
     reader.take(len).ok()
@@ -76,16 +73,6 @@ pub(crate) fn put_name(out: &mut Vec<u8>, name: &Name) -> Result<(), AllocError>
     put_strings(out, name.key.as_slice(), name.dup.as_slice())
 }
 
-// The LSN with this number.
-pub(crate) fn lsn_of(number: u64) -> Lsn
-    ensures { result ≡ number }
-{
-    Lsn::new(
-        FileNo((number / 0x1_0000_0000) as u32),
-        (number % 0x1_0000_0000) as u32,
-    )
-}
-
 #[tactic(auto, unfolding(crate::specs::Fields::version_in))]
 pub(crate) fn read_version(reader: &mut Reader<'_>) -> Option<Option<Lsn>>
     ensures { MatchOption result (version_in reader.old ≡ None) (λ version. version_in reader.old ≡ Some (version, reader.new)) }
@@ -93,7 +80,7 @@ pub(crate) fn read_version(reader: &mut Reader<'_>) -> Option<Option<Lsn>>
     let state = reader.u8().ok()?;
     let lsn = reader.u64().ok()?;
     match (state, lsn) {
-        (0, _) => Some(Some(lsn_of(lsn))),
+        (0, _) => Some(Some(Lsn::from_u64(lsn))),
         (1, 0) => Some(None),
         _ => None,
     }
@@ -120,7 +107,7 @@ pub(crate) fn read_optional(reader: &mut Reader<'_>) -> Option<Option<Lsn>>
 {
     match reader.u64().ok()? {
         0 => Some(None),
-        lsn => Some(Some(lsn_of(lsn))),
+        lsn => Some(Some(Lsn::from_u64(lsn))),
     }
 }
 

@@ -1,7 +1,6 @@
 // A root in a checkpoint's end.
 ghost use Rattle.std.specs.Prelude.{◌≡◌};
 
-use crate::fields::lsn_of;
 use crate::item::Item;
 use je_bytes::{Reader, put_u32, put_u64};
 use je_lsn::Lsn;
@@ -35,7 +34,7 @@ impl Item for Root {
         };
         Ok(Some(Root {
             db,
-            image: lsn_of(image),
+            image: Lsn::from_u64(image),
         }))
     }
 

@@ -11,9 +11,6 @@ use std::alloc::{AllocError, Global};
 use std::cmp::Ordering;
 use std::marker::Model;
 
-/// The most slots that a node has.
-pub const MOST_SLOTS: usize = 128;
-
 /// At most 128 slots in the order of their names, each name once.
 #[derive(Debug, Drop)]
 pub struct Slots {

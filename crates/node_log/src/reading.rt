@@ -8,9 +8,8 @@ ghost use Rattle.node_log.specs.Images.{node_of, with_delta, with_entry, node_wi
 
 use crate::slots::{slots_of_children, slots_of_records};
 use je_lsn::Lsn;
-use je_order::{List, Name};
+use je_order::{List, Name, SLOT_LIMIT};
 use log_entry::{Entry, RecordSlot};
-use node_core::slots::MOST_SLOTS;
 use node_core::{Node, Slot};
 use std::alloc::{AllocError, Global};
 
@@ -39,7 +38,7 @@ fn has_room(node: &Node, name: &Name) -> bool
     ensures room { result ≡ true → HasRoom name.now node.now.slots }
     ensures full { result ≡ false → (slot_at name.now node.now.slots ≡ None) × (128 ≤ length node.now.slots) }
 {
-    if node.slots.len() < MOST_SLOTS {
+    if node.slots.len() < SLOT_LIMIT {
         return true;
     }
     match node.find(name) {
@@ -62,7 +61,7 @@ fn put_slots(node: &mut Node, slots: List<Slot>) -> Result<bool, AllocError>
         }
         node.put_slot(slot)?;
     }
-    Ok(node.slots.len() <= MOST_SLOTS)
+    Ok(node.slots.len() <= SLOT_LIMIT)
 }
 
 // The node with what a delta to the full image there shows; None where it has no room for that.

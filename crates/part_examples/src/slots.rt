@@ -1,6 +1,5 @@
 // Slots of nodes that the examples make.
-use je_order::{Name, Octets};
-use node_core::slots::MOST_SLOTS;
+use je_order::{Name, Octets, SLOT_LIMIT};
 use node_core::{Node, Slot, Version};
 use std::alloc::{AllocError, Global};
 
@@ -14,7 +13,7 @@ pub fn name(alloc: Global, key: u8) -> Result<Name, AllocError> {
 
 /// Puts a version of the record with this key into the node, where that has room.
 pub fn put(alloc: Global, node: &mut Node, key: u8, version: Version) -> Result<bool, AllocError> {
-    if node.slots.len() >= MOST_SLOTS {
+    if node.slots.len() >= SLOT_LIMIT {
         return Ok(false);
     }
     let name = name(alloc, key)?;

@@ -9,17 +9,17 @@ returns-then-name-ne12-clause-none c = λ _ f small named. c.if-name-ne12.true (
 pub returns-then-name-ne12-clause-named : goal.returns-then-name-ne12-clause-named
 returns-then-name-ne12-clause-named c = λ f small named. absurd (c.if-name-ne12.true (ap length named))
 
-pub returns-then-f-clause-only : goal.returns-then-f-clause-only
-returns-then-f-clause-only c = tt
+pub returns-then-f-gt-LAST_FILE-clause-only : goal.returns-then-f-gt-LAST_FILE-clause-only
+returns-then-f-gt-LAST_FILE-clause-only c = tt
 
-pub returns-then-f-clause-below : goal.returns-then-f-clause-below
-returns-then-f-clause-below c = tt
+pub returns-then-f-gt-LAST_FILE-clause-below : goal.returns-then-f-gt-LAST_FILE-clause-below
+returns-then-f-gt-LAST_FILE-clause-below c = tt
 
-pub returns-then-f-clause-none : goal.returns-then-f-clause-none
-returns-then-f-clause-none c = λ _ f small named. let is = named_once c.args.name.now f small named in omega arith
+pub returns-then-f-gt-LAST_FILE-clause-none : goal.returns-then-f-gt-LAST_FILE-clause-none
+returns-then-f-gt-LAST_FILE-clause-none c = λ _ f small named. let is = named_once c.args.name.now f small named in omega arith
 
-pub returns-then-f-clause-named : goal.returns-then-f-clause-named
-returns-then-f-clause-named c = λ f small named. let is = named_once c.args.name.now f small named in absurd (omega arith)
+pub returns-then-f-gt-LAST_FILE-clause-named : goal.returns-then-f-gt-LAST_FILE-clause-named
+returns-then-f-gt-LAST_FILE-clause-named c = λ f small named. let is = named_once c.args.name.now f small named in absurd (omega arith)
 
 pub returns-then-ne-clause-none : goal.returns-then-ne-clause-none
 returns-then-ne-clause-none c = λ _ f small named.
