@@ -1,5 +1,5 @@
 -- When a disk may say that it failed.
-use Rattle.std.specs.Prelude.{◌≡◌, ◌≤◌, ◌<◌, ◌-◌, ◌^◌, ◌⊎◌, ℕ, Result, OnErr, IsErrOf}
+use Rattle.std.specs.Prelude.{◌≤◌, ℕ, Result, OnErr, IsErrOf}
 use Rattle.je_disk.specs.declared.error.DiskErr.{DiskErr}
 use Rattle.je_disk.specs.declared.error.DiskErr.TheVariants.{Failed, Memory}
 use Rattle.je_order.specs.Counts.{HasRisen}

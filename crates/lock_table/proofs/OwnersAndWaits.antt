@@ -1,10 +1,8 @@
 -- What requests, grants and releases keep of one record's owners and waits.
-use Rattle.std.proofs.Common.{◌≡◌, ℕ, Bool, true, false, not, ◌&&◌, ◌||◌, List, [], ◌∷◌, ◌++◌, map, refl, ap, sym, ◌∙◌, ⊎_elim, arith}
+use Rattle.std.proofs.Common.{◌≡◌, Bool, true, false, not, ◌&&◌, ◌||◌, List, [], ◌∷◌, ◌++◌, map, refl, ap, sym, ◌∙◌, ⊎_elim}
 use Rattle.std.specs.List.{list_any, filter, AllByRecursion}
 use Rattle.std.proofs.lemmas.List.Folds.{list_any-append}
-use Rattle.std.proofs.lemmas.Bool.{eqb-true, and_right, cases_Bool, or_parts, or_from, both_ways, cond-true, cond-false}
-use Rattle.std.proofs.lemmas.Bool.Decides.{nat_tests}
-use Rattle.je_order.specs.declared.txn_id.TxnId.{TxnId}
+use Rattle.std.proofs.lemmas.Bool.{and_right, cases_Bool, or_parts, or_from, both_ways, cond-true, cond-false}
 use Rattle.lock_mode.specs.declared.lock_type.LockType.{LockType}
 use Rattle.lock_mode.specs.declared.lock_type.LockType.TheVariants.{Read, Write, RangeRead, RangeWrite, RangeInsert}
 use Rattle.lock_mode.specs.Modes.{conflicts_with, can_be_held}

@@ -1,15 +1,12 @@
 -- A change of one record's queue, read at every record.
-use Rattle.std.proofs.Common.{◌≡◌, ℕ, Bool, true, false, cond, List, [], ◌∷◌, length, eqb, ◌&&◌, Some, None, Option, Ordering, refl, ap, sym, ◌∙◌, ⊎_elim, arith}
-use Rattle.std.specs.declared.cmp.Ordering.TheVariants.{Less, Equal, Greater}
-use Rattle.std.specs.Ordering.{is_eq, ordering_then}
+use Rattle.std.proofs.Common.{◌≡◌, ℕ, Bool, true, false, cond, List, [], ◌∷◌, length, eqb, ◌&&◌, Some, None, Option, refl, ap, sym, ◌∙◌, ⊎_elim, arith}
+use Rattle.std.specs.declared.cmp.Ordering.TheVariants.{Equal}
 use Rattle.std.specs.Map.{lookup}
 use Rattle.std.specs.Option.{unwrap_or}
-use Rattle.std.proofs.lemmas.Map.Lookups.{exact_unsigned, exact_bytes}
-use Rattle.std.proofs.lemmas.Bool.{cases_Bool, both_ways, and_parts, eqb-true}
-use Rattle.je_order.specs.declared.name.Name.{Name}
+use Rattle.std.proofs.lemmas.Map.Lookups.{exact_unsigned}
+use Rattle.std.proofs.lemmas.Bool.{cases_Bool, and_parts, eqb-true}
 use Rattle.je_order.specs.declared.bound.Bound.{Bound}
 use Rattle.je_order.specs.declared.bound.Bound.TheVariants.{At, End}
-use Rattle.je_order.specs.Order.{name_cmp}
 use Rattle.lock_table.specs.declared.lock.Lock.{Lock}
 use Rattle.lock_table.specs.declared.record_id.RecordId.{RecordId}
 use Rattle.lock_table.specs.Records.{record_cmp, is_record, queue_at}

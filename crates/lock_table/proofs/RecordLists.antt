@@ -1,10 +1,9 @@
 -- A change of one transaction's list of records, read at every transaction and record.
-use Rattle.std.proofs.Common.{◌≡◌, Bool, true, false, cond, ◌&&◌, List, [], Result, Ok, Err, OnErr, Some, None, Option, refl, ap, sym, ◌∙◌, subst, ⊎_elim, arith}
+use Rattle.std.proofs.Common.{◌≡◌, Bool, true, false, cond, ◌&&◌, List, [], Result, Ok, Err, OnErr, Some, None, Option, refl, ap, sym, ◌∙◌, subst, ⊎_elim}
 use Rattle.std.specs.Ordering.{nat_cmp, is_eq}
 use Rattle.std.specs.Option.{option_map_or}
 use Rattle.std.specs.BTreeSet.{BTreeSet, contains}
 use Rattle.std.proofs.lemmas.Bool.{cases_Bool, both_ways}
-use Rattle.std.proofs.lemmas.Bool.Decides.{nat_tests}
 use Rattle.je_order.specs.declared.txn_id.TxnId.{TxnId}
 use Rattle.lock_table.specs.declared.record_id.RecordId.{RecordId}
 use Rattle.je_order.specs.Transactions.{is_same_txn}

@@ -1,10 +1,9 @@
 -- What is in a list of pairs: joined lists, a reversed one, a filter by the waiter.
-use Rattle.std.proofs.Common.{◌≡◌, ℕ, Bool, true, false, cond, ◌&&◌, ◌||◌, List, [], ◌∷◌, ◌++◌, reverse, length, refl, ap, arith, ⊎_elim}
+use Rattle.std.proofs.Common.{◌≡◌, Bool, true, false, cond, ◌&&◌, ◌||◌, List, [], ◌∷◌, ◌++◌, reverse, length, refl, arith, ⊎_elim}
 use Rattle.std.specs.List.{list_any, filter, AllByRecursion}
 use Rattle.std.proofs.lemmas.Grind.{common_steps, reverse_onto}
 use Rattle.std.proofs.lemmas.List.Folds.{list_any-append}
-use Rattle.std.proofs.lemmas.Bool.{eqb-true, and_parts, and_from, cases_Bool, or_left, or_right}
-use Rattle.std.proofs.lemmas.Bool.Decides.{nat_tests}
+use Rattle.std.proofs.lemmas.Bool.{and_parts, and_from, cases_Bool, or_left, or_right}
 use Rattle.je_order.specs.declared.txn_id.TxnId.{TxnId}
 use Rattle.waits_for.specs.Cycles.{is_pair, is_edge, is_from}
 use Rattle.je_order.specs.Transactions.{is_same_txn}
