@@ -1,8 +1,8 @@
 -- A store (Getting Started Guide, "Databases" and "Database Records"), and how it changes.
-use Rattle.std.specs.Prelude.{ℕ, ◌++◌, ◌∷◌, [], List, Option, None, Some, Bool, not, filter, map, find, sum_by, length, if◌then◌else◌}
+use Rattle.std.specs.Prelude.{ℕ, ◌++◌, ◌∷◌, [], List, Option, None, Some, not, filter, map, find, sum_by, length, if◌then◌else◌}
 use Rattle.std.specs.List.{AllByRecursion}
 use Rattle.std.specs.List.Sorted.{IsStrictlySortedBy}
-use Rattle.std.specs.Ordering.{is_eq, is_lt, is_gt, on}
+use Rattle.std.specs.Ordering.{is_lt, is_gt, on}
 use Rattle.je_order.specs.Order.{bytes_cmp, is_same_bytes}
 use Rattle.je_order.specs.declared.name.Name.{Name}
 use Rattle.je_model.specs.declared.store.Store.{Store}

@@ -1,27 +1,19 @@
 -- A node's entries keep the limits of their kinds.
-use Rattle.std.proofs.Common.{◌≡◌, ◌≢◌, ℕ, suc, ◌+◌, ◌^◌, ◌<◌, ◌≤◌, Bool, true, false, cond, List, [], ◌∷◌, ◌++◌, length, map, filter, Option, Some, None, Less, is_lt, refl, sym, ap, subst, ◌∙◌, arith, inl, inr}
-use Rattle.std.specs.Prelude.{◌&&◌, ◌⊎◌, IfSome}
+use Rattle.std.proofs.Common.{◌≡◌, ℕ, ◌^◌, ◌<◌, ◌≤◌, Bool, true, false, cond, List, [], ◌∷◌, ◌++◌, length, map, filter, Option, is_lt, refl, sym, ap, subst, ◌∙◌, arith, inl, inr}
+use Rattle.std.specs.Prelude.{◌&&◌, IfSome}
 use Rattle.std.specs.List.{AllByRecursion, flat_map}
 use Rattle.std.proofs.lemmas.List.{length-map}
 use Rattle.je_order.specs.declared.name.Name.{Name}
-use Rattle.je_order.specs.Order.{name_cmp}
-use Rattle.log_entry.specs.declared.child_slot.ChildSlot.{ChildSlot}
-use Rattle.log_entry.specs.declared.record_slot.RecordSlot.{RecordSlot}
-use Rattle.log_entry.specs.declared.entry.Entry.{Entry}
-use Rattle.log_entry.specs.declared.entry.Entry.TheVariants.{In, Bin, BinDelta}
-use Rattle.log_entry.specs.Fields.{IsName}
 use Rattle.log_entry.specs.Items.{rises, rises_from, AreRising, IsChildSlot, child_before, IsRecordSlot, record_before}
 use Rattle.log_entry.specs.Body.{IsEntry}
 use Rattle.node_core.specs.declared.slot.Version.{Version}
 use Rattle.node_core.specs.declared.slot.Version.TheVariants.{There, Deleted, Unset}
 use Rattle.node_core.specs.declared.slot.Marked.{Marked}
-use Rattle.node_core.specs.declared.node.Node.{Node}
 use Rattle.node_core.specs.Sorted.{AllAbove, Rises, AreSlots}
-use Rattle.node_core.specs.Changes.{is_committed, committed, changed, unmarked, slots_in}
+use Rattle.node_core.specs.Changes.{is_committed, committed, unmarked, slots_in}
 use Rattle.node_core.proofs.SlotLookup.{rises_filter}
 use Rattle.node_log.specs.Slots.{lsn_in, record_of, child_at, child_of, slot_of_child, fresh}
-use Rattle.node_log.specs.Images.{entry_of}
-use Rattle.node_log.specs.Laws.{FitsSlot, FitsEntry, IsInternal, ImagesAreEntries, DeltasAreEntries}
+use Rattle.node_log.specs.Laws.{FitsSlot, ImagesAreEntries, DeltasAreEntries}
 use Rattle.node_log.proofs.NodeReadBack.{bin_entry, in_entry, is_delta, length_committed, length_changed, children_back}
 
 -- ---- records

@@ -1,6 +1,6 @@
 -- What is read of a node's entries is the node.
-use Rattle.std.proofs.Common.{◌≡◌, ◌≢◌, ℕ, zero, suc, ◌+◌, ◌<◌, ◌≤◌, Bool, true, false, cond, eqb, leb, List, [], ◌∷◌, length, map, filter, Option, Some, None, refl, sym, ap, subst, ◌∙◌, arith, inl, inr}
-use Rattle.std.specs.Prelude.{◌&&◌, ◌⊎◌, option_map, IsSome}
+use Rattle.std.proofs.Common.{◌≡◌, ◌≢◌, ℕ, suc, ◌≤◌, Bool, true, false, cond, eqb, List, [], ◌∷◌, length, map, filter, Option, Some, None, refl, sym, ap, subst, ◌∙◌, arith, inl, inr}
+use Rattle.std.specs.Prelude.{◌&&◌, option_map, IsSome}
 use Rattle.std.specs.List.{AllByRecursion, flat_map}
 use Rattle.std.proofs.lemmas.Bool.{eqb-true, eq-eqb, le-leb}
 use Rattle.je_order.specs.declared.name.Name.{Name}
@@ -9,15 +9,13 @@ use Rattle.log_entry.specs.declared.entry.Entry.{Entry}
 use Rattle.log_entry.specs.declared.entry.Entry.TheVariants.{In, Bin, BinDelta}
 use Rattle.node_core.specs.declared.slot.Version.{Version}
 use Rattle.node_core.specs.declared.slot.Version.TheVariants.{There, Deleted, Unset}
-use Rattle.node_core.specs.declared.slot.Slot.{Slot}
 use Rattle.node_core.specs.declared.slot.Marked.{Marked}
 use Rattle.node_core.specs.declared.node.Node.{Node}
-use Rattle.node_core.specs.Sorted.{AreSlots, put_all}
+use Rattle.node_core.specs.Sorted.{put_all}
 use Rattle.node_core.specs.Changes.{is_committed, committed, changed, set_now, unmarked, slots_in}
-use Rattle.node_core.specs.Nodes.{IsFullImage}
 use Rattle.node_log.specs.Slots.{record_of, child_of, slot_of_record, slot_of_child, fresh}
-use Rattle.node_log.specs.Images.{entry_of, delta_of, bin_of, node_of, with_delta, with_entry, node_with}
-use Rattle.node_log.specs.Laws.{IsInternal, image_of, shown_of, ImagesAreReadBack, DeltasAreReadBack}
+use Rattle.node_log.specs.Images.{entry_of, delta_of, bin_of, node_of, with_delta, node_with}
+use Rattle.node_log.specs.Laws.{ImagesAreReadBack, DeltasAreReadBack}
 
 -- ---- slots that are written and read
 

@@ -1,4 +1,4 @@
-use Rattle.std.proofs.Common.{◌≡◌, ◌∙◌, List, map, length, leb, ap, sym, refl}
+use Rattle.std.proofs.Common.{◌∙◌, List, map, length, leb, ap, sym, refl}
 use Rattle.std.specs.Vec.Iter.{into_iter_items}
 use Rattle.node_core.specs.declared.slot.Slot.{Slot}
 use Rattle.node_core.specs.declared.slot.Marked.{Marked}
