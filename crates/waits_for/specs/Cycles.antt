@@ -1,5 +1,5 @@
 -- Waits-for edges as a list of pairs (who waits, for whom), and cycles by that relation.
-use Rattle.std.specs.Prelude.{Bool, true, false, not, ◌&&◌, ◌==◌, List, [], ◌∷◌}
+use Rattle.std.specs.Prelude.{Bool, true, false, not, ◌&&◌, List, [], ◌∷◌}
 use Rattle.std.specs.List.{list_any, filter}
 use Rattle.je_order.specs.declared.txn_id.TxnId.{TxnId}
 use Rattle.je_order.specs.Transactions.{is_same_txn}

@@ -2,8 +2,6 @@
 use Rattle.std.specs.Prelude.{◌≡◌, ℕ, ◌+◌, ◌<◌, Bool, true, false, not, List, length, Some, ◌⊎◌}
 use Rattle.std.specs.List.{list_any, filter, AllByRecursion}
 use Rattle.std.specs.Option.{is_some, option_map_or}
-use Rattle.std.specs.declared.cmp.Ordering.{Ordering}
-use Rattle.std.specs.Ordering.{nat_cmp}
 use Rattle.std.specs.BTreeMap.{BTreeMap, get, btree_map_len}
 use Rattle.je_order.specs.declared.txn_id.TxnId.{TxnId}
 use Rattle.waits_for.specs.declared.search.Step.{Step}
