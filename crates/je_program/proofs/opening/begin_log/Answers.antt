@@ -53,3 +53,12 @@ returns-clause-holds g c = λ observed log starts crash_states.
     let some = some_end last.end c.if-last-eq0.false in
     let ends = resumes_at log last c.new-end.result c.new-end.ensures small some begins.1 in
     c.resume.ensures.holds observed log begins.0 ends (begins.2 some) crash_states
+
+pub returns-then-last-eq0-clause-log : goal.returns-then-last-eq0-clause-log
+returns-then-last-eq0-clause-log g c = λ log starts.
+    let state = now (g.D.Disk.history c.args.disk) in
+    let last = c.in-Some.last in
+    let begins = subst (λ (t : Option LastFile). StartsLog g.D.Disk.observable state.reads t log) c.in-Some.is starts in
+    let begun = begins.3 c.if-last-eq0.true in
+    let is_log = subst (λ (l : Log). IsLog l) begun.1 begins.0 in
+    subst (λ (l : Log). IfOk c.create-then-last-eq0.result (λ buffer. HasLog g.D.Disk.observable state buffer l)) (sym begun.1) (c.create-then-last-eq0.ensures.log begun.0 is_log begun.2)
