@@ -15,19 +15,19 @@ use Rattle.log_entry.specs.declared.decoder.Decoded.{Decoded}
 use Rattle.log_entry.specs.declared.decoder.Decoded.TheVariants.{Whole, Torn as NotWhole}
 use Rattle.log_entry.specs.Encoding.{size_of}
 use Rattle.log_entry.specs.Reading.{decoded}
-use Rattle.log_entry.specs.Prefix.{run_on}
+use Rattle.log_entry.specs.Prefix.{prefix_on}
 use Rattle.log_entry.proofs.FieldLaws.{eight}
-use Rattle.log_file.specs.declared.file_scan.FileScan.{Found}
-use Rattle.log_file.specs.declared.file_scan.FileScan.TheVariants.{Run, VersionUnknown as OtherVersion, Damaged as NoHeader}
-use Rattle.log_file.specs.Scan.{may_follow, front, entries_behind, run_with, found_first, found_by, found_in}
-use Rattle.log_file.specs.Log.{Log, entries_of, entries_found, log_in}
-use Rattle.log_replay.specs.declared.corruption.Corruption.{Finding}
+use Rattle.log_file.specs.declared.file_scan.FileScan.{FileScan}
+use Rattle.log_file.specs.declared.file_scan.FileScan.TheVariants.{Prefix, VersionUnknown as OtherVersion, Damaged as NoHeader}
+use Rattle.log_file.specs.Scan.{may_follow, front, entries_behind, prefix_with, scan_first, scan_by, scan_of}
+use Rattle.log_file.specs.Log.{Log, entries_of, entries_scanned, log_in}
+use Rattle.log_replay.specs.declared.corruption.Corruption.{Corruption}
 use Rattle.log_replay.specs.declared.corruption.Corruption.TheVariants.{Damaged, Missing, Tree}
 use Rattle.log_replay.specs.Rows.{Rows, RowChange, no_rows, data_at, store_of}
 use Rattle.log_replay.specs.Replay.{nothing_replayed, replayed, changes_of, txn_in, db_in, greatest}
 use Rattle.log_replay.specs.Wrong.{or_else, wrong_record}
 use Rattle.log_replay.specs.Meaning.{Meaning as ReplayMeaning, meaning_of as replay_meaning_of}
-use Rattle.log_replay.specs.Reading.{lsn_at, finding_at, finding_behind, finding_in, gap_in, marked_entry, marked, marked_log, marked_lsn, judged_by as replay_judged_by, judged as replay_judged, reading_by as replay_reading_by}
+use Rattle.log_replay.specs.Reading.{lsn_at, corruption_at, corruption_behind, corruption_in, gap_in, marked_entry, marked, marked_log, marked_lsn, validated_by as replay_judged_by, validated as replay_judged, reading_by as replay_reading_by}
 use Rattle.log_replay.proofs.ListLaws.{all_of_map}
 use Rattle.je_order.proofs.Lists.{all_append}
 use Rattle.log_trees.specs.Placed.{Placed, placed_from, placed}
@@ -37,7 +37,7 @@ use Rattle.log_trees.proofs.PlacedLaws.{placed_are_entries}
 use Rattle.log_meaning.specs.Redo.{from, redone, record_at}
 use Rattle.log_meaning.specs.Checkpoint.{Checkpoint, no_checkpoint, checkpoint_in, last_end}
 use Rattle.log_meaning.specs.Meaning.{Meaning, rows_of, db_number, most, meaning_of, lsn_there}
-use Rattle.log_meaning.specs.Reading.{missing, redo_finding, unless, judged_by, judged, meaning_in}
+use Rattle.log_meaning.specs.Reading.{missing, redo_corruption, unless, validated_by, validated, meaning_in}
 use Rattle.log_meaning.specs.Plain.{is_plain, row_change, ReplayedAlike, without_nodes, ReadAlike}
 use Rattle.log_meaning.proofs.Listing.{listed_by_name}
 use Rattle.log_meaning.proofs.Lasts.{last-holds}
@@ -139,24 +139,24 @@ front_low f at (e ∷ es) small = by_test (may_follow e && nat_lt (at + size_of 
         (omega (arith, ends, small), rest)
     by_test false is rest = tt
 
-found_low : (f : ℕ) (bytes : List ℕ) → f ≤ last_file → AllByRecursion (λ (p : Placed). p.0 < 2 ^ 64) (placed_from f 26 (entries_found (found_in f bytes)))
+found_low : (f : ℕ) (bytes : List ℕ) → f ≤ last_file → AllByRecursion (λ (p : Placed). p.0 < 2 ^ 64) (placed_from f 26 (entries_scanned (scan_of f bytes)))
 found_low f bytes small = by_decoded (decoded bytes)
   where
     behind_low : AllByRecursion (λ (p : Placed). p.0 < 2 ^ 64) (placed_from f 26 (entries_behind bytes))
-    behind_low = front_low f 26 (run_on 0 26 (drop 26 bytes)).entries small
+    behind_low = front_low f 26 (prefix_on 0 26 (drop 26 bytes)).entries small
 
     by_tests : (a b c : Bool) (version : ℕ) → AllByRecursion (λ (p : Placed). p.0 < 2 ^ 64)
-        (placed_from f 26 (entries_found (cond a NoHeader (cond b (OtherVersion version) (cond c (Run (run_with (entries_behind bytes))) NoHeader)))))
+        (placed_from f 26 (entries_scanned (cond a NoHeader (cond b (OtherVersion version) (cond c (Prefix (prefix_with (entries_behind bytes))) NoHeader)))))
     by_tests true b c version = tt
     by_tests false true c version = tt
     by_tests false false true version = behind_low
     by_tests false false false version = tt
 
-    by_first : (prev : ℕ) (entry : Entry) → AllByRecursion (λ (p : Placed). p.0 < 2 ^ 64) (placed_from f 26 (entries_found (found_first f bytes prev entry)))
+    by_first : (prev : ℕ) (entry : Entry) → AllByRecursion (λ (p : Placed). p.0 < 2 ^ 64) (placed_from f 26 (entries_scanned (scan_first f bytes prev entry)))
     by_first prev (FileHeader version file) = by_tests (not (prev == 0)) (not (version == 1)) (file == f) version
     by_first prev entry = tt
 
-    by_decoded : (d : Decoded) → AllByRecursion (λ (p : Placed). p.0 < 2 ^ 64) (placed_from f 26 (entries_found (found_by f bytes d)))
+    by_decoded : (d : Decoded) → AllByRecursion (λ (p : Placed). p.0 < 2 ^ 64) (placed_from f 26 (entries_scanned (scan_by f bytes d)))
     by_decoded (NotWhole torn) = tt
     by_decoded (Whole entry prev len) = by_first prev entry
 
@@ -164,21 +164,21 @@ neither : {A : Type 0} (a b : Option A) → or_else a b ≡ None → (a ≡ None
 neither None b h = (refl, h)
 neither (Some x) b h = absurd cc
 
-small_file : (last : Bool) (f len : ℕ) (found : Found) → finding_at last f len found ≡ None → f ≤ last_file
+small_file : (last : Bool) (f len : ℕ) (found : FileScan) → corruption_at last f len found ≡ None → f ≤ last_file
 small_file last f len (OtherVersion version) none = absurd cc
 small_file last f len NoHeader none = absurd cc
-small_file last f len (Run run) none = by_test (nat_lt last_file f) refl none
+small_file last f len (Prefix prefix) none = by_test (nat_lt last_file f) refl none
   where
-    by_test : (b : Bool) → nat_lt last_file f ≡ b → cond b (Some (Damaged (lsn_at f 0))) (finding_behind last f len run.end) ≡ None → f ≤ last_file
+    by_test : (b : Bool) → nat_lt last_file f ≡ b → cond b (Some (Damaged (lsn_at f 0))) (corruption_behind last f len prefix.end) ≡ None → f ≤ last_file
     by_test true is h = absurd cc
     by_test false is h = ltb-false last_file f is
 
-files_low : (held : List (ℕ × List ℕ)) → finding_in held ≡ None → AllByRecursion (λ (p : Placed). p.0 < 2 ^ 64) (placed (log_in held))
+files_low : (held : List (ℕ × List ℕ)) → corruption_in held ≡ None → AllByRecursion (λ (p : Placed). p.0 < 2 ^ 64) (placed (log_in held))
 files_low [] none = tt
 files_low (file ∷ held) none =
-    let parts = neither (finding_at (length held == 0) file.0 (length file.1) (found_in file.0 file.1)) (finding_in held) none in
-    all_append (λ (p : Placed). p.0 < 2 ^ 64) (placed_from file.0 26 (entries_found (found_in file.0 file.1))) (placed (log_in held))
-    (found_low file.0 file.1 (small_file (length held == 0) file.0 (length file.1) (found_in file.0 file.1) parts.0)) (files_low held parts.1)
+    let parts = neither (corruption_at (length held == 0) file.0 (length file.1) (scan_of file.0 file.1)) (corruption_in held) none in
+    all_append (λ (p : Placed). p.0 < 2 ^ 64) (placed_from file.0 26 (entries_scanned (scan_of file.0 file.1))) (placed (log_in held))
+    (found_low file.0 file.1 (small_file (length held == 0) file.0 (length file.1) (scan_of file.0 file.1) parts.0)) (files_low held parts.1)
 
 -- ---- numbers
 
@@ -222,40 +222,40 @@ by_option P none some (Some x) = some x
 
 meaning_alike : (log : Log) → AllByRecursion (λ e. is_plain e ≡ true) (entries_of log) → without_nodes (Ok (meaning_of (placed log) no_checkpoint (record { seen = []; rows = [] }))) ≡ Ok (replay_meaning_of (entries_of log))
 meaning_alike log plain =
-    let make : Store → ℕ → ℕ → Result ReplayMeaning Finding = λ store txn db. let m : ReplayMeaning = record { store = store; last_txn = txn; last_db = db } in Ok m in
+    let make : Store → ℕ → ℕ → Result ReplayMeaning Corruption = λ store txn db. let m : ReplayMeaning = record { store = store; last_txn = txn; last_db = db } in Ok m in
     let txn : max 0 (most (λ (p : Placed). txn_in p.1) (from 0 (placed log))) ≡ greatest txn_in (entries_of log) = let e = greatest_is txn_in log in omega (arith, e) in
     let db : max 0 (max 0 (max 0 (most (λ (p : Placed). db_number p.1) (from 0 (placed log))))) ≡ greatest db_in (entries_of log) = let e = db_is log plain in omega (arith, e) in
     ap (λ (s : Store). make s (max 0 (most (λ (p : Placed). txn_in p.1) (from 0 (placed log)))) (max 0 (max 0 (max 0 (most (λ (p : Placed). db_number p.1) (from 0 (placed log))))))) (ap store_of (sym (replayed_alike log plain).0))
     ∙ ap₂ (λ (a b : ℕ). make (store_of (replayed (entries_of log) nothing_replayed).rows) a b) txn db
 
 judged_alike : (log : Log) → AllByRecursion (λ e. is_plain e ≡ true) (entries_of log) → AllByRecursion (λ (p : Placed). p.0 < 2 ^ 64) (placed log) →
-    without_nodes (judged (placed log) no_checkpoint (record { seen = []; rows = [] })) ≡ replay_judged log
+    without_nodes (validated (placed log) no_checkpoint (record { seen = []; rows = [] })) ≡ replay_judged log
 judged_alike log plain low =
     by_option
-    (λ o. without_nodes (judged_by (placed log) no_checkpoint (record { seen = []; rows = [] }) (option_map (λ place. lsn_there (record_at (redone 0 (placed log)) place.db place.name)) o)) ≡ replay_judged_by log o)
+    (λ o. without_nodes (validated_by (placed log) no_checkpoint (record { seen = []; rows = [] }) (option_map (λ place. lsn_there (record_at (redone 0 (placed log)) place.db place.name)) o)) ≡ replay_judged_by log o)
     (meaning_alike log plain)
-    (λ place. ap (λ (n : ℕ). let r : Result ReplayMeaning Finding = Err (Tree n) in r) (sym (lsn_is log place.db place.name plain low)))
+    (λ place. ap (λ (n : ℕ). let r : Result ReplayMeaning Corruption = Err (Tree n) in r) (sym (lsn_is log place.db place.name plain low)))
     (wrong_record (rows_of (redone 0 (placed log))))
     ∙ ap (λ (rows : Rows). replay_judged_by log (wrong_record rows)) (sym (replayed_alike log plain).0)
 
 pub read_alike : ReadAlike
-read_alike held plain = by_finding (finding_in held) refl
+read_alike held plain = by_corruption (corruption_in held) refl
   where
-    by_end : Option Checkpoint → Result Meaning Finding
+    by_end : Option Checkpoint → Result Meaning Corruption
     by_end o =
         and_then (read_roots (map (λ (file : ℕ × List ℕ). file.0) held) (placed (log_in held)) (unwrap_or o no_checkpoint).at (unwrap_or o no_checkpoint).roots)
-        (λ walk. unless (redo_finding (map (λ (file : ℕ × List ℕ). file.0) held) o) (judged (placed (log_in held)) (unwrap_or o no_checkpoint) walk))
+        (λ walk. unless (redo_corruption (map (λ (file : ℕ × List ℕ). file.0) held) o) (validated (placed (log_in held)) (unwrap_or o no_checkpoint) walk))
 
     by_gap : (gap : Option ℕ) → AllByRecursion (λ (p : Placed). p.0 < 2 ^ 64) (placed (log_in held)) →
-        without_nodes (unless (missing gap) (judged (placed (log_in held)) no_checkpoint (record { seen = []; rows = [] })))
+        without_nodes (unless (missing gap) (validated (placed (log_in held)) no_checkpoint (record { seen = []; rows = [] })))
         ≡ replay_reading_by (log_in held) (option_map (λ n. Missing (lsn_at n 0)) gap)
     by_gap None low = judged_alike (log_in held) plain low
     by_gap (Some n) low = refl
 
-    by_finding : (o : Option Finding) → finding_in held ≡ o →
+    by_corruption : (o : Option Corruption) → corruption_in held ≡ o →
         without_nodes (unless o (meaning_in (map (λ (file : ℕ × List ℕ). file.0) held) (placed (log_in held))))
         ≡ replay_reading_by (log_in held) (or_else o (option_map (λ n. Missing (lsn_at n 0)) (gap_in (map (λ (file : ℕ × List ℕ). file.0) held))))
-    by_finding None is =
+    by_corruption None is =
         ap (λ (o : Option Checkpoint). without_nodes (by_end o)) (no_end (placed (log_in held)) (plain_placed (log_in held) plain))
         ∙ by_gap (gap_in (map (λ (file : ℕ × List ℕ). file.0) held)) (files_low held is)
-    by_finding (Some finding) is = refl
+    by_corruption (Some corruption) is = refl

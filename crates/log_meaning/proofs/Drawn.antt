@@ -8,7 +8,7 @@ use Rattle.je_order.specs.declared.name.Name.{Name}
 use Rattle.log_entry.specs.declared.entry.Entry.{Entry}
 use Rattle.log_entry.specs.declared.entry.Entry.TheVariants.{Put, Delete, Migrated, Commit}
 use Rattle.log_entry.specs.declared.root.Root.{Root}
-use Rattle.log_replay.specs.Rows.{number_in}
+use Rattle.log_replay.specs.Rows.{catalog_number}
 use Rattle.log_replay.specs.Replay.{txn_in}
 use Rattle.log_replay.proofs.ListLaws.{all_both}
 use Rattle.je_order.proofs.Lists.{all_weaker, all_append}
@@ -52,16 +52,16 @@ none_waits t (p ∷ es) redo lt none = none_waits t es (redo_entry p.0 p.1 redo)
 -- a change's database, and the one that a catalog record names, have numbers at most this
 record IsWithin (b : ℕ) (c : LoggedChange) : Type 0 where
   db : c.db ≤ b
-  named : c.db ≡ 0 → IfSome c.written.value (λ bytes. number_in bytes ≤ b)
+  named : c.db ≡ 0 → IfSome c.written.value (λ bytes. catalog_number bytes ≤ b)
 
 record AreWithin (b : ℕ) (redo : Redo) : Type 0 where
   done : AllByRecursion (IsWithin b) redo.done
   pending : (t : ℕ) → AllByRecursion (IsWithin b) (redo.pending t)
 
-within_set : (b at db : ℕ) (name : Name) (value : List ℕ) → cond (db == 0) (number_in value) db ≤ b → IsWithin b (set_at at db name value)
+within_set : (b at db : ℕ) (name : Name) (value : List ℕ) → cond (db == 0) (catalog_number value) db ≤ b → IsWithin b (set_at at db name value)
 within_set b at db name value le = by_test (db == 0) refl le
   where
-    by_test : (t : Bool) → (db == 0) ≡ t → cond t (number_in value) db ≤ b → IsWithin b (set_at at db name value)
+    by_test : (t : Bool) → (db == 0) ≡ t → cond t (catalog_number value) db ≤ b → IsWithin b (set_at at db name value)
     by_test true is h = let zero_db = eqb-true db 0 is in record { db = omega (arith, zero_db); named = λ e. h }
     by_test false is h = record { db = h; named = λ e. absurd (true≢false (sym (eq-eqb db 0 e) ∙ is)) }
 
@@ -120,10 +120,10 @@ roots_db es end b (root ∷ roots) le =
 given_within : (b : ℕ) (c : LoggedChange) → c.db ≤ b → db_given c ≤ b → IsWithin b c
 given_within b c db given = record { db = db; named = λ e. by_value c.written.value (subst (λ (n : ℕ). n ≤ b) (at_zero e) given) }
   where
-    at_zero : c.db ≡ 0 → db_given c ≡ unwrap_or (option_map number_in c.written.value) 0
-    at_zero e = cond-true (c.db == 0) (unwrap_or (option_map number_in c.written.value) 0) 0 (eq-eqb c.db 0 e)
+    at_zero : c.db ≡ 0 → db_given c ≡ unwrap_or (option_map catalog_number c.written.value) 0
+    at_zero e = cond-true (c.db == 0) (unwrap_or (option_map catalog_number c.written.value) 0) 0 (eq-eqb c.db 0 e)
 
-    by_value : (v : Option (List ℕ)) → unwrap_or (option_map number_in v) 0 ≤ b → IfSome v (λ bytes. number_in bytes ≤ b)
+    by_value : (v : Option (List ℕ)) → unwrap_or (option_map catalog_number v) 0 ≤ b → IfSome v (λ bytes. catalog_number bytes ≤ b)
     by_value None h = tt
     by_value (Some bytes) h = h
 
@@ -135,12 +135,12 @@ later_db b d x cs lt all =
     last_of-none d x cs unwritten
     (all_weaker (IsWithin b) (λ c. is_of d x c ≡ false) (λ c h. let low = h.db in and_left (c.db == d) (is_eq (name_cmp c.name x)) (ne_eqb c.db d (λ e. omega (arith, e, low, lt)))) cs all)
 
-named_within : (b : ℕ) (x : Name) (cs : List LoggedChange) (w : Written) → IfSome w.value (λ bytes. number_in bytes ≤ b) → AllByRecursion (IsWithin b) cs →
-    IfSome (last_of 0 x cs w).value (λ bytes. number_in bytes ≤ b)
+named_within : (b : ℕ) (x : Name) (cs : List LoggedChange) (w : Written) → IfSome w.value (λ bytes. catalog_number bytes ≤ b) → AllByRecursion (IsWithin b) cs →
+    IfSome (last_of 0 x cs w).value (λ bytes. catalog_number bytes ≤ b)
 named_within b x [] w before all = before
 named_within b x (c ∷ cs) w before all = named_within b x cs (cond (is_of 0 x c) c.written w) (by_test (is_of 0 x c) refl) all.1
   where
-    by_test : (t : Bool) → is_of 0 x c ≡ t → IfSome (cond t c.written w).value (λ bytes. number_in bytes ≤ b)
+    by_test : (t : Bool) → is_of 0 x c ≡ t → IfSome (cond t c.written w).value (λ bytes. catalog_number bytes ≤ b)
     by_test true is = all.0.named (eqb-true c.db 0 (and_parts (c.db == 0) (is_eq (name_cmp c.name x)) is).0)
     by_test false is = before
 

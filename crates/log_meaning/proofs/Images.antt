@@ -5,7 +5,7 @@ use Rattle.std.specs.List.{AllByRecursion}
 use Rattle.je_model.specs.declared.store.Store.{Store}
 use Rattle.je_model.specs.Store.{store_after}
 use Rattle.log_file.specs.Log.{log_in}
-use Rattle.log_replay.specs.declared.corruption.Corruption.{Finding}
+use Rattle.log_replay.specs.declared.corruption.Corruption.{Corruption}
 use Rattle.log_replay.specs.Rows.{is_environment}
 use Rattle.log_replay.specs.Reading.{gap_behind, gap_in}
 use Rattle.log_replay.proofs.ListLaws.{filter-all}
@@ -17,7 +17,7 @@ use Rattle.log_trees.specs.Walk.{and_then, Walk, nowhere}
 use Rattle.log_meaning.specs.Redo.{Redo, record_at}
 use Rattle.log_meaning.specs.Checkpoint.{Checkpoint, last_end, last_checkpoint, restarted}
 use Rattle.log_meaning.specs.Meaning.{Meaning, rows_of, meaning_of, lsn_there, wrong_lsn}
-use Rattle.log_meaning.specs.Reading.{gap_at, gap_from, missing, redo_finding, unless, judged_by, judged, meaning_in}
+use Rattle.log_meaning.specs.Reading.{gap_at, gap_from, missing, redo_corruption, unless, validated_by, validated, meaning_in}
 use Rattle.log_meaning.specs.Recovery.{Leaves, IsRedoLsn, commits_in, IsFirstFile, ImagesRecover}
 use Rattle.log_meaning.proofs.Leaving.{commits_rise, few_commits}
 
@@ -77,10 +77,10 @@ gap_from-none f n (m ∷ ms) le none = by_order (cases_lt n f) (gap_from-none f 
     by_order (inr ge) rest = gap_from-here f n (m ∷ ms) (omega (arith, le, ge)) none
 
 -- nothing is wrong with the files from the redo LSN on
-no_redo_finding : (first : ℕ) (files : List ℕ) (o : Option Checkpoint) → gap_in files ≡ None → IsFirstFile first files → IsRedoLsn first o → redo_finding files o ≡ None
-no_redo_finding first files None gap begins is = ap missing gap
-no_redo_finding first [] (Some c) gap begins is = cond-true (nat_lt c.redo c.at) (missing (gap_from (c.redo / 2 ^ 32) [])) (Some (nowhere [] c.redo)) (lt-ltb c.redo c.at is.0)
-no_redo_finding first (n ∷ ns) (Some c) gap begins is =
+no_redo_corruption : (first : ℕ) (files : List ℕ) (o : Option Checkpoint) → gap_in files ≡ None → IsFirstFile first files → IsRedoLsn first o → redo_corruption files o ≡ None
+no_redo_corruption first files None gap begins is = ap missing gap
+no_redo_corruption first [] (Some c) gap begins is = cond-true (nat_lt c.redo c.at) (missing (gap_from (c.redo / 2 ^ 32) [])) (Some (nowhere [] c.redo)) (lt-ltb c.redo c.at is.0)
+no_redo_corruption first (n ∷ ns) (Some c) gap begins is =
     let low : n ≤ c.redo / 2 ^ 32 = subst (λ (k : ℕ). k ≤ c.redo / 2 ^ 32) (sym begins) is.1 in
     cond-true (nat_lt c.redo c.at) (missing (gap_from (c.redo / 2 ^ 32) (n ∷ ns))) (Some (nowhere (n ∷ ns) c.redo)) (lt-ltb c.redo c.at is.0)
     ∙ ap missing (gap_from-none (c.redo / 2 ^ 32) n ns low gap)
@@ -98,9 +98,9 @@ reads_leaves first files es store gap begins leaves =
     let read = leaves.roots files in
     let walk : Walk = record { seen = read.0; rows = rows_of_roots es c.at c.roots } in (
       meaning_of es c walk,
-      ap (λ (r : Result Walk Finding). and_then r (λ w. unless (redo_finding files (last_end es)) (judged es c w))) read.1
-          ∙ ap (λ (o : Option Finding). unless o (judged es c walk)) (no_redo_finding first files (last_end es) gap begins leaves.redo)
-          ∙ ap (judged_by es c walk) (none_wrong (restarted es) leaves.environment),
+      ap (λ (r : Result Walk Corruption). and_then r (λ w. unless (redo_corruption files (last_end es)) (validated es c w))) read.1
+          ∙ ap (λ (o : Option Corruption). unless o (validated es c walk)) (no_redo_corruption first files (last_end es) gap begins leaves.redo)
+          ∙ ap (validated_by es c walk) (none_wrong (restarted es) leaves.environment),
       leaves.store_is,
     )
 
@@ -119,7 +119,7 @@ images_recover first opening base least transactions log held gap begins is from
     (first-front first files holds.later (subst (IsFirstFile first) holds.numbers begins)) leaves in
     record {
       meaning = read.0;
-      reads = ap (λ (o : Option Finding). unless o (meaning_in files (placed (log_in held)))) holds.none ∙ read.1;
+      reads = ap (λ (o : Option Corruption). unless o (meaning_in files (placed (log_in held)))) holds.none ∙ read.1;
       count = commits_in base holds.count (placed log);
       at_least = commits_rise base least holds.count (placed log) from low holds.within;
       within = few_commits first opening base holds.count transactions (placed log) is (omega (arith, from, low)) holds.within;

@@ -11,7 +11,7 @@ use Rattle.je_model.specs.declared.store.Database.{Database}
 use Rattle.je_model.specs.declared.store.Kind.TheVariants.{Plain}
 use Rattle.je_model.specs.declared.store.TheConstants.{MOST_DATABASES}
 use Rattle.je_model.specs.Store.{store_after}
-use Rattle.log_replay.specs.Rows.{Row, Rows, number_in, numbers_of, is_catalog_row, are_distinct, are_plain, is_environment, pair_of, database_in, store_of, no_rows}
+use Rattle.log_replay.specs.Rows.{Row, Rows, catalog_number, numbers_of, is_catalog_row, are_distinct, are_plain, is_environment, pair_of, database_in, store_of, no_rows}
 use Rattle.log_replay.proofs.MapRows.{lookup_is_data}
 use Rattle.log_replay.proofs.LoadedRows.{same_rows}
 use Rattle.log_replay.proofs.ListLaws.{all_of_map, map_same}
@@ -32,7 +32,7 @@ all_same p q (n ∷ ns) all = ap₂ (λ a b. a && b) all.0 (all_same p q ns all.
 -- what makes records an environment's, told by the catalog's records and the other databases'
 abbrev environment_with : List Row → Rows → Bool
 environment_with catalog rows =
-    list_all is_catalog_row catalog && are_distinct (map (λ r. number_in r.1) catalog) && list_all (λ n. are_plain (rows n)) (map (λ r. number_in r.1) catalog)
+    list_all is_catalog_row catalog && are_distinct (map (λ r. catalog_number r.1) catalog) && list_all (λ n. are_plain (rows n)) (map (λ r. catalog_number r.1) catalog)
     && nat_le (length catalog) MOST_DATABASES
 
 same_environment : (a b : Rows) → a 0 ≡ b 0 → AllByRecursion (λ n. a n ≡ b n) (numbers_of b) → is_environment a ≡ is_environment b
@@ -46,10 +46,10 @@ same_store a b zero_same each =
     let make : List Database → Store = λ l. record { databases = l } in
     ap (λ (catalog : List Row). make (map (database_in a) catalog)) zero_same
     ∙ ap make (map_same (database_in a) (database_in b) (b 0)
-    (all_weaker (λ (r : Row). a (number_in r.1) ≡ b (number_in r.1)) (λ r. database_in a r ≡ database_in b r) named (b 0)
-    (all_of_map (λ (r : Row). number_in r.1) (λ n. a n ≡ b n) (b 0) each)))
+    (all_weaker (λ (r : Row). a (catalog_number r.1) ≡ b (catalog_number r.1)) (λ r. database_in a r ≡ database_in b r) named (b 0)
+    (all_of_map (λ (r : Row). catalog_number r.1) (λ n. a n ≡ b n) (b 0) each)))
   where
-    named : (r : Row) → a (number_in r.1) ≡ b (number_in r.1) → database_in a r ≡ database_in b r
+    named : (r : Row) → a (catalog_number r.1) ≡ b (catalog_number r.1) → database_in a r ≡ database_in b r
     named r h = let with_rows : List Row → Database = λ l. record { name = r.0.key; kind = Plain; pairs = map pair_of l } in ap with_rows h
 
 pub stands_leaves : StandsLeaves

@@ -16,7 +16,7 @@ pub mod Replays
 pub mod Alike
 -- The numbers of a meaning are past those of the log read again.
 pub mod Drawn
--- Files that are read with no finding.
+-- Files that are read with no corruption.
 pub mod Opened
 -- The log worked by hand.
 pub mod Worked

@@ -1,4 +1,4 @@
--- Files that are read with no finding.
+-- Files that are read with no corruption.
 use Rattle.std.proofs.Common.{◌≡◌, ℕ, ◌/◌, ◌^◌, ◌<◌, ◌≤◌, ◌==◌, nat_le, nat_lt, Bool, true, false, cond, List, [], ◌∷◌, Option, None, Some, unwrap_or, option_map, Result, Ok, Err, map, filter, refl, sym, ap, subst, ◌∙◌, arith, ◌⊎◌, inl, inr}
 use Rattle.std.proofs.lemmas.Bool.{ltb-true, le-leb, ne_eqb, cond-true, cond-false, cases_lt}
 use Rattle.std.proofs.lemmas.Option.{none-some, same_Some}
@@ -8,11 +8,11 @@ use Rattle.log_entry.specs.declared.entry.Entry.TheVariants.{CkptEnd}
 use Rattle.log_entry.specs.Body.{IsEntry}
 use Rattle.log_entry.specs.Items.{rises, root_before}
 use Rattle.log_file.specs.Log.{log_in}
-use Rattle.log_replay.specs.declared.corruption.Corruption.{Finding}
+use Rattle.log_replay.specs.declared.corruption.Corruption.{Corruption}
 use Rattle.log_replay.specs.declared.corruption.Corruption.TheVariants.{Missing}
 use Rattle.log_replay.specs.Rows.{is_environment, store_of}
 use Rattle.log_replay.specs.Wrong.{or_else, wrong_record}
-use Rattle.log_replay.specs.Reading.{lsn_at, finding_in, gap_behind}
+use Rattle.log_replay.specs.Reading.{lsn_at, corruption_in, gap_behind}
 use Rattle.log_replay.proofs.WrongLaws.{none_is_environment}
 use Rattle.log_trees.specs.Placed.{Placed, placed}
 use Rattle.log_trees.specs.Changes.{LoggedChange}
@@ -23,22 +23,22 @@ use Rattle.log_trees.proofs.Right.{read_trees_are_right}
 use Rattle.log_meaning.specs.Redo.{Redo, redone, record_at}
 use Rattle.log_meaning.specs.Checkpoint.{Checkpoint, no_checkpoint, checkpoint_in, last_end, last_checkpoint, behind, restarted}
 use Rattle.log_meaning.specs.Meaning.{Meaning, rows_of, meaning_of, lsn_there, wrong_lsn, AreDrawn}
-use Rattle.log_meaning.specs.Reading.{gap_at, gap_from, missing, redo_finding, unless, judged_by, judged, meaning_in}
+use Rattle.log_meaning.specs.Reading.{gap_at, gap_from, missing, redo_corruption, unless, validated_by, validated, meaning_in}
 use Rattle.log_meaning.proofs.Drawn.{are_drawn}
 use Rattle.log_meaning.specs.Recovery.{IsRedoLsn, IsOpened, ReadFilesLeave}
 
 -- ---- results
 
 -- a reading that went on to a result
-then_parts : {A B : Type 0} (r : Result A Finding) (f : A → Result B Finding) (y : B) → and_then r f ≡ Ok y → (x : A) × (r ≡ Ok x) × (f x ≡ Ok y)
+then_parts : {A B : Type 0} (r : Result A Corruption) (f : A → Result B Corruption) (y : B) → and_then r f ≡ Ok y → (x : A) × (r ≡ Ok x) × (f x ≡ Ok y)
 then_parts (Ok x) f y h = (x, refl, h)
-then_parts (Err finding) f y h = absurd cc
+then_parts (Err corruption) f y h = absurd cc
 
-unless_parts : {A : Type 0} (o : Option Finding) (r : Result A Finding) (y : A) → unless o r ≡ Ok y → (o ≡ None) × (r ≡ Ok y)
+unless_parts : {A : Type 0} (o : Option Corruption) (r : Result A Corruption) (y : A) → unless o r ≡ Ok y → (o ≡ None) × (r ≡ Ok y)
 unless_parts None r y h = (refl, h)
-unless_parts (Some finding) r y h = absurd cc
+unless_parts (Some corruption) r y h = absurd cc
 
-judged_parts : (es : List Placed) (c : Checkpoint) (walk : Walk) (o : Option ℕ) (meaning : Meaning) → judged_by es c walk o ≡ Ok meaning → (o ≡ None) × (meaning_of es c walk ≡ meaning)
+judged_parts : (es : List Placed) (c : Checkpoint) (walk : Walk) (o : Option ℕ) (meaning : Meaning) → validated_by es c walk o ≡ Ok meaning → (o ≡ None) × (meaning_of es c walk ≡ meaning)
 judged_parts es c walk None meaning h = (refl, cc)
 judged_parts es c walk (Some lsn) meaning h = absurd cc
 
@@ -72,7 +72,7 @@ roots_rise es all = by_end (last_end es) refl
     by_end None made = refl
     by_end (Some c) made = end_rises es c all made
 
--- a redo LSN with no finding lies in a file that is there
+-- a redo LSN with no corruption lies in a file that is there
 first_below : (f first : ℕ) (later : List ℕ) → gap_from f (first ∷ later) ≡ None → first ≤ f
 first_below f first later none = by_order (cases_lt f first)
   where
@@ -85,7 +85,7 @@ first_below f first later none = by_order (cases_lt f first)
         absurd (none-some f (sym none ∙ found))
     by_order (inr le) = le
 
-redo_is : (first : ℕ) (later : List ℕ) (o : Option Checkpoint) → redo_finding (first ∷ later) o ≡ None → IsRedoLsn first o
+redo_is : (first : ℕ) (later : List ℕ) (o : Option Checkpoint) → redo_corruption (first ∷ later) o ≡ None → IsRedoLsn first o
 redo_is first later None none = tt
 redo_is first later (Some c) none = by_test (nat_lt c.redo c.at) refl none
   where
@@ -100,10 +100,10 @@ opened : (first : ℕ) (later : List ℕ) (es : List Placed) (meaning : Meaning)
 opened first later es meaning entries h =
     let files : List ℕ = first ∷ later in
     let c : Checkpoint = last_checkpoint es in
-    let read = then_parts (read_roots files es c.at c.roots) (λ walk. unless (redo_finding files (last_end es)) (judged es c walk)) meaning h in
+    let read = then_parts (read_roots files es c.at c.roots) (λ walk. unless (redo_corruption files (last_end es)) (validated es c walk)) meaning h in
     let walk : Walk = read.0 in
     let right : AreRight es c.at c.roots walk = read_trees_are_right files es c.at c.roots walk entries read.1 in
-    let redo = unless_parts (redo_finding files (last_end es)) (judged es c walk) meaning read.2 in
+    let redo = unless_parts (redo_corruption files (last_end es)) (validated es c walk) meaning read.2 in
     let judgement = judged_parts es c walk (wrong_lsn (behind walk.rows (redone c.redo es))) meaning redo.1 in
     let same : behind walk.rows (redone c.redo es) ≡ restarted es = ap (λ (l : List LoggedChange). behind l (redone c.redo es)) right.rows in
     record {
@@ -113,12 +113,12 @@ opened first later es meaning entries h =
         environment = right_records (restarted es) (sym (ap wrong_lsn same) ∙ judgement.0);
         store_is = sym (ap (λ (r : Redo). store_of (rows_of r)) same) ∙ ap (λ (m : Meaning). m.store) judgement.1;
       };
-      drawn = subst (AreDrawn es) judgement.1 (are_drawn es walk right.rows);
+      last_job = subst (AreDrawn es) judgement.1 (are_drawn es walk right.rows);
       home = right.home;
       right = right.right;
     }
 
 pub read_files_leave : ReadFilesLeave
 read_files_leave first later held meaning files entries h =
-    let inner = unless_parts (finding_in held) (meaning_in (map (λ file. file.0) held) (placed (log_in held))) meaning h in
+    let inner = unless_parts (corruption_in held) (meaning_in (map (λ file. file.0) held) (placed (log_in held))) meaning h in
     opened first later (placed (log_in held)) meaning entries (ap (λ (l : List ℕ). meaning_in l (placed (log_in held))) (sym files) ∙ inner.1)

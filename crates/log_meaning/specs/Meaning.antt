@@ -4,7 +4,7 @@ use Rattle.je_order.specs.declared.name.Name.{Name}
 use Rattle.je_model.specs.declared.store.Store.{Store}
 use Rattle.log_entry.specs.declared.entry.Entry.{Entry}
 use Rattle.log_entry.specs.declared.entry.Entry.TheVariants.{Migrated, In, Bin, BinDelta}
-use Rattle.log_replay.specs.Rows.{Rows, no_rows, store_of, number_in}
+use Rattle.log_replay.specs.Rows.{Rows, no_rows, store_of, catalog_number}
 use Rattle.log_replay.specs.Wrong.{wrong_record}
 use Rattle.log_replay.specs.Replay.{txn_in, db_in}
 use Rattle.log_trees.specs.Placed.{Placed}
@@ -36,7 +36,7 @@ node_number entry = 0
 
 -- the greatest database number in an entry: the one that it is for, or the one in a catalog record
 abbrev pub db_number : Entry → ℕ
-db_number (Migrated db name value) = if db == 0 then number_in value else db
+db_number (Migrated db name value) = if db == 0 then catalog_number value else db
 db_number (In db node level slots) = db
 db_number (Bin db node slots) = db
 db_number (BinDelta db node full slots) = db
@@ -44,7 +44,7 @@ db_number entry = db_in entry
 
 -- the database number in a catalog record that a root gives
 abbrev pub db_given : LoggedChange → ℕ
-db_given change = if change.db == 0 then unwrap_or (option_map number_in change.written.value) 0 else 0
+db_given change = if change.db == 0 then unwrap_or (option_map catalog_number change.written.value) 0 else 0
 
 -- the greatest number of a list, 0 where there is none
 abbrev pub most : {A : Type 0} → (A → ℕ) → List A → ℕ
@@ -76,4 +76,4 @@ wrong_lsn redo = option_map (λ place. lsn_there (record_at redo place.db place.
 pub record AreDrawn (es : List Placed) (meaning : Meaning) : Type 0 where
   pub txns : (t : ℕ) → meaning.last_txn < t → (restarted es).pending t ≡ []
   pub databases : (d : ℕ) (x : Name) → meaning.last_db < d → record_at (restarted es) d x ≡ unwritten
-  pub named : (x : Name) → IfSome (record_at (restarted es) 0 x).value (λ bytes. number_in bytes ≤ meaning.last_db)
+  pub named : (x : Name) → IfSome (record_at (restarted es) 0 x).value (λ bytes. catalog_number bytes ≤ meaning.last_db)

@@ -4,7 +4,7 @@ use Rattle.std.specs.List.{AllByRecursion}
 use Rattle.log_entry.specs.declared.entry.Entry.{Entry}
 use Rattle.log_entry.specs.declared.entry.Entry.TheVariants.{Put, Delete, Commit}
 use Rattle.log_file.specs.Log.{Log, entries_of, log_in}
-use Rattle.log_replay.specs.declared.corruption.Corruption.{Finding}
+use Rattle.log_replay.specs.declared.corruption.Corruption.{Corruption}
 use Rattle.log_replay.specs.Rows.{RowChange}
 use Rattle.log_replay.specs.Replay.{replayed, nothing_replayed, changes_of}
 use Rattle.log_replay.specs.Meaning.{Meaning as ReplayMeaning}
@@ -33,10 +33,10 @@ ReplayedAlike = (log : Log) → AllByRecursion (λ e. is_plain e ≡ true) (entr
     × ((t : ℕ) → changes_of t (replayed (entries_of log) nothing_replayed).pending ≡ map (row_change t) ((redone 0 (placed log)).pending t))
 
 -- a meaning without what checkpoints and nodes add to it
-abbrev pub without_nodes : Result Meaning Finding → Result ReplayMeaning Finding
+abbrev pub without_nodes : Result Meaning Corruption → Result ReplayMeaning Corruption
 without_nodes (Ok m) = Ok (record { store = m.store; last_txn = m.last_txn; last_db = m.last_db })
-without_nodes (Err finding) = Err finding
+without_nodes (Err corruption) = Err corruption
 
--- and files of such a log are read alike, findings and their LSNs included
+-- and files of such a log are read alike, corruptions and their LSNs included
 abbrev pub ReadAlike : Type 0
 ReadAlike = (held : List (ℕ × List ℕ)) → AllByRecursion (λ e. is_plain e ≡ true) (entries_of (log_in held)) → without_nodes (reading_of held) ≡ replay_reading_of held

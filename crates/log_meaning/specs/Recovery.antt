@@ -10,7 +10,7 @@ use Rattle.log_entry.specs.declared.entry.Entry.TheVariants.{Commit}
 use Rattle.log_entry.specs.Body.{IsEntry}
 use Rattle.log_file.specs.Log.{Log, log_in}
 use Rattle.log_replay.specs.Rows.{Rows, data_at, numbers_of, is_environment, store_of, IsRising}
-use Rattle.log_replay.specs.Reading.{finding_in, gap_in}
+use Rattle.log_replay.specs.Reading.{corruption_in, gap_in}
 use Rattle.log_trees.specs.Placed.{Placed, placed}
 use Rattle.log_trees.specs.Changes.{LoggedChange}
 use Rattle.log_trees.specs.Trees.{rows_of_roots}
@@ -26,7 +26,7 @@ abbrev pub is_commit : Entry → Bool
 is_commit (Commit txn) = true
 is_commit entry = false
 
--- the trees of a log's last checkpoint are read with no finding
+-- the trees of a log's last checkpoint are read with no corruption
 abbrev pub AreRootsRead : List Placed → Type 0
 AreRootsRead es = (files : List ℕ) → (numbers : List ℕ)
     × (read_roots files es (last_checkpoint es).at (last_checkpoint es).roots ≡ Ok (record { seen = numbers; rows = rows_of_roots es (last_checkpoint es).at (last_checkpoint es).roots }))
@@ -64,10 +64,10 @@ StandsLeaves = (first : ℕ) (es : List Placed) (base next : ℕ) (is_open : ℕ
     → is_open 0 ≡ true → AllByRecursion (λ n. is_open n ≡ true) (numbers_of kept) → is_environment kept ≡ true
     → Leaves first es (store_of kept)
 
--- files that are read with no finding leave the store that they mean, later numbers are free, and the trees of their last checkpoint are right
+-- files that are read with no corruption leave the store that they mean, later numbers are free, and the trees of their last checkpoint are right
 pub record IsOpened (first : ℕ) (es : List Placed) (meaning : Meaning) : Type 0 where
   pub leaves : Leaves first es meaning.store
-  pub drawn : AreDrawn es meaning
+  pub last_job : AreDrawn es meaning
   pub home : ℕ → Home
   pub right : AllByRecursion (IsRootAt es home (last_checkpoint es).at) (last_checkpoint es).roots
 
@@ -97,7 +97,7 @@ pub record HoldsFirst (log : Log) (least : ℕ) (held : List (ℕ × List ℕ)) 
   pub entries : placed (log_in held) ≡ take count (placed log)
   pub later : List ℕ
   pub numbers : map (λ file. file.0) log ≡ map (λ file. file.0) held ++ later
-  pub none : finding_in held ≡ None
+  pub none : corruption_in held ≡ None
 
 -- files mean the opening store changed by the first of the transactions, at least so many
 pub record IsRecovered (opening : Store) (least : ℕ) (transactions : List (List Change)) (held : List (ℕ × List ℕ)) : Type 0 where

@@ -31,8 +31,8 @@ pub fn records_are_listed()
     ensures order { ListedInOrder }
 {}
 
-/// Files that are read with no finding leave the store that they mean. A log that an environment works on
-/// leaves the environment's store, and recovers one transaction more with each commit.
+/// Files that are read with no corruption leave the store that they mean. A log that an environment works
+/// on leaves the environment's store, and recovers one transaction more with each commit.
 pub fn logs_recover()
     ensures read { ReadFilesLeave }
     ensures leaves { StandsLeaves }
@@ -46,13 +46,15 @@ pub fn images_recover()
     ensures { ImagesRecover }
 {}
 
-/// A log of puts, deletes and commits alone means what a replay of the whole log gives, findings included.
+/// A log of puts, deletes and commits alone means what a replay of the whole log gives, corruptions
+/// included.
 pub fn plain_logs_are_replayed()
     ensures replayed { ReplayedAlike }
     ensures read { ReadAlike }
 {}
 
-/// A log that was worked by hand is read as worked, and so are its findings where one child stands elsewhere.
+/// A log that was worked by hand is read as worked, and so are its corruptions where one child stands
+/// elsewhere.
 pub fn a_log_is_worked()
     ensures { IsWorked }
 {}

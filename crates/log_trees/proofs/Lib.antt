@@ -8,11 +8,11 @@ pub mod Bounds
 pub mod Shown
 -- What the roots of right trees give is what they show name by name.
 pub mod Rooted
--- Right trees are read with no finding.
+-- Right trees are read with no corruption.
 pub mod Reading
 -- The names of slots that images show rise.
 pub mod Names
--- Trees that are read with no finding are right.
+-- Trees that are read with no corruption are right.
 pub mod Right
 -- Images that are logged: when they are right, and what they show.
 pub mod Building

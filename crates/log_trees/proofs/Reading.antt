@@ -1,4 +1,4 @@
--- Right trees are read with no finding.
+-- Right trees are read with no corruption.
 use Rattle.std.proofs.Common.{◌≡◌, ℕ, zero, suc, ◌+◌, ◌<◌, ◌≤◌, ◌==◌, nat_lt, nat_le, Bool, true, false, not, cond, List, [], ◌∷◌, ◌++◌, Option, None, Some, Result, Ok, Err, map, length, Ordering, Less, Equal, Greater, is_lt, refl, sym, ap, subst, ◌∙◌, arith, append_assoc}
 use Rattle.std.specs.Prelude.{◌&&◌, if◌then◌else◌}
 use Rattle.std.specs.Option.{option_and_then}
@@ -19,7 +19,7 @@ use Rattle.node_core.specs.Changes.{set_now}
 use Rattle.node_core.proofs.NameOrder.{total, same, turned}
 use Rattle.node_log.specs.Slots.{slot_of_record}
 use Rattle.node_log.specs.Images.{node_of, node_with, with_delta, bin_of}
-use Rattle.log_replay.specs.declared.corruption.Corruption.{Finding}
+use Rattle.log_replay.specs.declared.corruption.Corruption.{Corruption}
 use Rattle.log_replay.specs.declared.corruption.Corruption.TheVariants.{Tree}
 use Rattle.je_order.proofs.Lists.{all_weaker, all_append, each_none}
 use Rattle.log_trees.specs.Placed.{Placed, entry_at}
@@ -88,7 +88,7 @@ record-ok files es d at s walk is =
     ∙ by_entry (entry_at es s.1) is.2
     ∙ ap made (sym is.2)
   where
-    made : Option (List ℕ) → Result Walk Finding
+    made : Option (List ℕ) → Result Walk Corruption
     made v = let change : LoggedChange = record { db = d; name = s.0; written = record { at = s.1; value = v } } in
         let w : Walk = record { seen = walk.seen; rows = walk.rows ++ change ∷ [] } in Ok w
 
@@ -99,12 +99,12 @@ record-ok files es d at s walk is =
 records-ok : (files : List ℕ) (es : List Placed) (d at : ℕ) (slots : List NamedLsn) (walk : Walk) → AllByRecursion (IsRecordAt es d at) slots →
     each (read_record files es d at) slots walk ≡ Ok (record { seen = walk.seen; rows = walk.rows ++ map (loaded es d) slots })
 records-ok files es d at [] walk all =
-    let make : List LoggedChange → Result Walk Finding = λ l. let w : Walk = record { seen = walk.seen; rows = l } in Ok w in
+    let make : List LoggedChange → Result Walk Corruption = λ l. let w : Walk = record { seen = walk.seen; rows = l } in Ok w in
     ap make (sym (append-nil walk.rows))
 records-ok files es d at (s ∷ slots) walk all =
     let next : Walk = record { seen = walk.seen; rows = walk.rows ++ loaded es d s ∷ [] } in
-    let make : List LoggedChange → Result Walk Finding = λ l. let w : Walk = record { seen = walk.seen; rows = l } in Ok w in
-    ap (λ (r : Result Walk Finding). and_then r (each (read_record files es d at) slots)) (record-ok files es d at s walk all.0)
+    let make : List LoggedChange → Result Walk Corruption = λ l. let w : Walk = record { seen = walk.seen; rows = l } in Ok w in
+    ap (λ (r : Result Walk Corruption). and_then r (each (read_record files es d at) slots)) (record-ok files es d at s walk all.0)
     ∙ records-ok files es d at slots next all.1
     ∙ ap make (append_assoc walk.rows (loaded es d s ∷ []) (map (loaded es d) slots))
 
@@ -124,7 +124,7 @@ abbrev AllIn : (ℕ → Home) → ℕ → ℕ → Name → Option Name → List 
 AllIn home d most low high met = AllByRecursion (λ n. IsIn d most low high (home n)) met
 
 -- reading a part of a tree met the nodes of that part alone, and found these records
-record IsMet (home : ℕ → Home) (d most : ℕ) (low : Name) (high : Option Name) (rows : List LoggedChange) (walk : Walk) (result : Result Walk Finding) : Type 0 where
+record IsMet (home : ℕ → Home) (d most : ℕ) (low : Name) (high : Option Name) (rows : List LoggedChange) (walk : Walk) (result : Result Walk Corruption) : Type 0 where
   met_ : List ℕ
   is : result ≡ Ok (record { seen = met_ ++ walk.seen; rows = walk.rows ++ rows })
   homes : AllIn home d most low high met_
@@ -155,7 +155,7 @@ here-ok : (files : List ℕ) (es : List Placed) (home : ℕ → Home) (d above l
     node_at es at ≡ Some n → n.db ≡ d → n.level ≡ level → are_within low high n ≡ true → at_home home d n.number above low → is_below low high ≡ true →
     NoneIn home d above low high seen → read_here files es d level low high at seen ≡ Ok n
 here-ok files es home d above level low high at seen n is db level_is within own below none =
-    ap (λ (r : Result Node Finding). and_then r (node_standing level low high at seen)) (read_image-ok files es d at n is db)
+    ap (λ (r : Result Node Corruption). and_then r (node_standing level low high at seen)) (read_image-ok files es d at n is db)
     ∙ cond-true (may_stand level low high seen n) (Ok n) (Err (Tree at))
     (and_from (n.level == level) (not (list_any (λ m. m == n.number) seen) && are_within low high n) (eq-eqb n.level level level_is)
     (and_from (not (list_any (λ m. m == n.number) seen)) (are_within low high n)
@@ -189,7 +189,7 @@ children-ok : (files : List ℕ) (es : List Placed) (home : ℕ → Home) (d abo
     IsMet home d above low high (map (loaded es d) (flat_map (λ (s : NamedLsn). slots_at es above s.1) slots)) walk (each (read_child files (read_node files es d above) at) (children low high slots) walk)
 children-ok files es home d above at goes low high [] walk trees within up none = record { met_ = []; is = ap (done walk.seen) (sym (append-nil walk.rows)); homes = tt }
   where
-    done : List ℕ → List LoggedChange → Result Walk Finding
+    done : List ℕ → List LoggedChange → Result Walk Corruption
     done seen rows = let w : Walk = record { seen = seen; rows = rows } in Ok w
 children-ok files es home d above at goes low high (s ∷ []) walk trees within up none =
     let bounds = within_parts low high s.0 within.0 in
@@ -197,13 +197,13 @@ children-ok files es home d above at goes low high (s ∷ []) walk trees within 
     record {
       met_ = first.met_;
       is =
-          ap (λ (r : Result Walk Finding). and_then r (λ w. Ok w))
+          ap (λ (r : Result Walk Corruption). and_then r (λ w. Ok w))
           (cond-true (nat_lt s.1 at) (read_node files es d above low high s.1 walk) (Err (nowhere files s.1)) (lt-ltb s.1 at trees.0.0) ∙ first.is)
           ∙ ap (λ (l : List NamedLsn). done (first.met_ ++ walk.seen) (walk.rows ++ map (loaded es d) l)) (sym (append-nil (slots_at es above s.1)));
       homes = first.homes;
     }
   where
-    done : List ℕ → List LoggedChange → Result Walk Finding
+    done : List ℕ → List LoggedChange → Result Walk Corruption
     done seen rows = let w : Walk = record { seen = seen; rows = rows } in Ok w
 children-ok files es home d above at goes low high (s ∷ n ∷ slots) walk trees within up none =
     let s_in = within_parts low high s.0 within.0 in
@@ -220,7 +220,7 @@ children-ok files es home d above at goes low high (s ∷ n ∷ slots) walk tree
     record {
       met_ = rest.met_ ++ first.met_;
       is =
-          ap (λ (r : Result Walk Finding). and_then r (each (read_child files (read_node files es d above) at) (children n.0 high (n ∷ slots))))
+          ap (λ (r : Result Walk Corruption). and_then r (each (read_child files (read_node files es d above) at) (children n.0 high (n ∷ slots))))
           (cond-true (nat_lt s.1 at) (read_node files es d above low (Some n.0) s.1 walk) (Err (nowhere files s.1)) (lt-ltb s.1 at trees.0.0) ∙ first.is)
           ∙ rest.is
           ∙ ap (λ (l : List ℕ). done l ((walk.rows ++ map (loaded es d) (slots_at es above s.1)) ++ map (loaded es d) others)) (sym (append_assoc rest.met_ first.met_ walk.seen))
@@ -232,7 +232,7 @@ children-ok files es home d above at goes low high (s ∷ n ∷ slots) walk tree
           (all_weaker (λ m. IsIn d above low (Some n.0) (home m)) (λ m. IsIn d above low high (home m)) (λ m h. wider_part d above low high n.0 (home m) n_in.1 h) first.met_ first.homes);
     }
   where
-    done : List ℕ → List LoggedChange → Result Walk Finding
+    done : List ℕ → List LoggedChange → Result Walk Corruption
     done seen rows = let w : Walk = record { seen = seen; rows = rows } in Ok w
 
 -- ---- one tree
@@ -246,14 +246,14 @@ node-ok files es home d zero low high at walk tree below none =
     record {
       met_ = n.number ∷ [];
       is =
-          ap (λ (r : Result Node Finding). and_then r (λ m. each (read_record files es d at) (slots_shown m) (met m walk)))
+          ap (λ (r : Result Node Corruption). and_then r (λ m. each (read_record files es d at) (slots_shown m) (met m walk)))
           (here-ok files es home d 0 1 low high at walk.seen n tree.image tree.db tree.level_is tree.within tree.home below none)
           ∙ records-ok files es d at (slots_shown n) next tree.right
           ∙ ap (λ (l : List NamedLsn). done (n.number ∷ walk.seen) (walk.rows ++ map (loaded es d) l)) (sym (leaf_image es (at_home home d) d low high at tree));
       homes = (at_own home d 0 low high n.number tree.home below, tt);
     }
   where
-    done : List ℕ → List LoggedChange → Result Walk Finding
+    done : List ℕ → List LoggedChange → Result Walk Corruption
     done seen rows = let w : Walk = record { seen = seen; rows = rows } in Ok w
 node-ok files es home d (suc above) low high at walk tree below none =
     let n : Node = tree.node in
@@ -266,7 +266,7 @@ node-ok files es home d (suc above) low high at walk tree below none =
     record {
       met_ = rest.met_ ++ n.number ∷ [];
       is =
-          ap (λ (r : Result Node Finding). and_then r (λ m. each (read_child files (read_node files es d above) at) (children low high (slots_shown m)) (met m walk)))
+          ap (λ (r : Result Node Corruption). and_then r (λ m. each (read_child files (read_node files es d above) at) (children low high (slots_shown m)) (met m walk)))
           (here-ok files es home d (suc above) (suc (suc above)) low high at walk.seen n tree.image tree.db tree.level_is tree.within tree.home below none)
           ∙ rest.is
           ∙ ap (λ (l : List ℕ). done l (walk.rows ++ map (loaded es d) (flat_map (λ (s : NamedLsn). slots_at es above s.1) (slots_shown n)))) (sym (append_assoc rest.met_ (n.number ∷ []) walk.seen))
@@ -277,7 +277,7 @@ node-ok files es home d (suc above) low high at walk tree below none =
           (at_own home d (suc above) low high n.number tree.home below, tt);
     }
   where
-    done : List ℕ → List LoggedChange → Result Walk Finding
+    done : List ℕ → List LoggedChange → Result Walk Corruption
     done seen rows = let w : Walk = record { seen = seen; rows = rows } in Ok w
 
 -- ---- all roots
@@ -301,7 +301,7 @@ root-ok files es home end root walk is before =
     let tree = node-ok files es home root.db is.above least_name None root.image walk is.tree refl none in (
       tree.met_ ++ walk.seen,
       cond-true (nat_lt root.image end) (and_then (read_image files es root.db root.image) (λ n. read_level files es root.db n.level root.image walk)) (Err (nowhere files root.image)) (lt-ltb root.image end is.lower)
-          ∙ ap (λ (r : Result Node Finding). and_then r (λ n. read_level files es root.db n.level root.image walk)) (read_image-ok files es root.db root.image top.0 top.1 top.2)
+          ∙ ap (λ (r : Result Node Corruption). and_then r (λ n. read_level files es root.db n.level root.image walk)) (read_image-ok files es root.db root.image top.0 top.1 top.2)
           ∙ ap (λ (l : ℕ). read_level files es root.db l root.image walk) top.3
           ∙ tree.is
           ∙ ap (λ (l : List LoggedChange). done (tree.met_ ++ walk.seen) (walk.rows ++ l)) (sym (root_rows es home end root is)),
@@ -310,14 +310,14 @@ root-ok files es home end root walk is before =
           (all_weaker (λ m. (home m).db < root.db) (λ m. (home m).db < root.db + 1) (λ m h. omega (arith, h)) walk.seen before),
     )
   where
-    done : List ℕ → List LoggedChange → Result Walk Finding
+    done : List ℕ → List LoggedChange → Result Walk Corruption
     done seen rows = let w : Walk = record { seen = seen; rows = rows } in Ok w
 
 roots-ok : (files : List ℕ) (es : List Placed) (home : ℕ → Home) (end b : ℕ) (roots : List Root) (walk : Walk) → RiseFrom b roots → AllByRecursion (IsRootAt es home end) roots → AreBefore home b walk.seen →
     (numbers : List ℕ) × (each (read_root files es end) roots walk ≡ Ok (record { seen = numbers; rows = walk.rows ++ rows_of_roots es end roots }))
 roots-ok files es home end b [] walk up all before = (walk.seen, ap (done walk.seen) (sym (append-nil walk.rows)))
   where
-    done : List ℕ → List LoggedChange → Result Walk Finding
+    done : List ℕ → List LoggedChange → Result Walk Corruption
     done seen rows = let w : Walk = record { seen = seen; rows = rows } in Ok w
 roots-ok files es home end b (root ∷ roots) walk up all before =
     let low = up.0 in
@@ -325,12 +325,12 @@ roots-ok files es home end b (root ∷ roots) walk up all before =
     let next : Walk = record { seen = first.0; rows = walk.rows ++ rows_of_root es end root } in
     let rest = roots-ok files es home end (root.db + 1) roots next up.1 all.1 first.2 in (
       rest.0,
-      ap (λ (r : Result Walk Finding). and_then r (each (read_root files es end) roots)) first.1
+      ap (λ (r : Result Walk Corruption). and_then r (each (read_root files es end) roots)) first.1
           ∙ rest.1
           ∙ ap (done rest.0) (append_assoc walk.rows (rows_of_root es end root) (rows_of_roots es end roots)),
     )
   where
-    done : List ℕ → List LoggedChange → Result Walk Finding
+    done : List ℕ → List LoggedChange → Result Walk Corruption
     done seen rows = let w : Walk = record { seen = seen; rows = rows } in Ok w
 
 pub roots_are_read : RootsAreRead

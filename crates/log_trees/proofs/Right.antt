@@ -1,4 +1,4 @@
--- Trees that are read with no finding are right.
+-- Trees that are read with no corruption are right.
 use Rattle.std.proofs.Common.{◌≡◌, ℕ, zero, suc, ◌<◌, ◌==◌, nat_lt, Bool, true, false, not, cond, List, [], ◌∷◌, ◌++◌, Option, None, Some, unwrap_or, Result, Ok, Err, map, refl, sym, ap, subst, ◌∙◌, append_assoc}
 use Rattle.std.specs.Prelude.{◌&&◌, ◌||◌, if◌then◌else◌}
 use Rattle.std.specs.Option.{option_and_then}
@@ -14,7 +14,7 @@ use Rattle.log_entry.specs.declared.root.Root.{Root}
 use Rattle.log_entry.specs.Body.{IsEntry}
 use Rattle.node_core.specs.declared.node.Node.{Node}
 use Rattle.node_log.specs.Images.{node_of, node_with}
-use Rattle.log_replay.specs.declared.corruption.Corruption.{Finding}
+use Rattle.log_replay.specs.declared.corruption.Corruption.{Corruption}
 use Rattle.log_replay.specs.declared.corruption.Corruption.TheVariants.{Tree}
 use Rattle.je_order.proofs.Lists.{all_weaker}
 use Rattle.log_trees.specs.Placed.{Placed, entry_at}
@@ -31,21 +31,21 @@ use Rattle.log_trees.proofs.Names.{image_up}
 
 -- ---- results
 
-not_ok : {A C : Type 0} (finding : Finding) (x : A) → ◌≡◌ {A = Result A Finding} (Err finding) (Ok x) → C
-not_ok finding x h = absurd cc
+not_ok : {A C : Type 0} (corruption : Corruption) (x : A) → ◌≡◌ {A = Result A Corruption} (Err corruption) (Ok x) → C
+not_ok corruption x h = absurd cc
 
-same_ok : {A : Type 0} (x y : A) → ◌≡◌ {A = Result A Finding} (Ok x) (Ok y) → x ≡ y
+same_ok : {A : Type 0} (x y : A) → ◌≡◌ {A = Result A Corruption} (Ok x) (Ok y) → x ≡ y
 same_ok x y h = cc
 
--- where a reading that goes on has no finding, the one before it had none
-then_parts : {A B : Type 0} (r : Result A Finding) (f : A → Result B Finding) (y : B) → and_then r f ≡ Ok y → (x : A) × (r ≡ Ok x) × (f x ≡ Ok y)
+-- where a reading that goes on has no corruption, the one before it had none
+then_parts : {A B : Type 0} (r : Result A Corruption) (f : A → Result B Corruption) (y : B) → and_then r f ≡ Ok y → (x : A) × (r ≡ Ok x) × (f x ≡ Ok y)
 then_parts (Ok x) f y h = (x, refl, h)
-then_parts (Err finding) f y h = not_ok finding y h
+then_parts (Err corruption) f y h = not_ok corruption y h
 
 -- a test that a reading passed
-passed : {A : Type 0} (b : Bool) (r : Result A Finding) (finding : Finding) (y : A) → cond b r (Err finding) ≡ Ok y → (b ≡ true) × (r ≡ Ok y)
-passed true r finding y h = (refl, h)
-passed false r finding y h = not_ok finding y h
+passed : {A : Type 0} (b : Bool) (r : Result A Corruption) (corruption : Corruption) (y : A) → cond b r (Err corruption) ≡ Ok y → (b ≡ true) × (r ≡ Ok y)
+passed true r corruption y h = (refl, h)
+passed false r corruption y h = not_ok corruption y h
 
 -- ---- one image
 
@@ -62,9 +62,9 @@ image_in-is files es d at (BinDelta db number full slots) n h = by_lower (nat_lt
     outer : ((db == d) ≡ true) × (cond (nat_lt full at) (delta_on files at db number full (BinDelta db number full slots) (entry_at es full)) (Err (nowhere files full)) ≡ Ok n)
     outer = passed (db == d) (cond (nat_lt full at) (delta_on files at db number full (BinDelta db number full slots) (entry_at es full)) (Err (nowhere files full))) (Tree at) n h
 
-    joined : (base : Entry) (finding : Finding) (o : Option Node) → node_with base (BinDelta db number full slots) ≡ o → delta_by o finding ≡ Ok n → node_with base (BinDelta db number full slots) ≡ Some n
-    joined base finding None made k = not_ok finding n k
-    joined base finding (Some m) made k = made ∙ ap (λ (x : Node). Some x) (same_ok m n k)
+    joined : (base : Entry) (corruption : Corruption) (o : Option Node) → node_with base (BinDelta db number full slots) ≡ o → delta_by o corruption ≡ Ok n → node_with base (BinDelta db number full slots) ≡ Some n
+    joined base corruption None made k = not_ok corruption n k
+    joined base corruption (Some m) made k = made ∙ ap (λ (x : Node). Some x) (same_ok m n k)
 
     by_base : (o : Option Entry) → delta_on files at db number full (BinDelta db number full slots) o ≡ Ok n →
         (option_and_then (λ base. node_with base (BinDelta db number full slots)) o ≡ Some n) × (n.db ≡ d)

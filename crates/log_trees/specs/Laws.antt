@@ -52,12 +52,12 @@ RootsShow = (es : List Placed) (home : ℕ → Home) (end : ℕ) (roots : List R
 
 -- ---- reading
 
--- right trees are read with no finding
+-- right trees are read with no corruption
 abbrev pub RootsAreRead : Type 0
 RootsAreRead = (files : List ℕ) (es : List Placed) (home : ℕ → Home) (end : ℕ) (roots : List Root) → rises root_before roots ≡ true → AllByRecursion (IsRootAt es home end) roots
     → (numbers : List ℕ) × (read_roots files es end roots ≡ Ok (record { seen = numbers; rows = rows_of_roots es end roots }))
 
--- trees that are read with no finding are right, with some home of their nodes' numbers, and the records that were read are those that the roots give
+-- trees that are read with no corruption are right, with some home of their nodes' numbers, and the records that were read are those that the roots give
 pub record AreRight (es : List Placed) (end : ℕ) (roots : List Root) (walk : Walk) : Type 0 where
   pub home : ℕ → Home
   pub right : AllByRecursion (IsRootAt es home end) roots

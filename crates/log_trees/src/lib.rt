@@ -1,7 +1,7 @@
 //! Trees as a log shows them. It stands on the files of logs and on the images of nodes. Upward it
 //! promises that the records below an image are those that the image shows name by name, that they stay
-//! the same in a longer log, and that trees whose images are right are read with no finding. Its functions
-//! have nothing to do: their contracts are the laws.
+//! the same in a longer log, and that trees whose images are right are read with no corruption. Its
+//! functions have nothing to do: their contracts are the laws.
 #![tactic(auto)]
 
 ghost use Rattle.log_trees.specs.Laws.{SlotsStay, ShowsStay, RootsStay, TreesStay, ShowsAreSlots, RootsShow, RootsAreRead, RootsStayRight, ReadTreesAreRight};
@@ -33,8 +33,8 @@ pub fn trees_show_their_slots()
     ensures roots { RootsShow }
 {}
 
-/// Trees whose images are all there and right are read with no finding, and trees that are read with no
-/// finding are right.
+/// Trees whose images are all there and right are read with no corruption, and trees that are read with
+/// no corruption are right.
 pub fn trees_are_read()
     ensures read { RootsAreRead }
     ensures right { ReadTreesAreRight }
