@@ -1,9 +1,10 @@
 -- One more event at a journal's end.
 use Rattle.std.proofs.Common.{◌≡◌, List, [], ◌∷◌, ◌++◌, Option, refl}
-use Rattle.je_model.specs.declared.answer.Answer.{Answer}
-use Rattle.je_model.specs.declared.event.Event.{Event}
+use Rattle.store_model.specs.declared.answer.Answer.{Answer}
+use Rattle.store_model.specs.declared.event.Event.{Event}
 use Rattle.je_answers.specs.Standing.{Standing}
-use Rattle.je_answers.specs.Events.{IsAnswered, AnswersAsModel, after_event, after_events}
+use Rattle.je_answers.specs.Events.{IsAnswered}
+use Rattle.je_answers.specs.After.{AnswersAsModel, after_event, after_events}
 
 -- where the environment stands after two journals, one after the other
 pub after_events-append : (st : Standing) (before after : List Event) → after_events st (before ++ after) ≡ after_events (after_events st before) after

@@ -1,47 +1,113 @@
--- What a journal of events has committed (Getting Started with Transaction Processing).
-use Rattle.std.specs.Prelude.{◌++◌, ◌∷◌, [], List, Option, None, Some}
-use Rattle.je_model.specs.declared.call.Call.{Call}
-use Rattle.je_model.specs.declared.change.Change.{Change}
-use Rattle.je_model.specs.declared.answer.Answer.{Answer}
-use Rattle.je_model.specs.declared.answer.Answer.TheVariants.{Logged, DiskFault}
-use Rattle.je_model.specs.declared.event.Event.{Event}
-use Rattle.je_model.specs.declared.event.Event.TheVariants.{Call as Called}
-use Rattle.je_model.specs.Evaluation.{evaluation}
-use Rattle.je_model.specs.Answers.{or_refusal}
-use Rattle.je_answers.specs.Standing.{Standing}
+-- What a journal of events has committed, and what it acknowledges (Getting Started with Transaction Processing).
+use Rattle.std.specs.Prelude.{ℕ, ◌++◌, ◌∷◌, [], List, Option, None, Some, Bool, true, false, IsTrue, nat_le}
+use Rattle.std.specs.List.{list_any}
+use Rattle.store_model.specs.declared.durability.Durability.{Durability}
+use Rattle.store_model.specs.declared.durability.Durability.TheVariants.{Sync, WriteNoSync}
+use Rattle.store_model.specs.declared.call.Call.{Call}
+use Rattle.store_model.specs.declared.call.Call.TheVariants.{Commit, Create, Remove, Rename, Truncate, Get, GetBoth, Put, Delete, Count, Cur, CPutCur, CDel, CPut}
+use Rattle.store_model.specs.declared.change.Change.{Change}
+use Rattle.store_model.specs.declared.need.Need.{Need}
+use Rattle.store_model.specs.declared.answer.Answer.{Answer}
+use Rattle.store_model.specs.declared.answer.Answer.TheVariants.{Logged, Durable}
+use Rattle.store_model.specs.declared.event.Event.{Event}
+use Rattle.store_model.specs.declared.event.Event.TheVariants.{Call as Called, Resume, WriteOut, SyncEnd}
+use Rattle.store_model.specs.Evaluation.{evaluation}
+use Rattle.je_answers.specs.declared.active.Active.{Active}
+use Rattle.je_answers.specs.declared.wait.Wait.{Wait}
+use Rattle.je_answers.specs.Standing.{Standing, active_of, wait_of}
+use Rattle.je_answers.specs.Views.{Target, target_of, changes_on, changes_named, outcome_of, needs_in}
 use Rattle.je_answers.specs.Refusals.{early_refusal, late_refusal}
-use Rattle.je_answers.specs.Events.{after_event}
+use Rattle.je_answers.specs.Locking.{first_blocked}
+use Rattle.je_answers.specs.Events.{auto_active, begun, resumed}
+use Rattle.je_answers.specs.After.{Fate, fate_of, after_event}
+use Rattle.je_answers.specs.After.Fate.{Succeeds, IsRefused, Faults}
 
--- changes that were to be logged, where the answer is Logged
-abbrev pub logged : List Change → Answer → List (List Change)
-logged [] answer = []
-logged (change ∷ changes) (Logged commit) = (change ∷ changes) ∷ []
-logged (change ∷ changes) answer = []
+-- ---- what a call is to commit
 
--- the same, where it is Logged or DiskFault
-abbrev pub tried : List Change → Answer → List (List Change)
-tried [] answer = []
-tried (change ∷ changes) (Logged commit) = (change ∷ changes) ∷ []
-tried (change ∷ changes) DiskFault = (change ∷ changes) ∷ []
-tried (change ∷ changes) answer = []
+-- a call on records commits its changes where it is a transaction of its own, and gets its locks
+abbrev pub changes_closed : Bool → List Change → List Change
+changes_closed true changes = changes
+changes_closed false changes = []
 
--- the changes that a call is to log: none where it is refused
-abbrev pub changes_unless : Option Answer → Standing → Call → List Change
-changes_unless (Some refusal) st call = []
-changes_unless None st call = (evaluation call st.store).changes
+abbrev pub changes_taken : Option Need → Standing → Active → Call → Target → List Change
+changes_taken None st a call g = changes_closed a.is_auto (changes_on g (outcome_of st a call g).changes)
+changes_taken (Some n) st a call g = []
 
-abbrev pub changes_of : Standing → Call → List Change
-changes_of st call = changes_unless (or_refusal (early_refusal st call) (late_refusal st call)) st call
+abbrev pub changes_in : Option Target → Standing → Active → Call → List Change
+changes_in None st a call = []
+changes_in (Some g) st a call = changes_taken (first_blocked a.txn (needs_in st a call g) st.locks.at) st a call g
 
--- the own changes of the transaction that an event commits; none where it commits none
+abbrev pub changes_run : Option Active → Standing → ℕ → Call → List Change
+changes_run (Some a) st session call = changes_in (target_of st session call) st a call
+changes_run None st session call = changes_in (target_of st session call) (begun st session) (auto_active st session) call
+
+-- a commit commits the own changes of the session's transaction
+abbrev pub changes_ended : Option Active → Standing → List Change
+changes_ended None st = []
+changes_ended (Some a) st = changes_named st (st.own a.txn.0)
+
+abbrev pub changes_performed : Call → Standing → ℕ → List Change
+changes_performed Commit st session = changes_ended (active_of session st.actives) st
+changes_performed (Create db kind) st session = (evaluation (Create db kind) st.store).changes
+changes_performed (Remove db) st session = (evaluation (Remove db) st.store).changes
+changes_performed (Rename db to) st session = (evaluation (Rename db to) st.store).changes
+changes_performed (Truncate db) st session = (evaluation (Truncate db) st.store).changes
+changes_performed (Get db key rmw) st session = changes_run (active_of session st.actives) st session (Get db key rmw)
+changes_performed (GetBoth db key value rmw) st session = changes_run (active_of session st.actives) st session (GetBoth db key value rmw)
+changes_performed (Put db key value mode) st session = changes_run (active_of session st.actives) st session (Put db key value mode)
+changes_performed (Delete db key) st session = changes_run (active_of session st.actives) st session (Delete db key)
+changes_performed (Count cursor) st session = changes_run (active_of session st.actives) st session (Count cursor)
+changes_performed (Cur cursor motion rmw) st session = changes_run (active_of session st.actives) st session (Cur cursor motion rmw)
+changes_performed (CPutCur cursor value) st session = changes_run (active_of session st.actives) st session (CPutCur cursor value)
+changes_performed (CDel cursor) st session = changes_run (active_of session st.actives) st session (CDel cursor)
+changes_performed (CPut cursor key value mode) st session = changes_run (active_of session st.actives) st session (CPut cursor key value mode)
+changes_performed call st session = []
+
+-- a refused call commits nothing
+abbrev pub changes_evaluated : Option Answer → Standing → ℕ → Call → List Change
+changes_evaluated (Some refusal) st session call = []
+changes_evaluated None st session call = changes_performed call st session
+
+abbrev pub changes_of : Option Answer → Standing → ℕ → Call → List Change
+changes_of (Some refusal) st session call = []
+changes_of None st session call = changes_evaluated (late_refusal st session call) st session call
+
+-- ---- commits
+
+-- changes that were to be committed, where the answer says that they were; and where it says that, or that the disk failed
+abbrev pub logged : List Change → Fate → List (List Change)
+logged [] fate = []
+logged (change ∷ changes) Succeeds = (change ∷ changes) ∷ []
+logged (change ∷ changes) IsRefused = []
+logged (change ∷ changes) Faults = []
+
+abbrev pub tried : List Change → Fate → List (List Change)
+tried [] fate = []
+tried (change ∷ changes) Succeeds = (change ∷ changes) ∷ []
+tried (change ∷ changes) IsRefused = []
+tried (change ∷ changes) Faults = (change ∷ changes) ∷ []
+
+-- the changes of the transaction that an event is to commit; none where it is to commit none
+abbrev pub changes_resumed : Option Wait → Standing → ℕ → List Change
+changes_resumed None st session = []
+changes_resumed (Some w) st session = changes_of (early_refusal (resumed st w) session w.call) (resumed st w) session w.call
+
+abbrev pub changes_by : Standing → Event → List Change
+changes_by st (Called session line call answer victims) = changes_of (early_refusal st session call) st session call
+changes_by st (Resume session line answer victims) = changes_resumed (wait_of session st.waiting) st session
+changes_by st event = []
+
+abbrev pub answer_by : Event → Fate
+answer_by (Called session line call answer victims) = fate_of answer
+answer_by (Resume session line answer victims) = fate_of answer
+answer_by event = Succeeds
+
+-- the own changes of the transaction that an event commits, and of the one whose commit was itself answered DiskFault
 abbrev pub commit_of : Standing → Event → List (List Change)
-commit_of st (Called session line call answer) = logged (changes_of st call) answer
-commit_of st event = []
+commit_of st event = logged (changes_by st event) (answer_by event)
 
--- the same with a transaction whose commit was itself answered DiskFault
 abbrev pub attempt_of : Standing → Event → List (List Change)
-attempt_of st (Called session line call answer) = tried (changes_of st call) answer
-attempt_of st event = []
+attempt_of st event = tried (changes_by st event) (answer_by event)
 
 -- the commits of a journal that goes on from a standing: each the list of its own changes, in order
 abbrev pub commits_of : Standing → List Event → List (List Change)
@@ -52,3 +118,26 @@ commits_of st (event ∷ events) = commit_of st event ++ commits_of (after_event
 abbrev pub attempts_of : Standing → List Event → List (List Change)
 attempts_of st [] = []
 attempts_of st (event ∷ events) = attempt_of st event ++ attempts_of (after_event st event) events
+
+-- ---- acknowledgements
+
+-- whether an event acknowledges the commit with that number: a sync each, and a write-out one that waits for no sync
+abbrev pub acknowledges : Durability → ℕ → Event → Bool
+acknowledges durability commit (SyncEnd (Durable last)) = nat_le commit last
+acknowledges WriteNoSync commit (WriteOut (Durable last)) = nat_le commit last
+acknowledges durability commit event = false
+
+-- what the commits of a session wait for: what its transaction was begun with; a call outside a transaction waits for a sync
+abbrev pub durability_of : Option Active → Durability
+durability_of None = Sync
+durability_of (Some a) = a.durability
+
+abbrev pub ComesLater : Standing → Event → List Event → Type 0
+ComesLater st (Called session line call (Logged commit) victims) later = IsTrue (list_any (acknowledges (durability_of (active_of session st.actives)) commit) later)
+ComesLater st (Resume session line (Logged commit) victims) later = IsTrue (list_any (acknowledges (durability_of (active_of session st.actives)) commit) later)
+ComesLater st event later = Unit {0}
+
+-- each commit that is answered Logged is acknowledged later in the journal
+abbrev pub AllAcknowledged : Standing → List Event → Type 0
+AllAcknowledged st [] = Unit {0}
+AllAcknowledged st (event ∷ events) = ComesLater st event events × AllAcknowledged (after_event st event) events

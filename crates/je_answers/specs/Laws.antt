@@ -1,11 +1,12 @@
 -- What holds of every journal.
 use Rattle.std.specs.Prelude.{◌≡◌, ◌+◌, ◌++◌, ◌∷◌, [], List, Option, option_to_list, length}
-use Rattle.je_model.specs.declared.change.Change.{Change}
-use Rattle.je_model.specs.declared.answer.Answer.{Answer}
-use Rattle.je_model.specs.declared.event.Event.{Event}
-use Rattle.je_model.specs.Store.{store_after}
+use Rattle.store_model.specs.declared.change.Change.{Change}
+use Rattle.store_model.specs.declared.answer.Answer.{Answer}
+use Rattle.store_model.specs.declared.event.Event.{Event}
+use Rattle.store_model.specs.Store.{store_after}
 use Rattle.je_answers.specs.Standing.{Standing}
-use Rattle.je_answers.specs.Events.{IsAnswered, AnswersAsModel, after_events}
+use Rattle.je_answers.specs.Events.{IsAnswered}
+use Rattle.je_answers.specs.After.{AnswersAsModel, after_events}
 use Rattle.je_answers.specs.Journal.{commits_of, attempts_of}
 
 -- a journal that answers as the model, and one more event that does

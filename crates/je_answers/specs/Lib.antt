@@ -1,5 +1,9 @@
 pub mod Standing
+pub mod Views
 pub mod Refusals
+pub mod Locking
 pub mod Events
+pub mod After
 pub mod Journal
+pub mod Alone
 pub mod Laws

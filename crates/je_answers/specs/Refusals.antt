@@ -1,26 +1,145 @@
 -- The order in which a call is refused before it is evaluated (this project's own).
-use Rattle.std.specs.Prelude.{ℕ, Option, None, Some, nat_lt, if◌then◌else◌}
-use Rattle.je_model.specs.declared.store.TheConstants.{LAST_TXN}
-use Rattle.je_model.specs.declared.call.Call.{Call}
-use Rattle.je_model.specs.declared.answer.Answer.{Answer}
-use Rattle.je_model.specs.declared.answer.Answer.TheVariants.{IdsEnded, Invalid}
-use Rattle.je_model.specs.declared.answer.Fault.{Fault}
-use Rattle.je_model.specs.Answers.{or_refusal, catalog_refusal, length_refusal}
-use Rattle.je_answers.specs.Standing.{Standing}
+use Rattle.std.specs.Prelude.{ℕ, List, Option, None, Some, nat_lt, length, if◌then◌else◌}
+use Rattle.std.specs.Option.{is_some}
+use Rattle.je_order.specs.declared.txn_id.TxnId.{TxnId}
+use Rattle.je_order.specs.declared.limits.TheConstants.{KEY_LIMIT, VALUE_LIMIT}
+use Rattle.store_model.specs.declared.store.TheConstants.{LAST_TXN, DUP_LIMIT}
+use Rattle.store_model.specs.declared.kind.Kind.{Kind}
+use Rattle.store_model.specs.declared.kind.Kind.TheVariants.{Plain, Dup}
+use Rattle.store_model.specs.declared.put_mode.PutMode.TheVariants.{NoDupData}
+use Rattle.store_model.specs.declared.motion.Motion.{Motion}
+use Rattle.store_model.specs.declared.motion.Motion.TheVariants.{Key, Range, Both, BothRange}
+use Rattle.store_model.specs.declared.call.Call.{Call}
+use Rattle.store_model.specs.declared.call.Call.TheVariants.{Begin, Commit, Abort, Create, Remove, Rename, Truncate, Get, GetBoth, Put, Delete, Open, Close, Dup as Duplicate, Count, Cur, CPutCur, CDel, CPut}
+use Rattle.store_model.specs.declared.place.Place.{Place}
+use Rattle.store_model.specs.declared.answer.Answer.{Answer}
+use Rattle.store_model.specs.declared.answer.Answer.TheVariants.{MustAbort, SessionWaits, NoTxn, InTxn, NoCursor, NotOnDuplicates, OnlyOnDuplicates, IdsEnded, Invalid}
+use Rattle.store_model.specs.declared.answer.Fault.{Fault}
+use Rattle.store_model.specs.Store.{database_of}
+use Rattle.store_model.specs.Refusals.{or_refusal, creation_refusal, access_refusal, taken_refusal, too_long}
+use Rattle.je_answers.specs.declared.active.Active.{Active}
+use Rattle.je_answers.specs.Standing.{Standing, active_of, place_at}
+use Rattle.je_answers.specs.Views.{Target, target_of}
+
+-- ---- the refusals that allocate no transaction number
 
 -- after a fault every call is Invalid
 abbrev pub fault_refusal : Option Fault → Option Answer
 fault_refusal None = None
 fault_refusal (Some first) = Some (Invalid first)
 
--- the refusals that allocate no transaction number
-abbrev pub early_refusal : Standing → Call → Option Answer
-early_refusal st call = fault_refusal st.fault
+-- an earlier call of the session waits
+abbrev pub waits_refusal : Standing → Option Active → Option Answer
+waits_refusal st None = None
+waits_refusal st (Some a) = if is_some (st.locks.pending a.txn) then Some SessionWaits else None
+
+-- a victim can only abort
+abbrev pub victim_refusal : Call → Option (List TxnId) → Option Answer
+victim_refusal call None = None
+victim_refusal Abort (Some cycle) = None
+victim_refusal call (Some cycle) = Some (MustAbort cycle)
+
+abbrev pub abort_refusal : Call → Option Active → Option Answer
+abort_refusal call None = None
+abort_refusal call (Some a) = victim_refusal call a.deadlock
+
+-- calls that are only made inside a transaction, or only outside
+abbrev pub txn_refusal : Call → Option Active → Option Answer
+txn_refusal (Begin level durability wait) (Some a) = Some (InTxn a.txn)
+txn_refusal (Create db kind) (Some a) = Some (InTxn a.txn)
+txn_refusal (Remove db) (Some a) = Some (InTxn a.txn)
+txn_refusal (Rename db to) (Some a) = Some (InTxn a.txn)
+txn_refusal (Truncate db) (Some a) = Some (InTxn a.txn)
+txn_refusal Commit None = Some NoTxn
+txn_refusal Abort None = Some NoTxn
+txn_refusal (Open cursor db) None = Some NoTxn
+txn_refusal call active = None
+
+abbrev pub early_refusal : Standing → ℕ → Call → Option Answer
+early_refusal st session call =
+    let active = active_of session st.actives in
+    or_refusal (fault_refusal st.fault) (or_refusal (waits_refusal st active) (or_refusal (abort_refusal call active) (txn_refusal call active)))
+
+-- ---- the refusals behind those
 
 -- a call outside a transaction is one of its own, and wants a number
-abbrev pub number_refusal : ℕ → Option Answer
-number_refusal last = if nat_lt last LAST_TXN then None else Some IdsEnded
+abbrev pub number_refusal : ℕ → Option Active → Option Answer
+number_refusal last None = if nat_lt last LAST_TXN then None else Some IdsEnded
+number_refusal last (Some a) = None
 
--- the refusals behind those: no number is left, then by the catalog, then for a length
-abbrev pub late_refusal : Standing → Call → Option Answer
-late_refusal st call = or_refusal (number_refusal st.last_txn) (or_refusal (catalog_refusal call st.store) (length_refusal call))
+-- the database or the cursor is not there
+abbrev pub database_refusal : Standing → List ℕ → Option Answer
+database_refusal st db = access_refusal (is_some (database_of db st.store))
+
+abbrev pub cursor_refusal : ℕ → List Place → Option Answer
+cursor_refusal cursor places = if is_some (place_at cursor places) then None else Some NoCursor
+
+abbrev pub there_refusal : Standing → ℕ → Call → Option Answer
+there_refusal st session (Remove db) = database_refusal st db
+there_refusal st session (Rename db to) = database_refusal st db
+there_refusal st session (Truncate db) = database_refusal st db
+there_refusal st session (Get db key rmw) = database_refusal st db
+there_refusal st session (GetBoth db key value rmw) = database_refusal st db
+there_refusal st session (Put db key value mode) = database_refusal st db
+there_refusal st session (Delete db key) = database_refusal st db
+there_refusal st session (Open cursor db) = database_refusal st db
+there_refusal st session (Close cursor) = cursor_refusal cursor (st.places session)
+there_refusal st session (Duplicate cursor to) = cursor_refusal cursor (st.places session)
+there_refusal st session (Count cursor) = cursor_refusal cursor (st.places session)
+there_refusal st session (Cur cursor motion rmw) = cursor_refusal cursor (st.places session)
+there_refusal st session (CPutCur cursor value) = cursor_refusal cursor (st.places session)
+there_refusal st session (CDel cursor) = cursor_refusal cursor (st.places session)
+there_refusal st session (CPut cursor key value mode) = cursor_refusal cursor (st.places session)
+there_refusal st session call = None
+
+-- a name or a cursor's number is taken, or there are too many databases
+abbrev pub name_refusal : Standing → ℕ → Call → Option Answer
+name_refusal st session (Create db kind) = creation_refusal (is_some (database_of db st.store)) (length st.store.databases)
+name_refusal st session (Rename db to) = taken_refusal (is_some (database_of to st.store))
+name_refusal st session (Open cursor db) = taken_refusal (is_some (place_at cursor (st.places session)))
+name_refusal st session (Duplicate cursor to) = taken_refusal (is_some (place_at to (st.places session)))
+name_refusal st session call = None
+
+-- the call is none for a database of its kind
+abbrev pub kind_refusal : Call → Kind → Option Answer
+kind_refusal (CPutCur cursor value) Dup = Some NotOnDuplicates
+kind_refusal (Put db key value NoDupData) Plain = Some OnlyOnDuplicates
+kind_refusal (CPut cursor key value NoDupData) Plain = Some OnlyOnDuplicates
+kind_refusal call kind = None
+
+-- a key or data past its limit
+abbrev pub data_limit : Kind → ℕ
+data_limit Plain = VALUE_LIMIT
+data_limit Dup = DUP_LIMIT
+
+abbrev pub pair_refusal : Kind → List ℕ → List ℕ → Option Answer
+pair_refusal kind key value = or_refusal (too_long KEY_LIMIT key) (too_long (data_limit kind) value)
+
+abbrev pub motion_refusal : Motion → Kind → Option Answer
+motion_refusal (Key key) kind = too_long KEY_LIMIT key
+motion_refusal (Range key) kind = too_long KEY_LIMIT key
+motion_refusal (Both key value) kind = pair_refusal kind key value
+motion_refusal (BothRange key value) kind = pair_refusal kind key value
+motion_refusal motion kind = None
+
+abbrev pub size_refusal : Call → Kind → Option Answer
+size_refusal (Get db key rmw) kind = too_long KEY_LIMIT key
+size_refusal (GetBoth db key value rmw) kind = pair_refusal kind key value
+size_refusal (Put db key value mode) kind = pair_refusal kind key value
+size_refusal (Delete db key) kind = too_long KEY_LIMIT key
+size_refusal (Cur cursor motion rmw) kind = motion_refusal motion kind
+size_refusal (CPutCur cursor value) kind = too_long (data_limit kind) value
+size_refusal (CPut cursor key value mode) kind = pair_refusal kind key value
+size_refusal call kind = None
+
+-- what its database refuses
+abbrev pub target_refusal : Call → Option Target → Option Answer
+target_refusal call None = None
+target_refusal call (Some g) = or_refusal (kind_refusal call g.database.kind) (size_refusal call g.database.kind)
+
+-- no number is left; then the database or the cursor is not there; then its name is taken; then what its database refuses
+abbrev pub late_refusal : Standing → ℕ → Call → Option Answer
+late_refusal st session call =
+    or_refusal (number_refusal st.last_txn (active_of session st.actives)) (
+    or_refusal (there_refusal st session call) (or_refusal (name_refusal st session call) (target_refusal call (target_of st session call)))
+    )

@@ -1,13 +1,15 @@
 -- Where an environment stands between two events.
-use Rattle.std.specs.Prelude.{ℕ, ◌+◌, ◌∷◌, [], List, Option, if◌then◌else◌}
+use Rattle.std.specs.Prelude.{ℕ, ◌+◌, ◌==◌, ◌∷◌, [], List, Option, Bool, not, find, filter, if◌then◌else◌}
 use Rattle.je_order.specs.declared.txn_id.TxnId.{TxnId}
-use Rattle.je_model.specs.declared.store.Store.{Store}
-use Rattle.je_model.specs.declared.change.Change.{Change}
-use Rattle.je_model.specs.declared.change.Change.TheVariants.{Set, Unset, Make, Remove, Rename, Empty}
-use Rattle.je_model.specs.declared.record_change.RecordChange.{RecordChange}
-use Rattle.je_model.specs.declared.answer.Fault.{Fault}
+use Rattle.store_model.specs.declared.store.Store.{Store}
+use Rattle.store_model.specs.declared.store.Database.{Database}
+use Rattle.store_model.specs.declared.change.Change.{Change}
+use Rattle.store_model.specs.declared.change.Change.TheVariants.{Set, Unset, Make, Remove, Rename, Empty}
+use Rattle.store_model.specs.declared.record_change.RecordChange.{RecordChange}
+use Rattle.store_model.specs.declared.place.Place.{Place}
+use Rattle.store_model.specs.declared.answer.Fault.{Fault}
 use Rattle.je_order.specs.Order.{is_same_bytes}
-use Rattle.je_model.specs.Answers.{made_by}
+use Rattle.store_model.specs.Refusals.{made_by}
 use Rattle.lock_table.specs.declared.lock.Lock.{Lock}
 use Rattle.lock_table.specs.declared.record_id.RecordId.{RecordId}
 use Rattle.je_answers.specs.declared.active.Active.{Active}
@@ -27,10 +29,35 @@ pub record Standing : Type 0 where
   pub commits : ℕ  -- how many transactions with changes were committed since opening
   pub begun : Option ℕ  -- how many of them when the sync under way began
   pub fault : Option Fault  -- the first fault, after which each call is Invalid
+  pub in_checkpoint : Bool  -- whether a checkpoint is under way
   pub actives : List Active  -- the transactions under way, in the order of their numbers
   pub own : ℕ → List (ℕ × RecordChange)  -- the own changes of each of them, in order, with the database's number
+  pub places : ℕ → List Place  -- the open cursors of each session
   pub waiting : List Wait  -- the calls that wait, in the order in which they began to
   pub locks : LockState  -- who holds what, and who waits
+
+-- ---- what is found in it
+
+-- a session's transaction, a session's waiting call, the calls without it, a cursor by its number
+abbrev pub active_of : ℕ → List Active → Option Active
+active_of session actives = find (λ a. a.session == session) actives
+
+abbrev pub wait_of : ℕ → List Wait → Option Wait
+wait_of session waiting = find (λ w. w.session == session) waiting
+
+abbrev pub without_wait : ℕ → List Wait → List Wait
+without_wait session waiting = filter (λ w. not (w.session == session)) waiting
+
+abbrev pub place_at : ℕ → List Place → Option Place
+place_at cursor places = find (λ p. p.cursor == cursor) places
+
+-- the database of a number
+abbrev pub database_at : ℕ → Standing → Option Database
+database_at number st = find (λ d. st.numbers d.name == number) st.store.databases
+
+-- a function, with another value at one number
+abbrev pub with_at : {X : Type 0} → ℕ → X → (ℕ → X) → ℕ → X
+with_at n x f m = if m == n then x else f m
 
 -- ---- databases and their numbers
 

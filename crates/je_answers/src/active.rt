@@ -1,10 +1,10 @@
 // A transaction under way.
-use je_model::{Durability, Isolation};
 use je_order::{List, TxnId};
+use store_model::{Durability, Isolation};
 
 /// A transaction under way: its number, the session that it is of (1 to 64), and how it was begun. Its
 /// own changes stand beside it, by its number.
-#[derive(Debug, Drop)]
+#[derive(Drop)]
 pub struct Active {
     pub txn: TxnId,
     pub session: u8,

@@ -1,10 +1,10 @@
 // A call that waits.
-use je_model::Call;
 use je_order::TxnId;
+use store_model::Call;
 
 /// A call that waits for a lock: the session and the line of the script that gave it, the call, and its
 /// transaction.
-#[derive(Debug, Drop)]
+#[derive(Drop)]
 pub struct Wait {
     pub session: u8,
     pub line: u32,

@@ -1,0 +1,19 @@
+use Rattle.std.proofs.Common.{◌∙◌, ◌++◌, List, sym, ap, is_eq}
+use Rattle.je_order.specs.Order.{name_cmp}
+use Rattle.store_model.specs.declared.need.Need.{Need}
+use Rattle.store_model.specs.Store.{Pair, name_of}
+use Rattle.store_model.specs.Reads.{at_name}
+use Rattle.store_model.specs.Needs.{insert_needs}
+use Rattle.store_eval.proofs.Taken.{name_is_old, name_is_new, stays}
+use Rattle.store_eval.proofs.needing.push_insert.Goals as goal
+
+pub returns-then-has_record : goal.returns-then-has_record
+returns-then-has_record c =
+    stays c.args.needs.now.items (insert_needs c.args.db (at_name c.args.kind c.args.n.now c.args.pairs.now) c.args.next)
+    (name_is_old c.args.db c.args.next (λ (p : Pair). is_eq (name_cmp (name_of c.args.kind p) c.args.n.now)) c.args.pairs.now (sym c.has_record.ensures ∙ c.if-has_record.true))
+
+pub returns : goal.returns
+returns c =
+    c.in_ok-push.ensures.items
+    ∙ ap (λ (l : List Need). c.args.needs.now.items ++ l)
+    (sym (name_is_new c.args.db c.args.next (λ (p : Pair). is_eq (name_cmp (name_of c.args.kind p) c.args.n.now)) c.args.pairs.now (sym c.has_record.ensures ∙ c.if-has_record.false)))

@@ -1,0 +1,18 @@
+use Rattle.std.proofs.Common.{◌≡◌, ◌∙◌, Bool, Some, None, sym, subst, is_eq}
+use Rattle.je_order.specs.Order.{name_cmp}
+use Rattle.store_model.specs.declared.answer.Answer.TheVariants.{KeyEmpty}
+use Rattle.store_model.specs.Store.{Pair, name_of}
+use Rattle.store_model.specs.Reads.{at_name}
+use Rattle.store_model.specs.Records.{empty_if}
+use Rattle.store_eval.proofs.Taken.{record_there, record_gone}
+use Rattle.store_eval.proofs.records.empty_if.Goals as goal
+
+pub returns-then-has_record : goal.returns-then-has_record
+returns-then-has_record c =
+    subst (λ (b : Bool). None ≡ empty_if b (at_name c.args.kind c.args.n.now c.args.pairs.now)) (sym c.if-not-needed.false)
+    (record_there (λ (p : Pair). is_eq (name_cmp (name_of c.args.kind p) c.args.n.now)) c.args.pairs.now (sym c.has_record.ensures ∙ c.if-has_record.true))
+
+pub returns : goal.returns
+returns c =
+    subst (λ (b : Bool). Some KeyEmpty ≡ empty_if b (at_name c.args.kind c.args.n.now c.args.pairs.now)) (sym c.if-not-needed.false)
+    (record_gone (λ (p : Pair). is_eq (name_cmp (name_of c.args.kind p) c.args.n.now)) c.args.pairs.now (sym c.has_record.ensures ∙ c.if-has_record.false))

@@ -1,0 +1,2 @@
+-- Every change leaves a right store right.
+pub mod StoreLaws

@@ -1,0 +1,6 @@
+pub mod Store
+pub mod Reads
+pub mod Records
+pub mod Needs
+pub mod Evaluation
+pub mod Refusals
