@@ -5,20 +5,16 @@ import random
 from collections import namedtuple
 
 SEED = 20_261_126
-MOST_BYTES = 16_777_216
-MOST_LINES = 1_000_000
+MOST_BYTES, MOST_LINES = 16_777_216, 1_000_000  # of a script
 
 Record = namedtuple("Record", "key data")
 
 
 class Script:
-    """A script file, and the lines of its report; of the last line, what must stand in it."""
+    """A script file, the answers that its report must have, and what must stand at the report's end."""
 
     def __init__(self, work, name, lines, answers, ending):
-        self.name = name
-        self.path = os.path.join(work, name)
-        self.answers = answers
-        self.ending = ending
+        self.path, self.answers, self.ending = os.path.join(work, name), answers, ending
         with open(self.path, "w", encoding="ascii", newline="\n") as out:
             out.writelines(line + "\n" for line in lines)
 
@@ -46,50 +42,34 @@ def records_of(count):
     return [Record(f"{key:016x}", f"{draw.getrandbits(256):064x}") for key in keys]
 
 
-def cut(lines):
-    """Pieces of a list of lines, each short enough for one script."""
-    piece, size = [], 0
-    for line in lines:
-        if piece and (size + len(line) + 1 > MOST_BYTES or len(piece) == MOST_LINES):
-            yield piece
-            piece, size = [], 0
-        piece.append(line)
+def cut(work, name, lines, answers, ending):
+    """Scripts of these lines, each short enough; `ending` gives a script's ending from the lines so far."""
+    scripts, first, size = [], 0, 0
+    for at, line in enumerate(lines):
+        if size + len(line) + 1 > MOST_BYTES or at - first == MOST_LINES:
+            scripts.append(Script(work, f"{name}-{len(scripts)}", lines[first:at], answers[first:at], ending(at)))
+            first, size = at, 0
         size += len(line) + 1
-    yield piece
-
-
-def ending_of(databases, records):
-    return f" databases {databases} records {records}"
+    return [*scripts, Script(work, f"{name}-{len(scripts)}", lines[first:], answers[first:], ending(len(lines)))]
 
 
 def empty_script(work):
-    """No lines. What it ends with depends on the folder."""
     return Script(work, "empty", [], [], "")
 
 
 def create_scripts(work, names):
-    lines = [f"s1 create {name} plain" for name in names]
-    return [Script(work, f"create-{len(names)}", lines, ["ok"] * len(lines), ending_of(len(names), 0))]
+    return cut(work, f"create-{len(names)}", [f"s1 create {it} plain" for it in names], ["ok"] * len(names), lambda made: f" databases {made} records 0")
 
 
 def put_scripts(work, records, names):
-    """Each record once, in a database drawn by its place in the list, so that databases take turns."""
-    lines = [f"s1 put {names[at % len(names)]} {record.key} {record.data}" for at, record in enumerate(records)]
-    scripts, done = [], 0
-    for piece in cut(lines):
-        done += len(piece)
-        name = f"put-{len(records)}-{len(names)}-{len(scripts)}"
-        scripts.append(Script(work, name, piece, ["ok"] * len(piece), ending_of(len(names), done)))
-    return scripts
+    """Each record once; databases take turns."""
+    lines = [f"s1 put {names[at % len(names)]} {it.key} {it.data}" for at, it in enumerate(records)]
+    return cut(work, f"put-{len(records)}-{len(names)}", lines, ["ok"] * len(lines), lambda made: f" databases {len(names)} records {made}")
 
 
 def get_scripts(work, records, name):
     """Each record read once, in another random order."""
     asked = list(records)
     random.Random(SEED + 1).shuffle(asked)
-    scripts, done = [], 0
-    for piece in cut([f"s1 get {name} {record.key}" for record in asked]):
-        answers = [f"ok {record.key} {record.data}" for record in asked[done:done + len(piece)]]
-        done += len(piece)
-        scripts.append(Script(work, f"get-{len(records)}-{len(scripts)}", piece, answers, ending_of(1, len(records))))
-    return scripts
+    lines, answers = [f"s1 get {name} {it.key}" for it in asked], [f"ok {it.key} {it.data}" for it in asked]
+    return cut(work, f"get-{len(records)}", lines, answers, lambda _: f" databases 1 records {len(records)}")
