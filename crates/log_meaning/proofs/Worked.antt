@@ -4,5 +4,5 @@ use Rattle.db_catalog.specs.Catalog as Catalog
 use Rattle.log_meaning.specs.Worked.{IsWorked}
 
 pub worked : IsWorked
-unfolding Catalog.record_in Catalog.kind_in
+unfolding Catalog.db_record_in Catalog.kind_in
 worked = record { right = refl; twice = refl; higher = refl; nothing_there = refl; no_file = refl }
