@@ -101,7 +101,7 @@ pub record HasRest (reads : Files) (last : LastFile) (log : Log) : Type 0 where
   pub within : last.end ≤ length bytes
   pub front : (entries ≡ []) ⊎ (take last.end bytes ≡ file_bytes last.file.0 entries)
 
-rest_parts : (reads : Files) (front : List File) (bytes : List ℕ) (last : LastFile) (prefix : ValidPrefix) → run.end ≡ last.end →
+rest_parts : (reads : Files) (front : List File) (bytes : List ℕ) (last : LastFile) (run : ValidPrefix) → run.end ≡ last.end →
     AllByRecursion (λ (file : File). AreBytes file.1) (front ++ (last.file.0, bytes) ∷ []) → IsStrictlyIncreasing (numbers (front ++ (last.file.0, bytes) ∷ [])) → last.file.0 < 2 ^ 32 →
     corruption_in (front ++ (last.file.0, bytes) ∷ []) ≡ None → scan_of last.file.0 bytes ≡ Prefix run → last.len ≡ length bytes →
     AreFiles reads (front ++ (last.file.0, bytes) ∷ []) → HasRest reads last (log_in (front ++ (last.file.0, bytes) ∷ []))
@@ -293,7 +293,7 @@ all_runs (file ∷ held) none =
     (by_found (scan_of file.0 file.1) refl parts.0, all_runs held parts.1)
   where
     by_found : (found : FileScan) → scan_of file.0 file.1 ≡ found → corruption_at (length held == 0) file.0 (length file.1) found ≡ None → HasPrefix file
-    by_found (Prefix run) is h = record { run = run; found = is }
+    by_found (Prefix run) is h = record { prefix = run; found = is }
     by_found (OtherVersion version) is h = cc
     by_found NoHeader is h = cc
 
@@ -303,7 +303,7 @@ prefixes_in [] f all = empty_prefix f []
 prefixes_in (file ∷ held) f all = by_file (file.0 == f) refl (prefixes_in held f all.1)
   where
     here : HasPrefix file → HoldsPrefix file.0 (entries_scanned (scan_of file.0 file.1)) file.1
-    here is = record { run = is.run; found = is.found; more = []; is = ap entries_scanned is.found ∙ sym (append-nil is.run.entries) }
+    here is = record { prefix = is.prefix; found = is.found; more = []; is = ap entries_scanned is.found ∙ sym (append-nil is.prefix.entries) }
 
     by_file : (b : Bool) → (file.0 == f) ≡ b → HoldsPrefix f (unwrap_or (lookup (λ n. n == f) (log_in held)) []) (unwrap_or (lookup (λ n. n == f) held) []) →
         HoldsPrefix f (unwrap_or (cond b (Some (entries_scanned (scan_of file.0 file.1))) (lookup (λ n. n == f) (log_in held))) []) (unwrap_or (cond b (Some file.1) (lookup (λ n. n == f) held)) [])

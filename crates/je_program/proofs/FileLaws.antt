@@ -94,7 +94,7 @@ lookup-none (file ∷ front) f none = let no : (file.0 == f) ≡ false = ne_eqb 
 -- ---- the last file
 
 -- a first entry gives a run only with a header
-first_by : (other version file : Bool) (n : ℕ) (es : List Entry) (prefix : ValidPrefix) →
+first_by : (other version file : Bool) (n : ℕ) (es : List Entry) (run : ValidPrefix) →
     cond other Damaged (cond version (VersionUnknown n) (cond file (Prefix (prefix_with es)) Damaged)) ≡ Prefix run → 0 < run.end
 first_by true version file n es run found = cc
 first_by false true file n es run found = cc
@@ -114,17 +114,17 @@ last_found (Prefix r) = r.last
 last_found found = 0
 
 -- a run without a header has no entries
-headless_by : (f : ℕ) (bytes : List ℕ) (d : Decoded) (prefix : ValidPrefix) → scan_by f bytes d ≡ Prefix run → run.end ≡ 0 → (run.entries ≡ []) × (run.last ≡ 0)
+headless_by : (f : ℕ) (bytes : List ℕ) (d : Decoded) (run : ValidPrefix) → scan_by f bytes d ≡ Prefix run → run.end ≡ 0 → (run.entries ≡ []) × (run.last ≡ 0)
 headless_by f bytes (NotWhole torn) run found none = (ap entries_scanned (sym found), ap last_found (sym found))
 headless_by f bytes (Whole (FileHeader version file) prev len) run found none =
     let some = first_by (not (prev == 0)) (not (version == 1)) (file == f) version (entries_behind bytes) run found in absurd (omega (arith, some, none))
 headless_by f bytes (Whole entry prev len) run found none = (ap entries_scanned (sym found), ap last_found (sym found))
 
-pub headless : (f : ℕ) (bytes : List ℕ) (prefix : ValidPrefix) → scan_of f bytes ≡ Prefix run → run.end ≡ 0 → (run.entries ≡ []) × (run.last ≡ 0)
+pub headless : (f : ℕ) (bytes : List ℕ) (run : ValidPrefix) → scan_of f bytes ≡ Prefix run → run.end ≡ 0 → (run.entries ≡ []) × (run.last ≡ 0)
 headless f bytes run found none = headless_by f bytes (decoded bytes) run found none
 
 -- the entries of a run may stand in a file
-run_entries : (f : ℕ) (bytes : List ℕ) (prefix : ValidPrefix) (b : Bool) → (run.end == 0) ≡ b → AreEncodedBack → AreBytes bytes → scan_of f bytes ≡ Prefix run → AreFileEntries run.entries
+run_entries : (f : ℕ) (bytes : List ℕ) (run : ValidPrefix) (b : Bool) → (run.end == 0) ≡ b → AreEncodedBack → AreBytes bytes → scan_of f bytes ≡ Prefix run → AreFileEntries run.entries
 run_entries f bytes run true e back are found =
     subst (λ (es : List Entry). AreFileEntries es) (sym (headless f bytes run found (eqb-true run.end 0 e)).0) (record { entries = tt; follow = tt; ends = omega arith })
 run_entries f bytes run false e back are found = (back f bytes run are found (grind (arith, nat_tests))).entries
@@ -132,7 +132,7 @@ run_entries f bytes run false e back are found = (back f bytes run are found (gr
 -- ---- all of it
 
 -- the log of these files and a last one
-pub log_is : (front : List File) (f : ℕ) (bytes : List ℕ) (prefix : ValidPrefix) → scan_of f bytes ≡ Prefix run → log_in (front ++ (f, bytes) ∷ []) ≡ log_in front ++ (f, run.entries) ∷ []
+pub log_is : (front : List File) (f : ℕ) (bytes : List ℕ) (run : ValidPrefix) → scan_of f bytes ≡ Prefix run → log_in (front ++ (f, bytes) ∷ []) ≡ log_in front ++ (f, run.entries) ∷ []
 log_is front f bytes run found = log_in-append front ((f, bytes) ∷ []) ∙ ap (λ (es : List Entry). log_in front ++ (f, es) ∷ []) (ap entries_scanned found)
 
 -- each file of a log may stand there
@@ -153,7 +153,7 @@ all_last P [] x all = all.0
 all_last P (y ∷ xs) x all = all_last P xs x all.1
 
 -- what was read is a log: its numbers rise, each file has entries that may stand there, and it ends in its last file
-pub is_log : (front : List File) (f : ℕ) (bytes : List ℕ) (prefix : ValidPrefix) → AreEncodedBack → AllByRecursion IsFile (front ++ (f, bytes) ∷ []) → AreFull front → scan_of f bytes ≡ Prefix run →
+pub is_log : (front : List File) (f : ℕ) (bytes : List ℕ) (run : ValidPrefix) → AreEncodedBack → AllByRecursion IsFile (front ++ (f, bytes) ∷ []) → AreFull front → scan_of f bytes ≡ Prefix run →
     IsStrictlyIncreasing (map (λ (file : File). file.0) (front ++ (f, bytes) ∷ [])) → IsLog (log_in front ++ (f, run.entries) ∷ [])
 is_log front f bytes run back is full found rising = record {
   rising = subst (λ ns. IsStrictlyIncreasing ns) (sym (ap (λ (l : Log). map (λ (file : ℕ × List Entry). file.0) l) (sym (log_is front f bytes run found)) ∙ numbers_of-log_in (front ++ (f, bytes) ∷ []))) rising;
@@ -173,7 +173,7 @@ none_before [] f none = tt
 none_before (file ∷ front) f none = (none.0, none_before front f none.1)
 
 -- with the rest of the last file cut off, the files are the log's, where it has a header
-pub reads_as : (front : List File) (f : ℕ) (bytes : List ℕ) (prefix : ValidPrefix) (reads after : Files) → AreEncodedBack → AllByRecursion IsFile (front ++ (f, bytes) ∷ []) → AreFull front →
+pub reads_as : (front : List File) (f : ℕ) (bytes : List ℕ) (run : ValidPrefix) (reads after : Files) → AreEncodedBack → AllByRecursion IsFile (front ++ (f, bytes) ∷ []) → AreFull front →
     scan_of f bytes ≡ Prefix run → NoneIs f front → ((g : ℕ) → lookup (λ n. n == g) (front ++ (f, bytes) ∷ []) ≡ reads g) → 0 < run.end → after f ≡ Some (take run.end bytes) →
     ((g : ℕ) → g ≢ f → after g ≡ reads g) → (g : ℕ) → after g ≡ files_of_log (log_in front ++ (f, run.entries) ∷ []) g
 reads_as front f bytes run reads after back is full found none each has here others g = by_case (g == f) refl

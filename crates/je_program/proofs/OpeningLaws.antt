@@ -172,7 +172,7 @@ settled_other before after last g settled other = by_case (nat_lt last.end last.
     by_case false e = at ∙ cond-false (nat_lt last.end last.len) _ _ e
 
 -- where the log of files ends, of which the last one is this
-ends_at : (front : List File) (bytes : List ℕ) (last : LastFile) (prefix : ValidPrefix) → run ≡ record { entries = run.entries; last = last.last; end = last.end } → AreBytes bytes →
+ends_at : (front : List File) (bytes : List ℕ) (last : LastFile) (run : ValidPrefix) → run ≡ record { entries = run.entries; last = last.last; end = last.end } → AreBytes bytes →
     scan_of last.file.0 bytes ≡ Prefix run → EndsAt (log_in (front ++ (last.file.0, bytes) ∷ [])) last.file.0 (log_start_of (Some last)).offset last.last
 ends_at front bytes last run is are found = record {
   before = log_in front;
@@ -195,7 +195,7 @@ ends_at front bytes last run is are found = record {
   by_end false e =
       let some : 0 < run.end = (let is_end = end_is in grind (arith, nat_tests)) in
       let encoded = are_encoded_back last.file.0 bytes run are found some in
-      cond-false (last.end == 0) header_size last.end e ∙ sym end_is ∙ ap (λ (r : ValidPrefix). r.end) encoded.run_is
+      cond-false (last.end == 0) header_size last.end e ∙ sym end_is ∙ ap (λ (r : ValidPrefix). r.end) encoded.prefix_is
 
   by_last : (b : Bool) → (last.end == 0) ≡ b → last.last ≡ last_from 0 header_size run.entries
   by_last true e =
@@ -204,14 +204,14 @@ ends_at front bytes last run is are found = record {
   by_last false e =
       let some : 0 < run.end = (let is_end = end_is in grind (arith, nat_tests)) in
       let encoded = are_encoded_back last.file.0 bytes run are found some in
-      sym offset ∙ ap (λ (r : ValidPrefix). r.last) encoded.run_is
+      sym offset ∙ ap (λ (r : ValidPrefix). r.last) encoded.prefix_is
 
 pub all_last : {A : Type 0} (P : A → Type 0) (xs : List A) (x : A) → AllByRecursion P (xs ++ x ∷ []) → P x
 all_last P [] x all = all.0
 all_last P (y ∷ xs) x all = all_last P xs x all.1
 
 -- the log that is gone on from, where there is a last file
-starts_parts : (observable : Bool) (reads after : Files) (front : List File) (bytes : List ℕ) (last : LastFile) (prefix : ValidPrefix) → run ≡ record { entries = run.entries; last = last.last; end = last.end } →
+starts_parts : (observable : Bool) (reads after : Files) (front : List File) (bytes : List ℕ) (last : LastFile) (run : ValidPrefix) → run ≡ record { entries = run.entries; last = last.last; end = last.end } →
     AllByRecursion (λ (file : File). AreBytes file.1) (front ++ (last.file.0, bytes) ∷ []) → IsStrictlyIncreasing (numbers (front ++ (last.file.0, bytes) ∷ [])) → last.file.0 < 2 ^ 32 →
     corruption_in (front ++ (last.file.0, bytes) ∷ []) ≡ None → scan_of last.file.0 bytes ≡ Prefix run → last.len ≡ length bytes →
     (observable ≡ true → AreFiles reads (front ++ (last.file.0, bytes) ∷ [])) → (observable ≡ true → HasTornTailCut reads after (Some last)) →
@@ -333,7 +333,7 @@ last_corruption [] last none = (or_parts (corruption_at true last.0 (length last
 last_corruption (file ∷ before) last none =
     last_corruption before last (or_parts (corruption_at (length (before ++ last ∷ []) == 0) file.0 (length file.1) (scan_of file.0 file.1)) (corruption_in (before ++ last ∷ [])) none).1
 
-small_by : (f len : ℕ) (found : FileScan) (prefix : ValidPrefix) → found ≡ Prefix run → corruption_at true f len found ≡ None → f ≤ LAST_FILE
+small_by : (f len : ℕ) (found : FileScan) (run : ValidPrefix) → found ≡ Prefix run → corruption_at true f len found ≡ None → f ≤ LAST_FILE
 small_by f len found run is none = by_test (nat_lt last_file f) refl (subst (λ (x : FileScan). corruption_at true f len x ≡ None) is none)
   where
     by_test : (b : Bool) → nat_lt last_file f ≡ b → cond b (Some (Damaged (lsn_at f 0))) (corruption_behind true f len run.end) ≡ None → f ≤ LAST_FILE

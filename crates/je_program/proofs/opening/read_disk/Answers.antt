@@ -35,14 +35,14 @@ returns-clause-stops g c = λ t.
     let files = c.in_ok-files.files.items in
     let mounted : observable ≡ true → reads c.mount.new.self ≡ at_entry = λ t. ap (λ s. s.reads) (c.mount.ensures.same t) in
     let listed : observable ≡ true → reads c.list.new.self ≡ at_entry = λ t. ap (λ s. s.reads) (c.list.ensures.same t) ∙ mounted t in
-    let reading : IsReadingOf observable at_entry files (FileScan c.in-FileScan.corruption) =
-    reading_along observable (reads c.list.new.self) at_entry files (FileScan c.in-FileScan.corruption) listed
-    (subst (λ (r : LogRead). IsReadingOf observable (reads c.list.new.self) files r) c.in-FileScan.is
+    let reading : IsReadingOf observable at_entry files (Corrupt c.in-Corrupt.corruption) =
+    reading_along observable (reads c.list.new.self) at_entry files (Corrupt c.in-Corrupt.corruption) listed
+    (subst (λ (r : LogRead). IsReadingOf observable (reads c.list.new.self) files r) c.in-Corrupt.is
     (subst (λ l. IsReadingOf observable (reads c.list.new.self) l c.in_ok-read.field-0) c.deref.ensures.value c.in_ok-read.ensures.read)) in
     record {
       held = reading.held;
       are = reading.listed t (subst (λ (f : Files). IsListing f files) (mounted t) (c.in_ok-files.ensures.listed t));
-      reads = corruption_observed observable reading.held c.in-FileScan.corruption reading.answer t;
+      reads = corruption_observed observable reading.held c.in-Corrupt.corruption reading.answer t;
     }
 
 pub returns-in_err-mount-clause-same : goal.returns-in_err-mount-clause-same
