@@ -32,7 +32,7 @@ impl CatalogView for OneDatabase {
     ghost use Rattle.je_model.specs.declared.store.Kind.TheVariants.{Plain};
     ghost use Rattle.je_order.specs.Order.{is_same_bytes};
     ghost use Rattle.db_catalog.specs.declared.db_kind.DbKind.TheVariants.{Plain as PlainRecord};
-    ghost use Rattle.part_examples.proofs.CatalogLaw.{one_record};
+    ghost use Rattle.part_examples.specs.CatalogLaw.{one_record};
 
     ghost seen = { λ v. record { databases = record { name = v.name; kind = Plain; pairs = [] } ∷ [] } };
 

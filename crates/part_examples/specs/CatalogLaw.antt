@@ -1,5 +1,5 @@
 -- A catalog of one database.
-use Rattle.std.proofs.Common.{ℕ, List, [], Bool, true, false, cond, Some, None, refl}
+use Rattle.std.specs.Prelude.{ℕ, List, [], Bool, true, false, cond, Some, None, refl}
 use Rattle.je_model.specs.declared.store.Kind.TheVariants.{Plain}
 use Rattle.db_catalog.specs.declared.db_kind.DbKind.TheVariants.{Plain as PlainRecord}
 use Rattle.db_catalog.specs.Planning.{IsRecordOf}

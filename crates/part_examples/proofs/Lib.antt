@@ -1,2 +1,0 @@
--- A catalog of one database.
-pub mod CatalogLaw
