@@ -27,7 +27,7 @@ QUESTIONS = [
     ("Text", "je_io command_line script_text"),
     ("The disk and crashes", "je_disk mem_disk dir_disk crash_meaning"),
     ("The log's bytes", "je_bytes je_lsn log_entry log_file log_buffer log_replay"),
-    ("The run", "je_program"),
+    ("The run", "engine je_program"),
     ("Parts that the program does not use", ""),
 ]
 

@@ -14,7 +14,7 @@ use Rattle.script_text.specs.Grammar.{plan_of}
 use Rattle.je_program.specs.declared.cause.Cause.{Cause}
 use Rattle.je_program.specs.declared.cause.Cause.TheVariants.{Done, Usage, BadScript, Disk, Unreadable, Memory, Input, InputTooLong, LogFull, IdsEnded}
 use Rattle.je_program.specs.declared.reading.TheConstants.{MOST_INPUT}
-use Rattle.je_program.specs.Files.{HasCorruption, Means}
+use Rattle.engine.specs.Files.{HasCorruption, Means}
 use Rattle.je_program.specs.Program.{EndsBy, IsStopped, RunsIf}
 use Rattle.je_program.specs.Run.{cause_of_journal, cause_of_room}
 

@@ -1,11 +1,9 @@
 -- The end of a run.
-use Rattle.std.proofs.Common.{◌≡◌, ◌≢◌, ℕ, ◌-◌, ◌^◌, ◌<◌, ◌≤◌, ◌||◌, nat_le, Bool, true, false, List, [], ◌∷◌, ◌++◌, length, None, refl, ap, sym, ◌∙◌, subst, inl, inr, ⊎_elim, arith}
-use Rattle.std.proofs.lemmas.Bool.{cases_Bool, cases_lt, cond-true, cond-false, le-leb, or_left, true≢false}
-use Rattle.std.specs.List.{AllByRecursion, list_any}
+use Rattle.std.proofs.Common.{◌≡◌, ◌≢◌, ℕ, ◌≤◌, ◌||◌, nat_le, Bool, true, false, List, [], ◌∷◌, None, refl, ap, sym, ◌∙◌, subst, inl, inr, ⊎_elim, arith}
+use Rattle.std.proofs.lemmas.Bool.{cases_Bool, cond-true, cond-false, le-leb, or_left, true≢false}
+use Rattle.std.specs.List.{list_any}
 use Rattle.je_order.specs.Counts.{HasRisen}
-use Rattle.je_disk.specs.States.{State, Files}
 use Rattle.je_model.specs.declared.store.Store.{Store}
-use Rattle.je_model.specs.declared.totals.Totals.{Totals}
 use Rattle.je_model.specs.declared.event.Event.{Event}
 use Rattle.je_model.specs.declared.event.Event.TheVariants.{Call as Called, SyncBegin, SyncEnd}
 use Rattle.je_model.specs.declared.answer.Answer.{Answer}
@@ -14,25 +12,12 @@ use Rattle.je_model.specs.Store.{store_after}
 use Rattle.je_model.specs.Answers.{Standing, after_event, after_events}
 use Rattle.je_model.specs.Journal.{answer_of, is_disk_fault, has_answer, acknowledges, AllAcknowledged, AreSyncedAtOnce, ComesLater, IsSyncedAtOnce, IsSyncedBy, commits_of}
 use Rattle.je_model.proofs.JournalLaws.{store-after_events}
-use Rattle.log_buffer.specs.declared.buffer.LogBuffer.{LogBuffer}
-use Rattle.je_lsn.specs.Naming.{last_file}
-use Rattle.log_entry.specs.declared.entry.Entry.{Entry}
-use Rattle.log_buffer.specs.Log.{EndsAt}
-use Rattle.log_buffer.proofs.LogChanges.{AreBelow, below_last}
-use Rattle.je_order.proofs.Lists.{all_push}
-use Rattle.log_file.specs.Log.{Log, IsLog, AreFiles, entries_of, files_of_log}
-use Rattle.log_file.proofs.FilesLaws.{are_encoded_files, encoded_files}
 use Rattle.log_replay.specs.declared.corruption.Corruption.{Corruption}
-use Rattle.log_replay.specs.Kept.{IsKept}
-use Rattle.log_replay.specs.Meaning.{Meaning, meaning_of}
-use Rattle.log_replay.specs.Rows.{Rows, store_of}
-use Rattle.log_replay.proofs.LogLaws.{kept_validated, kept_store}
-use Rattle.log_replay.proofs.AgainLaws.{are_read_again}
-use Rattle.je_program.specs.declared.kept.Kept.{Kept}
 use Rattle.je_program.specs.declared.cause.Cause.{Cause}
 use Rattle.je_program.specs.declared.cause.Cause.TheVariants.{Done, Disk, Unreadable, Memory, LogFull, IdsEnded}
-use Rattle.je_program.specs.Environment.{IsAt, IsWholeLog, log_rule}
-use Rattle.je_program.specs.Program.{MeanStore, totals_of, final_store, ClosesBy, ClosesRun, EndsBy, RunsIf, is_before_disk}
+use Rattle.engine.specs.Environment.{log_rule}
+use Rattle.engine.proofs.Counts.{rose_earlier, rose_later}
+use Rattle.je_program.specs.Program.{cause_closed, final_store, ClosesBy, ClosesRun, EndsBy, RunsIf, is_before_disk}
 use Rattle.je_program.specs.Run.{IsCaused, cause_of_journal, cause_of_room, cause_of_answer}
 
 -- a valid environment stays valid under an event that is no disk fault
@@ -83,12 +68,6 @@ no_fault_of_cause journal h =
       disk_is_not_done : Disk ≡ Done → ⊥
       disk_is_not_done e = cc
 
--- the totals that are kept are those of the store
-pub totals_are : {D : Type 0} → (most : ℕ) (observable : Bool) (state : State) (buffer : LogBuffer D) (kept : Kept) (st : Standing) → IsAt most observable state buffer kept st → kept.totals ≡ totals_of st.store
-totals_are most observable state buffer kept st here =
-    let make : ℕ → ℕ → Totals = λ d r. record { databases = d; records = r } in
-    ap (λ d. make d kept.totals.records) here.databases ∙ ap (λ r. make (length st.store.databases) r) here.record_count_is
-
 -- the store that a run leaves is the opening one changed by its commits
 pub final_is : (most : ℕ) (st : Standing) (opening : Store) (journal : List Event) → st.store ≡ opening → (after_events (log_rule most) st journal).store ≡ final_store opening journal
 final_is most st opening journal same =
@@ -114,18 +93,6 @@ all_acknowledged [] none synced = tt
 all_acknowledged (event ∷ events) none synced =
     let parts = or_false (is_disk_fault (answer_of event)) (has_answer is_disk_fault events) none in
     (later_acknowledged event events parts.1 synced.0, all_acknowledged events parts.1 synced.1)
-
--- a count that rose before a later moment, or after an earlier one, rose
-pub rose_later : (before mid after : ℕ) → HasRisen before mid → mid ≤ after → HasRisen before after
-rose_later before mid after (inl less) later = inl (omega arith)
-rose_later before mid after (inr full) later = inr full
-
-pub rose_earlier : (before mid after : ℕ) → before ≤ mid → HasRisen mid after → mid ≤ after → HasRisen before after
-rose_earlier before mid after earlier (inl less) later = inl (omega arith)
-rose_earlier before mid after earlier (inr full) later = up_to_full before mid after earlier full later where
-  up_to_full : (before mid after : ℕ) → before ≤ mid → mid ≡ 2 ^ 64 - 1 → mid ≤ after → HasRisen before after
-  up_to_full before mid after earlier full later =
-      ⊎_elim (λ (e : before < mid). inl (omega arith)) (λ (e : mid ≤ before). (let is : before ≡ 2 ^ 64 - 1 = omega arith in inr is)) (cases_lt before mid)
 
 -- closing keeps what is known of faults
 pub closes_run : (before mid after : ℕ) (journal : List Event) (memory_ended : Bool) (old new : Cause) → IsCaused before mid journal → ClosesBy mid after old new → mid ≤ after →
@@ -241,25 +208,16 @@ done_is_no_memory cause done = λ e. done_not_memory (sym done ∙ e) where
 pub done_opened : (cause : Cause) (opened : Bool) → cause ≡ Done → RunsIf cause opened → opened ≡ true
 done_opened cause opened done runs = subst (λ (c : Cause). RunsIf c opened) done runs
 
-below_all : (n : ℕ) (log : Log) → n ≤ last_file → AreBelow n log → AllByRecursion (λ file. file.0 ≤ last_file) log
-below_all n [] small below = tt
-below_all n (file ∷ log) small below = (let less : file.0 < n = below.0 in omega (arith, less, small), below_all n log small below.1)
+-- ---- closing
 
--- a log that ends in a file has no file above it
-pub small_files : (log : Log) (file offset last : ℕ) → IsLog log → EndsAt log file offset last → file ≤ last_file → AllByRecursion (λ file. file.0 ≤ last_file) log
-small_files log file offset last is ends small =
-    let end : ℕ × List Entry = (file, ends.entries) in
-    let parts : IsLog (ends.before ++ end ∷ []) = subst IsLog ends.log_is is in
-    subst (λ (l : Log). AllByRecursion (λ file. file.0 ≤ last_file) l) (sym ends.log_is)
-    (all_push (λ (file : ℕ × List Entry). file.0 ≤ last_file) ends.before end (below_all file ends.before small (below_last ends.before end parts)) small)
+-- the cause once a run is closed: the disk failed now, and its count rose, or the cause is as it was
+pub closes_by : (before after : ℕ) (failed : Bool) (cause : Cause) → (failed ≡ true → HasRisen before after) → ClosesBy before after cause (cause_closed failed cause)
+closes_by before after false cause rose = inl refl
+closes_by before after true Memory rose = inl refl
+closes_by before after true cause rose = inr (refl, rose refl, λ e. cc)
 
--- the files of a log that is kept mean its records' store
-pub files_mean : (reads : Files) (log : Log) (file offset last : ℕ) (rows : Rows) (last_txn last_db : ℕ) (store : Store) → IsLog log → EndsAt log file offset last → file ≤ last_file → IsWholeLog log → IsKept (entries_of log) rows last_txn last_db → store_of rows ≡ store →
-    ((f : ℕ) → reads f ≡ files_of_log log f) → MeanStore reads store
-files_mean reads log file offset last rows last_txn last_db store is ends small whole kept made same =
-    let are : AreFiles reads (encoded_files log) = are_encoded_files reads log is.rising same in
-    let meaning : Meaning = meaning_of (entries_of log) in (
-      meaning,
-      record { held = encoded_files log; are = are; reads = are_read_again reads (encoded_files log) log is are same (small_files log file offset last is ends small) whole ∙ kept_validated log rows last_txn last_db kept },
-      kept_store (entries_of log) rows last_txn last_db kept ∙ made,
-    )
+-- where all was done, the disk did not fail
+pub closed_well : (failed : Bool) (cause : Cause) → cause_closed failed cause ≡ Done → failed ≡ false
+closed_well false cause done = refl
+closed_well true Memory done = cc
+closed_well true cause done = cc

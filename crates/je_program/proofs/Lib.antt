@@ -1,17 +1,5 @@
--- What a call of a valid environment comes to is what the model answers.
-pub mod PlanLaws
--- A log's end moves on with each entry.
-pub mod FlipLaws
--- One step of an environment, beside the model's.
-pub mod StepLaws
--- A step of an environment goes on as the model does.
-pub mod GoesOnLaws
 -- The end of a run.
 pub mod FinishLaws
--- The log of files that were read, once the rest of the last one is cut off.
-pub mod FileLaws
--- Opening an environment: the log that is gone on from, and where the model starts.
-pub mod OpeningLaws
 -- A run goes on by one line of its script.
 pub mod RunLaws
 -- Which lines a journal has, line after line.
@@ -22,29 +10,9 @@ pub mod ReadingLaws
 pub mod OutputLaws
 -- The digits of a number, the last one first.
 pub mod Digits
--- What an append does to the log.
-pub mod AppendLaws
--- What the calls come to that log a change.
-pub mod LoggingLaws
 -- How a program ends whose arguments are valid and whose input is a script.
 pub mod EndLaws
--- A run whose disk was safe so far, one event later.
-pub mod SafeLaws
--- A log with a transaction more, and what a crash keeps of it.
-pub mod GrownLaws
--- A guarded run goes on by one event.
-pub mod GuardLaws
--- Two appends of a transaction, and what a crash keeps through them.
-pub mod BothLaws
--- A guarded run goes on by a call that was to be logged.
-pub mod CallLaws
--- A guarded run goes on by a sync.
-pub mod SyncLaws
--- A guarded run that was closed, and one that begins.
-pub mod ClosedLaws
--- An environment that was opened is a guarded run that begins.
-pub mod OpenedLaws
 -- A disk that was left as it was.
 pub mod UntouchedLaws
--- What a crash leaves of an environment while it is opened.
-pub mod EntryLaws
+-- How a program ends whose environment was not opened.
+pub mod StopLaws

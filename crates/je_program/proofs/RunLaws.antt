@@ -12,13 +12,11 @@ use Rattle.je_model.specs.Answers.{Standing, IsAnswered, MayAnswer, MayBeginSync
 use Rattle.je_model.specs.declared.answer.Fault.{Fault}
 use Rattle.je_model.specs.Journal.{answer_of, has_answer, is_disk_fault, is_logged, AreSyncedAtOnce, IsSyncedBy}
 use Rattle.je_model.proofs.JournalLaws.{after_events-append, answers-append, answers-push, synced-append}
-use Rattle.log_buffer.specs.declared.buffer.LogBuffer.{LogBuffer}
-use Rattle.log_buffer.specs.Buffer.{has_failed}
-use Rattle.je_program.specs.declared.kept.Kept.{Kept}
-use Rattle.je_program.specs.Environment.{IsAt, log_rule}
+use Rattle.engine.specs.declared.engine.Engine.{Engine}
+use Rattle.engine.specs.Environment.{log_rule}
+use Rattle.engine.specs.Whole.{EndsSync, GoesOn, IsAt}
 use Rattle.je_program.specs.Run.{IsRunning, IsCaused}
-use Rattle.je_program.specs.Steps.{EndsSync, GoesOn}
-use Rattle.je_program.proofs.FinishLaws.{rose_earlier, rose_later}
+use Rattle.engine.proofs.Counts.{rose_earlier, rose_later}
 
 -- a call that was not logged waits for nothing
 not_waiting : (session line : ℕ) (call : Call) (answer : Answer) → is_logged answer ≡ false → AreSyncedAtOnce (Called session line call answer ∷ [])
@@ -37,39 +35,45 @@ logged_valid most (Some fault) st call commit may = cc
 
 module _ {D : Type 0} where
   -- one event more
-  pub runs_on : (most : ℕ) (observable : Bool) (before after : State) (buffer longer : LogBuffer D) (old new : Kept) (journal : List Event) (event : Event) (st : Standing) →
-      IsRunning most observable before buffer old journal st →
-      IsAnswered (log_rule most) (after_events (log_rule most) st journal) event → IsAt most observable after longer new (after_event (log_rule most) (after_events (log_rule most) st journal) event) →
-      AreSyncedAtOnce (event ∷ []) → IsRunning most observable after longer new (journal ++ event ∷ []) st
-  runs_on most observable before after buffer longer old new journal event st running answered here synced = record {
-    here = subst (λ (s : Standing). IsAt most observable after longer new s) (sym (after_events-append (log_rule most) st journal (event ∷ []))) here;
+  pub runs_on : (most : ℕ) (observable : Bool) (before after : State) (old new : Engine D) (journal : List Event) (event : Event) (st : Standing) →
+      IsRunning most observable before old journal st →
+      IsAnswered (log_rule most) (after_events (log_rule most) st journal) event → IsAt most observable after new (after_event (log_rule most) (after_events (log_rule most) st journal) event) →
+      AreSyncedAtOnce (event ∷ []) → IsRunning most observable after new (journal ++ event ∷ []) st
+  runs_on most observable before after old new journal event st running answered here synced = record {
+    here = subst (λ (s : Standing). IsAt most observable after new s) (sym (after_events-append (log_rule most) st journal (event ∷ []))) here;
     answers = answers-push (log_rule most) st journal event running.answers answered;
     synced = synced-append journal (event ∷ []) running.synced synced;
   }
 
   -- no event more: a call found no memory
-  pub runs_same : (most : ℕ) (observable : Bool) (before after : State) (buffer longer : LogBuffer D) (old new : Kept) (journal : List Event) (st : Standing) →
-      IsRunning most observable before buffer old journal st → IsAt most observable after longer new (after_events (log_rule most) st journal) → IsRunning most observable after longer new journal st
-  runs_same most observable before after buffer longer old new journal st running here = record { here = here; answers = running.answers; synced = running.synced }
+  pub runs_same : (most : ℕ) (observable : Bool) (before after : State) (old new : Engine D) (journal : List Event) (st : Standing) →
+      IsRunning most observable before old journal st → IsAt most observable after new (after_events (log_rule most) st journal) → IsRunning most observable after new journal st
+  runs_same most observable before after old new journal st running here = record { here = here; answers = running.answers; synced = running.synced }
 
-  -- where a call was logged, the model stands at a valid environment, whose log buffer works
-  pub logged_at_work : (most : ℕ) (observable : Bool) (state : State) (buffer : LogBuffer D) (kept : Kept) (st : Standing) (call : Call) (answer : Answer) →
-      GoesOn most observable state buffer kept st call (Ok answer) → is_logged answer ≡ true → (s : Standing) × (IsAt most observable state buffer kept s × (s.fault ≡ None)) × (has_failed buffer ≡ false)
-  logged_at_work most observable state buffer kept st call answer goes logged =
+  -- where a call was logged, the model stands at a valid environment
+  pub logged_at_work : (most : ℕ) (observable : Bool) (state : State) (engine : Engine D) (st : Standing) (call : Call) (answer : Answer) →
+      GoesOn most observable state engine st call (Ok answer) → is_logged answer ≡ true → (s : Standing) × IsAt most observable state engine s × (s.fault ≡ None)
+  logged_at_work most observable state engine st call answer goes logged =
       let of = logged_is answer logged in
-      at_work of.0 (subst (λ (a : Answer). GoesOn most observable state buffer kept st call (Ok a)) of.1 goes)
+      at_work of.0 (subst (λ (a : Answer). GoesOn most observable state engine st call (Ok a)) of.1 goes)
     where
-      at_work : (commit : ℕ) → GoesOn most observable state buffer kept st call (Ok (Logged commit)) → (s : Standing) × (IsAt most observable state buffer kept s × (s.fault ≡ None)) × (has_failed buffer ≡ false)
+      at_work : (commit : ℕ) → GoesOn most observable state engine st call (Ok (Logged commit)) → (s : Standing) × IsAt most observable state engine s × (s.fault ≡ None)
       at_work commit goes =
           let none : st.fault ≡ None = logged_valid most st.fault st call commit goes.0 in
-          (after_call (log_rule most) st call (Logged commit), (goes.1, none), (goes.1.valid none).at_end.works)
+          (after_call (log_rule most) st call (Logged commit), goes.1, none)
+
+  -- where a call was logged, the model stands at a valid environment
+  pub logged_none : (most : ℕ) (observable : Bool) (state : State) (engine : Engine D) (st : Standing) (call : Call) (answer : Answer) →
+      GoesOn most observable state engine st call (Ok answer) → is_logged answer ≡ true → (after_call (log_rule most) st call answer).fault ≡ None
+  logged_none most observable state engine st call (Logged commit) goes logged = logged_valid most st.fault st call commit goes.0
+  logged_none most observable state engine st call answer goes logged = cc
 
   -- a call that was not logged
-  pub runs_plain : (most : ℕ) (observable : Bool) (before after : State) (buffer longer : LogBuffer D) (old new : Kept) (journal : List Event) (session line : ℕ) (call : Call) (answer : Answer) (st : Standing) →
-      IsRunning most observable before buffer old journal st → GoesOn most observable after longer new (after_events (log_rule most) st journal) call (Ok answer) → is_logged answer ≡ false →
-      IsRunning most observable after longer new (journal ++ Called session line call answer ∷ []) st
-  runs_plain most observable before after buffer longer old new journal session line call answer st running goes plain =
-      runs_on most observable before after buffer longer old new journal (Called session line call answer) st running goes.0 goes.1 (not_waiting session line call answer plain)
+  pub runs_plain : (most : ℕ) (observable : Bool) (before after : State) (old new : Engine D) (journal : List Event) (session line : ℕ) (call : Call) (answer : Answer) (st : Standing) →
+      IsRunning most observable before old journal st → GoesOn most observable after new (after_events (log_rule most) st journal) call (Ok answer) → is_logged answer ≡ false →
+      IsRunning most observable after new (journal ++ Called session line call answer ∷ []) st
+  runs_plain most observable before after old new journal session line call answer st running goes plain =
+      runs_on most observable before after old new journal (Called session line call answer) st running goes.0 goes.1 (not_waiting session line call answer plain)
 
 -- a sync of the commits so far follows the last one at once
 ends_synced : (commit commits : ℕ) (ending : Answer) → commit ≡ commits → MayEndSync None (Some commits) ending → IsSyncedBy commit (SyncBegin Done ∷ SyncEnd ending ∷ [])
@@ -83,53 +87,53 @@ ends_synced commit commits ending is ends = (
 
 module _ {D : Type 0} where
   -- a call that was logged, and a sync that could not begin
-  pub runs_unsynced : (most : ℕ) (observable : Bool) (before middle after : State) (buffer longer written : LogBuffer D) (old mid new : Kept) (journal : List Event) (session line : ℕ) (call : Call) (answer : Answer) (st : Standing) →
-      IsRunning most observable before buffer old journal st → GoesOn most observable middle longer mid (after_events (log_rule most) st journal) call (Ok answer) → is_logged answer ≡ true →
-      ((s : Standing) → IsAt most observable middle longer mid s → s.fault ≡ None → IsAt most observable after written new (after_begin s DiskFault)) →
-      IsRunning most observable after written new ((journal ++ Called session line call answer ∷ []) ++ SyncBegin DiskFault ∷ []) st
-  runs_unsynced most observable before middle after buffer longer written old mid new journal session line call answer st running goes logged begins =
+  pub runs_unsynced : (most : ℕ) (observable : Bool) (before middle after : State) (old mid new : Engine D) (journal : List Event) (session line : ℕ) (call : Call) (answer : Answer) (st : Standing) →
+      IsRunning most observable before old journal st → GoesOn most observable middle mid (after_events (log_rule most) st journal) call (Ok answer) → is_logged answer ≡ true →
+      ((s : Standing) → IsAt most observable middle mid s → s.fault ≡ None → IsAt most observable after new (after_begin s DiskFault)) →
+      IsRunning most observable after new ((journal ++ Called session line call answer ∷ []) ++ SyncBegin DiskFault ∷ []) st
+  runs_unsynced most observable before middle after old mid new journal session line call answer st running goes logged begins =
       let of = logged_is answer logged in
-      subst (λ (a : Answer). IsRunning most observable after written new ((journal ++ Called session line call a ∷ []) ++ SyncBegin DiskFault ∷ []) st) (sym of.1)
-      (of_commit of.0 (subst (λ (a : Answer). GoesOn most observable middle longer mid (after_events (log_rule most) st journal) call (Ok a)) of.1 goes))
+      subst (λ (a : Answer). IsRunning most observable after new ((journal ++ Called session line call a ∷ []) ++ SyncBegin DiskFault ∷ []) st) (sym of.1)
+      (of_commit of.0 (subst (λ (a : Answer). GoesOn most observable middle mid (after_events (log_rule most) st journal) call (Ok a)) of.1 goes))
     where
-      of_commit : (commit : ℕ) → GoesOn most observable middle longer mid (after_events (log_rule most) st journal) call (Ok (Logged commit)) →
-          IsRunning most observable after written new ((journal ++ Called session line call (Logged commit) ∷ []) ++ SyncBegin DiskFault ∷ []) st
+      of_commit : (commit : ℕ) → GoesOn most observable middle mid (after_events (log_rule most) st journal) call (Ok (Logged commit)) →
+          IsRunning most observable after new ((journal ++ Called session line call (Logged commit) ∷ []) ++ SyncBegin DiskFault ∷ []) st
       of_commit commit goes =
           let st0 = after_events (log_rule most) st journal in
           let st1 = after_call (log_rule most) st0 call (Logged commit) in
           let valid = logged_valid most st0.fault st0 call commit goes.0 in
           let begun = begins st1 goes.1 valid in
           let events : List Event = Called session line call (Logged commit) ∷ SyncBegin DiskFault ∷ [] in
-          let all : IsRunning most observable after written new (journal ++ events) st = record {
-            here = subst (λ (s : Standing). IsAt most observable after written new s) (sym (after_events-append (log_rule most) st journal events)) begun;
+          let all : IsRunning most observable after new (journal ++ events) st = record {
+            here = subst (λ (s : Standing). IsAt most observable after new s) (sym (after_events-append (log_rule most) st journal events)) begun;
             answers = answers-append (log_rule most) st journal events running.answers (goes.0, (subst (λ (f : Option Fault). MayBeginSync f DiskFault) (sym valid) (inr refl), tt));
             synced = synced-append journal events running.synced (([], inr (inr refl)), (tt, tt));
           } in
           let same : journal ++ events ≡ (journal ++ Called session line call (Logged commit) ∷ []) ++ SyncBegin DiskFault ∷ [] =
           sym (append_assoc journal (Called session line call (Logged commit) ∷ []) (SyncBegin DiskFault ∷ [])) in
-          subst (λ (l : List Event). IsRunning most observable after written new l st) same all
+          subst (λ (l : List Event). IsRunning most observable after new l st) same all
 
   -- a call that was logged, and its sync
-  pub runs_logged : (most : ℕ) (observable : Bool) (before middle after : State) (buffer longer synced : LogBuffer D) (old mid new : Kept) (journal : List Event) (session line : ℕ) (call : Call) (answer ending : Answer) (st : Standing) →
-      IsRunning most observable before buffer old journal st → GoesOn most observable middle longer mid (after_events (log_rule most) st journal) call (Ok answer) → is_logged answer ≡ true →
-      ((s : Standing) → IsAt most observable middle longer mid s → s.fault ≡ None → EndsSync most observable after synced new s ending) →
-      IsRunning most observable after synced new (((journal ++ Called session line call answer ∷ []) ++ SyncBegin Done ∷ []) ++ SyncEnd ending ∷ []) st
-  runs_logged most observable before middle after buffer longer synced old mid new journal session line call answer ending st running goes logged sync =
+  pub runs_logged : (most : ℕ) (observable : Bool) (before middle after : State) (old mid new : Engine D) (journal : List Event) (session line : ℕ) (call : Call) (answer ending : Answer) (st : Standing) →
+      IsRunning most observable before old journal st → GoesOn most observable middle mid (after_events (log_rule most) st journal) call (Ok answer) → is_logged answer ≡ true →
+      ((s : Standing) → IsAt most observable middle mid s → s.fault ≡ None → EndsSync most observable after new s ending) →
+      IsRunning most observable after new (((journal ++ Called session line call answer ∷ []) ++ SyncBegin Done ∷ []) ++ SyncEnd ending ∷ []) st
+  runs_logged most observable before middle after old mid new journal session line call answer ending st running goes logged sync =
       let of = logged_is answer logged in
-      subst (λ (a : Answer). IsRunning most observable after synced new (((journal ++ Called session line call a ∷ []) ++ SyncBegin Done ∷ []) ++ SyncEnd ending ∷ []) st) (sym of.1)
-      (of_commit of.0 (subst (λ (a : Answer). GoesOn most observable middle longer mid (after_events (log_rule most) st journal) call (Ok a)) of.1 goes))
+      subst (λ (a : Answer). IsRunning most observable after new (((journal ++ Called session line call a ∷ []) ++ SyncBegin Done ∷ []) ++ SyncEnd ending ∷ []) st) (sym of.1)
+      (of_commit of.0 (subst (λ (a : Answer). GoesOn most observable middle mid (after_events (log_rule most) st journal) call (Ok a)) of.1 goes))
     where
-      of_commit : (commit : ℕ) → GoesOn most observable middle longer mid (after_events (log_rule most) st journal) call (Ok (Logged commit)) →
-          IsRunning most observable after synced new (((journal ++ Called session line call (Logged commit) ∷ []) ++ SyncBegin Done ∷ []) ++ SyncEnd ending ∷ []) st
+      of_commit : (commit : ℕ) → GoesOn most observable middle mid (after_events (log_rule most) st journal) call (Ok (Logged commit)) →
+          IsRunning most observable after new (((journal ++ Called session line call (Logged commit) ∷ []) ++ SyncBegin Done ∷ []) ++ SyncEnd ending ∷ []) st
       of_commit commit goes =
           let st0 = after_events (log_rule most) st journal in
           let st1 = after_call (log_rule most) st0 call (Logged commit) in
           let valid = logged_valid most st0.fault st0 call commit goes.0 in
           let ended = sync st1 goes.1 valid in
           let events : List Event = Called session line call (Logged commit) ∷ SyncBegin Done ∷ SyncEnd ending ∷ [] in
-          let number : commit ≡ st1.commits = goes.2 ∙ (goes.1).commits in
-          let all : IsRunning most observable after synced new (journal ++ events) st = record {
-            here = subst (λ (s : Standing). IsAt most observable after synced new s) (sym (after_events-append (log_rule most) st journal events)) ended.1;
+          let number : commit ≡ st1.commits = goes.2 in
+          let all : IsRunning most observable after new (journal ++ events) st = record {
+            here = subst (λ (s : Standing). IsAt most observable after new s) (sym (after_events-append (log_rule most) st journal events)) ended.1;
             answers = answers-append (log_rule most) st journal events running.answers (
               goes.0,
               (subst (λ (f : Option Fault). MayBeginSync f Done) (sym valid) (inl refl), (subst (λ (f : Option Fault). MayEndSync f (Some st1.commits) ending) (sym valid) ended.0, tt)),
@@ -139,11 +143,11 @@ module _ {D : Type 0} where
           let same : journal ++ events ≡ ((journal ++ Called session line call (Logged commit) ∷ []) ++ SyncBegin Done ∷ []) ++ SyncEnd ending ∷ [] =
           sym (append_assoc journal (Called session line call (Logged commit) ∷ SyncBegin Done ∷ []) (SyncEnd ending ∷ []))
           ∙ ap (λ (l : List Event). l ++ SyncEnd ending ∷ []) (sym (append_assoc journal (Called session line call (Logged commit) ∷ []) (SyncBegin Done ∷ []))) in
-          subst (λ (l : List Event). IsRunning most observable after synced new l st) same all
+          subst (λ (l : List Event). IsRunning most observable after new l st) same all
 
   -- a run that begins
-  pub runs_none : (most : ℕ) (observable : Bool) (state : State) (buffer : LogBuffer D) (kept : Kept) (st : Standing) → IsAt most observable state buffer kept st → IsRunning most observable state buffer kept [] st
-  runs_none most observable state buffer kept st here = record { here = here; answers = tt; synced = tt }
+  pub runs_none : (most : ℕ) (observable : Bool) (state : State) (engine : Engine D) (st : Standing) → IsAt most observable state engine st → IsRunning most observable state engine [] st
+  runs_none most observable state engine st here = record { here = here; answers = tt; synced = tt }
 
 pub caused_none : (faults : ℕ) → IsCaused faults faults []
 caused_none faults = record { never_falls = omega arith; fault = λ h. cc }

@@ -1,98 +1,13 @@
--- What a crash leaves of an environment while it runs.
-use Rattle.std.specs.Prelude.{ℕ, ◌≡◌, ◌≤◌, ◌<◌, ◌⊎◌, ◌++◌, ◌∷◌, [], List, Option, None, Ok, true, take, option_map}
-use Rattle.je_disk.specs.States.{Files, State, content, synced_crash_state, synced_crash_states}
-use Rattle.je_disk.specs.Images.{IsImage}
-use Rattle.je_disk.specs.Moments.{History, Passes, now}
+-- What a crash leaves of a whole program.
+use Rattle.std.specs.Prelude.{◌≡◌, List}
+use Rattle.je_disk.specs.States.{synced_crash_states}
+use Rattle.je_disk.specs.Moments.{History, now}
 use Rattle.je_model.specs.declared.event.Event.{Event}
 use Rattle.je_model.specs.declared.store.Store.{Store}
-use Rattle.je_model.specs.Journal.{attempts_of, has_answer, is_disk_fault, synced_of}
-use Rattle.log_file.specs.declared.valid_prefix.ValidPrefix.{ValidPrefix}
-use Rattle.log_file.specs.declared.file_scan.FileScan.TheVariants.{Prefix}
-use Rattle.log_file.specs.Log.{AreFiles}
-use Rattle.log_file.specs.Scan.{scan_of}
-use Rattle.log_buffer.specs.Chance.{NoChanceMatch}
-use Rattle.log_buffer.specs.Crash.{FilesStay}
-use Rattle.log_replay.specs.Meaning.{Meaning}
-use Rattle.log_replay.specs.Reading.{reading_of}
-use Rattle.crash_meaning.specs.Recovery.{IsRecovered}
+use Rattle.engine.specs.Crash.{ImagesMean, IsSafeRun, KeepsEntry}
 use Rattle.je_program.specs.declared.cause.Cause.{Cause}
 use Rattle.je_program.specs.declared.cause.Cause.TheVariants.{Done as AllDone}
-use Rattle.je_program.specs.Program.{MeanStore, final_store}
-
--- one history goes on as the other, whatever came
-abbrev pub Follows : History → History → Type 0
-Follows old new = Passes old new (λ s. Unit {0})
-
--- Of a run that began with this store, some events are over while one may be under way. What the disk reads, and each image in which no
--- checksum matches by chance, means the opening store changed by the first attempted commits, at least the synced ones.
-pub record IsSafe (opening : Store) (over under_way : List Event) (state : State) : Type 0 where
-  pub read : IsRecovered opening (synced_of over) (attempts_of opening (over ++ under_way)) state.reads
-  pub images : (image : Files) → IsImage state image → NoChanceMatch state.reads image → IsRecovered opening (synced_of over) (attempts_of opening (over ++ under_way)) image
-
--- where one of these events met a disk fault, the disk's state is from one moment to another what it was at the first
-abbrev pub IsStillAfterFault : History → ℕ → ℕ → List Event → Type 0
-IsStillAfterFault history from to over = has_answer is_disk_fault over ≡ true → (k : ℕ) → from < k → k ≤ to → history.state_at k ≡ history.state_at from
-
--- An event begins behind one moment and ends at another: at each moment between them, and behind it, the disk is safe; behind a fault it stands still.
-pub record IsSafeEvent (opening : Store) (history : History) (from to : ℕ) (over : List Event) (event : Event) : Type 0 where
-  pub later : from ≤ to
-  pub within : to ≤ history.moment
-  pub during : (k : ℕ) → from < k → k ≤ to → IsSafe opening over (event ∷ []) (history.state_at k)
-  pub behind : IsSafe opening (over ++ event ∷ []) [] (history.state_at to)
-  pub still : IsStillAfterFault history from to over
-
--- events end at moments one after another, each safe, and this holds of the last moment and of all events
-abbrev pub AreSafeEvents : Store → History → (ℕ → List Event → Type 0) → ℕ → List Event → List Event → Type 0
-AreSafeEvents opening history Last from over [] = Last from over
-AreSafeEvents opening history Last from over (event ∷ events) =
-    (to : ℕ) × IsSafeEvent opening history from to over event × AreSafeEvents opening history Last to (over ++ event ∷ []) events
-
--- from a moment on no event is under way, and the disk is safe; behind a fault it stands still
-pub record IsSafeBehind (opening : Store) (history : History) (from : ℕ) (over : List Event) : Type 0 where
-  pub safe : (k : ℕ) → from < k → k ≤ history.moment → IsSafe opening over [] (history.state_at k)
-  pub still : IsStillAfterFault history from history.moment over
-
--- A run that began behind this history, with this store: the disk is safe as it began, at each moment of the events of its journal, and at
--- each moment behind them. Each file that was there as it began is there at each moment.
-pub record IsSafeRun (opening : Store) (start : History) (history : History) (journal : List Event) : Type 0 where
-  pub since : Follows start history
-  pub begins : IsSafe opening [] [] (now start)
-  pub events : AreSafeEvents opening history (IsSafeBehind opening history) start.moment [] journal
-  pub files : (k : ℕ) → start.moment ≤ k → k ≤ history.moment → FilesStay (now start).reads (history.state_at k).reads
-
--- ---- from entry on
-
--- each image of the disk in which no checksum matches by chance means this store
-abbrev pub ImagesMean : State → Store → Type 0
-ImagesMean state store = (image : Files) → IsImage state image → NoChanceMatch state.reads image → MeanStore image store
-
--- nothing is pending: a crash keeps what the files read as, and nothing else
-abbrev pub NothingPending : State → Type 0
-NothingPending state = (f : ℕ) → state.crash_states f ≡ synced_crash_state (state.reads f)
-
--- what followed the valid prefix of the last file was cut off
-pub record IsTailCut (entry : Files) (f : ℕ) (file : Option (List ℕ)) : Type 0 where
-  pub run : ValidPrefix
-  pub found : scan_of f (content entry f) ≡ Prefix run
-  pub last : (g : ℕ) → f < g → entry g ≡ None
-  pub cut : file ≡ option_map (take run.end) (entry f)
-
--- each file reads as it did at entry, but for a torn tail of the last one that was cut off
-abbrev pub ReadAsAtEntry : Files → Files → Type 0
-ReadAsAtEntry entry reads = (f : ℕ) → (reads f ≡ entry f) ⊎ IsTailCut entry f (reads f)
-
--- At each moment since entry each file reads as it did at entry, but for a torn tail. The files at entry meant a store: where nothing was
--- pending then, they mean it still at each moment since, whatever image a crash leaves; and where nothing is pending at the end, they mean
--- it at the end.
-pub record KeepsEntry (old new : History) : Type 0 where
-  pub since : Follows old new
-  pub reads : (k : ℕ) → old.moment ≤ k → k ≤ new.moment → ReadAsAtEntry (now old).reads (new.state_at k).reads
-  pub images : NothingPending (now old) → (held : List (ℕ × List ℕ)) (meaning : Meaning) → AreFiles (now old).reads held → reading_of held ≡ Ok meaning
-      → (k : ℕ) → old.moment ≤ k → k ≤ new.moment → ImagesMean (new.state_at k) meaning.store
-  pub at_end : NothingPending (now new) → (held : List (ℕ × List ℕ)) (meaning : Meaning) → AreFiles (now old).reads held → reading_of held ≡ Ok meaning
-      → ImagesMean (now new) meaning.store
-
--- ---- a whole program
+use Rattle.je_program.specs.Program.{final_store}
 
 -- A program's run began at the end of the sync with which the files at entry were opened, and was safe from there on; before it the files
 -- of entry were kept. Where all was done, each image at the end means the final store.

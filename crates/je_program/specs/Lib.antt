@@ -1,12 +1,5 @@
-pub mod Files
 pub mod Untouched
-pub mod Environment
-pub mod Planning
-pub mod Logging
-pub mod Steps
 pub mod Run
-pub mod Opening
 pub mod Program
 pub mod Reading
 pub mod Crash
-pub mod Guarded

@@ -1,15 +1,13 @@
 -- What the program promises of one run.
 use Rattle.std.specs.Prelude.{ℕ, ◌/◌, ◌%◌, ◌^◌, ◌≡◌, ◌≢◌, ◌≤◌, ◌<◌, ◌⊎◌, [], ◌++◌, List, Option, Some, None, Bool, true, false, Ok, Err, length, codes, decimal, IfSome}
 use Rattle.je_order.specs.Counts.{HasRisen}
-use Rattle.je_disk.specs.States.{Files}
 use Rattle.je_io.specs.Sink.{Gains, GainsPart}
 use Rattle.je_model.specs.declared.store.Store.{Store}
 use Rattle.je_model.specs.declared.event.Event.{Event}
 use Rattle.je_model.specs.declared.plan.RunPlan.{RunPlan}
 use Rattle.je_model.specs.declared.totals.Totals.{Totals}
-use Rattle.je_model.specs.Store.{store_after, record_count}
+use Rattle.je_model.specs.Store.{store_after}
 use Rattle.je_model.specs.Journal.{commits_of, lines_of, has_answer, is_disk_fault}
-use Rattle.log_replay.specs.Meaning.{Meaning}
 use Rattle.script_text.specs.Grammar.{plan_of}
 use Rattle.script_text.specs.Report.{report_text}
 use Rattle.je_program.specs.declared.reading.TheConstants.{MOST_INPUT}
@@ -19,7 +17,9 @@ use Rattle.std.specs.Fmt.{digits}
 use Rattle.je_lsn.specs.Naming.{name_of}
 use Rattle.log_replay.specs.declared.corruption.Corruption.{Corruption}
 use Rattle.log_replay.specs.declared.corruption.Corruption.TheVariants.{Damaged, Missing, Tree, VersionUnknown}
-use Rattle.je_program.specs.Files.{Means}
+use Rattle.engine.specs.declared.open_err.OpenErr.{OpenErr}
+use Rattle.engine.specs.declared.open_err.OpenErr.TheVariants.{Disk as NoDisk, Memory as NoMemory, Unreadable as CannotRead}
+use Rattle.engine.specs.Totals.{totals_of}
 use Rattle.je_program.specs.Run.{cause_of_journal, of_session, AreFirstLines, status_of, unwritten_status_of}
 
 -- the input was a script, and was read to its end
@@ -78,17 +78,9 @@ RunsIf cause opened = opened ≡ false
 abbrev pub EndsBy : List Event → Cause → Type 0
 EndsBy journal cause = (cause ≡ cause_of_journal journal) ⊎ (cause ≡ Disk)
 
--- how much a store holds
-abbrev pub totals_of : Store → Totals
-totals_of store = record { databases = length store.databases; records = record_count store }
-
 -- the store that a run leaves
 abbrev pub final_store : Store → List Event → Store
 final_store opening journal = store_after opening (commits_of opening journal)
-
--- the files mean the store
-abbrev pub MeanStore : Files → Store → Type 0
-MeanStore files store = (meaning : Meaning) × Means files meaning × (meaning.store ≡ store)
 
 -- an LSN as it is printed: its file and its offset there, in hexadecimal digits
 abbrev pub lsn_text : ℕ → List ℕ
@@ -128,6 +120,18 @@ abbrev pub IsOutputWritten : Option (List ℕ) → Option (List ℕ) → ℕ →
 IsOutputWritten before after faults_before faults_after text cause status =
     (Gains before after text × (status ≡ status_of cause))
     ⊎ (GainsPart before after text × HasRisen faults_before faults_after × (status ≡ unwritten_status_of cause))
+
+-- the cause of an environment that was not opened
+abbrev pub cause_of_opening : OpenErr → Cause
+cause_of_opening NoDisk = Disk
+cause_of_opening NoMemory = Memory
+cause_of_opening (CannotRead corruption) = Unreadable corruption
+
+-- the cause of a run's end once it is closed: a fault of the disk, unless there was no memory before
+abbrev pub cause_closed : Bool → Cause → Cause
+cause_closed false cause = cause
+cause_closed true Memory = Memory
+cause_closed true cause = Disk
 
 -- closing leaves the cause of a run's end as it is, or the disk failed and that is the cause
 abbrev pub ClosesBy : ℕ → ℕ → Cause → Cause → Type 0

@@ -1,5 +1,5 @@
 -- A run of a script.
-use Rattle.std.specs.Prelude.{ℕ, ◌≡◌, ◌≤◌, ◌∷◌, [], ◌++◌, ◌==◌, List, None, Ok, Bool, true, false, filter, slice_index_or, if◌then◌else◌}
+use Rattle.std.specs.Prelude.{ℕ, ◌≡◌, ◌≤◌, ◌∷◌, [], ◌++◌, ◌==◌, List, Bool, true, false, filter, slice_index_or, if◌then◌else◌}
 use Rattle.je_order.specs.Counts.{HasRisen}
 use Rattle.je_disk.specs.States.{State, Files}
 use Rattle.je_model.specs.declared.store.Store.{Store}
@@ -10,31 +10,17 @@ use Rattle.je_model.specs.declared.plan.ScriptLine.{ScriptLine}
 use Rattle.je_model.specs.declared.plan.ScriptLine.TheVariants.{Session}
 use Rattle.je_model.specs.Answers.{Standing, AnswersAsModel, after_events}
 use Rattle.je_model.specs.Journal.{AreSyncedAtOnce, answer_of, is_disk_fault, has_answer, lines_of}
-use Rattle.log_buffer.specs.declared.buffer.LogBuffer.{LogBuffer}
-use Rattle.log_file.specs.Log.{AreFiles}
-use Rattle.log_replay.specs.Reading.{reading_of}
-use Rattle.je_program.specs.declared.kept.Kept.{Kept}
+use Rattle.engine.specs.declared.engine.Engine.{Engine}
 use Rattle.je_program.specs.declared.cause.Cause.{Cause}
 use Rattle.je_program.specs.declared.cause.Cause.TheVariants.{Done, Usage, BadScript, Disk, Unreadable, Memory, Input, InputTooLong, LogFull as NoRoom, IdsEnded as NoNumbers}
-use Rattle.je_program.specs.Files.{end_in}
-use Rattle.je_program.specs.Environment.{log_rule, IsAt}
-
--- where the model stands when an environment with these files was opened: at what the files mean that were read, which are the disk's if it
--- is observable
-pub record StartsAt (observable : Bool) (files : Files) (opening : Store) (st : Standing) : Type 0 where
-  pub store : st.store ≡ opening
-  pub commits : st.commits ≡ 0
-  pub begun : st.begun ≡ None
-  pub fault : st.fault ≡ None
-  pub held : List (ℕ × List ℕ)
-  pub observed : observable ≡ true → AreFiles files held
-  pub means : reading_of held ≡ Ok (record { store = opening; last_txn = st.last_txn; last_db = st.last_db })
-  pub log_end : st.log_end ≡ end_in held
+use Rattle.engine.specs.Environment.{log_rule}
+use Rattle.engine.specs.Opening.{StartsAt}
+use Rattle.engine.specs.Whole.{IsAt}
 
 module _ {D : Type 0} where
-  -- a run is under way: the environment is where the journal leaves the model, and each answer so far is the model's
-  pub record IsRunning (most : ℕ) (observable : Bool) (state : State) (buffer : LogBuffer D) (kept : Kept) (journal : List Event) (st : Standing) : Type 0 where
-    pub here : IsAt most observable state buffer kept (after_events (log_rule most) st journal)
+  -- a run is under way: the engine is where the journal leaves the model, and each answer so far is the model's
+  pub record IsRunning (most : ℕ) (observable : Bool) (state : State) (engine : Engine D) (journal : List Event) (st : Standing) : Type 0 where
+    pub here : IsAt most observable state engine (after_events (log_rule most) st journal)
     pub answers : AnswersAsModel (log_rule most) st journal
     pub synced : AreSyncedAtOnce journal
 

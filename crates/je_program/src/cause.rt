@@ -3,6 +3,7 @@ ghost use Rattle.std.specs.Prelude.{◌≡◌};
 ghost use Rattle.je_program.specs.Run.{status_of, unwritten_status_of};
 
 use log_replay::Corruption;
+use std::alloc::AllocError;
 
 /// Why a program ended as it did, before its output was written. Each has a status and a fault line of
 /// its own (docs/ANSWERS.md).
@@ -57,5 +58,16 @@ impl Cause {
             Cause::Memory => 6,
             _ => 8,
         }
+    }
+}
+
+impl From<AllocError> for Cause {
+    ghost use Rattle.std.specs.Prelude.{◌≡◌};
+    ghost use Rattle.je_program.specs.declared.cause.Cause.TheVariants.{Memory};
+
+    ghost from_gives = { λ _ cause. cause ≡ Memory };
+
+    fn from(_: AllocError) -> Cause {
+        Cause::Memory
     }
 }

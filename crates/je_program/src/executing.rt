@@ -1,18 +1,15 @@
 // One line of a script. A call that is given up is let go by `drop`, which is one step of a proof; the end
 // of its scope would be one for each kind of call.
-ghost use Rattle.std.specs.Prelude.{◌≡◌, ◌≤◌, ◌<◌, ◌+◌, ◌++◌, ◌∷◌, [], ℕ, true, length, vec_len, vec_capacity, OnOk, OnErr, None};
+ghost use Rattle.std.specs.Prelude.{◌≡◌, ◌≤◌, ◌<◌, ◌+◌, ◌++◌, ◌∷◌, [], ℕ, true, length, vec_len, vec_capacity, OnOk, OnErr};
 ghost use Rattle.script_text.specs.Grammar.{has_line};
 ghost use Rattle.je_disk.specs.Moments.{History, now};
-ghost use Rattle.log_buffer.specs.Buffer.{disk_of};
-ghost use Rattle.log_file.specs.Log.{Log};
+ghost use Rattle.engine.specs.Whole.{CanGoOn, IsGuarded, disk_of};
 ghost use Rattle.je_model.specs.Answers.{Standing};
 ghost use Rattle.je_model.specs.Journal.{is_logged, lines_of};
 ghost use Rattle.je_model.specs.declared.plan.ScriptLine.TheVariants.{Session};
-ghost use Rattle.je_program.specs.Guarded.{IsGuarded};
 ghost use Rattle.je_program.specs.Run.{IsRunning, IsCaused};
-ghost use Rattle.je_program.specs.Steps.{CanGoOn};
 
-use crate::environment::Environment;
+use engine::Engine;
 use je_disk::{Disk, SyncJob};
 use je_model::{Answer, Call, Event};
 use std::alloc::{AllocError, Global};
@@ -33,26 +30,26 @@ fn record(journal: &mut Vec<Event>, event: Event)
     journal.push(event).unwrap();
 }
 
-/// Gives a session's call to the environment, and syncs where it was logged; the journal gains the
+/// Gives a session's call to the engine, and syncs where it was logged; the journal gains the
 /// events. Running out of memory leaves both as they were.
 pub fn execute<D: Disk>(
-    environment: &mut Environment<D>,
+    engine: &mut Engine<D>,
     journal: &mut Vec<Event>,
     alloc: Global,
     session: u8,
     line: u32,
     call: Call,
 ) -> Result<(), AllocError>
-    requires running { (most : ℕ) × (st : Standing) × IsRunning most D.observable (now (D.history (disk_of environment.old.log))) environment.old.log environment.old.kept journal.old.items st }
-    requires bounds { CanGoOn environment.old.kept }
+    requires running { (most : ℕ) × (st : Standing) × IsRunning most D.observable (now (D.history (disk_of engine.old))) engine.old journal.old.items st }
+    requires bounds { CanGoOn engine.old }
     requires has_line { has_line call ≡ true }
-    ensures runs { (most : ℕ) (st : Standing) → IsRunning most D.observable (now (D.history (disk_of environment.old.log))) environment.old.log environment.old.kept journal.old.items st
-        → IsRunning most D.observable (now (D.history (disk_of environment.new.log))) environment.new.log environment.new.kept journal.new.items st }
-    ensures bounds { CanGoOn environment.new.kept }
-    ensures caused { (before : ℕ) → IsCaused before (D.faults (disk_of environment.old.log)) journal.old.items → IsCaused before (D.faults (disk_of environment.new.log)) journal.new.items }
-    ensures crash { D.observable ≡ true → (most : ℕ) (st : Standing) (log : Log) (start : History) → IsRunning most D.observable (now (D.history (disk_of environment.old.log))) environment.old.log environment.old.kept journal.old.items st
-        → IsGuarded most st log start (D.history (disk_of environment.old.log)) environment.old.log journal.old.items None
-        → IsGuarded most st log start (D.history (disk_of environment.new.log)) environment.new.log journal.new.items None }
+    ensures runs { (most : ℕ) (st : Standing) → IsRunning most D.observable (now (D.history (disk_of engine.old))) engine.old journal.old.items st
+        → IsRunning most D.observable (now (D.history (disk_of engine.new))) engine.new journal.new.items st }
+    ensures bounds { CanGoOn engine.new }
+    ensures caused { (before : ℕ) → IsCaused before (D.faults (disk_of engine.old)) journal.old.items → IsCaused before (D.faults (disk_of engine.new)) journal.new.items }
+    ensures crash { D.observable ≡ true → (most : ℕ) (st : Standing) (start : History) → IsRunning most D.observable (now (D.history (disk_of engine.old))) engine.old journal.old.items st
+        → IsGuarded most st start (D.history (disk_of engine.old)) engine.old journal.old.items
+        → IsGuarded most st start (D.history (disk_of engine.new)) engine.new journal.new.items }
     ensures line { OnOk result (lines_of journal.new.items ≡ lines_of journal.old.items ++ Session session line call ∷ []) }
     ensures err { OnErr result (journal.new.items ≡ journal.old.items) }
 {
@@ -60,7 +57,7 @@ pub fn execute<D: Disk>(
         drop(call);
         return Err(AllocError);
     }
-    let answer = match environment.step(alloc, &call) {
+    let answer = match engine.step(alloc, &call) {
         Ok(answer) => answer,
         Err(_) => {
             drop(call);
@@ -78,14 +75,14 @@ pub fn execute<D: Disk>(
     if !logged {
         return Ok(());
     }
-    let Some(job) = environment.begin_sync() else {
+    let Some(job) = engine.sync_begin() else {
         let answer = Answer::DiskFault;
         record(journal, Event::SyncBegin { answer });
         return Ok(());
     };
     let answer = Answer::Done;
     record(journal, Event::SyncBegin { answer });
-    let answer = environment.end_sync(job.run());
+    let answer = engine.sync_end(job.run());
     record(journal, Event::SyncEnd { answer });
     Ok(())
 }

@@ -11,10 +11,12 @@ ghost use Rattle.log_replay.specs.declared.corruption.Corruption.{Corruption as 
 ghost use Rattle.script_text.specs.Grammar.{plan_of};
 ghost use Rattle.je_program.specs.declared.cause.Cause.{Cause as Why};
 ghost use Rattle.je_program.specs.declared.reading.TheConstants.{MOST_INPUT};
-ghost use Rattle.je_program.specs.Crash.{IsSafeProgram, KeepsEntry};
-ghost use Rattle.je_program.specs.Untouched.{IsUntouched};
-ghost use Rattle.je_program.specs.Files.{HasCorruption, Means};
-ghost use Rattle.je_program.specs.Program.{EndsBy, IsGivenTo, IsOutputWritten, MeanStore, ReadsPlan, RunsIf, final_store, is_before_disk, output_text};
+ghost use Rattle.engine.specs.Crash.{KeepsEntry};
+ghost use Rattle.je_program.specs.Crash.{IsSafeProgram};
+ghost use Rattle.engine.specs.Untouched.{IsUntouched};
+ghost use Rattle.engine.specs.Files.{HasCorruption, Means};
+ghost use Rattle.engine.specs.Files.{MeanStore};
+ghost use Rattle.je_program.specs.Program.{EndsBy, IsGivenTo, IsOutputWritten, ReadsPlan, RunsIf, final_store, is_before_disk, output_text};
 ghost use Rattle.je_program.specs.Run.{HasRun, cause_of_room};
 ghost use Rattle.command_line.specs.Arguments.{file_max_in, is_taken};
 

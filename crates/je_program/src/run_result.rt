@@ -1,37 +1,33 @@
 // A program's work, up to its output.
-ghost use Rattle.std.specs.Prelude.{◌≡◌, ◌≢◌, ◌≤◌, ◌^◌, ◌⊎◌, [], ℕ, None, true, false, map, string_bytes, length, Some};
+ghost use Rattle.std.specs.Prelude.{◌≡◌, ◌≢◌, ◌≤◌, ◌^◌, ◌⊎◌, [], ℕ, true, false, map, string_bytes, Some};
 ghost use Rattle.std.specs.List.{list_all};
 ghost use Rattle.je_model.specs.declared.plan.RunPlan.{RunPlan};
 ghost use Rattle.script_text.specs.Grammar.{is_line};
 ghost use Rattle.command_line.specs.Arguments.{file_max_in, is_taken};
 ghost use Rattle.je_disk.specs.Moments.{History, now};
-ghost use Rattle.log_buffer.specs.Buffer.{disk_of, has_failed};
-ghost use Rattle.log_buffer.specs.Log.{HasLog, ReadAs};
-ghost use Rattle.log_buffer.specs.Crash.{KeepsRead, KeptThrough};
-ghost use Rattle.log_file.specs.Log.{Log, entries_of};
+ghost use Rattle.engine.specs.Whole.{IsGuarded, disk_of};
 ghost use Rattle.log_replay.specs.declared.corruption.Corruption.{Corruption as Wrong};
 ghost use Rattle.je_model.specs.Answers.{Standing, after_events};
 ghost use Rattle.je_model.specs.Journal.{lines_of};
 ghost use Rattle.je_model.specs.Store.{no_databases};
 ghost use Rattle.je_program.specs.declared.cause.Cause.{Cause as Why};
-ghost use Rattle.je_program.specs.Crash.{ImagesMean, IsSafeProgram, IsSafeRun, KeepsEntry};
-ghost use Rattle.je_program.specs.Guarded.{IsGuarded, KeepsIfWorks};
-ghost use Rattle.je_program.specs.Environment.{log_rule};
+ghost use Rattle.engine.specs.Crash.{ImagesMean, IsSafeRun, KeepsEntry};
+ghost use Rattle.je_program.specs.Crash.{IsSafeProgram};
+ghost use Rattle.engine.specs.Environment.{log_rule};
 ghost use Rattle.je_program.specs.Untouched.{LeavesUnreadable};
-ghost use Rattle.je_program.specs.Files.{HasCorruption};
-ghost use Rattle.je_program.specs.Program.{ClosesBy, ClosesRun, EndsBy, IsGivenTo, IsStopped, MeanStore, ReadsPlan, RunsIf, final_store, is_before_disk, totals_of};
+ghost use Rattle.engine.specs.Files.{HasCorruption, MeanStore};
+ghost use Rattle.engine.specs.Totals.{totals_of};
+ghost use Rattle.je_program.specs.Program.{ClosesRun, EndsBy, IsGivenTo, IsStopped, ReadsPlan, RunsIf, final_store, is_before_disk, cause_closed, cause_of_opening};
 ghost use Rattle.je_program.specs.Run.{HasRun, IsCaused, AreFirstLines, IsRunning, cause_of_journal, of_session};
 
 use crate::cause::Cause;
 use crate::ending::journal_cause;
-use crate::environment::Environment;
-use crate::opening::{Opened, Stopped, open};
 use crate::run_request::{RunRequest, read_request};
 use crate::running::{Running, run};
+use engine::{Closed, Config, Engine, OpenErr, Opened, Stopped};
 use je_disk::Disk;
 use je_io::Source;
 use je_model::{Event, RunPlan, Store, Totals};
-use log_buffer::LogBuffer;
 use log_replay::Rows;
 use std::alloc::Global;
 
@@ -70,27 +66,6 @@ pub fn unopened<D>(alloc: Global, cause: Cause, disk: D) -> RunResult<D>
     }
 }
 
-// Closes a log: writes it out, and syncs, unless the disk failed before. A disk fault is the cause of the
-// end, unless there was no memory.
-fn close<D: Disk>(log: LogBuffer<D>, cause: Cause) -> (D, Cause)
-    ensures written { (held : Log) → HasLog D.observable (now (D.history (disk_of log))) log held → has_failed log ≡ false → result.1 ≡ Why.Done
-        → ReadAs D.observable (now (D.history result.0)).reads held }
-    ensures crash { D.observable ≡ true → (held : Log) (least : ℕ) → KeepsIfWorks (has_failed log) (now (D.history (disk_of log))) log held least → KeptThrough (D.history (disk_of log)) (D.history result.0) held [] least }
-    ensures kept { D.observable ≡ true → (held : Log) → HasLog D.observable (now (D.history (disk_of log))) log held → has_failed log ≡ false → result.1 ≡ Why.Done → KeepsRead held [] (length (entries_of held)) (now (D.history result.0)) }
-    ensures still { has_failed log ≡ true → result.0 ≡ disk_of log }
-    ensures cause { ClosesBy (D.faults (disk_of log)) (D.faults result.0) cause result.1 }
-    ensures never_falls { D.faults (disk_of log) ≤ D.faults result.0 }
-{
-    if log.has_failed() {
-        return (log.into_disk(), cause);
-    }
-    match log.close() {
-        (disk, Ok(())) => (disk, cause),
-        (disk, Err(_)) if cause == Cause::Memory => (disk, cause),
-        (disk, Err(_)) => (disk, Cause::Disk),
-    }
-}
-
 // How a run ends before it is closed.
 fn end_cause(memory_ended: bool, journal: &[Event]) -> Cause
     ensures memory { memory_ended ≡ true → result ≡ Why.Memory }
@@ -103,42 +78,69 @@ fn end_cause(memory_ended: bool, journal: &[Event]) -> Cause
     }
 }
 
-// Ends a run: closes its environment.
+// How a run ends once it is closed. A fault of the disk in closing is the cause of the end, unless there
+// was no memory.
+fn closed_cause(cause: Cause, failed: bool) -> Cause
+    ensures { result ≡ cause_closed failed cause }
+{
+    if !failed {
+        return cause;
+    }
+    match cause {
+        Cause::Memory => Cause::Memory,
+        _ => Cause::Disk,
+    }
+}
+
+// The cause of an environment that was not opened.
+fn opening_cause(error: OpenErr) -> Cause
+    ensures { result ≡ cause_of_opening error }
+{
+    match error {
+        OpenErr::Disk => Cause::Disk,
+        OpenErr::Memory => Cause::Memory,
+        OpenErr::Unreadable(corruption) => Cause::Unreadable(corruption),
+    }
+}
+
+// Ends a run: closes its engine.
 fn finish<D: Disk>(running: Running<D>, opening: Store) -> RunResult<D>
     ensures opened { result.opened ≡ true }
     ensures opening { result.opening ≡ opening }
     ensures journal { result.journal.items ≡ running.journal.items }
     ensures memory { running.memory_ended ≡ true → result.cause ≡ Why.Memory }
     ensures ends { running.memory_ended ≡ false → EndsBy running.journal.items result.cause }
-    ensures caused { (before : ℕ) → IsCaused before (D.faults (disk_of running.environment.log)) running.journal.items → ClosesRun before (D.faults result.disk) running.journal.items result.cause }
-    ensures crash { D.observable ≡ true → (most : ℕ) (start : History) (st : Standing) (log : Log) → IsRunning most D.observable (now (D.history (disk_of running.environment.log))) running.environment.log running.environment.kept running.journal.items st
-        → IsGuarded most st log start (D.history (disk_of running.environment.log)) running.environment.log running.journal.items None
+    ensures caused { (before : ℕ) → IsCaused before (D.faults (disk_of running.engine)) running.journal.items → ClosesRun before (D.faults result.disk) running.journal.items result.cause }
+    ensures crash { D.observable ≡ true → (most : ℕ) (start : History) (st : Standing) → IsRunning most D.observable (now (D.history (disk_of running.engine))) running.engine running.journal.items st
+        → IsGuarded most st start (D.history (disk_of running.engine)) running.engine running.journal.items
         → IsSafeRun st.store start (D.history result.disk) running.journal.items }
-    ensures crash_end { D.observable ≡ true → (most : ℕ) (start : History) (st : Standing) (log : Log) → IsRunning most D.observable (now (D.history (disk_of running.environment.log))) running.environment.log running.environment.kept running.journal.items st
-        → IsGuarded most st log start (D.history (disk_of running.environment.log)) running.environment.log running.journal.items None → st.fault ≡ None → result.cause ≡ Why.Done
+    ensures crash_end { D.observable ≡ true → (most : ℕ) (start : History) (st : Standing) → IsRunning most D.observable (now (D.history (disk_of running.engine))) running.engine running.journal.items st
+        → IsGuarded most st start (D.history (disk_of running.engine)) running.engine running.journal.items → st.fault ≡ None → result.cause ≡ Why.Done
         → ImagesMean (now (D.history result.disk)) (after_events (log_rule most) st running.journal.items).store }
-    ensures totals { (most : ℕ) (st : Standing) → IsRunning most D.observable (now (D.history (disk_of running.environment.log))) running.environment.log running.environment.kept running.journal.items st
+    ensures totals { (most : ℕ) (st : Standing) → IsRunning most D.observable (now (D.history (disk_of running.engine))) running.engine running.journal.items st
         → result.totals ≡ totals_of (after_events (log_rule most) st running.journal.items).store }
-    ensures files { (most : ℕ) (st : Standing) → IsRunning most D.observable (now (D.history (disk_of running.environment.log))) running.environment.log running.environment.kept running.journal.items st
+    ensures files { (most : ℕ) (st : Standing) → IsRunning most D.observable (now (D.history (disk_of running.engine))) running.engine running.journal.items st
         → st.fault ≡ None → result.cause ≡ Why.Done → D.observable ≡ true → MeanStore (now (D.history result.disk)).reads (after_events (log_rule most) st running.journal.items).store }
 {
     let Running {
-        environment,
+        engine,
         journal,
         memory_ended,
         stopped: _,
     } = running;
-    let Environment { log, kept } = environment;
+    let totals = engine.totals();
     let cause = end_cause(memory_ended, &journal);
-    let (disk, cause) = close(log, cause);
+    let closed = engine.close();
+    let Closed { disk, failed, rows } = closed;
+    let cause = closed_cause(cause, failed);
     RunResult {
         cause,
         opened: true,
         disk,
         journal,
         opening,
-        totals: kept.totals,
-        rows: kept.rows,
+        totals,
+        rows,
     }
 }
 
@@ -161,16 +163,17 @@ pub fn run_plan<D: Disk>(alloc: Global, disk: D, file_max: u32, plan: RunPlan) -
     ensures files { result.cause ≡ Why.Done → D.observable ≡ true → MeanStore (now (D.history result.disk)).reads (final_store result.opening result.journal.items) }
     ensures left_alone { D.observable ≡ true → LeavesUnreadable result.cause (D.history disk) (D.history result.disk) }
 {
-    match open(alloc, disk, file_max) {
+    let config = Config { file_max };
+    match Engine::open(alloc, disk, &config) {
         Ok(opened) => {
-            let Opened {
-                environment,
-                opening,
-            } = opened;
-            let running = run(alloc, environment, plan.lines.into_vec());
+            let Opened { engine, opening } = opened;
+            let running = run(alloc, engine, plan.lines.into_vec());
             finish(running, opening)
         }
-        Err(Stopped { cause, disk }) => unopened(alloc, cause, disk),
+        Err(Stopped { error, disk }) => {
+            let cause = opening_cause(error);
+            unopened(alloc, cause, disk)
+        }
     }
 }
 

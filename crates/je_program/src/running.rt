@@ -1,28 +1,24 @@
 // A run of a script's lines.
-ghost use Rattle.std.specs.Prelude.{◌≡◌, ◌≤◌, ◌<◌, ◌++◌, ◌∷◌, [], ℕ, List, length, true, false, slice_index_or, None};
+ghost use Rattle.std.specs.Prelude.{◌≡◌, ◌≤◌, ◌<◌, ◌++◌, ◌∷◌, [], ℕ, List, length, true, false, slice_index_or};
 ghost use Rattle.std.specs.List.{list_all};
 ghost use Rattle.script_text.specs.Grammar.{has_line, is_line};
 ghost use Rattle.je_disk.specs.Moments.{History, now};
-ghost use Rattle.log_buffer.specs.Buffer.{disk_of};
-ghost use Rattle.log_file.specs.Log.{Log};
+ghost use Rattle.engine.specs.Whole.{CanGoOn, IsAt, IsGuarded, disk_of};
 ghost use Rattle.je_model.specs.Answers.{Standing};
 ghost use Rattle.je_model.specs.declared.plan.ScriptLine.{ScriptLine as Line};
 ghost use Rattle.je_model.specs.declared.plan.ScriptLine.TheVariants.{Session};
-ghost use Rattle.je_program.specs.Guarded.{IsGuarded};
-ghost use Rattle.je_program.specs.Environment.{IsAt};
 ghost use Rattle.je_program.specs.Run.{IsRunning, IsCaused, HasGiven};
-ghost use Rattle.je_program.specs.Steps.{CanGoOn};
 
-use crate::environment::Environment;
 use crate::executing::execute;
+use engine::Engine;
 use je_disk::Disk;
 use je_model::{Call, Event, ScriptLine};
 use std::alloc::Global;
 
-/// A run under way: its environment, the journal so far, whether a call found no memory, and which
+/// A run under way: its engine, the journal so far, whether a call found no memory, and which
 /// sessions were ended by that, by their numbers.
 pub struct Running<D> {
-    pub environment: Environment<D>,
+    pub engine: Engine<D>,
     pub journal: Vec<Event>,
     pub memory_ended: bool,
     pub stopped: [bool; 256],
@@ -54,19 +50,19 @@ fn execute_line<D: Disk>(
     line: u32,
     call: Call,
 )
-    requires running { (most : ℕ) × (st : Standing) × IsRunning most D.observable (now (D.history (disk_of running.old.environment.log))) running.old.environment.log running.old.environment.kept running.old.journal.items st }
-    requires bounds { CanGoOn running.old.environment.kept }
+    requires running { (most : ℕ) × (st : Standing) × IsRunning most D.observable (now (D.history (disk_of running.old.engine))) running.old.engine running.old.journal.items st }
+    requires bounds { CanGoOn running.old.engine }
     requires sessions { length running.old.stopped ≡ 256 }
     requires has_line { has_line call ≡ true }
-    ensures runs { (most : ℕ) (st : Standing) → IsRunning most D.observable (now (D.history (disk_of running.old.environment.log))) running.old.environment.log running.old.environment.kept running.old.journal.items st
-        → IsRunning most D.observable (now (D.history (disk_of running.new.environment.log))) running.new.environment.log running.new.environment.kept running.new.journal.items st }
-    ensures bounds { CanGoOn running.new.environment.kept }
+    ensures runs { (most : ℕ) (st : Standing) → IsRunning most D.observable (now (D.history (disk_of running.old.engine))) running.old.engine running.old.journal.items st
+        → IsRunning most D.observable (now (D.history (disk_of running.new.engine))) running.new.engine running.new.journal.items st }
+    ensures bounds { CanGoOn running.new.engine }
     ensures sessions { length running.new.stopped ≡ 256 }
-    ensures caused { (before : ℕ) → IsCaused before (D.faults (disk_of running.old.environment.log)) running.old.journal.items
-        → IsCaused before (D.faults (disk_of running.new.environment.log)) running.new.journal.items }
-    ensures crash { D.observable ≡ true → (most : ℕ) (st : Standing) (log : Log) (start : History) → IsRunning most D.observable (now (D.history (disk_of running.old.environment.log))) running.old.environment.log running.old.environment.kept running.old.journal.items st
-        → IsGuarded most st log start (D.history (disk_of running.old.environment.log)) running.old.environment.log running.old.journal.items None
-        → IsGuarded most st log start (D.history (disk_of running.new.environment.log)) running.new.environment.log running.new.journal.items None }
+    ensures caused { (before : ℕ) → IsCaused before (D.faults (disk_of running.old.engine)) running.old.journal.items
+        → IsCaused before (D.faults (disk_of running.new.engine)) running.new.journal.items }
+    ensures crash { D.observable ≡ true → (most : ℕ) (st : Standing) (start : History) → IsRunning most D.observable (now (D.history (disk_of running.old.engine))) running.old.engine running.old.journal.items st
+        → IsGuarded most st start (D.history (disk_of running.old.engine)) running.old.engine running.old.journal.items
+        → IsGuarded most st start (D.history (disk_of running.new.engine)) running.new.engine running.new.journal.items }
     ensures given { (lines : List Line) → HasGiven running.old.journal.items running.old.memory_ended running.old.stopped lines
         → HasGiven running.new.journal.items running.new.memory_ended running.new.stopped (lines ++ Session session line call ∷ []) }
 {
@@ -76,7 +72,7 @@ fn execute_line<D: Disk>(
         return;
     }
     match execute(
-        &mut running.environment,
+        &mut running.engine,
         &mut running.journal,
         alloc,
         session,
@@ -93,19 +89,19 @@ fn execute_line<D: Disk>(
 
 // Gives the next line.
 fn execute_next<D: Disk>(running: &mut Running<D>, alloc: Global, given: ScriptLine)
-    requires running { (most : ℕ) × (st : Standing) × IsRunning most D.observable (now (D.history (disk_of running.old.environment.log))) running.old.environment.log running.old.environment.kept running.old.journal.items st }
-    requires bounds { CanGoOn running.old.environment.kept }
+    requires running { (most : ℕ) × (st : Standing) × IsRunning most D.observable (now (D.history (disk_of running.old.engine))) running.old.engine running.old.journal.items st }
+    requires bounds { CanGoOn running.old.engine }
     requires sessions { length running.old.stopped ≡ 256 }
     requires line { is_line given ≡ true }
-    ensures runs { (most : ℕ) (st : Standing) → IsRunning most D.observable (now (D.history (disk_of running.old.environment.log))) running.old.environment.log running.old.environment.kept running.old.journal.items st
-        → IsRunning most D.observable (now (D.history (disk_of running.new.environment.log))) running.new.environment.log running.new.environment.kept running.new.journal.items st }
-    ensures bounds { CanGoOn running.new.environment.kept }
+    ensures runs { (most : ℕ) (st : Standing) → IsRunning most D.observable (now (D.history (disk_of running.old.engine))) running.old.engine running.old.journal.items st
+        → IsRunning most D.observable (now (D.history (disk_of running.new.engine))) running.new.engine running.new.journal.items st }
+    ensures bounds { CanGoOn running.new.engine }
     ensures sessions { length running.new.stopped ≡ 256 }
-    ensures caused { (before : ℕ) → IsCaused before (D.faults (disk_of running.old.environment.log)) running.old.journal.items
-        → IsCaused before (D.faults (disk_of running.new.environment.log)) running.new.journal.items }
-    ensures crash { D.observable ≡ true → (most : ℕ) (st : Standing) (log : Log) (start : History) → IsRunning most D.observable (now (D.history (disk_of running.old.environment.log))) running.old.environment.log running.old.environment.kept running.old.journal.items st
-        → IsGuarded most st log start (D.history (disk_of running.old.environment.log)) running.old.environment.log running.old.journal.items None
-        → IsGuarded most st log start (D.history (disk_of running.new.environment.log)) running.new.environment.log running.new.journal.items None }
+    ensures caused { (before : ℕ) → IsCaused before (D.faults (disk_of running.old.engine)) running.old.journal.items
+        → IsCaused before (D.faults (disk_of running.new.engine)) running.new.journal.items }
+    ensures crash { D.observable ≡ true → (most : ℕ) (st : Standing) (start : History) → IsRunning most D.observable (now (D.history (disk_of running.old.engine))) running.old.engine running.old.journal.items st
+        → IsGuarded most st start (D.history (disk_of running.old.engine)) running.old.engine running.old.journal.items
+        → IsGuarded most st start (D.history (disk_of running.new.engine)) running.new.engine running.new.journal.items }
     ensures given { (lines : List Line) → HasGiven running.old.journal.items running.old.memory_ended running.old.stopped lines
         → HasGiven running.new.journal.items running.new.memory_ended running.new.stopped (lines ++ given ∷ []) }
 {
@@ -120,25 +116,21 @@ fn execute_next<D: Disk>(running: &mut Running<D>, alloc: Global, given: ScriptL
 
 /// Gives the lines in order. A call that finds no memory is not in the journal, and ends its session,
 /// which gives no further line; the others go on.
-pub fn run<D: Disk>(
-    alloc: Global,
-    environment: Environment<D>,
-    lines: Vec<ScriptLine>,
-) -> Running<D>
-    requires start { (most : ℕ) × (st : Standing) × IsAt most D.observable (now (D.history (disk_of environment.log))) environment.log environment.kept st }
-    requires bounds { CanGoOn environment.kept }
+pub fn run<D: Disk>(alloc: Global, engine: Engine<D>, lines: Vec<ScriptLine>) -> Running<D>
+    requires start { (most : ℕ) × (st : Standing) × IsAt most D.observable (now (D.history (disk_of engine))) engine st }
+    requires bounds { CanGoOn engine }
     requires lines { list_all is_line lines.items ≡ true }
-    ensures runs { (most : ℕ) (st : Standing) → IsAt most D.observable (now (D.history (disk_of environment.log))) environment.log environment.kept st
-        → IsRunning most D.observable (now (D.history (disk_of result.environment.log))) result.environment.log result.environment.kept result.journal.items st }
-    ensures caused { IsCaused (D.faults (disk_of environment.log)) (D.faults (disk_of result.environment.log)) result.journal.items }
-    ensures crash { D.observable ≡ true → (most : ℕ) (st : Standing) (log : Log) (start : History) → IsAt most D.observable (now (D.history (disk_of environment.log))) environment.log environment.kept st
-        → IsGuarded most st log start (D.history (disk_of environment.log)) environment.log [] None
-        → IsGuarded most st log start (D.history (disk_of result.environment.log)) result.environment.log result.journal.items None }
+    ensures runs { (most : ℕ) (st : Standing) → IsAt most D.observable (now (D.history (disk_of engine))) engine st
+        → IsRunning most D.observable (now (D.history (disk_of result.engine))) result.engine result.journal.items st }
+    ensures caused { IsCaused (D.faults (disk_of engine)) (D.faults (disk_of result.engine)) result.journal.items }
+    ensures crash { D.observable ≡ true → (most : ℕ) (st : Standing) (start : History) → IsAt most D.observable (now (D.history (disk_of engine))) engine st
+        → IsGuarded most st start (D.history (disk_of engine)) engine []
+        → IsGuarded most st start (D.history (disk_of result.engine)) result.engine result.journal.items }
     ensures given { HasGiven result.journal.items result.memory_ended result.stopped lines.items }
-    ensures bounds { CanGoOn result.environment.kept }
+    ensures bounds { CanGoOn result.engine }
 {
     let mut running = Running {
-        environment,
+        engine,
         journal: journal_for(alloc, lines.len()),
         memory_ended: false,
         stopped: none_stopped(),

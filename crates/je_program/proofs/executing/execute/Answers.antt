@@ -1,7 +1,7 @@
-use Rattle.std.proofs.Common.{◌≡◌, List, [], ◌∷◌, ◌++◌, Some, None, length, sym, ◌∙◌, ap, subst, refl, false}
+use Rattle.std.proofs.Common.{◌≡◌, List, [], ◌∷◌, ◌++◌, None, sym, ◌∙◌, ap, subst, refl}
 use Rattle.je_disk.specs.Moments.{now}
 use Rattle.je_disk.specs.States.{State}
-use Rattle.log_buffer.specs.Buffer.{disk_of, has_failed}
+use Rattle.engine.specs.Whole.{IsAt, IsGuarded, disk_of}
 use Rattle.je_model.specs.declared.event.Event.{Event}
 use Rattle.je_model.specs.declared.event.Event.TheVariants.{Call as Called, SyncBegin, SyncEnd}
 use Rattle.je_model.specs.declared.answer.Answer.TheVariants.{Done, DiskFault}
@@ -11,47 +11,43 @@ use Rattle.je_model.specs.declared.plan.ScriptLine.{ScriptLine}
 use Rattle.je_model.specs.declared.plan.ScriptLine.TheVariants.{Session}
 use Rattle.std.proofs.lemmas.List.{append-nil}
 use Rattle.je_model.proofs.JournalLaws.{after_events-append, lines_of-append}
-use Rattle.log_file.specs.Log.{Log, entries_of}
-use Rattle.je_program.specs.Guarded.{IsGuarded, log_after}
-use Rattle.je_program.specs.Environment.{IsAt, log_rule}
+use Rattle.engine.specs.Environment.{log_rule}
 use Rattle.je_program.specs.Run.{IsCaused, IsRunning}
-use Rattle.je_program.proofs.CallLaws.{logged_none}
-use Rattle.je_program.proofs.SafeLaws.{log_after-append}
-use Rattle.je_program.proofs.RunLaws.{caused_answered, caused_synced, caused_unsynced, logged_at_work, runs_logged, runs_plain, runs_same, runs_unsynced}
+use Rattle.je_program.proofs.RunLaws.{caused_answered, caused_synced, caused_unsynced, logged_at_work, logged_none, runs_logged, runs_plain, runs_same, runs_unsynced}
 use Rattle.je_program.proofs.executing.execute.Goals as goal
 
 pub returns-in-Err-clause-runs : goal.returns-in-Err-clause-runs
 returns-in-Err-clause-runs g c = λ most st running.
     let state : g.row.D.Denot → State = λ d. now (g.D.Disk.history d) in
-    let old = c.args.environment.now in
+    let old = c.args.engine.now in
     let new = c.step.new.self in
-    subst (λ (l : List Event). IsRunning most g.D.Disk.observable (state (disk_of new.log)) new.log new.kept l st) (sym c.reserve.ensures.items)
-    (runs_same most g.D.Disk.observable (state (disk_of old.log)) (state (disk_of new.log)) old.log new.log old.kept new.kept c.args.journal.now.items st running
+    subst (λ (l : List Event). IsRunning most g.D.Disk.observable (state (disk_of new)) new l st) (sym c.reserve.ensures.items)
+    (runs_same most g.D.Disk.observable (state (disk_of old)) (state (disk_of new)) old new c.args.journal.now.items st running
     (c.in-Err.ensures.goes_on most (after_events (log_rule most) st c.args.journal.now.items) running.here))
 
 pub returns-then-not-logged-clause-runs : goal.returns-then-not-logged-clause-runs
 returns-then-not-logged-clause-runs g c = λ most st running.
     let state : g.row.D.Denot → State = λ d. now (g.D.Disk.history d) in
-    let old = c.args.environment.now in
+    let old = c.args.engine.now in
     let new = c.step.new.self in
     let journal = c.args.journal.now.items in
     let call : Event = Called c.args.session c.args.line c.args.call c.in-Ok.answer in
     let all = c.record.ensures.items ∙ ap (λ (l : List Event). l ++ call ∷ []) c.reserve.ensures.items in
-    subst (λ (l : List Event). IsRunning most g.D.Disk.observable (state (disk_of new.log)) new.log new.kept l st) (sym all)
-    (runs_plain most g.D.Disk.observable (state (disk_of old.log)) (state (disk_of new.log)) old.log new.log old.kept new.kept journal c.args.session c.args.line c.args.call c.in-Ok.answer st running
+    subst (λ (l : List Event). IsRunning most g.D.Disk.observable (state (disk_of new)) new l st) (sym all)
+    (runs_plain most g.D.Disk.observable (state (disk_of old)) (state (disk_of new)) old new journal c.args.session c.args.line c.args.call c.in-Ok.answer st running
     (c.in-Ok.ensures.goes_on most (after_events (log_rule most) st journal) running.here) (sym c.waits_for_sync-logged.ensures ∙ c.if-not-logged.true))
 
 pub returns-in_default-clause-runs : goal.returns-in_default-clause-runs
 returns-in_default-clause-runs g c = λ most st running.
     let state : g.row.D.Denot → State = λ d. now (g.D.Disk.history d) in
-    let old = c.args.environment.now in
+    let old = c.args.engine.now in
     let middle = c.step.new.self in
-    let new = c.begin_sync.new.self in
+    let new = c.sync_begin.new.self in
     let journal = c.args.journal.now.items in
     let call : Event = Called c.args.session c.args.line c.args.call c.in-Ok.answer in
     let all = c.record-in_default.ensures.items ∙ ap (λ (l : List Event). l ++ SyncBegin DiskFault ∷ []) (c.record.ensures.items ∙ ap (λ (l : List Event). l ++ call ∷ []) c.reserve.ensures.items) in
-    subst (λ (l : List Event). IsRunning most g.D.Disk.observable (state (disk_of new.log)) new.log new.kept l st) (sym all)
-    (runs_unsynced most g.D.Disk.observable (state (disk_of old.log)) (state (disk_of middle.log)) (state (disk_of new.log)) old.log middle.log new.log old.kept middle.kept new.kept
+    subst (λ (l : List Event). IsRunning most g.D.Disk.observable (state (disk_of new)) new l st) (sym all)
+    (runs_unsynced most g.D.Disk.observable (state (disk_of old)) (state (disk_of middle)) (state (disk_of new)) old middle new
     journal c.args.session c.args.line c.args.call c.in-Ok.answer st running
     (c.in-Ok.ensures.goes_on most (after_events (log_rule most) st journal) running.here) (sym c.waits_for_sync-logged.ensures ∙ c.if-not-logged.false)
     (λ s here none. (c.in_default.ensures.begins most s here none).1))
@@ -65,72 +61,71 @@ returns-in_default-clause-caused g c = λ before caused.
     let most = c.requires.running.0 in
     let st = c.requires.running.1 in
     let running = c.requires.running.2 in
-    let at_work = logged_at_work most g.D.Disk.observable (state (disk_of middle.log)) middle.log middle.kept (after_events (log_rule most) st journal) c.args.call c.in-Ok.answer
+    let at_work = logged_at_work most g.D.Disk.observable (state (disk_of middle)) middle (after_events (log_rule most) st journal) c.args.call c.in-Ok.answer
     (c.in-Ok.ensures.goes_on most (after_events (log_rule most) st journal) running.here) (sym c.waits_for_sync-logged.ensures ∙ c.if-not-logged.false) in
-    caused_unsynced before (faults (disk_of c.args.environment.now.log)) (faults (disk_of middle.log)) (faults (disk_of c.begin_sync.new.self.log)) journal c.record-in_default.new.journal.items caused
-    c.in-Ok.ensures.cause.never_falls (c.in_default.ensures.cause at_work.2 refl) c.begin_sync.ensures.never_falls
+    caused_unsynced before (faults (disk_of c.args.engine.now)) (faults (disk_of middle)) (faults (disk_of c.sync_begin.new.self)) journal c.record-in_default.new.journal.items caused
+    c.in-Ok.ensures.cause.never_falls (c.in_default.ensures.cause most at_work.0 at_work.1 at_work.2 refl) c.sync_begin.ensures.never_falls
 
 pub returns-clause-runs : goal.returns-clause-runs
 returns-clause-runs g c = λ most st running.
     let state : g.row.D.Denot → State = λ d. now (g.D.Disk.history d) in
-    let old = c.args.environment.now in
+    let old = c.args.engine.now in
     let middle = c.step.new.self in
-    let new = c.end_sync-answer.new.self in
+    let new = c.sync_end-answer.new.self in
     let journal = c.args.journal.now.items in
-    let ending = c.end_sync-answer.result in
+    let ending = c.sync_end-answer.result in
     let call : Event = Called c.args.session c.args.line c.args.call c.in-Ok.answer in
     let all = c.record-3.ensures.items ∙ ap (λ (l : List Event). l ++ SyncEnd ending ∷ []) (c.record-2.ensures.items
     ∙ ap (λ (l : List Event). l ++ SyncBegin Done ∷ []) (c.record.ensures.items ∙ ap (λ (l : List Event). l ++ call ∷ []) c.reserve.ensures.items)) in
-    subst (λ (l : List Event). IsRunning most g.D.Disk.observable (state (disk_of new.log)) new.log new.kept l st) (sym all)
-    (runs_logged most g.D.Disk.observable (state (disk_of old.log)) (state (disk_of middle.log)) (state (disk_of new.log)) old.log middle.log new.log old.kept middle.kept new.kept
+    subst (λ (l : List Event). IsRunning most g.D.Disk.observable (state (disk_of new)) new l st) (sym all)
+    (runs_logged most g.D.Disk.observable (state (disk_of old)) (state (disk_of middle)) (state (disk_of new)) old middle new
     journal c.args.session c.args.line c.args.call c.in-Ok.answer ending st running
     (c.in-Ok.ensures.goes_on most (after_events (log_rule most) st journal) running.here) (sym c.waits_for_sync-logged.ensures ∙ c.if-not-logged.false)
-    (λ s here none. c.end_sync-answer.ensures.ends most (after_begin s Done) (c.in-Some.ensures.begins most s here none).1 none))
+    (λ s here none. c.sync_end-answer.ensures.ends most (after_begin s Done) (c.in-Some.ensures.begins most s here none).1 none))
 
 pub returns-clause-caused : goal.returns-clause-caused
 returns-clause-caused g c = λ before caused.
     let state : g.row.D.Denot → State = λ d. now (g.D.Disk.history d) in
     let faults = g.D.Disk.faults in
     let middle = c.step.new.self in
-    let begun = c.begin_sync.new.self in
+    let begun = c.sync_begin.new.self in
     let journal = c.args.journal.now.items in
-    let ending = c.end_sync-answer.result in
+    let ending = c.sync_end-answer.result in
     let most = c.requires.running.0 in
     let st = c.requires.running.1 in
     let running = c.requires.running.2 in
     let logged = sym c.waits_for_sync-logged.ensures ∙ c.if-not-logged.false in
-    let at_work = logged_at_work most g.D.Disk.observable (state (disk_of middle.log)) middle.log middle.kept (after_events (log_rule most) st journal) c.args.call c.in-Ok.answer
+    let at_work = logged_at_work most g.D.Disk.observable (state (disk_of middle)) middle (after_events (log_rule most) st journal) c.args.call c.in-Ok.answer
     (c.in-Ok.ensures.goes_on most (after_events (log_rule most) st journal) running.here) logged in
-    let here = (c.in-Some.ensures.begins most at_work.0 at_work.1.0 at_work.1.1).1 in
-    let works : has_failed begun.log ≡ false = (here.valid at_work.1.1).at_end.works in
+    let here = (c.in-Some.ensures.begins most at_work.0 at_work.1 at_work.2).1 in
     let call : Event = Called c.args.session c.args.line c.args.call c.in-Ok.answer in
     let all = c.record-3.ensures.items ∙ ap (λ (l : List Event). l ++ SyncEnd ending ∷ []) (c.record-2.ensures.items
     ∙ ap (λ (l : List Event). l ++ SyncBegin Done ∷ []) (c.record.ensures.items ∙ ap (λ (l : List Event). l ++ call ∷ []) c.reserve.ensures.items)) in
-    let after = faults (disk_of c.end_sync-answer.new.self.log) in
+    let after = faults (disk_of c.sync_end-answer.new.self) in
     subst (λ (l : List Event). IsCaused before after l) (sym all)
-    (caused_synced before (faults (disk_of c.args.environment.now.log)) (faults (disk_of middle.log)) (faults (disk_of begun.log)) after journal c.args.session c.args.line c.args.call
-    c.in-Ok.answer ending caused c.in-Ok.ensures.cause.never_falls c.begin_sync.ensures.never_falls c.end_sync-answer.ensures.never_falls logged (c.end_sync-answer.ensures.cause works))
+    (caused_synced before (faults (disk_of c.args.engine.now)) (faults (disk_of middle)) (faults (disk_of begun)) after journal c.args.session c.args.line c.args.call
+    c.in-Ok.answer ending caused c.in-Ok.ensures.cause.never_falls c.sync_begin.ensures.never_falls c.sync_end-answer.ensures.never_falls logged (c.sync_end-answer.ensures.cause most (after_begin at_work.0 Done) here at_work.2))
 
 pub returns-in-Err-clause-crash : goal.returns-in-Err-clause-crash
-returns-in-Err-clause-crash g c = λ observed most st log start running guarded.
+returns-in-Err-clause-crash g c = λ observed most st start running guarded.
     let new = c.step.new.self in
-    subst (λ (l : List Event). IsGuarded most st log start (g.D.Disk.history (disk_of new.log)) new.log l None) (sym c.reserve.ensures.items)
-    (c.in-Err.ensures.crash observed most st log start c.args.session c.args.line c.args.journal.now.items running.here guarded)
+    subst (λ (l : List Event). IsGuarded most st start (g.D.Disk.history (disk_of new)) new l) (sym c.reserve.ensures.items)
+    (c.in-Err.ensures.crash observed most st start c.args.session c.args.line c.args.journal.now.items running.here guarded)
 
 pub returns-then-not-logged-clause-crash : goal.returns-then-not-logged-clause-crash
-returns-then-not-logged-clause-crash g c = λ observed most st log start running guarded.
+returns-then-not-logged-clause-crash g c = λ observed most st start running guarded.
     let new = c.step.new.self in
     let journal = c.args.journal.now.items in
     let call : Event = Called c.args.session c.args.line c.args.call c.in-Ok.answer in
     let all = c.record.ensures.items ∙ ap (λ (l : List Event). l ++ call ∷ []) c.reserve.ensures.items in
-    subst (λ (l : List Event). IsGuarded most st log start (g.D.Disk.history (disk_of new.log)) new.log l None) (sym all)
-    (c.in-Ok.ensures.crash observed most st log start c.args.session c.args.line journal running.here guarded)
+    subst (λ (l : List Event). IsGuarded most st start (g.D.Disk.history (disk_of new)) new l) (sym all)
+    (c.in-Ok.ensures.crash observed most st start c.args.session c.args.line journal running.here guarded)
 
 pub returns-in_default-clause-crash : goal.returns-in_default-clause-crash
-returns-in_default-clause-crash g c = λ observed most st log start running guarded.
+returns-in_default-clause-crash g c = λ observed most st start running guarded.
     let state : g.row.D.Denot → State = λ d. now (g.D.Disk.history d) in
     let middle = c.step.new.self in
-    let new = c.begin_sync.new.self in
+    let new = c.sync_begin.new.self in
     let journal = c.args.journal.now.items in
     let standing = after_events (log_rule most) st journal in
     let call : Event = Called c.args.session c.args.line c.args.call c.in-Ok.answer in
@@ -139,20 +134,20 @@ returns-in_default-clause-crash g c = λ observed most st log start running guar
     let stands = after_events-append (log_rule most) st journal (call ∷ []) in
     let none : (after_events (log_rule most) st (journal ++ call ∷ [])).fault ≡ None =
     subst (λ (s : Standing). s.fault ≡ None) (sym stands)
-    (logged_none most g.D.Disk.observable (state (disk_of middle.log)) middle.log middle.kept standing c.args.call c.in-Ok.answer goes (sym c.waits_for_sync-logged.ensures ∙ c.if-not-logged.false)) in
-    subst (λ (l : List Event). IsGuarded most st log start (g.D.Disk.history (disk_of new.log)) new.log l None) (sym all)
-    (c.in_default.ensures.crash observed most st log start (journal ++ call ∷ []) none
-    (c.in-Ok.ensures.crash observed most st log start c.args.session c.args.line journal running.here guarded))
+    (logged_none most g.D.Disk.observable (state (disk_of middle)) middle standing c.args.call c.in-Ok.answer goes (sym c.waits_for_sync-logged.ensures ∙ c.if-not-logged.false)) in
+    subst (λ (l : List Event). IsGuarded most st start (g.D.Disk.history (disk_of new)) new l) (sym all)
+    (c.in_default.ensures.crash observed most st start (journal ++ call ∷ []) none
+    (c.in-Ok.ensures.crash observed most st start c.args.session c.args.line journal running.here guarded))
 
 pub returns-clause-crash : goal.returns-clause-crash
-returns-clause-crash g c = λ observed most st log start running guarded.
+returns-clause-crash g c = λ observed most st start running guarded.
     let state : g.row.D.Denot → State = λ d. now (g.D.Disk.history d) in
     let middle = c.step.new.self in
-    let begun = c.begin_sync.new.self in
-    let new = c.end_sync-answer.new.self in
+    let begun = c.sync_begin.new.self in
+    let new = c.sync_end-answer.new.self in
     let journal = c.args.journal.now.items in
     let standing = after_events (log_rule most) st journal in
-    let ending = c.end_sync-answer.result in
+    let ending = c.sync_end-answer.result in
     let call : Event = Called c.args.session c.args.line c.args.call c.in-Ok.answer in
     let all = c.record-3.ensures.items ∙ ap (λ (l : List Event). l ++ SyncEnd ending ∷ []) (c.record-2.ensures.items
     ∙ ap (λ (l : List Event). l ++ SyncBegin Done ∷ []) (c.record.ensures.items ∙ ap (λ (l : List Event). l ++ call ∷ []) c.reserve.ensures.items)) in
@@ -160,21 +155,19 @@ returns-clause-crash g c = λ observed most st log start running guarded.
     let syncing : List Event = called ++ SyncBegin Done ∷ [] in
     let goes = c.in-Ok.ensures.goes_on most standing running.here in
     let stands = after_events-append (log_rule most) st journal (call ∷ []) in
-    let here : IsAt most g.D.Disk.observable (state (disk_of middle.log)) middle.log middle.kept (after_events (log_rule most) st called) =
-    subst (λ (s : Standing). IsAt most g.D.Disk.observable (state (disk_of middle.log)) middle.log middle.kept s) (sym stands) goes.1 in
+    let here : IsAt most g.D.Disk.observable (state (disk_of middle)) middle (after_events (log_rule most) st called) =
+    subst (λ (s : Standing). IsAt most g.D.Disk.observable (state (disk_of middle)) middle s) (sym stands) goes.1 in
     let none : (after_events (log_rule most) st called).fault ≡ None =
     subst (λ (s : Standing). s.fault ≡ None) (sym stands)
-    (logged_none most g.D.Disk.observable (state (disk_of middle.log)) middle.log middle.kept standing c.args.call c.in-Ok.answer goes (sym c.waits_for_sync-logged.ensures ∙ c.if-not-logged.false)) in
+    (logged_none most g.D.Disk.observable (state (disk_of middle)) middle standing c.args.call c.in-Ok.answer goes (sym c.waits_for_sync-logged.ensures ∙ c.if-not-logged.false)) in
     let begins = (c.in-Some.ensures.begins most (after_events (log_rule most) st called) here none).1 in
     let stands_now = after_events-append (log_rule most) st called (SyncBegin Done ∷ []) in
-    let here_now : IsAt most g.D.Disk.observable (state (disk_of begun.log)) begun.log begun.kept (after_events (log_rule most) st syncing) =
-    subst (λ (s : Standing). IsAt most g.D.Disk.observable (state (disk_of begun.log)) begun.log begun.kept s) (sym stands_now) begins in
+    let here_now : IsAt most g.D.Disk.observable (state (disk_of begun)) begun (after_events (log_rule most) st syncing) =
+    subst (λ (s : Standing). IsAt most g.D.Disk.observable (state (disk_of begun)) begun s) (sym stands_now) begins in
     let none_now : (after_events (log_rule most) st syncing).fault ≡ None = subst (λ (s : Standing). s.fault ≡ None) (sym stands_now) none in
-    let guarded_begun = c.in-Some.ensures.crash observed most st log start called none (c.in-Ok.ensures.crash observed most st log start c.args.session c.args.line journal running.here guarded) in
-    let same : log_after most st syncing log ≡ log_after most st called log = log_after-append most st called (SyncBegin Done ∷ []) log in
-    subst (λ (l : List Event). IsGuarded most st log start (g.D.Disk.history (disk_of new.log)) new.log l None) (sym all)
-    (c.end_sync-answer.ensures.crash observed most st log start syncing here_now none_now
-    (subst (λ (l : Log). IsGuarded most st log start (g.D.Disk.history (disk_of begun.log)) begun.log syncing (Some (length (entries_of l)))) (sym same) guarded_begun))
+    let guarded_begun = c.in-Some.ensures.crash observed most st start called none (c.in-Ok.ensures.crash observed most st start c.args.session c.args.line journal running.here guarded) in
+    subst (λ (l : List Event). IsGuarded most st start (g.D.Disk.history (disk_of new)) new l) (sym all)
+    (c.sync_end-answer.ensures.crash observed most st start syncing here_now none_now guarded_begun)
 
 one_more : (journal after : List Event) (line : ScriptLine) (event : Event) → lines_of after ≡ lines_of journal ++ line ∷ [] → lines_of (event ∷ []) ≡ [] → lines_of (after ++ event ∷ []) ≡ lines_of journal ++ line ∷ []
 one_more journal after line event is none = lines_of-append after (event ∷ []) ∙ ap (λ (l : List ScriptLine). lines_of after ++ l) none ∙ append-nil (lines_of after) ∙ is
@@ -195,7 +188,7 @@ returns-in_default-clause-line g c =
 pub returns-clause-line : goal.returns-clause-line
 returns-clause-line g c =
     let journal = c.args.journal.now.items in
-    let ending = c.end_sync-answer.result in
+    let ending = c.sync_end-answer.result in
     let given : ScriptLine = Session c.args.session c.args.line c.args.call in
     let call : Event = Called c.args.session c.args.line c.args.call c.in-Ok.answer in
     let all = c.record-3.ensures.items ∙ ap (λ (l : List Event). l ++ SyncEnd ending ∷ []) (c.record-2.ensures.items
@@ -210,18 +203,18 @@ pub returns-then-not-logged-clause-bounds : goal.returns-then-not-logged-clause-
 returns-then-not-logged-clause-bounds g c = c.step.ensures.bounds
 
 pub returns-in_default-clause-bounds : goal.returns-in_default-clause-bounds
-returns-in_default-clause-bounds g c = c.begin_sync.ensures.bounds c.step.ensures.bounds
+returns-in_default-clause-bounds g c = c.sync_begin.ensures.bounds c.step.ensures.bounds
 
 pub returns-clause-bounds : goal.returns-clause-bounds
-returns-clause-bounds g c = c.end_sync-answer.ensures.bounds (c.begin_sync.ensures.bounds c.step.ensures.bounds)
+returns-clause-bounds g c = c.sync_end-answer.ensures.bounds (c.sync_begin.ensures.bounds c.step.ensures.bounds)
 
 pub returns-then-not-logged-clause-caused : goal.returns-then-not-logged-clause-caused
 returns-then-not-logged-clause-caused g c = λ before caused.
     let faults = g.D.Disk.faults in
-    let old = c.args.environment.now in
+    let old = c.args.engine.now in
     let new = c.step.new.self in
     let journal = c.args.journal.now.items in
     let call : Event = Called c.args.session c.args.line c.args.call c.in-Ok.answer in
     let all = c.record.ensures.items ∙ ap (λ (l : List Event). l ++ call ∷ []) c.reserve.ensures.items in
-    subst (λ (l : List Event). IsCaused before (faults (disk_of new.log)) l) (sym all)
-    (caused_answered before (faults (disk_of old.log)) (faults (disk_of new.log)) journal c.args.session c.args.line c.args.call c.in-Ok.answer caused c.in-Ok.ensures.cause.never_falls c.in-Ok.ensures.cause.fault)
+    subst (λ (l : List Event). IsCaused before (faults (disk_of new)) l) (sym all)
+    (caused_answered before (faults (disk_of old)) (faults (disk_of new)) journal c.args.session c.args.line c.args.call c.in-Ok.answer caused c.in-Ok.ensures.cause.never_falls c.in-Ok.ensures.cause.fault)

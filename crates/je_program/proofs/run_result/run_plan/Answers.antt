@@ -4,16 +4,18 @@ use Rattle.je_model.specs.declared.event.Event.{Event}
 use Rattle.je_model.specs.declared.plan.ScriptLine.{ScriptLine}
 use Rattle.je_model.specs.declared.store.Store.{Store}
 use Rattle.je_model.specs.Journal.{lines_of}
-use Rattle.log_buffer.specs.Buffer.{disk_of}
-use Rattle.je_program.specs.Crash.{ImagesMean, IsSafeRun, KeepsEntry, IsSafeProgram}
-use Rattle.je_program.specs.Guarded.{log_opened}
-use Rattle.je_program.specs.Environment.{IsAt}
-use Rattle.je_program.specs.Program.{totals_of, final_store, MeanStore, EndsBy, ClosesRun}
+use Rattle.engine.specs.Whole.{IsAt, disk_of}
+use Rattle.engine.specs.Crash.{ImagesMean, IsSafeRun, KeepsEntry}
+use Rattle.je_program.specs.Crash.{IsSafeProgram}
+use Rattle.engine.specs.Files.{MeanStore}
+use Rattle.engine.specs.Totals.{totals_of}
+use Rattle.je_program.specs.Program.{final_store, EndsBy, ClosesRun, RunsIf, cause_of_opening, is_before_disk}
 use Rattle.je_program.specs.Run.{HasRun, AreFirstLines, of_session}
 use Rattle.je_program.proofs.FinishLaws.{ran_cause, runs_if, ran_after_reading, ran_not_unreadable, ends_by, final_is, caused_earlier}
 use Rattle.je_program.specs.declared.cause.Cause.{Cause}
 use Rattle.je_program.specs.Untouched.{LeavesUnreadable}
-use Rattle.je_program.proofs.UntouchedLaws.{ran_alone}
+use Rattle.je_program.proofs.StopLaws.{stopped_after_reading, stopped_caused, stopped_failed, stopped_runs, stopped_unreadable}
+use Rattle.je_program.proofs.UntouchedLaws.{ran_alone, stopped_alone}
 use Rattle.je_program.proofs.run_result.run_plan.Goals as goal
 
 pub returns-in-Ok-clause-runs : goal.returns-in-Ok-clause-runs
@@ -62,7 +64,7 @@ returns-in-Ok-clause-caused g c =
     let faults = g.D.Disk.faults in
     subst (λ (l : List Event). ClosesRun (faults c.args.disk) (faults f.result.disk) l f.result.cause) (sym f.ensures.journal)
     (f.ensures.caused (faults c.args.disk)
-    (caused_earlier (faults c.args.disk) (faults c.in-Ok.opened.environment.log.disk) (faults c.run-running.result.environment.log.disk) j c.in-Ok.ensures.faults c.run-running.ensures.caused))
+    (caused_earlier (faults c.args.disk) (faults (disk_of c.in-Ok.opened.engine)) (faults (disk_of c.run-running.result.engine)) j c.in-Ok.ensures.faults c.run-running.ensures.caused))
 
 pub returns-in-Ok-clause-totals : goal.returns-in-Ok-clause-totals
 returns-in-Ok-clause-totals g c = λ opened.
@@ -89,22 +91,21 @@ pub returns-in-Ok-clause-crash : goal.returns-in-Ok-clause-crash
 returns-in-Ok-clause-crash g c = λ observed is_opened.
     let f = c.finish in
     let at = c.in-Ok.ensures.crash observed in
-    let env = c.in-Ok.opened.environment in
+    let engine = c.in-Ok.opened.engine in
     let history = g.D.Disk.history in
     let j = c.run-running.result.journal.items in
-    let held = log_opened at.starts.held in
-    let start = history (disk_of env.log) in
-    let here : IsAt c.args.file_max g.D.Disk.observable (now (history (disk_of env.log))) env.log env.kept at.st =
-    subst (λ (t : Bool). IsAt c.args.file_max t (now (history (disk_of env.log))) env.log env.kept at.st) (sym observed) at.here in
+    let start = history (disk_of engine) in
+    let here : IsAt c.args.file_max g.D.Disk.observable (now (history (disk_of engine))) engine at.st =
+    subst (λ (t : Bool). IsAt c.args.file_max t (now (history (disk_of engine))) engine at.st) (sym observed) at.here in
     let running = c.run-running.ensures.runs c.args.file_max at.st here in
-    let guarded = c.run-running.ensures.crash observed c.args.file_max at.st held start here at.guarded in
+    let guarded = c.run-running.ensures.crash observed c.args.file_max at.st start here at.guarded in
     let run : IsSafeProgram (history c.args.disk) (history f.result.disk) c.in-Ok.opened.opening j f.result.cause = record {
       start = start;
       stable = at.stable;
       before = c.in-Ok.ensures.entry observed;
-      run = subst (λ (s : Store). IsSafeRun s start (history f.result.disk) j) at.starts.store (f.ensures.crash observed c.args.file_max start at.st held running guarded);
+      run = subst (λ (s : Store). IsSafeRun s start (history f.result.disk) j) at.starts.store (f.ensures.crash observed c.args.file_max start at.st running guarded);
       ends = λ done. subst (λ (s : Store). ImagesMean (now (history f.result.disk)) s) (final_is c.args.file_max at.st c.in-Ok.opened.opening j at.starts.store)
-          (f.ensures.crash_end observed c.args.file_max start at.st held running guarded at.starts.fault done);
+          (f.ensures.crash_end observed c.args.file_max start at.st running guarded at.starts.fault done);
     } in
     subst (λ (s : Store). IsSafeProgram (history c.args.disk) (history f.result.disk) s f.result.journal.items f.result.cause) (sym f.ensures.opening)
     (subst (λ (l : List Event). IsSafeProgram (history c.args.disk) (history f.result.disk) c.in-Ok.opened.opening l f.result.cause) (sym f.ensures.journal) run)
@@ -120,8 +121,30 @@ returns-in-Ok-clause-left_alone g c = λ observed.
 pub returns-in-Err-clause-left_alone : goal.returns-in-Err-clause-left_alone
 returns-in-Err-clause-left_alone g c = λ observed.
     let history = g.D.Disk.history in
-    subst (λ (why : Cause). LeavesUnreadable why (history c.args.disk) (history c.unopened.result.disk)) (sym c.unopened.ensures.cause)
-    (subst (λ d. LeavesUnreadable c.in-Err.field-0.cause (history c.args.disk) (history d)) (sym c.unopened.ensures.disk) (c.in-Err.ensures.left_alone observed))
+    subst (λ (why : Cause). LeavesUnreadable why (history c.args.disk) (history c.unopened.result.disk)) (sym (c.unopened.ensures.cause ∙ c.opening_cause-cause.ensures))
+    (subst (λ d. LeavesUnreadable (cause_of_opening c.in-Err.field-0.error) (history c.args.disk) (history d)) (sym c.unopened.ensures.disk)
+    (stopped_alone c.in-Err.field-0.error (history c.args.disk) (history c.in-Err.field-0.disk) (c.in-Err.ensures.left_alone observed)))
+
+pub returns-in-Err-clause-runs : goal.returns-in-Err-clause-runs
+returns-in-Err-clause-runs g c =
+    subst (λ (why : Cause). RunsIf why c.unopened.result.opened) (sym (c.unopened.ensures.cause ∙ c.opening_cause-cause.ensures))
+    (stopped_runs c.in-Err.field-0.error c.unopened.result.opened c.unopened.ensures.opened)
+
+pub returns-in-Err-clause-after_reading : goal.returns-in-Err-clause-after_reading
+returns-in-Err-clause-after_reading g c = ap is_before_disk (c.unopened.ensures.cause ∙ c.opening_cause-cause.ensures) ∙ stopped_after_reading c.in-Err.field-0.error
+
+pub returns-in-Err-clause-unreadable : goal.returns-in-Err-clause-unreadable
+returns-in-Err-clause-unreadable g c = λ corruption is observed.
+    stopped_unreadable g.D.Disk.observable (now (g.D.Disk.history c.args.disk)).reads (g.D.Disk.faults c.args.disk) (g.D.Disk.faults c.in-Err.field-0.disk) c.in-Err.field-0.error corruption
+    c.in-Err.ensures.stopped (sym (c.unopened.ensures.cause ∙ c.opening_cause-cause.ensures) ∙ is) observed
+
+pub returns-in-Err-clause-caused : goal.returns-in-Err-clause-caused
+returns-in-Err-clause-caused g c =
+    let faults = g.D.Disk.faults in
+    let before = faults c.args.disk in
+    stopped_caused before (faults c.in-Err.field-0.disk) (faults c.unopened.result.disk) c.unopened.result.journal.items c.unopened.result.cause (ap (λ d. faults d) c.unopened.ensures.disk) c.unopened.ensures.journal
+    c.in-Err.ensures.stopped_faults
+    (λ is. stopped_failed g.D.Disk.observable (now (g.D.Disk.history c.args.disk)).reads before (faults c.in-Err.field-0.disk) c.in-Err.field-0.error c.in-Err.ensures.stopped (sym (c.unopened.ensures.cause ∙ c.opening_cause-cause.ensures) ∙ is))
 
 pub returns-in-Err-clause-unopened : goal.returns-in-Err-clause-unopened
 returns-in-Err-clause-unopened g c = λ opened. (c.unopened.ensures.opening, c.unopened.ensures.journal)

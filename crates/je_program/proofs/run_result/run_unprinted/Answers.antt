@@ -1,6 +1,7 @@
 use Rattle.std.proofs.Common.{sym, subst}
 use Rattle.je_program.specs.Untouched.{LeavesUnreadable}
-use Rattle.je_program.proofs.UntouchedLaws.{left_alone, untouched_itself}
+use Rattle.engine.proofs.UntouchedLaws.{untouched_itself}
+use Rattle.je_program.proofs.UntouchedLaws.{left_alone}
 use Rattle.je_program.proofs.run_result.run_unprinted.Goals as goal
 
 pub returns-in-Ok-clause-left_alone : goal.returns-in-Ok-clause-left_alone

@@ -1,9 +1,8 @@
-use Rattle.std.proofs.Common.{sym, subst, List, [], false, rules, None}
+use Rattle.std.proofs.Common.{sym, subst, List, [], false, rules}
 use Rattle.std.specs.Vec.Iter.{into_iter_items}
 use Rattle.je_disk.specs.Moments.{now}
-use Rattle.log_buffer.specs.Buffer.{disk_of}
+use Rattle.engine.specs.Whole.{IsGuarded, disk_of}
 use Rattle.je_model.specs.declared.event.Event.{Event}
-use Rattle.je_program.specs.Guarded.{IsGuarded}
 use Rattle.je_program.specs.Run.{IsRunning, IsCaused, HasGiven}
 use Rattle.je_program.proofs.RunLaws.{runs_none, caused_none}
 use Rattle.je_program.proofs.GivenLaws.{given_none, first_line}
@@ -12,11 +11,11 @@ use Rattle.je_program.proofs.running.run.Goals as goal
 pub loop-given-init : goal.loop-given-init
 loop-given-init g c =
     let empty = sym c.journal_for.ensures in
-    let env = c.args.environment in
-    let faults = g.D.Disk.faults (disk_of env.log) in
+    let engine = c.args.engine in
+    let faults = g.D.Disk.faults (disk_of engine) in
     record {
-      runs = λ most st here. subst (λ (l : List Event). IsRunning most g.D.Disk.observable (now (g.D.Disk.history (disk_of env.log))) env.log env.kept l st) empty (runs_none _ _ _ _ _ st here);
-      crash = λ observed most st log start here guarded. subst (λ (l : List Event). IsGuarded most st log start (g.D.Disk.history (disk_of env.log)) env.log l None) empty guarded;
+      runs = λ most st here. subst (λ (l : List Event). IsRunning most g.D.Disk.observable (now (g.D.Disk.history (disk_of engine))) engine l st) empty (runs_none most g.D.Disk.observable (now (g.D.Disk.history (disk_of engine))) engine st here);
+      crash = λ observed most st start here guarded. subst (λ (l : List Event). IsGuarded most st start (g.D.Disk.history (disk_of engine)) engine l) empty guarded;
       bounds = c.requires.bounds;
       sessions = c.none_stopped.ensures.len;
       lines = search (rules, c.requires.lines);
@@ -30,11 +29,11 @@ loop-given-preserved g c =
     let step = c.execute_next.ensures in
     record {
       runs = λ most st here. step.runs most st (inv.runs most st here);
-      crash = λ observed most st log start here guarded. step.crash observed most st log start (inv.runs most st here) (inv.crash observed most st log start here guarded);
+      crash = λ observed most st start here guarded. step.crash observed most st start (inv.runs most st here) (inv.crash observed most st start here guarded);
       bounds = step.bounds;
       sessions = step.sessions;
       lines = (first_line c.in-Some.given (into_iter_items c.next.new.self) (into_iter_items c.loop-given.given-iterator) c.in-Some.ensures.steps.0 inv.lines).1;
-      caused = step.caused (g.D.Disk.faults (disk_of c.args.environment.log)) inv.caused;
+      caused = step.caused (g.D.Disk.faults (disk_of c.args.engine)) inv.caused;
       given = step.given c.loop-given.yielded inv.given;
     }
 

@@ -1,0 +1,533 @@
+-- What a crash leaves of an environment while it is opened.
+use Rattle.std.proofs.Common.{◌≡◌, ◌≢◌, ℕ, ◌<◌, ◌≤◌, ◌^◌, ◌==◌, nat_lt, cond, Bool, true, false, List, [], ◌∷◌, ◌++◌, Option, Some, None, IfSome, Result, Ok, Err, option_map, refl, ap, sym, ◌∙◌, subst, ◌⊎◌, inl, inr, arith, length, take, drop}
+use Rattle.std.specs.Prelude.{unwrap_or}
+use Rattle.std.specs.List.{AllByRecursion}
+use Rattle.std.specs.List.Sorted.{IsStrictlyIncreasing}
+use Rattle.std.specs.Map.{lookup}
+use Rattle.std.proofs.lemmas.Bool.{cases_lt, cases_order, eqb-true}
+use Rattle.std.proofs.lemmas.Bool.Decides.{nat_tests}
+use Rattle.std.proofs.lemmas.List.{append-nil, length-take-le, take-append-drop, take_all}
+use Rattle.je_bytes.specs.Reading.{AreBytes}
+use Rattle.je_disk.specs.States.{Files, IsEither, CrashState, State, cut, cut_by, put_at, put_file, shortened, synced, synced_crash_state, synced_crash_states}
+use Rattle.je_disk.specs.Images.{IsFileImage}
+use Rattle.je_disk.specs.Moments.{History, Passes, now}
+use Rattle.je_disk.proofs.MomentLaws.{passes_none, passes_then, passes_weaken}
+use Rattle.je_model.specs.declared.store.Store.{Store}
+use Rattle.log_entry.specs.declared.entry.Entry.{Entry}
+use Rattle.log_file.specs.declared.valid_prefix.ValidPrefix.{ValidPrefix}
+use Rattle.log_file.specs.declared.file_scan.FileScan.{FileScan}
+use Rattle.log_file.specs.declared.file_scan.FileScan.TheVariants.{Prefix, VersionUnknown as OtherVersion, Damaged as NoHeader}
+use Rattle.log_file.specs.Laws.{AreEncodedBack}
+use Rattle.log_file.specs.Log.{AreFiles, Log, entries_scanned, entries_of, file_bytes, files_of_log, log_in}
+use Rattle.log_file.specs.Scan.{scan_of}
+use Rattle.log_file.proofs.FilesLaws.{are_one_list}
+use Rattle.log_file.proofs.FileScanLaws.{are_encoded_back}
+use Rattle.log_buffer.specs.Chance.{HasPrefix, IsKeptByCut, LastIsKept}
+use Rattle.log_buffer.specs.Crash.{KeepsLog, HoldsPrefix, HoldPrefixes, entries_at}
+use Rattle.log_buffer.proofs.CrashOpen.{cuts_keep}
+use Rattle.log_buffer.proofs.CrashImages.{kept_is_left}
+use Rattle.log_buffer.proofs.Prefixes.{cut_prefixes, empty_prefix}
+use Rattle.log_replay.specs.declared.corruption.Corruption.{Corruption}
+use Rattle.log_replay.specs.declared.last_file.LastFile.{LastFile}
+use Rattle.log_replay.specs.declared.log_read.ReadLog.{ReadLog}
+use Rattle.log_replay.specs.Answer.{IsLogOf}
+use Rattle.log_replay.specs.Kept.{IsKept}
+use Rattle.log_replay.specs.Meaning.{Meaning}
+use Rattle.log_replay.specs.Reading.{corruption_at, corruption_in, gap_in, reading_of}
+use Rattle.log_replay.specs.Rows.{rows_in}
+use Rattle.log_replay.specs.UnderWay.{IsLastOf, IsTailOf}
+use Rattle.log_replay.proofs.LogLaws.{kept_opened}
+use Rattle.crash_meaning.specs.Reading.{HasNoGap}
+use Rattle.crash_meaning.specs.Recovery.{Recovers, commits_in}
+use Rattle.crash_meaning.proofs.RecoveryLaws.{images_recover, logs_recover}
+use Rattle.engine.specs.declared.kept.TheConstants.{LAST_FILE}
+use Rattle.engine.specs.Crash.{ImagesMean, IsTailCut, KeepsEntry, NothingPending, ReadAsAtEntry}
+use Rattle.engine.specs.Opening.{HasTornTailCut, IsSettling, StartsLog, WasRead, cut_off, log_start_of}
+use Rattle.engine.proofs.CallLaws.{passes_now}
+use Rattle.engine.proofs.ClosedLaws.{all_recovered}
+use Rattle.engine.proofs.FileLaws.{front_reads, headless, log_is, lookup-last}
+use Rattle.engine.proofs.LogStores.{small_files}
+use Rattle.engine.proofs.OpeningLaws.{File, all_last, are_files, below_last, entries_from, first_log, full_front, log_from, no_corruption, none_is, numbers, or_parts, rising_of, settled_last, settled_other, starts_log, whole_from}
+
+-- ---- the rest that is cut off
+
+-- files with the rest of the last one cut off are settled
+pub settles : (tail : Option LastFile) (s : State) → HasTornTailCut s.reads (cut_off tail s).reads tail
+settles None s = λ g. refl
+settles (Some last) s = λ g. by_test (nat_lt last.end last.len) g
+  where
+    at : ℕ
+    at = last.file.0
+
+    by_length : (there : List ℕ) (b : Bool) → nat_lt last.end (length there) ≡ b → s.reads at ≡ Some there → (g : ℕ) →
+        (cond b (put_file at (Some (take last.end there)) (shortened last.end) s) s).reads g ≡ put_at s.reads at (Some (take last.end there)) g
+    by_length there true test is g = refl
+    by_length there false test is g = by_file (g == at) refl
+      where
+        by_file : (b : Bool) → (g == at) ≡ b → s.reads g ≡ cond b (Some (take last.end there)) (s.reads g)
+        by_file true e =
+            let short : length there ≤ last.end = grind (arith, nat_tests) in
+            ap (λ n. s.reads n) (eqb-true g at e) ∙ is ∙ ap (λ (x : List ℕ). Some x) (sym (take_all last.end there short))
+        by_file false e = refl
+
+    by_there : (file : Option (List ℕ)) → s.reads at ≡ file → (g : ℕ) → (cut_by file at last.end s).reads g ≡ put_at s.reads at (option_map (take last.end) file) g
+    by_there None is g = by_file (g == at) refl
+      where
+        by_file : (b : Bool) → (g == at) ≡ b → s.reads g ≡ cond b None (s.reads g)
+        by_file true e = ap (λ n. s.reads n) (eqb-true g at e) ∙ is
+        by_file false e = refl
+    by_there (Some there) is g = by_length there (nat_lt last.end (length there)) refl is g
+
+    by_test : (b : Bool) → (g : ℕ) → (cond b (cut at last.end s) s).reads g ≡ cond b (put_at s.reads at (option_map (take last.end) (s.reads at)) g) (s.reads g)
+    by_test true g = by_there (s.reads at) refl g
+    by_test false g = refl
+
+-- a sync behind the cut
+pub settling_synced : (tail : Option LastFile) (before mid s : State) → mid ≡ cut_off tail before → IsEither mid (synced mid) s → IsSettling tail before s
+settling_synced tail before mid s done (inl same) = inl (inr (same ∙ done))
+settling_synced tail before mid s done (inr same) = inr (same ∙ ap synced done)
+
+-- ---- the log that is opened, in the files at entry
+
+-- a log's last file has a rest behind its valid prefix, and the files before it are the log's
+pub record HasRest (reads : Files) (last : LastFile) (log : Log) : Type 0 where
+  pub before : Log
+  pub entries : List Entry
+  pub log_is : log ≡ before ++ (last.file.0, entries) ∷ []
+  pub others : (g : ℕ) → g ≢ last.file.0 → reads g ≡ files_of_log before g
+  pub bytes : List ℕ
+  pub there : reads last.file.0 ≡ Some bytes
+  pub len : last.len ≡ length bytes
+  pub within : last.end ≤ length bytes
+  pub front : (entries ≡ []) ⊎ (take last.end bytes ≡ file_bytes last.file.0 entries)
+
+rest_parts : (reads : Files) (front : List File) (bytes : List ℕ) (last : LastFile) (run : ValidPrefix) → run.end ≡ last.end →
+    AllByRecursion (λ (file : File). AreBytes file.1) (front ++ (last.file.0, bytes) ∷ []) → IsStrictlyIncreasing (numbers (front ++ (last.file.0, bytes) ∷ [])) → last.file.0 < 2 ^ 32 →
+    corruption_in (front ++ (last.file.0, bytes) ∷ []) ≡ None → scan_of last.file.0 bytes ≡ Prefix run → last.len ≡ length bytes →
+    AreFiles reads (front ++ (last.file.0, bytes) ∷ []) → HasRest reads last (log_in (front ++ (last.file.0, bytes) ∷ []))
+rest_parts reads front bytes last run end_is all rising small none found len observed = record {
+  before = log_in front;
+  entries = run.entries;
+  log_is = log_is front f bytes run found;
+  others = λ g other. front_reads front f bytes reads back (are_files front (f, bytes) all below small) (full_front front (f, bytes) none) observed.each g other;
+  bytes = bytes;
+  there = sym (observed.each f) ∙ lookup-last front f bytes (none_is front (f, bytes) below);
+  len = len;
+  within = end_parts.0;
+  front = end_parts.1;
+} where
+  f : ℕ
+  f = last.file.0
+
+  back : AreEncodedBack
+  back = are_encoded_back
+
+  below : AllByRecursion (λ (file : File). file.0 < f) front
+  below = below_last front (f, bytes) rising
+
+  by_end : (0 < run.end) ⊎ (run.end ≤ 0) → (last.end ≤ length bytes) × ((run.entries ≡ []) ⊎ (take last.end bytes ≡ file_bytes f run.entries))
+  by_end (inl some) =
+      let encoded = back f bytes run (all_last (λ (file : File). AreBytes file.1) front (f, bytes) all) found some in
+      (subst (λ n. n ≤ length bytes) end_is encoded.within, inr (subst (λ n. take n bytes ≡ file_bytes f run.entries) end_is encoded.parts))
+  by_end (inr low) = (omega (arith, low, end_is), inl (headless f bytes run found (omega (arith, low))).0)
+
+  end_parts : (last.end ≤ length bytes) × ((run.entries ≡ []) ⊎ (take last.end bytes ≡ file_bytes f run.entries))
+  end_parts = by_end (cases_lt 0 run.end)
+
+rest_last : (reads : Files) (held : List File) (last : LastFile) → AllByRecursion (λ (file : File). AreBytes file.1) held → IsStrictlyIncreasing (numbers held) → last.file.0 < 2 ^ 32 →
+    corruption_in held ≡ None → IsLastOf held last → AreFiles reads held → HasRest reads last (log_in held)
+rest_last reads held last all rising small none is observed =
+    let whole : held ≡ is.before ++ (last.file.0, is.bytes) ∷ [] = is.parts in
+    subst (λ (h : List File). HasRest reads last (log_in h)) (sym whole)
+    (rest_parts reads is.before is.bytes last (record { entries = entries_scanned (scan_of last.file.0 is.bytes); last = last.last; end = last.end }) refl
+    (subst (λ (h : List File). AllByRecursion (λ (file : File). AreBytes file.1) h) whole all) (subst (λ (h : List File). IsStrictlyIncreasing (numbers h)) whole rising) small
+    (subst (λ (h : List File). corruption_in h ≡ None) whole none) is.found is.len (subst (λ (h : List File). AreFiles reads h) whole observed))
+
+-- ---- what a crash keeps of it
+
+kept_by : (before : Log) (f : ℕ) (entries : List Entry) (s : State) → NothingPending s → ((g : ℕ) → g ≢ f → s.reads g ≡ files_of_log before g) →
+    (entries ≡ []) ⊎ ((rest : List ℕ) × (s.reads f ≡ Some (file_bytes f entries ++ rest))) → IsKeptByCut before f entries s
+kept_by before f entries s pending others front = cuts_keep before f entries s (λ g other. pending g ∙ ap synced_crash_state (others g other)) (last_kept front)
+  where
+    last_kept : (entries ≡ []) ⊎ ((rest : List ℕ) × (s.reads f ≡ Some (file_bytes f entries ++ rest))) → LastIsKept f entries s.crash_states
+    last_kept (inl none) = inl none
+    last_kept (inr is) =
+        let crash_state : s.crash_states f ≡ synced_crash_state (Some (file_bytes f entries ++ is.0)) = pending f ∙ ap synced_crash_state is.1 in
+        inr (record { there = ap (λ (m : CrashState). m.exists_always) crash_state; rest = is.0; stable = ap (λ (m : CrashState). m.stable) crash_state })
+
+-- the last file as it was at entry, and as it is with its rest cut off
+rest_at_entry : (last : LastFile) (log : Log) (s : State) (rest : HasRest s.reads last log) (reads : Files) → reads last.file.0 ≡ s.reads last.file.0 →
+    (rest.entries ≡ []) ⊎ ((more : List ℕ) × (reads last.file.0 ≡ Some (file_bytes last.file.0 rest.entries ++ more)))
+rest_at_entry last log s rest reads same = by_front rest.front
+  where
+    by_front : (rest.entries ≡ []) ⊎ (take last.end rest.bytes ≡ file_bytes last.file.0 rest.entries) →
+        (rest.entries ≡ []) ⊎ ((more : List ℕ) × (reads last.file.0 ≡ Some (file_bytes last.file.0 rest.entries ++ more)))
+    by_front (inl none) = inl none
+    by_front (inr front) = inr (
+      drop last.end rest.bytes,
+      same ∙ rest.there ∙ ap (λ (x : List ℕ). Some x) (sym (take-append-drop last.end rest.bytes) ∙ ap (λ (x : List ℕ). x ++ drop last.end rest.bytes) front),
+    )
+
+rest_behind : (last : LastFile) (log : Log) (s : State) (rest : HasRest s.reads last log) (reads : Files) → reads last.file.0 ≡ (cut_off (Some last) s).reads last.file.0 →
+    (rest.entries ≡ []) ⊎ ((more : List ℕ) × (reads last.file.0 ≡ Some (file_bytes last.file.0 rest.entries ++ more)))
+rest_behind last log s rest reads same = by_front rest.front
+  where
+    here : (cut_off (Some last) s).reads last.file.0 ≡ Some (take last.end rest.bytes)
+    here = settled_last s.reads (cut_off (Some last) s).reads last rest.bytes (settles (Some last) s) rest.there rest.len rest.within
+
+    by_front : (rest.entries ≡ []) ⊎ (take last.end rest.bytes ≡ file_bytes last.file.0 rest.entries) →
+        (rest.entries ≡ []) ⊎ ((more : List ℕ) × (reads last.file.0 ≡ Some (file_bytes last.file.0 rest.entries ++ more)))
+    by_front (inl none) = inl none
+    by_front (inr front) = inr ([], same ∙ here ∙ ap (λ (x : List ℕ). Some x) (front ∙ sym (append-nil (file_bytes last.file.0 rest.entries))))
+
+-- a log whose last file has a rest, at each moment at which that is settled
+kept_last : (last : LastFile) (log : Log) (s x : State) → NothingPending s → HasRest s.reads last log → IsSettling (Some last) s x → KeepsLog log [] (length (entries_of log)) x.crash_states
+kept_last last log s x pending rest is = subst (λ (l : Log). KeepsLog l [] (length (entries_of l)) x.crash_states) (sym rest.log_is) (by_settling is)
+  where
+    f : ℕ
+    f = last.file.0
+
+    whole : Log
+    whole = rest.before ++ (f, rest.entries) ∷ []
+
+    after : State
+    after = cut_off (Some last) s
+
+    at : (rest.entries ≡ []) ⊎ (take last.end rest.bytes ≡ file_bytes f rest.entries) → (last.end ≡ length (file_bytes f rest.entries)) ⊎ (rest.entries ≡ [])
+    at (inl none) = inr none
+    at (inr front) = inl (sym (length-take-le last.end rest.bytes rest.within) ∙ ap length front)
+
+    entry : IsKeptByCut rest.before f rest.entries s
+    entry = kept_by rest.before f rest.entries s pending rest.others (rest_at_entry last log s rest s.reads refl)
+
+    by_test : (b : Bool) → KeepsLog whole [] (length (entries_of whole)) (cond b (cut f last.end s) s).crash_states
+    by_test true = entry.behind last.end (at rest.front)
+    by_test false = entry.found
+
+    settled : IsKeptByCut rest.before f rest.entries (synced after)
+    settled = kept_by rest.before f rest.entries (synced after) (λ g. refl) (λ g other. settled_other s.reads after.reads last g (settles (Some last) s) other ∙ rest.others g other) (rest_behind last log s rest after.reads refl)
+
+    by_settling : IsSettling (Some last) s x → KeepsLog whole [] (length (entries_of whole)) x.crash_states
+    by_settling (inl (inl same)) = subst (λ (y : State). KeepsLog whole [] (length (entries_of whole)) y.crash_states) (sym same) entry.found
+    by_settling (inl (inr same)) = subst (λ (y : State). KeepsLog whole [] (length (entries_of whole)) y.crash_states) (sym same) (by_test (nat_lt last.end last.len))
+    by_settling (inr same) = subst (λ (y : State). KeepsLog whole [] (length (entries_of whole)) y.crash_states) (sym same) settled.found
+
+-- the same at a moment where nothing is pending, whatever was pending before
+kept_now_last : (last : LastFile) (log : Log) (s x : State) → NothingPending x → HasRest s.reads last log → IsSettling (Some last) s x → KeepsLog log [] (length (entries_of log)) x.crash_states
+kept_now_last last log s x pending rest is = subst (λ (l : Log). KeepsLog l [] (length (entries_of l)) x.crash_states) (sym rest.log_is) (by_settling is)
+  where
+    whole : Log
+    whole = rest.before ++ (last.file.0, rest.entries) ∷ []
+
+    after : State
+    after = cut_off (Some last) s
+
+    behind : x.reads ≡ after.reads → KeepsLog whole [] (length (entries_of whole)) x.crash_states
+    behind same =
+        (kept_by rest.before last.file.0 rest.entries x pending
+        (λ g other. ap (λ (reads : Files). reads g) same ∙ settled_other s.reads after.reads last g (settles (Some last) s) other ∙ rest.others g other)
+        (rest_behind last log s rest x.reads (ap (λ (reads : Files). reads last.file.0) same))).found
+
+    by_settling : IsSettling (Some last) s x → KeepsLog whole [] (length (entries_of whole)) x.crash_states
+    by_settling (inl (inl same)) =
+        (kept_by rest.before last.file.0 rest.entries x pending (λ g other. ap (λ (y : State). y.reads g) same ∙ rest.others g other)
+        (rest_at_entry last log s rest x.reads (ap (λ (y : State). y.reads last.file.0) same))).found
+    by_settling (inl (inr same)) = behind (ap (λ (y : State). y.reads) same)
+    by_settling (inr same) = behind (ap (λ (y : State). y.reads) same)
+
+-- a log of which no file is there yet
+kept_none : (s x : State) → NothingPending s → ((g : ℕ) → s.reads g ≡ None) → IsSettling None s x → KeepsLog ((0, []) ∷ []) [] 0 x.crash_states
+kept_none s x pending none is = by_settling is
+  where
+    entry : IsKeptByCut [] 0 [] s
+    entry = kept_by [] 0 [] s pending (λ g other. none g) (inl refl)
+
+    settled : IsKeptByCut [] 0 [] (synced s)
+    settled = kept_by [] 0 [] (synced s) (λ g. refl) (λ g other. none g) (inl refl)
+
+    by_settling : IsSettling None s x → KeepsLog ((0, []) ∷ []) [] 0 x.crash_states
+    by_settling (inl (inl same)) = subst (λ (y : State). KeepsLog ((0, []) ∷ []) [] 0 y.crash_states) (sym same) entry.found
+    by_settling (inl (inr same)) = subst (λ (y : State). KeepsLog ((0, []) ∷ []) [] 0 y.crash_states) (sym same) entry.found
+    by_settling (inr same) = subst (λ (y : State). KeepsLog ((0, []) ∷ []) [] 0 y.crash_states) (sym same) settled.found
+
+kept_now_none : (s x : State) → NothingPending x → ((g : ℕ) → s.reads g ≡ None) → IsSettling None s x → KeepsLog ((0, []) ∷ []) [] 0 x.crash_states
+kept_now_none s x pending none is = (kept_by [] 0 [] x pending (λ g other. same is g ∙ none g) (inl refl)).found
+  where
+    same : IsSettling None s x → (g : ℕ) → x.reads g ≡ s.reads g
+    same (inl (inl is)) g = ap (λ (y : State). y.reads g) is
+    same (inl (inr is)) g = ap (λ (y : State). y.reads g) is
+    same (inr is) g = ap (λ (y : State). y.reads g) is
+
+-- the last file of a log that was read
+rest_read : (reads : Files) (r : ReadLog) (w : WasRead true reads r) (last : LastFile) → r.tail ≡ Some last → IsTailOf w.reading.held (Some last) → HasRest reads last (log_in w.reading.held)
+rest_read reads r w last e tail =
+    let held : List File = w.reading.held in
+    let low : last.file.0 ≤ LAST_FILE = subst (λ (o : Option LastFile). IfSome o (λ l. l.file.0 ≤ LAST_FILE)) e w.small in
+    rest_last reads held last w.reading.answer.bytes (rising_of true reads r w) (omega (arith, low)) (no_corruption held _ w.reading.answer.meaning).0 tail (w.reading.listed refl (w.listed refl))
+
+-- the log that was read, at each moment at which it is settled: where nothing was pending before, or nothing is now
+kept_settling : (s x : State) (r : ReadLog) (w : WasRead true s.reads r) → NothingPending s ⊎ NothingPending x → IsSettling r.tail s x →
+    KeepsLog (log_from r.tail w.reading.held) [] (length (entries_of (log_from r.tail w.reading.held))) x.crash_states
+kept_settling s x r w pending is = by_tail r.tail refl w.reading.answer.tail pending is
+  where
+    held : List File
+    held = w.reading.held
+
+    observed : AreFiles s.reads held
+    observed = w.reading.listed refl (w.listed refl)
+
+    by_tail : (tail : Option LastFile) → r.tail ≡ tail → IsTailOf held tail → NothingPending s ⊎ NothingPending x → IsSettling tail s x →
+        KeepsLog (log_from tail held) [] (length (entries_of (log_from tail held))) x.crash_states
+    by_tail None e empty (inl before) is = kept_none s x before (λ g. sym (observed.each g) ∙ ap (λ (h : List File). lookup (λ n. n == g) h) empty) is
+    by_tail None e empty (inr here) is = kept_now_none s x here (λ g. sym (observed.each g) ∙ ap (λ (h : List File). lookup (λ n. n == g) h) empty) is
+    by_tail (Some last) e tail (inl before) is = kept_last last (log_in held) s x before (rest_read s.reads r w last e tail) is
+    by_tail (Some last) e tail (inr here) is = kept_now_last last (log_in held) s x here (rest_read s.reads r w last e tail) is
+
+-- ---- what its files read as
+
+-- files that were read without a corruption have runs
+all_runs : (held : List File) → corruption_in held ≡ None → AllByRecursion HasPrefix held
+all_runs [] none = tt
+all_runs (file ∷ held) none =
+    let parts = or_parts (corruption_at (length held == 0) file.0 (length file.1) (scan_of file.0 file.1)) (corruption_in held) none in
+    (by_found (scan_of file.0 file.1) refl parts.0, all_runs held parts.1)
+  where
+    by_found : (found : FileScan) → scan_of file.0 file.1 ≡ found → corruption_at (length held == 0) file.0 (length file.1) found ≡ None → HasPrefix file
+    by_found (Prefix run) is h = record { prefix = run; found = is }
+    by_found (OtherVersion version) is h = cc
+    by_found NoHeader is h = cc
+
+-- such files hold what their log has in them
+prefixes_in : (held : List File) (f : ℕ) → AllByRecursion HasPrefix held → HoldsPrefix f (entries_at (log_in held) f) (unwrap_or (lookup (λ n. n == f) held) [])
+prefixes_in [] f all = empty_prefix f []
+prefixes_in (file ∷ held) f all = by_file (file.0 == f) refl (prefixes_in held f all.1)
+  where
+    here : HasPrefix file → HoldsPrefix file.0 (entries_scanned (scan_of file.0 file.1)) file.1
+    here is = record { prefix = is.prefix; found = is.found; more = []; is = ap entries_scanned is.found ∙ sym (append-nil is.prefix.entries) }
+
+    by_file : (b : Bool) → (file.0 == f) ≡ b → HoldsPrefix f (unwrap_or (lookup (λ n. n == f) (log_in held)) []) (unwrap_or (lookup (λ n. n == f) held) []) →
+        HoldsPrefix f (unwrap_or (cond b (Some (entries_scanned (scan_of file.0 file.1))) (lookup (λ n. n == f) (log_in held))) []) (unwrap_or (cond b (Some file.1) (lookup (λ n. n == f) held)) [])
+    by_file true same rest = subst (λ (n : ℕ). HoldsPrefix n (entries_scanned (scan_of file.0 file.1)) file.1) (eqb-true _ _ same) (here all.0)
+    by_file false other rest = rest
+
+-- the log that was read, at each moment at which it is settled
+prefixes_settling : (s x : State) (r : ReadLog) (w : WasRead true s.reads r) → IsSettling r.tail s x → HoldPrefixes (log_from r.tail w.reading.held) x.reads
+prefixes_settling s x r w is = by_tail r.tail refl w.reading.answer.tail is
+  where
+    held : List File
+    held = w.reading.held
+
+    observed : AreFiles s.reads held
+    observed = w.reading.listed refl (w.listed refl)
+
+    none : corruption_in held ≡ None
+    none = (no_corruption held _ w.reading.answer.meaning).0
+
+    entry : HoldPrefixes (log_in held) s.reads
+    entry f = subst (λ (o : Option (List ℕ)). HoldsPrefix f (entries_at (log_in held) f) (unwrap_or o [])) (observed.each f) (prefixes_in held f (all_runs held none))
+
+    by_states : (tail : Option LastFile) (log : Log) → HoldPrefixes log s.reads → HoldPrefixes log (cut_off tail s).reads → IsSettling tail s x → HoldPrefixes log x.reads
+    by_states tail log before behind (inl (inl same)) = subst (λ (y : State). HoldPrefixes log y.reads) (sym same) before
+    by_states tail log before behind (inl (inr same)) = subst (λ (y : State). HoldPrefixes log y.reads) (sym same) behind
+    by_states tail log before behind (inr same) = subst (λ (y : State). HoldPrefixes log y.reads) (sym same) behind
+
+    by_tail : (tail : Option LastFile) → r.tail ≡ tail → IsTailOf held tail → IsSettling tail s x → HoldPrefixes (log_from tail held) x.reads
+    by_tail None e empty settling =
+        let first : HoldPrefixes ((0, []) ∷ []) s.reads =
+        λ f. subst (λ (o : Option (List ℕ)). HoldsPrefix f (entries_at ((0, []) ∷ []) f) (unwrap_or o [])) (ap (λ (h : List File). lookup (λ n. n == f) h) (sym empty) ∙ observed.each f) (empty_prefix f (entries_at ((0, []) ∷ []) f)) in
+        by_states None ((0, []) ∷ []) first first settling
+    by_tail (Some last) e tail settling = by_states (Some last) (log_in held) entry (by_test (nat_lt last.end last.len)) settling
+      where
+        by_test : (b : Bool) → HoldPrefixes (log_in held) (cond b (cut last.file.0 last.end s) s).reads
+        by_test true = cut_prefixes (log_in held) last.file.0 last.end s entry
+        by_test false = entry
+
+lookup_above : (front : List File) (f g : ℕ) (bytes : List ℕ) → AllByRecursion (λ (file : File). file.0 < f) front → f < g → lookup (λ n. n == g) (front ++ (f, bytes) ∷ []) ≡ None
+lookup_above [] f g bytes below above = ap (λ (b : Bool). cond b (Some bytes) None) (let t : (f == g) ≡ false = grind (arith, nat_tests) in t)
+lookup_above (file ∷ front) f g bytes below above =
+    ap (λ (b : Bool). cond b (Some file.1) (lookup (λ n. n == g) (front ++ (f, bytes) ∷ []))) (let under : file.0 < f = below.0 in let t : (file.0 == g) ≡ false = grind (arith, nat_tests) in t)
+    ∙ lookup_above front f g bytes below.1 above
+
+-- the last file that was read, cut off behind its valid prefix
+tail_cut : (reads : Files) (held : List File) (last : LastFile) → AreFiles reads held → IsLastOf held last → IsTailCut reads last.file.0 (option_map (take last.end) (reads last.file.0))
+tail_cut reads held last observed is = record {
+  run = record { entries = entries_scanned (scan_of last.file.0 is.bytes); last = last.last; end = last.end };
+  found = ap (λ (o : Option (List ℕ)). scan_of last.file.0 (unwrap_or o [])) there ∙ is.found;
+  last = λ g above. sym (observed.each g) ∙ ap (λ (h : List File). lookup (λ n. n == g) h) is.parts ∙ lookup_above is.before last.file.0 g is.bytes below above;
+  cut = refl;
+} where
+  below : AllByRecursion (λ (file : File). file.0 < last.file.0) is.before
+  below = below_last is.before (last.file.0, is.bytes) (subst (λ (h : List File). IsStrictlyIncreasing (numbers h)) is.parts observed.rising)
+
+  there : reads last.file.0 ≡ Some is.bytes
+  there = sym (observed.each last.file.0) ∙ ap (λ (h : List File). lookup (λ n. n == last.file.0) h) is.parts ∙ lookup-last is.before last.file.0 is.bytes (none_is is.before (last.file.0, is.bytes) below)
+
+-- at each moment at which it is settled, the files read as at entry, but for a torn tail
+read_settling : (s x : State) (r : ReadLog) (w : WasRead true s.reads r) → IsSettling r.tail s x → ReadAsAtEntry s.reads x.reads
+read_settling s x r w is f = by_tail r.tail w.reading.answer.tail is
+  where
+    held : List File
+    held = w.reading.held
+
+    observed : AreFiles s.reads held
+    observed = w.reading.listed refl (w.listed refl)
+
+    by_states : (tail : Option LastFile) → (((cut_off tail s).reads f ≡ s.reads f) ⊎ IsTailCut s.reads f ((cut_off tail s).reads f)) → IsSettling tail s x → (x.reads f ≡ s.reads f) ⊎ IsTailCut s.reads f (x.reads f)
+    by_states tail behind (inl (inl same)) = inl (ap (λ (y : State). y.reads f) same)
+    by_states tail behind (inl (inr same)) = subst (λ (y : State). (y.reads f ≡ s.reads f) ⊎ IsTailCut s.reads f (y.reads f)) (sym same) behind
+    by_states tail behind (inr same) = subst (λ (y : State). (y.reads f ≡ s.reads f) ⊎ IsTailCut s.reads f (y.reads f)) (sym same) behind
+
+    by_tail : (tail : Option LastFile) → IsTailOf held tail → IsSettling tail s x → (x.reads f ≡ s.reads f) ⊎ IsTailCut s.reads f (x.reads f)
+    by_tail None empty settling = by_states None (inl refl) settling
+    by_tail (Some last) tail settling =
+        by_states (Some last) (subst (λ (o : Option (List ℕ)). (o ≡ s.reads f) ⊎ IsTailCut s.reads f o) (sym (settles (Some last) s f)) (by_test (nat_lt last.end last.len))) settling
+      where
+        by_file : (b : Bool) → (f == last.file.0) ≡ b → (cond b (option_map (take last.end) (s.reads last.file.0)) (s.reads f) ≡ s.reads f) ⊎ IsTailCut s.reads f (cond b (option_map (take last.end) (s.reads last.file.0)) (s.reads f))
+        by_file true same = inr (subst (λ (n : ℕ). IsTailCut s.reads n (option_map (take last.end) (s.reads last.file.0))) (sym (eqb-true _ _ same)) (tail_cut s.reads held last observed tail))
+        by_file false other = inl refl
+
+        by_test : (b : Bool) → (cond b (put_at s.reads last.file.0 (option_map (take last.end) (s.reads last.file.0)) f) (s.reads f) ≡ s.reads f)
+            ⊎ IsTailCut s.reads f (cond b (put_at s.reads last.file.0 (option_map (take last.end) (s.reads last.file.0)) f) (s.reads f))
+        by_test true = by_file (f == last.file.0) refl
+        by_test false = inl refl
+
+-- ---- what its images mean
+
+-- a log that was read has no gap
+read_whole : (reads : Files) (r : ReadLog) (w : WasRead true reads r) → HasNoGap (log_from r.tail w.reading.held)
+read_whole reads r w = by_tail r.tail refl w.reading.answer.tail
+  where
+    held : List File
+    held = w.reading.held
+
+    none : (corruption_in held ≡ None) × (gap_in (numbers held) ≡ None)
+    none = no_corruption held _ w.reading.answer.meaning
+
+    by_tail : (tail : Option LastFile) → r.tail ≡ tail → IsTailOf held tail → HasNoGap (log_from tail held)
+    by_tail None e tail = record { is_log = first_log; small = (omega arith, tt); whole = refl }
+    by_tail (Some last) e tail =
+        let low : last.file.0 ≤ LAST_FILE = subst (λ (o : Option LastFile). IfSome o (λ l. l.file.0 ≤ LAST_FILE)) e w.small in
+        let state : State = record { reads = reads; crash_states = synced_crash_states reads; job = None } in
+        let starts : StartsLog true (cut_off r.tail state).reads r.tail (log_from r.tail held) = starts_log true reads (cut_off r.tail state).reads r w (λ t. settles r.tail state) in
+        let last_starts : StartsLog true (cut_off r.tail state).reads (Some last) (log_from (Some last) held) =
+        subst (λ (o : Option LastFile). StartsLog true (cut_off r.tail state).reads o (log_from o held)) e starts in
+        record {
+          is_log = last_starts.0;
+          small = small_files (log_in held) last.file.0 (log_start_of (Some last)).offset last.last last_starts.0 last_starts.1 low;
+          whole = whole_from held (Some last) none.1;
+        }
+
+-- images of a disk that keeps a whole log mean the store of its records
+images_mean : (log : Log) (store : Store) (s : State) → HasNoGap log → Recovers store (length (entries_of log)) [] (entries_of log) → KeepsLog log [] (length (entries_of log)) s.crash_states → HoldPrefixes log s.reads → ImagesMean s store
+images_mean log store s gap recovers keeps prefixes = λ image is chance.
+    let all : ℕ = length (entries_of log) in
+    all_recovered store store (commits_in all all (entries_of log)) image [] (omega arith) refl
+    (images_recover store all all [] log image gap recovers (omega arith) (kept_is_left log [] all s image gap.is_log keeps prefixes is.files chance))
+
+read_means : (s x : State) (r : ReadLog) (w : WasRead true s.reads r) → NothingPending s ⊎ NothingPending x → IsSettling r.tail s x → ImagesMean x r.replayed.opening
+read_means s x r w pending is =
+    let log : Log = log_from r.tail w.reading.held in
+    let answer : IsLogOf w.reading.held r = w.reading.answer in
+    let kept : IsKept (entries_of log) (rows_in r.replayed.rows) r.replayed.last_txn r.replayed.last_db =
+    subst (λ (es : List Entry). IsKept es (rows_in r.replayed.rows) r.replayed.last_txn r.replayed.last_db) (sym (entries_from w.reading.held r.tail answer.tail))
+    (kept_opened (entries_of (log_in w.reading.held)) r.replayed answer.replay) in
+    images_mean log r.replayed.opening x (read_whole s.reads r w)
+    (subst (λ (store : Store). Recovers store (length (entries_of log)) [] (entries_of log)) answer.replay.store (logs_recover (entries_of log) (rows_in r.replayed.rows) r.replayed.last_txn r.replayed.last_db kept))
+    (kept_settling s x r w pending is) (prefixes_settling s x r w is)
+
+store_of_meaning : (held : List File) (a b : Meaning) → reading_of held ≡ Ok a → reading_of held ≡ Ok b → a.store ≡ b.store
+store_of_meaning held a b first second = ap (store_in a.store) (sym first ∙ second)
+  where
+    store_in : Store → Result Meaning Corruption → Store
+    store_in other (Ok meaning) = meaning.store
+    store_in other (Err corruption) = other
+
+-- ---- moments
+
+-- a log that was read is settled
+pub entry_settled : (old new : History) (reads : Files) (r : ReadLog) → WasRead true reads r → (now old).reads ≡ reads → Passes old new (IsSettling r.tail (now old)) → KeepsEntry old new
+entry_settled old new reads r read same passes = record {
+  since = passes_weaken old new (IsSettling r.tail (now old)) (λ (s : State). Unit {0}) (λ s p. tt) passes;
+  reads = λ k lo hi. read_settling (now old) (new.state_at k) r w (by_order k lo hi (cases_order k old.moment));
+  images = λ pending held meaning are is k lo hi. at_state held meaning are is (new.state_at k) (inl pending) (by_order k lo hi (cases_order k old.moment));
+  at_end = λ pending held meaning are is. at_state held meaning are is (now new) (inr pending) (passes_now old new (IsSettling r.tail (now old)) passes (inl (inl refl)));
+} where
+  w : WasRead true (now old).reads r
+  w = subst (λ (f : Files). WasRead true f r) (sym same) read
+
+  one_list : (held : List File) → AreFiles (now old).reads held → w.reading.held ≡ held
+  one_list held are = are_one_list (now old).reads w.reading.held held (w.reading.listed refl (w.listed refl)) are
+
+  at_state : (held : List File) (meaning : Meaning) → AreFiles (now old).reads held → reading_of held ≡ Ok meaning → (x : State) → NothingPending (now old) ⊎ NothingPending x →
+      IsSettling r.tail (now old) x → ImagesMean x meaning.store
+  at_state held meaning are is x pending settling =
+      subst (λ (store : Store). ImagesMean x store)
+      (store_of_meaning held (record { store = r.replayed.opening; last_txn = r.replayed.last_txn; last_db = r.replayed.last_db }) meaning
+      (subst (λ (h : List File). reading_of h ≡ Ok (record { store = r.replayed.opening; last_txn = r.replayed.last_txn; last_db = r.replayed.last_db })) (one_list held are) w.reading.answer.meaning) is)
+      (read_means (now old) x r w pending settling)
+
+  by_order : (k : ℕ) → old.moment ≤ k → k ≤ new.moment → (k ≡ old.moment) ⊎ ((k < old.moment) ⊎ (old.moment < k)) → IsSettling r.tail (now old) (new.state_at k)
+  by_order k lo hi (inl at) = inl (inl (ap (λ n. new.state_at n) at ∙ passes.keeps old.moment (omega arith)))
+  by_order k lo hi (inr (inl before)) = absurd (omega (arith, lo, before))
+  by_order k lo hi (inr (inr behind)) = passes.each k behind hi
+
+-- an image of a disk where nothing is pending is what the files read as
+image_reads : (file image : Option (List ℕ)) → IsFileImage (synced_crash_state file) image → file ≡ image
+image_reads None None is = refl
+image_reads None (Some bytes) is = let allowed = is.allowed in cc
+image_reads (Some there) None is = cc
+image_reads (Some there) (Some bytes) is = ap (λ (x : List ℕ). Some x) (sym is.front ∙ take_all (length there) bytes is.within)
+
+pub still_means : (s : State) (held : List File) (meaning : Meaning) → NothingPending s → AreFiles s.reads held → reading_of held ≡ Ok meaning → ImagesMean s meaning.store
+still_means s held meaning pending are reads = λ image is chance. (
+  meaning,
+  record {
+    held = held;
+    are = record { rising = are.rising; each = λ f. are.each f ∙ image_reads (s.reads f) (image f) (subst (λ (m : CrashState). IsFileImage m (image f)) (pending f) (is.files f)) };
+    reads = reads;
+  },
+  refl,
+)
+
+-- what reads so at entry reads so
+read_entry : (entry reads : Files) → reads ≡ entry → ReadAsAtEntry entry reads
+read_entry entry reads same f = inl (ap (λ (files : Files). files f) same)
+
+-- time went on, and nothing was done before
+pub entry_later : (a b c : History) → Passes a b (λ (s : State). s ≡ now a) → now b ≡ now a → KeepsEntry b c → KeepsEntry a c
+entry_later a b c passes same later = record {
+  since = passes_then a b c (λ (s : State). Unit {0}) (passes_weaken a b (λ (s : State). s ≡ now a) (λ (s : State). Unit {0}) (λ s p. tt) passes) later.since;
+  reads = λ k lo hi. reads_at k lo hi (cases_lt k b.moment);
+  images = λ pending held meaning are is k lo hi. by_order pending held meaning are is k lo hi (cases_lt k b.moment);
+  at_end = λ pending held meaning are is. later.at_end pending held meaning (subst (λ (s : State). AreFiles s.reads held) (sym same) are) is;
+} where
+  still : (k : ℕ) → a.moment ≤ k → k < b.moment → (k ≡ a.moment) ⊎ ((k < a.moment) ⊎ (a.moment < k)) → c.state_at k ≡ now a
+  still k lo hi (inl at) = later.since.keeps k (omega (arith, hi)) ∙ ap (λ n. b.state_at n) at ∙ passes.keeps a.moment (omega arith)
+  still k lo hi (inr (inl before)) = absurd (omega (arith, lo, before))
+  still k lo hi (inr (inr behind)) = later.since.keeps k (omega (arith, hi)) ∙ passes.each k behind (omega (arith, hi))
+
+  reads_at : (k : ℕ) → a.moment ≤ k → k ≤ c.moment → (k < b.moment) ⊎ (b.moment ≤ k) → ReadAsAtEntry (now a).reads (c.state_at k).reads
+  reads_at k lo hi (inl early) = read_entry (now a).reads (c.state_at k).reads (ap (λ (s : State). s.reads) (still k lo early (cases_order k a.moment)))
+  reads_at k lo hi (inr late) = subst (λ (s : State). ReadAsAtEntry s.reads (c.state_at k).reads) same (later.reads k late hi)
+
+  by_order : NothingPending (now a) → (held : List (ℕ × List ℕ)) (meaning : Meaning) → AreFiles (now a).reads held → reading_of held ≡ Ok meaning → (k : ℕ) → a.moment ≤ k → k ≤ c.moment →
+      (k < b.moment) ⊎ (b.moment ≤ k) → ImagesMean (c.state_at k) meaning.store
+  by_order pending held meaning are is k lo hi (inl early) =
+      subst (λ (s : State). ImagesMean s meaning.store) (sym (still k lo early (cases_order k a.moment))) (still_means (now a) held meaning pending are is)
+  by_order pending held meaning are is k lo hi (inr late) =
+      later.images (subst NothingPending (sym same) pending) held meaning (subst (λ (s : State). AreFiles s.reads held) (sym same) are) is k late hi
+
+-- no time went by
+pub entry_none : (h : History) → KeepsEntry h h
+entry_none h = record {
+  since = passes_none h (λ (s : State). Unit {0});
+  reads = λ k lo hi. let at : k ≡ h.moment = omega (arith, lo, hi) in read_entry (now h).reads (h.state_at k).reads (ap (λ n. (h.state_at n).reads) at);
+  images = λ pending held meaning are is k lo hi.
+      let at : k ≡ h.moment = omega (arith, lo, hi) in
+      subst (λ n. ImagesMean (h.state_at n) meaning.store) (sym at) (still_means (now h) held meaning pending are is);
+  at_end = λ pending held meaning are is. still_means (now h) held meaning pending are is;
+}
+
+-- time went on, and nothing was done
+pub entry_still : (old new : History) → Passes old new (λ (s : State). s ≡ now old) → now new ≡ now old → KeepsEntry old new
+entry_still old new passes same = entry_later old new new passes same (entry_none new)

@@ -1,0 +1,107 @@
+-- Opening an environment.
+use Rattle.std.specs.Prelude.{ℕ, ◌≡◌, ◌≤◌, ◌<◌, ◌⊎◌, ◌==◌, nat_lt, ◌∷◌, [], ◌++◌, take, Bool, true, Option, None, Some, Ok, IfSome, option_map, List, if◌then◌else◌}
+use Rattle.je_disk.specs.declared.error.DiskErr.{DiskErr}
+use Rattle.je_disk.specs.declared.error.DiskErr.TheVariants.{Failed, Memory as NoMemory}
+use Rattle.je_order.specs.Counts.{HasRisen}
+use Rattle.je_disk.specs.States.{State, Files, IsEither, IsListing, AreRisingNumbers, cut, put_at, synced}
+use Rattle.je_lsn.specs.declared.file_no.FileNo.{FileNo}
+use Rattle.je_model.specs.declared.store.Store.{Store}
+use Rattle.je_model.specs.Answers.{Standing}
+use Rattle.log_file.specs.Log.{Log, IsLog, AreFiles}
+use Rattle.log_buffer.specs.declared.buffer.LogBuffer.{LogBuffer}
+use Rattle.log_buffer.specs.declared.log_pos.LogPos.{LogPos}
+use Rattle.log_buffer.specs.Flip.{header_size}
+use Rattle.log_buffer.specs.Log.{EndsAt, ReadAs, ReadAsBut}
+use Rattle.log_replay.specs.declared.last_file.LastFile.{LastFile}
+use Rattle.log_replay.specs.declared.log_read.ReadLog.{ReadLog}
+use Rattle.log_replay.specs.declared.log_read.LogRead.TheVariants.{Read}
+use Rattle.log_replay.specs.declared.replayed.Replayed.{Replayed}
+use Rattle.log_replay.specs.Answer.{IsReadingOf}
+use Rattle.log_replay.specs.Reading.{reading_of}
+use Rattle.engine.specs.declared.open_err.OpenErr.{OpenErr}
+use Rattle.engine.specs.declared.open_err.OpenErr.TheVariants.{Disk, Unreadable, Memory}
+use Rattle.engine.specs.declared.kept.Kept.{Kept}
+use Rattle.engine.specs.declared.kept.TheConstants.{LAST_FILE}
+use Rattle.engine.specs.Files.{HasCorruption, end_in}
+use Rattle.engine.specs.Environment.{AreAt}
+
+-- the error that a failed call of the disk gives
+abbrev pub error_of_disk : DiskErr → OpenErr
+error_of_disk Failed = Disk
+error_of_disk NoMemory = Memory
+
+-- why opening stopped: the disk failed, the files at entry cannot be opened, or there was no memory
+abbrev pub StopsBy : Bool → Files → ℕ → ℕ → OpenErr → Type 0
+StopsBy observable files before after Disk = HasRisen before after
+StopsBy observable files before after (Unreadable corruption) = observable ≡ true → HasCorruption files corruption
+StopsBy observable files before after Memory = Unit {0}
+
+-- the log of a disk with these files was read
+pub record WasRead (observable : Bool) (reads : Files) (read : ReadLog) : Type 0 where
+  pub files : List FileNo
+  pub rising : AreRisingNumbers files
+  pub listed : observable ≡ true → IsListing reads files
+  pub reading : IsReadingOf observable reads files (Read read)
+  pub small : IfSome read.tail (λ last. last.file.0 ≤ LAST_FILE)
+
+-- what follows the valid prefix of the last file was cut off
+abbrev pub HasTornTailCut : Files → Files → Option LastFile → Type 0
+HasTornTailCut before after None = (g : ℕ) → after g ≡ before g
+HasTornTailCut before after (Some last) =
+    (g : ℕ) → after g ≡ (if nat_lt last.end last.len then put_at before last.file.0 (option_map (take last.end) (before last.file.0)) g else before g)
+
+-- the rest of the last file cut off
+abbrev pub cut_off : Option LastFile → State → State
+cut_off None s = s
+cut_off (Some last) s = if nat_lt last.end last.len then cut last.file.0 last.end s else s
+
+-- while a log is settled: nothing was done, what follows the last file's valid prefix was cut off, or all of that is stable
+abbrev pub IsSettling : Option LastFile → State → State → Type 0
+IsSettling tail before s = IsEither before (cut_off tail before) s ⊎ (s ≡ synced (cut_off tail before))
+
+-- where a log begins to grow that ends in this file: behind its valid prefix, or behind the header that it gets
+abbrev pub log_start_of : Option LastFile → LogPos
+log_start_of None = record { file = 0; offset = header_size }
+log_start_of (Some last) = record { file = last.file.0; offset = if last.end == 0 then header_size else last.end }
+
+-- the log that is gone on from: the files are this log's, or all but the last, which has no header yet
+abbrev pub StartsLog : Bool → Files → Option LastFile → Log → Type 0
+StartsLog observable reads None log = (log ≡ (0, []) ∷ []) × ReadAsBut observable 0 reads []
+StartsLog observable reads (Some last) log =
+    IsLog log × EndsAt log last.file.0 (log_start_of (Some last)).offset last.last
+    × (0 < last.end → ReadAs observable reads log)
+    × (last.end ≡ 0 → (before : Log) × (log ≡ before ++ (last.file.0, []) ∷ []) × ReadAsBut observable last.file.0 reads before)
+
+-- where the model stands when an environment with these files was opened: at what the files mean that were read, which are the disk's if it
+-- is observable
+pub record StartsAt (observable : Bool) (files : Files) (opening : Store) (st : Standing) : Type 0 where
+  pub store : st.store ≡ opening
+  pub commits : st.commits ≡ 0
+  pub begun : st.begun ≡ None
+  pub fault : st.fault ≡ None
+  pub held : List (ℕ × List ℕ)
+  pub observed : observable ≡ true → AreFiles files held
+  pub means : reading_of held ≡ Ok (record { store = opening; last_txn = st.last_txn; last_db = st.last_db })
+  pub log_end : st.log_end ≡ end_in held
+
+module _ {D : Type 0} where
+  -- an environment was opened: the model starts from what the files mean
+  pub record HasOpenedAt (most : ℕ) (observable : Bool) (files : Files) (state : State) (buffer : LogBuffer D) (opening : Store) (kept : Kept) (st : Standing) : Type 0 where
+    pub starts : StartsAt observable files opening st
+    pub here : AreAt most observable state buffer kept st
+
+  abbrev pub HasOpened : ℕ → Bool → Files → State → LogBuffer D → Store → Kept → Type 0
+  HasOpened most observable files state buffer opening kept = (st : Standing) × HasOpenedAt most observable files state buffer opening kept st
+
+-- what is kept of an environment that was just opened
+abbrev pub kept_at_start : Replayed → LogPos → ℕ → Kept
+kept_at_start r end file_max = record {
+  rows = r.rows;
+  totals = r.totals;
+  last_txn = r.last_txn;
+  last_db = r.last_db;
+  end = end;
+  file_max = file_max;
+  commits = 0;
+  fault = None;
+}

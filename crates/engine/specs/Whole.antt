@@ -1,0 +1,80 @@
+-- An engine as one value. Users speak of it by these alone; what it is made of may change below them.
+use Rattle.std.specs.Prelude.{ℕ, ◌≡◌, ◌++◌, ◌∷◌, [], List, None, Some, Bool, Result, Ok, Err, true, false, length}
+use Rattle.std.specs.declared.alloc.AllocError.{AllocError}
+use Rattle.je_disk.specs.States.{Files, State, synced_crash_states}
+use Rattle.je_disk.specs.Moments.{History, now}
+use Rattle.je_model.specs.declared.answer.Answer.{Answer}
+use Rattle.je_model.specs.declared.answer.Answer.TheVariants.{Done, DiskFault}
+use Rattle.je_model.specs.declared.call.Call.{Call}
+use Rattle.je_model.specs.declared.event.Event.{Event}
+use Rattle.je_model.specs.declared.event.Event.TheVariants.{Call as Called, SyncBegin}
+use Rattle.je_model.specs.declared.store.Store.{Store}
+use Rattle.je_model.specs.Answers.{Standing, MayBeginSync, MayEndSync, after_begin, after_sync}
+use Rattle.log_file.specs.Log.{Log, entries_of}
+use Rattle.log_buffer.specs.Buffer.{disk_of as disk_below}
+use Rattle.engine.specs.declared.engine.Engine.{Engine}
+use Rattle.engine.specs.Environment.{AreAt}
+use Rattle.engine.specs.Guarded.{IsGuardedLog, log_after}
+use Rattle.engine.specs.Opening.{StartsAt}
+use Rattle.engine.specs.Steps.{LeavesRoom, StepsOn}
+
+module _ {D : Type 0} where
+  -- the disk below
+  abbrev pub disk_of : Engine D → D
+  disk_of engine = disk_below engine.log
+
+  -- the engine, whose files have at most so many bytes, is where the model stands
+  abbrev pub IsAt : ℕ → Bool → State → Engine D → Standing → Type 0
+  IsAt most observable state engine st = AreAt most observable state engine.log engine.kept st
+
+  -- the numbers leave room for another step
+  abbrev pub CanGoOn : Engine D → Type 0
+  CanGoOn engine = LeavesRoom engine.kept
+
+  -- a run under way whose disk was safe at each moment of it, with this journal so far
+  abbrev pub IsGuarded : ℕ → Standing → History → History → Engine D → List Event → Type 0
+  IsGuarded most st start history engine journal = (log : Log) × IsGuardedLog most st log start history engine.log journal None
+
+  -- the same while a sync is out of all that was logged
+  abbrev pub IsGuardedInSync : ℕ → Standing → History → History → Engine D → List Event → Type 0
+  IsGuardedInSync most st start history engine journal =
+      (log : Log) × IsGuardedLog most st log start history engine.log journal (Some (length (entries_of (log_after most st journal log))))
+
+  -- a call was answered as the model may, and the engine is where the model then stands; out of memory left it where it was
+  abbrev pub GoesOn : ℕ → Bool → State → Engine D → Standing → Call → Result Answer AllocError → Type 0
+  GoesOn most observable state engine st call result = StepsOn most observable state engine.log engine.kept st call result
+
+  -- a call was answered, and the run goes on with it in its journal; or there was no memory, and it goes on without it
+  abbrev pub GoesOnSafely : ℕ → Standing → History → History → Engine D → List Event → ℕ → ℕ → Call → Result Answer AllocError → Type 0
+  GoesOnSafely most st start history engine journal session line call (Ok answer) = IsGuarded most st start history engine (journal ++ Called session line call answer ∷ [])
+  GoesOnSafely most st start history engine journal session line call (Err error) = IsGuarded most st start history engine journal
+
+  -- a sync began, or the disk failed
+  abbrev pub BeginsSync : ℕ → Bool → State → Engine D → Standing → Answer → Type 0
+  BeginsSync most observable state engine st answer = MayBeginSync None answer × IsAt most observable state engine (after_begin st answer)
+
+  -- a sync began, of all that was logged, or the disk failed
+  abbrev pub BeginsSafely : ℕ → Standing → History → History → Engine D → List Event → Bool → Type 0
+  BeginsSafely most st start history engine journal true = IsGuardedInSync most st start history engine (journal ++ SyncBegin Done ∷ [])
+  BeginsSafely most st start history engine journal false = IsGuarded most st start history engine (journal ++ SyncBegin DiskFault ∷ [])
+
+  -- a sync made the commits so far durable, or the disk failed
+  abbrev pub EndsSync : ℕ → Bool → State → Engine D → Standing → Answer → Type 0
+  EndsSync most observable state engine st answer =
+      MayEndSync None (Some st.commits) answer × IsAt most observable state engine (after_sync (record st { begun = Some st.commits }) answer)
+
+  -- an engine was opened: the model starts from what the files mean
+  pub record IsOpenedAt (most : ℕ) (observable : Bool) (files : Files) (state : State) (engine : Engine D) (opening : Store) (st : Standing) : Type 0 where
+    pub starts : StartsAt observable files opening st
+    pub here : IsAt most observable state engine st
+
+  abbrev pub IsOpened : ℕ → Bool → Files → State → Engine D → Store → Type 0
+  IsOpened most observable files state engine opening = (st : Standing) × IsOpenedAt most observable files state engine opening st
+
+  -- an engine was opened: all is stable, and the disk is safe
+  pub record IsOpenedSafely (most : ℕ) (files : Files) (opening : Store) (history : History) (engine : Engine D) : Type 0 where
+    pub st : Standing
+    pub starts : StartsAt true files opening st
+    pub here : IsAt most true (now history) engine st
+    pub stable : (now history).crash_states ≡ synced_crash_states (now history).reads
+    pub guarded : IsGuarded most st history history engine []

@@ -1,0 +1,228 @@
+// Opening an environment over a disk.
+ghost use Rattle.std.specs.Prelude.{◌≡◌, ◌≤◌, [], true, false, None, ℕ, length, IfSome, IfOk, IfErr, OnOk};
+ghost use Rattle.je_disk.specs.Causes.{HasFault};
+ghost use Rattle.je_disk.specs.Moments.{History, Passes, now};
+ghost use Rattle.je_disk.specs.States.{Files as Reads, IsEither, synced_crash_states};
+ghost use Rattle.log_buffer.specs.Buffer.{disk_of as disk_below, end_of, file_max_of, first_of, has_failed};
+ghost use Rattle.log_buffer.specs.Crash.{Holds};
+ghost use Rattle.log_buffer.specs.Log.{HasLog};
+ghost use Rattle.log_file.specs.Log.{Log, entries_of};
+ghost use Rattle.engine.specs.Crash.{KeepsEntry};
+ghost use Rattle.engine.specs.Untouched.{IsLeftAlone};
+ghost use Rattle.engine.specs.Opening.{HasTornTailCut, IsSettling, StartsLog, StopsBy, WasRead, cut_off, kept_at_start, log_start_of};
+ghost use Rattle.engine.specs.Whole.{CanGoOn, IsOpened, IsOpenedSafely, disk_of};
+ghost use Rattle.engine.specs.declared.kept.TheConstants.{LAST_FILE};
+
+use crate::config::Config;
+use crate::engine::Engine;
+use crate::kept::Kept;
+use crate::open_err::OpenErr;
+use je_disk::{Disk, DiskErr};
+use je_lsn::{FileNo, Lsn};
+use je_model::Store;
+use log_buffer::{HEADER_SIZE, LogBuffer, LogPos};
+use log_replay::{LastFile, LogRead, ReadLog, Replayed, read_log};
+use std::alloc::{AllocError, Global};
+
+/// An open environment, and the store that it held at entry.
+pub struct Opened<D> {
+    pub engine: Engine<D>,
+    pub opening: Store,
+}
+
+/// An environment that was not opened: why, and its disk back.
+pub struct Stopped<D> {
+    pub error: OpenErr,
+    pub disk: D,
+}
+
+// Mounts the disk and reads the log that it has.
+fn read_disk<D: Disk>(alloc: Global, disk: &mut D) -> Result<ReadLog, OpenErr>
+    ensures same { D.observable ≡ true → now (D.history disk.new) ≡ now (D.history disk.old) }
+    ensures moments { D.observable ≡ true → Passes (D.history disk.old) (D.history disk.new) (λ s. s ≡ now (D.history disk.old)) }
+    ensures read { IfOk result (WasRead D.observable (now (D.history disk.old)).reads) }
+    ensures none_out { OnOk result (D.sync_out disk.new ≡ None) }
+    ensures stops { IfErr result (λ error. StopsBy D.observable (now (D.history disk.old)).reads (D.faults disk.old) (D.faults disk.new) error) }
+    ensures never_falls { D.faults disk.old ≤ D.faults disk.new }
+{
+    disk.mount()?;
+    let files = disk.list(alloc)?;
+    match read_log(alloc, disk, &files)? {
+        LogRead::Read(read) => Ok(read),
+        LogRead::Corrupt(corruption) => Err(OpenErr::Unreadable(corruption)),
+    }
+}
+
+// Cuts off what follows the valid prefix of the last file.
+fn cut_rest<D: Disk>(disk: &mut D, tail: Option<LastFile>) -> Result<(), DiskErr>
+    requires { D.sync_out disk.old ≡ None }
+    ensures done { D.observable ≡ true → OnOk result (now (D.history disk.new) ≡ cut_off tail (now (D.history disk.old))) }
+    ensures moments { D.observable ≡ true → Passes (D.history disk.old) (D.history disk.new) (IsEither (now (D.history disk.old)) (cut_off tail (now (D.history disk.old)))) }
+    ensures cause { HasFault (D.faults disk.old) (D.faults disk.new) result }
+{
+    let Some(last) = tail else {
+        return Ok(());
+    };
+    let end = u64::from(last.end);
+    if end < last.len {
+        disk.cut(last.file, end)
+    } else {
+        Ok(())
+    }
+}
+
+// Cuts off what follows the valid prefix of the last file, and syncs.
+fn settle<D: Disk>(disk: &mut D, tail: Option<LastFile>) -> Result<(), DiskErr>
+    requires { D.sync_out disk.old ≡ None }
+    ensures settled { D.observable ≡ true → OnOk result (HasTornTailCut (now (D.history disk.old)).reads (now (D.history disk.new)).reads tail) }
+    ensures stable { D.observable ≡ true → OnOk result ((now (D.history disk.new)).crash_states ≡ synced_crash_states (now (D.history disk.new)).reads) }
+    ensures moments { D.observable ≡ true → Passes (D.history disk.old) (D.history disk.new) (IsSettling tail (now (D.history disk.old))) }
+    ensures cause { HasFault (D.faults disk.old) (D.faults disk.new) result }
+{
+    cut_rest(disk, tail)?;
+    disk.sync_now()
+}
+
+// The log buffer over a log that ends in this file. Where there is none, or it has no header, the header
+// goes into the buffer's tail; out of memory for that hands the disk back.
+fn begin_log<D: Disk>(
+    alloc: Global,
+    disk: D,
+    tail: Option<LastFile>,
+    file_max: u32,
+) -> Result<LogBuffer<D>, D>
+    requires file { IfSome tail (λ last. last.file.0 ≤ LAST_FILE) }
+    requires file_max { file_max ≤ 1073741824 }
+    ensures log { (log : Log) → StartsLog D.observable (now (D.history disk)).reads tail log → IfOk result (λ buffer. HasLog D.observable (now (D.history disk)) buffer log) }
+    ensures holds { D.observable ≡ true → (log : Log) → StartsLog D.observable (now (D.history disk)).reads tail log → (now (D.history disk)).crash_states ≡ synced_crash_states (now (D.history disk)).reads
+        → IfOk result (λ buffer. Holds log [] (length (entries_of log)) None (first_of buffer) (now (D.history disk))) }
+    ensures disk { IfOk result (λ buffer. disk_below buffer ≡ disk) }
+    ensures end { IfOk result (λ buffer. end_of buffer ≡ log_start_of tail) }
+    ensures file_max { IfOk result (λ buffer. file_max_of buffer ≡ file_max) }
+    ensures works { IfOk result (λ buffer. has_failed buffer ≡ false) }
+    ensures handed_back { IfErr result (λ given. given ≡ disk) }
+{
+    let Some(last) = tail else {
+        return LogBuffer::create(alloc, disk, FileNo(0), file_max);
+    };
+    if last.end == 0 {
+        return LogBuffer::create(alloc, disk, last.file, file_max);
+    }
+    let end = Lsn::new(last.file, last.end);
+    Ok(LogBuffer::resume(alloc, disk, end, last.last, file_max))
+}
+
+// Where a log begins to grow that ends in this file.
+fn start(tail: Option<LastFile>) -> LogPos
+    ensures { result ≡ log_start_of tail }
+{
+    let Some(last) = tail else {
+        return LogPos {
+            file: 0,
+            offset: HEADER_SIZE,
+        };
+    };
+    let offset = if last.end == 0 {
+        HEADER_SIZE
+    } else {
+        u64::from(last.end)
+    };
+    LogPos {
+        file: last.file.0,
+        offset,
+    }
+}
+
+// An environment that was just opened, over its log.
+fn begin<D>(log: LogBuffer<D>, read: ReadLog, file_max: u32) -> Opened<D>
+    ensures log { result.engine.log ≡ log }
+    ensures opening { result.opening ≡ read.replayed.opening }
+    ensures kept { result.engine.kept ≡ kept_at_start read.replayed (log_start_of read.tail) file_max }
+{
+    let end = start(read.tail);
+    let Replayed {
+        rows,
+        opening,
+        totals,
+        last_txn,
+        last_db,
+    } = read.replayed;
+    let kept = Kept {
+        rows,
+        totals,
+        last_txn,
+        last_db,
+        end,
+        file_max,
+        commits: 0,
+        fault: None,
+    };
+    Opened {
+        engine: Engine { log, kept },
+        opening,
+    }
+}
+
+// Opens the environment whose log was read.
+fn go_on<D: Disk>(
+    alloc: Global,
+    disk: D,
+    read: ReadLog,
+    file_max: u32,
+) -> Result<Opened<D>, Stopped<D>>
+    requires none_out { D.sync_out disk ≡ None }
+    requires small { IfSome read.tail (λ last. last.file.0 ≤ LAST_FILE) }
+    requires file_max { file_max ≤ 1073741824 }
+    ensures opened { (reads : Reads) → WasRead D.observable reads read → (D.observable ≡ true → (now (D.history disk)).reads ≡ reads)
+        → IfOk result (λ opened. IsOpened file_max D.observable reads (now (D.history (disk_of opened.engine))) opened.engine opened.opening) }
+    ensures crash { D.observable ≡ true → (reads : Reads) → WasRead D.observable reads read → (now (D.history disk)).reads ≡ reads
+        → IfOk result (λ opened. IsOpenedSafely file_max reads opened.opening (D.history (disk_of opened.engine)) opened.engine) }
+    ensures entry { D.observable ≡ true → (reads : Reads) → WasRead D.observable reads read → (now (D.history disk)).reads ≡ reads
+        → IfOk result (λ opened. KeepsEntry (D.history disk) (D.history (disk_of opened.engine))) }
+    ensures bounds { IfOk result (λ opened. CanGoOn opened.engine) }
+    ensures faults { IfOk result (λ opened. D.faults disk ≤ D.faults (disk_of opened.engine)) }
+    ensures stopped_entry { D.observable ≡ true → (reads : Reads) → WasRead D.observable reads read → (now (D.history disk)).reads ≡ reads
+        → IfErr result (λ stopped. KeepsEntry (D.history disk) (D.history stopped.disk)) }
+    ensures stopped { (reads : Reads) → IfErr result (λ stopped. StopsBy D.observable reads (D.faults disk) (D.faults stopped.disk) stopped.error) }
+    ensures stopped_faults { IfErr result (λ stopped. D.faults disk ≤ D.faults stopped.disk) }
+    ensures left_alone { IfErr result (λ stopped. (old new : History) → IsLeftAlone stopped.error old new) }
+{
+    let mut disk = disk;
+    if settle(&mut disk, read.tail).is_err() {
+        return Err(Stopped {
+            error: OpenErr::Disk,
+            disk,
+        });
+    }
+    match begin_log(alloc, disk, read.tail, file_max) {
+        Ok(log) => Ok(begin(log, read, file_max)),
+        Err(disk) => Err(Stopped {
+            error: OpenErr::Memory,
+            disk,
+        }),
+    }
+}
+
+impl<D: Disk> Engine<D> {
+    /// Opens the environment that a disk has: reads its log, cuts off what follows the valid prefix of the
+    /// last file, and syncs. Where there is no file, or the last one has no header, the header is written
+    /// with the first sync. A log that cannot be opened is left as it is.
+    pub fn open(alloc: Global, disk: D, config: &Config) -> Result<Opened<D>, Stopped<D>>
+        requires file_max { config.now.file_max ≤ 1073741824 }
+        ensures opened { IfOk result (λ opened. IsOpened config.now.file_max D.observable (now (D.history disk)).reads (now (D.history (disk_of opened.engine))) opened.engine opened.opening) }
+        ensures crash { D.observable ≡ true → IfOk result (λ opened. IsOpenedSafely config.now.file_max (now (D.history disk)).reads opened.opening (D.history (disk_of opened.engine)) opened.engine) }
+        ensures entry { D.observable ≡ true → IfOk result (λ opened. KeepsEntry (D.history disk) (D.history (disk_of opened.engine))) }
+        ensures bounds { IfOk result (λ opened. CanGoOn opened.engine) }
+        ensures faults { IfOk result (λ opened. D.faults disk ≤ D.faults (disk_of opened.engine)) }
+        ensures stopped_entry { D.observable ≡ true → IfErr result (λ stopped. KeepsEntry (D.history disk) (D.history stopped.disk)) }
+        ensures stopped { IfErr result (λ stopped. StopsBy D.observable (now (D.history disk)).reads (D.faults disk) (D.faults stopped.disk) stopped.error) }
+        ensures stopped_faults { IfErr result (λ stopped. D.faults disk ≤ D.faults stopped.disk) }
+        ensures left_alone { D.observable ≡ true → IfErr result (λ stopped. IsLeftAlone stopped.error (D.history disk) (D.history stopped.disk)) }
+    {
+        let mut disk = disk;
+        match read_disk(alloc, &mut disk) {
+            Ok(read) => go_on(alloc, disk, read, config.file_max),
+            Err(error) => Err(Stopped { error, disk }),
+        }
+    }
+}
