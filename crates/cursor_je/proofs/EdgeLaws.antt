@@ -1,5 +1,5 @@
 -- Edges, and the names on either side.
-use Rattle.std.proofs.Common.{◌≡◌, ℕ, zero, suc, ◌==◌, cond, arith, List, [], ◌∷◌, ◌++◌, Bool, true, false, not, ◌&&◌, refl, ap, ap₂, sym, subst, ◌∙◌, Ordering, Less, Equal, Greater, is_eq, is_lt, is_gt}
+use Rattle.std.proofs.Common.{◌≡◌, ℕ, zero, suc, ◌==◌, cond, arith, List, [], ◌∷◌, ◌++◌, Bool, false, not, ◌&&◌, refl, ap, sym, ◌∙◌, Ordering, Less, Equal, Greater, is_eq, is_gt}
 use Rattle.std.specs.Ordering.{nat_cmp, ordering_then, ordering_reverse, is_ge}
 use Rattle.std.proofs.lemmas.Bool.{lt-ltb}
 use Rattle.je_order.specs.Order.{bytes_cmp, name_cmp}

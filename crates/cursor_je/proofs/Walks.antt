@@ -1,19 +1,22 @@
 -- Records between edges: what the ends of a range are, and how it is walked.
-use Rattle.std.proofs.Common.{◌≡◌, ℕ, List, [], ◌∷◌, ◌++◌, Bool, true, false, cond, not, ◌&&◌, filter, refl, ap, ap₂, sym, subst, ◌∙◌, Ordering, Less, Equal, Greater, is_eq}
+use Rattle.std.proofs.Common.{◌≡◌, suc, ◌<◌, arith, map, length, List, [], ◌∷◌, ◌++◌, Bool, true, false, cond, not, ◌&&◌, filter, refl, ap, ap₂, sym, subst, ◌∙◌, Ordering, Less, Equal, Greater, is_eq}
 use Rattle.std.specs.List.{AllByRecursion}
 use Rattle.std.specs.List.Sorted.{IsStrictlySortedBy}
-use Rattle.std.specs.Ordering.{on, ordering_reverse}
-use Rattle.std.proofs.lemmas.Bool.{cond_both}
+use Rattle.std.specs.Ordering.{on, ordering_reverse, is_ge}
+use Rattle.std.proofs.lemmas.Bool.{and_parts}
+use Rattle.std.proofs.lemmas.List.{append-nil}
 use Rattle.std.proofs.lemmas.List.Kept.{IsStrictlySortedBy-filter}
 use Rattle.je_order.specs.Order.{name_cmp}
-use Rattle.je_order.specs.Edges.{Edge, is_below, is_between}
-use Rattle.je_order.specs.Edges.Edge.{First, At, Behind, End}
+use Rattle.je_order.specs.Edges.{Edge, is_below}
+use Rattle.je_order.specs.Edges.Edge.{First, Behind, End}
 use Rattle.je_order.specs.declared.name.Name.{Name}
-use Rattle.je_order.proofs.Lists.{all_weaker}
+use Rattle.je_order.proofs.Lists.{all_weaker, filter_all_pass}
 use Rattle.store_model.specs.declared.kind.Kind.{Kind}
 use Rattle.store_model.specs.Store.{Pair, name_of, HasRisingNames}
 use Rattle.store_model.specs.Reads.{range, empty_range, just, is_within, last_of, taken_by, seen, at_name}
 use Rattle.store_model.specs.Reads.Way.{Lowest, Highest, Each}
+use Rattle.cursor_je.specs.declared.record_ref.RecordRef.{RecordRef}
+use Rattle.cursor_je.specs.Looks.{pair_in}
 use Rattle.store_model.proofs.StoreLaws.{names_total}
 use Rattle.cursor_je.proofs.EdgeLaws.{stays_above, just_that, name_same}
 
@@ -183,3 +186,98 @@ pub highest_kept : (kind k : Kind) (from upto : Edge) (pairs taken kept : List P
 highest_kept kind k from upto pairs taken kept up same is left =
     left ∙ ap (λ (k : Kind). filter (λ p. not (is_below from (name_of k p))) taken) same
     ∙ ap (filter (λ p. not (is_below from (name_of kind p)))) is ∙ sym (highest_is kind from upto pairs up)
+
+-- ---- a walk
+
+-- the records between two edges
+abbrev between : Kind → Edge → Edge → List Pair → List Pair
+between kind from upto pairs = filter (λ p. is_within (range from upto) (name_of kind p)) pairs
+
+head_of : (xs : List Pair) (p : Pair) → p ∷ [] ≡ taken_by Lowest xs → (ys : List Pair) × (xs ≡ p ∷ ys)
+head_of [] p is = absurd cc
+head_of (x ∷ xs) p is = (xs, ap (λ (q : Pair). q ∷ xs) cc)
+
+none_of : (xs : List Pair) → [] ≡ taken_by Lowest xs → xs ≡ []
+none_of [] is = refl
+none_of (x ∷ xs) is = absurd cc
+
+less_of : (o : Ordering) → not (is_ge o) ≡ true → o ≡ Less
+less_of Less h = refl
+less_of Equal h = cc
+less_of Greater h = cc
+
+-- behind a record that is not below an edge there is no record below it
+agrees : (a b c : Bool) → (a ≡ true → b ≡ true) → (a && c) ≡ (a && (b && c))
+agrees true b c h = sym (ap (λ (t : Bool). t && c) (h refl))
+agrees false b c h = refl
+
+behind_one : (kind : Kind) (from upto : Edge) (pairs ys : List Pair) (p : Pair) → HasRisingNames kind pairs → between kind from upto pairs ≡ p ∷ ys →
+    between kind (Behind (name_of kind p)) upto pairs ≡ ys
+unfolding IsStrictlySortedBy
+behind_one kind from upto pairs ys p up is =
+    let name : Pair → Name = name_of kind in
+    let above : Pair → Bool = λ q. not (is_below from (name q)) in
+    let below : Pair → Bool = λ q. is_below upto (name q) in
+    let behind : Pair → Bool = λ q. not (is_below (Behind (name p)) (name q)) in
+    let inside : Pair → Bool = λ q. above q && below q in
+    let sorted : IsStrictlySortedBy (on name name_cmp) (p ∷ ys) = subst (IsStrictlySortedBy (on name name_cmp)) is (IsStrictlySortedBy-filter (on name name_cmp) inside pairs up) in
+    let passes : AllByRecursion (λ q. inside q ≡ true) (p ∷ ys) = subst (AllByRecursion (λ q. inside q ≡ true)) is (filter_all_pass inside pairs) in
+    let from_it : is_below from (name p) ≡ false = not_true (is_below from (name p)) (and_parts (above p) (below p) passes.0).0 in
+    let later : (q : Pair) → behind q ≡ true → above q ≡ true = λ q h. ap not (stays_above from (name p) (name q) (less_of (name_cmp (name p) (name q)) h) from_it) in
+    same_kept (λ q. behind q && below q) (λ q. behind q && inside q) (λ q. agrees (behind q) (above q) (below q) (later q)) pairs
+    ∙ both_back behind inside pairs ∙ ap (filter behind) is
+    ∙ drops behind p ys (ap (λ (o : Ordering). not (is_ge o)) (name_same (name p)))
+    ∙ all_stay behind ys (all_weaker (λ q. name_cmp (name p) (name q) ≡ Less) (λ q. behind q ≡ true) (λ q less. ap (λ (o : Ordering). not (is_ge o)) less) ys sorted.0)
+
+-- the records from an edge on are the first one and those behind it
+step : (kind : Kind) (from upto : Edge) (pairs : List Pair) (p : Pair) → HasRisingNames kind pairs → p ∷ [] ≡ seen kind Lowest (range from upto) pairs →
+    between kind from upto pairs ≡ p ∷ between kind (Behind (name_of kind p)) upto pairs
+step kind from upto pairs p up is =
+    let h = head_of (between kind from upto pairs) p is in
+    h.1 ∙ ap (λ (ys : List Pair). p ∷ ys) (sym (behind_one kind from upto pairs h.0 p up h.1))
+
+pushed : (xs : List RecordRef) (x : RecordRef) (ys : List Pair) → map pair_in (xs ++ x ∷ []) ++ ys ≡ map pair_in xs ++ pair_in x ∷ ys
+pushed [] x ys = refl
+pushed (y ∷ xs) x ys = ap (λ (l : List Pair). pair_in y ∷ l) (pushed xs x ys)
+
+-- the edge behind the record that was found
+behind_found : (kind k : Kind) (name : Name) (p : Pair) → k ≡ kind → name ≡ name_of k p → Behind name ≡ Behind (name_of kind p)
+behind_found kind k name p same is = ap Behind (is ∙ ap (λ (k : Kind). name_of k p) same)
+
+-- a walk that found a record goes on behind it
+pub walk_on : (kind k : Kind) (from upto : Edge) (pairs start : List Pair) (items next : List RecordRef) (found : RecordRef) (name : Name) →
+    HasRisingNames kind pairs → k ≡ kind → pair_in found ∷ [] ≡ seen kind Lowest (range from upto) pairs → name ≡ name_of k (pair_in found) →
+    next ≡ items ++ found ∷ [] → map pair_in items ++ between kind from upto pairs ≡ start →
+    map pair_in next ++ between kind (Behind name) upto pairs ≡ start
+walk_on kind k from upto pairs start items next found name up same is named grown so =
+    ap (λ (l : List RecordRef). map pair_in l ++ between kind (Behind name) upto pairs) grown
+    ∙ pushed items found (between kind (Behind name) upto pairs)
+    ∙ ap (λ (e : Edge). map pair_in items ++ pair_in found ∷ between kind e upto pairs) (behind_found kind k name (pair_in found) same named)
+    ∙ ap (λ (l : List Pair). map pair_in items ++ l) (sym (step kind from upto pairs (pair_in found) up is)) ∙ so
+
+-- and has less before it
+pub walk_less : (kind k : Kind) (from upto : Edge) (pairs : List Pair) (found : RecordRef) (name : Name) →
+    HasRisingNames kind pairs → k ≡ kind → pair_in found ∷ [] ≡ seen kind Lowest (range from upto) pairs → name ≡ name_of k (pair_in found) →
+    length (between kind (Behind name) upto pairs) < length (between kind from upto pairs)
+walk_less kind k from upto pairs found name up same is named =
+    let longer : length (between kind from upto pairs) ≡ suc (length (between kind (Behind name) upto pairs)) =
+    ap length (step kind from upto pairs (pair_in found) up is)
+    ∙ ap (λ (e : Edge). suc (length (between kind e upto pairs))) (sym (behind_found kind k name (pair_in found) same named)) in
+    omega (arith, longer)
+
+-- a walk that found nothing has all
+pub walk_done : (kind : Kind) (from upto : Edge) (pairs start : List Pair) (items : List RecordRef) →
+    [] ≡ seen kind Lowest (range from upto) pairs → map pair_in items ++ between kind from upto pairs ≡ start → map pair_in items ≡ start
+walk_done kind from upto pairs start items is so =
+    sym (ap (λ (l : List Pair). map pair_in items ++ l) (none_of (between kind from upto pairs) is) ∙ append-nil (map pair_in items)) ∙ so
+
+-- ---- the first of what is seen
+
+-- a put that looks nowhere sees nothing
+pub nothing_put : (kind : Kind) (pairs : List Pair) → [] ≡ taken_by Lowest (seen kind Each empty_range pairs)
+nothing_put kind pairs = ap (taken_by Lowest) (nowhere kind pairs)
+
+-- ---- counts
+
+pub none_seen : (kind : Kind) (pairs : List Pair) → 0 ≡ length (seen kind Each empty_range pairs)
+none_seen kind pairs = ap length (nowhere kind pairs)

@@ -1,5 +1,5 @@
 -- What the values of this crate's types are in the model.
-use Rattle.std.specs.Prelude.{◌∷◌, [], List, Option, None, Some, map}
+use Rattle.std.specs.Prelude.{◌∷◌, [], List, Option, None, Some}
 use Rattle.je_order.specs.declared.name.Name.{Name}
 use Rattle.je_order.specs.Edges.{Edge}
 use Rattle.je_order.specs.Edges.Edge.{First, At, Behind, End}

@@ -1,7 +1,6 @@
-use Rattle.std.proofs.Common.{◌≡◌, ◌∙◌, sym, ap, List, Option}
-use Rattle.store_model.specs.Store.{Pair}
+use Rattle.std.proofs.Common.{◌∙◌, sym, ap}
 use Rattle.je_order.proofs.Results.{if_ok}
-use Rattle.cursor_je.specs.Looks.{name_in, look_in, seen_by, taken_in}
+use Rattle.cursor_je.specs.Looks.{name_in, look_in, seen_by}
 use Rattle.cursor_je.proofs.Walks.{nowhere, just_is}
 use Rattle.cursor_je.proofs.taking.take.Goals as goal
 

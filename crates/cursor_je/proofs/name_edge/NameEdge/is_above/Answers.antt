@@ -1,4 +1,4 @@
-use Rattle.std.proofs.Common.{◌≡◌, ◌∙◌, ap, sym}
+use Rattle.std.proofs.Common.{◌∙◌, ap, sym}
 use Rattle.std.specs.Ordering.{is_ge}
 use Rattle.je_order.specs.Edges.{is_below}
 use Rattle.cursor_je.specs.Looks.{name_in, edge_in}
