@@ -2,21 +2,15 @@
 use Rattle.std.specs.Prelude.{ℕ, List, Option, None, Some, nat_lt, length, if◌then◌else◌}
 use Rattle.std.specs.Option.{is_some}
 use Rattle.je_order.specs.declared.txn_id.TxnId.{TxnId}
-use Rattle.je_order.specs.declared.limits.TheConstants.{KEY_LIMIT, VALUE_LIMIT}
-use Rattle.store_model.specs.declared.store.TheConstants.{LAST_TXN, DUP_LIMIT}
-use Rattle.store_model.specs.declared.kind.Kind.{Kind}
-use Rattle.store_model.specs.declared.kind.Kind.TheVariants.{Plain, Dup}
-use Rattle.store_model.specs.declared.put_mode.PutMode.TheVariants.{NoDupData}
-use Rattle.store_model.specs.declared.motion.Motion.{Motion}
-use Rattle.store_model.specs.declared.motion.Motion.TheVariants.{Key, Range, Both, BothRange}
+use Rattle.store_model.specs.declared.store.TheConstants.{LAST_TXN}
 use Rattle.store_model.specs.declared.call.Call.{Call}
 use Rattle.store_model.specs.declared.call.Call.TheVariants.{Begin, Commit, Abort, Create, Remove, Rename, Truncate, Get, GetBoth, Put, Delete, Open, Close, Dup as Duplicate, Count, Cur, CPutCur, CDel, CPut}
 use Rattle.store_model.specs.declared.place.Place.{Place}
 use Rattle.store_model.specs.declared.answer.Answer.{Answer}
-use Rattle.store_model.specs.declared.answer.Answer.TheVariants.{MustAbort, SessionWaits, NoTxn, InTxn, NoCursor, NotOnDuplicates, OnlyOnDuplicates, IdsEnded, Invalid}
+use Rattle.store_model.specs.declared.answer.Answer.TheVariants.{MustAbort, SessionWaits, NoTxn, InTxn, NoCursor, IdsEnded, Invalid}
 use Rattle.store_model.specs.declared.answer.Fault.{Fault}
 use Rattle.store_model.specs.Store.{database_of}
-use Rattle.store_model.specs.Refusals.{or_refusal, creation_refusal, access_refusal, taken_refusal, too_long}
+use Rattle.store_model.specs.Refusals.{or_refusal, creation_refusal, access_refusal, taken_refusal, database_refuses}
 use Rattle.je_answers.specs.declared.active.Active.{Active}
 use Rattle.je_answers.specs.Standing.{Standing, active_of, place_at}
 use Rattle.je_answers.specs.Views.{Target, target_of}
@@ -100,42 +94,10 @@ name_refusal st session (Open cursor db) = taken_refusal (is_some (place_at curs
 name_refusal st session (Duplicate cursor to) = taken_refusal (is_some (place_at to (st.places session)))
 name_refusal st session call = None
 
--- the call is none for a database of its kind
-abbrev pub kind_refusal : Call → Kind → Option Answer
-kind_refusal (CPutCur cursor value) Dup = Some NotOnDuplicates
-kind_refusal (Put db key value NoDupData) Plain = Some OnlyOnDuplicates
-kind_refusal (CPut cursor key value NoDupData) Plain = Some OnlyOnDuplicates
-kind_refusal call kind = None
-
--- a key or data past its limit
-abbrev pub data_limit : Kind → ℕ
-data_limit Plain = VALUE_LIMIT
-data_limit Dup = DUP_LIMIT
-
-abbrev pub pair_refusal : Kind → List ℕ → List ℕ → Option Answer
-pair_refusal kind key value = or_refusal (too_long KEY_LIMIT key) (too_long (data_limit kind) value)
-
-abbrev pub motion_refusal : Motion → Kind → Option Answer
-motion_refusal (Key key) kind = too_long KEY_LIMIT key
-motion_refusal (Range key) kind = too_long KEY_LIMIT key
-motion_refusal (Both key value) kind = pair_refusal kind key value
-motion_refusal (BothRange key value) kind = pair_refusal kind key value
-motion_refusal motion kind = None
-
-abbrev pub size_refusal : Call → Kind → Option Answer
-size_refusal (Get db key rmw) kind = too_long KEY_LIMIT key
-size_refusal (GetBoth db key value rmw) kind = pair_refusal kind key value
-size_refusal (Put db key value mode) kind = pair_refusal kind key value
-size_refusal (Delete db key) kind = too_long KEY_LIMIT key
-size_refusal (Cur cursor motion rmw) kind = motion_refusal motion kind
-size_refusal (CPutCur cursor value) kind = too_long (data_limit kind) value
-size_refusal (CPut cursor key value mode) kind = pair_refusal kind key value
-size_refusal call kind = None
-
 -- what its database refuses
 abbrev pub target_refusal : Call → Option Target → Option Answer
 target_refusal call None = None
-target_refusal call (Some g) = or_refusal (kind_refusal call g.database.kind) (size_refusal call g.database.kind)
+target_refusal call (Some g) = database_refuses g.database.kind call
 
 -- no number is left; then the database or the cursor is not there; then its name is taken; then what its database refuses
 abbrev pub late_refusal : Standing → ℕ → Call → Option Answer

@@ -1,10 +1,18 @@
 -- Refusals of a call, and the numbers that changes allocate (Getting Started with Transaction Processing; the order of refusals is this project's own).
 use Rattle.std.specs.Prelude.{ℕ, ◌+◌, ◌∷◌, [], List, Option, None, Some, Bool, nat_lt, nat_le, length, if◌then◌else◌}
-use Rattle.store_model.specs.declared.store.TheConstants.{MOST_DATABASES, LAST_TXN}
+use Rattle.je_order.specs.declared.limits.TheConstants.{KEY_LIMIT, VALUE_LIMIT}
+use Rattle.store_model.specs.declared.store.TheConstants.{MOST_DATABASES, LAST_TXN, DUP_LIMIT}
+use Rattle.store_model.specs.declared.kind.Kind.{Kind}
+use Rattle.store_model.specs.declared.kind.Kind.TheVariants.{Plain, Dup}
+use Rattle.store_model.specs.declared.put_mode.PutMode.TheVariants.{NoDupData}
+use Rattle.store_model.specs.declared.motion.Motion.{Motion}
+use Rattle.store_model.specs.declared.motion.Motion.TheVariants.{Key, Range, Both, BothRange}
+use Rattle.store_model.specs.declared.call.Call.{Call}
+use Rattle.store_model.specs.declared.call.Call.TheVariants.{Get, GetBoth, Put, Delete, Cur, CPutCur, CPut}
 use Rattle.store_model.specs.declared.change.Change.{Change}
 use Rattle.store_model.specs.declared.change.Change.TheVariants.{Set, Unset, Make, Remove, Rename, Empty}
 use Rattle.store_model.specs.declared.answer.Answer.{Answer}
-use Rattle.store_model.specs.declared.answer.Answer.TheVariants.{NoDatabase, NameTaken, TooMany, TooLong}
+use Rattle.store_model.specs.declared.answer.Answer.TheVariants.{NoDatabase, NameTaken, TooMany, NotOnDuplicates, OnlyOnDuplicates, TooLong}
 
 -- the number allocated next stays at the last one
 abbrev pub next_txn : ℕ → ℕ
@@ -40,3 +48,39 @@ taken_refusal taken = if taken then Some NameTaken else None
 -- the refusal of a key past its limit, else of data past its limit
 abbrev pub too_long : ℕ → List ℕ → Option Answer
 too_long limit bytes = if nat_lt limit (length bytes) then Some (TooLong (length bytes)) else None
+
+-- the call is none for a database of its kind
+abbrev pub kind_refusal : Call → Kind → Option Answer
+kind_refusal (CPutCur cursor value) Dup = Some NotOnDuplicates
+kind_refusal (Put db key value NoDupData) Plain = Some OnlyOnDuplicates
+kind_refusal (CPut cursor key value NoDupData) Plain = Some OnlyOnDuplicates
+kind_refusal call kind = None
+
+-- a key or data past its limit
+abbrev pub data_limit : Kind → ℕ
+data_limit Plain = VALUE_LIMIT
+data_limit Dup = DUP_LIMIT
+
+abbrev pub pair_refusal : Kind → List ℕ → List ℕ → Option Answer
+pair_refusal kind key value = or_refusal (too_long KEY_LIMIT key) (too_long (data_limit kind) value)
+
+abbrev pub motion_refusal : Motion → Kind → Option Answer
+motion_refusal (Key key) kind = too_long KEY_LIMIT key
+motion_refusal (Range key) kind = too_long KEY_LIMIT key
+motion_refusal (Both key value) kind = pair_refusal kind key value
+motion_refusal (BothRange key value) kind = pair_refusal kind key value
+motion_refusal motion kind = None
+
+abbrev pub size_refusal : Call → Kind → Option Answer
+size_refusal (Get db key rmw) kind = too_long KEY_LIMIT key
+size_refusal (GetBoth db key value rmw) kind = pair_refusal kind key value
+size_refusal (Put db key value mode) kind = pair_refusal kind key value
+size_refusal (Delete db key) kind = too_long KEY_LIMIT key
+size_refusal (Cur cursor motion rmw) kind = motion_refusal motion kind
+size_refusal (CPutCur cursor value) kind = too_long (data_limit kind) value
+size_refusal (CPut cursor key value mode) kind = pair_refusal kind key value
+size_refusal call kind = None
+
+-- what a database of that kind refuses of a call on its records
+abbrev pub database_refuses : Kind → Call → Option Answer
+database_refuses kind call = or_refusal (kind_refusal call kind) (size_refusal call kind)

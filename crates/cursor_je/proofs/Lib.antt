@@ -1,0 +1,4 @@
+-- Edges, and the names on either side.
+pub mod EdgeLaws
+-- Records between edges: what the ends of a range are, and how it is walked.
+pub mod Walks

@@ -1,0 +1,26 @@
+//! What a call on the records of one database comes to. `plan` asks a view of the database for the few
+//! records that the call is about, and gives the answer, the changes and where the cursor then stands;
+//! `refusal` says what a database of its kind refuses. It stands on `store_model` alone and knows no
+//! tree, no log and no locks: these are behind the trait `View`, which the caller implements. Upward it
+//! promises that both are the model's, by equation. Names, keys and data are borrowed on the way, and
+//! copied only into the answer, the changes and the place.
+#![tactic(auto)]
+
+mod concluding;
+pub mod looking;
+pub mod name_edge;
+pub mod name_ref;
+pub mod planned;
+pub mod planning;
+pub mod record_ref;
+pub mod refusing;
+mod taking;
+pub mod view;
+
+pub use name_edge::NameEdge;
+pub use name_ref::NameRef;
+pub use planned::Planned;
+pub use planning::plan;
+pub use record_ref::RecordRef;
+pub use refusing::refusal;
+pub use view::View;
