@@ -1,6 +1,6 @@
--- What a journal of events has committed, and what it acknowledges (Getting Started with Transaction Processing).
-use Rattle.std.specs.Prelude.{ℕ, ◌++◌, ◌∷◌, [], List, Option, None, Some, Bool, true, false, IsTrue, nat_le}
-use Rattle.std.specs.List.{list_any}
+-- What a journal of events answers, has committed and acknowledges (Getting Started with Transaction Processing).
+use Rattle.std.specs.Prelude.{ℕ, ◌≡◌, ◌⊎◌, ◌==◌, ◌++◌, ◌∷◌, [], List, Option, None, Some, Bool, true, false, IsTrue, nat_le, max, if◌then◌else◌}
+use Rattle.std.specs.List.{list_any, flat_map}
 use Rattle.store_model.specs.declared.durability.Durability.{Durability}
 use Rattle.store_model.specs.declared.durability.Durability.TheVariants.{Sync, WriteNoSync}
 use Rattle.store_model.specs.declared.call.Call.{Call}
@@ -8,10 +8,13 @@ use Rattle.store_model.specs.declared.call.Call.TheVariants.{Commit, Create, Rem
 use Rattle.store_model.specs.declared.change.Change.{Change}
 use Rattle.store_model.specs.declared.need.Need.{Need}
 use Rattle.store_model.specs.declared.answer.Answer.{Answer}
-use Rattle.store_model.specs.declared.answer.Answer.TheVariants.{Logged, Durable}
+use Rattle.store_model.specs.declared.answer.Answer.TheVariants.{Done, Logged, Durable, LogFull, IdsEnded, DiskFault}
 use Rattle.store_model.specs.declared.event.Event.{Event}
-use Rattle.store_model.specs.declared.event.Event.TheVariants.{Call as Called, Resume, WriteOut, SyncEnd}
+use Rattle.store_model.specs.declared.event.Event.TheVariants.{Call as Called, Resume, WriteOut, SyncBegin, SyncEnd, Turn}
+use Rattle.store_model.specs.declared.plan.ScriptLine.{ScriptLine}
+use Rattle.store_model.specs.declared.plan.ScriptLine.TheVariants.{Session, Maintenance}
 use Rattle.store_model.specs.Evaluation.{evaluation}
+pub use Rattle.store_model.specs.Journal.{answer_of, answers_some, is_disk_fault}
 use Rattle.je_answers.specs.declared.active.Active.{Active}
 use Rattle.je_answers.specs.declared.wait.Wait.{Wait}
 use Rattle.je_answers.specs.Standing.{Standing, active_of, wait_of}
@@ -21,6 +24,32 @@ use Rattle.je_answers.specs.Locking.{first_blocked}
 use Rattle.je_answers.specs.Events.{auto_active, begun, resumed}
 use Rattle.je_answers.specs.After.{Fate, fate_of, after_event}
 use Rattle.je_answers.specs.After.Fate.{Succeeds, IsRefused, Faults}
+
+-- ---- answers and lines
+
+abbrev pub is_logged : Answer → Bool
+is_logged (Logged commit) = true
+is_logged answer = false
+
+-- LogFull and IdsEnded, after which a run ends with a status of its own
+abbrev pub is_out_of_room : Answer → Bool
+is_out_of_room LogFull = true
+is_out_of_room IdsEnded = true
+is_out_of_room answer = false
+
+-- whether an answer of a kind stands in the journal
+abbrev pub has_answer : (Answer → Bool) → List Event → Bool
+has_answer test journal = list_any (answers_some test) journal
+
+-- the line of a script that an event was given by, if any; a step that no line gave has the line 0
+abbrev pub line_of : Event → List ScriptLine
+line_of (Called session line call answer victims) = Session session line call ∷ []
+line_of (Turn line step answer) = if line == 0 then [] else Maintenance line step ∷ []
+line_of event = []
+
+-- the lines that a journal holds, in order
+abbrev pub lines_of : List Event → List ScriptLine
+lines_of journal = flat_map line_of journal
 
 -- ---- what a call is to commit
 
@@ -118,6 +147,34 @@ commits_of st (event ∷ events) = commit_of st event ++ commits_of (after_event
 abbrev pub attempts_of : Standing → List Event → List (List Change)
 attempts_of st [] = []
 attempts_of st (event ∷ events) = attempt_of st event ++ attempts_of (after_event st event) events
+
+-- ---- syncs
+
+-- how many commits an event says are durable after any crash
+abbrev pub durable_by : Event → ℕ
+durable_by (SyncEnd (Durable commit)) = commit
+durable_by event = 0
+
+-- the synced count: the greatest number that a finished sync said is durable
+abbrev pub synced_of : List Event → ℕ
+synced_of [] = 0
+synced_of (event ∷ events) = max (durable_by event) (synced_of events)
+
+-- behind a commit stand its sync's beginning and end, or the disk fault that came in the place of one of them
+abbrev pub IsSyncedBy : ℕ → List Event → Type 0
+IsSyncedBy commit later =
+    (more : List Event) × ((later ≡ SyncBegin Done ∷ SyncEnd (Durable commit) ∷ more) ⊎ (later ≡ SyncBegin Done ∷ SyncEnd DiskFault ∷ more) ⊎ (later ≡ SyncBegin DiskFault ∷ more))
+
+-- where an event is a commit, its sync follows it at once
+abbrev pub IsSyncedAtOnce : Event → List Event → Type 0
+IsSyncedAtOnce (Called session line call (Logged commit) victims) later = IsSyncedBy commit later
+IsSyncedAtOnce (Resume session line (Logged commit) victims) later = IsSyncedBy commit later
+IsSyncedAtOnce event later = Unit {0}
+
+-- each commit's sync follows it at once
+abbrev pub AreSyncedAtOnce : List Event → Type 0
+AreSyncedAtOnce [] = Unit {0}
+AreSyncedAtOnce (event ∷ events) = IsSyncedAtOnce event events × AreSyncedAtOnce events
 
 -- ---- acknowledgements
 

@@ -1,13 +1,17 @@
 -- Texts sent through a buffer.
-use Rattle.std.proofs.Common.{◌≡◌, ◌≤◌, ◌+◌, ℕ, List, [], ◌++◌, length, take, drop, min, Bool, true, false, Option, Some, None, is_some, unwrap_or, codes, decimal, refl, sym, ap, ◌∙◌, subst, inl, inr, append_assoc, length-append, length-drop, arith}
+use Rattle.std.proofs.Common.{◌≡◌, ◌<◌, ◌≤◌, ◌+◌, ℕ, List, [], ◌∷◌, ◌++◌, get_or, length, take, drop, min, Bool, true, false, Option, Some, None, is_some, unwrap_or, codes, decimal, refl, sym, ap, ◌∙◌, subst, inl, inr, append_assoc, length-append, length-drop, arith}
 use Rattle.std.proofs.Math.Nat.{eq-or-lt_of_le}
-use Rattle.std.proofs.lemmas.List.{append-nil, take-append-drop, take-append-le, drop-append-le, take_all, drop_all, take_min}
+use Rattle.std.specs.List.{flat_map}
+use Rattle.std.proofs.lemmas.List.{append-nil, take-append-drop, take-append-le, drop-append-le, take_all, drop_all, take_min, take_more}
+use Rattle.std.proofs.lemmas.List.Concat.{flat_map-append}
 use Rattle.je_order.specs.Counts.{HasRisen}
 use Rattle.je_io.specs.Sink.{Gains, GainsPart}
 use Rattle.je_io.proofs.SourceSinkSteps.{gains_then, gains_further, gains_none}
-use Rattle.je_model.specs.declared.answer.Answer.{Answer}
-use Rattle.je_model.specs.declared.answer.Answer.TheVariants.{Done, Logged, Durable, Rec, Names, NotFound, KeyExist, NoDatabase, NameTaken, TooMany, TooLong, LogFull, IdsEnded, DiskFault, Invalid}
-use Rattle.script_text.specs.Report.{answer_text, line_if_any, word_text}
+use Rattle.je_order.specs.declared.txn_id.TxnId.{TxnId}
+use Rattle.store_model.specs.declared.lock_target.LockTarget.{LockTarget}
+use Rattle.store_model.specs.declared.answer.Answer.{Answer}
+use Rattle.store_model.specs.declared.answer.Answer.TheVariants.{Rec, Names, Waiting, Deadlock, MustAbort}
+use Rattle.script_text.specs.Report.{answer_text, line_if_any, short_text, step_line}
 use Rattle.script_text.specs.OutBuffer.{Held, Point, point, held_of, Sends, Adds}
 
 -- a count that rose later rose
@@ -127,21 +131,31 @@ pub adds_line : {a b c d : Point} (session line : ℕ) (text : Option (List ℕ)
 adds_line session line (Some text) there front middle last = adds_then (adds_then front middle) last
 adds_line session line None there front middle last = cc
 
--- the text of an answer that is a word, or has none
-pub word_is : (a : Answer) → ((key value : List ℕ) → a ≡ Rec key value → ⊥) → ((names : List (List ℕ)) → a ≡ Names names → ⊥) → ((n : ℕ) → a ≡ TooMany n → ⊥) → ((n : ℕ) → a ≡ TooLong n → ⊥) →
-    word_text a ≡ unwrap_or (answer_text a) []
-word_is Done rec names many long = refl
-word_is (Logged commit) rec names many long = refl
-word_is (Durable commit) rec names many long = refl
-word_is (Rec key value) rec names many long = absurd (rec key value refl)
-word_is (Names ns) rec names many long = absurd (names ns refl)
-word_is NotFound rec names many long = refl
-word_is KeyExist rec names many long = refl
-word_is NoDatabase rec names many long = refl
-word_is NameTaken rec names many long = refl
-word_is (TooMany n) rec names many long = absurd (many n refl)
-word_is (TooLong n) rec names many long = absurd (long n refl)
-word_is LogFull rec names many long = refl
-word_is IdsEnded rec names many long = refl
-word_is DiskFault rec names many long = refl
-word_is (Invalid first) rec names many long = refl
+-- a line of a step whose answer has a text
+pub adds_step : {a b c d : Point} (line : ℕ) (text : Option (List ℕ)) → true ≡ is_some text →
+    Adds a b (decimal line ++ codes " m ") → Adds b c (unwrap_or text []) → Adds c d (codes "\n") → Adds a d (step_line line text)
+adds_step line (Some text) there front middle last = adds_then (adds_then front middle) last
+adds_step line None there front middle last = cc
+
+-- the text of an answer that is words and at most a number, or has none
+pub short_is : (a : Answer) → ((key value : List ℕ) → a ≡ Rec key value → ⊥) → ((names : List (List ℕ)) → a ≡ Names names → ⊥) →
+    ((at : LockTarget) (owner : TxnId) → a ≡ Waiting at owner → ⊥) → ((cycle : List TxnId) → a ≡ Deadlock cycle → ⊥) →
+    ((cycle : List TxnId) → a ≡ MustAbort cycle → ⊥) → short_text a ≡ unwrap_or (answer_text a) []
+short_is (Rec key value) rec names waiting deadlock abort = absurd (rec key value refl)
+short_is (Names ns) rec names waiting deadlock abort = absurd (names ns refl)
+short_is (Waiting at owner) rec names waiting deadlock abort = absurd (waiting at owner refl)
+short_is (Deadlock cycle) rec names waiting deadlock abort = absurd (deadlock cycle refl)
+short_is (MustAbort cycle) rec names waiting deadlock abort = absurd (abort cycle refl)
+short_is a rec names waiting deadlock abort = refl
+
+-- the text of one item more
+pub next_text_or : {X : Type 0} (f : X → List ℕ) (xs : List X) (k : ℕ) (d : X) → k < length xs →
+    flat_map f (take k xs) ++ f (get_or xs k d) ≡ flat_map f (take (k + 1) xs)
+next_text_or {X} f xs k d within =
+    ap (λ (t : List ℕ). flat_map f (take k xs) ++ t) (sym (append-nil (f (get_or xs k d))))
+    ∙ sym (flat_map-append f (take k xs) (get_or xs k d ∷ []))
+    ∙ ap (flat_map f) (sym (take_more xs k d within))
+
+pub next_text : {X : Type 0} (f : X → List ℕ) (xs : List X) (k : ℕ) (x : X) → k < length xs → x ≡ get_or xs k x →
+    flat_map f (take k xs) ++ f x ≡ flat_map f (take (k + 1) xs)
+next_text {X} f xs k x within is = ap (λ (y : X). flat_map f (take k xs) ++ f y) is ∙ next_text_or f xs k x within

@@ -5,16 +5,18 @@ use Rattle.std.specs.List.{list_all}
 use Rattle.std.specs.Str.{bytes_eq}
 use Rattle.std.proofs.lemmas.Bool.{and_parts, and_from}
 use Rattle.je_order.specs.Words.{is_word}
-use Rattle.je_model.specs.declared.store.Kind.TheVariants.{Plain}
-use Rattle.je_model.specs.declared.call.Call.{Call}
-use Rattle.je_model.specs.declared.call.Call.TheVariants.{Create, Put, Get, Delete}
-use Rattle.je_model.specs.declared.plan.ScriptLine.{ScriptLine}
-use Rattle.je_model.specs.declared.plan.ScriptLine.TheVariants.{Session}
-use Rattle.je_model.specs.declared.plan.RunPlan.{RunPlan}
+use Rattle.store_model.specs.declared.kind.Kind.TheVariants.{Plain}
+use Rattle.store_model.specs.declared.call.Call.{Call}
+use Rattle.store_model.specs.declared.call.Call.TheVariants.{List as Lists, Create, Remove, Rename, Truncate, Put, Get, Delete}
+use Rattle.store_model.specs.declared.put_mode.PutMode.{PutMode}
+use Rattle.store_model.specs.declared.put_mode.PutMode.TheVariants.{Overwrite, NoOverwrite, NoDupData}
+use Rattle.store_model.specs.declared.plan.ScriptLine.{ScriptLine}
+use Rattle.store_model.specs.declared.plan.ScriptLine.TheVariants.{Session}
+use Rattle.store_model.specs.declared.plan.RunPlan.{RunPlan}
 use Rattle.script_text.specs.declared.parsing.TheConstants.{MOST_LINES}
 use Rattle.script_text.specs.declared.parsing.ParseErr.{ParseErr}
 use Rattle.script_text.specs.Words.{words_of}
-use Rattle.script_text.specs.Grammar.{text_lines, session_of, bytes_of, create_of, put_call, put_of, get_call, get_of, delete_call, delete_of, call_of, given_by, given_of, is_skipped, good_or_bad, line_gives, and_then, lines_give, as_plan, plan_of, Gives, has_line, is_line}
+use Rattle.script_text.specs.Grammar.{text_lines, session_of, bytes_of, list_of, create_of, remove_of, rename_of, truncate_of, put_call, put_of, get_call, get_of, delete_call, delete_of, call_of, given_by, given_of, is_skipped, good_or_bad, line_gives, and_then, lines_give, as_plan, plan_of, Gives, has_line, is_line}
 
 -- ---- calls
 
@@ -31,6 +33,10 @@ either : (b : Bool) (one other : Option Call) (got : Call) → (one ≡ Some got
 either true one other got h k e = h e
 either false one other got h k e = k e
 
+list_scripted : (words : List (List ℕ)) (got : Call) → list_of words ≡ Some got → has_line got ≡ true
+list_scripted [] got e = made Lists got refl e
+list_scripted (word ∷ words) got e = none_made got e
+
 create_scripted : (words : List (List ℕ)) (got : Call) → create_of words ≡ Some got → has_line got ≡ true
 create_scripted [] got e = none_made got e
 create_scripted (db ∷ []) got e = none_made got e
@@ -38,18 +44,46 @@ create_scripted (db ∷ kind ∷ []) got e =
     either (is_word db && bytes_eq kind (codes "plain")) (Some (Create db Plain)) None got (λ s. made (Create db Plain) got refl s) (λ n. none_made got n) e
 create_scripted (db ∷ kind ∷ more ∷ words) got e = none_made got e
 
-put_call_scripted : (db : List ℕ) (key value : Option (List ℕ)) (got : Call) → put_call db key value ≡ Some got → has_line got ≡ true
-put_call_scripted db (Some key) (Some value) got e = made (Put db key value) got refl e
-put_call_scripted db (Some key) None got e = none_made got e
-put_call_scripted db None value got e = none_made got e
+remove_scripted : (words : List (List ℕ)) (got : Call) → remove_of words ≡ Some got → has_line got ≡ true
+remove_scripted [] got e = none_made got e
+remove_scripted (db ∷ []) got e = either (is_word db) (Some (Remove db)) None got (λ s. made (Remove db) got refl s) (λ n. none_made got n) e
+remove_scripted (db ∷ more ∷ words) got e = none_made got e
 
-put_scripted : (words : List (List ℕ)) (got : Call) → put_of words ≡ Some got → has_line got ≡ true
-put_scripted [] got e = none_made got e
-put_scripted (db ∷ []) got e = none_made got e
-put_scripted (db ∷ key ∷ []) got e = none_made got e
-put_scripted (db ∷ key ∷ value ∷ []) got e =
-    either (is_word db) (put_call db (bytes_of key) (bytes_of value)) None got (λ s. put_call_scripted db (bytes_of key) (bytes_of value) got s) (λ n. none_made got n) e
-put_scripted (db ∷ key ∷ value ∷ more ∷ words) got e = none_made got e
+rename_scripted : (words : List (List ℕ)) (got : Call) → rename_of words ≡ Some got → has_line got ≡ true
+rename_scripted [] got e = none_made got e
+rename_scripted (db ∷ []) got e = none_made got e
+rename_scripted (db ∷ to ∷ []) got e =
+    either (is_word db && is_word to) (Some (Rename db to)) None got (λ s. made (Rename db to) got refl s) (λ n. none_made got n) e
+rename_scripted (db ∷ to ∷ more ∷ words) got e = none_made got e
+
+truncate_scripted : (words : List (List ℕ)) (got : Call) → truncate_of words ≡ Some got → has_line got ≡ true
+truncate_scripted [] got e = none_made got e
+truncate_scripted (db ∷ []) got e = either (is_word db) (Some (Truncate db)) None got (λ s. made (Truncate db) got refl s) (λ n. none_made got n) e
+truncate_scripted (db ∷ more ∷ words) got e = none_made got e
+
+-- a put that has a line
+abbrev HasPutLine : PutMode → Type 0
+HasPutLine Overwrite = Unit {0}
+HasPutLine NoOverwrite = Unit {0}
+HasPutLine NoDupData = ⊥
+
+put_line : (mode : PutMode) (db key value : List ℕ) → HasPutLine mode → has_line (Put db key value mode) ≡ true
+put_line Overwrite db key value h = refl
+put_line NoOverwrite db key value h = refl
+put_line NoDupData db key value h = absurd h
+
+put_call_scripted : (mode : PutMode) (db : List ℕ) (key value : Option (List ℕ)) (got : Call) → HasPutLine mode → put_call mode db key value ≡ Some got → has_line got ≡ true
+put_call_scripted mode db (Some key) (Some value) got h e = made (Put db key value mode) got (put_line mode db key value h) e
+put_call_scripted mode db (Some key) None got h e = none_made got e
+put_call_scripted mode db None value got h e = none_made got e
+
+put_scripted : (mode : PutMode) (words : List (List ℕ)) (got : Call) → HasPutLine mode → put_of mode words ≡ Some got → has_line got ≡ true
+put_scripted mode [] got h e = none_made got e
+put_scripted mode (db ∷ []) got h e = none_made got e
+put_scripted mode (db ∷ key ∷ []) got h e = none_made got e
+put_scripted mode (db ∷ key ∷ value ∷ []) got h e =
+    either (is_word db) (put_call mode db (bytes_of key) (bytes_of value)) None got (λ s. put_call_scripted mode db (bytes_of key) (bytes_of value) got h s) (λ n. none_made got n) e
+put_scripted mode (db ∷ key ∷ value ∷ more ∷ words) got h e = none_made got e
 
 get_call_scripted : (db : List ℕ) (rmw : Bool) (key : Option (List ℕ)) (got : Call) → get_call db rmw key ≡ Some got → has_line got ≡ true
 get_call_scripted db rmw (Some key) got e = made (Get db key rmw) got refl e
@@ -77,10 +111,15 @@ delete_scripted (db ∷ key ∷ more ∷ words) got e = none_made got e
 
 call_scripted : (verb : List ℕ) (words : List (List ℕ)) (got : Call) → call_of verb words ≡ Some got → has_line got ≡ true
 call_scripted verb words got e =
-    either (bytes_eq verb (codes "create")) (create_of words) _ got (λ s. create_scripted words got s)
-    (either (bytes_eq verb (codes "put")) (put_of words) _ got (λ s. put_scripted words got s)
+    either (bytes_eq verb (codes "list")) (list_of words) _ got (λ s. list_scripted words got s)
+    (either (bytes_eq verb (codes "create")) (create_of words) _ got (λ s. create_scripted words got s)
+    (either (bytes_eq verb (codes "remove")) (remove_of words) _ got (λ s. remove_scripted words got s)
+    (either (bytes_eq verb (codes "rename")) (rename_of words) _ got (λ s. rename_scripted words got s)
+    (either (bytes_eq verb (codes "truncate")) (truncate_of words) _ got (λ s. truncate_scripted words got s)
+    (either (bytes_eq verb (codes "put")) (put_of Overwrite words) _ got (λ s. put_scripted Overwrite words got tt s)
+    (either (bytes_eq verb (codes "putno")) (put_of NoOverwrite words) _ got (λ s. put_scripted NoOverwrite words got tt s)
     (either (bytes_eq verb (codes "get")) (get_of words) _ got (λ s. get_scripted words got s)
-    (either (bytes_eq verb (codes "delete")) (delete_of words) None got (λ s. delete_scripted words got s) (λ n. none_made got n)))) e
+    (either (bytes_eq verb (codes "delete")) (delete_of words) None got (λ s. delete_scripted words got s) (λ n. none_made got n))))))))) e
 
 -- ---- lines
 

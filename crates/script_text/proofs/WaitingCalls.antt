@@ -1,25 +1,27 @@
 -- Which calls wait, along a journal.
-use Rattle.std.proofs.Common.{◌≡◌, ◌<◌, ◌≤◌, ◌+◌, ◌-◌, ℕ, List, [], ◌∷◌, ◌++◌, ◌||◌, length, take, drop, get_or, Bool, true, false, cond, refl, sym, ap, ◌∙◌, subst, append_assoc, length-take, arith}
+use Rattle.std.proofs.Common.{◌≡◌, ◌<◌, ◌≤◌, ◌+◌, ◌-◌, ℕ, List, [], ◌∷◌, ◌++◌, ◌||◌, length, take, drop, get_or, Bool, true, false, cond, Option, Some, None, refl, sym, ap, ◌∙◌, subst, append_assoc, length-take, arith}
 use Rattle.std.specs.List.{list_any, flat_map}
 use Rattle.std.proofs.lemmas.List.{append-nil, take-append-drop, take-take, drop-append-le, drop-take, take_rest, take_more, drop_more, drop_all}
 use Rattle.std.proofs.lemmas.List.Folds.{list_any-append}
-use Rattle.je_model.specs.declared.event.Event.{Event}
-use Rattle.je_model.specs.declared.event.Event.TheVariants.{Call as Called}
-use Rattle.je_model.specs.declared.answer.Answer.TheVariants.{Logged}
-use Rattle.je_model.specs.Journal.{settles}
-use Rattle.script_text.specs.Report.{if_waiting, waiting_after, NoneWaits, own_line, settled_line, event_text, events_text}
+use Rattle.std.proofs.lemmas.List.Concat.{flat_map-append}
+use Rattle.store_model.specs.declared.event.Event.{Event}
+use Rattle.script_text.specs.declared.logged_call.LoggedCall.{LoggedCall}
+use Rattle.script_text.specs.Report.{settles, logged_call, waiting_if, if_waiting, waiting_after, NoneWaits, own_line, victims_text, settled_line, event_text, events_text}
 
 true_from_nil : {X : Type 0} (b : Bool) (x : X) → cond b [] (x ∷ []) ≡ [] → b ≡ true
 true_from_nil true x h = refl
 true_from_nil false x h = cc
 
 -- a call that is settled stays so
+stays_settled_if : (call : Option LoggedCall) (later more : List Event) → waiting_if call later ≡ [] → waiting_if call (later ++ more) ≡ []
+stays_settled_if None later more h = refl
+stays_settled_if (Some call) later more h =
+    let settled = true_from_nil (list_any (settles call.commit) later) call h in
+    let longer : list_any (settles call.commit) (later ++ more) ≡ true = list_any-append (settles call.commit) later more ∙ ap (λ b. b || list_any (settles call.commit) more) settled in
+    ap (λ b. cond b [] (call ∷ [])) longer
+
 stays_settled : (event : Event) (later more : List Event) → if_waiting event later ≡ [] → if_waiting event (later ++ more) ≡ []
-stays_settled (Called session line call (Logged commit)) later more h =
-    let settled = true_from_nil (list_any (settles commit) later) (Called session line call (Logged commit)) h in
-    let longer : list_any (settles commit) (later ++ more) ≡ true = list_any-append (settles commit) later more ∙ ap (λ b. b || list_any (settles commit) more) settled in
-    ap (λ b. cond b [] (Called session line call (Logged commit) ∷ [])) longer
-stays_settled event later more h = refl
+stays_settled event later more h = stays_settled_if (logged_call event) later more h
 
 -- one more event at the front's end, which does not wait
 none_more : (events : List Event) (event : Event) (later : List Event) → NoneWaits events (event ∷ later) → if_waiting event later ≡ [] → NoneWaits (events ++ event ∷ []) later
@@ -65,21 +67,16 @@ waiting_from events first at order h =
     let window : drop first (take at events) ≡ take (at - first) (drop first events) = ap (λ n. drop first (take n events)) (sym sum) ∙ drop-take first (at - first) events in
     ap waiting_after split ∙ none_front (take first events) (drop first (take at events)) h ∙ ap waiting_after window
 
-flat_map-append : (f : Event → List ℕ) (xs ys : List Event) → flat_map f (xs ++ ys) ≡ flat_map f xs ++ flat_map f ys
-flat_map-append f [] ys = refl
-flat_map-append f (x ∷ xs) ys = ap (λ l. f x ++ l) (flat_map-append f xs ys) ∙ sym (append_assoc (f x) (flat_map f xs) (flat_map f ys))
-
-settled_line-none : (event call : Event) → ((commit : ℕ) → settles commit event ≡ false) → settled_line event call ≡ []
-settled_line-none event (Called session line call (Logged commit)) h = rw (h commit) refl
-settled_line-none event call h = refl
+settled_line-none : (event : Event) (call : LoggedCall) → ((commit : ℕ) → settles commit event ≡ false) → settled_line event call ≡ []
+settled_line-none event call h = rw (h call.commit) refl
 
 -- an event that settles nothing prints no other line
-pub nothing_settled : (event : Event) → ((commit : ℕ) → settles commit event ≡ false) → (calls : List Event) → flat_map (settled_line event) calls ≡ []
+pub nothing_settled : (event : Event) → ((commit : ℕ) → settles commit event ≡ false) → (calls : List LoggedCall) → flat_map (settled_line event) calls ≡ []
 nothing_settled event h [] = refl
 nothing_settled event h (call ∷ calls) = ap (λ l. l ++ flat_map (settled_line event) calls) (settled_line-none event call h) ∙ nothing_settled event h calls
 
 -- the lines of one waiting call more
-pub settled_step : (f : Event → List ℕ) (before : List Event) (k : ℕ) (x : Event) (done all : List ℕ) → k < length before → x ≡ get_or before k x →
+pub settled_step : (f : LoggedCall → List ℕ) (before : List Event) (k : ℕ) (x : Event) (done all : List ℕ) → k < length before → x ≡ get_or before k x →
     done ++ flat_map f (waiting_after (drop k before)) ≡ all →
     (done ++ flat_map f (if_waiting x (take (length before - (k + 1)) (drop (k + 1) before)))) ++ flat_map f (waiting_after (drop (k + 1) before)) ≡ all
 settled_step f before k x done all within is h =
@@ -92,7 +89,7 @@ settled_step f before k x done all within is h =
     ∙ h
 
 -- each waiting call has been printed
-pub settled_end : (f : Event → List ℕ) (before : List Event) (k : ℕ) (done all : List ℕ) → length before ≤ k → done ++ flat_map f (waiting_after (drop k before)) ≡ all → done ≡ all
+pub settled_end : (f : LoggedCall → List ℕ) (before : List Event) (k : ℕ) (done all : List ℕ) → length before ≤ k → done ++ flat_map f (waiting_after (drop k before)) ≡ all → done ≡ all
 settled_end f before k done all past h =
     sym (append-nil done) ∙ ap (λ (l : List Event). done ++ flat_map f (waiting_after l)) (sym (drop_all k before past)) ∙ h
 
@@ -103,7 +100,7 @@ pub events_step : (events : List Event) (first at : ℕ) (x : Event) (done all :
 events_step events first at x done all within is order n h =
     let front : take (at + 1) events ≡ take at events ++ x ∷ [] = take_more events at x within ∙ ap (λ (e : Event). take at events ++ e ∷ []) (sym is) in
     let rest : drop at events ≡ x ∷ drop (at + 1) events = drop_more events at x within ∙ ap (λ (e : Event). e ∷ drop (at + 1) events) (sym is) in
-    let same : event_text (take (at - first) (drop first events)) x ≡ event_text (take at events) x = ap (λ (w : List Event). own_line x ++ flat_map (settled_line x) w) (sym (waiting_from events first at order n)) in
+    let same : event_text (take (at - first) (drop first events)) x ≡ event_text (take at events) x = ap (λ (w : List LoggedCall). own_line x ++ victims_text x ++ flat_map (settled_line x) w) (sym (waiting_from events first at order n)) in
     ap (λ l. (done ++ l) ++ events_text (take (at + 1) events) (drop (at + 1) events)) same
     ∙ ap (λ (l : List Event). (done ++ event_text (take at events) x) ++ events_text l (drop (at + 1) events)) front
     ∙ append_assoc done (event_text (take at events) x) (events_text (take at events ++ x ∷ []) (drop (at + 1) events))

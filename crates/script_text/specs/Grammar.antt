@@ -5,12 +5,14 @@ use Rattle.std.specs.Str.{bytes_eq}
 use Rattle.hex.specs.Hex.{decode_of}
 use Rattle.hex.specs.declared.error.FromHexError.{FromHexError}
 use Rattle.je_order.specs.Words.{is_word}
-use Rattle.je_model.specs.declared.store.Kind.TheVariants.{Plain}
-use Rattle.je_model.specs.declared.call.Call.{Call}
-use Rattle.je_model.specs.declared.call.Call.TheVariants.{Create, Put, Get, Delete}
-use Rattle.je_model.specs.declared.plan.ScriptLine.{ScriptLine}
-use Rattle.je_model.specs.declared.plan.ScriptLine.TheVariants.{Session}
-use Rattle.je_model.specs.declared.plan.RunPlan.{RunPlan}
+use Rattle.store_model.specs.declared.kind.Kind.TheVariants.{Plain}
+use Rattle.store_model.specs.declared.put_mode.PutMode.{PutMode}
+use Rattle.store_model.specs.declared.put_mode.PutMode.TheVariants.{Overwrite, NoOverwrite}
+use Rattle.store_model.specs.declared.call.Call.{Call}
+use Rattle.store_model.specs.declared.call.Call.TheVariants.{List as Lists, Create, Remove, Rename, Truncate, Put, Get, Delete}
+use Rattle.store_model.specs.declared.plan.ScriptLine.{ScriptLine}
+use Rattle.store_model.specs.declared.plan.ScriptLine.TheVariants.{Session, Maintenance}
+use Rattle.store_model.specs.declared.plan.RunPlan.{RunPlan}
 use Rattle.script_text.specs.Words.{words_of}
 use Rattle.script_text.specs.declared.parsing.TheConstants.{MOST_LINES}
 use Rattle.script_text.specs.declared.parsing.ParseErr.{ParseErr}
@@ -49,19 +51,39 @@ bytes_of word =
     else if length word == 0 then None
     else decoded_bytes (decode_of word)
 
+-- `list`
+abbrev pub list_of : List (List ℕ) → Option Call
+list_of [] = Some Lists
+list_of words = None
+
 -- `create DB plain`
 abbrev pub create_of : List (List ℕ) → Option Call
 create_of (db ∷ kind ∷ []) = if is_word db && bytes_eq kind (codes "plain") then Some (Create db Plain) else None
 create_of words = None
 
--- `put DB K D`
-abbrev pub put_call : List ℕ → Option (List ℕ) → Option (List ℕ) → Option Call
-put_call db (Some key) (Some value) = Some (Put db key value)
-put_call db key value = None
+-- `remove DB`
+abbrev pub remove_of : List (List ℕ) → Option Call
+remove_of (db ∷ []) = if is_word db then Some (Remove db) else None
+remove_of words = None
 
-abbrev pub put_of : List (List ℕ) → Option Call
-put_of (db ∷ key ∷ value ∷ []) = if is_word db then put_call db (bytes_of key) (bytes_of value) else None
-put_of words = None
+-- `rename DB NEW`
+abbrev pub rename_of : List (List ℕ) → Option Call
+rename_of (db ∷ to ∷ []) = if is_word db && is_word to then Some (Rename db to) else None
+rename_of words = None
+
+-- `truncate DB`
+abbrev pub truncate_of : List (List ℕ) → Option Call
+truncate_of (db ∷ []) = if is_word db then Some (Truncate db) else None
+truncate_of words = None
+
+-- `put DB K D` and `putno DB K D`
+abbrev pub put_call : PutMode → List ℕ → Option (List ℕ) → Option (List ℕ) → Option Call
+put_call mode db (Some key) (Some value) = Some (Put db key value mode)
+put_call mode db key value = None
+
+abbrev pub put_of : PutMode → List (List ℕ) → Option Call
+put_of mode (db ∷ key ∷ value ∷ []) = if is_word db then put_call mode db (bytes_of key) (bytes_of value) else None
+put_of mode words = None
 
 -- `get DB K` and `get DB K rmw`
 abbrev pub get_call : List ℕ → Bool → Option (List ℕ) → Option Call
@@ -91,8 +113,13 @@ delete_of words = None
 -- a call is one of these forms
 abbrev pub call_of : List ℕ → List (List ℕ) → Option Call
 call_of verb words =
-    if bytes_eq verb (codes "create") then create_of words
-    else if bytes_eq verb (codes "put") then put_of words
+    if bytes_eq verb (codes "list") then list_of words
+    else if bytes_eq verb (codes "create") then create_of words
+    else if bytes_eq verb (codes "remove") then remove_of words
+    else if bytes_eq verb (codes "rename") then rename_of words
+    else if bytes_eq verb (codes "truncate") then truncate_of words
+    else if bytes_eq verb (codes "put") then put_of Overwrite words
+    else if bytes_eq verb (codes "putno") then put_of NoOverwrite words
     else if bytes_eq verb (codes "get") then get_of words
     else if bytes_eq verb (codes "delete") then delete_of words
     else None
@@ -124,14 +151,20 @@ line_gives line text =
 
 -- whether the grammar has a line for a call; the others cannot be asked for by a script yet
 abbrev pub has_line : Call → Bool
-has_line (Create db kind) = true
-has_line (Put db key value) = true
+has_line Lists = true
+has_line (Create db Plain) = true
+has_line (Remove db) = true
+has_line (Rename db to) = true
+has_line (Truncate db) = true
+has_line (Put db key value Overwrite) = true
+has_line (Put db key value NoOverwrite) = true
 has_line (Get db key rmw) = true
 has_line (Delete db key) = true
 has_line call = false
 
 abbrev pub is_line : ScriptLine → Bool
 is_line (Session session line call) = has_line call
+is_line (Maintenance line step) = false
 
 -- what a line gives and then what the lines behind it give; the first bad line counts
 abbrev pub before_others : Option ScriptLine → Result (List ScriptLine) ℕ → Result (List ScriptLine) ℕ

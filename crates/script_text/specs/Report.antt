@@ -1,13 +1,23 @@
 -- The text of a report (this project's own).
-use Rattle.std.specs.Prelude.{ℕ, ◌≡◌, ◌++◌, ◌∷◌, [], List, Bool, false, Option, Some, None, codes, decimal, count_by, if◌then◌else◌}
-use Rattle.std.specs.List.{list_any, flat_map}
+use Rattle.std.specs.Prelude.{ℕ, ◌≡◌, ◌==◌, ◌++◌, ◌∷◌, [], List, Bool, false, ◌||◌, nat_le, Option, Some, None, is_some, codes, decimal, count_by, position, take, drop, if◌then◌else◌}
+use Rattle.std.specs.List.{list_all, list_any, flat_map}
 use Rattle.hex.specs.Hex.{encode_lower}
-use Rattle.je_model.specs.declared.answer.Answer.{Answer}
-use Rattle.je_model.specs.declared.answer.Answer.TheVariants.{Done, Logged, Durable, Rec, Names, NotFound, KeyExist, NoDatabase, NameTaken, TooMany, TooLong, LogFull, IdsEnded, DiskFault, Invalid}
-use Rattle.je_model.specs.declared.event.Event.{Event}
-use Rattle.je_model.specs.declared.event.Event.TheVariants.{Call as Called, SyncBegin, SyncEnd}
-use Rattle.je_model.specs.declared.totals.Totals.{Totals}
-use Rattle.je_model.specs.Journal.{answer_of, is_logged, is_disk_fault, settles}
+use Rattle.je_order.specs.declared.txn_id.TxnId.{TxnId}
+use Rattle.je_order.specs.declared.bound.Bound.{Bound}
+use Rattle.je_order.specs.declared.bound.Bound.TheVariants.{At as On, End as AtEnd}
+use Rattle.store_model.specs.declared.kind.Kind.{Kind}
+use Rattle.store_model.specs.declared.kind.Kind.TheVariants.{Plain, Dup}
+use Rattle.store_model.specs.declared.lock_target.LockTarget.{LockTarget}
+use Rattle.store_model.specs.declared.victim.Victim.{Victim}
+use Rattle.store_model.specs.declared.answer.Answer.{Answer}
+use Rattle.store_model.specs.declared.answer.Answer.TheVariants.{Done, Txn, Logged, Durable, Rec, Count, Names, NotFound, KeyExist, KeyEmpty, NoPosition, Waiting, NotAvailable, Deadlock, MustAbort, SessionWaits, NoTxn, InTxn, NoDatabase, NoCursor, NameTaken, TooMany, DatabaseInUse, NotOnDuplicates, OnlyOnDuplicates, TooLong, Flushed, Nothing, InCheckpoint, NoCheckpoint, NodesLeft, LogFull, IdsEnded, DiskFault, Invalid}
+use Rattle.store_model.specs.declared.event.Event.{Event}
+use Rattle.store_model.specs.declared.event.Event.TheVariants.{Call as Called, Resume, End, WriteOut, SyncBegin, SyncEnd, Turn}
+use Rattle.store_model.specs.declared.totals.Totals.{Totals}
+use Rattle.store_model.specs.Journal.{answers_some, is_disk_fault}
+use Rattle.script_text.specs.declared.logged_call.LoggedCall.{LoggedCall}
+
+-- ---- answers
 
 -- bytes as lower-case hexadecimal digits, or `-` where there are none
 abbrev pub bytes_text : List ℕ → List ℕ
@@ -18,36 +28,128 @@ bytes_text (byte ∷ bytes) = encode_lower (byte ∷ bytes)
 abbrev pub name_text : List ℕ → List ℕ
 name_text name = codes " " ++ name
 
+-- the name of a lock's record: its key, and where there are duplicates its data behind a blank; `end` is the database's end
+abbrev pub dup_text : Kind → List ℕ → List ℕ
+dup_text Plain dup = []
+dup_text Dup dup = codes " " ++ bytes_text dup
+
+abbrev pub place_text : Kind → Bound → List ℕ
+place_text kind AtEnd = codes "end"
+place_text kind (On name) = bytes_text name.key ++ dup_text kind name.dup
+
+-- what a call waits for
+abbrev pub waiting_text : LockTarget → TxnId → List ℕ
+waiting_text at owner = codes "waiting " ++ at.db ++ codes " " ++ place_text at.kind at.at ++ codes " by " ++ decimal owner.0
+
+-- a cycle, turned so that its least transaction stands first
+abbrev pub is_least_in : List TxnId → TxnId → Bool
+is_least_in cycle txn = list_all (λ other. nat_le txn.0 other.0) cycle
+
+abbrev pub turned_at : Option ℕ → List TxnId → List TxnId
+turned_at None cycle = cycle
+turned_at (Some at) cycle = drop at cycle ++ take at cycle
+
+abbrev pub turned : List TxnId → List TxnId
+turned cycle = turned_at (position (is_least_in cycle) cycle) cycle
+
+-- a word, and behind it the transactions of a cycle, each behind a blank
+abbrev pub txn_text : TxnId → List ℕ
+txn_text txn = codes " " ++ decimal txn.0
+
+abbrev pub cycle_text : List ℕ → List TxnId → List ℕ
+cycle_text word cycle = word ++ flat_map txn_text (turned cycle)
+
 -- the text of an answer; Logged has none, since its call's line comes with the sync, and Durable has none of its own
 abbrev pub answer_text : Answer → Option (List ℕ)
 answer_text Done = Some (codes "ok")
+answer_text (Txn txn) = Some (codes "ok txn " ++ decimal txn.0)
 answer_text (Logged commit) = None
 answer_text (Durable commit) = None
 answer_text (Rec key value) = Some (codes "ok " ++ bytes_text key ++ codes " " ++ bytes_text value)
+answer_text (Count count) = Some (codes "ok " ++ decimal count)
 answer_text (Names names) = Some (codes "ok" ++ flat_map name_text names)
 answer_text NotFound = Some (codes "notfound")
 answer_text KeyExist = Some (codes "keyexist")
+answer_text KeyEmpty = Some (codes "keyempty")
+answer_text NoPosition = Some (codes "noposition")
+answer_text (Waiting at owner) = Some (waiting_text at owner)
+answer_text (NotAvailable owner) = Some (codes "unavailable " ++ decimal owner.0)
+answer_text (Deadlock cycle) = Some (cycle_text (codes "deadlock") cycle)
+answer_text (MustAbort cycle) = Some (cycle_text (codes "mustabort") cycle)
+answer_text SessionWaits = Some (codes "sessionwaits")
+answer_text NoTxn = Some (codes "notxn")
+answer_text (InTxn txn) = Some (codes "intxn " ++ decimal txn.0)
 answer_text NoDatabase = Some (codes "nodatabase")
+answer_text NoCursor = Some (codes "nocursor")
 answer_text NameTaken = Some (codes "nametaken")
 answer_text (TooMany count) = Some (codes "toomany " ++ decimal count)
+answer_text (DatabaseInUse txn) = Some (codes "inuse " ++ decimal txn.0)
+answer_text NotOnDuplicates = Some (codes "notonduplicates")
+answer_text OnlyOnDuplicates = Some (codes "onlyonduplicates")
 answer_text (TooLong bytes) = Some (codes "toolong " ++ decimal bytes)
+answer_text (Flushed node) = Some (codes "flushed " ++ decimal node)
+answer_text Nothing = Some (codes "nothing")
+answer_text InCheckpoint = Some (codes "incheckpoint")
+answer_text NoCheckpoint = Some (codes "nocheckpoint")
+answer_text (NodesLeft count) = Some (codes "nodesleft " ++ decimal count)
 answer_text LogFull = Some (codes "logfull")
 answer_text IdsEnded = Some (codes "idsended")
 answer_text DiskFault = Some (codes "diskfault")
 answer_text (Invalid first) = Some (codes "invalid")
 
--- the text of an answer that says no more than a word; nothing for the others
+-- the words of an answer whose text is words and at most a number; nothing for the others
 abbrev pub word_text : Answer → List ℕ
 word_text Done = codes "ok"
+word_text (Txn txn) = codes "ok txn"
+word_text (Count count) = codes "ok"
 word_text NotFound = codes "notfound"
 word_text KeyExist = codes "keyexist"
+word_text KeyEmpty = codes "keyempty"
+word_text NoPosition = codes "noposition"
+word_text (NotAvailable owner) = codes "unavailable"
+word_text SessionWaits = codes "sessionwaits"
+word_text NoTxn = codes "notxn"
+word_text (InTxn txn) = codes "intxn"
 word_text NoDatabase = codes "nodatabase"
+word_text NoCursor = codes "nocursor"
 word_text NameTaken = codes "nametaken"
+word_text (TooMany count) = codes "toomany"
+word_text (DatabaseInUse txn) = codes "inuse"
+word_text NotOnDuplicates = codes "notonduplicates"
+word_text OnlyOnDuplicates = codes "onlyonduplicates"
+word_text (TooLong bytes) = codes "toolong"
+word_text (Flushed node) = codes "flushed"
+word_text Nothing = codes "nothing"
+word_text InCheckpoint = codes "incheckpoint"
+word_text NoCheckpoint = codes "nocheckpoint"
+word_text (NodesLeft count) = codes "nodesleft"
 word_text LogFull = codes "logfull"
 word_text IdsEnded = codes "idsended"
 word_text DiskFault = codes "diskfault"
 word_text (Invalid first) = codes "invalid"
 word_text answer = []
+
+-- the number behind them
+abbrev pub number_in : Answer → Option ℕ
+number_in (Txn txn) = Some txn.0
+number_in (Count count) = Some count
+number_in (NotAvailable owner) = Some owner.0
+number_in (InTxn txn) = Some txn.0
+number_in (TooMany count) = Some count
+number_in (DatabaseInUse txn) = Some txn.0
+number_in (TooLong bytes) = Some bytes
+number_in (Flushed node) = Some node
+number_in (NodesLeft count) = Some count
+number_in answer = None
+
+abbrev pub number_text : Option ℕ → List ℕ
+number_text None = []
+number_text (Some number) = codes " " ++ decimal number
+
+abbrev pub short_text : Answer → List ℕ
+short_text answer = word_text answer ++ number_text (number_in answer)
+
+-- ---- lines
 
 -- a line of the report: the line of the script, the session and the text
 abbrev pub line_text : ℕ → ℕ → List ℕ → List ℕ
@@ -57,20 +159,63 @@ abbrev pub line_if_any : ℕ → ℕ → Option (List ℕ) → List ℕ
 line_if_any session line (Some text) = line_text session line text
 line_if_any session line None = []
 
--- the own line of an event: of a call its answer's text, where it has one; a sync has none
+-- a line of a step of maintenance, which has no session
+abbrev pub step_line : ℕ → Option (List ℕ) → List ℕ
+step_line line (Some text) = decimal line ++ codes " m " ++ text ++ codes "\n"
+step_line line None = []
+
+-- the own line of an event: of a call, a resumed call and a step its answer's text, where it has one; the others have none
 abbrev pub own_line : Event → List ℕ
-own_line (Called session line call answer) = line_if_any session line (answer_text answer)
+own_line (Called session line call answer victims) = line_if_any session line (answer_text answer)
+own_line (Resume session line answer victims) = line_if_any session line (answer_text answer)
+own_line (End session) = []
+own_line (WriteOut answer) = []
 own_line (SyncBegin answer) = []
 own_line (SyncEnd answer) = []
+own_line (Turn line step answer) = step_line line (answer_text answer)
 
--- the call of an event still waits for its line if it was answered Logged and no later event has acknowledged it or met a disk fault
-abbrev pub if_waiting : Event → List Event → List Event
-if_waiting (Called session line call (Logged commit)) later =
-    if list_any (settles commit) later then [] else Called session line call (Logged commit) ∷ []
-if_waiting event later = []
+-- the line of a victim of an event, unless it is the asking session's call, whose own answer says so
+abbrev pub victim_line : ℕ → Victim → List ℕ
+victim_line asking victim = if victim.session == asking then [] else line_text victim.session victim.line (cycle_text (codes "deadlock") victim.cycle)
+
+-- the lines of an event's victims
+abbrev pub victims_text : Event → List ℕ
+victims_text (Called session line call answer victims) = flat_map (victim_line session) victims
+victims_text (Resume session line answer victims) = flat_map (victim_line session) victims
+victims_text event = []
+
+-- ---- calls that wait for their lines
+
+-- the call of an event, where it is answered Logged
+abbrev pub logged_by : ℕ → ℕ → Answer → Option LoggedCall
+logged_by session line (Logged commit) = Some (record { session = session; line = line; commit = commit })
+logged_by session line answer = None
+
+abbrev pub logged_call : Event → Option LoggedCall
+logged_call (Called session line call answer victims) = logged_by session line answer
+logged_call (Resume session line answer victims) = logged_by session line answer
+logged_call event = None
+
+-- whether an event says that the commit with that number is durable
+abbrev pub acknowledges : ℕ → Event → Bool
+acknowledges commit (SyncEnd (Durable last)) = nat_le commit last
+acknowledges commit (WriteOut (Durable last)) = nat_le commit last
+acknowledges commit event = false
+
+-- whether it says that, or met a disk fault
+abbrev pub settles : ℕ → Event → Bool
+settles commit event = acknowledges commit event || answers_some is_disk_fault event
+
+-- a call that was answered Logged waits for its line as long as no later event has acknowledged it or met a disk fault
+abbrev pub waiting_if : Option LoggedCall → List Event → List LoggedCall
+waiting_if None later = []
+waiting_if (Some call) later = if list_any (settles call.commit) later then [] else call ∷ []
+
+abbrev pub if_waiting : Event → List Event → List LoggedCall
+if_waiting event later = waiting_if (logged_call event) later
 
 -- the calls that wait for their lines after some events, in the order in which they were logged
-abbrev pub waiting_after : List Event → List Event
+abbrev pub waiting_after : List Event → List LoggedCall
 waiting_after [] = []
 waiting_after (event ∷ later) = if_waiting event later ++ waiting_after later
 
@@ -81,16 +226,17 @@ NoneWaits (event ∷ events) later = (if_waiting event (events ++ later) ≡ [])
 
 -- what an event says of the calls that wait for it
 abbrev pub settling_text : Event → List ℕ
-settling_text event = if is_disk_fault (answer_of event) then codes "diskfault" else codes "ok"
+settling_text event = if answers_some is_disk_fault event then codes "diskfault" else codes "ok"
 
 -- the line that an event gives a call that has waited for it
-abbrev pub settled_line : Event → Event → List ℕ
-settled_line event (Called session line call (Logged commit)) = if settles commit event then line_text session line (settling_text event) else []
-settled_line event other = []
+abbrev pub settled_line : Event → LoggedCall → List ℕ
+settled_line event call = if settles call.commit event then line_text call.session call.line (settling_text event) else []
 
--- the lines of an event that comes after others: its own, and those of the calls that have waited for it
+-- ---- the report
+
+-- the lines of an event that comes after others: its own, those of its victims, and those of the calls that have waited for it
 abbrev pub event_text : List Event → Event → List ℕ
-event_text before event = own_line event ++ flat_map (settled_line event) (waiting_after before)
+event_text before event = own_line event ++ victims_text event ++ flat_map (settled_line event) (waiting_after before)
 
 -- the lines of events that come after others
 abbrev pub events_text : List Event → List Event → List ℕ
@@ -99,9 +245,7 @@ events_text before (event ∷ events) = event_text before event ++ events_text (
 
 -- whether an event is a call that was logged
 abbrev pub is_logged_call : Event → Bool
-is_logged_call (Called session line call answer) = is_logged answer
-is_logged_call (SyncBegin answer) = false
-is_logged_call (SyncEnd answer) = false
+is_logged_call event = is_some (logged_call event)
 
 -- the last line
 abbrev pub end_line : ℕ → Totals → List ℕ

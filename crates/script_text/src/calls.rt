@@ -1,28 +1,48 @@
 // The forms of calls.
 ghost use Rattle.std.specs.Prelude.{◌≡◌, true, IfOk, if◌then◌else◌};
 ghost use Rattle.je_order.specs.Words.{is_word};
-ghost use Rattle.script_text.specs.Grammar.{call_of, create_of, put_call, put_of, get_of, get_call, rmw_of, delete_call, delete_of, bytes_of};
+ghost use Rattle.script_text.specs.Grammar.{call_of, list_of, create_of, remove_of, rename_of, truncate_of, put_call, put_of, get_of, get_call, rmw_of, delete_call, delete_of, bytes_of};
 
 use crate::bytes::bytes_of;
 use crate::words::Words;
-use je_model::{Call, Kind};
 use je_order::Word;
 use std::alloc::{AllocError, Global};
+use store_model::{Call, Kind, PutMode};
 
 // The call that a verb and the words behind it spell, if they spell one.
 pub fn call_of(alloc: Global, verb: &[u8], words: Words) -> Result<Option<Call>, AllocError>
     ensures { IfOk result (λ call. call ≡ call_of verb.now words.entry) }
 {
-    if verb == b"create".as_slice() {
+    if verb == b"list".as_slice() {
+        Ok(list_of(words))
+    } else if verb == b"create".as_slice() {
         create_of(alloc, words)
+    } else if verb == b"remove".as_slice() {
+        remove_of(alloc, words)
+    } else if verb == b"rename".as_slice() {
+        rename_of(alloc, words)
+    } else if verb == b"truncate".as_slice() {
+        truncate_of(alloc, words)
     } else if verb == b"put".as_slice() {
-        put_of(alloc, words)
+        put_of(alloc, PutMode::Overwrite, words)
+    } else if verb == b"putno".as_slice() {
+        put_of(alloc, PutMode::NoOverwrite, words)
     } else if verb == b"get".as_slice() {
         get_of(alloc, words)
     } else if verb == b"delete".as_slice() {
         delete_of(alloc, words)
     } else {
         Ok(None)
+    }
+}
+
+fn list_of(mut words: Words) -> Option<Call>
+    ensures { result ≡ list_of words.entry }
+{
+    if words.next().is_some() {
+        None
+    } else {
+        Some(Call::List)
     }
 }
 
@@ -45,8 +65,51 @@ fn create_of(alloc: Global, mut words: Words) -> Result<Option<Call>, AllocError
     }))
 }
 
-fn put_of(alloc: Global, mut words: Words) -> Result<Option<Call>, AllocError>
-    ensures { IfOk result (λ call. call ≡ put_of words.entry) }
+fn remove_of(alloc: Global, mut words: Words) -> Result<Option<Call>, AllocError>
+    ensures { IfOk result (λ call. call ≡ remove_of words.entry) }
+{
+    let Some(db) = words.next() else {
+        return Ok(None);
+    };
+    if words.next().is_some() || !Word::is_word(db) {
+        return Ok(None);
+    }
+    let db = Word::from_slice(alloc, db)?;
+    Ok(Some(Call::Remove { db }))
+}
+
+fn rename_of(alloc: Global, mut words: Words) -> Result<Option<Call>, AllocError>
+    ensures { IfOk result (λ call. call ≡ rename_of words.entry) }
+{
+    let Some(db) = words.next() else {
+        return Ok(None);
+    };
+    let Some(to) = words.next() else {
+        return Ok(None);
+    };
+    if words.next().is_some() || !Word::is_word(db) || !Word::is_word(to) {
+        return Ok(None);
+    }
+    let db = Word::from_slice(alloc, db)?;
+    let to = Word::from_slice(alloc, to)?;
+    Ok(Some(Call::Rename { db, to }))
+}
+
+fn truncate_of(alloc: Global, mut words: Words) -> Result<Option<Call>, AllocError>
+    ensures { IfOk result (λ call. call ≡ truncate_of words.entry) }
+{
+    let Some(db) = words.next() else {
+        return Ok(None);
+    };
+    if words.next().is_some() || !Word::is_word(db) {
+        return Ok(None);
+    }
+    let db = Word::from_slice(alloc, db)?;
+    Ok(Some(Call::Truncate { db }))
+}
+
+fn put_of(alloc: Global, mode: PutMode, mut words: Words) -> Result<Option<Call>, AllocError>
+    ensures { IfOk result (λ call. call ≡ put_of mode words.entry) }
 {
     let Some(db) = words.next() else {
         return Ok(None);
@@ -60,12 +123,18 @@ fn put_of(alloc: Global, mut words: Words) -> Result<Option<Call>, AllocError>
     if words.next().is_some() || !Word::is_word(db) {
         return Ok(None);
     }
-    plain_put(alloc, db, key, value)
+    plain_put(alloc, mode, db, key, value)
 }
 
-fn plain_put(alloc: Global, db: &[u8], key: &[u8], value: &[u8]) -> Result<Option<Call>, AllocError>
+fn plain_put(
+    alloc: Global,
+    mode: PutMode,
+    db: &[u8],
+    key: &[u8],
+    value: &[u8],
+) -> Result<Option<Call>, AllocError>
     requires { is_word db.now ≡ true }
-    ensures { IfOk result (λ call. call ≡ put_call db.now (bytes_of key.now) (bytes_of value.now)) }
+    ensures { IfOk result (λ call. call ≡ put_call mode db.now (bytes_of key.now) (bytes_of value.now)) }
 {
     let Some(key) = bytes_of(alloc, key)? else {
         return Ok(None);
@@ -74,7 +143,12 @@ fn plain_put(alloc: Global, db: &[u8], key: &[u8], value: &[u8]) -> Result<Optio
         return Ok(None);
     };
     let db = Word::from_slice(alloc, db)?;
-    Ok(Some(Call::Put { db, key, value }))
+    Ok(Some(Call::Put {
+        db,
+        key,
+        value,
+        mode,
+    }))
 }
 
 // Whether a get is for a change, by the words behind its key; none where they are no get's.

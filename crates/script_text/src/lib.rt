@@ -4,10 +4,13 @@
 //! definitions, and both calls are proved to be exactly these.
 #![tactic(auto)]
 
+mod answer_texts;
 mod bytes;
 mod calls;
 mod cutting;
+mod event_lines;
 mod lines;
+mod logged_call;
 mod out_buffer;
 pub mod parsing;
 pub mod reporting;

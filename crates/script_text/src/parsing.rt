@@ -8,9 +8,9 @@ use crate::calls::call_of;
 use crate::lines::cut_line;
 use crate::session::session_number;
 use crate::words::Words;
-use je_model::{RunPlan, ScriptLine};
 use je_order::List;
 use std::alloc::{AllocError, AllocFailed, Global};
+use store_model::{RunPlan, ScriptLine};
 
 /// The most lines that a script may have.
 pub const MOST_LINES: u32 = 1_000_000;

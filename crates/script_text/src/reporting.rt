@@ -4,16 +4,17 @@ ghost use Rattle.std.specs.List.{flat_map};
 ghost use Rattle.je_order.specs.Counts.{HasRisen};
 ghost use Rattle.je_io.specs.Sink.{Gains, GainsPart};
 ghost use Rattle.script_text.specs.OutBuffer.{Adds, point};
-ghost use Rattle.script_text.specs.Report.{end_line, NoneWaits, event_text, events_text, if_waiting, is_logged_call, own_line, report_text, settled_line, waiting_after};
+ghost use Rattle.script_text.specs.Report.{end_line, NoneWaits, event_text, events_text, if_waiting, is_logged_call, report_text, settled_line, waiting_after};
 
+use crate::event_lines::{put_own_line, put_victims};
 use crate::out_buffer::OutBuffer;
-use crate::texts::{put_call, put_line, put_number};
-use crate::waiting::{first_waiting, is_settled, may_settle, settles, settling_text};
+use crate::texts::{put_line, put_number};
+use crate::waiting::{first_waiting, is_settled, logged_call, may_settle, settles, settling_text};
 use je_io::{Failed, Sink};
-use je_model::{Answer, Event, Totals};
+use store_model::{Event, Totals};
 
-/// Prints the report of a journal: a line for each call of the script, and the last line with the
-/// number of commits and what the final store holds. It takes no memory. `Failed` is a fault of the
+/// Prints the report of a journal: a line for each answer to a call or a step, those of an event's
+/// victims behind its own, and the last line with the number of commits and what the final store holds. It takes no memory. `Failed` is a fault of the
 /// sink, which then has the first bytes of the text, any number of them.
 pub fn report<K: Sink>(events: &[Event], totals: &Totals, out: &mut K) -> Result<(), Failed>
     ensures observed { OnOk result
@@ -37,13 +38,7 @@ pub fn report<K: Sink>(events: &[Event], totals: &Totals, out: &mut K) -> Result
 fn is_logged_call(event: &Event) -> bool
     ensures { result ≡ is_logged_call event.now }
 {
-    matches!(
-        event,
-        Event::Call {
-            answer: Answer::Logged { .. },
-            ..
-        }
-    )
+    logged_call(event).is_some()
 }
 
 fn commits_of(events: &[Event]) -> usize
@@ -105,24 +100,8 @@ fn put_event<K: Sink>(buffer: &mut OutBuffer, out: &mut K, before: &[Event], eve
         (event_text before.now event.now) }
 {
     put_own_line(buffer, out, event);
+    put_victims(buffer, out, event);
     put_settled(buffer, out, before, event);
-}
-
-fn put_own_line<K: Sink>(buffer: &mut OutBuffer, out: &mut K, event: &Event)
-    ensures { Adds (point (K.written out.old) (K.faults out.old) buffer.old)
-        (point (K.written out.new) (K.faults out.new) buffer.new)
-        (own_line event.now) }
-{
-    match event {
-        Event::Call {
-            session,
-            line,
-            call: _,
-            answer,
-        } => put_call(buffer, out, *session, *line, answer),
-        Event::SyncBegin { answer: _ } => {}
-        Event::SyncEnd { answer: _ } => {}
-    }
 }
 
 // The lines of the calls that have waited for the event.
@@ -150,15 +129,9 @@ fn put_if_settled<K: Sink>(
         (point (K.written out.new) (K.faults out.new) buffer.new)
         (flat_map (settled_line event.now) (if_waiting call.now later.now)) }
 {
-    if let Event::Call {
-        session,
-        line,
-        call: _,
-        answer: Answer::Logged { commit },
-    } = call
-    {
-        if settles(*commit, event) && !is_settled(*commit, later) {
-            put_line(buffer, out, *session, *line, settling_text(event));
+    if let Some(call) = logged_call(call) {
+        if settles(call.commit, event) && !is_settled(call.commit, later) {
+            put_line(buffer, out, call.session, call.line, settling_text(event));
         }
     }
 }

@@ -2,38 +2,85 @@
 ghost use Rattle.std.specs.Prelude.{◌≡◌, ◌≤◌, ℕ, [], length, take, drop, false};
 ghost use Rattle.std.specs.Bool.{OnFalse};
 ghost use Rattle.std.specs.List.{list_any};
-ghost use Rattle.je_model.specs.Journal.{answer_of, is_disk_fault, settles};
-ghost use Rattle.script_text.specs.Report.{if_waiting, settling_text, NoneWaits};
+ghost use Rattle.store_model.specs.Journal.{answers_some, is_disk_fault};
+ghost use Rattle.script_text.specs.Report.{acknowledges, if_waiting, logged_by, logged_call, settles, settling_text, NoneWaits};
 
-use je_model::{Answer, Event};
+use crate::logged_call::LoggedCall;
+use store_model::{Answer, Event};
 
-fn answer_of(event: &Event) -> &Answer
-    ensures { result.now ≡ answer_of event.now }
+// The call of an event, where it is answered Logged.
+pub fn logged_call(event: &Event) -> Option<LoggedCall>
+    ensures { result ≡ logged_call event.now }
 {
     match event {
-        Event::Call { answer, .. } => answer,
-        Event::SyncBegin { answer } => answer,
-        Event::SyncEnd { answer } => answer,
+        Event::Call {
+            session,
+            line,
+            answer,
+            ..
+        } => logged_by(*session, *line, answer),
+        Event::Resume {
+            session,
+            line,
+            answer,
+            ..
+        } => logged_by(*session, *line, answer),
+        _ => None,
+    }
+}
+
+fn logged_by(session: u8, line: u32, answer: &Answer) -> Option<LoggedCall>
+    ensures { result ≡ logged_by session line answer.now }
+{
+    match answer {
+        Answer::Logged { commit } => Some(LoggedCall {
+            session,
+            line,
+            commit: *commit,
+        }),
+        _ => None,
     }
 }
 
 fn is_fault(event: &Event) -> bool
-    ensures { result ≡ is_disk_fault (answer_of event.now) }
+    ensures { result ≡ answers_some is_disk_fault event.now }
 {
-    matches!(answer_of(event), Answer::DiskFault)
+    match event {
+        Event::Call { answer, .. } => is_disk_fault(answer),
+        Event::Resume { answer, .. } => is_disk_fault(answer),
+        Event::End { session: _ } => false,
+        Event::WriteOut { answer } => is_disk_fault(answer),
+        Event::SyncBegin { answer } => is_disk_fault(answer),
+        Event::SyncEnd { answer } => is_disk_fault(answer),
+        Event::Turn { answer, .. } => is_disk_fault(answer),
+    }
+}
+
+fn is_disk_fault(answer: &Answer) -> bool
+    ensures { result ≡ is_disk_fault answer.now }
+{
+    matches!(answer, Answer::DiskFault)
+}
+
+fn acknowledges(commit: u64, event: &Event) -> bool
+    ensures { result ≡ acknowledges commit event.now }
+{
+    match event {
+        Event::SyncEnd {
+            answer: Answer::Durable { commit: last },
+        } => commit <= *last,
+        Event::WriteOut {
+            answer: Answer::Durable { commit: last },
+        } => commit <= *last,
+        _ => false,
+    }
 }
 
 // Whether an event acknowledges the commit, or meets a disk fault.
 pub fn settles(commit: u64, event: &Event) -> bool
     ensures { result ≡ settles commit event.now }
 {
-    let is_acknowledged = match event {
-        Event::SyncEnd {
-            answer: Answer::Durable { commit: last },
-        } => commit <= *last,
-        _ => false,
-    };
-    is_acknowledged || is_fault(event)
+    acknowledges(commit, event) || is_fault(event)
 }
 
 // Whether one of the events settles the commit.
@@ -56,6 +103,7 @@ pub fn may_settle(event: &Event) -> bool
 {
     match event {
         Event::SyncEnd { .. } => true,
+        Event::WriteOut { .. } => true,
         _ => is_fault(event),
     }
 }
@@ -64,12 +112,9 @@ pub fn may_settle(event: &Event) -> bool
 fn waits(event: &Event, later: &[Event]) -> bool
     ensures { OnFalse result (if_waiting event.now later.now ≡ []) }
 {
-    match event {
-        Event::Call {
-            answer: Answer::Logged { commit },
-            ..
-        } => !is_settled(*commit, later),
-        _ => false,
+    match logged_call(event) {
+        Some(call) => !is_settled(call.commit, later),
+        None => false,
     }
 }
 

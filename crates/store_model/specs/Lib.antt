@@ -4,3 +4,4 @@ pub mod Records
 pub mod Needs
 pub mod Evaluation
 pub mod Refusals
+pub mod Journal

@@ -1,5 +1,5 @@
 use Rattle.std.proofs.Common.{◌≡◌, ◌∙◌, ◌∷◌, List, ℕ, Option, IfOk, ap, sym, subst}
-use Rattle.je_model.specs.declared.call.Call.{Call}
+use Rattle.store_model.specs.declared.call.Call.{Call}
 use Rattle.script_text.specs.Grammar.{get_of}
 use Rattle.script_text.proofs.GetCalls.{get_is, get_is_none}
 use Rattle.script_text.proofs.calls.get_of.Goals as goal

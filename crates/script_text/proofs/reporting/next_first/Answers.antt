@@ -1,6 +1,6 @@
 use Rattle.std.proofs.Common.{◌+◌, List, take, drop, sym, subst, arith}
 use Rattle.std.proofs.lemmas.List.{take-take}
-use Rattle.je_model.specs.declared.event.Event.{Event}
+use Rattle.store_model.specs.declared.event.Event.{Event}
 use Rattle.script_text.specs.Report.{NoneWaits}
 use Rattle.script_text.proofs.WaitingCalls.{seen_more}
 use Rattle.script_text.proofs.reporting.next_first.Goals as goal

@@ -1,6 +1,6 @@
 use Rattle.script_text.specs.Report.{answer_text}
 use Rattle.script_text.proofs.BufferedText.{adds_line}
-use Rattle.script_text.proofs.texts.put_call.Goals as goal
+use Rattle.script_text.proofs.event_lines.put_call.Goals as goal
 
 pub returns-then-has_text : goal.returns-then-has_text
 returns-then-has_text g c =

@@ -1,5 +1,5 @@
 use Rattle.script_text.proofs.BufferedText.{adds_then}
-use Rattle.script_text.proofs.texts.put_record.Goals as goal
+use Rattle.script_text.proofs.answer_texts.put_record.Goals as goal
 
 pub returns : goal.returns
 returns g c =

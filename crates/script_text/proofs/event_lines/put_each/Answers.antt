@@ -1,0 +1,18 @@
+use Rattle.std.proofs.Common.{ap}
+use Rattle.std.specs.List.{flat_map}
+use Rattle.std.proofs.lemmas.List.{take_all}
+use Rattle.script_text.specs.OutBuffer.{point}
+use Rattle.script_text.specs.Report.{victim_line}
+use Rattle.script_text.proofs.BufferedText.{adds_none, adds_same, adds_then, next_text}
+use Rattle.script_text.proofs.event_lines.put_each.Goals as goal
+
+pub loop-k-init : goal.loop-k-init
+loop-k-init g c = adds_none (point (g.K.Sink.written c.args.out.now) (g.K.Sink.faults c.args.out.now) c.args.buffer.now)
+
+pub loop-k-preserved : goal.loop-k-preserved
+loop-k-preserved g c =
+    adds_same _ _ (next_text (victim_line c.args.asking) c.args.victims.now c.loop-k.k c.index-victims-k.result c.loop-k-test.true c.index-victims-k.is)
+    (adds_then c.loop-k.invariant c.put_victim.ensures)
+
+pub returns : goal.returns
+returns g c = adds_same _ _ (ap (flat_map (victim_line c.args.asking)) (take_all c.loop-k.k c.args.victims.now c.loop-k-test.false)) c.loop-k.invariant

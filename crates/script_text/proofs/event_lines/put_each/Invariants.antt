@@ -1,0 +1,10 @@
+use Rattle.std.proofs.Common.{take}
+use Rattle.std.specs.List.{flat_map}
+use Rattle.script_text.specs.OutBuffer.{Adds, point}
+use Rattle.script_text.specs.Report.{victim_line}
+use Rattle.script_text.proofs.event_lines.put_each.Given as goal
+
+-- those so far were sent
+abbrev pub invariant-loop-k : goal.invariant-loop-k
+invariant-loop-k g l =
+    Adds (point (g.K.Sink.written l.initial.out) (g.K.Sink.faults l.initial.out) l.initial.buffer) (point (g.K.Sink.written l.out) (g.K.Sink.faults l.out) l.buffer) (flat_map (victim_line l.asking) (take l.k l.victims))

@@ -1,0 +1,25 @@
+-- What the events of a journal answer.
+use Rattle.std.specs.Prelude.{Bool, true, false, Option, None, Some}
+use Rattle.std.specs.Option.{option_map_or}
+use Rattle.store_model.specs.declared.answer.Answer.{Answer}
+use Rattle.store_model.specs.declared.answer.Answer.TheVariants.{DiskFault}
+use Rattle.store_model.specs.declared.event.Event.{Event}
+use Rattle.store_model.specs.declared.event.Event.TheVariants.{Call as Called, Resume, End, WriteOut, SyncBegin, SyncEnd, Turn}
+
+-- what an event answers; the end of a session answers nothing
+abbrev pub answer_of : Event → Option Answer
+answer_of (Called session line call answer victims) = Some answer
+answer_of (Resume session line answer victims) = Some answer
+answer_of (End session) = None
+answer_of (WriteOut answer) = Some answer
+answer_of (SyncBegin answer) = Some answer
+answer_of (SyncEnd answer) = Some answer
+answer_of (Turn line step answer) = Some answer
+
+-- whether it answers one of a kind
+abbrev pub answers_some : (Answer → Bool) → Event → Bool
+answers_some test event = option_map_or test (answer_of event) false
+
+abbrev pub is_disk_fault : Answer → Bool
+is_disk_fault DiskFault = true
+is_disk_fault answer = false
