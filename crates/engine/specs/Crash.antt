@@ -3,9 +3,10 @@ use Rattle.std.specs.Prelude.{ℕ, ◌≡◌, ◌≤◌, ◌<◌, ◌⊎◌, ◌
 use Rattle.je_disk.specs.States.{Files, State, content, synced_crash_state}
 use Rattle.je_disk.specs.Images.{IsImage}
 use Rattle.je_disk.specs.Moments.{History, Passes, now}
-use Rattle.je_model.specs.declared.event.Event.{Event}
-use Rattle.je_model.specs.declared.store.Store.{Store}
-use Rattle.je_model.specs.Journal.{attempts_of, has_answer, is_disk_fault, synced_of}
+use Rattle.store_model.specs.declared.event.Event.{Event}
+use Rattle.store_model.specs.declared.store.Store.{Store}
+use Rattle.je_answers.specs.Standing.{Standing}
+use Rattle.je_answers.specs.Journal.{attempts_of, has_answer, is_disk_fault, synced_of}
 use Rattle.log_file.specs.declared.valid_prefix.ValidPrefix.{ValidPrefix}
 use Rattle.log_file.specs.declared.file_scan.FileScan.TheVariants.{Prefix}
 use Rattle.log_file.specs.Log.{AreFiles}
@@ -21,41 +22,41 @@ use Rattle.engine.specs.Files.{MeanStore}
 abbrev pub Follows : History → History → Type 0
 Follows old new = Passes old new (λ s. Unit {0})
 
--- Of a run that began with this store, some events are over while one may be under way. What the disk reads, and each image in which no
+-- Of a run that began where the model stood at `st`, some events are over while one may be under way. What the disk reads, and each image in which no
 -- checksum matches by chance, means the opening store changed by the first attempted commits, at least the synced ones.
-pub record IsSafe (opening : Store) (over under_way : List Event) (state : State) : Type 0 where
-  pub read : IsRecovered opening (synced_of over) (attempts_of opening (over ++ under_way)) state.reads
-  pub images : (image : Files) → IsImage state image → NoChanceMatch state.reads image → IsRecovered opening (synced_of over) (attempts_of opening (over ++ under_way)) image
+pub record IsSafe (st : Standing) (over under_way : List Event) (state : State) : Type 0 where
+  pub read : IsRecovered st.store (synced_of over) (attempts_of st (over ++ under_way)) state.reads
+  pub images : (image : Files) → IsImage state image → NoChanceMatch state.reads image → IsRecovered st.store (synced_of over) (attempts_of st (over ++ under_way)) image
 
 -- where one of these events met a disk fault, the disk's state is from one moment to another what it was at the first
 abbrev pub IsStillAfterFault : History → ℕ → ℕ → List Event → Type 0
 IsStillAfterFault history from to over = has_answer is_disk_fault over ≡ true → (k : ℕ) → from < k → k ≤ to → history.state_at k ≡ history.state_at from
 
 -- An event begins behind one moment and ends at another: at each moment between them, and behind it, the disk is safe; behind a fault it stands still.
-pub record IsSafeEvent (opening : Store) (history : History) (from to : ℕ) (over : List Event) (event : Event) : Type 0 where
+pub record IsSafeEvent (st : Standing) (history : History) (from to : ℕ) (over : List Event) (event : Event) : Type 0 where
   pub later : from ≤ to
   pub within : to ≤ history.moment
-  pub during : (k : ℕ) → from < k → k ≤ to → IsSafe opening over (event ∷ []) (history.state_at k)
-  pub behind : IsSafe opening (over ++ event ∷ []) [] (history.state_at to)
+  pub during : (k : ℕ) → from < k → k ≤ to → IsSafe st over (event ∷ []) (history.state_at k)
+  pub behind : IsSafe st (over ++ event ∷ []) [] (history.state_at to)
   pub still : IsStillAfterFault history from to over
 
 -- events end at moments one after another, each safe, and this holds of the last moment and of all events
-abbrev pub AreSafeEvents : Store → History → (ℕ → List Event → Type 0) → ℕ → List Event → List Event → Type 0
-AreSafeEvents opening history Last from over [] = Last from over
-AreSafeEvents opening history Last from over (event ∷ events) =
-    (to : ℕ) × IsSafeEvent opening history from to over event × AreSafeEvents opening history Last to (over ++ event ∷ []) events
+abbrev pub AreSafeEvents : Standing → History → (ℕ → List Event → Type 0) → ℕ → List Event → List Event → Type 0
+AreSafeEvents st history Last from over [] = Last from over
+AreSafeEvents st history Last from over (event ∷ events) =
+    (to : ℕ) × IsSafeEvent st history from to over event × AreSafeEvents st history Last to (over ++ event ∷ []) events
 
 -- from a moment on no event is under way, and the disk is safe; behind a fault it stands still
-pub record IsSafeBehind (opening : Store) (history : History) (from : ℕ) (over : List Event) : Type 0 where
-  pub safe : (k : ℕ) → from < k → k ≤ history.moment → IsSafe opening over [] (history.state_at k)
+pub record IsSafeBehind (st : Standing) (history : History) (from : ℕ) (over : List Event) : Type 0 where
+  pub safe : (k : ℕ) → from < k → k ≤ history.moment → IsSafe st over [] (history.state_at k)
   pub still : IsStillAfterFault history from history.moment over
 
--- A run that began behind this history, with this store: the disk is safe as it began, at each moment of the events of its journal, and at
+-- A run that began behind this history, with the model at `st`: the disk is safe as it began, at each moment of the events of its journal, and at
 -- each moment behind them. Each file that was there as it began is there at each moment.
-pub record IsSafeRun (opening : Store) (start : History) (history : History) (journal : List Event) : Type 0 where
+pub record IsSafeRun (st : Standing) (start : History) (history : History) (journal : List Event) : Type 0 where
   pub since : Follows start history
-  pub begins : IsSafe opening [] [] (now start)
-  pub events : AreSafeEvents opening history (IsSafeBehind opening history) start.moment [] journal
+  pub begins : IsSafe st [] [] (now start)
+  pub events : AreSafeEvents st history (IsSafeBehind st history) start.moment [] journal
   pub files : (k : ℕ) → start.moment ≤ k → k ≤ history.moment → FilesStay (now start).reads (history.state_at k).reads
 
 -- ---- from entry on

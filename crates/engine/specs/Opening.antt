@@ -72,17 +72,26 @@ StartsLog observable reads (Some last) log =
     × (0 < last.end → ReadAs observable reads log)
     × (last.end ≡ 0 → (before : Log) × (log ≡ before ++ (last.file.0, []) ∷ []) × ReadAsBut observable last.file.0 reads before)
 
+-- numbers of databases: 0 where the store has none of that name; else allocated before, and no two alike
+pub record AreNumbers (store : Store) (last_db : ℕ) (numbers : List ℕ → ℕ) : Type 0 where
+  pub none : (name : List ℕ) → database_of name store ≡ None → numbers name ≡ 0
+  pub allocated : (name : List ℕ) → IsSome (database_of name store) → (0 < numbers name) × (numbers name ≤ last_db)
+  pub apart : (name other : List ℕ) → IsSome (database_of name store) → numbers name ≡ numbers other → name ≡ other
+
 -- where the model stands when an environment with these files was opened: at what the files mean that were read, which are the disk's if it
--- is observable
+-- is observable; nothing is under way
 pub record StartsAt (observable : Bool) (files : Files) (opening : Store) (st : Standing) : Type 0 where
-  pub store : st.store ≡ opening
-  pub commits : st.commits ≡ 0
-  pub begun : st.begun ≡ None
-  pub fault : st.fault ≡ None
+  pub alone_at : Alone
+  pub st_is : st ≡ alone alone_at
+  pub store : alone_at.store ≡ opening
+  pub commits : alone_at.commits ≡ 0
+  pub begun : alone_at.begun ≡ None
+  pub fault : alone_at.fault ≡ None
+  pub checkpoint : alone_at.in_checkpoint ≡ false
+  pub numbers : AreNumbers opening alone_at.last_db alone_at.numbers
   pub held : List (ℕ × List ℕ)
   pub observed : observable ≡ true → AreFiles files held
-  pub means : reading_of held ≡ Ok (record { store = opening; last_txn = st.last_txn; last_db = st.last_db })
-  pub log_end : st.log_end ≡ end_in held
+  pub means : reading_of held ≡ Ok (record { store = opening; last_txn = alone_at.last_txn; last_db = alone_at.last_db })
 
 module _ {D : Type 0} where
   -- an environment was opened: the model starts from what the files mean

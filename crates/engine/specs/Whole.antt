@@ -1,20 +1,23 @@
 -- An engine as one value. Users speak of it by these alone; what it is made of may change below them.
-use Rattle.std.specs.Prelude.{ℕ, ◌≡◌, ◌++◌, ◌∷◌, [], List, None, Some, Bool, Result, Ok, Err, true, false, length}
+use Rattle.std.specs.Prelude.{ℕ, ◌≡◌, ◌++◌, ◌∷◌, [], List, Option, None, Some, Bool, Result, Ok, Err, true, false, length}
 use Rattle.std.specs.declared.alloc.AllocError.{AllocError}
 use Rattle.je_disk.specs.States.{Files, State, synced_crash_states}
 use Rattle.je_disk.specs.Moments.{History, now}
-use Rattle.je_model.specs.declared.answer.Answer.{Answer}
-use Rattle.je_model.specs.declared.answer.Answer.TheVariants.{Done, DiskFault}
-use Rattle.je_model.specs.declared.call.Call.{Call}
-use Rattle.je_model.specs.declared.event.Event.{Event}
-use Rattle.je_model.specs.declared.event.Event.TheVariants.{Call as Called, SyncBegin}
-use Rattle.je_model.specs.declared.store.Store.{Store}
-use Rattle.je_model.specs.Answers.{Standing, MayBeginSync, MayEndSync, after_begin, after_sync}
+use Rattle.store_model.specs.declared.answer.Answer.{Answer}
+use Rattle.store_model.specs.declared.answer.Answer.TheVariants.{Done, DiskFault}
+use Rattle.store_model.specs.declared.call.Call.{Call}
+use Rattle.store_model.specs.declared.event.Event.{Event}
+use Rattle.store_model.specs.declared.event.Event.TheVariants.{Call as Called, SyncBegin, SyncEnd}
+use Rattle.store_model.specs.declared.store.Store.{Store}
+use Rattle.je_answers.specs.Standing.{Standing}
+use Rattle.je_answers.specs.Events.{IsAnswered, IsSyncBegun, IsSyncEnded}
+use Rattle.je_answers.specs.After.{after_event}
 use Rattle.log_file.specs.Log.{Log, entries_of}
 use Rattle.log_buffer.specs.Buffer.{disk_of as disk_below}
 use Rattle.engine.specs.declared.engine.Engine.{Engine}
 use Rattle.engine.specs.Environment.{AreAt}
 use Rattle.engine.specs.Guarded.{IsGuardedLog, log_after}
+use Rattle.engine.specs.Limits.{IsBounded}
 use Rattle.engine.specs.Opening.{StartsAt}
 use Rattle.engine.specs.Steps.{LeavesRoom, StepsOn}
 
@@ -40,18 +43,25 @@ module _ {D : Type 0} where
   IsGuardedInSync most st start history engine journal =
       (log : Log) × IsGuardedLog most st log start history engine.log journal (Some (length (entries_of (log_after most st journal log))))
 
+  -- the file in which the log ends
+  abbrev pub end_file : Engine D → ℕ
+  end_file engine = engine.kept.end.file
+
   -- a call was answered as the model may, and the engine is where the model then stands; out of memory left it where it was
-  abbrev pub GoesOn : ℕ → Bool → State → Engine D → Standing → Call → Result Answer AllocError → Type 0
-  GoesOn most observable state engine st call result = StepsOn most observable state engine.log engine.kept st call result
+  abbrev pub GoesOn : ℕ → Bool → State → Engine D → Engine D → Standing → ℕ → ℕ → Call → Result Answer AllocError → Type 0
+  GoesOn most observable state old new st session line call (Ok answer) =
+      (limit : Option Answer) × IsBounded (end_file old) limit × IsAnswered limit st (Called session line call answer [])
+      × IsAt most observable state new (after_event st (Called session line call answer []))
+  GoesOn most observable state old new st session line call (Err error) = IsAt most observable state new st
 
   -- a call was answered, and the run goes on with it in its journal; or there was no memory, and it goes on without it
   abbrev pub GoesOnSafely : ℕ → Standing → History → History → Engine D → List Event → ℕ → ℕ → Call → Result Answer AllocError → Type 0
-  GoesOnSafely most st start history engine journal session line call (Ok answer) = IsGuarded most st start history engine (journal ++ Called session line call answer ∷ [])
+  GoesOnSafely most st start history engine journal session line call (Ok answer) = IsGuarded most st start history engine (journal ++ Called session line call answer [] ∷ [])
   GoesOnSafely most st start history engine journal session line call (Err error) = IsGuarded most st start history engine journal
 
   -- a sync began, or the disk failed
   abbrev pub BeginsSync : ℕ → Bool → State → Engine D → Standing → Answer → Type 0
-  BeginsSync most observable state engine st answer = MayBeginSync None answer × IsAt most observable state engine (after_begin st answer)
+  BeginsSync most observable state engine st answer = IsSyncBegun None answer × IsAt most observable state engine (after_event st (SyncBegin answer))
 
   -- a sync began, of all that was logged, or the disk failed
   abbrev pub BeginsSafely : ℕ → Standing → History → History → Engine D → List Event → Bool → Type 0
@@ -61,7 +71,7 @@ module _ {D : Type 0} where
   -- a sync made the commits so far durable, or the disk failed
   abbrev pub EndsSync : ℕ → Bool → State → Engine D → Standing → Answer → Type 0
   EndsSync most observable state engine st answer =
-      MayEndSync None (Some st.commits) answer × IsAt most observable state engine (after_sync (record st { begun = Some st.commits }) answer)
+      IsSyncEnded None (Some st.commits) answer × IsAt most observable state engine (after_event (record st { begun = Some st.commits }) (SyncEnd answer))
 
   -- an engine was opened: the model starts from what the files mean
   pub record IsOpenedAt (most : ℕ) (observable : Bool) (files : Files) (state : State) (engine : Engine D) (opening : Store) (st : Standing) : Type 0 where
