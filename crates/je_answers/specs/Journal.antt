@@ -1,8 +1,8 @@
 -- What a journal of events answers, has committed and acknowledges (Getting Started with Transaction Processing).
-use Rattle.std.specs.Prelude.{ℕ, ◌≡◌, ◌⊎◌, ◌==◌, ◌++◌, ◌∷◌, [], List, Option, None, Some, Bool, true, false, IsTrue, nat_le, max, if◌then◌else◌}
+use Rattle.std.specs.Prelude.{ℕ, ◌≡◌, ◌⊎◌, ◌==◌, ◌++◌, ◌∷◌, [], List, Option, None, Some, Bool, true, false, IsTrue, max, if◌then◌else◌}
 use Rattle.std.specs.List.{list_any, flat_map}
 use Rattle.store_model.specs.declared.durability.Durability.{Durability}
-use Rattle.store_model.specs.declared.durability.Durability.TheVariants.{Sync, WriteNoSync}
+use Rattle.store_model.specs.declared.durability.Durability.TheVariants.{Sync}
 use Rattle.store_model.specs.declared.call.Call.{Call}
 use Rattle.store_model.specs.declared.call.Call.TheVariants.{Commit, Create, Remove, Rename, Truncate, Get, GetBoth, Put, Delete, Count, Cur, CPutCur, CDel, CPut}
 use Rattle.store_model.specs.declared.change.Change.{Change}
@@ -10,11 +10,11 @@ use Rattle.store_model.specs.declared.need.Need.{Need}
 use Rattle.store_model.specs.declared.answer.Answer.{Answer}
 use Rattle.store_model.specs.declared.answer.Answer.TheVariants.{Done, Logged, Durable, LogFull, IdsEnded, DiskFault}
 use Rattle.store_model.specs.declared.event.Event.{Event}
-use Rattle.store_model.specs.declared.event.Event.TheVariants.{Call as Called, Resume, WriteOut, SyncBegin, SyncEnd, Turn}
+use Rattle.store_model.specs.declared.event.Event.TheVariants.{Call as Called, Resume, SyncBegin, SyncEnd, Turn}
 use Rattle.store_model.specs.declared.plan.ScriptLine.{ScriptLine}
 use Rattle.store_model.specs.declared.plan.ScriptLine.TheVariants.{Session, Maintenance}
 use Rattle.store_model.specs.Evaluation.{evaluation}
-pub use Rattle.store_model.specs.Journal.{answer_of, answers_some, is_disk_fault}
+pub use Rattle.store_model.specs.Journal.{answer_of, answers_some, is_logged, is_disk_fault, acknowledges}
 use Rattle.je_answers.specs.declared.active.Active.{Active}
 use Rattle.je_answers.specs.declared.wait.Wait.{Wait}
 use Rattle.je_answers.specs.Standing.{Standing, active_of, wait_of}
@@ -26,10 +26,6 @@ use Rattle.je_answers.specs.After.{Fate, fate_of, after_event}
 use Rattle.je_answers.specs.After.Fate.{Succeeds, IsRefused, Faults}
 
 -- ---- answers and lines
-
-abbrev pub is_logged : Answer → Bool
-is_logged (Logged commit) = true
-is_logged answer = false
 
 -- LogFull and IdsEnded, after which a run ends with a status of its own
 abbrev pub is_out_of_room : Answer → Bool
@@ -177,12 +173,6 @@ AreSyncedAtOnce [] = Unit {0}
 AreSyncedAtOnce (event ∷ events) = IsSyncedAtOnce event events × AreSyncedAtOnce events
 
 -- ---- acknowledgements
-
--- whether an event acknowledges the commit with that number: a sync each, and a write-out one that waits for no sync
-abbrev pub acknowledges : Durability → ℕ → Event → Bool
-acknowledges durability commit (SyncEnd (Durable last)) = nat_le commit last
-acknowledges WriteNoSync commit (WriteOut (Durable last)) = nat_le commit last
-acknowledges durability commit event = false
 
 -- what the commits of a session wait for: what its transaction was begun with; a call outside a transaction waits for a sync
 abbrev pub durability_of : Option Active → Durability

@@ -1,5 +1,5 @@
 -- The text of a report (this project's own).
-use Rattle.std.specs.Prelude.{ℕ, ◌≡◌, ◌==◌, ◌++◌, ◌∷◌, [], List, Bool, false, ◌||◌, nat_le, Option, Some, None, is_some, codes, decimal, count_by, position, take, drop, if◌then◌else◌}
+use Rattle.std.specs.Prelude.{ℕ, ◌≡◌, ◌==◌, ◌++◌, ◌∷◌, [], List, Bool, false, ◌||◌, nat_le, Option, Some, None, unwrap_or, codes, decimal, count_by, position, take, drop, if◌then◌else◌}
 use Rattle.std.specs.List.{list_all, list_any, flat_map}
 use Rattle.hex.specs.Hex.{encode_lower}
 use Rattle.je_order.specs.declared.txn_id.TxnId.{TxnId}
@@ -7,6 +7,10 @@ use Rattle.je_order.specs.declared.bound.Bound.{Bound}
 use Rattle.je_order.specs.declared.bound.Bound.TheVariants.{At as On, End as AtEnd}
 use Rattle.store_model.specs.declared.kind.Kind.{Kind}
 use Rattle.store_model.specs.declared.kind.Kind.TheVariants.{Plain, Dup}
+use Rattle.store_model.specs.declared.durability.Durability.{Durability}
+use Rattle.store_model.specs.declared.durability.Durability.TheVariants.{Sync}
+use Rattle.store_model.specs.declared.call.Call.{Call}
+use Rattle.store_model.specs.declared.call.Call.TheVariants.{Begin, Commit}
 use Rattle.store_model.specs.declared.lock_target.LockTarget.{LockTarget}
 use Rattle.store_model.specs.declared.victim.Victim.{Victim}
 use Rattle.store_model.specs.declared.answer.Answer.{Answer}
@@ -14,7 +18,7 @@ use Rattle.store_model.specs.declared.answer.Answer.TheVariants.{Done, Txn, Logg
 use Rattle.store_model.specs.declared.event.Event.{Event}
 use Rattle.store_model.specs.declared.event.Event.TheVariants.{Call as Called, Resume, End, WriteOut, SyncBegin, SyncEnd, Turn}
 use Rattle.store_model.specs.declared.totals.Totals.{Totals}
-use Rattle.store_model.specs.Journal.{answers_some, is_disk_fault}
+use Rattle.store_model.specs.Journal.{answers_some, is_logged, is_disk_fault, acknowledges}
 use Rattle.script_text.specs.declared.logged_call.LoggedCall.{LoggedCall}
 
 -- ---- answers
@@ -186,43 +190,58 @@ victims_text event = []
 
 -- ---- calls that wait for their lines
 
+-- the durability with which an event begins a session's transaction, if it does
+abbrev pub begins : ℕ → Event → Option Durability
+begins session (Called by line (Begin level durability wait) (Txn txn) victims) = if by == session then Some durability else None
+begins session event = None
+
+-- the one with which each session's last transaction was begun, after one event more and after several
+abbrev pub none_begun : ℕ → Durability
+none_begun session = Sync
+
+abbrev pub begun_then : Event → (ℕ → Durability) → ℕ → Durability
+begun_then event begun session = unwrap_or (begins session event) (begun session)
+
+abbrev pub begun_after : (ℕ → Durability) → List Event → ℕ → Durability
+begun_after begun [] = begun
+begun_after begun (event ∷ events) = begun_after (begun_then event begun) events
+
+-- what a call waits for: a commit for what its transaction was begun with, a call outside a transaction for a sync
+abbrev pub durability_awaited : (ℕ → Durability) → ℕ → Call → Durability
+durability_awaited begun session Commit = begun session
+durability_awaited begun session call = Sync
+
 -- the call of an event, where it is answered Logged
-abbrev pub logged_by : ℕ → ℕ → Answer → Option LoggedCall
-logged_by session line (Logged commit) = Some (record { session = session; line = line; commit = commit })
-logged_by session line answer = None
+abbrev pub logged_by : ℕ → ℕ → Durability → Answer → Option LoggedCall
+logged_by session line durability (Logged commit) = Some (record { session = session; line = line; commit = commit; durability = durability })
+logged_by session line durability answer = None
 
-abbrev pub logged_call : Event → Option LoggedCall
-logged_call (Called session line call answer victims) = logged_by session line answer
-logged_call (Resume session line answer victims) = logged_by session line answer
-logged_call event = None
+abbrev pub logged_call : (ℕ → Durability) → Event → Option LoggedCall
+logged_call begun (Called session line call answer victims) = logged_by session line (durability_awaited begun session call) answer
+logged_call begun (Resume session line answer victims) = logged_by session line Sync answer
+logged_call begun event = None
 
--- whether an event says that the commit with that number is durable
-abbrev pub acknowledges : ℕ → Event → Bool
-acknowledges commit (SyncEnd (Durable last)) = nat_le commit last
-acknowledges commit (WriteOut (Durable last)) = nat_le commit last
-acknowledges commit event = false
+-- whether an event acknowledges a logged call's commit, or met a disk fault
+abbrev pub settles : LoggedCall → Event → Bool
+settles call event = acknowledges call.durability call.commit event || answers_some is_disk_fault event
 
--- whether it says that, or met a disk fault
-abbrev pub settles : ℕ → Event → Bool
-settles commit event = acknowledges commit event || answers_some is_disk_fault event
-
--- a call that was answered Logged waits for its line as long as no later event has acknowledged it or met a disk fault
+-- a call that was answered Logged waits for its line as long as no later event settles it
 abbrev pub waiting_if : Option LoggedCall → List Event → List LoggedCall
 waiting_if None later = []
-waiting_if (Some call) later = if list_any (settles call.commit) later then [] else call ∷ []
+waiting_if (Some call) later = if list_any (settles call) later then [] else call ∷ []
 
-abbrev pub if_waiting : Event → List Event → List LoggedCall
-if_waiting event later = waiting_if (logged_call event) later
+abbrev pub if_waiting : (ℕ → Durability) → Event → List Event → List LoggedCall
+if_waiting begun event later = waiting_if (logged_call begun event) later
 
 -- the calls that wait for their lines after some events, in the order in which they were logged
-abbrev pub waiting_after : List Event → List LoggedCall
-waiting_after [] = []
-waiting_after (event ∷ later) = if_waiting event later ++ waiting_after later
+abbrev pub waiting_after : (ℕ → Durability) → List Event → List LoggedCall
+waiting_after begun [] = []
+waiting_after begun (event ∷ later) = if_waiting begun event later ++ waiting_after (begun_then event begun) later
 
 -- no call of some events waits for its line after the later ones
-abbrev pub NoneWaits : List Event → List Event → Type 0
-NoneWaits [] later = Unit {0}
-NoneWaits (event ∷ events) later = (if_waiting event (events ++ later) ≡ []) × NoneWaits events later
+abbrev pub NoneWaits : (ℕ → Durability) → List Event → List Event → Type 0
+NoneWaits begun [] later = Unit {0}
+NoneWaits begun (event ∷ events) later = (if_waiting begun event (events ++ later) ≡ []) × NoneWaits (begun_then event begun) events later
 
 -- what an event says of the calls that wait for it
 abbrev pub settling_text : Event → List ℕ
@@ -230,13 +249,13 @@ settling_text event = if answers_some is_disk_fault event then codes "diskfault"
 
 -- the line that an event gives a call that has waited for it
 abbrev pub settled_line : Event → LoggedCall → List ℕ
-settled_line event call = if settles call.commit event then line_text call.session call.line (settling_text event) else []
+settled_line event call = if settles call event then line_text call.session call.line (settling_text event) else []
 
 -- ---- the report
 
 -- the lines of an event that comes after others: its own, those of its victims, and those of the calls that have waited for it
 abbrev pub event_text : List Event → Event → List ℕ
-event_text before event = own_line event ++ victims_text event ++ flat_map (settled_line event) (waiting_after before)
+event_text before event = own_line event ++ victims_text event ++ flat_map (settled_line event) (waiting_after none_begun before)
 
 -- the lines of events that come after others
 abbrev pub events_text : List Event → List Event → List ℕ
@@ -245,7 +264,9 @@ events_text before (event ∷ events) = event_text before event ++ events_text (
 
 -- whether an event is a call that was logged
 abbrev pub is_logged_call : Event → Bool
-is_logged_call event = is_some (logged_call event)
+is_logged_call (Called session line call answer victims) = is_logged answer
+is_logged_call (Resume session line answer victims) = is_logged answer
+is_logged_call event = false
 
 -- the last line
 abbrev pub end_line : ℕ → Totals → List ℕ

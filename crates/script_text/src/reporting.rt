@@ -4,14 +4,16 @@ ghost use Rattle.std.specs.List.{flat_map};
 ghost use Rattle.je_order.specs.Counts.{HasRisen};
 ghost use Rattle.je_io.specs.Sink.{Gains, GainsPart};
 ghost use Rattle.script_text.specs.OutBuffer.{Adds, point};
-ghost use Rattle.script_text.specs.Report.{end_line, NoneWaits, event_text, events_text, if_waiting, is_logged_call, report_text, settled_line, waiting_after};
+ghost use Rattle.store_model.specs.Journal.{is_logged};
+ghost use Rattle.script_text.specs.Report.{end_line, NoneWaits, event_text, events_text, is_logged_call, none_begun, report_text, settled_line, waiting_after, waiting_if};
 
 use crate::event_lines::{put_own_line, put_victims};
+use crate::logged_call::LoggedCall;
 use crate::out_buffer::OutBuffer;
 use crate::texts::{put_line, put_number};
 use crate::waiting::{first_waiting, is_settled, logged_call, may_settle, settles, settling_text};
 use je_io::{Failed, Sink};
-use store_model::{Event, Totals};
+use store_model::{Answer, Event, Totals};
 
 /// Prints the report of a journal: a line for each answer to a call or a step, those of an event's
 /// victims behind its own, and the last line with the number of commits and what the final store holds. It takes no memory. `Failed` is a fault of the
@@ -35,10 +37,20 @@ pub fn report<K: Sink>(events: &[Event], totals: &Totals, out: &mut K) -> Result
     }
 }
 
+fn is_logged(answer: &Answer) -> bool
+    ensures { result ≡ is_logged answer.now }
+{
+    matches!(answer, Answer::Logged { .. })
+}
+
 fn is_logged_call(event: &Event) -> bool
     ensures { result ≡ is_logged_call event.now }
 {
-    logged_call(event).is_some()
+    match event {
+        Event::Call { answer, .. } => is_logged(answer),
+        Event::Resume { answer, .. } => is_logged(answer),
+        _ => false,
+    }
 }
 
 fn commits_of(events: &[Event]) -> usize
@@ -74,7 +86,7 @@ fn put_events<K: Sink>(buffer: &mut OutBuffer, out: &mut K, events: &[Event])
 {
     let mut first = 0;
     for at in 0..events.len() {
-        put_event(buffer, out, &events[first..at], &events[at]);
+        put_event(buffer, out, &events[..at], first, &events[at]);
         first = next_first(events, first, at);
     }
 }
@@ -83,9 +95,9 @@ fn put_events<K: Sink>(buffer: &mut OutBuffer, out: &mut K, events: &[Event])
 fn next_first(events: &[Event], first: usize, at: usize) -> usize
     requires there { at < length events.now }
     requires order { first ≤ at }
-    requires none { NoneWaits (take first events.now) (drop first (take at events.now)) }
+    requires none { NoneWaits none_begun (take first events.now) (drop first (take at events.now)) }
     ensures order { result ≤ at + 1 }
-    ensures none { NoneWaits (take result events.now) (drop result (take (at + 1) events.now)) }
+    ensures none { NoneWaits none_begun (take result events.now) (drop result (take (at + 1) events.now)) }
 {
     if first == at || may_settle(&events[at]) {
         first_waiting(&events[..at + 1], first)
@@ -94,43 +106,61 @@ fn next_first(events: &[Event], first: usize, at: usize) -> usize
     }
 }
 
-fn put_event<K: Sink>(buffer: &mut OutBuffer, out: &mut K, before: &[Event], event: &Event)
+// The lines of an event behind those that were seen; of these none before `first` waits.
+fn put_event<K: Sink>(
+    buffer: &mut OutBuffer,
+    out: &mut K,
+    seen: &[Event],
+    first: usize,
+    event: &Event,
+)
+    requires order { first ≤ length seen.now }
+    requires none { NoneWaits none_begun (take first seen.now) (drop first seen.now) }
     ensures { Adds (point (K.written out.old) (K.faults out.old) buffer.old)
         (point (K.written out.new) (K.faults out.new) buffer.new)
-        (event_text before.now event.now) }
+        (event_text seen.now event.now) }
 {
     put_own_line(buffer, out, event);
     put_victims(buffer, out, event);
-    put_settled(buffer, out, before, event);
+    put_settled(buffer, out, seen, first, event);
 }
 
 // The lines of the calls that have waited for the event.
-fn put_settled<K: Sink>(buffer: &mut OutBuffer, out: &mut K, before: &[Event], event: &Event)
+fn put_settled<K: Sink>(
+    buffer: &mut OutBuffer,
+    out: &mut K,
+    seen: &[Event],
+    first: usize,
+    event: &Event,
+)
+    requires order { first ≤ length seen.now }
+    requires none { NoneWaits none_begun (take first seen.now) (drop first seen.now) }
     ensures { Adds (point (K.written out.old) (K.faults out.old) buffer.old)
         (point (K.written out.new) (K.faults out.new) buffer.new)
-        (flat_map (settled_line event.now) (waiting_after before.now)) }
+        (flat_map (settled_line event.now) (waiting_after none_begun seen.now)) }
 {
     if !may_settle(event) {
         return;
     }
-    for k in 0..before.len() {
-        put_if_settled(buffer, out, &before[k], &before[k + 1..], event);
+    for k in first..seen.len() {
+        let call = logged_call(&seen[..k], &seen[k]);
+        put_if_settled(buffer, out, call, &seen[k + 1..], event);
     }
 }
 
 fn put_if_settled<K: Sink>(
     buffer: &mut OutBuffer,
     out: &mut K,
-    call: &Event,
+    call: Option<LoggedCall>,
     later: &[Event],
     event: &Event,
 )
     ensures { Adds (point (K.written out.old) (K.faults out.old) buffer.old)
         (point (K.written out.new) (K.faults out.new) buffer.new)
-        (flat_map (settled_line event.now) (if_waiting call.now later.now)) }
+        (flat_map (settled_line event.now) (waiting_if call later.now)) }
 {
-    if let Some(call) = logged_call(call) {
-        if settles(call.commit, event) && !is_settled(call.commit, later) {
+    if let Some(call) = call {
+        if settles(&call, event) && !is_settled(&call, later) {
             put_line(buffer, out, call.session, call.line, settling_text(event));
         }
     }

@@ -1,42 +1,86 @@
 // The calls that wait for their lines.
-ghost use Rattle.std.specs.Prelude.{◌≡◌, ◌≤◌, ℕ, [], length, take, drop, false};
+ghost use Rattle.std.specs.Prelude.{◌≡◌, ◌≤◌, [], length, take, drop, false};
 ghost use Rattle.std.specs.Bool.{OnFalse};
 ghost use Rattle.std.specs.List.{list_any};
-ghost use Rattle.store_model.specs.Journal.{answers_some, is_disk_fault};
-ghost use Rattle.script_text.specs.Report.{acknowledges, if_waiting, logged_by, logged_call, settles, settling_text, NoneWaits};
+ghost use Rattle.store_model.specs.Journal.{acknowledges, answers_some, is_disk_fault};
+ghost use Rattle.script_text.specs.declared.logged_call.LoggedCall.{LoggedCall};
+ghost use Rattle.script_text.specs.Report.{begins, begun_after, durability_awaited, if_waiting, logged_call, none_begun, settles, settling_text, NoneWaits};
 
 use crate::logged_call::LoggedCall;
-use store_model::{Answer, Event};
+use store_model::{Answer, Call, Durability, Event};
 
-// The call of an event, where it is answered Logged.
-pub fn logged_call(event: &Event) -> Option<LoggedCall>
-    ensures { result ≡ logged_call event.now }
+// The durability with which an event begins a session's transaction, if it does.
+fn begins(session: u8, event: &Event) -> Option<Durability>
+    ensures { result ≡ begins session event.now }
+{
+    match event {
+        Event::Call {
+            session: by,
+            call: Call::Begin { durability, .. },
+            answer: Answer::Txn { .. },
+            ..
+        } => {
+            if *by == session {
+                Some(*durability)
+            } else {
+                None
+            }
+        }
+        _ => None,
+    }
+}
+
+// The one with which the session's last transaction was begun.
+fn begun_by(events: &[Event], session: u8) -> Durability
+    ensures { result ≡ begun_after none_begun events.now session }
+{
+    let mut left = events.len();
+    while left > 0 {
+        left -= 1;
+        match begins(session, &events[left]) {
+            Some(durability) => return durability,
+            None => {}
+        }
+    }
+    Durability::Sync
+}
+
+fn durability_awaited(before: &[Event], session: u8, call: &Call) -> Durability
+    ensures { result ≡ durability_awaited (begun_after none_begun before.now) session call.now }
+{
+    match call {
+        Call::Commit => begun_by(before, session),
+        _ => Durability::Sync,
+    }
+}
+
+// The call of an event that comes after others, where it is answered Logged.
+pub fn logged_call(before: &[Event], event: &Event) -> Option<LoggedCall>
+    ensures { result ≡ logged_call (begun_after none_begun before.now) event.now }
 {
     match event {
         Event::Call {
             session,
             line,
-            answer,
+            call,
+            answer: Answer::Logged { commit },
             ..
-        } => logged_by(*session, *line, answer),
+        } => Some(LoggedCall {
+            session: *session,
+            line: *line,
+            commit: *commit,
+            durability: durability_awaited(before, *session, call),
+        }),
         Event::Resume {
             session,
             line,
-            answer,
+            answer: Answer::Logged { commit },
             ..
-        } => logged_by(*session, *line, answer),
-        _ => None,
-    }
-}
-
-fn logged_by(session: u8, line: u32, answer: &Answer) -> Option<LoggedCall>
-    ensures { result ≡ logged_by session line answer.now }
-{
-    match answer {
-        Answer::Logged { commit } => Some(LoggedCall {
-            session,
-            line,
+        } => Some(LoggedCall {
+            session: *session,
+            line: *line,
             commit: *commit,
+            durability: Durability::Sync,
         }),
         _ => None,
     }
@@ -62,8 +106,8 @@ fn is_disk_fault(answer: &Answer) -> bool
     matches!(answer, Answer::DiskFault)
 }
 
-fn acknowledges(commit: u64, event: &Event) -> bool
-    ensures { result ≡ acknowledges commit event.now }
+fn acknowledges(durability: Durability, commit: u64, event: &Event) -> bool
+    ensures { result ≡ acknowledges durability commit event.now }
 {
     match event {
         Event::SyncEnd {
@@ -71,23 +115,26 @@ fn acknowledges(commit: u64, event: &Event) -> bool
         } => commit <= *last,
         Event::WriteOut {
             answer: Answer::Durable { commit: last },
-        } => commit <= *last,
+        } => match durability {
+            Durability::WriteNoSync => commit <= *last,
+            _ => false,
+        },
         _ => false,
     }
 }
 
-// Whether an event acknowledges the commit, or meets a disk fault.
-pub fn settles(commit: u64, event: &Event) -> bool
-    ensures { result ≡ settles commit event.now }
+// Whether an event acknowledges a logged call's commit, or meets a disk fault.
+pub fn settles(call: &LoggedCall, event: &Event) -> bool
+    ensures { result ≡ settles call.now event.now }
 {
-    acknowledges(commit, event) || is_fault(event)
+    acknowledges(call.durability, call.commit, event) || is_fault(event)
 }
 
-// Whether one of the events settles the commit.
-pub fn is_settled(commit: u64, events: &[Event]) -> bool
-    ensures { result ≡ list_any (settles commit) events.now }
+// Whether one of the events settles the call.
+pub fn is_settled(call: &LoggedCall, events: &[Event]) -> bool
+    ensures { result ≡ list_any (settles call.now) events.now }
 {
-    events.iter().any(|event| settles(commit, event))
+    events.iter().any(|event| settles(call, event))
 }
 
 // What an event says of the calls that wait for it.
@@ -99,7 +146,7 @@ pub fn settling_text(event: &Event) -> &'static [u8]
 
 // Whether an event may settle a commit.
 pub fn may_settle(event: &Event) -> bool
-    ensures { OnFalse result ((commit : ℕ) → settles commit event.now ≡ false) }
+    ensures { OnFalse result ((call : LoggedCall) → settles call event.now ≡ false) }
 {
     match event {
         Event::SyncEnd { .. } => true,
@@ -108,12 +155,12 @@ pub fn may_settle(event: &Event) -> bool
     }
 }
 
-// Whether an event is a call that waits for its line behind these events.
-fn waits(event: &Event, later: &[Event]) -> bool
-    ensures { OnFalse result (if_waiting event.now later.now ≡ []) }
+// Whether an event that comes after some and before others is a call that waits for its line.
+fn waits(before: &[Event], event: &Event, later: &[Event]) -> bool
+    ensures { OnFalse result (if_waiting (begun_after none_begun before.now) event.now later.now ≡ []) }
 {
-    match logged_call(event) {
-        Some(call) => !is_settled(call.commit, later),
+    match logged_call(before, event) {
+        Some(call) => !is_settled(&call, later),
         None => false,
     }
 }
@@ -121,12 +168,12 @@ fn waits(event: &Event, later: &[Event]) -> bool
 // Where the first call that waits stands, from `first` on: before it none does.
 pub fn first_waiting(seen: &[Event], first: usize) -> usize
     requires order { first ≤ length seen.now }
-    requires none { NoneWaits (take first seen.now) (drop first seen.now) }
+    requires none { NoneWaits none_begun (take first seen.now) (drop first seen.now) }
     ensures order { result ≤ length seen.now }
-    ensures none { NoneWaits (take result seen.now) (drop result seen.now) }
+    ensures none { NoneWaits none_begun (take result seen.now) (drop result seen.now) }
 {
     let mut first = first;
-    while first < seen.len() && !waits(&seen[first], &seen[first + 1..]) {
+    while first < seen.len() && !waits(&seen[..first], &seen[first], &seen[first + 1..]) {
         first += 1;
     }
     first

@@ -1,7 +1,8 @@
-use Rattle.std.proofs.Common.{[], ◌++◌, take, refl, sym, ap, ◌∙◌, arith}
-use Rattle.std.proofs.lemmas.List.{append-nil, drop_all}
+use Rattle.std.proofs.Common.{List, [], ◌++◌, take, drop, refl, sym, ap, subst, ◌∙◌, arith}
+use Rattle.std.proofs.lemmas.List.{append-nil, drop_all, take-take}
+use Rattle.store_model.specs.declared.event.Event.{Event}
 use Rattle.script_text.specs.OutBuffer.{point}
-use Rattle.script_text.specs.Report.{events_text}
+use Rattle.script_text.specs.Report.{NoneWaits, events_text, none_begun}
 use Rattle.script_text.proofs.BufferedText.{adds_none, adds_same, adds_then}
 use Rattle.script_text.proofs.WaitingCalls.{events_step}
 use Rattle.script_text.proofs.reporting.put_events.Goals as goal
@@ -13,6 +14,12 @@ loop-at-init g c = (
   ([], adds_none (point (g.K.Sink.written c.args.out.now) (g.K.Sink.faults c.args.out.now) c.args.buffer.now), refl),
 )
 
+pub put_event-requires-clause-none : goal.put_event-requires-clause-none
+put_event-requires-clause-none g c =
+    let events = c.args.events.now in
+    let first = c.loop-at.first in
+    subst (λ (l : List Event). NoneWaits none_begun l (drop first (take c.loop-at.at events))) (sym (take-take first c.loop-at.at events c.loop-at.invariant.0)) c.loop-at.invariant.1
+
 pub loop-at-preserved : goal.loop-at-preserved
 loop-at-preserved g c =
     let events = c.args.events.now in
@@ -22,7 +29,7 @@ loop-at-preserved g c =
       (
         _,
         adds_then kept.2.1 c.put_event.ensures,
-        events_step events c.loop-at.first c.loop-at.at c.index-events-at.result kept.2.0 (events_text [] events) c.loop-at-test.true c.index-events-at.is kept.0 kept.1 kept.2.2,
+        events_step events c.loop-at.at c.index-events-at.result kept.2.0 (events_text [] events) c.loop-at-test.true c.index-events-at.is kept.2.2,
       ),
     )
 
