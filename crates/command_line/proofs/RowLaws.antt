@@ -1,5 +1,5 @@
--- Each row that a walk over the arguments of `run` makes has a value, and those of its numbers one in their bounds.
-use Rattle.std.proofs.Common.{◌≡◌, ◌∙◌, ◌++◌, ◌||◌, ℕ, Bool, true, false, ap, refl, sym, subst, codes, List, [], ◌∷◌, Option, Some, None, is_some, cond, pos}
+-- Each row that a walk over the arguments of `run` makes has a value, and that of `--file-max` one in its bounds.
+use Rattle.std.proofs.Common.{◌≡◌, ◌∙◌, ◌++◌, ◌||◌, Bool, true, false, ap, refl, sym, subst, codes, List, [], ◌∷◌, Option, Some, None, is_some, cond, pos}
 use Rattle.std.specs.Prelude.{find, option_map, option_and_then, slice_get, unwrap_or}
 use Rattle.std.specs.List.{AllByRecursion}
 use Rattle.std.specs.Str.{bytes_eq}
@@ -13,18 +13,14 @@ use Rattle.clap.specs.declared.builder.value_parser.Reading.TheVariants.{Without
 use Rattle.clap.specs.declared.builder.value_parser.ValueParser.TheVariants as parser
 use Rattle.clap.specs.declared.parser.matches.ValueSource.{ValueSource}
 
--- the parser of a number within these bounds takes the value
-abbrev pub IsWithin : ℕ → ℕ → Text → Type 0
-IsWithin least most text = accepts false (parser.Signed (pos least) (pos most)) text ≡ true
+-- the parser of `--file-max` takes the value
+abbrev pub IsFileMax : Text → Type 0
+IsFileMax text = accepts false (parser.Signed (pos 4096) (pos 1073741824)) text ≡ true
 
--- a value of an option that is a number within these bounds
-abbrev pub IsNumber : Text → ℕ → ℕ → Text → Reading → Text → Type 0
-IsNumber name least most id how v = bytes_eq id name ≡ true → (how ≡ WithoutMinus) × IsWithin least most v
-
--- values of an option: there is a first one, and those of the numbers are in their bounds
+-- values of an option: there is a first one, and one of `--file-max` is in its bounds
 abbrev pub AreValues : Text → Reading → List Text → Type 0
 AreValues id how [] = ⊥
-AreValues id how (v ∷ vs) = IsNumber (codes "file-max") 4096 1073741824 id how v × IsNumber (codes "fanout") 4 128 id how v
+AreValues id how (v ∷ vs) = bytes_eq id (codes "file-max") ≡ true → (how ≡ WithoutMinus) × IsFileMax v
 
 abbrev pub IsFilled : Row → Type 0
 IsFilled r = AreValues r.id r.reading r.values
@@ -78,30 +74,6 @@ values_there id how s values (r ∷ rs) same = go (values_there id how s values 
     go rest true is = ap (λ b. b || has_row id rs) is
     go rest false is = ap (λ b. b || has_row id (with_values id how s values rs)) is ∙ rest
 
--- a row stays where another option is filled
-values_keep : (other id : Text) (how : Reading) (s : ValueSource) (values : List Text) (rows : List Row) → has_row other rows ≡ true → has_row other (with_values id how s values rows) ≡ true
-values_keep other id how s values [] has = cc
-values_keep other id how s values (r ∷ rs) has = go (bytes_eq r.id id) (still (bytes_eq r.id other) (values_keep other id how s values rs) has)
-  where
-    still : (b : Bool) → (has_row other rs ≡ true → has_row other (with_values id how s values rs) ≡ true) → (b || has_row other rs) ≡ true → (b || has_row other (with_values id how s values rs)) ≡ true
-    still true rest has = refl
-    still false rest has = rest has
-
-    go : (b : Bool) → (bytes_eq r.id other || has_row other (with_values id how s values rs)) ≡ true → has_row other (cond b (more_values s values r ++ rs) (r ∷ with_values id how s values rs)) ≡ true
-    go true kept = has
-    go false kept = kept
-
-pub default_keeps : (other : Text) (a : Rule) (rows : List Row) → has_row other rows ≡ true → has_row other (with_default rows a) ≡ true
-default_keeps other a rows has = go (has_row a.id rows)
-  where
-    filled : (values : List Text) → has_row other (default_rows a.id (reading_by a) values rows) ≡ true
-    filled [] = has
-    filled (v ∷ vs) = values_keep other a.id (reading_by a) _ (v ∷ vs) rows has
-
-    go : (b : Bool) → has_row other (cond b rows (default_rows a.id (reading_by a) a.defaults rows)) ≡ true
-    go true = has
-    go false = filled a.defaults
-
 -- an option with a default has a row
 pub default_there : (a : Rule) (v : Text) (vs : List Text) (rows : List Row) → a.defaults ≡ v ∷ vs → bytes_eq a.id a.id ≡ true → has_row a.id (with_default rows a) ≡ true
 default_there a v vs rows has same = go (has_row a.id rows) refl
@@ -149,26 +121,17 @@ first_there id rows held there = go (find (λ r. bytes_eq r.id id) rows) refl th
     go None is some = cc
     go (Some r) is some = read r r.values (found_filled id rows r held is).1
 
--- the row of a number gives a value in its bounds
-number_there : (name : Text) (least most : ℕ) (rows : List Row) → ((id : Text) (how : Reading) (v : Text) (vs : List Text) → AreValues id how (v ∷ vs) → IsNumber name least most id how v)
-    → AreFilled rows → has_row name rows ≡ true → (v : Text) × (one_of name rows ≡ Some (without_minus v)) × IsWithin least most v
-number_there name least most rows holds held has = go (find (λ r. bytes_eq r.id name) rows) refl (row_there name rows has)
+-- the row of `--file-max` gives a value in its bounds
+pub file_max_there : (rows : List Row) → AreFilled rows → has_row (codes "file-max") rows ≡ true → (v : Text) × (one_of (codes "file-max") rows ≡ Some (without_minus v)) × IsFileMax v
+file_max_there rows held has = go (find (λ r. bytes_eq r.id (codes "file-max")) rows) refl (row_there (codes "file-max") rows has)
   where
-    read : (r : Row) (values : List Text) (how : Reading) → bytes_eq r.id name ≡ true → AreValues r.id how values
-        → (v : Text) × (option_map (read_as how) (slice_get values 0) ≡ Some (without_minus v)) × IsWithin least most v
+    read : (r : Row) (values : List Text) (how : Reading) → bytes_eq r.id (codes "file-max") ≡ true → AreValues r.id how values
+        → (v : Text) × (option_map (read_as how) (slice_get values 0) ≡ Some (without_minus v)) × IsFileMax v
     read r [] how is are = absurd are
-    read r (v ∷ vs) how is are =
-        let within = holds r.id how v vs are is in
-        (v, ap (λ h. Some (read_as h v)) within.0, within.1)
+    read r (v ∷ vs) how is are = (v, ap (λ h. Some (read_as h v)) (are is).0, (are is).1)
 
-    go : (o : Option Row) → find (λ r. bytes_eq r.id name) rows ≡ o → is_some o ≡ true → (v : Text) × (option_and_then row_text o ≡ Some (without_minus v)) × IsWithin least most v
+    go : (o : Option Row) → find (λ r. bytes_eq r.id (codes "file-max")) rows ≡ o → is_some o ≡ true → (v : Text) × (option_and_then row_text o ≡ Some (without_minus v)) × IsFileMax v
     go None is some = cc
     go (Some r) is some =
-        let at = found_filled name rows r held is in
+        let at = found_filled (codes "file-max") rows r held is in
         read r r.values r.reading at.0 at.1
-
-pub file_max_there : (rows : List Row) → AreFilled rows → has_row (codes "file-max") rows ≡ true → (v : Text) × (one_of (codes "file-max") rows ≡ Some (without_minus v)) × IsWithin 4096 1073741824 v
-file_max_there rows held has = number_there (codes "file-max") 4096 1073741824 rows (λ id how v vs are. are.0) held has
-
-pub fanout_there : (rows : List Row) → AreFilled rows → has_row (codes "fanout") rows ≡ true → (v : Text) × (one_of (codes "fanout") rows ≡ Some (without_minus v)) × IsWithin 4 128 v
-fanout_there rows held has = number_there (codes "fanout") 4 128 rows (λ id how v vs are. are.1) held has

@@ -1,11 +1,11 @@
 -- What valid arguments give, and that other arguments give nothing.
-use Rattle.std.proofs.Common.{◌≡◌, ◌∙◌, ◌≤◌, arith, Bool, true, false, ap, refl, subst, sym, List, Option, Some, None, IfSome, is_some, true≢false}
+use Rattle.std.proofs.Common.{◌≡◌, ◌∙◌, ◌≤◌, Bool, true, false, ap, refl, subst, sym, List, Option, Some, None, IfSome, is_some, true≢false}
 use Rattle.std.specs.Prelude.{option_map, if◌then◌else◌}
 use Rattle.clap.specs.Walk.{Text}
 use Rattle.clap.specs.Lexer.{without_minus}
 use Rattle.clap.specs.Simple.{subcommand_of}
-use Rattle.command_line.specs.Arguments.{fanout_in, fanout_found, fanout_text_of, file_max_in, file_max_found, file_max_text_of, home_in, home_of, is_taken, jedb, decimal_value}
-use Rattle.command_line.proofs.NumberLaws.{Spells, spelled}
+use Rattle.command_line.specs.Arguments.{file_max_in, file_max_found, file_max_text_of, home_in, home_of, is_taken, jedb, decimal_value}
+use Rattle.command_line.proofs.NumberLaws.{SpellsFileMax, file_max_spelled}
 use Rattle.command_line.proofs.RunLaws.{right_has_values}
 
 if_true : {X : Type 0} (x : Option X) (b : Bool) → b ≡ true → (if b then x else None) ≡ x
@@ -32,24 +32,11 @@ pub file_max_wrong : (args : List Text) → is_taken args ≡ false → file_max
 unfolding file_max_in
 file_max_wrong args wrong = if_false (file_max_found (subcommand_of jedb args)) (is_taken args) wrong
 
-pub fanout_right : (args : List Text) → is_taken args ≡ true → fanout_in args ≡ fanout_found (subcommand_of jedb args)
-unfolding fanout_in
-fanout_right args right = if_true (fanout_found (subcommand_of jedb args)) (is_taken args) right
-
-pub fanout_wrong : (args : List Text) → is_taken args ≡ false → fanout_in args ≡ None
-unfolding fanout_in
-fanout_wrong args wrong = if_false (fanout_found (subcommand_of jedb args)) (is_taken args) wrong
-
--- the texts of `--file-max` and `--fanout` in valid arguments
-pub text_right : (args : List Text) → is_taken args ≡ true → (text : Text) × (file_max_text_of (subcommand_of jedb args) ≡ Some text) × Spells 4096 1073741824 text
+-- the text of `--file-max` in valid arguments
+pub text_right : (args : List Text) → is_taken args ≡ true → (text : Text) × (file_max_text_of (subcommand_of jedb args) ≡ Some text) × SpellsFileMax text
 text_right args right =
     let value = (right_has_values args right).1 in
-    (without_minus value.0, value.1, spelled 4096 1073741824 value.0 (omega arith) value.2)
-
-pub fanout_text_right : (args : List Text) → is_taken args ≡ true → (text : Text) × (fanout_text_of (subcommand_of jedb args) ≡ Some text) × Spells 4 128 text
-fanout_text_right args right =
-    let value = (right_has_values args right).2 in
-    (without_minus value.0, value.1, spelled 4 128 value.0 (omega arith) value.2)
+    (without_minus value.0, value.1, file_max_spelled value.0 value.2)
 
 -- valid arguments, and no others, name a folder
 pub home_named : (args : List Text) → is_some (home_in args) ≡ is_taken args
@@ -76,21 +63,3 @@ file_max_bounded args = go (is_taken args) refl
         let text = text_right args right in
         subst (λ o. IfSome o (λ n. (4096 ≤ n) × (n ≤ 1073741824))) (sym (file_max_right args right ∙ ap (option_map decimal_value) text.1)) (text.2.least, text.2.most)
     go false wrong = subst (λ o. IfSome o (λ n. (4096 ≤ n) × (n ≤ 1073741824))) (sym (file_max_wrong args wrong)) tt
-
--- the same of `--fanout`
-pub fanout_named : (args : List Text) → is_some (fanout_in args) ≡ is_taken args
-fanout_named args = go (is_taken args) refl
-  where
-    go : (b : Bool) → is_taken args ≡ b → is_some (fanout_in args) ≡ is_taken args
-    go true right = ap is_some (fanout_right args right ∙ ap (option_map decimal_value) (fanout_text_right args right).1) ∙ sym right
-    go false wrong = ap is_some (fanout_wrong args wrong) ∙ sym wrong
-
--- it is in its bounds
-pub fanout_bounded : (args : List Text) → IfSome (fanout_in args) (λ n. (4 ≤ n) × (n ≤ 128))
-fanout_bounded args = go (is_taken args) refl
-  where
-    go : (b : Bool) → is_taken args ≡ b → IfSome (fanout_in args) (λ n. (4 ≤ n) × (n ≤ 128))
-    go true right =
-        let text = fanout_text_right args right in
-        subst (λ o. IfSome o (λ n. (4 ≤ n) × (n ≤ 128))) (sym (fanout_right args right ∙ ap (option_map decimal_value) text.1)) (text.2.least, text.2.most)
-    go false wrong = subst (λ o. IfSome o (λ n. (4 ≤ n) × (n ≤ 128))) (sym (fanout_wrong args wrong)) tt

@@ -19,17 +19,9 @@ file_max_option = record (new_rule (codes "file-max")) {
   defaults = codes "10000000" ∷ [];
 }
 
--- the option that says how many slots a node has at most: one number in these bounds, and the greatest where it is not given
-abbrev pub fanout_option : Rule
-fanout_option = record (new_rule (codes "fanout")) {
-  long = Some (codes "fanout");
-  parser = Some (parser.Signed (pos 4) (pos 128));
-  defaults = codes "128" ∷ [];
-}
-
--- `run`, which takes these three options alone
+-- `run`, which takes these two options alone
 abbrev pub run_command : App
-run_command = with_rule (with_rule (with_rule (new_app (codes "run")) home_option) file_max_option) fanout_option
+run_command = with_rule (with_rule (new_app (codes "run")) home_option) file_max_option
 
 -- `jedb`, which takes one of its commands; no program's name is before the arguments
 abbrev pub jedb : App
@@ -55,13 +47,6 @@ file_max_text_of = option_and_then (λ command. one_of (codes "file-max") comman
 abbrev pub file_max_found : Option (Text × List Row) → Option ℕ
 file_max_found found = option_map decimal_value (file_max_text_of found)
 
--- the text that is read for `--fanout`, and the number that it spells
-abbrev pub fanout_text_of : Option (Text × List Row) → Option Text
-fanout_text_of = option_and_then (λ command. one_of (codes "fanout") command.1)
-
-abbrev pub fanout_found : Option (Text × List Row) → Option ℕ
-fanout_found found = option_map decimal_value (fanout_text_of found)
-
 -- the folder that valid arguments name
 unfoldable pub home_in : List Text → Option Text
 home_in args = if is_taken args then home_of (subcommand_of jedb args) else None
@@ -69,7 +54,3 @@ home_in args = if is_taken args then home_of (subcommand_of jedb args) else None
 -- how many bytes a log file holds at most by valid arguments
 unfoldable pub file_max_in : List Text → Option ℕ
 file_max_in args = if is_taken args then file_max_found (subcommand_of jedb args) else None
-
--- how many slots a node has at most by valid arguments
-unfoldable pub fanout_in : List Text → Option ℕ
-fanout_in args = if is_taken args then fanout_found (subcommand_of jedb args) else None
