@@ -5,6 +5,8 @@ use mathlib.Core.Path.{fun_ext}
 use Rattle.std.proofs.lemmas.Bool.{ne_eqb, eq-eqb, not_from_false, not_from_true}
 use Rattle.std.proofs.lemmas.List.Elements.{filter-append}
 use Rattle.log_entry.specs.declared.entry.Entry.{Entry}
+use Rattle.log_entry.specs.Encoding.{size_of}
+use Rattle.log_file.specs.Scan.{may_follow}
 use Rattle.log_entry.specs.declared.entry.Entry.TheVariants.{Commit}
 use Rattle.db_catalog.specs.declared.catalog_change.CatalogChange.{CatalogChange}
 use Rattle.db_catalog.specs.declared.catalog_change.CatalogChange.TheVariants.{Put as PutRecord, Delete as DeleteRecord}
@@ -17,7 +19,7 @@ use Rattle.log_replay.specs.Rows.{Row, Rows, no_rows, RowChange, row_changed, ro
 use Rattle.log_replay.specs.Replay.{Replay, nothing_replayed, changes_of, changes_of_others, replayed_entry, replayed}
 use Rattle.log_replay.specs.Logging.{record_named, number_named, kind_named, catalog_row_change, row_changes, last_db_after, all_row_changes, entry_with, row_entry, entries_with, catalog_entry}
 use Rattle.log_replay.specs.Kept.{IsOfBefore, IsKept, MayBeLogged, AllMayBeLogged, all_numbered}
-use Rattle.log_replay.specs.Laws.{TransactionsAreKept, StoresAreChanged, NumbersAreChanged, KeptIsRight, DatabasesByNumber, ChangedByAnyTransaction, LoggedAsEntries}
+use Rattle.log_replay.specs.Laws.{TransactionsAreKept, StoresAreChanged, NumbersAreChanged, KeptIsRight, DatabasesByNumber, ChangedByAnyTransaction, LoggedAsEntries, EntriesFollow, SizesOfAnyNumbers}
 use Rattle.log_replay.proofs.ListLaws.{all_of_map, all_to_map, filter-all, filter-none}
 use Rattle.je_order.proofs.Lists.{all_weaker, all_append}
 use Rattle.log_replay.proofs.RowLaws.{rising-nil}
@@ -82,6 +84,24 @@ logged_as_entries txn last_db (Make db kind) rows = catalog-entries txn (logged_
 logged_as_entries txn last_db (Remove db) rows = catalog-entries txn (logged_as (record_named rows) (last_db + 1) (Remove db))
 logged_as_entries txn last_db (Rename db to) rows = catalog-entries txn (logged_as (record_named rows) (last_db + 1) (Rename db to))
 logged_as_entries txn last_db (Empty db) rows = catalog-entries txn (logged_as (record_named rows) (last_db + 1) (Empty db))
+
+follow-all : (cs : List RowChange) (txn : ℕ) → AllByRecursion (λ e. may_follow e ≡ true) (map row_entry cs ++ Commit (record { 0 = txn }) ∷ [])
+follow-all [] txn = (refl, tt)
+follow-all (c ∷ cs) txn = (by_value c.value, follow-all cs txn)
+  where
+    by_value : (v : Option (List ℕ)) → may_follow (entry_with c.txn c.db c.name v) ≡ true
+    by_value None = refl
+    by_value (Some value) = refl
+
+pub entries_follow : EntriesFollow
+entries_follow txn last_db changes rows = follow-all (all_row_changes txn last_db changes rows) txn
+
+pub sizes_of_any_numbers : SizesOfAnyNumbers
+sizes_of_any_numbers txn db c = by_value c.value
+  where
+    by_value : (v : Option (List ℕ)) → size_of (entry_with txn db c.name v) ≡ size_of (entry_with c.txn c.db c.name v)
+    by_value None = refl
+    by_value (Some value) = refl
 
 -- ---- a change within the numbers
 
@@ -259,7 +279,7 @@ replayed-transaction last_txn last_db txn cs replay before later own =
 -- ---- laws
 
 -- what is kept is right
-sound-kept : (entries : List Entry) (rows : Rows) (last_txn last_db : ℕ) → IsKept entries rows last_txn last_db → IsSound rows last_db
+pub sound-kept : (entries : List Entry) (rows : Rows) (last_txn last_db : ℕ) → IsKept entries rows last_txn last_db → IsSound rows last_db
 sound-kept entries rows last_txn last_db kept = record {
   environment = environment_parts rows kept.environment;
   rising = kept.rising;
