@@ -1,6 +1,6 @@
 -- What holds of all logs.
 use Rattle.std.specs.Prelude.{◌≡◌, ◌≢◌, ℕ, ◌+◌, ◌<◌, ◌≤◌, List, Option, None, Some, true, map, length}
-use Rattle.std.specs.List.{AllByRecursion}
+use Rattle.std.specs.List.{AllByRecursion, flat_map}
 use Rattle.je_disk.specs.States.{Files}
 use Rattle.je_lsn.specs.Naming.{last_file}
 use Rattle.log_file.specs.Log.{Log, IsLog, AreFiles, files_of_log}
@@ -16,7 +16,7 @@ use Rattle.store_model.specs.Refusals.{made_by}
 use Rattle.log_replay.specs.Rows.{Rows, RowChange, rows_changed, data_at, pair_of, is_environment, store_of}
 use Rattle.log_replay.specs.Wrong.{wrong_record}
 use Rattle.log_replay.specs.Logging.{number_named, kind_named, record_named, row_changes, all_row_changes, row_entry, transaction_entries, entries_with, entries_of, number_for}
-use Rattle.log_replay.specs.Kept.{IsKept, MayBeLogged, AllMayBeLogged, all_numbered}
+use Rattle.log_replay.specs.Kept.{IsKept, IsRecordChange, MayBeLogged, AllMayBeLogged, all_numbered}
 use Rattle.log_replay.specs.Reading.{gap_in, validated, reading_of}
 
 -- a log whose files are there whole, with no gap between their numbers, is read again
@@ -106,6 +106,16 @@ ChangedByAnyTransaction = (txn last_db : ℕ) (changes : List Change) (rows : Ro
 abbrev pub LoggedAsEntries : Type 0
 LoggedAsEntries = (txn last_db : ℕ) (change : Change) (rows : Rows)
     → map row_entry (row_changes txn last_db change rows) ≡ entries_of (record_named rows) txn (number_for last_db change rows) change
+
+-- changes of records that may each be logged may be logged together, and each is logged as it is alone
+abbrev pub RecordsMayBeLogged : Type 0
+RecordsMayBeLogged = (rows : Rows) (last_db : ℕ) (changes : List Change)
+    → AllByRecursion (λ c. IsRecordChange c × MayBeLogged rows last_db c) changes → AllMayBeLogged rows last_db changes
+
+abbrev pub RecordsAreLogged : Type 0
+RecordsAreLogged = (txn last_db : ℕ) (changes : List Change) (rows : Rows)
+    → AllByRecursion (λ c. IsRecordChange c × MayBeLogged rows last_db c) changes
+    → all_row_changes txn last_db changes rows ≡ flat_map (λ c. row_changes txn last_db c rows) changes
 
 -- each entry of a transaction may stand behind a file's header, and no number changes an entry's size
 abbrev pub EntriesFollow : Type 0

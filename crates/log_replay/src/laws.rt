@@ -1,5 +1,5 @@
 // What holds of all logs.
-ghost use Rattle.log_replay.specs.Laws.{AreReadAgain, TransactionsAreKept, StoresAreChanged, NumbersAreChanged, CountsAreChanged, KeptIsRight, KeptForLater, DatabasesByNumber, CatalogsAreOfStores, FoundByNumber, ChangedByAnyTransaction, LoggedAsEntries, EntriesFollow, SizesOfAnyNumbers};
+ghost use Rattle.log_replay.specs.Laws.{AreReadAgain, TransactionsAreKept, StoresAreChanged, NumbersAreChanged, CountsAreChanged, KeptIsRight, KeptForLater, DatabasesByNumber, CatalogsAreOfStores, FoundByNumber, ChangedByAnyTransaction, LoggedAsEntries, RecordsMayBeLogged, RecordsAreLogged, EntriesFollow, SizesOfAnyNumbers};
 
 /// A log whose files are there whole, with no gap between their numbers, is read again.
 pub fn logs_are_read()
@@ -28,6 +28,8 @@ pub fn kept_is_right()
 pub fn changes_are_logged()
     ensures any { ChangedByAnyTransaction }
     ensures entries { LoggedAsEntries }
+    ensures may { RecordsMayBeLogged }
+    ensures records { RecordsAreLogged }
     ensures follow { EntriesFollow }
     ensures sizes { SizesOfAnyNumbers }
 {}
