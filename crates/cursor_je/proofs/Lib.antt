@@ -2,3 +2,5 @@
 pub mod EdgeLaws
 -- Records between edges: what the ends of a range are, and how it is walked.
 pub mod Walks
+-- The last record of a list.
+pub mod ListLaws

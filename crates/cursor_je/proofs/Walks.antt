@@ -147,7 +147,7 @@ eq_less x y n less h = by (name_cmp x n) refl h
     by Greater e t = cc
     by Equal e t = ap is_eq (names_total.antisymm y n ∙ ap ordering_reverse (sym (names_total.congr x n y e) ∙ less))
 
-one_named : (kind : Kind) (n : Name) (xs : List Pair) → HasRisingNames kind xs → taken_by Lowest (at_name kind n xs) ≡ at_name kind n xs
+pub one_named : (kind : Kind) (n : Name) (xs : List Pair) → HasRisingNames kind xs → taken_by Lowest (at_name kind n xs) ≡ at_name kind n xs
 unfolding IsStrictlySortedBy
 one_named kind n [] up = refl
 one_named kind n (x ∷ xs) up = by (is_eq (name_cmp (name_of kind x) n)) refl (one_named kind n xs up.1)

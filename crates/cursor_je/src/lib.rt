@@ -7,6 +7,10 @@
 #![tactic(auto)]
 
 mod concluding;
+#[cfg(test)]
+mod examples;
+#[cfg(test)]
+mod list_view;
 pub mod looking;
 pub mod name_edge;
 pub mod name_ref;
@@ -14,6 +18,8 @@ pub mod planned;
 pub mod planning;
 pub mod record_ref;
 pub mod refusing;
+#[cfg(test)]
+mod searching;
 mod taking;
 pub mod view;
 
