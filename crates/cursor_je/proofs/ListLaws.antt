@@ -1,5 +1,5 @@
 -- The last record of a list.
-use Rattle.std.proofs.Common.{◌≡◌, List, [], ◌∷◌, Bool, true, false, cond, filter, refl, ap, sym, ◌∙◌}
+use Rattle.std.proofs.Common.{◌≡◌, List, [], ◌∷◌, Bool, true, cond, filter, refl, ap, sym, ◌∙◌}
 use Rattle.store_model.specs.declared.kind.Kind.{Kind}
 use Rattle.store_model.specs.Store.{Pair, name_of}
 use Rattle.store_model.specs.Reads.{Range, is_within, last_of, seen}

@@ -1,4 +1,4 @@
-use Rattle.std.proofs.Common.{◌≡◌, ◌∷◌, [], ◌∙◌, ap, sym, List}
+use Rattle.std.proofs.Common.{◌∷◌, [], ◌∙◌, ap, sym}
 use Rattle.store_model.specs.Store.{Pair}
 use Rattle.store_model.specs.Reads.{range}
 use Rattle.cursor_je.specs.Looks.{edge_in, taken_in}

@@ -1,4 +1,4 @@
-use Rattle.std.proofs.Common.{◌≡◌, ◌∙◌, ap}
+use Rattle.std.proofs.Common.{◌∙◌, ap}
 use Rattle.store_model.specs.Reads.{just, seen}
 use Rattle.store_model.specs.Reads.Way.{Lowest}
 use Rattle.cursor_je.specs.Looks.{name_in}
