@@ -6,5 +6,6 @@ pub mod Listing
 pub mod Meaning
 pub mod Reading
 pub mod Recovery
+pub mod Transactions
 pub mod Plain
 pub mod Worked
