@@ -7,8 +7,9 @@ use Rattle.je_model.specs.declared.change.Change.{Change}
 use Rattle.je_model.specs.declared.store.Store.{Store}
 use Rattle.je_model.specs.Store.{all_changed, store_after}
 use Rattle.log_replay.specs.Rows.{Rows, data_at, numbers_of, is_environment, store_of, IsRising}
-use Rattle.log_trees.specs.Placed.{Placed}
+use Rattle.log_trees.specs.Placed.{Placed, AreInOrder}
 use Rattle.log_trees.specs.Changes.{Written, LoggedChange, last_of}
+use Rattle.log_trees.specs.Laws.{AreBehind}
 use Rattle.record_tree.specs.declared.tree_change.TreeChange.{TreeChange}
 use Rattle.record_tree.specs.Logged.{LogsChanges, LogsTransaction, last_change, value_changed}
 use Rattle.log_meaning.specs.Redo.{redo_all}
@@ -19,10 +20,9 @@ use Rattle.log_meaning.specs.Recovery.{AreRootsRead, IsRedoLsn, Recovers}
 
 -- ---- entries that are appended
 
--- the LSNs of entries rise from above this one
-abbrev pub RiseFrom : ℕ → List Placed → Type 0
-RiseFrom next [] = Unit {0}
-RiseFrom next (p ∷ more) = (next < p.0) × RiseFrom p.0 more
+-- entries stand behind an LSN, and their LSNs rise
+abbrev pub RiseBehind : ℕ → List Placed → Type 0
+RiseBehind next more = AreBehind next more × AreInOrder more
 
 -- the last of their LSNs, this one where there are no entries
 abbrev pub last_lsn : ℕ → List Placed → ℕ
@@ -42,17 +42,17 @@ pub record AppendsChanges (next : ℕ) (is_live : ℕ → Bool) (logged : ℕ �
   pub live : is_live t.0 ≡ true
   pub free : AreFreeFor is_live logged t changes
   pub logs : LogsChanges t changes (map (λ p. p.1) more)
-  pub rise : RiseFrom next more
+  pub rise : RiseBehind next more
 
 -- Entries that log the changes of an active transaction and its Commit behind the last entry so far; it has logged nothing before, and no other one has changed its names.
 -- In the databases that stay open the records are then as the changes leave them.
 pub record AppendsTransaction (next : ℕ) (is_open fewer : ℕ → Bool) (rows after : ℕ → Name → Option (List ℕ)) (is_live : ℕ → Bool) (logged : ℕ → List LoggedChange) (t : TxnId)
-  (changes : List TreeChange) (more : List Placed) : Type 0 where
+    (changes : List TreeChange) (more : List Placed) : Type 0 where
   pub live : is_live t.0 ≡ true
   pub begins : logged t.0 ≡ []
   pub free : AreFreeFor is_live logged t changes
   pub logs : LogsTransaction t changes (map (λ p. p.1) more)
-  pub rise : RiseFrom next more
+  pub rise : RiseBehind next more
   pub smaller : (d : ℕ) → fewer d ≡ true → is_open d ≡ true
   pub after_is : (d : ℕ) (x : Name) → fewer d ≡ true → after d x ≡ value_changed (last_change d x changes) (rows d x)
 
@@ -64,7 +64,7 @@ LoneAreFree = (is_live : ℕ → Bool) (logged : ℕ → List LoggedChange) (t :
 
 -- behind each front of a transaction's changes the records are as they were, and the changes so far wait
 pub record ChangesWait (es : List Placed) (base next : ℕ) (is_open : ℕ → Bool) (rows : ℕ → Name → Option (List ℕ)) (is_live : ℕ → Bool) (logged : ℕ → List LoggedChange) (t : TxnId)
-  (changes : List TreeChange) (more : List Placed) : Type 0 where
+    (changes : List TreeChange) (more : List Placed) : Type 0 where
   pub fronts : (front rest : List Placed) → front ++ rest ≡ more → Stands (es ++ front) base (last_lsn next front) is_open rows is_live (waiting front logged)
   pub own : (d : ℕ) (x : Name) (w : Written) → (last_of d x (waiting more logged t.0) w).value ≡ value_changed (last_change d x changes) (last_of d x (logged t.0) w).value
   pub others : (u : ℕ) → u ≢ t.0 → waiting more logged u ≡ logged u
@@ -77,7 +77,7 @@ ChangesStand = (es : List Placed) (base next : ℕ) (is_open : ℕ → Bool) (ro
 -- behind each front of a transaction without its Commit the records are as they were; behind the Commit they are as the changes leave them,
 -- and of the transaction nothing waits
 pub record TransactionStands (es : List Placed) (base next : ℕ) (is_open fewer : ℕ → Bool) (rows after : ℕ → Name → Option (List ℕ)) (is_live : ℕ → Bool) (logged : ℕ → List LoggedChange)
-  (more : List Placed) : Type 0 where
+    (more : List Placed) : Type 0 where
   pub fronts : (front rest : List Placed) (p : Placed) → front ++ p ∷ rest ≡ more → Stands (es ++ front) base (last_lsn next front) is_open rows is_live (waiting front logged)
   pub whole : Stands (es ++ more) base (last_lsn next more) fewer after is_live logged
 
@@ -100,7 +100,7 @@ pub record KeepsCheckpoint (first : ℕ) (es longer : List Placed) : Type 0 wher
   pub redo : IsRedoLsn first (last_end longer)
 
 abbrev pub CheckpointsStay : Type 0
-CheckpointsStay = (first : ℕ) (es more : List Placed) (next : ℕ) → AreRootsRead es → IsRedoLsn first (last_end es) → (last_checkpoint es).at ≤ next → RiseFrom next more
+CheckpointsStay = (first : ℕ) (es more : List Placed) (next : ℕ) → AreRootsRead es → IsRedoLsn first (last_end es) → (last_checkpoint es).at ≤ next → RiseBehind next more
     → AllByRecursion (λ p. checkpoint_in p.0 p.1 ≡ None) more → KeepsCheckpoint first es (es ++ more)
 
 -- lists of records are those of each open database name by name, and are an environment's

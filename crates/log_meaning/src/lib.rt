@@ -8,6 +8,7 @@ ghost use Rattle.log_meaning.specs.Growth.{StandsNeutral, StandsPut, StandsDelet
 ghost use Rattle.log_meaning.specs.Listing.{ListedByName, ListedInOrder};
 ghost use Rattle.log_meaning.specs.Plain.{ReplayedAlike, ReadAlike};
 ghost use Rattle.log_meaning.specs.Worked.{IsWorked};
+ghost use Rattle.log_meaning.specs.Transactions.{LoneAreFree, ChangesStand, TransactionsStand, StandsAlike, CheckpointsStay, ChangesRecover, TransactionsRecover};
 ghost use Rattle.log_meaning.specs.Recovery.{StandsLeaves, RecoversFirst, RecoversPush, ReadFilesLeave, ImagesRecover};
 
 /// An entry more: an image, a change, a commit or a checkpoint's end.
@@ -44,6 +45,22 @@ pub fn logs_recover()
 /// them, at least as many as the entries that a crash keeps have commits of.
 pub fn images_recover()
     ensures { ImagesRecover }
+{}
+
+/// The entries of a transaction that are appended together, each front of them, and its changes alone.
+pub fn transactions_stand()
+    ensures lone { LoneAreFree }
+    ensures changes { ChangesStand }
+    ensures whole { TransactionsStand }
+    ensures alike { StandsAlike }
+{}
+
+/// A log that is longer by a transaction recovers one transaction more, by its changes alone none, and keeps
+/// its last checkpoint.
+pub fn transactions_recover()
+    ensures checkpoint { CheckpointsStay }
+    ensures changes { ChangesRecover }
+    ensures whole { TransactionsRecover }
 {}
 
 /// A log of puts, deletes and commits alone means what a replay of the whole log gives, corruptions

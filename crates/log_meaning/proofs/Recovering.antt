@@ -1,0 +1,159 @@
+-- A log that is longer by the entries of a transaction recovers one transaction more.
+use Rattle.std.proofs.Common.{◌≡◌, ℕ, ◌<◌, ◌≤◌, Bool, true, false, List, [], ◌∷◌, ◌++◌, Option, None, Ok, unwrap_or, Result, refl, sym, ap, subst, ◌∙◌, arith, append_assoc}
+use Rattle.std.proofs.lemmas.List.{append-nil}
+use Rattle.std.specs.List.{AllByRecursion}
+use Rattle.je_order.specs.declared.name.Name.{Name}
+use Rattle.je_order.specs.declared.txn_id.TxnId.{TxnId}
+use Rattle.je_order.proofs.Lists.{all_weaker, all_append}
+use Rattle.je_model.specs.declared.change.Change.{Change}
+use Rattle.je_model.specs.declared.store.Store.{Store}
+use Rattle.je_model.specs.Store.{all_changed, store_after}
+use Rattle.log_entry.specs.declared.entry.Entry.{Entry}
+use Rattle.log_entry.specs.declared.entry.Entry.TheVariants.{Commit}
+use Rattle.log_replay.specs.declared.corruption.Corruption.{Corruption}
+use Rattle.log_replay.specs.Rows.{Rows, store_of}
+use Rattle.log_replay.specs.Wrong.{or_else}
+use Rattle.log_replay.proofs.ListLaws.{all_parts}
+use Rattle.log_trees.specs.Placed.{Placed}
+use Rattle.log_trees.specs.Changes.{LoggedChange}
+use Rattle.log_trees.specs.Trees.{rows_of_roots}
+use Rattle.log_trees.specs.Walk.{Walk, read_roots}
+use Rattle.log_trees.proofs.LongerLogs.{readings_stay}
+use Rattle.log_trees.proofs.Staying.{roots_stay}
+use Rattle.log_meaning.specs.Checkpoint.{Checkpoint, no_checkpoint, checkpoint_in, last_end, last_checkpoint}
+use Rattle.log_meaning.specs.Stands.{Stands}
+use Rattle.log_meaning.specs.Recovery.{is_commit, AreRootsRead, IsRedoLsn, Leaves, Recovers, with_commit}
+use Rattle.log_meaning.specs.Transactions.{RiseBehind, last_lsn, waiting, KeepsCheckpoint, CheckpointsStay, AreListed, ChangesRecover, TransactionsRecover}
+use Rattle.log_meaning.proofs.RedoLaws.{last_end-push}
+use Rattle.log_meaning.proofs.Leaving.{stands_leaves, recovers_push}
+use Rattle.log_meaning.proofs.Appending.{IsOwnEntry, are_own, own_no_commit, own_no_end, stands_front, rise_parts, EndsInCommit, ends_in_commit, transactions_stand}
+
+abbrev Flags : Type 0
+Flags = ℕ → Bool
+
+abbrev Data : Type 0
+Data = ℕ → Name → Option (List ℕ)
+
+abbrev Own : Type 0
+Own = ℕ → List LoggedChange
+
+-- ---- the last checkpoint
+
+last_end-stays : (more es : List Placed) → AllByRecursion (λ p. checkpoint_in p.0 p.1 ≡ None) more → last_end (es ++ more) ≡ last_end es
+last_end-stays [] es all = ap last_end (append-nil es)
+last_end-stays (p ∷ more) es all =
+    ap last_end (sym (append_assoc es (p ∷ []) more))
+    ∙ last_end-stays more (es ++ p ∷ []) all.1
+    ∙ last_end-push es p
+    ∙ ap (λ (o : Option Checkpoint). or_else o (last_end es)) all.0
+
+-- a walk that read these rows
+abbrev read_as : List ℕ → List LoggedChange → Result Walk Corruption
+read_as numbers rows = Ok (record { seen = numbers; rows = rows })
+
+pub checkpoints_stay : CheckpointsStay
+checkpoints_stay first es more next roots redo low up all =
+    let c : Checkpoint = last_checkpoint es in
+    let last : last_end (es ++ more) ≡ last_end es = last_end-stays more es all in
+    let same : last_checkpoint (es ++ more) ≡ c = ap (λ (o : Option Checkpoint). unwrap_or o no_checkpoint) last in
+    let behind : AllByRecursion (λ p. c.at ≤ p.0) more = all_weaker (λ (p : Placed). next < p.0) (λ p. c.at ≤ p.0) (λ p h. omega (arith, h, low)) more up.0 in
+    record {
+      last = last;
+      roots = λ files.
+          let read = roots files in
+          subst (λ (k : Checkpoint). (numbers : List ℕ) × (read_roots files (es ++ more) k.at k.roots ≡ read_as numbers (rows_of_roots (es ++ more) k.at k.roots))) (sym same)
+          (read.0, readings_stay files es more c.at c.roots behind ∙ read.1 ∙ ap (read_as read.0) (sym (roots_stay es more c.at c.roots behind)));
+      redo = subst (IsRedoLsn first) (sym last) redo;
+    }
+
+-- ---- stores
+
+store_after-push : (base : Store) (transactions : List (List Change)) (own : List Change) → store_after base (transactions ++ own ∷ []) ≡ all_changed own (store_after base transactions)
+store_after-push base [] own = refl
+store_after-push base (changes ∷ transactions) own = store_after-push (all_changed changes base) transactions own
+
+-- a log that stands leaves the store of its records
+leaves_of : (first : ℕ) (es : List Placed) (base next : ℕ) (is_open : Flags) (rows : Data) (is_live : Flags) (logged : Own) (kept : Rows) (store : Store) →
+    Stands es base next is_open rows is_live logged → AreRootsRead es → IsRedoLsn first (last_end es) → AreListed is_open rows kept → store_of kept ≡ store → Leaves first es store
+leaves_of first es base next is_open rows is_live logged kept store s roots redo listed is =
+    subst (Leaves first es) is
+    (stands_leaves first es base next is_open rows is_live logged kept s roots redo listed.rising listed.data_is listed.catalog listed.named listed.environment)
+
+-- ---- entries that commit nothing
+
+recovers_on : (first : ℕ) (opening : Store) (found : ℕ) (transactions : List (List Change)) (more es : List Placed) → Recovers first opening found transactions es →
+    AllByRecursion (λ p. is_commit p.1 ≡ false) more → ((front rest : List Placed) → front ++ rest ≡ more → Leaves first (es ++ front) (store_after opening transactions)) →
+    Recovers first opening found transactions (es ++ more)
+recovers_on first opening found transactions [] es is none leaves = subst (Recovers first opening found transactions) (sym (append-nil es)) is
+recovers_on first opening found transactions (p ∷ more) es is none leaves =
+    let made : Leaves first (es ++ p ∷ []) (store_after opening (with_commit (is_commit p.1) [] transactions)) =
+    subst (λ (b : Bool). Leaves first (es ++ p ∷ []) (store_after opening (with_commit b [] transactions))) (sym none.0) (leaves (p ∷ []) more refl) in
+    let step : Recovers first opening found transactions (es ++ p ∷ []) =
+    subst (λ (b : Bool). Recovers first opening found (with_commit b [] transactions) (es ++ p ∷ [])) none.0 (recovers_push first opening found transactions [] es p is made) in
+    subst (Recovers first opening found transactions) (append_assoc es (p ∷ []) more)
+    (recovers_on first opening found transactions more (es ++ p ∷ []) step none.1
+    (λ front rest parts.
+    subst (λ (l : List Placed). Leaves first l (store_after opening transactions)) (sym (append_assoc es (p ∷ []) front)) (leaves (p ∷ front) rest (ap (λ (l : List Placed). p ∷ l) parts))))
+
+-- what holds of all of a transaction's entries before its Commit
+module _ (first : ℕ) (opening : Store) (found : ℕ) (transactions : List (List Change)) (es : List Placed) (base next : ℕ) (is_open : Flags) (rows : Data) (is_live : Flags) (logged : Own) (t : TxnId)
+    (own : List Placed) (kept : Rows) (roots : AreRootsRead es) (redo : IsRedoLsn first (last_end es)) (s : Stands es base next is_open rows is_live logged) (live : is_live t.0 ≡ true)
+    (entries : AllByRecursion (λ p. IsOwnEntry is_live logged t p.1) own) (up : RiseBehind next own) (listed : AreListed is_open rows kept) (store : store_of kept ≡ store_after opening transactions) where
+  front_keeps : (front rest : List Placed) → front ++ rest ≡ own → KeepsCheckpoint first es (es ++ front)
+  front_keeps front rest is =
+      checkpoints_stay first es front next roots redo s.reach.0 (rise_parts next front rest (subst (RiseBehind next) (sym is) up)).0
+      (all_weaker (λ (p : Placed). IsOwnEntry is_live logged t p.1) (λ p. checkpoint_in p.0 p.1 ≡ None) (λ p h. own_no_end is_live logged t p.0 p.1 h) front
+      (all_parts (λ (p : Placed). IsOwnEntry is_live logged t p.1) front rest (subst (AllByRecursion (λ p. IsOwnEntry is_live logged t p.1)) (sym is) entries)).0)
+
+  front_leaves : (front rest : List Placed) → front ++ rest ≡ own → Leaves first (es ++ front) (store_after opening transactions)
+  front_leaves front rest is =
+      let keeps = front_keeps front rest is in
+      leaves_of first (es ++ front) base (last_lsn next front) is_open rows is_live (waiting front logged) kept (store_after opening transactions)
+      (stands_front front rest own es base next is_open rows is_live logged t s live entries up is) keeps.roots keeps.redo listed store
+
+  own_recovers : Recovers first opening found transactions es → Recovers first opening found transactions (es ++ own)
+  own_recovers is =
+      recovers_on first opening found transactions own es is
+      (all_weaker (λ (p : Placed). IsOwnEntry is_live logged t p.1) (λ p. is_commit p.1 ≡ false) (λ p h. own_no_commit is_live logged t p.1 h) own entries) front_leaves
+
+pub changes_recover : ChangesRecover
+changes_recover first opening found transactions es base next is_open rows is_live logged t changes more kept is roots redo s appends listed store =
+    let own : AllByRecursion (λ p. IsOwnEntry is_live logged t p.1) more = are_own is_live logged t changes more appends.free appends.logs in
+    record {
+      recovers = own_recovers first opening found transactions es base next is_open rows is_live logged t more kept roots redo s appends.live own appends.rise listed store is;
+      checkpoint = front_keeps first opening found transactions es base next is_open rows is_live logged t more kept roots redo s appends.live own appends.rise listed store more [] (append-nil more);
+    }
+
+pub transactions_recover : TransactionsRecover
+transactions_recover first opening found transactions own es base next is_open fewer rows after is_live logged t changes more kept kept_after is roots redo s appends listed listed_after store store_after_is =
+    record { recovers = subst (Recovers first opening found (transactions ++ own ∷ [])) same pushed; checkpoint = keeps }
+  where
+    ended : EndsInCommit t changes more
+    ended = ends_in_commit t changes more appends.logs
+
+    entries : AllByRecursion (λ p. IsOwnEntry is_live logged t p.1) ended.own
+    entries = are_own is_live logged t changes ended.own appends.free ended.logs
+
+    up : RiseBehind next ended.own
+    up = (rise_parts next ended.own ((ended.at, Commit t) ∷ []) (subst (RiseBehind next) ended.is appends.rise)).0
+
+    no_end : AllByRecursion (λ p. checkpoint_in p.0 p.1 ≡ None) more
+    no_end = subst (AllByRecursion (λ p. checkpoint_in p.0 p.1 ≡ None)) (sym ended.is)
+        (all_append (λ (p : Placed). checkpoint_in p.0 p.1 ≡ None) ended.own ((ended.at, Commit t) ∷ [])
+        (all_weaker (λ (p : Placed). IsOwnEntry is_live logged t p.1) (λ p. checkpoint_in p.0 p.1 ≡ None) (λ p h. own_no_end is_live logged t p.0 p.1 h) ended.own entries) (refl, tt))
+
+    keeps : KeepsCheckpoint first es (es ++ more)
+    keeps = checkpoints_stay first es more next roots redo s.reach.0 appends.rise no_end
+
+    same : (es ++ ended.own) ++ (ended.at, Commit t) ∷ [] ≡ es ++ more
+    same = append_assoc es ended.own ((ended.at, Commit t) ∷ []) ∙ ap (λ (l : List Placed). es ++ l) (sym ended.is)
+
+    leaves : Leaves first (es ++ more) (store_after opening (transactions ++ own ∷ []))
+    leaves = leaves_of first (es ++ more) base (last_lsn next more) fewer after is_live logged kept_after (store_after opening (transactions ++ own ∷ []))
+        (transactions_stand es base next is_open fewer rows after is_live logged t changes more s appends).whole keeps.roots keeps.redo listed_after
+        (store_after_is ∙ sym (store_after-push opening transactions own))
+
+    pushed : Recovers first opening found (transactions ++ own ∷ []) ((es ++ ended.own) ++ (ended.at, Commit t) ∷ [])
+    pushed = recovers_push first opening found transactions own (es ++ ended.own) (ended.at, Commit t)
+        (own_recovers first opening found transactions es base next is_open rows is_live logged t ended.own kept roots redo s appends.live entries up listed store is)
+        (subst (λ (l : List Placed). Leaves first l (store_after opening (transactions ++ own ∷ []))) (sym same) leaves)
