@@ -91,11 +91,11 @@ none_mapped [] is = refl
 none_mapped (p ∷ more) is = absurd cc
 
 -- a front that leaves something is a front of all but the last
-record IsWithin (front own : List Placed) : Type 0 where
-  more : List Placed
-  is : front ++ more ≡ own
+pub record IsWithin (front own : List Placed) : Type 0 where
+  pub more : List Placed
+  pub is : front ++ more ≡ own
 
-within : (front rest own : List Placed) (p c : Placed) → front ++ p ∷ rest ≡ own ++ c ∷ [] → IsWithin front own
+pub within : (front rest own : List Placed) (p c : Placed) → front ++ p ∷ rest ≡ own ++ c ∷ [] → IsWithin front own
 within [] rest own p c is = record { more = own; is = refl }
 within (q ∷ front) rest [] p c is = absurd (not_empty front p rest (tail_is q c (front ++ p ∷ rest) [] is))
 within (q ∷ front) rest (e ∷ own) p c is =

@@ -23,10 +23,10 @@ use Rattle.log_trees.proofs.Staying.{roots_stay}
 use Rattle.log_meaning.specs.Checkpoint.{Checkpoint, no_checkpoint, checkpoint_in, last_end, last_checkpoint}
 use Rattle.log_meaning.specs.Stands.{Stands}
 use Rattle.log_meaning.specs.Recovery.{is_commit, AreRootsRead, IsRedoLsn, Leaves, Recovers, with_commit}
-use Rattle.log_meaning.specs.Transactions.{RiseBehind, last_lsn, waiting, KeepsCheckpoint, CheckpointsStay, AreListed, ChangesRecover, TransactionsRecover}
+use Rattle.log_meaning.specs.Transactions.{RiseBehind, last_lsn, waiting, KeepsCheckpoint, CheckpointsStay, AreListed, RecoversLonger, ChangesRecover, TransactionsRecover}
 use Rattle.log_meaning.proofs.RedoLaws.{last_end-push}
 use Rattle.log_meaning.proofs.Leaving.{stands_leaves, recovers_push}
-use Rattle.log_meaning.proofs.Appending.{IsOwnEntry, are_own, own_no_commit, own_no_end, stands_front, rise_parts, EndsInCommit, ends_in_commit, transactions_stand}
+use Rattle.log_meaning.proofs.Appending.{IsOwnEntry, are_own, own_no_commit, own_no_end, stands_front, rise_parts, within, EndsInCommit, ends_in_commit, transactions_stand}
 
 abbrev Flags : Type 0
 Flags = ℕ → Bool
@@ -111,22 +111,28 @@ module _ (first : ℕ) (opening : Store) (found : ℕ) (transactions : List (Lis
       leaves_of first (es ++ front) base (last_lsn next front) is_open rows is_live (waiting front logged) kept (store_after opening transactions)
       (stands_front front rest own es base next is_open rows is_live logged t s live entries up is) keeps.roots keeps.redo listed store
 
-  own_recovers : Recovers first opening found transactions es → Recovers first opening found transactions (es ++ own)
-  own_recovers is =
-      recovers_on first opening found transactions own es is
-      (all_weaker (λ (p : Placed). IsOwnEntry is_live logged t p.1) (λ p. is_commit p.1 ≡ false) (λ p h. own_no_commit is_live logged t p.1 h) own entries) front_leaves
+  front_recovers : Recovers first opening found transactions es → (front rest : List Placed) → front ++ rest ≡ own → RecoversLonger first opening found transactions es (es ++ front)
+  front_recovers is front rest parts = record {
+    recovers = recovers_on first opening found transactions front es is
+        (all_weaker (λ (p : Placed). IsOwnEntry is_live logged t p.1) (λ p. is_commit p.1 ≡ false) (λ p h. own_no_commit is_live logged t p.1 h) front
+        (all_parts (λ (p : Placed). IsOwnEntry is_live logged t p.1) front rest (subst (AllByRecursion (λ p. IsOwnEntry is_live logged t p.1)) (sym parts) entries)).0)
+        (λ a b inner. front_leaves a (b ++ rest) (sym (append_assoc a b rest) ∙ ap (λ (l : List Placed). l ++ rest) inner ∙ parts));
+    checkpoint = front_keeps front rest parts;
+  }
 
 pub changes_recover : ChangesRecover
 changes_recover first opening found transactions es base next is_open rows is_live logged t changes more kept is roots redo s appends listed store =
-    let own : AllByRecursion (λ p. IsOwnEntry is_live logged t p.1) more = are_own is_live logged t changes more appends.free appends.logs in
-    record {
-      recovers = own_recovers first opening found transactions es base next is_open rows is_live logged t more kept roots redo s appends.live own appends.rise listed store is;
-      checkpoint = front_keeps first opening found transactions es base next is_open rows is_live logged t more kept roots redo s appends.live own appends.rise listed store more [] (append-nil more);
-    }
+    front_recovers first opening found transactions es base next is_open rows is_live logged t more kept roots redo s appends.live
+    (are_own is_live logged t changes more appends.free appends.logs) appends.rise listed store is
 
 pub transactions_recover : TransactionsRecover
 transactions_recover first opening found transactions own es base next is_open fewer rows after is_live logged t changes more kept kept_after is roots redo s appends listed listed_after store store_after_is =
-    record { recovers = subst (Recovers first opening found (transactions ++ own ∷ [])) same pushed; checkpoint = keeps }
+    record {
+      fronts = λ front rest p parts.
+          let inner = within front rest ended.own p (ended.at, Commit t) (parts ∙ ended.is) in
+          own_fronts front inner.more inner.is;
+      whole = record { recovers = subst (Recovers first opening found (transactions ++ own ∷ [])) same pushed; checkpoint = keeps };
+    }
   where
     ended : EndsInCommit t changes more
     ended = ends_in_commit t changes more appends.logs
@@ -136,6 +142,9 @@ transactions_recover first opening found transactions own es base next is_open f
 
     up : RiseBehind next ended.own
     up = (rise_parts next ended.own ((ended.at, Commit t) ∷ []) (subst (RiseBehind next) ended.is appends.rise)).0
+
+    own_fronts : (front rest : List Placed) → front ++ rest ≡ ended.own → RecoversLonger first opening found transactions es (es ++ front)
+    own_fronts = front_recovers first opening found transactions es base next is_open rows is_live logged t ended.own kept roots redo s appends.live entries up listed store is
 
     no_end : AllByRecursion (λ p. checkpoint_in p.0 p.1 ≡ None) more
     no_end = subst (AllByRecursion (λ p. checkpoint_in p.0 p.1 ≡ None)) (sym ended.is)
@@ -155,5 +164,5 @@ transactions_recover first opening found transactions own es base next is_open f
 
     pushed : Recovers first opening found (transactions ++ own ∷ []) ((es ++ ended.own) ++ (ended.at, Commit t) ∷ [])
     pushed = recovers_push first opening found transactions own (es ++ ended.own) (ended.at, Commit t)
-        (own_recovers first opening found transactions es base next is_open rows is_live logged t ended.own kept roots redo s appends.live entries up listed store is)
+        (own_fronts ended.own [] (append-nil ended.own)).recovers
         (subst (λ (l : List Placed). Leaves first l (store_after opening (transactions ++ own ∷ []))) (sym same) leaves)

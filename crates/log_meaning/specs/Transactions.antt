@@ -116,16 +116,20 @@ pub record RecoversLonger (first : ℕ) (opening : Store) (base : ℕ) (transact
   pub recovers : Recovers first opening base transactions longer
   pub checkpoint : KeepsCheckpoint first es longer
 
--- changes that are not committed leave what is recovered
+-- behind each front of changes that are not committed the same is recovered
 abbrev pub ChangesRecover : Type 0
 ChangesRecover = (first : ℕ) (opening : Store) (found : ℕ) (transactions : List (List Change)) (es : List Placed) (base next : ℕ) (is_open : ℕ → Bool) (rows : ℕ → Name → Option (List ℕ))
     (is_live : ℕ → Bool) (logged : ℕ → List LoggedChange) (t : TxnId) (changes : List TreeChange) (more : List Placed) (kept : Rows)
     → Recovers first opening found transactions es → AreRootsRead es → IsRedoLsn first (last_end es)
     → Stands es base next is_open rows is_live logged → AppendsChanges next is_live logged t changes more
     → AreListed is_open rows kept → store_of kept ≡ store_after opening transactions
-    → RecoversLonger first opening found transactions es (es ++ more)
+    → (front rest : List Placed) → front ++ rest ≡ more → RecoversLonger first opening found transactions es (es ++ front)
 
--- a transaction more is recovered
+-- behind each front of a transaction without its Commit the same is recovered; behind the Commit the transaction is
+pub record TransactionRecovers (first : ℕ) (opening : Store) (found : ℕ) (transactions : List (List Change)) (own : List Change) (es more : List Placed) : Type 0 where
+  pub fronts : (front rest : List Placed) (p : Placed) → front ++ p ∷ rest ≡ more → RecoversLonger first opening found transactions es (es ++ front)
+  pub whole : RecoversLonger first opening found (transactions ++ own ∷ []) es (es ++ more)
+
 abbrev pub TransactionsRecover : Type 0
 TransactionsRecover = (first : ℕ) (opening : Store) (found : ℕ) (transactions : List (List Change)) (own : List Change) (es : List Placed) (base next : ℕ) (is_open fewer : ℕ → Bool)
     (rows after : ℕ → Name → Option (List ℕ)) (is_live : ℕ → Bool) (logged : ℕ → List LoggedChange) (t : TxnId) (changes : List TreeChange) (more : List Placed) (kept kept_after : Rows)
@@ -133,4 +137,4 @@ TransactionsRecover = (first : ℕ) (opening : Store) (found : ℕ) (transaction
     → Stands es base next is_open rows is_live logged → AppendsTransaction next is_open fewer rows after is_live logged t changes more
     → AreListed is_open rows kept → AreListed fewer after kept_after
     → store_of kept ≡ store_after opening transactions → store_of kept_after ≡ all_changed own (store_after opening transactions)
-    → RecoversLonger first opening found (transactions ++ own ∷ []) es (es ++ more)
+    → TransactionRecovers first opening found transactions own es more
