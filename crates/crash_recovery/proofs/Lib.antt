@@ -1,0 +1,10 @@
+-- What opening reads in what a crash left of a log.
+pub mod ImageReading
+-- Which stores the images of a disk mean.
+pub mod ImageStores
+-- A log to which entries are appended: its LSNs.
+pub mod RisingLsns
+-- It stays without a gap, and recovers what its entries recover.
+pub mod LongerLogs
+-- The disk of a log buffer while its log grows.
+pub mod Moments

@@ -1,0 +1,5 @@
+pub mod Reading
+pub mod Recovery
+pub mod Laws
+pub mod Appending
+pub mod Growth
