@@ -22,5 +22,9 @@ pub mod Alike
 pub mod Drawn
 -- Files that are read with no corruption.
 pub mod Opened
+-- Which files of a log are needed.
+pub mod NeededFiles
+-- A log that was found, and what an environment begins with.
+pub mod Found
 -- The log worked by hand.
 pub mod Worked

@@ -7,5 +7,6 @@ pub mod Meaning
 pub mod Reading
 pub mod Recovery
 pub mod Transactions
+pub mod Found
 pub mod Plain
 pub mod Worked

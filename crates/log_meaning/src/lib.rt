@@ -8,6 +8,7 @@ ghost use Rattle.log_meaning.specs.Growth.{StandsNeutral, StandsPut, StandsDelet
 ghost use Rattle.log_meaning.specs.Listing.{ListedByName, ListedInOrder};
 ghost use Rattle.log_meaning.specs.Plain.{ReplayedAlike, ReadAlike};
 ghost use Rattle.log_meaning.specs.Worked.{IsWorked};
+ghost use Rattle.log_meaning.specs.Found.{ReadFilesAreFound, NoGapHasFiles, NextFileStays, OpenedIsBegun, NeededFilesRecover};
 ghost use Rattle.log_meaning.specs.Transactions.{LoneAreFree, ChangesStand, TransactionsStand, StandsAlike, CheckpointsStay, ChangesRecover, TransactionsRecover};
 ghost use Rattle.log_meaning.specs.Recovery.{StandsLeaves, RecoversFirst, RecoversPush, ReadFilesLeave, ImagesRecover};
 
@@ -61,6 +62,21 @@ pub fn transactions_recover()
     ensures checkpoint { CheckpointsStay }
     ensures changes { ChangesRecover }
     ensures whole { TransactionsRecover }
+{}
+
+/// Files that are read with no corruption miss none that is needed, as a log without a gap and a log with a
+/// next file more. What a crash leaves of such a log means the opening store changed by the first of its
+/// transactions.
+pub fn files_are_needed()
+    ensures found { ReadFilesAreFound }
+    ensures whole { NoGapHasFiles }
+    ensures next { NextFileStays }
+    ensures recover { NeededFilesRecover }
+{}
+
+/// A log that was found stands as its environment begins.
+pub fn logs_begin()
+    ensures { OpenedIsBegun }
 {}
 
 /// A log of puts, deletes and commits alone means what a replay of the whole log gives, corruptions
