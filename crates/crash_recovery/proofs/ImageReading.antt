@@ -25,7 +25,7 @@ use Rattle.log_replay.proofs.ListLaws.{all_parts, all_of_map, all_to_map}
 use Rattle.log_file.proofs.PlacedLaws.{placed_are_entries}
 use Rattle.log_trees.specs.Placed.{Placed, placed}
 use Rattle.log_meaning.specs.Recovery.{HoldsFirst}
-use Rattle.crash_recovery.specs.Reading.{HasNoGap}
+use Rattle.crash_recovery.specs.Reading.{IsNamedLog}
 use Rattle.crash_recovery.specs.Laws.{ImagesHoldFirst}
 
 -- ---- the files of an image
@@ -145,7 +145,7 @@ found_none (file ∷ next ∷ files) whole small =
 
 -- ---- the log's first entries
 
-holds_first : (log : Log) (least : ℕ) (held : List (ℕ × List ℕ)) → HasNoGap log → AreFirst log least held → AreWholeButLast held → HoldsFirst log least held
+holds_first : (log : Log) (least : ℕ) (held : List (ℕ × List ℕ)) → IsNamedLog log → AreFirst log least held → AreWholeButLast held → HoldsFirst log least held
 holds_first log least held ok first whole =
     let numbers = first.numbers in
     let places = first.places.are in

@@ -12,23 +12,23 @@ use Rattle.log_buffer.proofs.CrashImages.{kept_is_left}
 use Rattle.log_buffer.proofs.ChanceMatches.{reads_have_no_chance}
 use Rattle.log_trees.specs.Placed.{placed}
 use Rattle.log_meaning.specs.Recovery.{IsRecovered, commits_in}
-use Rattle.log_meaning.proofs.Images.{images_recover as files_recover}
+use Rattle.log_meaning.proofs.NeededFiles.{needed_files_recover}
 use Rattle.crash_recovery.specs.Recovery.{IsImageRecovered, IsStateRecovered}
 use Rattle.crash_recovery.specs.Laws.{ImagesRecover, KeptImagesRecover, StatesRecover, ThroughRecovers, WiderIsRecovered}
 use Rattle.crash_recovery.proofs.ImageReading.{images_hold_first}
 
 pub images_recover : ImagesRecover
 images_recover first opening base least transactions log image is from left =
-    let holds = images_hold_first log least image is.gap left in
+    let holds = images_hold_first log least image is.named left in
     record {
       held = holds.held;
       are = holds.are;
-      recovered = files_recover first opening base least transactions log holds.held is.gap.whole is.first_file is.recovers from holds.first;
+      recovered = needed_files_recover first opening base least transactions log holds.held is.files is.recovers from holds.first;
     }
 
 pub kept_images_recover : KeptImagesRecover
 kept_images_recover first opening base least transactions log state is from keeps prefixes image files chance =
-    images_recover first opening base least transactions log image is from (kept_is_left log [] least state image is.gap.is_log keeps prefixes files chance)
+    images_recover first opening base least transactions log image is from (kept_is_left log [] least state image is.named.is_log keeps prefixes files chance)
 
 pub states_recover : StatesRecover
 states_recover first opening base least transactions log state is from kept =

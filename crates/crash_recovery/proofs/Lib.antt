@@ -4,7 +4,9 @@ pub mod ImageReading
 pub mod ImageStores
 -- A log to which entries are appended: its LSNs.
 pub mod RisingLsns
--- It stays without a gap, and recovers what its entries recover.
+-- It misses no file, and recovers what its entries recover.
 pub mod LongerLogs
+-- A log that was found.
+pub mod FoundLogs
 -- The disk of a log buffer while its log grows.
 pub mod Moments

@@ -17,7 +17,7 @@ use Rattle.log_buffer.specs.Laws.{placed_by}
 use Rattle.log_trees.specs.Placed.{placed}
 use Rattle.log_meaning.specs.Recovery.{Recovers}
 use Rattle.log_meaning.specs.Transactions.{RiseBehind, last_lsn}
-use Rattle.crash_recovery.specs.Reading.{HasNoGap}
+use Rattle.crash_recovery.specs.Reading.{IsNamedLog}
 use Rattle.crash_recovery.specs.Recovery.{RecoversLog}
 
 -- the LSNs of a log's entries are below one that is below its end
@@ -44,17 +44,17 @@ pub record HaveRoom (file_max : ℕ) (end : LogPos) (entries : List Entry) : Typ
   pub entries_are : AllByRecursion (λ e. IsEntry e × (may_follow e ≡ true)) entries
   pub room : (end_after_all file_max end (map size_of entries)).file ≤ last_file
 
--- a log stays without a gap where they are appended
+-- where they are appended each number names a file still, and the log ends where they end
 pub record IsLongerLog (file_max : ℕ) (end : LogPos) (entries : List Entry) (log : Log) : Type 0 where
-  pub gap : HasNoGap (log_with_all file_max end entries log)
+  pub named : IsNamedLog (log_with_all file_max end entries log)
   pub last : ℕ
   pub ends : EndsAt (log_with_all file_max end entries log) (end_after_all file_max end (map size_of entries)).file (end_after_all file_max end (map size_of entries)).offset last
 
-abbrev pub LongerHasNoGap : Type 0
-LongerHasNoGap = (log : Log) (end : LogPos) (last file_max : ℕ) (entries : List Entry) → HasNoGap log → EndsAt log end.file end.offset last → HaveRoom file_max end entries
+abbrev pub LongerIsNamed : Type 0
+LongerIsNamed = (log : Log) (end : LogPos) (last file_max : ℕ) (entries : List Entry) → IsNamedLog log → EndsAt log end.file end.offset last → HaveRoom file_max end entries
     → IsLongerLog file_max end entries log
 
--- and recovers what its entries recover
+-- and the log recovers what its entries recover
 abbrev pub LongerRecovers : Type 0
 LongerRecovers = (first : ℕ) (opening : Store) (base : ℕ) (transactions longer : List (List Change)) (log : Log) (end : LogPos) (last file_max : ℕ) (entries : List Entry)
     → RecoversLog first opening base transactions log → EndsAt log end.file end.offset last → HaveRoom file_max end entries

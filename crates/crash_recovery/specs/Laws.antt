@@ -9,12 +9,12 @@ use Rattle.log_buffer.specs.Chance.{LeavesLog}
 use Rattle.log_buffer.specs.Crash.{KeepsLog, KeepsRead, KeptThrough, HoldPrefixes}
 use Rattle.log_trees.specs.Placed.{placed}
 use Rattle.log_meaning.specs.Recovery.{commits_in}
-use Rattle.crash_recovery.specs.Reading.{HasNoGap, ImageHoldsFirst}
+use Rattle.crash_recovery.specs.Reading.{IsNamedLog, ImageHoldsFirst}
 use Rattle.crash_recovery.specs.Recovery.{RecoversLog, IsImageRecovered, AreImagesRecovered, IsStateRecovered}
 
 -- what a crash leaves of a log from which no file was removed holds its first entries
 abbrev pub ImagesHoldFirst : Type 0
-ImagesHoldFirst = (log : Log) (least : ℕ) (image : Files) → HasNoGap log → LeavesLog log [] least image → ImageHoldsFirst log least image
+ImagesHoldFirst = (log : Log) (least : ℕ) (image : Files) → IsNamedLog log → LeavesLog log [] least image → ImageHoldsFirst log least image
 
 -- it means the opening store changed by the first transactions, at least those that the kept entries commit
 abbrev pub ImagesRecover : Type 0

@@ -3,3 +3,4 @@ pub mod Recovery
 pub mod Laws
 pub mod Appending
 pub mod Growth
+pub mod Opening

@@ -1,5 +1,5 @@
 -- Which stores the images of a disk mean.
-use Rattle.std.specs.Prelude.{ℕ, List, map}
+use Rattle.std.specs.Prelude.{ℕ, List, map, take}
 use Rattle.je_disk.specs.States.{Files, State}
 use Rattle.je_disk.specs.Images.{AreFileImages}
 use Rattle.je_model.specs.declared.change.Change.{Change}
@@ -7,13 +7,15 @@ use Rattle.je_model.specs.declared.store.Store.{Store}
 use Rattle.log_file.specs.Log.{Log, AreFiles}
 use Rattle.log_buffer.specs.Chance.{NoChanceMatch}
 use Rattle.log_trees.specs.Placed.{placed}
-use Rattle.log_meaning.specs.Recovery.{Recovers, IsRecovered, IsFirstFile}
-use Rattle.crash_recovery.specs.Reading.{HasNoGap}
+use Rattle.log_meaning.specs.Checkpoint.{last_end}
+use Rattle.log_meaning.specs.Recovery.{Recovers, IsRecovered}
+use Rattle.log_meaning.specs.Found.{HasFilesFrom}
+use Rattle.crash_recovery.specs.Reading.{IsNamedLog}
 
--- a log without a gap, whose first file has this number, recovers transactions
+-- a log that misses no file that is needed recovers transactions behind its first `base` entries
 pub record RecoversLog (first : ℕ) (opening : Store) (base : ℕ) (transactions : List (List Change)) (log : Log) : Type 0 where
-  pub gap : HasNoGap log
-  pub first_file : IsFirstFile first (map (λ file. file.0) log)
+  pub named : IsNamedLog log
+  pub files : HasFilesFrom first (last_end (take base (placed log))) (map (λ file. file.0) log)
   pub recovers : Recovers first opening base transactions (placed log)
 
 -- the files of an image, as a list, mean the opening store changed by the first of the transactions, at least so many

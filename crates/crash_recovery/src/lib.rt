@@ -6,8 +6,9 @@
 //! contracts are the laws.
 #![tactic(auto)]
 
-ghost use Rattle.crash_recovery.specs.Appending.{LogsLieBelow, AppendedRise, LongerHasNoGap, LongerRecovers};
+ghost use Rattle.crash_recovery.specs.Appending.{LogsLieBelow, AppendedRise, LongerIsNamed, LongerRecovers};
 ghost use Rattle.crash_recovery.specs.Growth.{StandingRecovers, GrowthRecovers, TriedRecovers};
+ghost use Rattle.crash_recovery.specs.Opening.{FoundLogsRecover};
 ghost use Rattle.crash_recovery.specs.Laws.{ImagesHoldFirst, ImagesRecover, KeptImagesRecover, StatesRecover, ThroughRecovers, WiderIsRecovered};
 
 use je_disk::Disk;
@@ -29,13 +30,19 @@ pub fn images_recover()
     ensures wider { WiderIsRecovered }
 {}
 
-/// The LSNs of entries that are appended rise behind those of the log, which stays without a gap, and
+/// The LSNs of entries that are appended rise behind those of the log, which misses no file still, and
 /// recovers what its entries recover.
 pub fn longer_logs()
     ensures below { LogsLieBelow }
     ensures rise { AppendedRise }
-    ensures gap { LongerHasNoGap }
+    ensures named { LongerIsNamed }
     ensures recovers { LongerRecovers }
+{}
+
+/// A log that was found, or that is begun, recovers the store that its files mean, and stands as its
+/// environment begins.
+pub fn found_logs_recover()
+    ensures { FoundLogsRecover }
 {}
 
 /// The disk of a log buffer, before a call, at each moment of a call that appends entries, and of one
