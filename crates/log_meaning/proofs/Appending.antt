@@ -24,7 +24,7 @@ use Rattle.log_meaning.specs.Checkpoint.{checkpoint_in}
 use Rattle.log_meaning.specs.Stands.{Rises, has, Stands}
 use Rattle.log_meaning.specs.Growth.{is_neutral, IsFreeFor}
 use Rattle.log_meaning.specs.Recovery.{is_commit}
-use Rattle.log_meaning.specs.Transactions.{RiseBehind, last_lsn, waiting, AreFreeFor, AppendsTransaction, LoneAreFree, ChangesStand, TransactionsStand, StandsAlike}
+use Rattle.log_meaning.specs.Transactions.{RiseBehind, last_lsn, waiting, AreFreeFor, AppendsTransaction, LoneAreFree, ChangesStand, TransactionsStand, NeutralsStand, StandsAlike}
 use Rattle.log_meaning.proofs.RedoLaws.{redo_all-append}
 use Rattle.log_meaning.proofs.Standing.{stands_neutral, stands_put, stands_delete, stands_commit}
 
@@ -302,6 +302,21 @@ changes_stand es base next is_open rows is_live logged t changes more s appends 
       others = λ u other. others_wait is_live logged t more logged u own other;
     }
 
+-- entries that change nothing
+pub neutrals_stand : NeutralsStand
+neutrals_stand es base next is_open rows is_live logged [] s up all = subst (λ (l : List Placed). Stands l base next is_open rows is_live logged) (sym (append-nil es)) s
+neutrals_stand es base next is_open rows is_live logged (p ∷ more) s up all =
+    subst (λ (l : List Placed). Stands l base (last_lsn p.0 more) is_open rows is_live logged) (append_assoc es (p ∷ []) more)
+    (neutrals_stand (es ++ p ∷ []) base p.0 is_open rows is_live logged more (stands_neutral es base next p.0 is_open rows is_live logged p.1 s up.0.0 all.0) up.1 all.1)
+
+pub neutral_no_commit : (entry : Entry) → is_neutral entry ≡ true → is_commit entry ≡ false
+neutral_no_commit (Commit u) neutral = absurd (true≢false (sym neutral))
+neutral_no_commit entry neutral = refl
+
+pub neutral_no_end : (at : ℕ) (entry : Entry) → is_neutral entry ≡ true → checkpoint_in at entry ≡ None
+neutral_no_end at (CkptEnd number start redo last_txn last_node last_db summary roots) neutral = absurd (true≢false (sym neutral))
+neutral_no_end at entry neutral = refl
+
 -- ---- what waits of transactions that are not active
 
 pub stands_alike : StandsAlike
@@ -341,6 +356,16 @@ ends_in_commit t changes more logs =
       logs = subst (LogsChanges t changes) (sym parts.first) logs.1;
     }
 
+-- the records that the changes leave are those that the changes that wait leave
+pub after_waits : (fewer : Flags) (rows after : Data) (logged : Own) (t : TxnId) (changes : List TreeChange) (own : List Placed) → logged t.0 ≡ [] → LogsChanges t changes (map (λ p. p.1) own) →
+    ((d : ℕ) (x : Name) → fewer d ≡ true → after d x ≡ value_changed (last_change d x changes) (rows d x)) →
+    (d : ℕ) (x : Name) → fewer d ≡ true → after d x ≡ (last_of d x (waiting own logged t.0) (record { at = 0; value = rows d x })).value
+after_waits fewer rows after logged t changes own begins logs after_is d x open_ =
+    let stood : Written = record { at = 0; value = rows d x } in
+    after_is d x open_
+    ∙ ap (λ (l : List LoggedChange). value_changed (last_change d x changes) (last_of d x l stood).value) (sym begins)
+    ∙ sym (own_waits t changes own logged d x stood logs)
+
 pub transactions_stand : TransactionsStand
 transactions_stand es base next is_open fewer rows after is_live logged t changes more s appends = record {
   fronts = λ front rest p is.
@@ -361,14 +386,8 @@ transactions_stand es base next is_open fewer rows after is_live logged t change
     before : Stands (es ++ ended.own) base (last_lsn next ended.own) is_open rows is_live (waiting ended.own logged)
     before = stands_on ended.own es base next is_open rows is_live logged logged t s appends.live (λ u other. refl) own up.0
 
-    stood : Option (List ℕ) → Written
-    stood v = record { at = 0; value = v }
-
-    after_is : (d : ℕ) (x : Name) → fewer d ≡ true → after d x ≡ (last_of d x (waiting ended.own logged t.0) (stood (rows d x))).value
-    after_is d x open_ =
-        appends.after_is d x open_
-        ∙ ap (λ (l : List LoggedChange). value_changed (last_change d x changes) (last_of d x l (stood (rows d x))).value) (sym appends.begins)
-        ∙ sym (own_waits t changes ended.own logged d x (stood (rows d x)) ended.logs)
+    after_is : (d : ℕ) (x : Name) → fewer d ≡ true → after d x ≡ (last_of d x (waiting ended.own logged t.0) (record { at = 0; value = rows d x })).value
+    after_is = after_waits fewer rows after logged t changes ended.own appends.begins ended.logs appends.after_is
 
     none_left : (u : ℕ) → emptied t.0 (waiting ended.own logged) u ≡ logged u
     none_left u = by_test (t.0 == u) refl

@@ -6,6 +6,7 @@ use Rattle.je_order.specs.declared.txn_id.TxnId.{TxnId}
 use Rattle.je_model.specs.declared.change.Change.{Change}
 use Rattle.je_model.specs.declared.store.Store.{Store}
 use Rattle.je_model.specs.Store.{all_changed, store_after}
+use Rattle.log_entry.specs.declared.entry.Entry.TheVariants.{Commit}
 use Rattle.log_replay.specs.Rows.{Rows, data_at, numbers_of, is_environment, store_of, IsRising}
 use Rattle.log_trees.specs.Placed.{Placed, AreInOrder}
 use Rattle.log_trees.specs.Changes.{Written, LoggedChange, last_of}
@@ -15,7 +16,7 @@ use Rattle.record_tree.specs.Logged.{LogsChanges, LogsTransaction, last_change, 
 use Rattle.log_meaning.specs.Redo.{redo_all}
 use Rattle.log_meaning.specs.Checkpoint.{checkpoint_in, last_end, last_checkpoint}
 use Rattle.log_meaning.specs.Stands.{Stands}
-use Rattle.log_meaning.specs.Growth.{IsFreeFor}
+use Rattle.log_meaning.specs.Growth.{is_neutral, IsFreeFor}
 use Rattle.log_meaning.specs.Recovery.{AreRootsRead, IsRedoLsn, Recovers}
 
 -- ---- entries that are appended
@@ -86,6 +87,11 @@ TransactionsStand = (es : List Placed) (base next : ℕ) (is_open fewer : ℕ �
     (changes : List TreeChange) (more : List Placed) → Stands es base next is_open rows is_live logged → AppendsTransaction next is_open fewer rows after is_live logged t changes more
     → TransactionStands es base next is_open fewer rows after is_live logged more
 
+-- images, a checkpoint's beginning and summaries of files change nothing
+abbrev pub NeutralsStand : Type 0
+NeutralsStand = (es : List Placed) (base next : ℕ) (is_open : ℕ → Bool) (rows : ℕ → Name → Option (List ℕ)) (is_live : ℕ → Bool) (logged : ℕ → List LoggedChange) (more : List Placed)
+    → Stands es base next is_open rows is_live logged → RiseBehind next more → AllByRecursion (λ p. is_neutral p.1 ≡ true) more → Stands (es ++ more) base (last_lsn next more) is_open rows is_live logged
+
 -- what waits of transactions that are not active does not matter
 abbrev pub StandsAlike : Type 0
 StandsAlike = (es : List Placed) (base next : ℕ) (is_open : ℕ → Bool) (rows : ℕ → Name → Option (List ℕ)) (is_live : ℕ → Bool) (logged alike : ℕ → List LoggedChange)
@@ -124,6 +130,26 @@ ChangesRecover = (first : ℕ) (opening : Store) (found : ℕ) (transactions : L
     → Stands es base next is_open rows is_live logged → AppendsChanges next is_live logged t changes more
     → AreListed is_open rows kept → store_of kept ≡ store_after opening transactions
     → (front rest : List Placed) → front ++ rest ≡ more → RecoversLonger first opening found transactions es (es ++ front)
+
+-- and so is behind images, a checkpoint's beginning and summaries of files
+abbrev pub NeutralsRecover : Type 0
+NeutralsRecover = (first : ℕ) (opening : Store) (found : ℕ) (transactions : List (List Change)) (es : List Placed) (base next : ℕ) (is_open : ℕ → Bool) (rows : ℕ → Name → Option (List ℕ))
+    (is_live : ℕ → Bool) (logged : ℕ → List LoggedChange) (more : List Placed) (kept : Rows)
+    → Recovers first opening found transactions es → AreRootsRead es → IsRedoLsn first (last_end es)
+    → Stands es base next is_open rows is_live logged → RiseBehind next more → AllByRecursion (λ p. is_neutral p.1 ≡ true) more
+    → AreListed is_open rows kept → store_of kept ≡ store_after opening transactions
+    → (front rest : List Placed) → front ++ rest ≡ more → RecoversLonger first opening found transactions es (es ++ front)
+
+-- a Commit of changes that wait: the transaction is recovered
+abbrev pub CommitsRecover : Type 0
+CommitsRecover = (first : ℕ) (opening : Store) (found : ℕ) (transactions : List (List Change)) (own : List Change) (es : List Placed) (base next at : ℕ) (is_open fewer : ℕ → Bool)
+    (rows after : ℕ → Name → Option (List ℕ)) (is_live : ℕ → Bool) (logged : ℕ → List LoggedChange) (t : TxnId) (kept_after : Rows)
+    → Recovers first opening found transactions es → AreRootsRead es → IsRedoLsn first (last_end es)
+    → Stands es base next is_open rows is_live logged → next < at → is_live t.0 ≡ true
+    → ((d : ℕ) → fewer d ≡ true → is_open d ≡ true)
+    → ((d : ℕ) (x : Name) → fewer d ≡ true → after d x ≡ (last_of d x (logged t.0) (record { at = 0; value = rows d x })).value)
+    → AreListed fewer after kept_after → store_of kept_after ≡ all_changed own (store_after opening transactions)
+    → RecoversLonger first opening found (transactions ++ own ∷ []) es (es ++ (at, Commit t) ∷ [])
 
 -- behind each front of a transaction without its Commit the same is recovered; behind the Commit the transaction is
 pub record TransactionRecovers (first : ℕ) (opening : Store) (found : ℕ) (transactions : List (List Change)) (own : List Change) (es more : List Placed) : Type 0 where

@@ -9,7 +9,7 @@ ghost use Rattle.log_meaning.specs.Listing.{ListedByName, ListedInOrder};
 ghost use Rattle.log_meaning.specs.Plain.{ReplayedAlike, ReadAlike};
 ghost use Rattle.log_meaning.specs.Worked.{IsWorked};
 ghost use Rattle.log_meaning.specs.Found.{ReadFilesAreFound, NoGapHasFiles, NextFileStays, OpenedIsBegun, NeededFilesRecover};
-ghost use Rattle.log_meaning.specs.Transactions.{LoneAreFree, ChangesStand, TransactionsStand, StandsAlike, CheckpointsStay, ChangesRecover, TransactionsRecover};
+ghost use Rattle.log_meaning.specs.Transactions.{LoneAreFree, ChangesStand, TransactionsStand, NeutralsStand, StandsAlike, CheckpointsStay, ChangesRecover, TransactionsRecover, NeutralsRecover, CommitsRecover};
 ghost use Rattle.log_meaning.specs.Recovery.{StandsLeaves, RecoversFirst, RecoversPush, ReadFilesLeave, ImagesRecover};
 
 /// An entry more: an image, a change, a commit or a checkpoint's end.
@@ -48,20 +48,24 @@ pub fn images_recover()
     ensures { ImagesRecover }
 {}
 
-/// The entries of a transaction that are appended together, each front of them, and its changes alone.
+/// The entries of a transaction that are appended together, each front of them, and its changes alone; and
+/// entries that change nothing.
 pub fn transactions_stand()
     ensures lone { LoneAreFree }
     ensures changes { ChangesStand }
     ensures whole { TransactionsStand }
+    ensures neutrals { NeutralsStand }
     ensures alike { StandsAlike }
 {}
 
-/// A log that is longer by a transaction recovers one transaction more, by its changes alone none, and keeps
-/// its last checkpoint.
+/// A log that is longer by a transaction, or by the Commit of one, recovers one transaction more; by changes
+/// alone, or by entries that change nothing, it recovers the same ones. It keeps its last checkpoint.
 pub fn transactions_recover()
     ensures checkpoint { CheckpointsStay }
     ensures changes { ChangesRecover }
     ensures whole { TransactionsRecover }
+    ensures neutrals { NeutralsRecover }
+    ensures commits { CommitsRecover }
 {}
 
 /// Files that are read with no corruption miss none that is needed, as a log without a gap and a log with a
