@@ -2,6 +2,8 @@
 pub mod ImageReading
 -- Which stores the images of a disk mean.
 pub mod ImageStores
+-- How many transactions the first entries of a log commit.
+pub mod Commits
 -- A log to which entries are appended: its LSNs.
 pub mod RisingLsns
 -- It misses no file, and recovers what its entries recover.

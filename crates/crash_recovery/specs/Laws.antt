@@ -1,10 +1,14 @@
 -- What holds of the images of all logs.
-use Rattle.std.specs.Prelude.{ℕ, ◌≤◌, List, [], ◌++◌}
-use Rattle.je_disk.specs.States.{Files, State}
+use Rattle.std.specs.Prelude.{◌≡◌, ℕ, ◌≤◌, List, [], ◌++◌, length}
+use Rattle.je_disk.specs.States.{Files, CrashState, State}
 use Rattle.je_disk.specs.Moments.{History, Passes}
 use Rattle.je_model.specs.declared.change.Change.{Change}
 use Rattle.je_model.specs.declared.store.Store.{Store}
-use Rattle.log_file.specs.Log.{Log}
+use Rattle.log_entry.specs.declared.entry.Entry.{Entry}
+use Rattle.log_file.specs.Log.{Log, IsLog, entries_of}
+use Rattle.log_buffer.specs.declared.log_pos.LogPos.{LogPos}
+use Rattle.log_buffer.specs.Growth.{log_with_all}
+use Rattle.log_buffer.specs.Log.{EndsAt}
 use Rattle.log_buffer.specs.Chance.{LeavesLog}
 use Rattle.log_buffer.specs.Crash.{KeepsLog, KeepsRead, KeptThrough, HoldPrefixes}
 use Rattle.log_trees.specs.Placed.{placed}
@@ -44,3 +48,19 @@ ThroughRecovers = (first : ℕ) (opening : Store) (base least : ℕ) (transactio
 abbrev pub WiderIsRecovered : Type 0
 WiderIsRecovered = (opening : Store) (least fewer : ℕ) (transactions more : List (List Change)) (state : State) → IsStateRecovered opening least transactions state → fewer ≤ least
     → IsStateRecovered opening fewer (transactions ++ more) state
+
+-- ---- how many transactions are sure
+
+-- a crash keeps no more entries than a log has
+abbrev pub KeptAreWithin : Type 0
+KeptAreWithin = (log removed : Log) (least : ℕ) (crash_states : ℕ → CrashState) → KeepsLog log removed least crash_states → least ≤ length (entries_of log)
+
+-- those that the first entries commit stay where entries are appended
+abbrev pub CommitsStay : Type 0
+CommitsStay = (log : Log) (end : LogPos) (last file_max : ℕ) (entries : List Entry) (base least : ℕ) → IsLog log → EndsAt log end.file end.offset last → least ≤ length (entries_of log)
+    → commits_in base least (placed (log_with_all file_max end entries log)) ≡ commits_in base least (placed log)
+
+-- all of a log's entries commit all of its transactions
+abbrev pub AllAreCommitted : Type 0
+AllAreCommitted = (first : ℕ) (opening : Store) (base : ℕ) (transactions : List (List Change)) (log : Log) → RecoversLog first opening base transactions log
+    → (base ≤ length (entries_of log)) × (commits_in base (length (entries_of log)) (placed log) ≡ length transactions)

@@ -9,7 +9,7 @@
 ghost use Rattle.crash_recovery.specs.Appending.{LogsLieBelow, AppendedRise, LongerIsNamed, LongerRecovers};
 ghost use Rattle.crash_recovery.specs.Growth.{StandingRecovers, GrowthRecovers, TriedRecovers};
 ghost use Rattle.crash_recovery.specs.Opening.{FoundLogsRecover};
-ghost use Rattle.crash_recovery.specs.Laws.{ImagesHoldFirst, ImagesRecover, KeptImagesRecover, StatesRecover, ThroughRecovers, WiderIsRecovered};
+ghost use Rattle.crash_recovery.specs.Laws.{ImagesHoldFirst, ImagesRecover, KeptImagesRecover, StatesRecover, ThroughRecovers, WiderIsRecovered, KeptAreWithin, CommitsStay, AllAreCommitted};
 
 use je_disk::Disk;
 
@@ -28,6 +28,14 @@ pub fn images_recover()
     ensures states { StatesRecover }
     ensures through { ThroughRecovers }
     ensures wider { WiderIsRecovered }
+{}
+
+/// How many transactions the first entries of a log commit: as many of a longer one, and all of them commit
+/// all.
+pub fn commits_are_counted()
+    ensures within { KeptAreWithin }
+    ensures stay { CommitsStay }
+    ensures all { AllAreCommitted }
 {}
 
 /// The LSNs of entries that are appended rise behind those of the log, which misses no file still, and
