@@ -1,5 +1,5 @@
 -- How many transactions the first entries of a log commit.
-use Rattle.std.proofs.Common.{◌≡◌, ℕ, ◌+◌, ◌≤◌, List, [], ◌++◌, drop, length, sym, ap, subst, ◌∙◌, arith}
+use Rattle.std.proofs.Common.{◌≡◌, ℕ, ◌+◌, ◌≤◌, List, drop, length, sym, ap, subst, ◌∙◌, arith}
 use Rattle.std.proofs.lemmas.List.{take-append-le, length-map}
 use Rattle.std.specs.List.{count_by}
 use Rattle.log_file.specs.Log.{Log, entries_of}

@@ -1,9 +1,8 @@
 -- A log that was found.
-use Rattle.std.proofs.Common.{◌≡◌, ℕ, ◌-◌, ◌<◌, ◌≤◌, ◌^◌, List, [], ◌∷◌, ◌++◌, Ok, Option, None, map, take, length, refl, sym, ap, subst, ◌∙◌, arith}
+use Rattle.std.proofs.Common.{◌≡◌, ℕ, ◌-◌, ◌<◌, ◌^◌, List, [], ◌∷◌, Ok, map, length, refl, sym, ap, subst, arith}
 use Rattle.std.proofs.lemmas.List.{take_all}
 use Rattle.std.specs.List.{AllByRecursion}
 use Rattle.je_order.proofs.Lists.{all_append}
-use Rattle.log_entry.specs.declared.entry.Entry.{Entry}
 use Rattle.log_entry.specs.Body.{IsEntry}
 use Rattle.log_file.specs.Log.{Log, IsLog, AreFileEntries, entries_of, log_in}
 use Rattle.log_file.proofs.PlacedLaws.{placed_are_entries}
@@ -16,7 +15,6 @@ use Rattle.log_meaning.specs.Reading.{reading_of}
 use Rattle.log_meaning.specs.Found.{HasFilesFrom, IsFound, IsBegun}
 use Rattle.log_meaning.proofs.Found.{read_files_are_found, opened_is_begun}
 use Rattle.crash_recovery.specs.Appending.{LiesBelow}
-use Rattle.crash_recovery.specs.Reading.{IsNamedLog}
 use Rattle.crash_recovery.specs.Opening.{found_log, first_of_found, FoundLogsRecover}
 use Rattle.crash_recovery.proofs.RisingLsns.{logs_lie_below}
 

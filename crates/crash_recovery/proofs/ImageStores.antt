@@ -1,8 +1,8 @@
 -- Which stores the images of a disk mean.
-use Rattle.std.proofs.Common.{◌≡◌, ℕ, ◌+◌, ◌≤◌, List, [], ◌++◌, length, sym, ap, ◌∙◌, arith}
+use Rattle.std.proofs.Common.{ℕ, ◌≤◌, List, [], ◌++◌, length, sym, ap, ◌∙◌, arith}
 use Rattle.std.proofs.lemmas.List.{take-append-le, length-append}
-use Rattle.je_disk.specs.States.{Files, State}
-use Rattle.je_disk.specs.Moments.{History, now}
+use Rattle.je_disk.specs.States.{Files}
+use Rattle.je_disk.specs.Moments.{now}
 use Rattle.je_disk.proofs.MomentLaws.{passes_weaken}
 use Rattle.je_model.specs.declared.change.Change.{Change}
 use Rattle.je_model.specs.declared.store.Store.{Store}

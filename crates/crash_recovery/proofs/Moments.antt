@@ -1,5 +1,5 @@
 -- The disk of a log buffer while its log grows.
-use Rattle.std.proofs.Common.{◌≡◌, ℕ, ◌≤◌, Bool, List, [], ◌++◌, Option, subst}
+use Rattle.std.proofs.Common.{ℕ, ◌≤◌, Bool, List, [], Option, subst}
 use Rattle.je_disk.specs.Moments.{History, Passes, now}
 use Rattle.log_entry.specs.declared.entry.Entry.{Entry}
 use Rattle.log_file.specs.Log.{Log}

@@ -10,8 +10,7 @@ use Rattle.log_file.specs.Log.{Log, IsLog, AreFileEntries}
 use Rattle.log_file.proofs.PlacedLaws.{placed-append, placed_are_in_order}
 use Rattle.log_replay.proofs.ListLaws.{all_parts}
 use Rattle.log_buffer.specs.declared.log_pos.LogPos.{LogPos}
-use Rattle.log_buffer.specs.Flip.{header_size, next_file, placed_at, end_after, end_after_all, pos_lsn}
-use Rattle.log_buffer.specs.Log.{EndsAt}
+use Rattle.log_buffer.specs.Flip.{header_size, placed_at, end_after, end_after_all, pos_lsn}
 use Rattle.log_buffer.specs.Growth.{log_with_all}
 use Rattle.log_buffer.specs.Laws.{placed_by}
 use Rattle.log_buffer.proofs.GrowthLaws.{appended_are_placed}
