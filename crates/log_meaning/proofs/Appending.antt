@@ -1,30 +1,28 @@
 -- A log that an environment works on, longer by the entries of a transaction that are appended together.
-use Rattle.std.proofs.Common.{◌≡◌, ℕ, ◌<◌, ◌≤◌, ◌==◌, ◌⊎◌, Bool, true, false, cond, List, [], ◌∷◌, ◌++◌, Option, None, Some, map, reverse, find, is_eq, refl, sym, ap, ap₂, subst, ◌∙◌, arith, append_assoc}
-use Rattle.std.specs.Prelude.{◌≢◌, ◌&&◌}
+use Rattle.std.proofs.Common.{◌≡◌, ℕ, ◌<◌, ◌≤◌, ◌==◌, ◌⊎◌, Bool, true, false, cond, List, [], ◌∷◌, ◌++◌, Option, None, Some, map, reverse, find, refl, sym, ap, ap₂, subst, ◌∙◌, append_assoc}
+use Rattle.std.specs.Prelude.{◌≢◌}
 use Rattle.std.specs.Option.{option_or}
 use Rattle.std.proofs.lemmas.Bool.{true≢false, eqb-true, eq-eqb, ne_eqb, cond-true, cond-false}
 use Rattle.std.proofs.lemmas.List.{append-nil, reverse-append}
 use Rattle.std.proofs.lemmas.List.Folds.{find-append}
 use Rattle.std.specs.List.{AllByRecursion}
-use Rattle.je_order.specs.Order.{name_cmp}
 use Rattle.je_order.specs.declared.name.Name.{Name}
 use Rattle.je_order.specs.declared.txn_id.TxnId.{TxnId}
 use Rattle.je_order.proofs.Lists.{all_weaker, all_append}
 use Rattle.log_entry.specs.declared.entry.Entry.{Entry}
-use Rattle.log_entry.specs.declared.entry.Entry.TheVariants.{Put, Delete, Migrated, Commit, In, Bin, CkptEnd}
+use Rattle.log_entry.specs.declared.entry.Entry.TheVariants.{Put, Delete, Commit, In, Bin, CkptEnd}
 use Rattle.log_replay.proofs.ListLaws.{all_parts, all_of_map}
-use Rattle.log_trees.specs.Placed.{Placed, AreInOrder}
-use Rattle.log_trees.specs.Changes.{Written, LoggedChange, is_of, last_of, changes_from}
-use Rattle.log_trees.specs.Laws.{AreBehind}
+use Rattle.log_trees.specs.Placed.{Placed}
+use Rattle.log_trees.specs.Changes.{Written, LoggedChange, last_of, changes_from}
 use Rattle.log_trees.proofs.Rooted.{last_of-append}
 use Rattle.record_tree.specs.declared.tree_change.TreeChange.{TreeChange}
-use Rattle.record_tree.specs.Logged.{entry_for, IsImage, AreImages, LogsChanges, LogsTransaction, is_change_of, last_change, value_changed}
+use Rattle.record_tree.specs.Logged.{entry_for, IsImage, LogsChanges, LogsTransaction, is_change_of, last_change, value_changed}
 use Rattle.log_meaning.specs.Redo.{Redo, pushed, emptied, set_at, unset_at, redo_entry, redo_all, newest}
 use Rattle.log_meaning.specs.Checkpoint.{checkpoint_in}
 use Rattle.log_meaning.specs.Stands.{Rises, has, Stands}
 use Rattle.log_meaning.specs.Growth.{is_neutral, IsFreeFor}
 use Rattle.log_meaning.specs.Recovery.{is_commit}
-use Rattle.log_meaning.specs.Transactions.{RiseBehind, last_lsn, waiting, AreFreeFor, AppendsTransaction, LoneAreFree, ChangesStand, TransactionsStand, NeutralsStand, StandsAlike}
+use Rattle.log_meaning.specs.Transactions.{RiseBehind, last_lsn, waiting, AreFreeFor, LoneAreFree, ChangesStand, TransactionsStand, NeutralsStand, StandsAlike}
 use Rattle.log_meaning.proofs.RedoLaws.{redo_all-append}
 use Rattle.log_meaning.proofs.Standing.{stands_neutral, stands_put, stands_delete, stands_commit}
 

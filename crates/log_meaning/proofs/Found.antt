@@ -1,10 +1,8 @@
 -- A log that was found, and what an environment begins with that opens it.
-use Rattle.std.proofs.Common.{◌≡◌, ℕ, ◌/◌, ◌^◌, ◌<◌, ◌≤◌, nat_lt, Bool, true, false, cond, List, [], ◌∷◌, Option, None, Some, Ok, unwrap_or, map, refl, sym, ap, subst, ◌∙◌, arith}
+use Rattle.std.proofs.Common.{◌≡◌, ℕ, ◌/◌, ◌^◌, ◌<◌, ◌≤◌, nat_lt, Bool, true, false, cond, List, [], ◌∷◌, Option, None, Some, Ok, unwrap_or, map, refl, ap, subst, ◌∙◌, arith}
 use Rattle.std.proofs.lemmas.Bool.{ltb-true}
 use Rattle.std.specs.List.{AllByRecursion}
-use Rattle.je_order.specs.declared.name.Name.{Name}
 use Rattle.log_file.specs.Log.{log_in}
-use Rattle.log_replay.specs.declared.corruption.Corruption.{Corruption}
 use Rattle.log_replay.specs.declared.corruption.Corruption.TheVariants.{Missing}
 use Rattle.log_replay.specs.Rows.{numbers_of}
 use Rattle.log_replay.specs.Reading.{lsn_at, corruption_in, gap_in}
@@ -15,7 +13,7 @@ use Rattle.log_meaning.specs.Redo.{record_at}
 use Rattle.log_meaning.specs.Checkpoint.{Checkpoint, no_checkpoint, last_end, last_checkpoint, restarted}
 use Rattle.log_meaning.specs.Meaning.{Meaning, rows_of, meaning_of}
 use Rattle.log_meaning.specs.Reading.{gap_from, missing, redo_corruption, unless, validated, meaning_in, reading_of}
-use Rattle.log_meaning.specs.Recovery.{IsRedoLsn, IsOpened}
+use Rattle.log_meaning.specs.Recovery.{IsRedoLsn}
 use Rattle.log_meaning.specs.Found.{HasFilesFrom, first_needed, IsFound, ReadFilesAreFound, OpenedIsBegun}
 use Rattle.log_meaning.proofs.Leaving.{recovers_first}
 use Rattle.log_meaning.proofs.Listing.{listed_by_name, listed_in_order}

@@ -1,12 +1,11 @@
 -- Which files of a log are needed.
 use Rattle.std.proofs.Common.{◌≡◌, ℕ, ◌+◌, ◌/◌, ◌^◌, ◌<◌, ◌≤◌, ◌==◌, nat_le, nat_lt, Bool, true, false, cond, List, [], ◌∷◌, ◌++◌, Option, None, Some, map, filter, take, drop, refl, sym, ap, subst, ◌∙◌, arith, ◌⊎◌, inl, inr}
-use Rattle.std.specs.Prelude.{IsSome, is_some}
+use Rattle.std.specs.Prelude.{IsSome}
 use Rattle.std.proofs.lemmas.Bool.{true≢false, lt-ltb, le-leb, lt-leb, leb-true, eqb-true, eq-eqb, cond-true, cond-false, cases_lt}
 use Rattle.std.proofs.lemmas.List.{take-take, take-append-drop}
 use Rattle.std.proofs.lemmas.List.Elements.{filter-append}
 use Rattle.std.specs.List.{AllByRecursion}
 use Rattle.je_order.proofs.Lists.{all_weaker, all_append}
-use Rattle.je_model.specs.declared.store.Store.{Store}
 use Rattle.je_model.specs.Store.{store_after}
 use Rattle.log_file.specs.Log.{log_in}
 use Rattle.log_replay.specs.declared.corruption.Corruption.{Corruption}

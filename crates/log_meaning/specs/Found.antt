@@ -1,5 +1,5 @@
 -- A log that was found: which of its files are needed, and what an environment that opens it begins with.
-use Rattle.std.specs.Prelude.{◌≡◌, ◌≤◌, ◌<◌, ℕ, ◌+◌, ◌/◌, ◌^◌, nat_lt, Bool, true, Option, None, Some, Ok, List, [], ◌∷◌, ◌++◌, map, take, length}
+use Rattle.std.specs.Prelude.{◌≡◌, ◌≤◌, ◌<◌, ℕ, ◌+◌, ◌/◌, ◌^◌, nat_lt, true, Option, None, Some, Ok, List, [], ◌∷◌, ◌++◌, map, take, length}
 use Rattle.std.specs.List.{AllByRecursion}
 use Rattle.je_model.specs.declared.change.Change.{Change}
 use Rattle.je_model.specs.declared.store.Store.{Store}
