@@ -1,30 +1,30 @@
 -- Which store the first entries of a log leave.
-use Rattle.std.proofs.Common.{◌≡◌, ℕ, ◌+◌, ◌<◌, ◌≤◌, cond, List, [], ◌∷◌, ◌++◌, Ok, take, drop, length, refl, sym, ap, subst, ◌∙◌, arith, append_assoc, ◌⊎◌, inl, inr}
-use Rattle.std.proofs.lemmas.List.{take_at, take_all, drop_all, take-append-le, drop-append-le, take-take, take-append-drop, length-take-le, length-append}
+use Rattle.std.proofs.Common.{◌≡◌, ℕ, ◌+◌, ◌<◌, ◌≤◌, Bool, true, false, cond, List, [], ◌∷◌, ◌++◌, Option, None, Some, Ok, map, take, drop, length, refl, sym, ap, subst, ◌∙◌, arith, append_assoc, append-nil, ◌⊎◌, inl, inr}
+use Rattle.std.proofs.lemmas.List.{take_all, drop_all, take-append-le, drop-append-le, take-take, take-append-drop, take-map, length-take-le, length-append}
 use Rattle.std.proofs.lemmas.List.Sums.{sum_by-append}
-use Rattle.std.proofs.lemmas.Bool.{cases_order}
+use Rattle.std.proofs.lemmas.Bool.{cases_lt}
 use Rattle.std.specs.List.{count_by}
-use Rattle.je_model.specs.declared.change.Change.{Change}
-use Rattle.je_model.specs.declared.change.Change.TheVariants.{Set, Unset, Make, Remove, Rename, Empty}
-use Rattle.je_model.specs.declared.store.Store.{Store}
-use Rattle.je_model.specs.Store.{store_after, changed}
-use Rattle.je_model.proofs.JournalLaws.{store_after-append}
+use Rattle.store_model.specs.declared.change.Change.{Change}
+use Rattle.store_model.specs.declared.store.Store.{Store}
+use Rattle.store_model.specs.Store.{store_after, all_changed}
+use Rattle.store_model.specs.Refusals.{made_by}
+use Rattle.store_model.proofs.StoreLaws.{store_after-append}
 use Rattle.log_entry.specs.declared.entry.Entry.{Entry}
 use Rattle.log_entry.specs.declared.entry.Entry.TheVariants.{Commit}
 use Rattle.log_file.specs.Log.{Log, entries_of, log_in}
-use Rattle.log_replay.specs.Rows.{Rows, row_changed, store_of, is_environment}
-use Rattle.log_replay.specs.Replay.{Replay, replayed, replayed_entry, nothing_replayed}
-use Rattle.log_replay.specs.Logging.{change_entry}
+use Rattle.log_replay.specs.Rows.{Rows, RowChange, rows_changed, store_of, is_environment}
+use Rattle.log_replay.specs.Replay.{Replay, replayed, nothing_replayed}
+use Rattle.log_replay.specs.Logging.{all_row_changes, entry_with, row_entry, transaction_entries, entries_with}
 use Rattle.log_replay.specs.Meaning.{meaning_of}
 use Rattle.log_replay.specs.Reading.{validated, validated_by}
-use Rattle.log_replay.specs.Kept.{IsKept, MayBeLogged, entries_with, last_db_after, row_change_of}
+use Rattle.log_replay.specs.Kept.{IsKept}
 use Rattle.log_replay.proofs.ReplayLaws.{replayed-append}
 use Rattle.log_replay.proofs.StoreLaws.{store_of-same, is_environment-same}
 use Rattle.log_replay.proofs.WrongLaws.{environment_is_none}
-use Rattle.log_replay.proofs.LoggedLaws.{kept_logged, store_of-logged}
+use Rattle.log_replay.proofs.TransactionLaws.{replayed-row_entries, transactions_are_kept, stores_are_changed}
 use Rattle.crash_meaning.specs.Reading.{IsReadFrom}
 use Rattle.crash_meaning.specs.Recovery.{is_commit, commits_in, LeavesStore, Recovers}
-use Rattle.crash_meaning.specs.Laws.{LogsRecover, LongerLogsRecover, ImagesRecover}
+use Rattle.crash_meaning.specs.Laws.{LogsRecover, LongerLogsRecover, FrontsRecover, PendingLogsRecover, ImagesRecover}
 use Rattle.crash_meaning.proofs.ImageReading.{images_are_read}
 
 -- ---- commits
@@ -72,41 +72,7 @@ logs_recover entries rows last_txn last_db kept = record {
       (leaves_kept entries rows last_txn last_db kept);
 }
 
--- ---- a transaction more
-
-rows-change_entry : (txn number : ℕ) (change : Change) (replay : Replay) → (replayed_entry (change_entry txn number change) replay).rows ≡ replay.rows
-rows-change_entry txn number (Set db at value) replay = refl
-rows-change_entry txn number (Unset db at) replay = refl
-rows-change_entry txn number (Make db kind) replay = refl
-rows-change_entry txn number (Remove db) replay = refl
-rows-change_entry txn number (Rename db to) replay = refl
-rows-change_entry txn number (Empty db) replay = refl
-
-no_commit : (txn number : ℕ) (change : Change) → count_by is_commit (change_entry txn number change ∷ []) ≡ 0
-no_commit txn number (Set db at value) = refl
-no_commit txn number (Unset db at) = refl
-no_commit txn number (Make db kind) = refl
-no_commit txn number (Remove db) = refl
-no_commit txn number (Rename db to) = refl
-no_commit txn number (Empty db) = refl
-
-one_commit : (txn number : ℕ) (change : Change) → count_by is_commit (change_entry txn number change ∷ Commit (record { 0 = txn }) ∷ []) ≡ 1
-one_commit txn number (Set db at value) = refl
-one_commit txn number (Unset db at) = refl
-one_commit txn number (Make db kind) = refl
-one_commit txn number (Remove db) = refl
-one_commit txn number (Rename db to) = refl
-one_commit txn number (Empty db) = refl
-
--- a change that is not committed leaves the store as it was
-leaves_pending : (entries : List Entry) (txn number : ℕ) (change : Change) (store : Store) → LeavesStore entries store → LeavesStore (entries ++ change_entry txn number change ∷ []) store
-leaves_pending entries txn number change store leaves =
-    let same : (replayed (entries ++ change_entry txn number change ∷ []) nothing_replayed).rows ≡ (replayed entries nothing_replayed).rows =
-    ap (λ (r : Replay). r.rows) (replayed-append entries (change_entry txn number change ∷ []) nothing_replayed) ∙ rows-change_entry txn number change (replayed entries nothing_replayed) in
-    record {
-      environment = ap is_environment same ∙ leaves.environment;
-      store_is = ap store_of same ∙ leaves.store_is;
-    }
+-- ---- an entry more
 
 -- the entries of a log that recovers leave the store after all of its transactions
 leaves_all : (opening : Store) (base : ℕ) (transactions : List (List Change)) (entries : List Entry) → Recovers opening base transactions entries → LeavesStore entries (store_after opening transactions)
@@ -120,93 +86,113 @@ few_commits : (opening : Store) (base count : ℕ) (transactions : List (List Ch
     commits_in base count entries ≤ length transactions
 few_commits opening base count transactions entries is from within = omega (arith, commits-all base count entries from within, all_commits base entries, is.all)
 
--- the entries before the new ones
-leaves_before : (opening : Store) (base count : ℕ) (transactions more : List (List Change)) (entries tail : List Entry) → Recovers opening base transactions entries → base ≤ count → count ≤ length entries →
-    LeavesStore (take count (entries ++ tail)) (store_after opening (take (commits_in base count (entries ++ tail)) (transactions ++ more)))
-leaves_before opening base count transactions more entries tail is from within =
-    leaves_other (take count entries) (take count (entries ++ tail)) _ _ (sym (take-append-le count entries tail within))
-    (ap (store_after opening)
-    (sym (take-append-le (commits_in base count entries) transactions more (few_commits opening base count transactions entries is from within))
-    ∙ ap (λ (n : ℕ). take n (transactions ++ more)) (sym (commits-front base count entries tail within))))
-    (is.each count from within)
+-- a commit brings its transaction
+abbrev with_commit : Bool → List Change → List (List Change) → List (List Change)
+with_commit true transaction transactions = transactions ++ transaction ∷ []
+with_commit false transaction transactions = transactions
 
--- commits behind the entries of a log that recovers
-commits_behind : (opening : Store) (base : ℕ) (transactions : List (List Change)) (entries tail : List Entry) → Recovers opening base transactions entries →
-    count_by is_commit (drop base (entries ++ tail)) ≡ length transactions + count_by is_commit tail
-commits_behind opening base transactions entries tail is =
-    ap (count_by is_commit) (drop-append-le base entries tail is.within)
-    ∙ commits-append (drop base entries) tail
-    ∙ ap (λ (n : ℕ). n + count_by is_commit tail) (sym (all_commits base entries) ∙ is.all)
+take_before : (b : Bool) (transaction : List Change) (transactions : List (List Change)) (n : ℕ) → n ≤ length transactions → take n (with_commit b transaction transactions) ≡ take n transactions
+take_before true transaction transactions n le = take-append-le n transactions (transaction ∷ []) le
+take_before false transaction transactions n le = refl
 
--- the change without its commit
-leaves_between : (opening : Store) (base txn number : ℕ) (change : Change) (transactions more : List (List Change)) (entries : List Entry) → Recovers opening base transactions entries →
-    LeavesStore (take (length entries + 1) (entries_with entries txn number change)) (store_after opening (take (commits_in base (length entries + 1) (entries_with entries txn number change)) (transactions ++ more)))
-leaves_between opening base txn number change transactions more entries is =
-    let entry : Entry = change_entry txn number change in
-    let front : take (length entries + 1) (entries_with entries txn number change) ≡ entries ++ entry ∷ [] =
-    ap (take (length entries + 1)) (sym (append_assoc entries (entry ∷ []) (Commit (record { 0 = txn }) ∷ [])))
-    ∙ take_at (entries ++ entry ∷ []) (Commit (record { 0 = txn }) ∷ []) (length entries + 1) (length-append entries (entry ∷ [])) in
-    let count : commits_in base (length entries + 1) (entries_with entries txn number change) ≡ length transactions =
-    ap (λ (l : List Entry). count_by is_commit (drop base l)) front
-    ∙ commits_behind opening base transactions entries (entry ∷ []) is
-    ∙ (let none = no_commit txn number change in omega arith) in
-    leaves_other (entries ++ entry ∷ []) _ (store_after opening transactions) _ (sym front)
-    (ap (store_after opening) (sym (ap (λ (n : ℕ). take n (transactions ++ more)) count ∙ take_at transactions more (length transactions) refl)))
-    (leaves_pending entries txn number change (store_after opening transactions) (leaves_all opening base transactions entries is))
+length-with : (b : Bool) (transaction : List Change) (transactions : List (List Change)) → length (with_commit b transaction transactions) ≡ length transactions + (0 + cond b 1 0)
+length-with true transaction transactions = let len = length-append transactions (transaction ∷ []) in omega (arith, len)
+length-with false transaction transactions = omega arith
 
--- all of the longer log
-leaves_longer : (opening : Store) (base : ℕ) (transactions : List (List Change)) (entries : List Entry) (rows : Rows) (last_txn last_db txn number : ℕ) (change : Change) →
-    Recovers opening base transactions entries → IsKept entries rows last_txn last_db → MayBeLogged rows last_db number change → last_txn < txn →
-    LeavesStore (entries_with entries txn number change) (store_after opening (transactions ++ (change ∷ []) ∷ []))
-leaves_longer opening base transactions entries rows last_txn last_db txn number change is kept may later =
-    let new : Rows = row_changed (row_change_of txn number change) rows in
-    let kept_then = kept_logged entries rows new last_txn last_db txn number change kept may later (λ db. refl) in
-    let store : store_of new ≡ changed change (store_of rows) = store_of-logged entries rows new last_txn last_db txn number change kept may (λ db. refl) in
-    let before : store_of rows ≡ store_after opening transactions =
-    sym (leaves_kept entries rows last_txn last_db kept).store_is ∙ (leaves_all opening base transactions entries is).store_is in
-    leaves_other _ (entries_with entries txn number change) (store_of new) _ refl
-    (store ∙ ap (changed change) before ∙ sym (store_after-append opening transactions ((change ∷ []) ∷ [])))
-    (leaves_kept (entries_with entries txn number change) new txn (last_db_after last_db number change) kept_then)
-
-length-with : (entries : List Entry) (txn number : ℕ) (change : Change) → length (entries_with entries txn number change) ≡ length entries + 2
-length-with entries txn number change = length-append entries (change_entry txn number change ∷ Commit (record { 0 = txn }) ∷ [])
-
-commits-with : (opening : Store) (base txn number : ℕ) (change : Change) (transactions : List (List Change)) (entries : List Entry) → Recovers opening base transactions entries →
-    commits_in base (length (entries_with entries txn number change)) (entries_with entries txn number change) ≡ length (transactions ++ (change ∷ []) ∷ [])
-commits-with opening base txn number change transactions entries is =
-    let one = one_commit txn number change in
-    all_commits base (entries_with entries txn number change)
-    ∙ commits_behind opening base transactions entries (change_entry txn number change ∷ Commit (record { 0 = txn }) ∷ []) is
-    ∙ ap (λ (n : ℕ). length transactions + n) one
-    ∙ sym (length-append transactions ((change ∷ []) ∷ []))
-
-pub longer_logs_recover : LongerLogsRecover
-longer_logs_recover opening base transactions entries rows last_txn last_db txn number change is kept may later =
-    let len : length (entries_with entries txn number change) ≡ length entries + 2 = length-with entries txn number change in
-    let all = commits-with opening base txn number change transactions entries is in
+recovers_push : (opening : Store) (base : ℕ) (transactions : List (List Change)) (transaction : List Change) (entries : List Entry) (entry : Entry) → Recovers opening base transactions entries →
+    LeavesStore (entries ++ entry ∷ []) (store_after opening (with_commit (is_commit entry) transaction transactions)) →
+    Recovers opening base (with_commit (is_commit entry) transaction transactions) (entries ++ entry ∷ [])
+recovers_push opening base transactions transaction entries entry is leaves =
+    let len : length (entries ++ entry ∷ []) ≡ length entries + 1 = length-append entries (entry ∷ []) in
+    let low : base ≤ length entries = is.within in
+    let all : commits_in base (length (entries ++ entry ∷ [])) (entries ++ entry ∷ []) ≡ length (with_commit (is_commit entry) transaction transactions) =
+    all_commits base (entries ++ entry ∷ [])
+    ∙ ap (count_by is_commit) (drop-append-le base entries (entry ∷ []) low)
+    ∙ commits-append (drop base entries) (entry ∷ [])
+    ∙ ap (λ (n : ℕ). n + (0 + cond (is_commit entry) 1 0)) (sym (all_commits base entries) ∙ is.all)
+    ∙ sym (length-with (is_commit entry) transaction transactions) in
     record {
-      within = let w = is.within in omega arith;
+      within = omega (arith, len, low);
       all = all;
-      each = λ count from within. by_place count from within (cases_order count (length entries + 1)) len all;
+      each = λ count from within. by_place count from within (cases_lt (length entries) count) len all;
     }
   where
-    by_place : (count : ℕ) → base ≤ count → count ≤ length (entries_with entries txn number change) → (count ≡ length entries + 1) ⊎ ((count < length entries + 1) ⊎ (length entries + 1 < count)) →
-        length (entries_with entries txn number change) ≡ length entries + 2 →
-        commits_in base (length (entries_with entries txn number change)) (entries_with entries txn number change) ≡ length (transactions ++ (change ∷ []) ∷ []) →
-        LeavesStore (take count (entries_with entries txn number change)) (store_after opening (take (commits_in base count (entries_with entries txn number change)) (transactions ++ (change ∷ []) ∷ [])))
-    by_place count from within (inl at) len all =
-        subst (λ (n : ℕ). LeavesStore (take n (entries_with entries txn number change)) (store_after opening (take (commits_in base n (entries_with entries txn number change)) (transactions ++ (change ∷ []) ∷ []))))
-        (sym at) (leaves_between opening base txn number change transactions ((change ∷ []) ∷ []) entries is)
-    by_place count from within (inr (inl below)) len all =
-        leaves_before opening base count transactions ((change ∷ []) ∷ []) entries (change_entry txn number change ∷ Commit (record { 0 = txn }) ∷ []) is from (omega arith)
-    by_place count from within (inr (inr above)) len all =
-        let at : length (entries_with entries txn number change) ≡ count = omega arith in
-        subst (λ (n : ℕ). LeavesStore (take n (entries_with entries txn number change)) (store_after opening (take (commits_in base n (entries_with entries txn number change)) (transactions ++ (change ∷ []) ∷ []))))
-        at
-        (leaves_other (entries_with entries txn number change) _ (store_after opening (transactions ++ (change ∷ []) ∷ [])) _
-        (sym (take_all (length (entries_with entries txn number change)) (entries_with entries txn number change) (omega arith)))
-        (ap (store_after opening) (sym (ap (λ (n : ℕ). take n (transactions ++ (change ∷ []) ∷ [])) all ∙ take_all (length (transactions ++ (change ∷ []) ∷ [])) (transactions ++ (change ∷ []) ∷ []) (omega arith))))
-        (leaves_longer opening base transactions entries rows last_txn last_db txn number change is kept may later))
+    by_place : (count : ℕ) → base ≤ count → count ≤ length (entries ++ entry ∷ []) → (length entries < count) ⊎ (count ≤ length entries) → length (entries ++ entry ∷ []) ≡ length entries + 1 →
+        commits_in base (length (entries ++ entry ∷ [])) (entries ++ entry ∷ []) ≡ length (with_commit (is_commit entry) transaction transactions) →
+        LeavesStore (take count (entries ++ entry ∷ [])) (store_after opening (take (commits_in base count (entries ++ entry ∷ [])) (with_commit (is_commit entry) transaction transactions)))
+    by_place count from within (inl more) len all =
+        let at : length (entries ++ entry ∷ []) ≡ count = omega arith in
+        subst (λ (n : ℕ). LeavesStore (take n (entries ++ entry ∷ [])) (store_after opening (take (commits_in base n (entries ++ entry ∷ [])) (with_commit (is_commit entry) transaction transactions)))) at
+        (leaves_other (entries ++ entry ∷ []) _ (store_after opening (with_commit (is_commit entry) transaction transactions)) _
+        (sym (take_all (length (entries ++ entry ∷ [])) (entries ++ entry ∷ []) (omega arith)))
+        (ap (store_after opening)
+        (sym (ap (λ (n : ℕ). take n (with_commit (is_commit entry) transaction transactions)) all
+        ∙ take_all (length (with_commit (is_commit entry) transaction transactions)) (with_commit (is_commit entry) transaction transactions) (omega arith))))
+        leaves)
+    by_place count from within (inr le) len all =
+        leaves_other (take count entries) _ _ _ (sym (take-append-le count entries (entry ∷ []) le))
+        (ap (store_after opening)
+        (sym (take_before (is_commit entry) transaction transactions (commits_in base count entries) (few_commits opening base count transactions entries is from le))
+        ∙ ap (λ (n : ℕ). take n (with_commit (is_commit entry) transaction transactions)) (sym (commits-front base count entries (entry ∷ []) le))))
+        (is.each count from le)
+
+-- ---- changes of records more
+
+no_commit : (c : RowChange) → is_commit (row_entry c) ≡ false
+no_commit c = by_value c.value
+  where
+    by_value : (v : Option (List ℕ)) → is_commit (entry_with c.txn c.db c.name v) ≡ false
+    by_value None = refl
+    by_value (Some value) = refl
+
+-- a change that is not committed leaves the store as it was
+leaves_pending : (entries : List Entry) (c : RowChange) (store : Store) → LeavesStore entries store → LeavesStore (entries ++ row_entry c ∷ []) store
+leaves_pending entries c store leaves =
+    let same : (replayed (entries ++ row_entry c ∷ []) nothing_replayed).rows ≡ (replayed entries nothing_replayed).rows =
+    ap (λ (r : Replay). r.rows) (replayed-append entries (row_entry c ∷ []) nothing_replayed ∙ replayed-row_entries (c ∷ []) (replayed entries nothing_replayed)) in
+    record {
+      environment = ap is_environment same ∙ leaves.environment;
+      store_is = ap store_of same ∙ leaves.store_is;
+    }
+
+pub pending_logs_recover : PendingLogsRecover
+pending_logs_recover opening base transactions entries [] is = subst (Recovers opening base transactions) (sym (append-nil entries)) is
+pending_logs_recover opening base transactions entries (c ∷ cs) is =
+    let same : with_commit (is_commit (row_entry c)) [] transactions ≡ transactions = ap (λ (b : Bool). with_commit b [] transactions) (no_commit c) in
+    let one : Recovers opening base transactions (entries ++ row_entry c ∷ []) =
+    subst (λ (t : List (List Change)). Recovers opening base t (entries ++ row_entry c ∷ [])) same
+    (recovers_push opening base transactions [] entries (row_entry c) is
+    (subst (λ (t : List (List Change)). LeavesStore (entries ++ row_entry c ∷ []) (store_after opening t)) (sym same)
+    (leaves_pending entries c (store_after opening transactions) (leaves_all opening base transactions entries is)))) in
+    subst (Recovers opening base transactions) (append_assoc entries (row_entry c ∷ []) (map row_entry cs)) (pending_logs_recover opening base transactions (entries ++ row_entry c ∷ []) cs one)
+
+pub fronts_recover : FrontsRecover
+fronts_recover opening base transactions entries rows last_db txn count changes is below =
+    let cs : List RowChange = all_row_changes txn last_db changes rows in
+    let len : length (transaction_entries txn last_db changes rows) ≡ length (map row_entry cs) + 1 = length-append (map row_entry cs) (Commit (record { 0 = txn }) ∷ []) in
+    let front : take count (transaction_entries txn last_db changes rows) ≡ map row_entry (take count cs) =
+    take-append-le count (map row_entry cs) (Commit (record { 0 = txn }) ∷ []) (omega (arith, len, below)) ∙ take-map row_entry count cs in
+    subst (λ (l : List Entry). Recovers opening base transactions (entries ++ l)) (sym front) (pending_logs_recover opening base transactions entries (take count cs) is)
+
+-- ---- a transaction more
+
+pub longer_logs_recover : LongerLogsRecover
+longer_logs_recover opening base transactions entries rows last_txn last_db txn changes is kept may later =
+    let cs : List RowChange = all_row_changes txn last_db changes rows in
+    let commit : Entry = Commit (record { 0 = txn }) in
+    let new : Rows = rows_changed (all_row_changes 0 last_db changes rows) rows in
+    let whole : (entries ++ map row_entry cs) ++ commit ∷ [] ≡ entries_with entries txn last_db changes rows = append_assoc entries (map row_entry cs) (commit ∷ []) in
+    let kept_then = transactions_are_kept entries rows new last_txn last_db txn changes kept may later (λ db. refl) in
+    let store : store_of new ≡ all_changed changes (store_of rows) = stores_are_changed entries rows new last_txn last_db changes kept may (λ db. refl) in
+    let before : store_of rows ≡ store_after opening transactions =
+    sym (leaves_kept entries rows last_txn last_db kept).store_is ∙ (leaves_all opening base transactions entries is).store_is in
+    let leaves : LeavesStore (entries_with entries txn last_db changes rows) (store_after opening (transactions ++ changes ∷ [])) =
+    leaves_other _ (entries_with entries txn last_db changes rows) (store_of new) _ refl
+    (store ∙ ap (all_changed changes) before ∙ sym (store_after-append opening transactions (changes ∷ [])))
+    (leaves_kept (entries_with entries txn last_db changes rows) new last_txn (last_db + made_by changes) kept_then) in
+    subst (Recovers opening base (transactions ++ changes ∷ [])) whole
+    (recovers_push opening base transactions changes (entries ++ map row_entry cs) commit (pending_logs_recover opening base transactions entries cs is)
+    (subst (λ (l : List Entry). LeavesStore l (store_after opening (transactions ++ changes ∷ []))) (sym whole) leaves))
 
 -- ---- images
 

@@ -4,7 +4,7 @@
 //! image has commits of. Its functions have nothing to do: their contracts are the laws.
 #![tactic(auto)]
 
-ghost use Rattle.crash_meaning.specs.Laws.{ImagesAreRead, ImagesRecover, LogsRecover, LongerLogsRecover};
+ghost use Rattle.crash_meaning.specs.Laws.{FrontsRecover, ImagesAreRead, ImagesRecover, LogsRecover, LongerLogsRecover, PendingLogsRecover};
 
 /// Where no file of a log was removed, an image is read as the log's first entries, with no
 /// corruption.
@@ -13,10 +13,13 @@ pub fn images_are_read()
 {}
 
 /// A log that an environment keeps recovers the store of its records; one with a transaction more
-/// recovers the store before the transaction or behind it.
+/// recovers the store before the transaction or behind it, and one with only some first entries of a
+/// transaction, without its commit, the store before it.
 pub fn logs_recover()
     ensures starts { LogsRecover }
     ensures grows { LongerLogsRecover }
+    ensures fronts { FrontsRecover }
+    ensures pending { PendingLogsRecover }
 {}
 
 /// An image of a log that recovers transactions means the opening store changed by the first of them, at

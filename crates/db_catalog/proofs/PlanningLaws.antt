@@ -1,17 +1,23 @@
 -- What a change that a call makes logs in the catalog.
-use Rattle.std.proofs.Common.{◌≡◌, ℕ, List, [], ◌∷◌, Option, Some, None, Result, Ok, Err, IfOk, refl, ap, subst}
-use Rattle.je_model.specs.declared.store.Store.{Store}
-use Rattle.je_model.specs.declared.store.Database.{Database}
-use Rattle.je_model.specs.declared.call.Call.{Call}
-use Rattle.je_model.specs.declared.call.Call.TheVariants.{Create, List as Lists, Remove as Removes, Rename as Renames, Truncate, Put as Puts, PutNo, Get, Delete as Deletes}
-use Rattle.je_model.specs.declared.change.Change.{Change}
-use Rattle.je_model.specs.declared.change.Change.TheVariants.{Set, Unset, Make, Remove, Rename, Empty}
-use Rattle.je_model.specs.declared.answer.Answer.{Answer}
-use Rattle.je_model.specs.Store.{database_of, pair_at}
-use Rattle.je_model.specs.Evaluation.{Outcome, evaluation, evaluation_in, database_named, putting_new, reading, deleting}
-use Rattle.je_model.specs.Answers.{or_refusal, catalog_refusal, length_refusal}
+use Rattle.std.proofs.Common.{◌≡◌, ℕ, List, [], ◌∷◌, Option, Some, None, Result, Ok, Err, IfOk, refl, sym, ap, subst, ◌∙◌}
+use Rattle.std.specs.declared.alloc.AllocError.{AllocError}
+use Rattle.store_model.specs.declared.store.Store.{Store}
+use Rattle.store_model.specs.declared.store.Database.{Database}
+use Rattle.store_model.specs.declared.call.Call.{Call}
+use Rattle.store_model.specs.declared.call.Call.TheVariants.{Begin, Commit, Abort, Create, List as Lists, Remove as Removes, Rename as Renames, Truncate, Get, GetBoth, Put as Puts, Delete as Deletes, Open, Close, Dup as Duplicate, Count, Cur, CPutCur, CDel, CPut}
+use Rattle.store_model.specs.declared.change.Change.{Change}
+use Rattle.store_model.specs.declared.change.Change.TheVariants.{Set, Unset, Make, Remove, Rename, Empty}
+use Rattle.store_model.specs.declared.answer.Answer.{Answer}
+use Rattle.store_model.specs.Store.{database_of, pair_at}
+use Rattle.store_model.specs.declared.put_mode.PutMode.{PutMode}
+use Rattle.store_model.specs.declared.put_mode.PutMode.TheVariants.{Overwrite, NoOverwrite, NoDupData}
+use Rattle.store_model.specs.Evaluation.{Outcome, evaluation, evaluation_in, database_named, putting, reading, deleting}
+use Rattle.store_model.specs.Refusals.{or_refusal}
 use Rattle.db_catalog.specs.declared.db_record.DbRecord.{DbRecord}
-use Rattle.db_catalog.specs.Planning.{outcome_of, outcome_unless, logged_as, moved, renewed, IsRecordOf, IsCatalogOf, IsCatalogLog}
+use Rattle.db_catalog.specs.Planning.{there_refusal, name_refusal, outcome_of, outcome_unless, logged_as, moved, renewed, kind_in_catalog, found_in, IsRecordOf, IsFoundAs, IsCatalogOf, IsCatalogLog}
+use Rattle.db_catalog.specs.declared.found_db.FoundDb.{FoundDb}
+use Rattle.store_model.specs.declared.kind.Kind.{Kind}
+use Rattle.store_model.specs.declared.kind.Kind.TheVariants.{Plain, Dup}
 
 -- a call that was refused changes nothing
 unrefused : (refusal : Option Answer) (outcome : Outcome) (change : Change) → (outcome_unless refusal outcome).changes ≡ change ∷ [] → outcome.changes ≡ change ∷ []
@@ -40,14 +46,14 @@ there_in store change (Renames db to) None is h = absurd cc
 there_in store change (Renames db to) (Some d) is h = one store (Rename db to) change h (d, is)
 there_in store change (Truncate db) None is h = absurd cc
 there_in store change (Truncate db) (Some d) is h = one store (Empty db) change h (d, is)
-there_in store change (Puts db key value) None is h = absurd cc
-there_in store change (Puts db key value) (Some d) is h = one store (Set db _ value) change h tt
-there_in store change (PutNo db key value) None is h = absurd cc
-there_in store change (PutNo db key value) (Some d) is h = by (pair_at key d.pairs) h
+there_in store change (Puts db key value mode) None is h = absurd cc
+there_in store change (Puts db key value mode) (Some d) is h = by mode (pair_at key d.pairs) h
   where
-    by : (found : Option (List ℕ × List ℕ)) → (putting_new db key value found).changes ≡ change ∷ [] → NamesOneThere store change
-    by None h = one store (Set db _ value) change h tt
-    by (Some pair) h = absurd cc
+    by : (mode : PutMode) (found : Option (List ℕ × List ℕ)) → (putting mode db key value found).changes ≡ change ∷ [] → NamesOneThere store change
+    by Overwrite found h = one store (Set db _ value) change h tt
+    by NoOverwrite None h = one store (Set db _ value) change h tt
+    by NoOverwrite (Some pair) h = absurd cc
+    by NoDupData found h = absurd cc
 there_in store change (Get db key rmw) None is h = absurd cc
 there_in store change (Get db key rmw) (Some d) is h = by (pair_at key d.pairs) h
   where
@@ -60,11 +66,23 @@ there_in store change (Deletes db key) (Some d) is h = by (pair_at key d.pairs) 
     by : (found : Option (List ℕ × List ℕ)) → (deleting db key found).changes ≡ change ∷ [] → NamesOneThere store change
     by None h = absurd cc
     by (Some pair) h = one store (Unset db _) change h tt
+there_in store change (Begin level durability wait) o is h = absurd cc
+there_in store change Commit o is h = absurd cc
+there_in store change Abort o is h = absurd cc
+there_in store change (GetBoth db key value rmw) o is h = absurd cc
+there_in store change (Open cursor db) o is h = absurd cc
+there_in store change (Close cursor) o is h = absurd cc
+there_in store change (Duplicate cursor to) o is h = absurd cc
+there_in store change (Count cursor) o is h = absurd cc
+there_in store change (Cur cursor motion rmw) o is h = absurd cc
+there_in store change (CPutCur cursor value) o is h = absurd cc
+there_in store change (CDel cursor) o is h = absurd cc
+there_in store change (CPut cursor key value mode) o is h = absurd cc
 
 there : (store : Store) (change : Change) (call : Call) → (outcome_of call store).changes ≡ change ∷ [] → NamesOneThere store change
 there store change call h =
     there_in store change call (database_of (database_named call) store) refl
-    (unrefused (or_refusal (catalog_refusal call store) (length_refusal call)) (evaluation call store) change h)
+    (unrefused (or_refusal (there_refusal call store) (name_refusal call store)) (evaluation call store) change h)
 
 -- the record of a database that is there
 record_there : (store : Store) (record_of : List ℕ → Option DbRecord) → IsCatalogOf store record_of → (name : List ℕ) (d : Database) → database_of name store ≡ Some d → IsRecordOf (Some d) (record_of name)
@@ -85,3 +103,17 @@ planned_logged store record_of laws number call (Empty db) h =
     let d = there store (Empty db) call h in
     let found = record_there store record_of laws db d.0 d.1 in
     (d.0, d.1, ap (renewed db number) found.1)
+
+-- the kind that the catalog has for a database is that of the database
+found_as : (o : Option Database) (row : Option DbRecord) → IsRecordOf o row → IsFoundAs o (found_in row)
+found_as None row is = ap found_in is
+found_as (Some d) row is = (is.0, ap found_in is.1 ∙ by d.kind is.0)
+  where
+    by : (kind : Kind) (number : ℕ) → found_in (Some (record { number = number; kind = kind_in_catalog kind })) ≡ Some (record { number = number; kind = kind })
+    by Plain number = refl
+    by Dup number = refl
+
+pub seen_as : (store : Store) (record_of : List ℕ → Option DbRecord) → IsCatalogOf store record_of → (name : List ℕ) (result : Result (Option FoundDb) AllocError) →
+    IfOk result (λ found. found ≡ found_in (record_of name)) → IfOk result (λ found. IsFoundAs (database_of name store) found)
+seen_as store record_of laws name (Ok found) is = subst (IsFoundAs (database_of name store)) (sym is) (found_as (database_of name store) (record_of name) (laws name))
+seen_as store record_of laws name (Err error) is = tt

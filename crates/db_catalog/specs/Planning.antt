@@ -1,20 +1,22 @@
 -- What a call on the catalog comes to, and the catalog's records that a change logs.
-use Rattle.std.specs.Prelude.{ℕ, ◌≡◌, ◌∷◌, [], List, Option, Some, None, Bool, true, false}
-use Rattle.je_model.specs.declared.store.Store.{Store}
-use Rattle.je_model.specs.declared.store.Database.{Database}
-use Rattle.je_model.specs.declared.store.Kind.{Kind}
-use Rattle.je_model.specs.declared.store.Kind.TheVariants.{Plain}
-use Rattle.je_model.specs.declared.call.Call.{Call}
-use Rattle.je_model.specs.declared.call.Call.TheVariants.{Create, List as Lists, Remove as Removes, Rename as Renames, Truncate}
-use Rattle.je_model.specs.declared.change.Change.{Change}
-use Rattle.je_model.specs.declared.change.Change.TheVariants.{Set, Unset, Make, Remove, Rename, Empty}
-use Rattle.je_model.specs.declared.answer.Answer.{Answer}
-use Rattle.je_model.specs.Store.{database_of}
-use Rattle.je_model.specs.Evaluation.{Outcome, answers, evaluation}
-use Rattle.je_model.specs.Answers.{or_refusal, catalog_refusal, length_refusal}
+use Rattle.std.specs.Prelude.{ℕ, ◌≡◌, ◌∷◌, [], List, Option, Some, None, Bool, true, false, length}
+use Rattle.std.specs.Option.{is_some}
+use Rattle.store_model.specs.declared.store.Store.{Store}
+use Rattle.store_model.specs.declared.store.Database.{Database}
+use Rattle.store_model.specs.declared.kind.Kind.{Kind}
+use Rattle.store_model.specs.declared.kind.Kind.TheVariants.{Plain, Dup}
+use Rattle.store_model.specs.declared.call.Call.{Call}
+use Rattle.store_model.specs.declared.call.Call.TheVariants.{Create, List as Lists, Remove as Removes, Rename as Renames, Truncate}
+use Rattle.store_model.specs.declared.change.Change.{Change}
+use Rattle.store_model.specs.declared.change.Change.TheVariants.{Set, Unset, Make, Remove, Rename, Empty}
+use Rattle.store_model.specs.declared.answer.Answer.{Answer}
+use Rattle.store_model.specs.Store.{database_of}
+use Rattle.store_model.specs.Evaluation.{Outcome, answers, evaluation}
+use Rattle.store_model.specs.Refusals.{or_refusal, creation_refusal, access_refusal, taken_refusal}
 use Rattle.db_catalog.specs.declared.db_record.DbRecord.{DbRecord}
 use Rattle.db_catalog.specs.declared.db_kind.DbKind.{DbKind}
-use Rattle.db_catalog.specs.declared.db_kind.DbKind.TheVariants.{Plain as PlainRecord}
+use Rattle.db_catalog.specs.declared.db_kind.DbKind.TheVariants.{Plain as PlainRecord, Dup as DupRecord, SliceIndex, FieldIndex}
+use Rattle.db_catalog.specs.declared.found_db.FoundDb.{FoundDb}
 use Rattle.db_catalog.specs.declared.catalog_change.CatalogChange.{CatalogChange}
 use Rattle.db_catalog.specs.declared.catalog_change.CatalogChange.TheVariants.{Put, Delete}
 
@@ -32,18 +34,53 @@ abbrev pub outcome_unless : Option Answer → Outcome → Outcome
 outcome_unless None outcome = outcome
 outcome_unless (Some refusal) outcome = answers refusal
 
--- what a call comes to on a store: its refusal by the catalog or for a length, else what it evaluates to
+-- the database is not there
+abbrev pub there_refusal : Call → Store → Option Answer
+there_refusal (Removes db) store = access_refusal (is_some (database_of db store))
+there_refusal (Renames db to) store = access_refusal (is_some (database_of db store))
+there_refusal (Truncate db) store = access_refusal (is_some (database_of db store))
+there_refusal call store = None
+
+-- a name is taken, or there are too many databases
+abbrev pub name_refusal : Call → Store → Option Answer
+name_refusal (Create db kind) store = creation_refusal (is_some (database_of db store)) (length store.databases)
+name_refusal (Renames db to) store = taken_refusal (is_some (database_of to store))
+name_refusal call store = None
+
+-- what a call comes to on a store: the catalog's refusal, else what it evaluates to
 abbrev pub outcome_of : Call → Store → Outcome
-outcome_of call store = outcome_unless (or_refusal (catalog_refusal call store) (length_refusal call)) (evaluation call store)
+outcome_of call store = outcome_unless (or_refusal (there_refusal call store) (name_refusal call store)) (evaluation call store)
 
 -- a kind as the catalog has it
 abbrev pub kind_in_catalog : Kind → DbKind
 kind_in_catalog Plain = PlainRecord
+kind_in_catalog Dup = DupRecord
+
+-- the kind that the catalog has; an index has no records that a caller writes
+abbrev pub kind_of_catalog : DbKind → Option Kind
+kind_of_catalog PlainRecord = Some Plain
+kind_of_catalog DupRecord = Some Dup
+kind_of_catalog (SliceIndex primary offset len) = None
+kind_of_catalog (FieldIndex primary number separator) = None
 
 -- the record that a catalog has for a database: of its kind, under some number; none where there is no database
 abbrev pub IsRecordOf : Option Database → Option DbRecord → Type 0
 IsRecordOf None found = found ≡ None
 IsRecordOf (Some d) found = (number : ℕ) × (found ≡ Some (record { number = number; kind = kind_in_catalog d.kind }))
+
+-- what a planner of records asks first: whether a database is there, and its number and kind
+abbrev pub IsFoundAs : Option Database → Option FoundDb → Type 0
+IsFoundAs None found = found ≡ None
+IsFoundAs (Some d) found = (number : ℕ) × (found ≡ Some (record { number = number; kind = d.kind }))
+
+-- the same from the catalog's record
+abbrev pub found_db : ℕ → Option Kind → Option FoundDb
+found_db number None = None
+found_db number (Some kind) = Some (record { number = number; kind = kind })
+
+abbrev pub found_in : Option DbRecord → Option FoundDb
+found_in None = None
+found_in (Some r) = found_db r.number (kind_of_catalog r.kind)
 
 -- a catalog has a record for each database of the store, of its kind, and no other
 abbrev pub IsCatalogOf : Store → (List ℕ → Option DbRecord) → Type 0

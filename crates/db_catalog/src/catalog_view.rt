@@ -1,7 +1,7 @@
 // The trait of views of the catalog.
 ghost use Rattle.std.specs.Prelude.{◌≡◌, ℕ, List as Items, Option, IfOk, is_some, length};
-ghost use Rattle.je_model.specs.declared.store.Store.{Store as Stored};
-ghost use Rattle.je_model.specs.Store.{database_of, names_of};
+ghost use Rattle.store_model.specs.declared.store.Store.{Store as Stored};
+ghost use Rattle.store_model.specs.Store.{database_of, names_of};
 ghost use Rattle.db_catalog.specs.Planning.{IsCatalogOf};
 ghost use Rattle.db_catalog.specs.declared.db_record.DbRecord.{DbRecord as Row};
 

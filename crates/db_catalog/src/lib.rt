@@ -10,10 +10,12 @@ pub mod catalog_change;
 pub mod catalog_view;
 pub mod db_kind;
 pub mod db_record;
+pub mod found_db;
 pub mod planning;
 
 pub use catalog_change::CatalogChange;
 pub use catalog_view::CatalogView;
 pub use db_kind::DbKind;
 pub use db_record::DbRecord;
+pub use found_db::{FoundDb, find_db};
 pub use planning::{CatalogPlan, catalog_changes, plan};

@@ -1,14 +1,14 @@
 // What a call on the catalog comes to.
 ghost use Rattle.std.specs.Prelude.{◌≡◌, ◌∷◌, [], true, IfOk};
-ghost use Rattle.je_model.specs.Evaluation.{answers, changes_by};
-ghost use Rattle.je_model.specs.declared.call.Call.{Call as Planned};
-ghost use Rattle.je_model.specs.declared.call.Call.TheVariants.{Create, List as Lists, Remove as Removes, Rename as Renames, Truncate};
+ghost use Rattle.store_model.specs.Evaluation.{answers, changes_by};
+ghost use Rattle.store_model.specs.declared.call.Call.{Call as Planned};
+ghost use Rattle.store_model.specs.declared.call.Call.TheVariants.{Create, List as Lists, Remove as Removes, Rename as Renames, Truncate};
 ghost use Rattle.db_catalog.specs.Planning.{is_catalog_call, outcome_of, logged_as, kind_in_catalog, moved, renewed, IsCatalogLog};
 
 use crate::{CatalogChange, CatalogView, DbKind, DbRecord};
-use je_model::{Answer, Call, Change, Kind, MOST_DATABASES};
 use je_order::{List, Word, copy_of};
 use std::alloc::{AllocError, Global};
+use store_model::{Answer, Call, Change, Kind, MOST_DATABASES};
 
 /// What a call comes to: its answer, and the changes that it makes, in order.
 #[derive(Drop)]
@@ -130,9 +130,7 @@ pub fn plan<V: CatalogView>(alloc: Global, view: &V, call: &Call) -> Result<Cata
         Call::Remove { db } => plan_remove(alloc, view, db),
         Call::Rename { db, to } => plan_rename(alloc, view, db, to),
         Call::Truncate { db } => plan_truncate(alloc, view, db),
-        Call::Put { .. } | Call::PutNo { .. } | Call::Get { .. } | Call::Delete { .. } => {
-            unreachable!()
-        }
+        _ => unreachable!(),
     }
 }
 
@@ -150,6 +148,7 @@ fn catalog_kind(kind: &Kind) -> DbKind
 {
     match kind {
         Kind::Plain => DbKind::Plain,
+        Kind::Dup => DbKind::Dup,
     }
 }
 

@@ -6,7 +6,7 @@ use Rattle.std.proofs.lemmas.Bool.{true≢false, ltb-false, ltb-true, and_parts}
 use Rattle.std.proofs.lemmas.List.{append-nil, map-append}
 use Rattle.std.specs.List.{AllByRecursion}
 use Rattle.je_bytes.specs.Reading.{number_in as bytes_number_in}
-use Rattle.je_model.specs.declared.store.Store.{Store}
+use Rattle.store_model.specs.declared.store.Store.{Store}
 use Rattle.je_order.specs.declared.name.Name.{Name}
 use Rattle.je_lsn.specs.Naming.{last_file}
 use Rattle.log_entry.specs.declared.entry.Entry.{Entry}

@@ -2,8 +2,8 @@
 use Rattle.std.proofs.Common.{◌≡◌, ℕ, ◌+◌, ◌/◌, ◌^◌, ◌<◌, ◌≤◌, ◌==◌, nat_le, nat_lt, Bool, true, false, cond, List, [], ◌∷◌, ◌++◌, Option, None, Some, Result, Ok, map, option_map, filter, take, refl, sym, ap, subst, ◌∙◌, arith, ◌⊎◌, inl, inr}
 use Rattle.std.proofs.lemmas.Bool.{lt-ltb, le-leb, lt-leb, eqb-true, eq-eqb, cond-true, cond-false, cases_lt}
 use Rattle.std.specs.List.{AllByRecursion}
-use Rattle.je_model.specs.declared.store.Store.{Store}
-use Rattle.je_model.specs.Store.{store_after}
+use Rattle.store_model.specs.declared.store.Store.{Store}
+use Rattle.store_model.specs.Store.{store_after}
 use Rattle.log_file.specs.Log.{log_in}
 use Rattle.log_replay.specs.declared.corruption.Corruption.{Corruption}
 use Rattle.log_replay.specs.Rows.{is_environment}

@@ -5,15 +5,15 @@ use Rattle.std.proofs.lemmas.List.{take_all, drop_all, take-append-le, drop-appe
 use Rattle.std.proofs.lemmas.List.Sums.{sum_by-append}
 use Rattle.std.proofs.lemmas.Bool.{cases_lt}
 use Rattle.std.specs.List.{AllByRecursion, list_all, count_by}
-use Rattle.je_model.specs.declared.change.Change.{Change}
-use Rattle.je_model.specs.declared.store.Store.{Store}
-use Rattle.je_model.specs.declared.store.Database.{Database}
-use Rattle.je_model.specs.declared.store.Kind.TheVariants.{Plain}
-use Rattle.je_model.specs.declared.store.TheConstants.{MOST_DATABASES}
-use Rattle.je_model.specs.Store.{store_after}
-use Rattle.log_replay.specs.Rows.{Row, Rows, catalog_number, numbers_of, is_catalog_row, are_distinct, are_plain, is_environment, pair_of, database_in, store_of, no_rows}
+use Rattle.store_model.specs.declared.change.Change.{Change}
+use Rattle.store_model.specs.declared.store.Store.{Store}
+use Rattle.store_model.specs.declared.store.Database.{Database}
+use Rattle.store_model.specs.declared.store.TheConstants.{MOST_DATABASES}
+use Rattle.store_model.specs.Store.{store_after}
+use Rattle.log_replay.specs.Rows.{Row, Rows, catalog_number, catalog_kind, numbers_of, is_catalog_row, are_distinct, are_right, rows_of_row, is_environment, database_in, store_of, no_rows}
 use Rattle.log_replay.proofs.MapRows.{lookup_is_data}
 use Rattle.log_replay.proofs.LoadedRows.{same_rows}
+use Rattle.log_replay.proofs.StoreLaws.{same_database}
 use Rattle.log_replay.proofs.ListLaws.{all_of_map, map_same}
 use Rattle.je_order.proofs.Lists.{all_weaker}
 use Rattle.log_trees.specs.Placed.{Placed}
@@ -25,32 +25,31 @@ use Rattle.log_meaning.proofs.Listing.{found-after, listed_in_order}
 
 -- ---- records that are the same in the databases that a catalog names
 
-all_same : (p q : ℕ → Bool) (ns : List ℕ) → AllByRecursion (λ n. p n ≡ q n) ns → list_all p ns ≡ list_all q ns
+all_same : (p q : Row → Bool) (ns : List Row) → AllByRecursion (λ n. p n ≡ q n) ns → list_all p ns ≡ list_all q ns
 all_same p q [] all = refl
 all_same p q (n ∷ ns) all = ap₂ (λ a b. a && b) all.0 (all_same p q ns all.1)
 
 -- what makes records an environment's, told by the catalog's records and the other databases'
 abbrev environment_with : List Row → Rows → Bool
 environment_with catalog rows =
-    list_all is_catalog_row catalog && are_distinct (map (λ r. catalog_number r.1) catalog) && list_all (λ n. are_plain (rows n)) (map (λ r. catalog_number r.1) catalog)
+    list_all is_catalog_row catalog && are_distinct (map (λ r. catalog_number r.1) catalog) && list_all (λ r. are_right (catalog_kind r.1) (rows_of_row rows r)) catalog
     && nat_le (length catalog) MOST_DATABASES
 
 same_environment : (a b : Rows) → a 0 ≡ b 0 → AllByRecursion (λ n. a n ≡ b n) (numbers_of b) → is_environment a ≡ is_environment b
 same_environment a b zero_same each =
     ap (λ (catalog : List Row). environment_with catalog a) zero_same
     ∙ ap (λ (t : Bool). list_all is_catalog_row (b 0) && are_distinct (numbers_of b) && t && nat_le (length (b 0)) MOST_DATABASES)
-    (all_same (λ n. are_plain (a n)) (λ n. are_plain (b n)) (numbers_of b) (all_weaker (λ n. a n ≡ b n) (λ n. are_plain (a n) ≡ are_plain (b n)) (λ n h. ap are_plain h) (numbers_of b) each))
+    (all_same (λ r. are_right (catalog_kind r.1) (rows_of_row a r)) (λ r. are_right (catalog_kind r.1) (rows_of_row b r)) (b 0)
+    (all_weaker (λ (r : Row). a (catalog_number r.1) ≡ b (catalog_number r.1)) (λ r. are_right (catalog_kind r.1) (rows_of_row a r) ≡ are_right (catalog_kind r.1) (rows_of_row b r))
+    (λ r h. ap (are_right (catalog_kind r.1)) h) (b 0) (all_of_map (λ (r : Row). catalog_number r.1) (λ n. a n ≡ b n) (b 0) each)))
 
 same_store : (a b : Rows) → a 0 ≡ b 0 → AllByRecursion (λ n. a n ≡ b n) (numbers_of b) → store_of a ≡ store_of b
 same_store a b zero_same each =
     let make : List Database → Store = λ l. record { databases = l } in
     ap (λ (catalog : List Row). make (map (database_in a) catalog)) zero_same
     ∙ ap make (map_same (database_in a) (database_in b) (b 0)
-    (all_weaker (λ (r : Row). a (catalog_number r.1) ≡ b (catalog_number r.1)) (λ r. database_in a r ≡ database_in b r) named (b 0)
+    (all_weaker (λ (r : Row). a (catalog_number r.1) ≡ b (catalog_number r.1)) (λ r. database_in a r ≡ database_in b r) (λ r h. same_database a b r h) (b 0)
     (all_of_map (λ (r : Row). catalog_number r.1) (λ n. a n ≡ b n) (b 0) each)))
-  where
-    named : (r : Row) → a (catalog_number r.1) ≡ b (catalog_number r.1) → database_in a r ≡ database_in b r
-    named r h = let with_rows : List Row → Database = λ l. record { name = r.0.key; kind = Plain; pairs = map pair_of l } in ap with_rows h
 
 pub stands_leaves : StandsLeaves
 stands_leaves first es base next is_open rows is_live logged kept s roots redo up data_is zero_open all_open environment =

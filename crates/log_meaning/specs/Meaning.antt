@@ -1,7 +1,7 @@
 -- What a log means: the store, and the numbers that were allocated last.
 use Rattle.std.specs.Prelude.{◌≡◌, ◌<◌, ◌≤◌, ℕ, ◌==◌, max, if◌then◌else◌, List, [], ◌∷◌, Option, option_map, unwrap_or, IfSome}
 use Rattle.je_order.specs.declared.name.Name.{Name}
-use Rattle.je_model.specs.declared.store.Store.{Store}
+use Rattle.store_model.specs.declared.store.Store.{Store}
 use Rattle.log_entry.specs.declared.entry.Entry.{Entry}
 use Rattle.log_entry.specs.declared.entry.Entry.TheVariants.{Migrated, In, Bin, BinDelta}
 use Rattle.log_replay.specs.Rows.{Rows, no_rows, store_of, catalog_number}

@@ -16,8 +16,12 @@ pub mod WrongLaws
 pub mod LogLaws
 -- A replay that is under way, from entry to entry.
 pub mod ReplayLaws
--- What one more transaction in a log leaves, and how long the log is then.
+-- What a name finds in records after a change.
+pub mod NameLaws
+-- What a transaction's changes of records leave: the records of an environment, their store and the databases' numbers.
 pub mod LoggedLaws
+-- What one more transaction in a log leaves.
+pub mod TransactionLaws
 -- Several changes of records, one after another.
 pub mod RowChanges
 -- The databases that a catalog names are those that the records make.

@@ -58,7 +58,7 @@ within-changed last_txn last_db c rows here all = record {
 }
 
 -- and so do several changes
-within-all_changed : (last_txn last_db : ℕ) (cs : List RowChange) (rows : Rows) → AllByRecursion (IsWithin last_txn last_db) cs → AreWithin last_db rows →
+pub within-all_changed : (last_txn last_db : ℕ) (cs : List RowChange) (rows : Rows) → AllByRecursion (IsWithin last_txn last_db) cs → AreWithin last_db rows →
     AreWithin last_db (rows_changed cs rows)
 within-all_changed last_txn last_db [] rows here all = all
 within-all_changed last_txn last_db (c ∷ cs) rows here all =

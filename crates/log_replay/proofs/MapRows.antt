@@ -15,8 +15,7 @@ use Rattle.std.specs.List.Sorted.{IsStrictlySortedBy}
 use Rattle.std.specs.Map.{lookup, keys_of, remove_entry}
 use Rattle.std.specs.BTreeMap.{insert_entry, is_at}
 use Rattle.std.proofs.lemmas.Cmp.{nat_list_cmp_total, on_total, then_total}
-use Rattle.std.proofs.lemmas.Map.Lookups.{exact_bytes}
-use Rattle.je_order.specs.Order.{name_cmp, bytes_cmp}
+use Rattle.je_order.specs.Order.{name_cmp}
 use Rattle.je_order.specs.declared.name.Name.{Name}
 use Rattle.log_replay.specs.Rows.{Row, RowChange, IsRising, rows_with, rows_in, row_changed, data_at}
 use Rattle.std.proofs.lemmas.Bool.Decides.{nat_tests}

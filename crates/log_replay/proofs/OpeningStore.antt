@@ -1,7 +1,7 @@
 -- The databases that a catalog names are those that the records make.
 use Rattle.std.proofs.Common.{◌≡◌, List, [], ◌∷◌, refl, ap, ◌∙◌, map}
-use Rattle.je_model.specs.declared.store.Store.{Store}
-use Rattle.je_model.specs.declared.store.Database.{Database}
+use Rattle.store_model.specs.declared.store.Store.{Store}
+use Rattle.store_model.specs.declared.store.Database.{Database}
 use Rattle.log_replay.specs.declared.named.Named.{Named}
 use Rattle.log_replay.specs.Rows.{Row, Rows, database_in, store_of}
 use Rattle.log_replay.specs.Opening.{named_by, database_with_rows}

@@ -8,17 +8,17 @@ use Rattle.std.specs.Cmp.Lexicographic.{slice_cmp}
 use Rattle.std.proofs.lemmas.Bool.{cases_Bool, cond-true, cond-false, true≢false, eqb-true}
 use Rattle.std.proofs.lemmas.Option.{none-some, same_Some}
 use Rattle.std.proofs.lemmas.Cmp.{then_total, on_total, nat_list_cmp_total}
-use Rattle.std.proofs.lemmas.Map.Lookups.{exact_bytes}
 use Rattle.std.proofs.lemmas.List.{map-append, nil_from_length}
 use Rattle.std.proofs.lemmas.List.Filters.{length-filter_both}
 use Rattle.std.proofs.lemmas.List.Kept.{IsStrictlySortedBy-filter}
 use Rattle.je_order.specs.Order.{bytes_cmp, name_cmp, is_same_bytes}
 use Rattle.je_order.specs.declared.name.Name.{Name}
-use Rattle.je_model.specs.declared.store.Kind.TheVariants.{Plain}
-use Rattle.je_model.specs.Store.{pair_at, pairs_with, pairs_without}
-use Rattle.je_model.specs.Evaluation.{plain_name}
-use Rattle.log_replay.specs.Rows.{Row, rows_with, row_at, data_at, IsRising, are_plain, pair_of}
-use Rattle.log_replay.proofs.ListLaws.{all_true, all_from_true, filter-all, filter-none, find-map, filter-map, none_found}
+use Rattle.store_model.specs.declared.kind.Kind.{Kind}
+use Rattle.store_model.specs.declared.kind.Kind.TheVariants.{Plain, Dup}
+use Rattle.store_model.specs.Store.{Pair, name_of, proper, pair_for, pair_at, pairs_with, pairs_without}
+use Rattle.store_model.specs.Evaluation.{plain_name}
+use Rattle.log_replay.specs.Rows.{Row, rows_with, row_at, data_at, IsRising, is_right_row, are_right, pair_of}
+use Rattle.log_replay.proofs.ListLaws.{all_true, all_from_true, filter-all, filter-none, find-map, filter-map, none_found, none_found_in}
 use Rattle.je_order.proofs.Lists.{all_weaker, all_append, all_kept, filter_all_pass}
 use Rattle.je_order.proofs.Orderings.{less_from_test, equal_from_test, greater_from_test, name_exact}
 
@@ -66,65 +66,79 @@ name_cmp-plain name key h =
 pub plain_name-key : (name : Name) → name.dup ≡ [] → name ≡ plain_name name.key
 plain_name-key name h = let make : List ℕ → Name = λ d. record { key = name.key; dup = d } in ap make h
 
--- ---- plain records
+-- ---- records of a kind
 
--- plain records have empty dups
-pub dups_empty : (rows : List Row) → are_plain rows ≡ true → AllByRecursion (λ r. r.0.dup ≡ []) rows
-dups_empty rows h =
-    all_weaker (λ (r : Row). (length r.0.dup == 0) ≡ true) (λ r. r.0.dup ≡ []) (λ r e. nil_from_length r.0.dup (eqb-true (length r.0.dup) 0 e)) rows
-    (all_true (λ (r : Row). length r.0.dup == 0) rows h)
+-- the name of a right record's pair is the record's
+pub name_of-right : (kind : Kind) (row : Row) → is_right_row kind row ≡ true → name_of kind (pair_of kind row) ≡ row.0
+name_of-right Plain row h = sym (plain_name-key row.0 (nil_from_length row.0.dup (eqb-true (length row.0.dup) 0 h)))
+name_of-right Dup row h = refl
 
--- records with empty dups are plain
-pub plain_from_dups : (rows : List Row) → AllByRecursion (λ r. r.0.dup ≡ []) rows → are_plain rows ≡ true
-plain_from_dups rows h =
-    all_from_true (λ (r : Row). length r.0.dup == 0) rows
-    (all_weaker (λ (r : Row). r.0.dup ≡ []) (λ r. (length r.0.dup == 0) ≡ true) (λ r e. ap (λ d. length d == 0) e) rows h)
+-- and it is a name of the kind
+pub proper-right : (kind : Kind) (at : Name) (value : List ℕ) → is_right_row kind (at, value) ≡ true → proper kind at ≡ at
+proper-right Plain at value h = sym (plain_name-key at (nil_from_length at.dup (eqb-true (length at.dup) 0 h)))
+proper-right Dup at value h = refl
 
--- a key finds in the pairs what its name finds in the records
-pub pair_at-rows : (rows : List Row) (key : List ℕ) → are_plain rows ≡ true →
-    pair_at key (map pair_of rows) ≡ option_map pair_of (row_at (plain_name key) rows)
+-- the pair that is set is the record's
+pair_for-is : (kind : Kind) (at : Name) (value : List ℕ) → pair_for kind at value ≡ pair_of kind (at, value)
+pair_for-is Plain at value = refl
+pair_for-is Dup at value = refl
+
+-- right records, one by one
+each_right : (kind : Kind) (rows : List Row) → are_right kind rows ≡ true → AllByRecursion (λ r. name_of kind (pair_of kind r) ≡ r.0) rows
+each_right kind rows right =
+    all_weaker (λ (r : Row). is_right_row kind r ≡ true) (λ r. name_of kind (pair_of kind r) ≡ r.0) (λ r e. name_of-right kind r e) rows
+    (all_true (is_right_row kind) rows right)
+
+-- a test of the pairs' names is one of the records'
+tested : (kind : Kind) (at : Name) (test : Ordering → Bool) (rows : List Row) → are_right kind rows ≡ true → proper kind at ≡ at →
+    filter (λ p. test (name_cmp (name_of kind p) (proper kind at))) (map (pair_of kind) rows) ≡ map (pair_of kind) (filter (λ r. test (name_cmp r.0 at)) rows)
+tested kind at test rows right own =
+    filter-map (pair_of kind) (λ p. test (name_cmp (name_of kind p) (proper kind at))) (λ r. test (name_cmp r.0 at)) rows
+    (all_weaker (λ (r : Row). name_of kind (pair_of kind r) ≡ r.0) (λ r. test (name_cmp (name_of kind (pair_of kind r)) (proper kind at)) ≡ test (name_cmp r.0 at))
+    (λ r e. ap₂ (λ (a b : Name). test (name_cmp a b)) e own) rows (each_right kind rows right))
+
+-- a key finds in the pairs of a plain database what its name finds in the records
+pub pair_at-rows : (rows : List Row) (key : List ℕ) → are_right Plain rows ≡ true →
+    pair_at key (map (pair_of Plain) rows) ≡ option_map (pair_of Plain) (row_at (plain_name key) rows)
 pair_at-rows rows key plain =
-    find-map pair_of (λ p. is_same_bytes p.0 key) (λ r. is_eq (name_cmp r.0 (plain_name key))) rows
-    (all_weaker (λ (r : Row). r.0.dup ≡ []) (λ r. is_same_bytes r.0.key key ≡ is_eq (name_cmp r.0 (plain_name key)))
-    (λ r e. ap is_eq (sym (name_cmp-plain r.0 key e))) rows (dups_empty rows plain))
+    find-map (pair_of Plain) (λ p. is_same_bytes p.0 key) (λ r. is_eq (name_cmp r.0 (plain_name key))) rows
+    (all_weaker (λ (r : Row). (length r.0.dup == 0) ≡ true) (λ r. is_same_bytes r.0.key key ≡ is_eq (name_cmp r.0 (plain_name key)))
+    (λ r e. ap is_eq (sym (name_cmp-plain r.0 key (nil_from_length r.0.dup (eqb-true (length r.0.dup) 0 e))))) rows (all_true (is_right_row Plain) rows plain))
 
--- data set in the records is set in the pairs
-pub pairs_with-rows : (rows : List Row) (at : Name) (value : List ℕ) → are_plain rows ≡ true → at.dup ≡ [] →
-    map pair_of (rows_with at (Some value) rows) ≡ pairs_with Plain at value (map pair_of rows)
-pairs_with-rows rows at value plain dup =
-    let empty = dups_empty rows plain in
-    let by_key : (r : Row) → r.0.dup ≡ [] → name_cmp r.0 at ≡ bytes_cmp r.0.key at.key =
-    λ r e. ap (λ n. name_cmp r.0 n) (plain_name-key at dup) ∙ name_cmp-plain r.0 at.key e in
-    let below : filter (λ p. is_lt (bytes_cmp p.0 at.key)) (map pair_of rows) ≡ map pair_of (filter (λ r. is_lt (name_cmp r.0 at)) rows) =
-    filter-map pair_of (λ p. is_lt (bytes_cmp p.0 at.key)) (λ r. is_lt (name_cmp r.0 at)) rows
-    (all_weaker (λ (r : Row). r.0.dup ≡ []) (λ r. is_lt (bytes_cmp r.0.key at.key) ≡ is_lt (name_cmp r.0 at)) (λ r e. ap is_lt (sym (by_key r e))) rows empty) in
-    let above : filter (λ p. is_gt (bytes_cmp p.0 at.key)) (map pair_of rows) ≡ map pair_of (filter (λ r. is_gt (name_cmp r.0 at)) rows) =
-    filter-map pair_of (λ p. is_gt (bytes_cmp p.0 at.key)) (λ r. is_gt (name_cmp r.0 at)) rows
-    (all_weaker (λ (r : Row). r.0.dup ≡ []) (λ r. is_gt (bytes_cmp r.0.key at.key) ≡ is_gt (name_cmp r.0 at)) (λ r e. ap is_gt (sym (by_key r e))) rows empty) in
-    map-append pair_of (filter (λ (r : Row). is_lt (name_cmp r.0 at)) rows) ((at, value) ∷ filter (λ (r : Row). is_gt (name_cmp r.0 at)) rows)
-    ∙ ap₂ (λ a b. a ++ (at.key, value) ∷ b) (sym below) (sym above)
+-- a record set in the records is set in the pairs
+pub pairs_with-rows : (kind : Kind) (rows : List Row) (at : Name) (value : List ℕ) → are_right kind rows ≡ true → is_right_row kind (at, value) ≡ true →
+    map (pair_of kind) (rows_with at (Some value) rows) ≡ pairs_with kind at value (map (pair_of kind) rows)
+pairs_with-rows kind rows at value right own =
+    let proper_ = proper-right kind at value own in
+    map-append (pair_of kind) (filter (λ (r : Row). is_lt (name_cmp r.0 at)) rows) ((at, value) ∷ filter (λ (r : Row). is_gt (name_cmp r.0 at)) rows)
+    ∙ ap₂ (λ (a b : List Pair). a ++ pair_of kind (at, value) ∷ b) (sym (tested kind at is_lt rows right proper_)) (sym (tested kind at is_gt rows right proper_))
+    ∙ ap
+    (λ (p : Pair). filter (λ q. is_lt (name_cmp (name_of kind q) (proper kind at))) (map (pair_of kind) rows)
+    ++ p ∷ filter (λ q. is_gt (name_cmp (name_of kind q) (proper kind at))) (map (pair_of kind) rows))
+    (sym (pair_for-is kind at value))
 
 -- a name taken out of the records is taken out of the pairs
-pub pairs_without-rows : (rows : List Row) (at : Name) → are_plain rows ≡ true → at.dup ≡ [] →
-    map pair_of (rows_with at None rows) ≡ pairs_without Plain at (map pair_of rows)
-pairs_without-rows rows at plain dup =
-    let by_key : (r : Row) → r.0.dup ≡ [] → name_cmp r.0 at ≡ bytes_cmp r.0.key at.key =
-    λ r e. ap (λ n. name_cmp r.0 n) (plain_name-key at dup) ∙ name_cmp-plain r.0 at.key e in
-    sym (filter-map pair_of (λ p. not (is_same_bytes p.0 at.key)) (λ r. not (is_eq (name_cmp r.0 at))) rows
-    (all_weaker (λ (r : Row). r.0.dup ≡ []) (λ r. not (is_same_bytes r.0.key at.key) ≡ not (is_eq (name_cmp r.0 at)))
-    (λ r e. ap (λ o. not (is_eq o)) (sym (by_key r e))) rows (dups_empty rows plain)))
+pub pairs_without-rows : (kind : Kind) (rows : List Row) (at : Name) → are_right kind rows ≡ true → proper kind at ≡ at →
+    map (pair_of kind) (rows_with at None rows) ≡ pairs_without kind at (map (pair_of kind) rows)
+pairs_without-rows kind rows at right own = sym (tested kind at (λ o. not (is_eq o)) rows right own)
 
--- a change with an empty dup leaves records plain
-pub plain-changed : (rows : List Row) (at : Name) (value : Option (List ℕ)) → are_plain rows ≡ true → at.dup ≡ [] → are_plain (rows_with at value rows) ≡ true
-plain-changed rows at None plain dup =
-    plain_from_dups (rows_with at None rows) (all_kept (λ r. r.0.dup ≡ []) (λ r. not (is_eq (name_cmp r.0 at))) rows (dups_empty rows plain))
-plain-changed rows at (Some value) plain dup =
-    let empty = dups_empty rows plain in
-    let P : Row → Type 0 = λ r. r.0.dup ≡ [] in
-    plain_from_dups (rows_with at (Some value) rows)
+-- what a name is set to is a right record
+abbrev pub IsRightValue : Kind → Name → Option (List ℕ) → Type 0
+IsRightValue kind at None = Unit {0}
+IsRightValue kind at (Some value) = is_right_row kind (at, value) ≡ true
+
+-- a change to such a record leaves records right
+pub right-changed : (kind : Kind) (rows : List Row) (at : Name) (value : Option (List ℕ)) → are_right kind rows ≡ true → IsRightValue kind at value →
+    are_right kind (rows_with at value rows) ≡ true
+right-changed kind rows at None right own =
+    all_from_true (is_right_row kind) (rows_with at None rows)
+    (all_kept (λ r. is_right_row kind r ≡ true) (λ r. not (is_eq (name_cmp r.0 at))) rows (all_true (is_right_row kind) rows right))
+right-changed kind rows at (Some value) right own =
+    let P : Row → Type 0 = λ r. is_right_row kind r ≡ true in
+    let each : AllByRecursion P rows = all_true (is_right_row kind) rows right in
+    all_from_true (is_right_row kind) (rows_with at (Some value) rows)
     (all_append P (filter (λ r. is_lt (name_cmp r.0 at)) rows) ((at, value) ∷ filter (λ r. is_gt (name_cmp r.0 at)) rows)
-    (all_kept P (λ r. is_lt (name_cmp r.0 at)) rows empty)
-    (dup, all_kept P (λ r. is_gt (name_cmp r.0 at)) rows empty))
+    (all_kept P (λ r. is_lt (name_cmp r.0 at)) rows each) (own, all_kept P (λ r. is_gt (name_cmp r.0 at)) rows each))
 
 -- ---- rising names
 
@@ -272,3 +286,61 @@ row_of_data name rows bytes h = row_of_mapped (row_at name rows) bytes h
 -- where there is no data there is no record
 pub no_row_of_data : (name : Name) (rows : List Row) → data_at name rows ≡ None → row_at name rows ≡ None
 no_row_of_data name rows h = no_row_of_mapped (row_at name rows) h
+
+-- ---- a name that is there and is set again
+
+-- the front row, by how it compares to the name
+replaced_step : (o : Ordering) (r : Row) (rows : List Row) (at : Name) (value : List ℕ) (row : Row) → IsRising (r ∷ rows) → name_cmp r.0 at ≡ o →
+    row_at at (r ∷ rows) ≡ Some row →
+    (row_at at rows ≡ Some row → rows_with at (Some value) rows ≡ map (λ (y : Row). cond (is_eq (name_cmp y.0 at)) (at, value) y) rows) →
+    cond (is_lt o) (r ∷ filter (λ (y : Row). is_lt (name_cmp y.0 at)) rows) (filter (λ (y : Row). is_lt (name_cmp y.0 at)) rows)
+    ++ (at, value) ∷ cond (is_gt o) (r ∷ filter (λ (y : Row). is_gt (name_cmp y.0 at)) rows) (filter (λ (y : Row). is_gt (name_cmp y.0 at)) rows)
+    ≡ cond (is_eq o) (at, value) r ∷ map (λ (y : Row). cond (is_eq (name_cmp y.0 at)) (at, value) y) rows
+replaced_step Less r rows at value row up e there behind =
+    ap (λ (l : List Row). r ∷ l) (behind (sym (cond-false (is_eq (name_cmp r.0 at)) (Some r) (row_at at rows) (ap is_eq e)) ∙ there))
+replaced_step Equal r rows at value row up e there behind =
+    let name : r.0 ≡ at = name_exact r.0 at e in
+    let later : AllByRecursion (λ (y : Row). name_cmp y.0 at ≡ Greater) rows =
+    all_weaker (λ (y : Row). name_cmp r.0 y.0 ≡ Less) (λ y. name_cmp y.0 at ≡ Greater)
+    (λ y f. ap (λ n. name_cmp y.0 n) (sym name) ∙ name_flipped r.0 y.0 f) rows (rising_head r rows up) in
+    ap₂ (λ (a b : List Row). a ++ (at, value) ∷ b)
+    (filter-none (λ (y : Row). is_lt (name_cmp y.0 at)) rows (all_weaker (λ (y : Row). name_cmp y.0 at ≡ Greater) (λ y. is_lt (name_cmp y.0 at) ≡ false) (λ y g. ap is_lt g) rows later))
+    (filter-all (λ (y : Row). is_gt (name_cmp y.0 at)) rows (all_weaker (λ (y : Row). name_cmp y.0 at ≡ Greater) (λ y. is_gt (name_cmp y.0 at) ≡ true) (λ y g. ap is_gt g) rows later))
+    ∙ ap (λ (l : List Row). (at, value) ∷ l) (sym (kept rows later))
+  where
+    kept : (l : List Row) → AllByRecursion (λ (y : Row). name_cmp y.0 at ≡ Greater) l → map (λ (y : Row). cond (is_eq (name_cmp y.0 at)) (at, value) y) l ≡ l
+    kept [] h = refl
+    kept (y ∷ l) h = ap₂ (λ (a : Row) (b : List Row). a ∷ b) (cond-false (is_eq (name_cmp y.0 at)) (at, value) y (ap is_eq h.0)) (kept l h.1)
+replaced_step Greater r rows at value row up e there behind =
+    let above = above_all r rows at up (name_flipped_back r.0 at e) in
+    let none : row_at at rows ≡ None =
+    none_found_in (λ (y : Row). is_eq (name_cmp y.0 at)) rows (all_weaker (λ (y : Row). name_cmp y.0 at ≡ Greater) (λ y. is_eq (name_cmp y.0 at) ≡ false) (λ y g. ap is_eq g) rows above) in
+    absurd (none-some row (sym none ∙ sym (cond-false (is_eq (name_cmp r.0 at)) (Some r) (row_at at rows) (ap is_eq e)) ∙ there))
+
+-- a name that is there keeps its place where it is set
+pub replaced : (rows : List Row) (at : Name) (value : List ℕ) (row : Row) → IsRising rows → row_at at rows ≡ Some row →
+    rows_with at (Some value) rows ≡ map (λ (y : Row). cond (is_eq (name_cmp y.0 at)) (at, value) y) rows
+replaced [] at value row up there = absurd (none-some row there)
+replaced (r ∷ rows) at value row up there =
+    replaced_step (name_cmp r.0 at) r rows at value row up refl there (λ later. replaced rows at value row (rising_tail r rows up) later)
+
+-- a name that was taken out is set as if it had not been
+pub set_over_unset : (rows : List Row) (at : Name) (value : List ℕ) → rows_with at (Some value) (rows_with at None rows) ≡ rows_with at (Some value) rows
+set_over_unset rows at value =
+    ap₂ (λ (a b : List Row). a ++ (at, value) ∷ b) (skipped is_lt refl rows) (skipped is_gt refl rows)
+  where
+    skipped : (test : Ordering → Bool) → test Equal ≡ false → (l : List Row) →
+        filter (λ (r : Row). test (name_cmp r.0 at)) (filter (λ (r : Row). not (is_eq (name_cmp r.0 at))) l) ≡ filter (λ (r : Row). test (name_cmp r.0 at)) l
+    skipped test fails [] = refl
+    skipped test fails (r ∷ l) = by_order (name_cmp r.0 at) refl (skipped test fails l)
+      where
+        by_order : (o : Ordering) → name_cmp r.0 at ≡ o → filter (λ (y : Row). test (name_cmp y.0 at)) (filter (λ (y : Row). not (is_eq (name_cmp y.0 at))) l) ≡ filter (λ (y : Row). test (name_cmp y.0 at)) l →
+            filter (λ (y : Row). test (name_cmp y.0 at)) (cond (not (is_eq o)) (r ∷ filter (λ (y : Row). not (is_eq (name_cmp y.0 at))) l) (filter (λ (y : Row). not (is_eq (name_cmp y.0 at))) l))
+            ≡ cond (test o) (r ∷ filter (λ (y : Row). test (name_cmp y.0 at)) l) (filter (λ (y : Row). test (name_cmp y.0 at)) l)
+        by_order Less e rest =
+            ap (λ (b : Bool). cond b (r ∷ filter (λ (y : Row). test (name_cmp y.0 at)) (filter (λ (y : Row). not (is_eq (name_cmp y.0 at))) l)) (filter (λ (y : Row). test (name_cmp y.0 at)) (filter (λ (y : Row). not (is_eq (name_cmp y.0 at))) l))) (ap test e)
+            ∙ ap (λ (m : List Row). cond (test Less) (r ∷ m) m) rest
+        by_order Equal e rest = rest ∙ sym (cond-false (test Equal) (r ∷ filter (λ (y : Row). test (name_cmp y.0 at)) l) (filter (λ (y : Row). test (name_cmp y.0 at)) l) fails)
+        by_order Greater e rest =
+            ap (λ (b : Bool). cond b (r ∷ filter (λ (y : Row). test (name_cmp y.0 at)) (filter (λ (y : Row). not (is_eq (name_cmp y.0 at))) l)) (filter (λ (y : Row). test (name_cmp y.0 at)) (filter (λ (y : Row). not (is_eq (name_cmp y.0 at))) l))) (ap test e)
+            ∙ ap (λ (m : List Row). cond (test Greater) (r ∷ m) m) rest

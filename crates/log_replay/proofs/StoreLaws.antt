@@ -1,5 +1,5 @@
--- The store that records make, and what a logged change leaves of it.
-use Rattle.std.proofs.Common.{◌≡◌, ◌≢◌, ℕ, ◌+◌, ◌<◌, ◌≤◌, ◌^◌, List, [], ◌∷◌, ◌++◌, Bool, true, false, cond, not, ◌&&◌, ◌==◌, nat_le, IsTrue, Option, None, Some, map, filter, length, option_map, refl, ap, ap₂, sym, ◌∙◌, subst, ⊎_elim, arith, length-append, Ordering, is_eq, is_lt, is_gt}
+-- The store that records make, and what a change of its records or of the catalog's leaves of it.
+use Rattle.std.proofs.Common.{◌≡◌, ◌≢◌, ℕ, ◌<◌, ◌≤◌, List, [], ◌∷◌, ◌++◌, Bool, true, false, cond, not, ◌&&◌, ◌==◌, nat_le, Option, None, Some, map, filter, length, option_map, refl, ap, ap₂, sym, ◌∙◌, subst, ⊎_elim, ◌⊎◌, inl, inr, arith, length-append, Ordering, is_eq, is_lt, is_gt}
 use Rattle.std.specs.List.{AllByRecursion, list_all, list_any}
 use mathlib.Core.Path.{fun_ext}
 use Rattle.std.proofs.lemmas.Bool.{and_parts, and_from, cases_Bool, cond_both, cond-true, cond-false, true≢false, eqb-true, eqb-false, eq-eqb, ne_eqb, not-true, not_from_false, le-leb, leb-true}
@@ -8,23 +8,17 @@ use Rattle.std.proofs.lemmas.List.{map-append, length-map, nil_from_length}
 use Rattle.je_order.specs.Order.{bytes_cmp, name_cmp, is_same_bytes}
 use Rattle.je_order.specs.Words.{is_word}
 use Rattle.je_order.specs.declared.name.Name.{Name}
-use Rattle.je_model.specs.declared.store.Store.{Store}
-use Rattle.je_model.specs.declared.store.Database.{Database}
-use Rattle.je_model.specs.declared.store.Kind.TheVariants.{Plain}
-use Rattle.je_model.specs.declared.store.TheConstants.{MOST_DATABASES}
-use Rattle.je_model.specs.declared.change.Change.{Change}
-use Rattle.je_model.specs.declared.change.Change.TheVariants.{Set, Unset, Make, Remove, Rename, Empty}
-use Rattle.je_model.specs.Store.{database_of, with_pairs, in_database, databases_with, pairs_with, pairs_without, changed}
-use Rattle.je_model.specs.Evaluation.{plain_name}
-use Rattle.db_catalog.specs.declared.db_kind.DbKind.TheVariants.{Plain as PlainRecord}
-use Rattle.db_catalog.specs.Catalog.{record_bytes}
-use Rattle.log_replay.specs.Rows.{Row, Rows, RowChange, row_changed, rows_with, row_at, data_at, number_or_0, catalog_number, is_catalog_row, are_distinct, are_plain, numbers_of, is_environment, IsRising, pair_of, database_in, store_of}
-use Rattle.db_catalog.specs.Planning.{kind_in_catalog}
-use Rattle.db_catalog.proofs.CatalogLaws.{db_record_in-again}
-use Rattle.log_replay.specs.Kept.{row_change_of, HasNumber, MayBeLogged}
-use Rattle.log_replay.proofs.ListLaws.{all_true, all_from_true, all_both, all_parts, all_of_map, all_to_map, map_same, find-map, filter-map, found, any_found, list_any-map}
+use Rattle.store_model.specs.declared.store.Store.{Store}
+use Rattle.store_model.specs.declared.store.Database.{Database}
+use Rattle.store_model.specs.declared.kind.Kind.{Kind}
+use Rattle.store_model.specs.declared.store.TheConstants.{MOST_DATABASES}
+use Rattle.store_model.specs.Store.{Pair, database_of, with_pairs, in_database, databases_with, databases_without}
+use Rattle.store_model.specs.Evaluation.{plain_name}
+use Rattle.log_replay.specs.Rows.{Row, Rows, RowChange, row_changed, rows_with, row_at, number_or_0, kind_or_plain, catalog_number, catalog_kind, is_catalog_row, are_distinct, are_right, rows_of_row, numbers_of, is_environment, IsRising, pair_of, database_in, store_of}
+use Rattle.log_replay.specs.Logging.{record_in, number_named, kind_named}
+use Rattle.log_replay.proofs.ListLaws.{all_true, all_from_true, all_both, all_parts, all_of_map, all_to_map, map_same, map-map, find-map, filter-map, found, any_found, list_any-map}
 use Rattle.je_order.proofs.Lists.{none_each, each_none, all_weaker, all_append, all_kept}
-use Rattle.log_replay.proofs.RowLaws.{name_cmp-plain, pairs_with-rows, pairs_without-rows, plain-changed, rising-changed, rising_tail, split_where_none, others_after, row_of_data, no_row_of_data}
+use Rattle.log_replay.proofs.RowLaws.{name_cmp-plain, rising-changed, rising_tail, split_where_none, others_after, replaced}
 use Rattle.je_order.proofs.Orderings.{name_exact, equal_from_test}
 
 -- an empty dup, by the test of its length
@@ -37,11 +31,15 @@ no_dup dup h = nil_from_length dup (eqb-true (length dup) 0 h)
 abbrev pub number_of_row : Row → ℕ
 number_of_row row = catalog_number row.1
 
+-- whether the records under a catalog record's number are right
+abbrev pub is_right_under : Rows → Row → Bool
+is_right_under rows row = are_right (catalog_kind row.1) (rows_of_row rows row)
+
 -- what `is_environment` says, part by part
 pub record IsEnvironment (rows : Rows) : Type 0 where
   pub catalog : AllByRecursion (λ r. is_catalog_row r ≡ true) (rows 0)
   pub distinct : are_distinct (numbers_of rows) ≡ true
-  pub plain : AllByRecursion (λ (r : Row). are_plain (rows (catalog_number r.1)) ≡ true) (rows 0)
+  pub right : AllByRecursion (λ r. is_right_under rows r ≡ true) (rows 0)
   pub few : length (rows 0) ≤ MOST_DATABASES
 
 -- from the test
@@ -49,15 +47,15 @@ pub environment_parts : (rows : Rows) → is_environment rows ≡ true → IsEnv
 environment_parts rows h =
     let catalog = list_all is_catalog_row (rows 0) in
     let distinct = are_distinct (numbers_of rows) in
-    let plain = list_all (λ n. are_plain (rows n)) (numbers_of rows) in
+    let right = list_all (is_right_under rows) (rows 0) in
     let few = nat_le (length (rows 0)) MOST_DATABASES in
-    let a = and_parts (catalog && distinct && plain) few h in
-    let b = and_parts (catalog && distinct) plain a.0 in
+    let a = and_parts (catalog && distinct && right) few h in
+    let b = and_parts (catalog && distinct) right a.0 in
     let c = and_parts catalog distinct b.0 in
     record {
       catalog = all_true is_catalog_row (rows 0) c.0;
       distinct = c.1;
-      plain = all_of_map number_of_row (λ n. are_plain (rows n) ≡ true) (rows 0) (all_true (λ n. are_plain (rows n)) (numbers_of rows) b.1);
+      right = all_true (is_right_under rows) (rows 0) b.1;
       few = leb-true (length (rows 0)) MOST_DATABASES a.1;
     }
 
@@ -66,12 +64,12 @@ pub environment_from : (rows : Rows) → IsEnvironment rows → is_environment r
 environment_from rows h =
     let catalog = list_all is_catalog_row (rows 0) in
     let distinct = are_distinct (numbers_of rows) in
-    let plain = list_all (λ n. are_plain (rows n)) (numbers_of rows) in
+    let right = list_all (is_right_under rows) (rows 0) in
     let few = nat_le (length (rows 0)) MOST_DATABASES in
-    and_from (catalog && distinct && plain) few
-    (and_from (catalog && distinct) plain
+    and_from (catalog && distinct && right) few
+    (and_from (catalog && distinct) right
     (and_from catalog distinct (all_from_true is_catalog_row (rows 0) h.catalog) h.distinct)
-    (all_from_true (λ n. are_plain (rows n)) (numbers_of rows) (all_to_map number_of_row (λ n. are_plain (rows n) ≡ true) (rows 0) h.plain)))
+    (all_from_true (is_right_under rows) (rows 0) h.right))
     (le-leb (length (rows 0)) MOST_DATABASES h.few)
 
 -- what `is_catalog_row` says of a record
@@ -102,6 +100,11 @@ store_of-same a b h = ap store_of (fun_ext h)
 pub is_environment-same : (a b : Rows) → ((db : ℕ) → a db ≡ b db) → is_environment a ≡ is_environment b
 is_environment-same a b h = ap is_environment (fun_ext h)
 
+-- a catalog record names the same database where the records under its number are the same
+pub same_database : (a b : Rows) (r : Row) → a (catalog_number r.1) ≡ b (catalog_number r.1) → database_in a r ≡ database_in b r
+same_database a b r h =
+    let with_records : List Row → Database = λ l. record { name = r.0.key; kind = catalog_kind r.1; pairs = map (pair_of (catalog_kind r.1)) l } in ap with_records h
+
 -- ---- databases by their names
 
 -- a name finds in the store what it finds in the catalog
@@ -112,54 +115,87 @@ database_of-store_of rows name h =
     (all_weaker (λ (r : Row). r.0.dup ≡ []) (λ r. is_same_bytes r.0.key name ≡ is_eq (name_cmp r.0 (plain_name name)))
     (λ r e. ap is_eq (sym (name_cmp-plain r.0 name e))) (rows 0) (catalog_plain (rows 0) (environment_parts rows h).catalog))
 
--- a database that has a number, by its name
-pub database_of-numbered : (rows : Rows) (name : List ℕ) (number : ℕ) → is_environment rows ≡ true → HasNumber rows name number →
-    database_of name (store_of rows) ≡ Some (record { name = name; kind = Plain; pairs = map pair_of (rows number) })
-database_of-numbered rows name number h has =
-    let row = row_of_data (plain_name name) (rows 0) has.0 has.1 in
-    let passes = (found (λ (r : Row). is_catalog_row r ≡ true) (λ r. is_eq (name_cmp r.0 (plain_name name))) (rows 0) row.0 row.1 (environment_parts rows h).catalog).1 in
-    let key : row.0.0.key ≡ name = ap (λ (n : Name). n.key) (name_exact row.0.0 (plain_name name) (equal_from_test (name_cmp row.0.0 (plain_name name)) passes)) in
-    let make : List ℕ → ℕ → Option Database = λ k n. Some (record { name = k; kind = Plain; pairs = map pair_of (rows n) }) in
-    database_of-store_of rows name h ∙ ap (option_map (database_in rows)) row.1 ∙ ap₂ make key (ap catalog_number row.2 ∙ has.2)
+-- what a catalog's record of a name says of it
+abbrev number_by : Option Row → ℕ
+number_by o = number_or_0 (record_in (option_map (λ (r : Row). r.1) o))
 
--- a name that the catalog does not have is no database's
-pub database_of-absent : (rows : Rows) (name : List ℕ) → is_environment rows ≡ true → data_at (plain_name name) (rows 0) ≡ None → database_of name (store_of rows) ≡ None
+abbrev kind_by : Option Row → Kind
+kind_by o = kind_or_plain (record_in (option_map (λ (r : Row). r.1) o))
+
+-- a name that has a number has a record of that number and kind
+pub row_named : (rows : Rows) (name : List ℕ) → number_named rows name ≢ 0 →
+    (row : Row) × (row_at (plain_name name) (rows 0) ≡ Some row) × (catalog_number row.1 ≡ number_named rows name) × (catalog_kind row.1 ≡ kind_named rows name)
+row_named rows name has = by_row (row_at (plain_name name) (rows 0)) refl
+  where
+    by_row : (o : Option Row) → row_at (plain_name name) (rows 0) ≡ o →
+        (row : Row) × (row_at (plain_name name) (rows 0) ≡ Some row) × (catalog_number row.1 ≡ number_named rows name) × (catalog_kind row.1 ≡ kind_named rows name)
+    by_row None e = absurd (has (ap number_by e))
+    by_row (Some row) e = (row, e, sym (ap number_by e), sym (ap kind_by e))
+
+-- a name without a number has none
+pub no_row_named : (rows : Rows) (name : List ℕ) → IsEnvironment rows → number_named rows name ≡ 0 → row_at (plain_name name) (rows 0) ≡ None
+no_row_named rows name env none = by_row (row_at (plain_name name) (rows 0)) refl
+  where
+    by_row : (o : Option Row) → row_at (plain_name name) (rows 0) ≡ o → o ≡ None
+    by_row None e = refl
+    by_row (Some row) e =
+        absurd ((found (λ (r : Row). catalog_number r.1 ≢ 0) (λ r. is_eq (name_cmp r.0 (plain_name name))) (rows 0) row e (catalog_numbers (rows 0) env.catalog)).0 (sym (ap number_by e) ∙ none))
+
+-- the record of a name has this name
+pub key_of_row : (rows : List Row) (name : List ℕ) (row : Row) → AllByRecursion (λ r. is_catalog_row r ≡ true) rows → row_at (plain_name name) rows ≡ Some row → row.0.key ≡ name
+key_of_row rows name row catalog there =
+    let passes = (found (λ (r : Row). is_catalog_row r ≡ true) (λ r. is_eq (name_cmp r.0 (plain_name name))) rows row there catalog).1 in
+    ap (λ (n : Name). n.key) (name_exact row.0 (plain_name name) (equal_from_test (name_cmp row.0 (plain_name name)) passes))
+
+-- a name that has a number is that of a database
+pub database_of-numbered : (rows : Rows) (name : List ℕ) → is_environment rows ≡ true → number_named rows name ≢ 0 →
+    database_of name (store_of rows) ≡ Some (record { name = name; kind = kind_named rows name; pairs = map (pair_of (kind_named rows name)) (rows (number_named rows name)) })
+database_of-numbered rows name h has =
+    let row = row_named rows name has in
+    let key : row.0.0.key ≡ name = key_of_row (rows 0) name row.0 (environment_parts rows h).catalog row.1 in
+    let make : List ℕ → Kind → ℕ → Option Database = λ n k d. Some (record { name = n; kind = k; pairs = map (pair_of k) (rows d) }) in
+    database_of-store_of rows name h ∙ ap (option_map (database_in rows)) row.1
+    ∙ ap (λ (n : List ℕ). make n (catalog_kind row.0.1) (catalog_number row.0.1)) key
+    ∙ ap₂ (λ (k : Kind) (d : ℕ). make name k d) row.3 row.2
+
+-- a name without a number is no database's
+pub database_of-absent : (rows : Rows) (name : List ℕ) → is_environment rows ≡ true → number_named rows name ≡ 0 → database_of name (store_of rows) ≡ None
 database_of-absent rows name h none =
-    database_of-store_of rows name h ∙ ap (option_map (database_in rows)) (no_row_of_data (plain_name name) (rows 0) none)
+    database_of-store_of rows name h ∙ ap (option_map (database_in rows)) (no_row_named rows name (environment_parts rows h) none)
 
 -- the catalog has as many records as the store has databases
 pub length-databases : (rows : Rows) → length (store_of rows).databases ≡ length (rows 0)
 length-databases rows = length-map (rows 0) (database_in rows)
 
--- a database that has a number has plain records
-pub has_number-plain : (rows : Rows) (name : List ℕ) (number : ℕ) → is_environment rows ≡ true → HasNumber rows name number → are_plain (rows number) ≡ true
-has_number-plain rows name number h has =
-    let row = row_of_data (plain_name name) (rows 0) has.0 has.1 in
-    let at : catalog_number row.0.1 ≡ number = ap catalog_number row.2 ∙ has.2 in
-    subst (λ n. are_plain (rows n) ≡ true) at
-    (found (λ (r : Row). are_plain (rows (catalog_number r.1)) ≡ true) (λ r. is_eq (name_cmp r.0 (plain_name name))) (rows 0) row.0 row.1 (environment_parts rows h).plain).0
+-- the records of a database are right for its kind
+pub named-right : (rows : Rows) (name : List ℕ) (row : Row) → IsEnvironment rows → row_at (plain_name name) (rows 0) ≡ Some row → is_right_under rows row ≡ true
+named-right rows name row env there = (found (λ (r : Row). is_right_under rows r ≡ true) (λ r. is_eq (name_cmp r.0 (plain_name name))) (rows 0) row there env.right).0
 
--- and the number is not the catalog's
-pub has_number-above : (rows : Rows) (name : List ℕ) (number : ℕ) → is_environment rows ≡ true → HasNumber rows name number → number ≢ 0
-has_number-above rows name number h has e =
-    let row = row_of_data (plain_name name) (rows 0) has.0 has.1 in
-    (found (λ (r : Row). catalog_number r.1 ≢ 0) (λ r. is_eq (name_cmp r.0 (plain_name name))) (rows 0) row.0 row.1
-    (catalog_numbers (rows 0) (environment_parts rows h).catalog)).0 (ap catalog_number row.2 ∙ has.2 ∙ e)
+-- and its number is not the catalog's
+pub named-above : (rows : Rows) (name : List ℕ) (row : Row) → IsEnvironment rows → row_at (plain_name name) (rows 0) ≡ Some row → catalog_number row.1 ≢ 0
+named-above rows name row env there =
+    (found (λ (r : Row). catalog_number r.1 ≢ 0) (λ r. is_eq (name_cmp r.0 (plain_name name))) (rows 0) row there (catalog_numbers (rows 0) env.catalog)).0
 
 -- the number is among the catalog's
-pub has_number-among : (rows : Rows) (name : List ℕ) (number : ℕ) → HasNumber rows name number → list_any (λ m. m == number) (numbers_of rows) ≡ true
-has_number-among rows name number has =
-    let row = row_of_data (plain_name name) (rows 0) has.0 has.1 in
-    list_any-map number_of_row (λ m. m == number) (rows 0)
-    ∙ any_found (λ (r : Row). is_eq (name_cmp r.0 (plain_name name))) (λ r. catalog_number r.1 == number) (rows 0) row.0 row.1
-    (eq-eqb (catalog_number row.0.1) number (ap catalog_number row.2 ∙ has.2))
+pub named-among : (rows : Rows) (name : List ℕ) (row : Row) → row_at (plain_name name) (rows 0) ≡ Some row → list_any (λ m. m == catalog_number row.1) (numbers_of rows) ≡ true
+named-among rows name row there =
+    list_any-map number_of_row (λ m. m == catalog_number row.1) (rows 0)
+    ∙ any_found (λ (r : Row). is_eq (name_cmp r.0 (plain_name name))) (λ r. catalog_number r.1 == catalog_number row.1) (rows 0) row there
+    (eq-eqb (catalog_number row.1) (catalog_number row.1) refl)
 
--- in the catalog a record has the number exactly where it has the name
-pub numbered_as_named : (name : List ℕ) (row : Row) (rows : List Row) →
+-- ---- one record of the catalog and the others
+
+-- a catalog record is the one of the name, or it has another name and another number
+abbrev pub IsOneOrOther : List ℕ → Row → Row → Type 0
+IsOneOrOther name row r =
+    ((r ≡ row) × (is_same_bytes r.0.key name ≡ true) × (is_eq (name_cmp r.0 (plain_name name)) ≡ true))
+    ⊎ ((catalog_number r.1 ≢ catalog_number row.1) × (is_same_bytes r.0.key name ≡ false) × (is_eq (name_cmp r.0 (plain_name name)) ≡ false))
+
+pub one_or_other : (name : List ℕ) (row : Row) (rows : List Row) →
     AllByRecursion (λ r. is_catalog_row r ≡ true) rows → are_distinct (map number_of_row rows) ≡ true → IsRising rows → row_at (plain_name name) rows ≡ Some row →
-    AllByRecursion (λ r. (catalog_number r.1 == catalog_number row.1) ≡ is_same_bytes r.0.key name) rows
-numbered_as_named name row [] right apart up h = tt
-numbered_as_named name row (r ∷ rows) right apart up h =
+    AllByRecursion (IsOneOrOther name row) rows
+one_or_other name row [] right apart up h = tt
+one_or_other name row (r ∷ rows) right apart up h =
     let p : Row → Bool = λ y. is_eq (name_cmp y.0 (plain_name name)) in
     let parts = and_parts (not (list_any (λ m. m == catalog_number r.1) (map number_of_row rows))) (are_distinct (map number_of_row rows)) apart in
     let others : AllByRecursion (λ (y : Row). (catalog_number y.1 == catalog_number r.1) ≡ false) rows =
@@ -171,10 +207,10 @@ numbered_as_named name row (r ∷ rows) right apart up h =
     (λ (e : p r ≡ true).
     let same : r ≡ row = same_Some r row (sym (cond-true (p r) (Some r) (row_at (plain_name name) rows) e) ∙ h) in
     let number : catalog_number r.1 ≡ catalog_number row.1 = ap number_of_row same in (
-      eq-eqb (catalog_number r.1) (catalog_number row.1) number ∙ sym e ∙ sym (by_key r right.0),
+      inl (same, by_key r right.0 ∙ e, e),
       all_both (λ (y : Row). is_catalog_row y ≡ true) (λ y. ((catalog_number y.1 == catalog_number r.1) ≡ false) × (p y ≡ false))
-          (λ y. (catalog_number y.1 == catalog_number row.1) ≡ is_same_bytes y.0.key name)
-          (λ y ok both. ap (λ n. catalog_number y.1 == n) (sym number) ∙ both.0 ∙ sym both.1 ∙ sym (by_key y ok))
+          (IsOneOrOther name row)
+          (λ y ok both. inr (λ f. eqb-false (catalog_number y.1) (catalog_number r.1) both.0 (f ∙ sym number), by_key y ok ∙ both.1, both.1))
           rows right.1
           (all_both (λ (y : Row). (catalog_number y.1 == catalog_number r.1) ≡ false) (λ y. p y ≡ false) (λ y. ((catalog_number y.1 == catalog_number r.1) ≡ false) × (p y ≡ false))
           (λ y a b. (a, b)) rows others (others_after r rows (plain_name name) up e)),
@@ -182,10 +218,39 @@ numbered_as_named name row (r ∷ rows) right apart up h =
     (λ (e : p r ≡ false).
     let later : row_at (plain_name name) rows ≡ Some row = sym (cond-false (p r) (Some r) (row_at (plain_name name) rows) e) ∙ h in
     let differ = (found (λ (y : Row). (catalog_number y.1 == catalog_number r.1) ≡ false) p rows row later others).0 in (
-      ne_eqb (catalog_number r.1) (catalog_number row.1) (λ eq. eqb-false (catalog_number row.1) (catalog_number r.1) differ (sym eq)) ∙ sym e ∙ sym (by_key r right.0),
-      numbered_as_named name row rows right.1 parts.1 (rising_tail r rows up) later,
+      inr (λ f. eqb-false (catalog_number row.1) (catalog_number r.1) differ (sym f), by_key r right.0 ∙ e, e),
+      one_or_other name row rows right.1 parts.1 (rising_tail r rows up) later,
     ))
     (cases_Bool (p r))
+
+-- a database's catalog record is
+abbrev pub IsCase : List ℕ → Row → Row → Type 0
+IsCase name row r = (catalog_number r.1 ≢ 0) × IsOneOrOther name row r
+
+pub catalog_cases : (rows : Rows) (name : List ℕ) (row : Row) → IsEnvironment rows → IsRising (rows 0) → row_at (plain_name name) (rows 0) ≡ Some row →
+    AllByRecursion (IsCase name row) (rows 0)
+catalog_cases rows name row env up there =
+    all_both (λ (r : Row). catalog_number r.1 ≢ 0) (IsOneOrOther name row) (IsCase name row) (λ r a b. (a, b)) (rows 0)
+    (catalog_numbers (rows 0) env.catalog) (one_or_other name row (rows 0) env.catalog env.distinct up there)
+
+-- one database of a list changes, with its catalog record
+in_place : (a b : Rows) (name : List ℕ) (row : Row) (g : Row → Row) (change : Database → Database) (rows : List Row) → AllByRecursion (IsCase name row) rows →
+    (is_eq (name_cmp row.0 (plain_name name)) ≡ true → database_in b (g row) ≡ change (database_in a row)) →
+    ((r : Row) → is_eq (name_cmp r.0 (plain_name name)) ≡ false → catalog_number r.1 ≢ 0 → catalog_number r.1 ≢ catalog_number row.1 → database_in b (g r) ≡ database_in a r) →
+    map (λ (r : Row). database_in b (g r)) rows ≡ in_database name change (map (database_in a) rows)
+in_place a b name row g change [] each here there = refl
+in_place a b name row g change (r ∷ rows) each here there =
+    let before : Database = database_in a r in
+    let first : database_in b (g r) ≡ cond (is_same_bytes r.0.key name) (change before) before =
+    ⊎_elim
+    (λ (one : (r ≡ row) × (is_same_bytes r.0.key name ≡ true) × (is_eq (name_cmp r.0 (plain_name name)) ≡ true)).
+    ap (λ (x : Row). database_in b (g x)) one.0 ∙ here (ap (λ (x : Row). is_eq (name_cmp x.0 (plain_name name))) (sym one.0) ∙ one.2)
+    ∙ sym (ap (λ (x : Row). change (database_in a x)) one.0)
+    ∙ sym (cond-true (is_same_bytes r.0.key name) (change before) before one.1))
+    (λ (other : (catalog_number r.1 ≢ catalog_number row.1) × (is_same_bytes r.0.key name ≡ false) × (is_eq (name_cmp r.0 (plain_name name)) ≡ false)).
+    there r other.2 each.0.0 other.0 ∙ sym (cond-false (is_same_bytes r.0.key name) (change before) before other.1))
+    each.0.1 in
+    ap₂ (λ (d : Database) (l : List Database). d ∷ l) first (in_place a b name row g change rows each.1 here there)
 
 -- ---- a change of one database's records
 
@@ -202,94 +267,43 @@ pub rising-row_changed : (c : RowChange) (rows : Rows) (db : ℕ) → IsRising (
 rising-row_changed c rows db up =
     cond_both (db == c.db) (rows_with c.name c.value (rows db)) (rows db) (λ l. IsRising l) (λ e. rising-changed (rows db) c.name c.value up) (λ e. up)
 
--- and plain records plain, where its dup is empty
-plain-row_changed : (c : RowChange) (rows : Rows) (db : ℕ) → c.name.dup ≡ [] → are_plain (rows db) ≡ true → are_plain (row_changed c rows db) ≡ true
-plain-row_changed c rows db dup plain =
-    cond_both (db == c.db) (rows_with c.name c.value (rows db)) (rows db) (λ l. are_plain l ≡ true) (λ e. plain-changed (rows db) c.name c.value plain dup) (λ e. plain)
-
--- one database of a list changes
-in_place : (a b : Rows) (name : List ℕ) (number : ℕ) (change : Database → Database) (rows : List Row) →
-    AllByRecursion (λ r. (catalog_number r.1 == number) ≡ is_same_bytes r.0.key name) rows →
-    ((r : Row) → catalog_number r.1 ≡ number → database_in b r ≡ change (database_in a r)) →
-    ((db : ℕ) → db ≢ number → b db ≡ a db) →
-    map (database_in b) rows ≡ in_database name change (map (database_in a) rows)
-in_place a b name number change [] each here there = refl
-in_place a b name number change (r ∷ rows) each here there =
-    let as_before : Database = database_in a r in
-    let with_records : List Row → Database = λ l. record { name = r.0.key; kind = Plain; pairs = map pair_of l } in
-    let first : database_in b r ≡ cond (is_same_bytes r.0.key name) (change as_before) as_before =
-    ⊎_elim
-    (λ (e : (catalog_number r.1 == number) ≡ true).
-    here r (eqb-true (catalog_number r.1) number e) ∙ sym (cond-true (is_same_bytes r.0.key name) (change as_before) as_before (sym each.0 ∙ e)))
-    (λ (e : (catalog_number r.1 == number) ≡ false).
-    ap with_records (there (catalog_number r.1) (eqb-false (catalog_number r.1) number e))
-    ∙ sym (cond-false (is_same_bytes r.0.key name) (change as_before) as_before (sym each.0 ∙ e)))
-    (cases_Bool (catalog_number r.1 == number)) in
-    ap₂ (λ (d : Database) (l : List Database). d ∷ l) first (in_place a b name number change rows each.1 here there)
-
 -- a change of the records of a database that the catalog has
-record_changed : (rows : Rows) (name : List ℕ) (c : RowChange) (change : Database → Database) →
-    is_environment rows ≡ true → IsRising (rows 0) → HasNumber rows name c.db → c.name.dup ≡ [] →
-    ((r : Row) → catalog_number r.1 ≡ c.db → database_in (row_changed c rows) r ≡ change (database_in rows r)) →
-    (is_environment (row_changed c rows) ≡ true) × (store_of (row_changed c rows) ≡ record { databases = in_database name change (store_of rows).databases })
-record_changed rows name c change env up has dup here =
-    let parts = environment_parts rows env in
-    let above = has_number-above rows name c.db env has in
-    let same : rows 0 ≡ row_changed c rows 0 = sym (row_changed-there c rows 0 (λ e. above (sym e))) in
-    let row = row_of_data (plain_name name) (rows 0) has.0 has.1 in
-    let number : catalog_number row.0.1 ≡ c.db = ap catalog_number row.2 ∙ has.2 in
-    let each : AllByRecursion (λ (r : Row). (catalog_number r.1 == c.db) ≡ is_same_bytes r.0.key name) (rows 0) =
-    subst (λ n. AllByRecursion (λ (r : Row). (catalog_number r.1 == n) ≡ is_same_bytes r.0.key name) (rows 0)) number
-    (numbered_as_named name row.0 (rows 0) parts.catalog parts.distinct up row.1) in
+pub record_changed : (rows : Rows) (name : List ℕ) (row : Row) (c : RowChange) (f : Kind → List Pair → List Pair) →
+    IsEnvironment rows → IsRising (rows 0) → row_at (plain_name name) (rows 0) ≡ Some row → catalog_number row.1 ≡ c.db →
+    are_right (catalog_kind row.1) (rows_with c.name c.value (rows c.db)) ≡ true →
+    map (pair_of (catalog_kind row.1)) (rows_with c.name c.value (rows c.db)) ≡ f (catalog_kind row.1) (map (pair_of (catalog_kind row.1)) (rows c.db)) →
+    IsEnvironment (row_changed c rows) × (store_of (row_changed c rows) ≡ record { databases = in_database name (λ d. with_pairs d (f d.kind d.pairs)) (store_of rows).databases })
+record_changed rows name row c f env up there at right pairs =
+    let kind = catalog_kind row.1 in
+    let after : Rows = row_changed c rows in
+    let above : c.db ≢ 0 = λ e. named-above rows name row env there (at ∙ e) in
+    let same : rows 0 ≡ after 0 = sym (row_changed-there c rows 0 (λ e. above (sym e))) in
+    let cases = catalog_cases rows name row env up there in
+    let at_row : after (catalog_number row.1) ≡ rows_with c.name c.value (rows c.db) = ap after at ∙ row_changed-here c rows in
+    let elsewhere : (r : Row) → catalog_number r.1 ≢ catalog_number row.1 → after (catalog_number r.1) ≡ rows (catalog_number r.1) =
+    λ r h. row_changed-there c rows (catalog_number r.1) (λ e. h (e ∙ sym at)) in
+    let right_row : is_right_under after row ≡ true = ap (are_right kind) at_row ∙ right in
+    let with_records : List Pair → Database = λ l. record { name = row.0.key; kind = kind; pairs = l } in
     let make : List Database → Store = λ l. record { databases = l } in (
-      environment_from (row_changed c rows) (record {
-        catalog = subst (λ l. AllByRecursion (λ (r : Row). is_catalog_row r ≡ true) l) same parts.catalog;
-        distinct = subst (λ (l : List Row). are_distinct (map number_of_row l) ≡ true) same parts.distinct;
-        plain = subst (λ l. AllByRecursion (λ (r : Row). are_plain (row_changed c rows (catalog_number r.1)) ≡ true) l) same
-            (all_weaker (λ (r : Row). are_plain (rows (catalog_number r.1)) ≡ true) (λ r. are_plain (row_changed c rows (catalog_number r.1)) ≡ true)
-            (λ r plain. plain-row_changed c rows (catalog_number r.1) dup plain) (rows 0) parts.plain);
-        few = subst (λ (l : List Row). length l ≤ MOST_DATABASES) same parts.few;
-      }),
-      ap make (ap (λ l. map (database_in (row_changed c rows)) l) (sym same)
-          ∙ in_place rows (row_changed c rows) name c.db change (rows 0) each here (λ db h. row_changed-there c rows db h)),
+      record {
+        catalog = subst (λ l. AllByRecursion (λ (r : Row). is_catalog_row r ≡ true) l) same env.catalog;
+        distinct = subst (λ (l : List Row). are_distinct (map number_of_row l) ≡ true) same env.distinct;
+        right = subst (λ l. AllByRecursion (λ (r : Row). is_right_under after r ≡ true) l) same
+            (all_both (IsCase name row) (λ (r : Row). is_right_under rows r ≡ true) (λ r. is_right_under after r ≡ true)
+            (λ r one ok. ⊎_elim
+            (λ (e : (r ≡ row) × (is_same_bytes r.0.key name ≡ true) × (is_eq (name_cmp r.0 (plain_name name)) ≡ true)). ap (is_right_under after) e.0 ∙ right_row)
+            (λ (e : (catalog_number r.1 ≢ catalog_number row.1) × (is_same_bytes r.0.key name ≡ false) × (is_eq (name_cmp r.0 (plain_name name)) ≡ false)).
+            ap (are_right (catalog_kind r.1)) (elsewhere r e.0) ∙ ok)
+            one.1) (rows 0) cases env.right);
+        few = subst (λ (l : List Row). length l ≤ MOST_DATABASES) same env.few;
+      },
+      ap make (ap (λ l. map (database_in after) l) (sym same)
+          ∙ in_place rows after name row (λ r. r) (λ d. with_pairs d (f d.kind d.pairs)) (rows 0) cases
+          (λ e. ap with_records (ap (map (pair_of kind)) at_row ∙ pairs ∙ ap (λ n. f kind (map (pair_of kind) (rows n))) (sym at)))
+          (λ r e above_ h. same_database after rows r (elsewhere r h))),
     )
 
--- the pairs of a database whose records change
-pairs-changed : (rows : Rows) (c : RowChange) (r : Row) (pairs : List (List ℕ × List ℕ) → List (List ℕ × List ℕ)) → catalog_number r.1 ≡ c.db →
-    map pair_of (rows_with c.name c.value (rows c.db)) ≡ pairs (map pair_of (rows c.db)) →
-    database_in (row_changed c rows) r ≡ with_pairs (database_in rows r) (pairs (database_in rows r).pairs)
-pairs-changed rows c r pairs e h =
-    let make : List (List ℕ × List ℕ) → Database = λ l. record { name = r.0.key; kind = Plain; pairs = l } in
-    ap make
-    (ap (λ n. map pair_of (row_changed c rows n)) e ∙ ap (λ l. map pair_of l) (row_changed-here c rows) ∙ h ∙ ap (λ n. pairs (map pair_of (rows n))) (sym e))
-
--- data is set
-store_of-set : (rows : Rows) (last_db number txn : ℕ) (name : List ℕ) (at : Name) (value : List ℕ) →
-    is_environment rows ≡ true → IsRising (rows 0) → MayBeLogged rows last_db number (Set name at value) →
-    (is_environment (row_changed (row_change_of txn number (Set name at value)) rows) ≡ true)
-    × (store_of (row_changed (row_change_of txn number (Set name at value)) rows) ≡ changed (Set name at value) (store_of rows))
-store_of-set rows last_db number txn name at value env up may =
-    let c = row_change_of txn number (Set name at value) in
-    record_changed rows name c (λ d. with_pairs d (pairs_with d.kind at value d.pairs)) env up may.0 may.1
-    (λ r e. pairs-changed rows c r (pairs_with Plain at value) e
-    (pairs_with-rows (rows number) at value (has_number-plain rows name number env may.0) may.1))
-
--- a record is taken out
-store_of-unset : (rows : Rows) (last_db number txn : ℕ) (name : List ℕ) (at : Name) →
-    is_environment rows ≡ true → IsRising (rows 0) → MayBeLogged rows last_db number (Unset name at) →
-    (is_environment (row_changed (row_change_of txn number (Unset name at)) rows) ≡ true)
-    × (store_of (row_changed (row_change_of txn number (Unset name at)) rows) ≡ changed (Unset name at) (store_of rows))
-store_of-unset rows last_db number txn name at env up may =
-    let c = row_change_of txn number (Unset name at) in
-    record_changed rows name c (λ d. with_pairs d (pairs_without d.kind at d.pairs)) env up may.0 may.1
-    (λ r e. pairs-changed rows c r (pairs_without Plain at) e
-    (pairs_without-rows (rows number) at (has_number-plain rows name number env may.0) may.1))
-
--- ---- a new database
-
--- the number that a catalog record's bytes have
-pub catalog_number-record : (number : ℕ) → number < 2 ^ 32 → catalog_number (record_bytes (record { number = number; kind = PlainRecord })) ≡ number
-catalog_number-record number fits = ap number_or_0 (db_record_in-again (record { number = number; kind = PlainRecord }) (fits, tt))
+-- ---- a database more
 
 -- one number more, in the middle
 distinct_with : (lower higher : List Row) (row : Row) → are_distinct (map number_of_row (lower ++ higher)) ≡ true →
@@ -316,78 +330,147 @@ distinct_with (r ∷ lower) higher row apart differ =
     (all_append P lower (row ∷ higher) halves.0 (ne_eqb (catalog_number row.1) (catalog_number r.1) (λ e. differ.0 (sym e)), halves.1)))))
     (distinct_with lower higher row parts.1 differ.1)
 
--- a catalog record with a new name and a new number makes an empty database
-made : (rows : Rows) (last_db number txn : ℕ) (name bytes : List ℕ) →
-    is_environment rows ≡ true → IsRising (rows 0) → ((db : ℕ) → last_db < db → rows db ≡ []) → AllByRecursion (λ n. n ≤ last_db) (numbers_of rows) →
-    IsTrue (is_word name) → data_at (plain_name name) (rows 0) ≡ None → length (rows 0) < MOST_DATABASES → number ≡ last_db + 1 → catalog_number bytes ≡ number →
-    (is_environment (row_changed (record { txn = txn; db = 0; name = plain_name name; value = Some bytes }) rows) ≡ true)
-    × (store_of (row_changed (record { txn = txn; db = 0; name = plain_name name; value = Some bytes }) rows)
-    ≡ record { databases = databases_with (record { name = name; kind = Plain; pairs = [] }) (store_of rows).databases })
-made rows last_db number txn name bytes env up unused known word absent room number_is number_new =
-    let parts = environment_parts rows env in
+-- a change of the catalog's records
+abbrev pub catalog_change : ℕ → List ℕ → Option (List ℕ) → RowChange
+catalog_change txn name value = record { txn = txn; db = 0; name = plain_name name; value = value }
+
+-- the records of the other databases are left by it
+pub elsewhere : (txn : ℕ) (name : List ℕ) (value : Option (List ℕ)) (rows : Rows) (catalog : List Row) → AllByRecursion (λ r. catalog_number r.1 ≢ 0) catalog →
+    AllByRecursion (λ r. row_changed (catalog_change txn name value) rows (catalog_number r.1) ≡ rows (catalog_number r.1)) catalog
+elsewhere txn name value rows catalog above =
+    all_weaker (λ (r : Row). catalog_number r.1 ≢ 0) (λ r. row_changed (catalog_change txn name value) rows (catalog_number r.1) ≡ rows (catalog_number r.1))
+    (λ r h. row_changed-there (catalog_change txn name value) rows (catalog_number r.1) h) catalog above
+
+-- a test of databases' names is one of the catalog's records
+as_databases : (rows : Rows) (name : List ℕ) (test : Ordering → Bool) → AllByRecursion (λ r. r.0.dup ≡ []) (rows 0) →
+    filter (λ (d : Database). test (bytes_cmp d.name name)) (map (database_in rows) (rows 0)) ≡ map (database_in rows) (filter (λ (r : Row). test (name_cmp r.0 (plain_name name))) (rows 0))
+as_databases rows name test empty =
+    filter-map (database_in rows) (λ d. test (bytes_cmp d.name name)) (λ r. test (name_cmp r.0 (plain_name name))) (rows 0)
+    (all_weaker (λ (r : Row). r.0.dup ≡ []) (λ r. test (bytes_cmp r.0.key name) ≡ test (name_cmp r.0 (plain_name name)))
+    (λ r e. ap test (sym (name_cmp-plain r.0 name e))) (rows 0) empty)
+
+-- a catalog record with a new name and a number that no other has, under which records are right for its kind, makes a database of them
+pub row_put : (rows : Rows) (txn : ℕ) (name bytes : List ℕ) → IsEnvironment rows → IsRising (rows 0) → is_word name ≡ true → row_at (plain_name name) (rows 0) ≡ None →
+    length (rows 0) < MOST_DATABASES → catalog_number bytes ≢ 0 → AllByRecursion (λ r. catalog_number r.1 ≢ catalog_number bytes) (rows 0) →
+    are_right (catalog_kind bytes) (rows (catalog_number bytes)) ≡ true →
+    IsEnvironment (row_changed (catalog_change txn name (Some bytes)) rows)
+    × (store_of (row_changed (catalog_change txn name (Some bytes)) rows)
+    ≡ record { databases = databases_with (record { name = name; kind = catalog_kind bytes; pairs = map (pair_of (catalog_kind bytes)) (rows (catalog_number bytes)) }) (store_of rows).databases })
+row_put rows txn name bytes env up word absent room above differ right_new =
     let at : Name = plain_name name in
-    let c : RowChange = record { txn = txn; db = 0; name = at; value = Some bytes } in
+    let c : RowChange = catalog_change txn name (Some bytes) in
     let after : Rows = row_changed c rows in
     let new : Row = (at, bytes) in
     let low : Row → Bool = λ r. is_lt (name_cmp r.0 at) in
     let high : Row → Bool = λ r. is_gt (name_cmp r.0 at) in
     let lower : List Row = filter low (rows 0) in
     let higher : List Row = filter high (rows 0) in
-    let split : lower ++ higher ≡ rows 0 = split_where_none (rows 0) at up (no_row_of_data at (rows 0) absent) in
-    let above_last : last_db < number = omega arith in
-    let not_catalog : number ≢ 0 = λ e. absurd (omega arith) in
-    let empty : after (catalog_number bytes) ≡ [] = ap after number_new ∙ row_changed-there c rows number not_catalog ∙ unused number above_last in
-    let at_most : AllByRecursion (λ (r : Row). catalog_number r.1 ≤ last_db) (rows 0) = all_of_map number_of_row (λ n. n ≤ last_db) (rows 0) known in
-    let differ : AllByRecursion (λ (r : Row). catalog_number r.1 ≢ catalog_number bytes) (rows 0) =
-    all_weaker (λ (r : Row). catalog_number r.1 ≤ last_db) (λ r. catalog_number r.1 ≢ catalog_number bytes) (λ r h e. absurd (omega arith)) (rows 0) at_most in
+    let split : lower ++ higher ≡ rows 0 = split_where_none (rows 0) at up absent in
+    let new_same : after (catalog_number bytes) ≡ rows (catalog_number bytes) = row_changed-there c rows (catalog_number bytes) above in
     let Right : Row → Type 0 = λ r. is_catalog_row r ≡ true in
-    let new_right : Right new =
+    let new_is : Right new =
     and_from (is_word name && true) (not (catalog_number bytes == 0)) (and_from (is_word name) true word refl)
-    (not_from_false (catalog_number bytes == 0) (ne_eqb (catalog_number bytes) 0 (λ e. absurd (omega arith)))) in
-    let Kept : Row → Type 0 = λ r. after (catalog_number r.1) ≡ rows (catalog_number r.1) in
-    let kept : AllByRecursion Kept (rows 0) =
-    all_weaker (λ (r : Row). catalog_number r.1 ≢ 0) Kept (λ r h. row_changed-there c rows (catalog_number r.1) h) (rows 0) (catalog_numbers (rows 0) parts.catalog) in
-    let Plainly : Row → Type 0 = λ r. are_plain (after (catalog_number r.1)) ≡ true in
-    let plainly : AllByRecursion Plainly (rows 0) =
-    all_both Kept (λ (r : Row). are_plain (rows (catalog_number r.1)) ≡ true) Plainly (λ r k h. ap are_plain k ∙ h) (rows 0) kept parts.plain in
+    (not_from_false (catalog_number bytes == 0) (ne_eqb (catalog_number bytes) 0 above)) in
+    let kept : AllByRecursion (λ (r : Row). after (catalog_number r.1) ≡ rows (catalog_number r.1)) (rows 0) =
+    elsewhere txn name (Some bytes) rows (rows 0) (catalog_numbers (rows 0) env.catalog) in
+    let Under : Row → Type 0 = λ r. is_right_under after r ≡ true in
+    let under : AllByRecursion Under (rows 0) =
+    all_both (λ (r : Row). after (catalog_number r.1) ≡ rows (catalog_number r.1)) (λ (r : Row). is_right_under rows r ≡ true) Under
+    (λ r k h. ap (are_right (catalog_kind r.1)) k ∙ h) (rows 0) kept env.right in
     let Same : Row → Type 0 = λ r. database_in after r ≡ database_in rows r in
     let same : AllByRecursion Same (rows 0) =
-    all_weaker Kept Same
-    (λ r k. let with_records : List Row → Database = λ l. record { name = r.0.key; kind = Plain; pairs = map pair_of l } in ap with_records k) (rows 0) kept in
-    let empty_dups = catalog_plain (rows 0) parts.catalog in
-    let as_databases : (test : Ordering → Bool) →
-    filter (λ (d : Database). test (bytes_cmp d.name name)) (map (database_in rows) (rows 0)) ≡ map (database_in rows) (filter (λ (r : Row). test (name_cmp r.0 at)) (rows 0)) =
-    λ test. filter-map (database_in rows) (λ d. test (bytes_cmp d.name name)) (λ r. test (name_cmp r.0 at)) (rows 0)
-    (all_weaker (λ (r : Row). r.0.dup ≡ []) (λ r. test (bytes_cmp r.0.key name) ≡ test (name_cmp r.0 at))
-    (λ r e. ap test (sym (name_cmp-plain r.0 name e))) (rows 0) empty_dups) in
-    let with_pairs_of : List (List ℕ × List ℕ) → Database = λ l. record { name = name; kind = Plain; pairs = l } in
+    all_weaker (λ (r : Row). after (catalog_number r.1) ≡ rows (catalog_number r.1)) Same (λ r k. same_database after rows r k) (rows 0) kept in
+    let empty_dups = catalog_plain (rows 0) env.catalog in
     let make : List Database → Store = λ l. record { databases = l } in (
-      environment_from after (record {
-        catalog = all_append Right lower (new ∷ higher) (all_kept Right low (rows 0) parts.catalog) (new_right, all_kept Right high (rows 0) parts.catalog);
-        distinct = distinct_with lower higher new (subst (λ (l : List Row). are_distinct (map number_of_row l) ≡ true) (sym split) parts.distinct)
+      record {
+        catalog = all_append Right lower (new ∷ higher) (all_kept Right low (rows 0) env.catalog) (new_is, all_kept Right high (rows 0) env.catalog);
+        distinct = distinct_with lower higher new (subst (λ (l : List Row). are_distinct (map number_of_row l) ≡ true) (sym split) env.distinct)
             (subst (λ l. AllByRecursion (λ (r : Row). catalog_number r.1 ≢ catalog_number bytes) l) (sym split) differ);
-        plain = all_append Plainly lower (new ∷ higher) (all_kept Plainly low (rows 0) plainly) (ap are_plain empty, all_kept Plainly high (rows 0) plainly);
+        right = all_append Under lower (new ∷ higher) (all_kept Under low (rows 0) under)
+            (ap (are_right (catalog_kind bytes)) new_same ∙ right_new, all_kept Under high (rows 0) under);
         few = omega (arith, length-append lower (new ∷ higher), length-append lower higher, ap length split);
-      }),
+      },
       ap make
           (map-append (database_in after) lower (new ∷ higher)
           ∙ ap₂ (λ (a b : List Database). a ++ database_in after new ∷ b)
-          (map_same (database_in after) (database_in rows) lower (all_kept Same low (rows 0) same) ∙ sym (as_databases is_lt))
-          (map_same (database_in after) (database_in rows) higher (all_kept Same high (rows 0) same) ∙ sym (as_databases is_gt))
+          (map_same (database_in after) (database_in rows) lower (all_kept Same low (rows 0) same) ∙ sym (as_databases rows name is_lt empty_dups))
+          (map_same (database_in after) (database_in rows) higher (all_kept Same high (rows 0) same) ∙ sym (as_databases rows name is_gt empty_dups))
           ∙ ap (λ (d : Database). filter (λ (x : Database). is_lt (bytes_cmp x.name name)) (map (database_in rows) (rows 0)) ++ d ∷ filter (λ (x : Database). is_gt (bytes_cmp x.name name)) (map (database_in rows) (rows 0)))
-          (ap with_pairs_of (ap (λ (l : List Row). map pair_of l) empty))),
+          (same_database after rows new new_same)),
     )
 
--- what a logged change leaves is an environment, and its store is the changed one
-pub store_of-changed : (rows : Rows) (last_db number txn : ℕ) (change : Change) →
-    is_environment rows ≡ true → ((db : ℕ) → IsRising (rows db)) → ((db : ℕ) → last_db < db → rows db ≡ []) → AllByRecursion (λ n. n ≤ last_db) (numbers_of rows) →
-    MayBeLogged rows last_db number change →
-    (is_environment (row_changed (row_change_of txn number change) rows) ≡ true) × (store_of (row_changed (row_change_of txn number change) rows) ≡ changed change (store_of rows))
-store_of-changed rows last_db number txn (Set name at value) env up unused known may = store_of-set rows last_db number txn name at value env (up 0) may
-store_of-changed rows last_db number txn (Unset name at) env up unused known may = store_of-unset rows last_db number txn name at env (up 0) may
-store_of-changed rows last_db number txn (Make name Plain) env up unused known may =
-    made rows last_db number txn name (record_bytes (record { number = number; kind = kind_in_catalog Plain })) env (up 0) unused known may.0 may.1 may.2 may.3
-    (catalog_number-record number may.4)
-store_of-changed rows last_db number txn (Remove name) env up unused known may = absurd may
-store_of-changed rows last_db number txn (Rename name to) env up unused known may = absurd may
-store_of-changed rows last_db number txn (Empty name) env up unused known may = absurd may
+-- ---- a database less
+
+-- some of several distinct numbers
+distinct-filter : (p : Row → Bool) (rows : List Row) → are_distinct (map number_of_row rows) ≡ true → are_distinct (map number_of_row (filter p rows)) ≡ true
+distinct-filter p [] h = refl
+distinct-filter p (r ∷ rows) h =
+    let test : ℕ → Bool = λ m. m == catalog_number r.1 in
+    let parts = and_parts (not (list_any test (map number_of_row rows))) (are_distinct (map number_of_row rows)) h in
+    let others : AllByRecursion (λ (y : Row). test (catalog_number y.1) ≡ false) (filter p rows) =
+    all_kept (λ (y : Row). test (catalog_number y.1) ≡ false) p rows
+    (all_of_map number_of_row (λ m. test m ≡ false) rows (none_each test (map number_of_row rows) (not-true (list_any test (map number_of_row rows)) parts.0))) in
+    let rest = distinct-filter p rows parts.1 in
+    cond_both (p r) (r ∷ filter p rows) (filter p rows) (λ (l : List Row). are_distinct (map number_of_row l) ≡ true)
+    (λ e. and_from (not (list_any test (map number_of_row (filter p rows)))) (are_distinct (map number_of_row (filter p rows)))
+    (not_from_false (list_any test (map number_of_row (filter p rows)))
+    (each_none test (map number_of_row (filter p rows)) (all_to_map number_of_row (λ m. test m ≡ false) (filter p rows) others))) rest)
+    (λ e. rest)
+
+length-filter : (p : Row → Bool) (rows : List Row) → length (filter p rows) ≤ length rows
+length-filter p [] = omega arith
+length-filter p (r ∷ rows) =
+    let rest = length-filter p rows in
+    cond_both (p r) (r ∷ filter p rows) (filter p rows) (λ (l : List Row). length l ≤ length (r ∷ rows)) (λ e. omega arith) (λ e. omega arith)
+
+-- a catalog record that is taken out is a database less
+pub row_deleted : (rows : Rows) (txn : ℕ) (name : List ℕ) → IsEnvironment rows →
+    IsEnvironment (row_changed (catalog_change txn name None) rows)
+    × (store_of (row_changed (catalog_change txn name None) rows) ≡ record { databases = databases_without name (store_of rows).databases })
+row_deleted rows txn name env =
+    let after : Rows = row_changed (catalog_change txn name None) rows in
+    let other : Row → Bool = λ r. not (is_eq (name_cmp r.0 (plain_name name))) in
+    let kept : AllByRecursion (λ (r : Row). after (catalog_number r.1) ≡ rows (catalog_number r.1)) (rows 0) =
+    elsewhere txn name None rows (rows 0) (catalog_numbers (rows 0) env.catalog) in
+    let Under : Row → Type 0 = λ r. is_right_under after r ≡ true in
+    let Same : Row → Type 0 = λ r. database_in after r ≡ database_in rows r in
+    let same : AllByRecursion Same (rows 0) =
+    all_weaker (λ (r : Row). after (catalog_number r.1) ≡ rows (catalog_number r.1)) Same (λ r k. same_database after rows r k) (rows 0) kept in
+    let make : List Database → Store = λ l. record { databases = l } in (
+      record {
+        catalog = all_kept (λ r. is_catalog_row r ≡ true) other (rows 0) env.catalog;
+        distinct = distinct-filter other (rows 0) env.distinct;
+        right = all_kept Under other (rows 0)
+            (all_both (λ (r : Row). after (catalog_number r.1) ≡ rows (catalog_number r.1)) (λ (r : Row). is_right_under rows r ≡ true) Under
+            (λ r k h. ap (are_right (catalog_kind r.1)) k ∙ h) (rows 0) kept env.right);
+        few = let fewer = length-filter other (rows 0) in let few = env.few in omega (arith, fewer, few);
+      },
+      ap make
+          (map_same (database_in after) (database_in rows) (filter other (rows 0)) (all_kept Same other (rows 0) same)
+          ∙ sym (as_databases rows name (λ o. not (is_eq o)) (catalog_plain (rows 0) env.catalog))),
+    )
+
+-- ---- a database under another number
+
+-- a catalog record that is replaced by one of the same kind, whose number has no records, is an emptied database
+pub row_emptied : (rows : Rows) (txn : ℕ) (name bytes : List ℕ) (row : Row) → IsEnvironment rows → IsRising (rows 0) → row_at (plain_name name) (rows 0) ≡ Some row →
+    catalog_kind bytes ≡ catalog_kind row.1 → catalog_number bytes ≢ 0 → rows (catalog_number bytes) ≡ [] →
+    store_of (row_changed (catalog_change txn name (Some bytes)) rows) ≡ record { databases = in_database name (λ d. with_pairs d []) (store_of rows).databases }
+row_emptied rows txn name bytes row env up there kind above none =
+    let c : RowChange = catalog_change txn name (Some bytes) in
+    let after : Rows = row_changed c rows in
+    let g : Row → Row = λ y. cond (is_eq (name_cmp y.0 (plain_name name))) (plain_name name, bytes) y in
+    let cases = catalog_cases rows name row env up there in
+    let key : row.0.key ≡ name = key_of_row (rows 0) name row env.catalog there in
+    let empty : after (catalog_number bytes) ≡ [] = row_changed-there c rows (catalog_number bytes) above ∙ none in
+    let with_kind : List ℕ → Kind → List Row → Database = λ n k l. record { name = n; kind = k; pairs = map (pair_of k) l } in
+    let new_database : database_in after (plain_name name, bytes) ≡ with_pairs (database_in rows row) [] =
+    ap (with_kind name (catalog_kind bytes)) empty ∙ ap₂ (λ (n : List ℕ) (k : Kind). with_kind n k []) (sym key) kind in
+    let make : List Database → Store = λ l. record { databases = l } in
+    ap make
+    (ap (map (database_in after)) (replaced (rows 0) (plain_name name) bytes row up there)
+    ∙ map-map (database_in after) g (rows 0)
+    ∙ in_place rows after name row g (λ d. with_pairs d []) (rows 0) cases
+    (λ e. ap (database_in after) (cond-true (is_eq (name_cmp row.0 (plain_name name))) (plain_name name, bytes) row e) ∙ new_database)
+    (λ r e other h. ap (database_in after) (cond-false (is_eq (name_cmp r.0 (plain_name name))) (plain_name name, bytes) r e)
+    ∙ same_database after rows r (row_changed-there c rows (catalog_number r.1) other)))

@@ -1,16 +1,19 @@
 -- No record is wrong exactly where the records are those of an environment.
-use Rattle.std.proofs.Common.{◌≡◌, ℕ, suc, ◌+◌, ◌<◌, ◌≤◌, List, [], ◌∷◌, ◌++◌, ◌==◌, ◌&&◌, ◌||◌, Bool, true, false, not, cond, refl, ap, sym, ◌∙◌, map, length, Option, Some, None, nat_le, nat_lt, arith, filter, option_map, min, ◌⊎◌, inl, inr}
+use Rattle.std.proofs.Common.{◌≡◌, ℕ, suc, ◌+◌, ◌<◌, ◌≤◌, List, [], ◌∷◌, ◌++◌, ◌==◌, ◌&&◌, ◌||◌, Bool, true, false, not, cond, refl, ap, sym, ◌∙◌, map, length, Option, Some, None, nat_le, nat_lt, arith, filter, option_map, ◌⊎◌, inl, inr}
 use Rattle.std.specs.Prelude.{find}
 use Rattle.std.proofs.lemmas.Bool.Decides.{nat_tests}
-use Rattle.std.proofs.lemmas.Bool.{cases_order}
+use Rattle.std.proofs.lemmas.Bool.{cond-true, cond-false}
+use Rattle.std.proofs.lemmas.Option.{none-some, same_Some}
 use Rattle.std.proofs.lemmas.List.Folds.{list_any-append}
 use Rattle.std.proofs.lemmas.List.{length-append}
 use Rattle.std.specs.List.{list_all, list_any}
 use Rattle.je_order.specs.declared.name.Name.{Name}
-use Rattle.je_model.specs.declared.store.TheConstants.{MOST_DATABASES}
+use Rattle.store_model.specs.declared.store.TheConstants.{MOST_DATABASES}
+use Rattle.store_model.specs.declared.kind.Kind.{Kind}
 use Rattle.log_replay.specs.declared.place.Place.{Place}
-use Rattle.log_replay.specs.Rows.{Row, Rows, is_catalog_row, catalog_number, are_distinct, are_plain, numbers_of, is_environment}
-use Rattle.log_replay.specs.Wrong.{or_else, is_right_behind, wrong_in_catalog, wrong_in_plain, lesser_number, least_number, wrong_database, wrong_under, wrong_record}
+use Rattle.log_replay.specs.declared.numbered.Numbered.{Numbered}
+use Rattle.log_replay.specs.Rows.{Row, Rows, is_catalog_row, catalog_number, catalog_kind, are_distinct, is_right_row, are_right, rows_of_row, numbers_of, is_environment}
+use Rattle.log_replay.specs.Wrong.{or_else, is_right_behind, wrong_in_catalog, wrong_in, numbered_by, lesser, least, wrong_database, wrong_under, wrong_record}
 
 is_none : {A : Type 0} → Option A → Bool
 is_none None = true
@@ -99,67 +102,73 @@ catalog_none before (r ∷ rows) few =
 
 -- ---- the databases
 
-lesser_is : (k n : ℕ) (o : Option ℕ) → lesser_number k o ≡ Some n → (n ≡ k) ⊎ (o ≡ Some n)
-lesser_is k n None h = let is : k ≡ n = cc in inl (sym is)
-lesser_is k n (Some m) h =
-    let is : min k m ≡ n = cc in
-    elim (cases_order k m) [
-      | inl same ↦ inl (omega (arith, same))
-      | inr other ↦ elim other [
-        | inl less ↦ inl (omega (arith, less))
-        | inr more ↦ let there : m ≡ n = omega (arith, more) in inr (ap (λ (x : ℕ). Some x) there)
-      ]
-    ]
+-- whether a database's records are right
+abbrev is_right_database : Rows → Numbered → Bool
+is_right_database rows d = are_right d.kind (rows d.number)
 
-lesser_some : (k : ℕ) (o : Option ℕ) → lesser_number k o ≡ None → ⊥
-lesser_some k None h = cc
-lesser_some k (Some m) h = cc
+lesser_by : (b : Bool) (k m n : Numbered) → Some (cond b k m) ≡ Some n → (n ≡ k) ⊎ (Some m ≡ Some n)
+lesser_by true k m n h = inl (sym (same_Some k n h))
+lesser_by false k m n h = inr h
+
+lesser_is : (k n : Numbered) (o : Option Numbered) → lesser k o ≡ Some n → (n ≡ k) ⊎ (o ≡ Some n)
+lesser_is k n None h = inl (sym (same_Some k n h))
+lesser_is k n (Some m) h = lesser_by (nat_le k.number m.number) k m n h
+
+lesser_some : (k : Numbered) (o : Option Numbered) → lesser k o ≡ None → ⊥
+lesser_some k None h = none-some k (sym h)
+lesser_some k (Some m) h = none-some (cond (nat_le k.number m.number) k m) (sym h)
 
 -- the least of those that pass passes
-least_passes : (p : ℕ → Bool) (ns : List ℕ) (n : ℕ) → least_number (filter p ns) ≡ Some n → p n ≡ true
-least_passes p [] n h = cc
+least_passes : (p : Numbered → Bool) (ns : List Numbered) (n : Numbered) → least (filter p ns) ≡ Some n → p n ≡ true
+least_passes p [] n h = absurd (none-some n h)
 least_passes p (k ∷ ns) n h = by_case (p k) refl h (least_passes p ns n)
   where
-    by_case : (b : Bool) → p k ≡ b → least_number (cond b (k ∷ filter p ns) (filter p ns)) ≡ Some n → (least_number (filter p ns) ≡ Some n → p n ≡ true) → p n ≡ true
-    by_case true is found behind = elim (lesser_is k n (least_number (filter p ns)) found) [ inl same ↦ ap p same ∙ is | inr there ↦ behind there ]
+    by_case : (b : Bool) → p k ≡ b → least (cond b (k ∷ filter p ns) (filter p ns)) ≡ Some n → (least (filter p ns) ≡ Some n → p n ≡ true) → p n ≡ true
+    by_case true is found behind = elim (lesser_is k n (least (filter p ns)) found) [ inl same ↦ ap p same ∙ is | inr there ↦ behind there ]
     by_case false is found behind = behind found
 
-least_none : (q : ℕ → Bool) (ns : List ℕ) → least_number (filter (λ n. not (q n)) ns) ≡ None → list_all q ns ≡ true
+least_none : (q : Numbered → Bool) (ns : List Numbered) → least (filter (λ n. not (q n)) ns) ≡ None → list_all q ns ≡ true
 least_none q [] h = refl
 least_none q (k ∷ ns) h = by_case (q k) refl h (least_none q ns)
   where
-    by_case : (b : Bool) → q k ≡ b → least_number (cond (not b) (k ∷ filter (λ n. not (q n)) ns) (filter (λ n. not (q n)) ns)) ≡ None →
-        (least_number (filter (λ n. not (q n)) ns) ≡ None → list_all q ns ≡ true) → (b && list_all q ns) ≡ true
+    by_case : (b : Bool) → q k ≡ b → least (cond (not b) (k ∷ filter (λ n. not (q n)) ns) (filter (λ n. not (q n)) ns)) ≡ None →
+        (least (filter (λ n. not (q n)) ns) ≡ None → list_all q ns ≡ true) → (b && list_all q ns) ≡ true
     by_case true is none behind = behind none
-    by_case false is none behind = absurd (lesser_some k (least_number (filter (λ n. not (q n)) ns)) none)
+    by_case false is none behind = absurd (lesser_some k (least (filter (λ n. not (q n)) ns)) none)
 
-least_of_none : (q : ℕ → Bool) (ns : List ℕ) → list_all q ns ≡ true → least_number (filter (λ n. not (q n)) ns) ≡ None
+least_of_none : (q : Numbered → Bool) (ns : List Numbered) → list_all q ns ≡ true → least (filter (λ n. not (q n)) ns) ≡ None
 least_of_none q [] h = refl
 least_of_none q (k ∷ ns) h = by_case (q k) h (least_of_none q ns)
   where
-    by_case : (b : Bool) → (b && list_all q ns) ≡ true → (list_all q ns ≡ true → least_number (filter (λ n. not (q n)) ns) ≡ None) →
-        least_number (cond (not b) (k ∷ filter (λ n. not (q n)) ns) (filter (λ n. not (q n)) ns)) ≡ None
+    by_case : (b : Bool) → (b && list_all q ns) ≡ true → (list_all q ns ≡ true → least (filter (λ n. not (q n)) ns) ≡ None) →
+        least (cond (not b) (k ∷ filter (λ n. not (q n)) ns) (filter (λ n. not (q n)) ns)) ≡ None
     by_case true all behind = behind all
     by_case false all behind = cc
 
-plain_none : (rows : List Row) → wrong_in_plain rows ≡ None → are_plain rows ≡ true
-plain_none [] h = refl
-plain_none (r ∷ rows) h = by_case (length r.0.dup == 0) h (plain_none rows)
+right_none : (kind : Kind) (rows : List Row) → wrong_in kind rows ≡ None → are_right kind rows ≡ true
+right_none kind [] h = refl
+right_none kind (r ∷ rows) h = by_case (is_right_row kind r) h (right_none kind rows)
   where
-    by_case : (b : Bool) → option_map (λ (x : Row). x.0) (cond (not b) (Some r) (find (λ x. not (length x.0.dup == 0)) rows)) ≡ None →
-        (wrong_in_plain rows ≡ None → are_plain rows ≡ true) → (b && are_plain rows) ≡ true
+    by_case : (b : Bool) → option_map (λ (x : Row). x.0) (cond (not b) (Some r) (find (λ x. not (is_right_row kind x)) rows)) ≡ None →
+        (wrong_in kind rows ≡ None → are_right kind rows ≡ true) → (b && are_right kind rows) ≡ true
     by_case true none behind = behind none
     by_case false none behind = cc
+
+-- a test of the databases is one of the catalog's records
+all_numbered : (q : Numbered → Bool) (rows : List Row) → list_all q (map numbered_by rows) ≡ list_all (λ r. q (numbered_by r)) rows
+all_numbered q [] = refl
+all_numbered q (r ∷ rows) = ap (λ b. q (numbered_by r) && b) (all_numbered q rows)
 
 mapped_none : {A B : Type 0} (f : A → B) (o : Option A) → option_map f o ≡ None → o ≡ None
 mapped_none f None h = refl
 mapped_none f (Some x) h = cc
 
-under_none : (rows : Rows) (o : Option ℕ) → wrong_database rows ≡ o → wrong_under rows o ≡ None → list_all (λ n. are_plain (rows n)) (numbers_of rows) ≡ true
-under_none rows None is h = least_none (λ n. are_plain (rows n)) (numbers_of rows) is
-under_none rows (Some db) is h =
-    let bad : not (are_plain (rows db)) ≡ true = least_passes (λ n. not (are_plain (rows n))) (numbers_of rows) db is in
-    let good : are_plain (rows db) ≡ true = plain_none (rows db) (mapped_none (λ (name : Name). let p : Place = record { db = db; name = name } in p) (wrong_in_plain (rows db)) h) in
+under_none : (rows : Rows) (o : Option Numbered) → wrong_database rows ≡ o → wrong_under rows o ≡ None → list_all (is_right_database rows) (map numbered_by (rows 0)) ≡ true
+under_none rows None is h = least_none (is_right_database rows) (map numbered_by (rows 0)) is
+under_none rows (Some d) is h =
+    let bad : not (is_right_database rows d) ≡ true = least_passes (λ n. not (is_right_database rows n)) (map numbered_by (rows 0)) d is in
+    let good : is_right_database rows d ≡ true =
+    right_none d.kind (rows d.number) (mapped_none (λ (name : Name). let p : Place = record { db = d.number; name = name } in p) (wrong_in d.kind (rows d.number)) h) in
     let never : not true ≡ true = ap not (sym good) ∙ bad in absurd cc
 
 neither : {A : Type 0} (a b : Option A) → or_else a b ≡ None → (a ≡ None) × (b ≡ None)
@@ -189,36 +198,75 @@ none_is_environment rows h =
     let catalog : is_catalog_behind [] (rows 0) ≡ true = sym (catalog_none [] (rows 0) (omega arith)) ∙ ap is_none none in
     let parts = four_of (list_all is_catalog_row (rows 0)) (are_others [] (numbers_of rows)) (are_distinct (numbers_of rows)) (nat_le (0 + length (rows 0)) MOST_DATABASES) catalog in
     let few : nat_le (length (rows 0)) MOST_DATABASES ≡ true = ap (λ n. nat_le n MOST_DATABASES) (omega arith) ∙ parts.3 in
-    of_four (list_all is_catalog_row (rows 0)) (are_distinct (numbers_of rows)) (list_all (λ n. are_plain (rows n)) (numbers_of rows)) (nat_le (length (rows 0)) MOST_DATABASES)
-    parts.0 parts.2 (under_none rows (wrong_database rows) refl both.1) few
+    of_four (list_all is_catalog_row (rows 0)) (are_distinct (numbers_of rows)) (list_all (λ (r : Row). are_right (catalog_kind r.1) (rows_of_row rows r)) (rows 0)) (nat_le (length (rows 0)) MOST_DATABASES)
+    parts.0 parts.2 (sym (all_numbered (is_right_database rows) (rows 0)) ∙ under_none rows (wrong_database rows) refl both.1) few
 
 -- and the other way round
 pub environment_is_none : (rows : Rows) → is_environment rows ≡ true → wrong_record rows ≡ None
 unfolding is_none
 environment_is_none rows h =
-    let parts = four_of (list_all is_catalog_row (rows 0)) (are_distinct (numbers_of rows)) (list_all (λ n. are_plain (rows n)) (numbers_of rows)) (nat_le (length (rows 0)) MOST_DATABASES) h in
+    let parts = four_of (list_all is_catalog_row (rows 0)) (are_distinct (numbers_of rows)) (list_all (λ (r : Row). are_right (catalog_kind r.1) (rows_of_row rows r)) (rows 0)) (nat_le (length (rows 0)) MOST_DATABASES) h in
     let few : nat_le (0 + length (rows 0)) MOST_DATABASES ≡ true = ap (λ n. nat_le n MOST_DATABASES) (omega arith) ∙ parts.3 in
     let catalog : is_catalog_behind [] (rows 0) ≡ true =
     of_four (list_all is_catalog_row (rows 0)) (are_others [] (numbers_of rows)) (are_distinct (numbers_of rows)) (nat_le (0 + length (rows 0)) MOST_DATABASES)
     parts.0 (no_others (numbers_of rows)) parts.1 few in
     let none : wrong_in_catalog [] (rows 0) ≡ None = none_is (wrong_in_catalog [] (rows 0)) (catalog_none [] (rows 0) (omega arith) ∙ catalog) in
-    let databases : wrong_database rows ≡ None = least_of_none (λ n. are_plain (rows n)) (numbers_of rows) parts.2 in
+    let databases : wrong_database rows ≡ None = least_of_none (is_right_database rows) (map numbered_by (rows 0)) (all_numbered (is_right_database rows) (rows 0) ∙ parts.2) in
     rw (none, databases) refl
 
 -- where no record is wrong, the catalog's are right
 pub none_is_catalog : (rows : Rows) → wrong_record rows ≡ None → list_all is_catalog_row (rows 0) ≡ true
 none_is_catalog rows h =
-    (four_of (list_all is_catalog_row (rows 0)) (are_distinct (numbers_of rows)) (list_all (λ n. are_plain (rows n)) (numbers_of rows)) (nat_le (length (rows 0)) MOST_DATABASES)
+    (four_of (list_all is_catalog_row (rows 0)) (are_distinct (numbers_of rows)) (list_all (λ (r : Row). are_right (catalog_kind r.1) (rows_of_row rows r)) (rows 0)) (nat_le (length (rows 0)) MOST_DATABASES)
     (none_is_environment rows h)).0
 
 -- ---- the search for the least
 
 -- the least of what was found and of what is left
-abbrev pub lesser_of_both : Option ℕ → Option ℕ → Option ℕ
+abbrev pub lesser_of_both : Option Numbered → Option Numbered → Option Numbered
 lesser_of_both None other = other
-lesser_of_both (Some n) other = lesser_number n other
+lesser_of_both (Some d) other = lesser d other
 
-pub lesser_more : (found rest : Option ℕ) (n m : ℕ) → Some m ≡ lesser_number n found → lesser_of_both (Some m) rest ≡ lesser_of_both found (lesser_number n rest)
-lesser_more None rest n m is = let e : m ≡ n = cc in ap (λ (k : ℕ). lesser_number k rest) e
-lesser_more (Some k) None n m is = let e : m ≡ min n k = cc in ap (λ (x : ℕ). Some x) (omega (arith, e))
-lesser_more (Some k) (Some l) n m is = let e : m ≡ min n k = cc in ap (λ (x : ℕ). Some x) (omega (arith, e))
+-- the lesser of three, from either side
+lesser_thrice : (k d l : Numbered) (a b : Bool) → nat_le k.number d.number ≡ a → nat_le d.number l.number ≡ b →
+    cond (nat_le (cond a k d).number l.number) (cond a k d) l ≡ cond (nat_le k.number (cond b d l).number) k (cond b d l)
+lesser_thrice k d l true true ea eb =
+    let e : nat_le k.number l.number ≡ true = grind (arith, nat_tests) in
+    cond-true (nat_le k.number l.number) k l e ∙ sym (cond-true (nat_le k.number d.number) k d ea)
+lesser_thrice k d l true false ea eb = refl
+lesser_thrice k d l false true ea eb = cond-true (nat_le d.number l.number) d l eb ∙ sym (cond-false (nat_le k.number d.number) k d ea)
+lesser_thrice k d l false false ea eb =
+    let e : nat_le k.number l.number ≡ false = grind (arith, nat_tests) in
+    cond-false (nat_le d.number l.number) d l eb ∙ sym (cond-false (nat_le k.number l.number) k l e)
+
+-- a database more was looked at
+pub lesser_more : (found rest : Option Numbered) (d m : Numbered) → (found ≡ None → m ≡ d) → ((k : Numbered) → found ≡ Some k → Some m ≡ lesser k (Some d)) →
+    lesser_of_both (Some m) rest ≡ lesser_of_both found (lesser d rest)
+lesser_more None rest d m none some = ap (λ (k : Numbered). lesser k rest) (none refl)
+lesser_more (Some k) None d m none some = some k refl
+lesser_more (Some k) (Some l) d m none some =
+    ap (λ (o : Option Numbered). lesser_all o l) (some k refl)
+    ∙ ap (λ (n : Numbered). Some n) (lesser_thrice k d l (nat_le k.number d.number) (nat_le d.number l.number) refl refl)
+  where
+    lesser_all : Option Numbered → Numbered → Option Numbered
+    lesser_all None n = None
+    lesser_all (Some m) n = Some (cond (nat_le m.number n.number) m n)
+
+-- a database that is wrong was looked at, and one that is right
+pub wrong_met : (right : Numbered → Bool) (d m : Numbered) (left rest : List Numbered) (found next : Option Numbered) → left ≡ d ∷ rest → right d ≡ false → next ≡ Some m →
+    (found ≡ None → m ≡ d) → ((k : Numbered) → found ≡ Some k → Some m ≡ lesser k (Some d)) →
+    lesser_of_both next (least (filter (λ n. not (right n)) rest)) ≡ lesser_of_both found (least (filter (λ n. not (right n)) left))
+wrong_met right d m left rest found next parts wrong is none some =
+    ap (λ (o : Option Numbered). lesser_of_both o (least (filter (λ n. not (right n)) rest))) is
+    ∙ lesser_more found (least (filter (λ n. not (right n)) rest)) d m none some
+    ∙ ap (λ (l : List Numbered). lesser_of_both found (least l))
+    (sym (cond-true (not (right d)) (d ∷ filter (λ n. not (right n)) rest) (filter (λ n. not (right n)) rest) (ap not wrong)))
+    ∙ ap (λ (l : List Numbered). lesser_of_both found (least (filter (λ n. not (right n)) l))) (sym parts)
+
+pub right_met : (right : Numbered → Bool) (d : Numbered) (left rest : List Numbered) (found next : Option Numbered) → left ≡ d ∷ rest → right d ≡ true → next ≡ found →
+    lesser_of_both next (least (filter (λ n. not (right n)) rest)) ≡ lesser_of_both found (least (filter (λ n. not (right n)) left))
+right_met right d left rest found next parts ok is =
+    ap (λ (o : Option Numbered). lesser_of_both o (least (filter (λ n. not (right n)) rest))) is
+    ∙ ap (λ (l : List Numbered). lesser_of_both found (least l))
+    (sym (cond-false (not (right d)) (d ∷ filter (λ n. not (right n)) rest) (filter (λ n. not (right n)) rest) (ap not ok)))
+    ∙ ap (λ (l : List Numbered). lesser_of_both found (least (filter (λ n. not (right n)) l))) (sym parts)

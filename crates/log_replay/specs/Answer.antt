@@ -6,7 +6,7 @@ use Rattle.je_disk.specs.States.{Files, IsListing}
 use Rattle.je_lsn.specs.declared.file_no.FileNo.{FileNo}
 use Rattle.log_entry.specs.declared.entry.Entry.{Entry}
 use Rattle.log_file.specs.Log.{AreFiles, entries_of, log_in}
-use Rattle.je_model.specs.Store.{record_count}
+use Rattle.store_model.specs.Store.{record_count}
 use Rattle.log_replay.specs.declared.corruption.Corruption.{Corruption}
 use Rattle.log_replay.specs.declared.corruption.Corruption.TheVariants.{Tree}
 use Rattle.log_replay.specs.declared.log_read.ReadLog.{ReadLog}

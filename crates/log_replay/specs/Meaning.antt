@@ -1,8 +1,8 @@
 -- What the entries of a log mean.
 use Rattle.std.specs.Prelude.{ℕ, List}
 use Rattle.log_entry.specs.declared.entry.Entry.{Entry}
-use Rattle.je_model.specs.declared.store.Store.{Store}
-use Rattle.je_model.specs.Store.{no_databases}
+use Rattle.store_model.specs.declared.store.Store.{Store}
+use Rattle.store_model.specs.Store.{no_databases}
 use Rattle.log_replay.specs.Rows.{store_of}
 use Rattle.log_replay.specs.Replay.{replayed, nothing_replayed, txn_in, db_in, greatest}
 

@@ -1,6 +1,6 @@
 -- Reading the files of a log: what their entries mean together, or what is wrong, in the order of reading. The files come
 -- first, in order; then the numbers between them; then the records that are left.
-use Rattle.std.specs.Prelude.{ℕ, ◌+◌, ◌*◌, ◌^◌, ◌==◌, ◌&&◌, ◌||◌, nat_lt, ◌∷◌, [], List, Option, None, Some, Result, Ok, Err, Bool, map, option_map, unwrap_or, length, if◌then◌else◌}
+use Rattle.std.specs.Prelude.{ℕ, ◌+◌, ◌==◌, ◌&&◌, ◌||◌, nat_lt, ◌∷◌, [], List, Option, None, Some, Result, Ok, Err, Bool, map, option_map, unwrap_or, length, if◌then◌else◌}
 use Rattle.std.specs.Int.{w64, to_be_bytes}
 use Rattle.std.specs.List.{flat_map}
 use Rattle.je_bytes.specs.Reading.{number_in}

@@ -1,5 +1,5 @@
 -- The records of an environment, by the number of their database, and the store that they make. Database 0 is the
--- catalog: its records are the other databases' names and numbers.
+-- catalog: its records are the other databases' names, numbers and kinds.
 use Rattle.std.specs.Prelude.{ℕ, ◌++◌, ◌∷◌, [], ◌==◌, ◌&&◌, nat_le, List, Option, None, Some, Bool, true, not, filter, map, find, unwrap_or, option_map, length, if◌then◌else◌}
 use Rattle.std.specs.List.{list_all, list_any}
 use Rattle.std.specs.Ordering.{is_eq, is_lt, is_gt, on}
@@ -8,13 +8,14 @@ use Rattle.std.specs.Map.{lookup}
 use Rattle.je_order.specs.Order.{name_cmp}
 use Rattle.je_order.specs.Words.{is_word}
 use Rattle.je_order.specs.declared.name.Name.{Name}
-use Rattle.je_model.specs.declared.store.TheConstants.{MOST_DATABASES}
-use Rattle.je_model.specs.declared.store.Store.{Store}
-use Rattle.je_model.specs.declared.store.Database.{Database}
-use Rattle.je_model.specs.declared.store.Kind.TheVariants.{Plain}
+use Rattle.store_model.specs.declared.store.TheConstants.{MOST_DATABASES, DUP_LIMIT}
+use Rattle.store_model.specs.declared.store.Store.{Store}
+use Rattle.store_model.specs.declared.store.Database.{Database}
+use Rattle.store_model.specs.declared.kind.Kind.{Kind}
+use Rattle.store_model.specs.declared.kind.Kind.TheVariants.{Plain, Dup}
 use Rattle.db_catalog.specs.declared.db_record.DbRecord.{DbRecord}
 use Rattle.db_catalog.specs.declared.db_kind.DbKind.{DbKind}
-use Rattle.db_catalog.specs.declared.db_kind.DbKind.TheVariants.{Plain as PlainRecord}
+use Rattle.db_catalog.specs.declared.db_kind.DbKind.TheVariants.{Plain as PlainRecord, Dup as DupRecord}
 use Rattle.db_catalog.specs.Catalog.{db_record_in}
 
 -- a record: its name and its data
@@ -72,20 +73,34 @@ data_at name rows = option_map (λ r. r.1) (row_at name rows)
 abbrev pub IsRising : List Row → Type 0
 IsRising rows = IsStrictlySortedBy (on (λ (r : Row). r.0) name_cmp) rows
 
--- the number of a plain database; 0, which is no database's number, for the other kinds, which no environment has yet
-abbrev pub plain_number : DbKind → ℕ → ℕ
-plain_number PlainRecord number = number
-plain_number kind number = 0
+-- the number of a database that keeps records of its own; 0, which is no database's number, for an index, which no environment has yet
+abbrev pub database_number : DbKind → ℕ → ℕ
+database_number PlainRecord number = number
+database_number DupRecord number = number
+database_number kind number = 0
 
--- the number in a catalog record's data; 0 where the data is no record
+-- how such a database keeps its records
+abbrev pub database_kind : DbKind → Kind
+database_kind DupRecord = Dup
+database_kind kind = Plain
+
+-- the number in a catalog record's data; 0 where the data is no record, or an index's
 abbrev pub number_or_0 : Option DbRecord → ℕ
 number_or_0 None = 0
-number_or_0 (Some record_) = plain_number record_.kind record_.number
+number_or_0 (Some record_) = database_number record_.kind record_.number
 
 abbrev pub catalog_number : List ℕ → ℕ
 catalog_number bytes = number_or_0 (db_record_in bytes)
 
--- whether a catalog record is right: the key is a database's name, the dup is empty, and the data has a number
+-- the kind in a catalog record's data, where its number is not 0
+abbrev pub kind_or_plain : Option DbRecord → Kind
+kind_or_plain None = Plain
+kind_or_plain (Some record_) = database_kind record_.kind
+
+abbrev pub catalog_kind : List ℕ → Kind
+catalog_kind bytes = kind_or_plain (db_record_in bytes)
+
+-- whether a catalog record is right: the key is a database's name, the dup is empty, and the data has a number, so it is no index's
 abbrev pub is_catalog_row : Row → Bool
 is_catalog_row row = is_word row.0.key && (length row.0.dup == 0) && not (catalog_number row.1 == 0)
 
@@ -94,9 +109,19 @@ abbrev pub are_distinct : List ℕ → Bool
 are_distinct [] = true
 are_distinct (n ∷ ns) = not (list_any (λ m. m == n) ns) && are_distinct ns
 
--- whether records are right in a plain database: their dups are empty
-abbrev pub are_plain : List Row → Bool
-are_plain rows = list_all (λ r. length r.0.dup == 0) rows
+-- whether a record is right in a database of a kind: in a plain one its dup is empty; in one of sorted duplicates its data is empty, and
+-- its dup, which is the data of the pair, is within its limit
+abbrev pub is_right_row : Kind → Row → Bool
+is_right_row Plain row = length row.0.dup == 0
+is_right_row Dup row = (length row.1 == 0) && nat_le (length row.0.dup) DUP_LIMIT
+
+-- whether all records are
+abbrev pub are_right : Kind → List Row → Bool
+are_right kind rows = list_all (is_right_row kind) rows
+
+-- the records of the database that a catalog record names
+abbrev pub rows_of_row : Rows → Row → List Row
+rows_of_row rows row = rows (catalog_number row.1)
 
 -- the numbers that the catalog has, in order of the names
 abbrev pub numbers_of : Rows → List ℕ
@@ -106,16 +131,17 @@ numbers_of rows = map (λ r. catalog_number r.1) (rows 0)
 -- are right, and there are no more databases than there may be
 abbrev pub is_environment : Rows → Bool
 is_environment rows =
-    list_all is_catalog_row (rows 0) && are_distinct (numbers_of rows) && list_all (λ n. are_plain (rows n)) (numbers_of rows)
+    list_all is_catalog_row (rows 0) && are_distinct (numbers_of rows) && list_all (λ r. are_right (catalog_kind r.1) (rows_of_row rows r)) (rows 0)
     && nat_le (length (rows 0)) MOST_DATABASES
 
--- a plain database's record as a pair of key and data
-abbrev pub pair_of : Row → List ℕ × List ℕ
-pair_of row = (row.0.key, row.1)
+-- a record as a pair of key and data: in a database of sorted duplicates its dup is the data
+abbrev pub pair_of : Kind → Row → List ℕ × List ℕ
+pair_of Plain row = (row.0.key, row.1)
+pair_of Dup row = (row.0.key, row.0.dup)
 
 -- the database that a catalog record names, with the records under its number
 abbrev pub database_in : Rows → Row → Database
-database_in rows row = record { name = row.0.key; kind = Plain; pairs = map pair_of (rows (catalog_number row.1)) }
+database_in rows row = record { name = row.0.key; kind = catalog_kind row.1; pairs = map (pair_of (catalog_kind row.1)) (rows_of_row rows row) }
 
 -- the store that records make
 abbrev pub store_of : Rows → Store

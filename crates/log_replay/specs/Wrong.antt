@@ -1,11 +1,13 @@
 -- The first record that breaks a rule of environments: the catalog's records in name order, and then the databases' by
 -- number and name.
-use Rattle.std.specs.Prelude.{ℕ, ◌++◌, ◌∷◌, [], ◌==◌, ◌&&◌, nat_lt, min, not, Bool, List, Option, None, Some, filter, find, option_map, length, if◌then◌else◌}
+use Rattle.std.specs.Prelude.{ℕ, ◌++◌, ◌∷◌, [], ◌==◌, ◌&&◌, nat_lt, nat_le, not, Bool, List, Option, None, Some, filter, find, map, option_map, length, if◌then◌else◌}
 use Rattle.std.specs.List.{list_any}
 use Rattle.je_order.specs.declared.name.Name.{Name}
-use Rattle.je_model.specs.declared.store.TheConstants.{MOST_DATABASES}
+use Rattle.store_model.specs.declared.store.TheConstants.{MOST_DATABASES}
+use Rattle.store_model.specs.declared.kind.Kind.{Kind}
 use Rattle.log_replay.specs.declared.place.Place.{Place}
-use Rattle.log_replay.specs.Rows.{Row, Rows, catalog_number, numbers_of, is_catalog_row, are_plain}
+use Rattle.log_replay.specs.declared.numbered.Numbered.{Numbered}
+use Rattle.log_replay.specs.Rows.{Row, Rows, catalog_number, catalog_kind, is_catalog_row, is_right_row, are_right}
 
 -- the first of two that is there
 abbrev pub or_else : {A : Type 0} → Option A → Option A → Option A
@@ -24,27 +26,31 @@ wrong_in_catalog before [] = None
 wrong_in_catalog before (row ∷ rows) =
     if is_right_behind before row then wrong_in_catalog (before ++ catalog_number row.1 ∷ []) rows else Some row.0
 
--- the name of the first record that is wrong in a plain database: its dup is not empty
-abbrev pub wrong_in_plain : List Row → Option Name
-wrong_in_plain rows = option_map (λ r. r.0) (find (λ r. not (length r.0.dup == 0)) rows)
+-- the name of the first record that is wrong in a database of a kind
+abbrev pub wrong_in : Kind → List Row → Option Name
+wrong_in kind rows = option_map (λ r. r.0) (find (λ r. not (is_right_row kind r)) rows)
 
--- the least of numbers
-abbrev pub lesser_number : ℕ → Option ℕ → Option ℕ
-lesser_number n None = Some n
-lesser_number n (Some m) = Some (min n m)
+-- the number and the kind of the database that a catalog record names
+abbrev pub numbered_by : Row → Numbered
+numbered_by row = record { number = catalog_number row.1; kind = catalog_kind row.1 }
 
-abbrev pub least_number : List ℕ → Option ℕ
-least_number [] = None
-least_number (n ∷ ns) = lesser_number n (least_number ns)
+-- the first of the databases with the least number
+abbrev pub lesser : Numbered → Option Numbered → Option Numbered
+lesser d None = Some d
+lesser d (Some e) = Some (if nat_le d.number e.number then d else e)
 
--- the least number of a database that the catalog names and that has a wrong record
-abbrev pub wrong_database : Rows → Option ℕ
-wrong_database rows = least_number (filter (λ n. not (are_plain (rows n))) (numbers_of rows))
+abbrev pub least : List Numbered → Option Numbered
+least [] = None
+least (d ∷ ds) = lesser d (least ds)
+
+-- the database with the least number that the catalog names and that has a wrong record
+abbrev pub wrong_database : Rows → Option Numbered
+wrong_database rows = least (filter (λ d. not (are_right d.kind (rows d.number))) (map numbered_by (rows 0)))
 
 -- the place of the first wrong record of that database
-abbrev pub wrong_under : Rows → Option ℕ → Option Place
+abbrev pub wrong_under : Rows → Option Numbered → Option Place
 wrong_under rows None = None
-wrong_under rows (Some db) = option_map (λ name. record { db = db; name = name }) (wrong_in_plain (rows db))
+wrong_under rows (Some d) = option_map (λ name. record { db = d.number; name = name }) (wrong_in d.kind (rows d.number))
 
 -- the place of the first record that is wrong
 abbrev pub wrong_record : Rows → Option Place

@@ -11,7 +11,7 @@ pub enum Corruption {
     Damaged(Lsn),
     /// A file between the first and the last is not there; the offset is 0.
     Missing(Lsn),
-    /// The entry there put a record that breaks a rule of the catalog or of plain databases.
+    /// The entry there put a record that breaks a rule of the catalog or of its database's kind.
     Tree(Lsn),
     /// A file is of another version of the format.
     VersionUnknown { file: FileNo, version: u32 },

@@ -1,12 +1,28 @@
 // What holds of all logs.
-ghost use Rattle.log_replay.specs.Laws.{AreLoggedFirst, AreReadAgain};
+ghost use Rattle.log_replay.specs.Laws.{AreReadAgain, TransactionsAreKept, StoresAreChanged, NumbersAreChanged, KeptIsRight, KeptForLater, DatabasesByNumber, ChangedByAnyTransaction, LoggedAsEntries};
 
 /// A log whose files are there whole, with no gap between their numbers, is read again.
 pub fn logs_are_read()
     ensures { AreReadAgain }
 {}
 
-/// In a catalog of plain databases a change is logged by one entry, and a rename by one more.
+/// A transaction whose changes may be logged leaves what is kept: its records, their store and the
+/// databases' numbers are those that the changes make.
+pub fn transactions_are_kept()
+    ensures kept { TransactionsAreKept }
+    ensures store { StoresAreChanged }
+    ensures numbers { NumbersAreChanged }
+{}
+
+/// What is kept is right, stays kept, and has the store's databases under their numbers.
+pub fn kept_is_right()
+    ensures right { KeptIsRight }
+    ensures later { KeptForLater }
+    ensures databases { DatabasesByNumber }
+{}
+
+/// A change is logged by its changes of records, which do the same by any transaction.
 pub fn changes_are_logged()
-    ensures { AreLoggedFirst }
+    ensures any { ChangedByAnyTransaction }
+    ensures entries { LoggedAsEntries }
 {}

@@ -1,7 +1,7 @@
 // What a replay found.
 ghost use Rattle.std.specs.Prelude.{◌≡◌, ℕ, List as Items, [], length, true, IfOk};
 ghost use Rattle.log_entry.specs.declared.entry.Entry.{Entry as AnyEntry};
-ghost use Rattle.je_model.specs.Store.{no_databases, record_count};
+ghost use Rattle.store_model.specs.Store.{no_databases, record_count};
 ghost use Rattle.log_replay.specs.Rows.{rows_in, store_of, is_catalog_row, IsRising};
 ghost use Rattle.log_replay.specs.UnderWay.{IsReplayOf};
 ghost use Rattle.log_replay.specs.Answer.{IsValidated};
@@ -10,8 +10,8 @@ ghost use Rattle.std.specs.List.{list_all};
 use crate::place::Place;
 use crate::replaying::Replaying;
 use crate::rows::Rows;
-use je_model::{Store, Totals};
 use std::alloc::{AllocError, Global};
+use store_model::{Store, Totals};
 
 /// What a replay of a log found: its records, and the store that they make.
 #[derive(Drop)]

@@ -1,21 +1,23 @@
 // The records of an environment.
 ghost use Rattle.std.specs.Prelude.{◌≡◌, ◌==◌, true, ℕ, [], length, Option, None, Some, IfOk, OnOk, OnErr, option_copied, map, filter, not, if◌then◌else◌};
 ghost use Rattle.std.specs.List.{list_all};
-ghost use Rattle.log_replay.specs.Rows.{IsRising, RowChange, rows_in, rows_put, row_changed, data_at, are_plain, pair_of, is_catalog_row, numbers_of, store_of};
-ghost use Rattle.log_replay.specs.Wrong.{least_number, lesser_number as lesser_of, wrong_in_catalog, wrong_in_plain, wrong_under, wrong_database, wrong_record};
+ghost use Rattle.log_replay.specs.Rows.{IsRising, RowChange, rows_in, rows_put, row_changed, data_at, are_right, pair_of, is_catalog_row, store_of};
+ghost use Rattle.log_replay.specs.Wrong.{least, lesser as lesser_of, numbered_by, wrong_in_catalog, wrong_in, wrong_under, wrong_database, wrong_record};
+ghost use Rattle.log_replay.specs.declared.numbered.Numbered.{Numbered as Found};
 ghost use Rattle.log_replay.specs.Opening.{named_by, database_with_rows};
 
 use crate::named::Named;
+use crate::numbered::Numbered;
 use crate::place::Place;
 use crate::table::Table;
-use je_model::{Database, Kind, Store};
 use je_order::{List, Name, Octets};
 use record_map::{Data, SortKey};
 use std::alloc::{AllocError, Global};
 use std::collections::BTreeMap;
 use std::marker::Model;
+use store_model::{Database, Kind, Store};
 
-/// The number of the catalog, whose records are the other databases' names and numbers.
+/// The number of the catalog, whose records are the other databases' names, numbers and kinds.
 const CATALOG: u32 = 0;
 
 /// The records of an environment in memory, by the number of their database and in name order: seen
@@ -37,13 +39,20 @@ impl Model for Rows {
     ghost invariant = { λ a. (d : ℕ) → IsRising (rows_in a.databases.entries d) };
 }
 
-// The lesser of a number and another one, if there is one.
-fn lesser(number: u32, other: Option<u32>) -> u32
-    ensures { Some result ≡ lesser_of number other }
+// The first of a database and another one, if there is one, with the lesser number.
+fn lesser(found: Option<Numbered>, other: Numbered) -> Numbered
+    ensures none { found ≡ None → result ≡ other }
+    ensures some { (d : Found) → found ≡ Some d → Some result ≡ lesser_of d (Some other) }
 {
-    match other {
-        Some(other) => number.min(other),
-        None => number,
+    match found {
+        Some(found) => {
+            if found.number <= other.number {
+                found
+            } else {
+                other
+            }
+        }
+        None => other,
     }
 }
 
@@ -147,34 +156,34 @@ impl Rows {
         }
     }
 
-    /// Whether the records of a database are right in a plain one.
-    fn is_plain(&self, db: u32) -> bool
-        ensures { result ≡ are_plain (rows_in self.now db) }
+    /// Whether the records of a database are right in one of its kind.
+    fn is_right(&self, database: Numbered) -> bool
+        ensures { result ≡ are_right database.kind (rows_in self.now database.number) }
     {
-        match self.databases.get(&db) {
-            Some(table) => table.is_plain(),
+        match self.databases.get(&database.number) {
+            Some(table) => table.is_right(database.kind),
             None => true,
         }
     }
 
-    /// The numbers in the catalog's records, in order.
-    fn numbers(&self, alloc: Global) -> Result<List<u32>, AllocError>
-        ensures { IfOk result (λ numbers. numbers ≡ numbers_of (rows_in self.now)) }
+    /// The numbers and the kinds in the catalog's records, in order.
+    fn numbered(&self, alloc: Global) -> Result<List<Numbered>, AllocError>
+        ensures { IfOk result (λ numbered. numbered ≡ map numbered_by (rows_in self.now 0)) }
     {
         match self.databases.get(&CATALOG) {
-            Some(table) => table.numbers(alloc),
+            Some(table) => table.numbered(alloc),
             None => Ok(List::new(alloc)),
         }
     }
 
-    /// The least of these databases that has a record that is wrong in a plain one.
-    fn least_wrong(&self, numbers: &[u32]) -> Option<u32>
-        ensures { result ≡ least_number (filter (λ n. not (are_plain (rows_in self.now n))) numbers.now) }
+    /// The least of these databases that has a record that is wrong in one of its kind.
+    fn least_wrong(&self, databases: &[Numbered]) -> Option<Numbered>
+        ensures { result ≡ least (filter (λ d. not (are_right d.kind (rows_in self.now d.number))) databases.now) }
     {
         let mut found = None;
-        for number in numbers {
-            if !self.is_plain(*number) {
-                found = Some(lesser(*number, found));
+        for database in databases {
+            if !self.is_right(*database) {
+                found = Some(lesser(found, *database));
             }
         }
         found
@@ -190,12 +199,12 @@ impl Rows {
         }
     }
 
-    /// The name of the first record of the database that is wrong in a plain one.
-    fn wrong_in_plain(&self, alloc: Global, db: u32) -> Result<Option<Name>, AllocError>
-        ensures { IfOk result (λ wrong. wrong ≡ wrong_in_plain (rows_in self.now db)) }
+    /// The name of the first record of the database that is wrong in one of its kind.
+    fn wrong_in(&self, alloc: Global, database: Numbered) -> Result<Option<Name>, AllocError>
+        ensures { IfOk result (λ wrong. wrong ≡ wrong_in database.kind (rows_in self.now database.number)) }
     {
-        match self.databases.get(&db) {
-            Some(table) => table.wrong_in_plain(alloc),
+        match self.databases.get(&database.number) {
+            Some(table) => table.wrong_in(alloc, database.kind),
             None => Ok(None),
         }
     }
@@ -204,14 +213,17 @@ impl Rows {
     fn wrong_in_databases(&self, alloc: Global) -> Result<Option<Place>, AllocError>
         ensures { IfOk result (λ wrong. wrong ≡ wrong_under (rows_in self.now) (wrong_database (rows_in self.now))) }
     {
-        let numbers = self.numbers(alloc)?;
-        let Some(db) = self.least_wrong(numbers.as_slice()) else {
+        let databases = self.numbered(alloc)?;
+        let Some(database) = self.least_wrong(databases.as_slice()) else {
             return Ok(None);
         };
-        let Some(name) = self.wrong_in_plain(alloc, db)? else {
+        let Some(name) = self.wrong_in(alloc, database)? else {
             return Ok(None);
         };
-        Ok(Some(Place { db, name }))
+        Ok(Some(Place {
+            db: database.number,
+            name,
+        }))
     }
 
     /// The place of the first record that breaks a rule of environments.
@@ -224,12 +236,17 @@ impl Rows {
         }
     }
 
-    /// Copies of the keys and data of a database, in order.
-    fn pairs(&self, alloc: Global, db: u32) -> Result<List<(Octets, Octets)>, AllocError>
-        ensures { IfOk result (λ pairs. pairs ≡ map pair_of (rows_in self.now db)) }
+    /// Copies of the keys and data of a database of that kind, in order.
+    fn pairs(
+        &self,
+        alloc: Global,
+        db: u32,
+        kind: Kind,
+    ) -> Result<List<(Octets, Octets)>, AllocError>
+        ensures { IfOk result (λ pairs. pairs ≡ map (pair_of kind) (rows_in self.now db)) }
     {
         match self.databases.get(&db) {
-            Some(table) => table.pairs(alloc),
+            Some(table) => table.pairs(alloc, kind),
             None => Ok(List::new(alloc)),
         }
     }
@@ -244,10 +261,10 @@ impl Rows {
     {
         let mut databases = Vec::new(alloc);
         for named in catalog.into_vec() {
-            let pairs = self.pairs(alloc, named.number)?;
+            let pairs = self.pairs(alloc, named.number, named.kind)?;
             databases.push(Database {
                 name: named.name,
-                kind: Kind::Plain,
+                kind: named.kind,
                 pairs,
             })?;
         }

@@ -1,20 +1,22 @@
 // The records of one database.
 ghost use Rattle.std.specs.Prelude.{◌≡◌, true, ℕ, List as Items, [], length, Option, None, Some, IfOk, OnOk, OnErr, option_copied, map};
-ghost use Rattle.log_replay.specs.Rows.{IsRising, rows_with, rows_put, data_at, are_plain, pair_of, is_catalog_row, catalog_number};
-ghost use Rattle.log_replay.specs.Wrong.{is_right_behind, wrong_in_catalog as wrong_in_catalog_rows, wrong_in_plain as wrong_in_plain_rows};
+ghost use Rattle.log_replay.specs.Rows.{IsRising, rows_with, rows_put, data_at, is_right_row as is_right_for, are_right, pair_of, is_catalog_row, catalog_number};
+ghost use Rattle.log_replay.specs.Wrong.{is_right_behind, wrong_in_catalog as wrong_in_catalog_rows, wrong_in as wrong_in_rows, numbered_by};
 ghost use Rattle.log_replay.specs.Opening.{named_by};
 ghost use Rattle.std.specs.List.{list_all};
 ghost use Rattle.std.specs.BTreeMap.{IsFromIterResult};
 ghost use Rattle.je_order.specs.Order.{name_cmp};
+ghost use Rattle.je_order.specs.declared.name.Name.{Name as AnyName};
 
 use crate::named::Named;
-use crate::numbers::number_of;
-use je_model::MOST_DATABASES;
+use crate::numbered::Numbered;
+use crate::numbers::{kind_of, number_of};
 use je_order::{List, Name, Octets, Word};
 use record_map::{Data, SortKey};
 use std::alloc::{AllocError, Global};
 use std::collections::BTreeMap;
 use std::marker::Model;
+use store_model::{DUP_LIMIT, Kind, MOST_DATABASES};
 
 /// How many puts are at least put in order before they go in.
 const MANY: usize = 16;
@@ -48,13 +50,38 @@ fn is_right(name: &SortKey, number: u32, before: &[u32]) -> bool
         && before.len() < MOST_DATABASES as usize
 }
 
-// Copies of the key and data of a record.
-fn pair_in(alloc: Global, name: &SortKey, data: &Data) -> Result<(Octets, Octets), AllocError>
-    ensures { IfOk result (λ pair. pair ≡ pair_of (name.now, «data».now)) }
+// Whether a record is right in a database of that kind.
+fn is_right_row(kind: Kind, name: &SortKey, data: &Data) -> bool
+    ensures { result ≡ is_right_for kind (name.now, «data».now) }
+{
+    match kind {
+        Kind::Plain => name.dup().is_empty(),
+        Kind::Dup => data.as_slice().is_empty() && name.dup().len() <= DUP_LIMIT,
+    }
+}
+
+// The data of a record's pair.
+fn data_in<'a>(kind: Kind, name: &'a SortKey, data: &'a Data) -> &'a [u8]
+    ensures { result.now ≡ (pair_of kind (name.now, «data».now)).1 }
+{
+    match kind {
+        Kind::Plain => data.as_slice(),
+        Kind::Dup => name.dup(),
+    }
+}
+
+// Copies of the key and data of a record, in a database of that kind.
+fn pair_in(
+    alloc: Global,
+    kind: Kind,
+    name: &SortKey,
+    data: &Data,
+) -> Result<(Octets, Octets), AllocError>
+    ensures { IfOk result (λ pair. pair ≡ pair_of kind (name.now, «data».now)) }
 {
     Ok((
         Octets::from_slice(alloc, name.key())?,
-        Octets::from_slice(alloc, data.as_slice())?,
+        Octets::from_slice(alloc, data_in(kind, name, data))?,
     ))
 }
 
@@ -66,7 +93,18 @@ fn named_in(alloc: Global, name: &SortKey, data: &Data) -> Result<Named, AllocEr
     Ok(Named {
         name: Word::from_slice(alloc, name.key())?,
         number: number_of(data.as_slice()),
+        kind: kind_of(data.as_slice()),
     })
+}
+
+// The number and the kind in a record of a catalog.
+fn numbered_in(data: &Data) -> Numbered
+    ensures { (name : AnyName) → result ≡ numbered_by (name, «data».now) }
+{
+    Numbered {
+        number: number_of(data.as_slice()),
+        kind: kind_of(data.as_slice()),
+    }
 }
 
 // The data that is put last for each name, in name order.
@@ -149,12 +187,12 @@ impl Table {
         self.records.remove(name);
     }
 
-    /// Whether the records are right in a plain database: each dup is empty.
-    pub(crate) fn is_plain(&self) -> bool
-        ensures { result ≡ are_plain self.now }
+    /// Whether the records are right in a database of that kind.
+    pub(crate) fn is_right(&self, kind: Kind) -> bool
+        ensures { result ≡ are_right kind self.now }
     {
-        for (key, _data) in &self.records {
-            if !key.dup().is_empty() {
+        for (key, data) in &self.records {
+            if !is_right_row(kind, key, data) {
                 return false;
             }
         }
@@ -176,36 +214,40 @@ impl Table {
         Ok(None)
     }
 
-    /// The name of the first record that is wrong in a plain database.
-    pub(crate) fn wrong_in_plain(&self, alloc: Global) -> Result<Option<Name>, AllocError>
-        ensures { IfOk result (λ wrong. wrong ≡ wrong_in_plain_rows self.now) }
+    /// The name of the first record that is wrong in a database of that kind.
+    pub(crate) fn wrong_in(&self, alloc: Global, kind: Kind) -> Result<Option<Name>, AllocError>
+        ensures { IfOk result (λ wrong. wrong ≡ wrong_in_rows kind self.now) }
     {
-        for (key, _data) in &self.records {
-            if !key.dup().is_empty() {
+        for (key, data) in &self.records {
+            if !is_right_row(kind, key, data) {
                 return Ok(Some(key.to_name(alloc)?));
             }
         }
         Ok(None)
     }
 
-    /// The numbers in the records of a catalog, in order.
-    pub(crate) fn numbers(&self, alloc: Global) -> Result<List<u32>, AllocError>
-        ensures { IfOk result (λ numbers. numbers ≡ map (λ r. catalog_number r.1) self.now) }
+    /// The numbers and the kinds in the records of a catalog, in order.
+    pub(crate) fn numbered(&self, alloc: Global) -> Result<List<Numbered>, AllocError>
+        ensures { IfOk result (λ numbered. numbered ≡ map numbered_by self.now) }
     {
-        let mut numbers = Vec::new(alloc);
+        let mut numbered = Vec::new(alloc);
         for (_key, data) in &self.records {
-            numbers.push(number_of(data.as_slice()))?;
+            numbered.push(numbered_in(data))?;
         }
-        Ok(List::from_vec(numbers))
+        Ok(List::from_vec(numbered))
     }
 
-    /// Copies of the keys and data, in order.
-    pub(crate) fn pairs(&self, alloc: Global) -> Result<List<(Octets, Octets)>, AllocError>
-        ensures { IfOk result (λ pairs. pairs ≡ map pair_of self.now) }
+    /// Copies of the keys and data, in order, in a database of that kind.
+    pub(crate) fn pairs(
+        &self,
+        alloc: Global,
+        kind: Kind,
+    ) -> Result<List<(Octets, Octets)>, AllocError>
+        ensures { IfOk result (λ pairs. pairs ≡ map (pair_of kind) self.now) }
     {
         let mut pairs = Vec::new(alloc);
         for (key, data) in &self.records {
-            pairs.push(pair_in(alloc, key, data)?)?;
+            pairs.push(pair_in(alloc, kind, key, data)?)?;
         }
         Ok(List::from_vec(pairs))
     }

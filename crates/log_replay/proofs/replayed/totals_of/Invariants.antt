@@ -1,6 +1,6 @@
 use Rattle.std.proofs.Common.{◌≡◌, ◌+◌, length, drop}
 use Rattle.std.specs.List.{sum_by}
-use Rattle.je_model.specs.Store.{record_count}
+use Rattle.store_model.specs.Store.{record_count}
 use Rattle.log_replay.proofs.replayed.totals_of.Given as goal
 
 abbrev pub invariant-loop-database : goal.invariant-loop-database

@@ -1,5 +1,5 @@
 use Rattle.std.proofs.Common.{◌≡◌, ◌∙◌, ap, ap₂, List, ℕ, subst, sym}
-use Rattle.je_model.specs.declared.store.Store.{Store}
+use Rattle.store_model.specs.declared.store.Store.{Store}
 use Rattle.log_replay.specs.Replay.{replayed, nothing_replayed, greatest, txn_in, db_in}
 use Rattle.log_replay.specs.Rows.{Row, Rows, IsRising, rows_in, store_of}
 use Rattle.log_replay.specs.Meaning.{Meaning}

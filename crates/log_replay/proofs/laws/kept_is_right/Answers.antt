@@ -1,0 +1,12 @@
+use Rattle.log_replay.proofs.LogLaws.{kept_later}
+use Rattle.log_replay.proofs.TransactionLaws.{kept_is_right, databases_by_number}
+use Rattle.log_replay.proofs.laws.kept_is_right.Goals as goal
+
+pub returns-clause-right : goal.returns-clause-right
+returns-clause-right c = kept_is_right
+
+pub returns-clause-later : goal.returns-clause-later
+returns-clause-later c = kept_later
+
+pub returns-clause-databases : goal.returns-clause-databases
+returns-clause-databases c = databases_by_number
