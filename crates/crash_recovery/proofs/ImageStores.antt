@@ -4,9 +4,9 @@ use Rattle.std.proofs.lemmas.List.{take-append-le, length-append}
 use Rattle.je_disk.specs.States.{Files}
 use Rattle.je_disk.specs.Moments.{now}
 use Rattle.je_disk.proofs.MomentLaws.{passes_weaken}
-use Rattle.je_model.specs.declared.change.Change.{Change}
-use Rattle.je_model.specs.declared.store.Store.{Store}
-use Rattle.je_model.specs.Store.{store_after}
+use Rattle.store_model.specs.declared.change.Change.{Change}
+use Rattle.store_model.specs.declared.store.Store.{Store}
+use Rattle.store_model.specs.Store.{store_after}
 use Rattle.log_buffer.specs.Crash.{IsKeptSince}
 use Rattle.log_buffer.proofs.CrashImages.{kept_is_left}
 use Rattle.log_buffer.proofs.ChanceMatches.{reads_have_no_chance}

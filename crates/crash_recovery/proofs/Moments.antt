@@ -10,8 +10,8 @@ use Rattle.log_buffer.proofs.GrowthLaws.{tried_more}
 use Rattle.log_buffer.proofs.Prefixes.{observed_prefixes}
 use Rattle.log_trees.specs.Placed.{placed}
 use Rattle.log_meaning.specs.Recovery.{commits_in}
-use Rattle.je_model.specs.declared.change.Change.{Change}
-use Rattle.je_model.specs.declared.store.Store.{Store}
+use Rattle.store_model.specs.declared.change.Change.{Change}
+use Rattle.store_model.specs.declared.store.Store.{Store}
 use Rattle.crash_recovery.specs.Recovery.{RecoversLog, IsStateRecovered}
 use Rattle.crash_recovery.specs.Growth.{IsHeld, StandingRecovers, GrowthRecovers, TriedRecovers}
 use Rattle.crash_recovery.proofs.Commits.{kept_are_within, commits_stay}

@@ -2,8 +2,8 @@
 use Rattle.std.specs.Prelude.{◌≡◌, ℕ, ◌-◌, ◌<◌, ◌≤◌, ◌^◌, true, List, ◌++◌, map}
 use Rattle.std.specs.List.{AllByRecursion}
 use Rattle.je_lsn.specs.Naming.{last_file}
-use Rattle.je_model.specs.declared.change.Change.{Change}
-use Rattle.je_model.specs.declared.store.Store.{Store}
+use Rattle.store_model.specs.declared.change.Change.{Change}
+use Rattle.store_model.specs.declared.store.Store.{Store}
 use Rattle.log_entry.specs.declared.entry.Entry.{Entry}
 use Rattle.log_entry.specs.Body.{IsEntry}
 use Rattle.log_entry.specs.Encoding.{size_of}

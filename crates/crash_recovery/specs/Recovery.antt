@@ -2,8 +2,8 @@
 use Rattle.std.specs.Prelude.{ℕ, List, map, take}
 use Rattle.je_disk.specs.States.{Files, State}
 use Rattle.je_disk.specs.Images.{AreFileImages}
-use Rattle.je_model.specs.declared.change.Change.{Change}
-use Rattle.je_model.specs.declared.store.Store.{Store}
+use Rattle.store_model.specs.declared.change.Change.{Change}
+use Rattle.store_model.specs.declared.store.Store.{Store}
 use Rattle.log_file.specs.Log.{Log, AreFiles}
 use Rattle.log_buffer.specs.Chance.{NoChanceMatch}
 use Rattle.log_trees.specs.Placed.{placed}

@@ -6,7 +6,7 @@ use Rattle.std.proofs.lemmas.List.{take-take, take-append-drop}
 use Rattle.std.proofs.lemmas.List.Elements.{filter-append}
 use Rattle.std.specs.List.{AllByRecursion}
 use Rattle.je_order.proofs.Lists.{all_weaker, all_append}
-use Rattle.je_model.specs.Store.{store_after}
+use Rattle.store_model.specs.Store.{store_after}
 use Rattle.log_file.specs.Log.{log_in}
 use Rattle.log_replay.specs.declared.corruption.Corruption.{Corruption}
 use Rattle.log_replay.specs.Wrong.{or_else}

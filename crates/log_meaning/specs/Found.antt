@@ -1,8 +1,8 @@
 -- A log that was found: which of its files are needed, and what an environment that opens it begins with.
 use Rattle.std.specs.Prelude.{◌≡◌, ◌≤◌, ◌<◌, ℕ, ◌+◌, ◌/◌, ◌^◌, nat_lt, true, Option, None, Some, Ok, List, [], ◌∷◌, ◌++◌, map, take, length}
 use Rattle.std.specs.List.{AllByRecursion}
-use Rattle.je_model.specs.declared.change.Change.{Change}
-use Rattle.je_model.specs.declared.store.Store.{Store}
+use Rattle.store_model.specs.declared.change.Change.{Change}
+use Rattle.store_model.specs.declared.store.Store.{Store}
 use Rattle.log_entry.specs.Body.{IsEntry}
 use Rattle.log_file.specs.Log.{Log, log_in}
 use Rattle.log_replay.specs.Rows.{store_of}
