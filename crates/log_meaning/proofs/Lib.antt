@@ -22,6 +22,8 @@ pub mod Alike
 pub mod Drawn
 -- Files that are read with no corruption.
 pub mod Opened
+-- A log that is longer by a checkpoint's end.
+pub mod Ending
 -- Which files of a log are needed.
 pub mod NeededFiles
 -- A log that was found, and what an environment begins with.

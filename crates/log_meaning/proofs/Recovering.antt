@@ -50,7 +50,7 @@ last_end-stays (p ∷ more) es all =
     ∙ ap (λ (o : Option Checkpoint). or_else o (last_end es)) all.0
 
 -- a walk that read these rows
-abbrev read_as : List ℕ → List LoggedChange → Result Walk Corruption
+abbrev pub read_as : List ℕ → List LoggedChange → Result Walk Corruption
 read_as numbers rows = Ok (record { seen = numbers; rows = rows })
 
 pub checkpoints_stay : CheckpointsStay
@@ -75,7 +75,7 @@ store_after-push base [] own = refl
 store_after-push base (changes ∷ transactions) own = store_after-push (all_changed changes base) transactions own
 
 -- a log that stands leaves the store of its records
-leaves_of : (first : ℕ) (es : List Placed) (base next : ℕ) (is_open : Flags) (rows : Data) (is_live : Flags) (logged : Own) (kept : Rows) (store : Store) →
+pub leaves_of : (first : ℕ) (es : List Placed) (base next : ℕ) (is_open : Flags) (rows : Data) (is_live : Flags) (logged : Own) (kept : Rows) (store : Store) →
     Stands es base next is_open rows is_live logged → AreRootsRead es → IsRedoLsn first (last_end es) → AreListed is_open rows kept → store_of kept ≡ store → Leaves first es store
 leaves_of first es base next is_open rows is_live logged kept store s roots redo listed is =
     subst (Leaves first es) is

@@ -8,5 +8,6 @@ pub mod Reading
 pub mod Recovery
 pub mod Transactions
 pub mod Found
+pub mod Ending
 pub mod Plain
 pub mod Worked

@@ -8,6 +8,7 @@ ghost use Rattle.log_meaning.specs.Growth.{StandsNeutral, StandsPut, StandsDelet
 ghost use Rattle.log_meaning.specs.Listing.{ListedByName, ListedInOrder};
 ghost use Rattle.log_meaning.specs.Plain.{ReplayedAlike, ReadAlike};
 ghost use Rattle.log_meaning.specs.Worked.{IsWorked};
+ghost use Rattle.log_meaning.specs.Ending.{EndsRecover};
 ghost use Rattle.log_meaning.specs.Found.{ReadFilesAreFound, NoGapHasFiles, NextFileStays, OpenedIsBegun, NeededFilesRecover};
 ghost use Rattle.log_meaning.specs.Transactions.{LoneAreFree, ChangesStand, TransactionsStand, NeutralsStand, StandsAlike, CheckpointsStay, ChangesRecover, TransactionsRecover, NeutralsRecover, CommitsRecover};
 ghost use Rattle.log_meaning.specs.Recovery.{StandsLeaves, RecoversFirst, RecoversPush, ReadFilesLeave, ImagesRecover};
@@ -66,6 +67,11 @@ pub fn transactions_recover()
     ensures whole { TransactionsRecover }
     ensures neutrals { NeutralsRecover }
     ensures commits { CommitsRecover }
+{}
+
+/// A log that is longer by a checkpoint's end stands and recovers what it did.
+pub fn ends_recover()
+    ensures { EndsRecover }
 {}
 
 /// Files that are read with no corruption miss none that is needed, as a log without a gap and a log with a
