@@ -22,6 +22,8 @@ pub mod NameLaws
 pub mod LoggedLaws
 -- What one more transaction in a log leaves.
 pub mod TransactionLaws
+-- How many records and databases a change of the store leaves.
+pub mod CountLaws
 -- Several changes of records, one after another.
 pub mod RowChanges
 -- The databases that a catalog names are those that the records make.

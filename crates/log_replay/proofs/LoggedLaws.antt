@@ -1,8 +1,8 @@
 -- What a transaction's changes of records leave: the records of an environment, their store and the databases' numbers.
-use Rattle.std.proofs.Common.{◌≡◌, ◌≢◌, ℕ, ◌+◌, ◌<◌, ◌≤◌, ◌^◌, List, [], ◌∷◌, Bool, true, false, cond, Option, None, Some, map, length, refl, ap, ap₂, sym, ◌∙◌, subst, arith, ⊎_elim, filter, not, is_eq, ◌&&◌, ◌==◌}
+use Rattle.std.proofs.Common.{◌≡◌, ◌≢◌, ℕ, ◌+◌, ◌<◌, ◌≤◌, ◌^◌, List, [], ◌∷◌, Bool, true, false, cond, Option, None, Some, map, length, refl, ap, ap₂, sym, ◌∙◌, subst, arith, ⊎_elim, filter, not, is_eq, ◌&&◌, ◌==◌, ◌⊎◌, inl, inr, option_map}
 use Rattle.std.specs.List.{AllByRecursion}
 use mathlib.Core.Path.{fun_ext}
-use Rattle.std.proofs.lemmas.Bool.{cond-true, cond-false, and_parts, not-true}
+use Rattle.std.proofs.lemmas.Bool.{cases_eq, cond-true, cond-false, and_parts, not-true}
 use Rattle.je_order.specs.Order.{name_cmp, is_same_bytes}
 use Rattle.je_order.specs.Words.{is_word}
 use Rattle.je_order.specs.declared.name.Name.{Name}
@@ -10,7 +10,7 @@ use Rattle.db_catalog.specs.declared.db_record.DbRecord.{DbRecord}
 use Rattle.db_catalog.specs.declared.db_kind.DbKind.{DbKind}
 use Rattle.db_catalog.specs.declared.db_kind.DbKind.TheVariants.{Plain as PlainRecord, Dup as DupRecord, SliceIndex, FieldIndex}
 use Rattle.db_catalog.specs.Catalog.{record_bytes, IsRecord}
-use Rattle.db_catalog.specs.Planning.{kind_in_catalog, moved, renewed}
+use Rattle.db_catalog.specs.Planning.{kind_in_catalog, moved, renewed, found_in, IsRecordOf}
 use Rattle.db_catalog.proofs.CatalogLaws.{db_record_in-again}
 use Rattle.store_model.specs.declared.store.Store.{Store}
 use Rattle.store_model.specs.declared.store.Database.{Database}
@@ -19,21 +19,22 @@ use Rattle.store_model.specs.declared.kind.Kind.{Kind}
 use Rattle.store_model.specs.declared.kind.Kind.TheVariants.{Plain, Dup}
 use Rattle.store_model.specs.declared.change.Change.{Change}
 use Rattle.store_model.specs.declared.change.Change.TheVariants.{Set, Unset, Make, Remove, Rename, Empty}
-use Rattle.store_model.specs.Store.{Pair, proper, changed, pairs_with, pairs_without, databases_with, databases_renamed}
+use Rattle.store_model.specs.Store.{database_of, Pair, proper, changed, pairs_with, pairs_without, databases_with, databases_renamed}
 use Rattle.store_model.specs.Evaluation.{plain_name}
 use Rattle.log_replay.specs.Rows.{Row, Rows, RowChange, row_changed, rows_changed, rows_with, row_at, number_or_0, kind_or_plain, catalog_number, catalog_kind, is_catalog_row, is_right_row, are_right, IsRising, pair_of, store_of}
-use Rattle.log_replay.specs.Logging.{record_named, number_named, kind_named, catalog_row_change, row_changes}
+use Rattle.log_replay.specs.Logging.{record_in, record_named, number_named, kind_named, catalog_row_change, row_changes}
+use Rattle.log_replay.specs.Laws.{FoundByNumber, CatalogsAreOfStores}
 use Rattle.log_replay.specs.Kept.{MayBeLogged, with_number, numbered}
 use Rattle.log_replay.proofs.ListLaws.{found, none_found, none_found_in}
 use Rattle.je_order.proofs.Lists.{all_weaker, all_kept, filter_all_pass}
 use Rattle.log_replay.proofs.RowLaws.{pairs_with-rows, pairs_without-rows, right-changed, set_over_unset, length-unset, rising-changed}
-use Rattle.log_replay.proofs.StoreLaws.{IsEnvironment, IsCase, catalog_cases, catalog_change, environment_from, row_named, no_row_named, named-right, database_of-numbered, key_of_row, row_changed-there, record_changed, row_put, row_deleted, row_emptied}
+use Rattle.log_replay.proofs.StoreLaws.{IsEnvironment, environment_parts, IsCase, catalog_cases, catalog_change, environment_from, row_named, no_row_named, named-right, database_of-numbered, database_of-absent, key_of_row, row_changed-there, record_changed, row_put, row_deleted, row_emptied}
 use Rattle.log_replay.proofs.NameLaws.{number-changed, number-same}
 
 -- ---- catalog records
 
 -- the record of a number and a kind
-abbrev record_for : ℕ → Kind → DbRecord
+abbrev pub record_for : ℕ → Kind → DbRecord
 record_for number kind = record { number = number; kind = kind_in_catalog kind }
 
 record_fits : (number : ℕ) (kind : Kind) → number < 2 ^ 32 → IsRecord (record_for number kind)
@@ -71,13 +72,33 @@ record-again (Some r) has = by_kind r.kind refl
     by_kind (SliceIndex primary offset len) e = absurd (has (ap (λ (k : DbKind). number_or_0 (make k)) e))
     by_kind (FieldIndex primary number separator) e = absurd (has (ap (λ (k : DbKind). number_or_0 (make k)) e))
 
+-- what a planner finds of such a record
+found-again : (number : ℕ) (kind : Kind) → found_in (Some (record_for number kind)) ≡ Some (record { number = number; kind = kind })
+found-again number Plain = refl
+found-again number Dup = refl
+
+pub found_by_number : FoundByNumber
+found_by_number rows name has = ap found_in (record-again (record_named rows name) has) ∙ found-again (number_named rows name) (kind_named rows name)
+
+-- the catalog's records are those of the store's databases
+pub catalogs_are_of_stores : CatalogsAreOfStores
+catalogs_are_of_stores rows env name = by_number (cases_eq (number_named rows name) 0)
+  where
+    by_number : (number_named rows name ≡ 0) ⊎ (number_named rows name ≢ 0) → IsRecordOf (database_of name (store_of rows)) (record_named rows name)
+    by_number (inl none) =
+        subst (λ (d : Option Database). IsRecordOf d (record_named rows name)) (sym (database_of-absent rows name env none))
+        (ap (λ (o : Option Row). record_in (option_map (λ (r : Row). r.1) o)) (no_row_named rows name (environment_parts rows env) none))
+    by_number (inr has) =
+        subst (λ (d : Option Database). IsRecordOf d (record_named rows name)) (sym (database_of-numbered rows name env has))
+        (number_named rows name, record-again (record_named rows name) has)
+
 -- ---- the changes of records of a change
 
 -- that delete and that put
-abbrev deleted : ℕ → List ℕ → RowChange
+abbrev pub deleted : ℕ → List ℕ → RowChange
 deleted txn db = catalog_change txn db None
 
-abbrev put_ : ℕ → List ℕ → ℕ → Kind → RowChange
+abbrev pub put_ : ℕ → List ℕ → ℕ → Kind → RowChange
 put_ txn db number kind = catalog_change txn db (Some (record_bytes (record_for number kind)))
 
 -- a rename takes the record out and puts it under the new name
@@ -150,7 +171,7 @@ unset-step txn last_db db at rows sound may =
     }
 
 -- the numbers of the catalog are not a later one
-others-below : (rows : Rows) (last_db number : ℕ) → last_db < number → IsSound rows last_db → AllByRecursion (λ (r : Row). catalog_number r.1 ≢ number) (rows 0)
+pub others-below : (rows : Rows) (last_db number : ℕ) → last_db < number → IsSound rows last_db → AllByRecursion (λ (r : Row). catalog_number r.1 ≢ number) (rows 0)
 others-below rows last_db number later sound =
     all_weaker (λ (r : Row). catalog_number r.1 ≤ last_db) (λ r. catalog_number r.1 ≢ number) (λ r h e. absurd (omega arith)) (rows 0) sound.numbers
 
@@ -223,7 +244,7 @@ left-differ name row (r ∷ catalog) h =
     (sym (cond-true (not (is_eq (name_cmp r.0 (plain_name name)))) (r ∷ without name catalog) (without name catalog) (ap not other.2))) (other.0, rest))
     h.0.1
 
-left-absent : (name to : List ℕ) (catalog : List Row) → row_at (plain_name to) catalog ≡ None → row_at (plain_name to) (without name catalog) ≡ None
+pub left-absent : (name to : List ℕ) (catalog : List Row) → row_at (plain_name to) catalog ≡ None → row_at (plain_name to) (without name catalog) ≡ None
 left-absent name to catalog none =
     none_found_in (λ (r : Row). is_eq (name_cmp r.0 (plain_name to))) (without name catalog)
     (all_kept (λ (r : Row). is_eq (name_cmp r.0 (plain_name to)) ≡ false) (λ r. not (is_eq (name_cmp r.0 (plain_name name)))) catalog
@@ -262,7 +283,7 @@ rename-step txn last_db db to rows sound may =
     }
 
 -- what was taken out and is set is set
-over : (at : Name) (value : List ℕ) (rows : Rows) (db : ℕ) →
+pub over : (at : Name) (value : List ℕ) (rows : Rows) (db : ℕ) →
     cond (db == 0) (rows_with at (Some value) (cond (db == 0) (rows_with at None (rows db)) (rows db))) (cond (db == 0) (rows_with at None (rows db)) (rows db))
     ≡ cond (db == 0) (rows_with at (Some value) (rows db)) (rows db)
 over at value rows db = by_test (db == 0)

@@ -277,6 +277,12 @@ pub length-unset : (rows : List Row) (at : Name) (row : Row) → IsRising rows �
 length-unset rows at row up there =
     omega (arith, length_without (λ r. is_eq (name_cmp r.0 at)) rows, same_named_one rows at row up there)
 
+-- a name that was not there and is taken out is no record less
+pub length-unset_none : (rows : List Row) (at : Name) → row_at at rows ≡ None → length (rows_with at None rows) ≡ length rows
+length-unset_none rows at none =
+    let same = ap length (same_named_none rows at none) in
+    omega (arith, length_without (λ r. is_eq (name_cmp r.0 at)) rows, same)
+
 -- ---- the data of a name
 
 -- data that is there is that of a record

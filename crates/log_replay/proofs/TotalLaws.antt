@@ -1,17 +1,21 @@
 -- How many records and databases a logged change leaves.
-use Rattle.std.proofs.Common.{◌≡◌, ◌≢◌, ℕ, ◌+◌, List, [], ◌∷◌, true, false, not, ◌||◌, ◌==◌, None, Some, Option, map, length, sum_by, refl, ap, ap₂, sym, ◌∙◌, subst, ⊎_elim, arith}
+use Rattle.std.proofs.Common.{◌≡◌, ◌≢◌, ℕ, ◌+◌, List, [], ◌∷◌, ◌++◌, Bool, true, false, cond, not, ◌||◌, ◌==◌, None, Some, Option, map, filter, length, sum_by, refl, ap, ap₂, sym, ◌∙◌, subst, ⊎_elim, arith, length-append, is_lt, is_gt, is_eq}
 use Rattle.std.specs.List.{AllByRecursion, list_any}
-use Rattle.std.proofs.lemmas.Bool.{and_parts, cases_Bool, false≢true, eqb-true, eqb-false, not-true}
+use Rattle.std.proofs.lemmas.Bool.{and_parts, cases_Bool, cond-true, cond-false, false≢true, eqb-true, eqb-false, not-true}
+use Rattle.std.proofs.lemmas.Option.{none-some, same_Some}
 use Rattle.std.proofs.lemmas.List.{length-map}
-use Rattle.std.proofs.lemmas.List.Sums.{sum_by-cons}
+use Rattle.std.proofs.lemmas.List.Sums.{sum_by-cons, sum_by-append}
+use Rattle.je_order.specs.Order.{name_cmp}
+use Rattle.je_order.specs.declared.name.Name.{Name}
 use Rattle.store_model.specs.declared.store.Database.{Database}
 use Rattle.store_model.specs.Store.{record_count}
-use Rattle.log_replay.specs.Rows.{Row, Rows, RowChange, row_changed, rows_with, data_at, catalog_number, catalog_kind, are_distinct, is_environment, IsRising, database_in, store_of, pair_of}
+use Rattle.store_model.specs.Evaluation.{plain_name}
+use Rattle.log_replay.specs.Rows.{Row, Rows, RowChange, row_changed, rows_with, row_at, data_at, catalog_number, catalog_kind, are_distinct, is_environment, IsRising, database_in, store_of, pair_of}
 use Rattle.log_replay.specs.Logging.{number_named}
-use Rattle.log_replay.proofs.ListLaws.{all_of_map}
-use Rattle.je_order.proofs.Lists.{none_each, all_weaker}
-use Rattle.log_replay.proofs.RowLaws.{length-set_new, length-set_again, length-unset, row_of_data, no_row_of_data}
-use Rattle.log_replay.proofs.StoreLaws.{number_of_row, environment_parts, named-among, row_named, row_changed-there, row_changed-here}
+use Rattle.log_replay.proofs.ListLaws.{all_of_map, filter-all}
+use Rattle.je_order.proofs.Lists.{none_each, all_weaker, all_kept}
+use Rattle.log_replay.proofs.RowLaws.{split_where_none, length-set_new, length-set_again, length-unset, length-unset_none, row_of_data, no_row_of_data, others_after, rising_tail}
+use Rattle.log_replay.proofs.StoreLaws.{number_of_row, IsEnvironment, environment_parts, catalog_numbers, catalog_change, elsewhere, named-among, row_named, row_changed-there, row_changed-here}
 
 -- how many records stand under a catalog record's number
 abbrev records_under : Rows → Row → ℕ
@@ -111,3 +115,85 @@ databases-change rows name c has at =
     let after : Rows = row_changed c rows in
     let catalog : after 0 ≡ rows 0 = row_changed-there c rows 0 (λ e. has (sym (e ∙ at))) in
     length-map (after 0) (database_in after) ∙ ap length catalog ∙ sym (length-map (rows 0) (database_in rows))
+
+-- a record that is not there and is taken out is none less
+pub record_count-unset_none : (rows : Rows) (name : List ℕ) (c : RowChange) → is_environment rows ≡ true →
+    number_named rows name ≢ 0 → c.db ≡ number_named rows name → c.value ≡ None → data_at c.name (rows c.db) ≡ None →
+    record_count (store_of (row_changed c rows)) ≡ record_count (store_of rows)
+record_count-unset_none rows name c env has at is none =
+    let len : length (rows_with c.name c.value (rows c.db)) ≡ length (rows c.db) =
+    ap (λ (v : Option (List ℕ)). length (rows_with c.name v (rows c.db))) is ∙ length-unset_none (rows c.db) c.name (no_row_of_data c.name (rows c.db) none) in
+    omega (arith, record_count-change rows name c env has at, len)
+
+-- ---- a catalog record more
+
+-- a database more, with the records under its number
+pub totals_put : (rows : Rows) (txn : ℕ) (name bytes : List ℕ) → IsEnvironment rows → IsRising (rows 0) → row_at (plain_name name) (rows 0) ≡ None → catalog_number bytes ≢ 0 →
+    (record_count (store_of (row_changed (catalog_change txn name (Some bytes)) rows)) ≡ record_count (store_of rows) + length (rows (catalog_number bytes)))
+    × (length (store_of (row_changed (catalog_change txn name (Some bytes)) rows)).databases ≡ length (store_of rows).databases + 1)
+totals_put rows txn name bytes env up absent above =
+    let at : Name = plain_name name in
+    let c : RowChange = catalog_change txn name (Some bytes) in
+    let after : Rows = row_changed c rows in
+    let new : Row = (at, bytes) in
+    let lower : List Row = filter (λ (r : Row). is_lt (name_cmp r.0 at)) (rows 0) in
+    let higher : List Row = filter (λ (r : Row). is_gt (name_cmp r.0 at)) (rows 0) in
+    let split : lower ++ higher ≡ rows 0 = split_where_none (rows 0) at up absent in
+    let new_same : length (after (catalog_number bytes)) ≡ length (rows (catalog_number bytes)) = ap length (row_changed-there c rows (catalog_number bytes) above) in
+    let kept : sum_by (records_under after) (rows 0) ≡ sum_by (records_under rows) (rows 0) =
+    sums_same rows after (rows 0) (elsewhere txn name (Some bytes) rows (rows 0) (catalog_numbers (rows 0) env.catalog)) in
+    let before_is : record_count (store_of rows) ≡ sum_by (records_under rows) (rows 0) = counted rows (rows 0) in
+    let after_is : record_count (store_of after) ≡ sum_by (records_under after) (lower ++ new ∷ higher) = counted after (after 0) in
+    let with_new : sum_by (records_under after) (lower ++ new ∷ higher) ≡ sum_by (records_under after) lower + sum_by (records_under after) (new ∷ higher) =
+    sum_by-append (records_under after) lower (new ∷ higher) in
+    let of_new : sum_by (records_under after) (new ∷ higher) ≡ length (after (catalog_number bytes)) + sum_by (records_under after) higher =
+    sum_by-cons (records_under after) new higher in
+    let without : sum_by (records_under after) (rows 0) ≡ sum_by (records_under after) lower + sum_by (records_under after) higher =
+    ap (λ l. sum_by (records_under after) l) (sym split) ∙ sum_by-append (records_under after) lower higher in
+    let databases_before : length (store_of rows).databases ≡ length (rows 0) = length-map (rows 0) (database_in rows) in
+    let databases_after : length (store_of after).databases ≡ length (lower ++ new ∷ higher) = length-map (after 0) (database_in after) in (
+      omega arith,
+      omega (arith, databases_before, databases_after, length-append lower (new ∷ higher), length-append lower higher, ap length split),
+    )
+
+-- ---- a catalog record less
+
+sum_without : (f : Row → ℕ) (name : Name) (row : Row) (rows : List Row) → IsRising rows → row_at name rows ≡ Some row →
+    sum_by f (filter (λ (r : Row). not (is_eq (name_cmp r.0 name))) rows) + f row ≡ sum_by f rows
+sum_without f name row [] up there = absurd (none-some row there)
+sum_without f name row (r ∷ rows) up there =
+    let p : Row → Bool = λ y. is_eq (name_cmp y.0 name) in
+    let rest : List Row = filter (λ (y : Row). not (p y)) rows in
+    let cons = sum_by-cons f r rows in
+    ⊎_elim
+    (λ (e : p r ≡ true).
+    let same : f r ≡ f row = ap f (same_Some r row (sym (cond-true (p r) (Some r) (row_at name rows) e) ∙ there)) in
+    let all : rest ≡ rows =
+    filter-all (λ (y : Row). not (p y)) rows (all_weaker (λ (y : Row). p y ≡ false) (λ y. not (p y) ≡ true) (λ y g. ap not g) rows (others_after r rows name up e)) in
+    let left : sum_by f (cond (not (p r)) (r ∷ rest) rest) ≡ sum_by f rows = ap (sum_by f) (cond-false (not (p r)) (r ∷ rest) rest (ap not e) ∙ all) in
+    omega (arith, cons, same, left))
+    (λ (e : p r ≡ false).
+    let later = sum_without f name row rows (rising_tail r rows up) (sym (cond-false (p r) (Some r) (row_at name rows) e) ∙ there) in
+    let left : sum_by f (cond (not (p r)) (r ∷ rest) rest) ≡ f r + sum_by f rest = ap (sum_by f) (cond-true (not (p r)) (r ∷ rest) rest (ap not e)) ∙ sum_by-cons f r rest in
+    omega (arith, cons, later, left))
+    (cases_Bool (p r))
+
+-- a database less, and the records under its number
+pub totals_deleted : (rows : Rows) (txn : ℕ) (name : List ℕ) (row : Row) → IsEnvironment rows → IsRising (rows 0) → row_at (plain_name name) (rows 0) ≡ Some row →
+    (record_count (store_of (row_changed (catalog_change txn name None) rows)) + length (rows (catalog_number row.1)) ≡ record_count (store_of rows))
+    × (length (store_of (row_changed (catalog_change txn name None) rows)).databases + 1 ≡ length (store_of rows).databases)
+totals_deleted rows txn name row env up there =
+    let after : Rows = row_changed (catalog_change txn name None) rows in
+    let other : Row → Bool = λ r. not (is_eq (name_cmp r.0 (plain_name name))) in
+    let before_is : record_count (store_of rows) ≡ sum_by (records_under rows) (rows 0) = counted rows (rows 0) in
+    let after_is : record_count (store_of after) ≡ sum_by (records_under after) (filter other (rows 0)) = counted after (after 0) in
+    let kept : sum_by (records_under after) (filter other (rows 0)) ≡ sum_by (records_under rows) (filter other (rows 0)) =
+    sums_same rows after (filter other (rows 0)) (elsewhere txn name None rows (filter other (rows 0)) (all_kept (λ (r : Row). catalog_number r.1 ≢ 0) other (rows 0) (catalog_numbers (rows 0) env.catalog))) in
+    let parts : sum_by (records_under rows) (filter other (rows 0)) + length (rows (catalog_number row.1)) ≡ sum_by (records_under rows) (rows 0) =
+    sum_without (records_under rows) (plain_name name) row (rows 0) up there in
+    let databases_before : length (store_of rows).databases ≡ length (rows 0) = length-map (rows 0) (database_in rows) in
+    let databases_after : length (store_of after).databases ≡ length (filter other (rows 0)) = length-map (after 0) (database_in after) in
+    let shorter : length (filter other (rows 0)) + 1 ≡ length (rows 0) = length-unset (rows 0) (plain_name name) row up there in (
+      omega arith,
+      omega (arith, databases_before, databases_after, shorter),
+    )

@@ -1,27 +1,31 @@
 -- What one more transaction in a log leaves.
 use Rattle.std.proofs.Common.{◌≡◌, ℕ, ◌+◌, ◌<◌, ◌≤◌, List, [], ◌∷◌, ◌++◌, Bool, true, false, not, ◌==◌, Option, None, Some, map, refl, ap, ap₂, sym, ◌∙◌, subst, arith, append-nil, append_assoc}
-use Rattle.std.specs.List.{AllByRecursion}
+use Rattle.std.specs.List.{AllByRecursion, flat_map}
 use mathlib.Core.Path.{fun_ext}
 use Rattle.std.proofs.lemmas.Bool.{ne_eqb, eq-eqb, not_from_false, not_from_true}
 use Rattle.std.proofs.lemmas.List.Elements.{filter-append}
 use Rattle.log_entry.specs.declared.entry.Entry.{Entry}
+use Rattle.log_entry.specs.Encoding.{size_of}
+use Rattle.log_file.specs.Scan.{may_follow}
 use Rattle.log_entry.specs.declared.entry.Entry.TheVariants.{Commit}
 use Rattle.db_catalog.specs.declared.catalog_change.CatalogChange.{CatalogChange}
 use Rattle.db_catalog.specs.declared.catalog_change.CatalogChange.TheVariants.{Put as PutRecord, Delete as DeleteRecord}
 use Rattle.db_catalog.specs.Planning.{logged_as}
 use Rattle.store_model.specs.declared.change.Change.{Change}
 use Rattle.store_model.specs.declared.change.Change.TheVariants.{Set, Unset, Make, Remove, Rename, Empty}
-use Rattle.store_model.specs.Store.{all_changed}
+use Rattle.store_model.specs.declared.kind.Kind.{Kind}
+use Rattle.store_model.specs.Evaluation.{plain_name}
+use Rattle.store_model.specs.Store.{proper, all_changed}
 use Rattle.store_model.specs.Refusals.{made_by}
-use Rattle.log_replay.specs.Rows.{Row, Rows, no_rows, RowChange, row_changed, rows_changed, catalog_number, IsRising, store_of}
+use Rattle.log_replay.specs.Rows.{data_at, number_or_0, kind_or_plain, is_right_row, Row, Rows, no_rows, RowChange, row_changed, rows_changed, catalog_number, IsRising, store_of}
 use Rattle.log_replay.specs.Replay.{Replay, nothing_replayed, changes_of, changes_of_others, replayed_entry, replayed}
-use Rattle.log_replay.specs.Logging.{record_named, number_named, kind_named, catalog_row_change, row_changes, last_db_after, all_row_changes, entry_with, row_entry, entries_with, catalog_entry}
-use Rattle.log_replay.specs.Kept.{IsOfBefore, IsKept, MayBeLogged, AllMayBeLogged, all_numbered}
-use Rattle.log_replay.specs.Laws.{TransactionsAreKept, StoresAreChanged, NumbersAreChanged, KeptIsRight, DatabasesByNumber, ChangedByAnyTransaction, LoggedAsEntries}
+use Rattle.log_replay.specs.Logging.{record_in, record_named, number_named, kind_named, catalog_row_change, row_changes, last_db_after, all_row_changes, entry_with, row_entry, entries_with, catalog_entry}
+use Rattle.log_replay.specs.Kept.{IsOfBefore, IsKept, IsRecordChange, MayBeLogged, AllMayBeLogged, all_numbered}
+use Rattle.log_replay.specs.Laws.{TransactionsAreKept, StoresAreChanged, NumbersAreChanged, KeptIsRight, DatabasesByNumber, ChangedByAnyTransaction, LoggedAsEntries, RecordsMayBeLogged, RecordsAreLogged, EntriesFollow, SizesOfAnyNumbers}
 use Rattle.log_replay.proofs.ListLaws.{all_of_map, all_to_map, filter-all, filter-none}
 use Rattle.je_order.proofs.Lists.{all_weaker, all_append}
 use Rattle.log_replay.proofs.RowLaws.{rising-nil}
-use Rattle.log_replay.proofs.StoreLaws.{number_of_row, store_of-same, environment_parts, environment_from, rising-row_changed, database_of-numbered, database_of-absent}
+use Rattle.log_replay.proofs.StoreLaws.{row_changed-there, number_of_row, store_of-same, environment_parts, environment_from, rising-row_changed, database_of-numbered, database_of-absent}
 use Rattle.log_replay.proofs.WrongLaws.{environment_is_none}
 use Rattle.log_replay.proofs.LogLaws.{IsWithin, AreWithin, within-all_changed}
 use Rattle.log_replay.proofs.ReplayLaws.{replayed-append}
@@ -82,6 +86,24 @@ logged_as_entries txn last_db (Make db kind) rows = catalog-entries txn (logged_
 logged_as_entries txn last_db (Remove db) rows = catalog-entries txn (logged_as (record_named rows) (last_db + 1) (Remove db))
 logged_as_entries txn last_db (Rename db to) rows = catalog-entries txn (logged_as (record_named rows) (last_db + 1) (Rename db to))
 logged_as_entries txn last_db (Empty db) rows = catalog-entries txn (logged_as (record_named rows) (last_db + 1) (Empty db))
+
+follow-all : (cs : List RowChange) (txn : ℕ) → AllByRecursion (λ e. may_follow e ≡ true) (map row_entry cs ++ Commit (record { 0 = txn }) ∷ [])
+follow-all [] txn = (refl, tt)
+follow-all (c ∷ cs) txn = (by_value c.value, follow-all cs txn)
+  where
+    by_value : (v : Option (List ℕ)) → may_follow (entry_with c.txn c.db c.name v) ≡ true
+    by_value None = refl
+    by_value (Some value) = refl
+
+pub entries_follow : EntriesFollow
+entries_follow txn last_db changes rows = follow-all (all_row_changes txn last_db changes rows) txn
+
+pub sizes_of_any_numbers : SizesOfAnyNumbers
+sizes_of_any_numbers txn db c = by_value c.value
+  where
+    by_value : (v : Option (List ℕ)) → size_of (entry_with txn db c.name v) ≡ size_of (entry_with c.txn c.db c.name v)
+    by_value None = refl
+    by_value (Some value) = refl
 
 -- ---- a change within the numbers
 
@@ -209,6 +231,66 @@ all-own txn last_db (change ∷ changes) rows sound may =
     (all-own txn (last_db_after last_db change) changes next (sound-after txn last_db change rows sound may.0)
     (subst (λ (r : Rows). AllMayBeLogged r (last_db_after last_db change) changes) (sym (any_txn txn last_db change rows)) may.1))
 
+-- ---- changes of records alone, which leave the catalog
+
+same_number : (old new : Rows) (name : List ℕ) → new 0 ≡ old 0 → number_named new name ≡ number_named old name
+same_number old new name same = ap (λ (l : List Row). number_or_0 (record_in (data_at (plain_name name) l))) same
+
+same_kind : (old new : Rows) (name : List ℕ) → new 0 ≡ old 0 → kind_named new name ≡ kind_named old name
+same_kind old new name same = ap (λ (l : List Row). kind_or_plain (record_in (data_at (plain_name name) l))) same
+
+may-same : (old new : Rows) (last_db now : ℕ) (change : Change) → new 0 ≡ old 0 → IsRecordChange change → MayBeLogged old last_db change → MayBeLogged new now change
+may-same old new last_db now (Set db at value) same is may =
+    (λ e. may.0 (sym (same_number old new db same) ∙ e), ap (λ (k : Kind). is_right_row k (at, value)) (same_kind old new db same) ∙ may.1)
+may-same old new last_db now (Unset db at) same is may = (λ e. may.0 (sym (same_number old new db same) ∙ e), ap (λ (k : Kind). proper k at) (same_kind old new db same) ∙ may.1)
+may-same old new last_db now (Make db kind) same is may = absurd is
+may-same old new last_db now (Remove db) same is may = absurd is
+may-same old new last_db now (Rename db to) same is may = absurd is
+may-same old new last_db now (Empty db) same is may = absurd is
+
+changes-same : (txn last_db now : ℕ) (old new : Rows) (change : Change) → new 0 ≡ old 0 → IsRecordChange change → row_changes txn now change new ≡ row_changes txn last_db change old
+changes-same txn last_db now old new (Set db at value) same is =
+    let make : ℕ → List RowChange = λ n. record { txn = txn; db = n; name = at; value = Some value } ∷ [] in ap make (same_number old new db same)
+changes-same txn last_db now old new (Unset db at) same is =
+    let make : ℕ → List RowChange = λ n. record { txn = txn; db = n; name = at; value = None } ∷ [] in ap make (same_number old new db same)
+changes-same txn last_db now old new (Make db kind) same is = absurd is
+changes-same txn last_db now old new (Remove db) same is = absurd is
+changes-same txn last_db now old new (Rename db to) same is = absurd is
+changes-same txn last_db now old new (Empty db) same is = absurd is
+
+catalog-same : (txn last_db : ℕ) (change : Change) (rows : Rows) → IsRecordChange change → MayBeLogged rows last_db change →
+    rows_changed (row_changes txn last_db change rows) rows 0 ≡ rows 0
+catalog-same txn last_db (Set db at value) rows is may =
+    row_changed-there (record { txn = txn; db = number_named rows db; name = at; value = Some value }) rows 0 (λ e. may.0 (sym e))
+catalog-same txn last_db (Unset db at) rows is may =
+    row_changed-there (record { txn = txn; db = number_named rows db; name = at; value = None }) rows 0 (λ e. may.0 (sym e))
+catalog-same txn last_db (Make db kind) rows is may = absurd is
+catalog-same txn last_db (Remove db) rows is may = absurd is
+catalog-same txn last_db (Rename db to) rows is may = absurd is
+catalog-same txn last_db (Empty db) rows is may = absurd is
+
+-- from records with the same catalog on
+records-may : (base rows : Rows) (last_db now : ℕ) (changes : List Change) → rows 0 ≡ base 0 →
+    AllByRecursion (λ c. IsRecordChange c × MayBeLogged base last_db c) changes → AllMayBeLogged rows now changes
+records-may base rows last_db now [] same h = tt
+records-may base rows last_db now (c ∷ changes) same h =
+    let may = may-same base rows last_db now c same h.0.0 h.0.1 in
+    (may, records-may base (rows_changed (row_changes 0 now c rows) rows) last_db (last_db_after now c) changes (catalog-same 0 now c rows h.0.0 may ∙ same) h.1)
+
+pub records_may_be_logged : RecordsMayBeLogged
+records_may_be_logged rows last_db changes h = records-may rows rows last_db last_db changes refl h
+
+records-logged : (base rows : Rows) (txn last_db now : ℕ) (changes : List Change) → rows 0 ≡ base 0 →
+    AllByRecursion (λ c. IsRecordChange c × MayBeLogged base last_db c) changes → all_row_changes txn now changes rows ≡ flat_map (λ c. row_changes txn last_db c base) changes
+records-logged base rows txn last_db now [] same h = refl
+records-logged base rows txn last_db now (c ∷ changes) same h =
+    let may = may-same base rows last_db now c same h.0.0 h.0.1 in
+    ap₂ (λ (a b : List RowChange). a ++ b) (changes-same txn last_db now base rows c same h.0.0)
+    (records-logged base (rows_changed (row_changes txn now c rows) rows) txn last_db (last_db_after now c) changes (catalog-same txn now c rows h.0.0 may ∙ same) h.1)
+
+pub records_are_logged : RecordsAreLogged
+records_are_logged txn last_db changes rows h = records-logged rows rows txn last_db last_db changes refl h
+
 -- ---- entries behind a log
 
 -- the entry of a change puts the change behind the pending ones
@@ -259,7 +341,7 @@ replayed-transaction last_txn last_db txn cs replay before later own =
 -- ---- laws
 
 -- what is kept is right
-sound-kept : (entries : List Entry) (rows : Rows) (last_txn last_db : ℕ) → IsKept entries rows last_txn last_db → IsSound rows last_db
+pub sound-kept : (entries : List Entry) (rows : Rows) (last_txn last_db : ℕ) → IsKept entries rows last_txn last_db → IsSound rows last_db
 sound-kept entries rows last_txn last_db kept = record {
   environment = environment_parts rows kept.environment;
   rising = kept.rising;

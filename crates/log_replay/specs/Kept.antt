@@ -44,6 +44,12 @@ AllMayBeLogged rows last_db [] = Unit {0}
 AllMayBeLogged rows last_db (change ∷ changes) =
     MayBeLogged rows last_db change × AllMayBeLogged (rows_changed (row_changes 0 last_db change rows) rows) (last_db_after last_db change) changes
 
+-- a change of a record
+abbrev pub IsRecordChange : Change → Type 0
+IsRecordChange (Set db at value) = Unit {0}
+IsRecordChange (Unset db at) = Unit {0}
+IsRecordChange change = ⊥
+
 -- ---- numbers of databases, by name
 
 -- a name has another number

@@ -1,17 +1,22 @@
 -- What holds of all logs.
-use Rattle.std.specs.Prelude.{◌≡◌, ◌≢◌, ℕ, ◌+◌, ◌<◌, ◌≤◌, List, None, Some, true, map}
-use Rattle.std.specs.List.{AllByRecursion}
+use Rattle.std.specs.Prelude.{◌≡◌, ◌≢◌, ℕ, ◌+◌, ◌<◌, ◌≤◌, List, Option, None, Some, true, map, length}
+use Rattle.std.specs.List.{AllByRecursion, flat_map}
 use Rattle.je_disk.specs.States.{Files}
 use Rattle.je_lsn.specs.Naming.{last_file}
 use Rattle.log_file.specs.Log.{Log, IsLog, AreFiles, files_of_log}
 use Rattle.log_entry.specs.declared.entry.Entry.{Entry}
+use Rattle.log_entry.specs.Encoding.{size_of}
+use Rattle.log_file.specs.Scan.{may_follow}
+use Rattle.db_catalog.specs.Planning.{IsCatalogOf, found_in}
 use Rattle.store_model.specs.declared.change.Change.{Change}
-use Rattle.store_model.specs.Store.{database_of, all_changed}
+use Rattle.store_model.specs.declared.change.Change.TheVariants.{Set, Unset, Make, Remove, Rename, Empty}
+use Rattle.store_model.specs.declared.store.Store.{Store}
+use Rattle.store_model.specs.Store.{database_of, record_count, changed, all_changed}
 use Rattle.store_model.specs.Refusals.{made_by}
-use Rattle.log_replay.specs.Rows.{Rows, rows_changed, pair_of, is_environment, store_of}
+use Rattle.log_replay.specs.Rows.{Rows, RowChange, rows_changed, data_at, pair_of, is_environment, store_of}
 use Rattle.log_replay.specs.Wrong.{wrong_record}
-use Rattle.log_replay.specs.Logging.{number_named, kind_named, record_named, row_changes, all_row_changes, row_entry, entries_with, entries_of, number_for}
-use Rattle.log_replay.specs.Kept.{IsKept, AllMayBeLogged, all_numbered}
+use Rattle.log_replay.specs.Logging.{number_named, kind_named, record_named, row_changes, all_row_changes, row_entry, transaction_entries, entries_with, entries_of, number_for}
+use Rattle.log_replay.specs.Kept.{IsKept, IsRecordChange, MayBeLogged, AllMayBeLogged, all_numbered}
 use Rattle.log_replay.specs.Reading.{gap_in, validated, reading_of}
 
 -- a log whose files are there whole, with no gap between their numbers, is read again
@@ -43,6 +48,28 @@ NumbersAreChanged = (entries : List Entry) (rows new_rows : Rows) (last_txn last
     → ((db : ℕ) → new_rows db ≡ rows_changed (all_row_changes 0 last_db changes rows) rows db)
     → (name : List ℕ) → number_named new_rows name ≡ all_numbered changes last_db (number_named rows) name
 
+-- 1 where there is data
+abbrev pub one_if : Option (List ℕ) → ℕ
+one_if None = 0
+one_if (Some bytes) = 1
+
+-- how many records and databases a change of the store of these records leaves
+abbrev pub HasCounts : Rows → Change → Store → Store → Type 0
+HasCounts rows (Set db at value) old new =
+    (record_count new + one_if (data_at at (rows (number_named rows db))) ≡ record_count old + 1) × (length new.databases ≡ length old.databases)
+HasCounts rows (Unset db at) old new =
+    (record_count new + one_if (data_at at (rows (number_named rows db))) ≡ record_count old) × (length new.databases ≡ length old.databases)
+HasCounts rows (Make db kind) old new = (record_count new ≡ record_count old) × (length new.databases ≡ length old.databases + 1)
+HasCounts rows (Remove db) old new =
+    (record_count new + length (rows (number_named rows db)) ≡ record_count old) × (length new.databases + 1 ≡ length old.databases)
+HasCounts rows (Rename db to) old new = (record_count new ≡ record_count old) × (length new.databases ≡ length old.databases)
+HasCounts rows (Empty db) old new =
+    (record_count new + length (rows (number_named rows db)) ≡ record_count old) × (length new.databases ≡ length old.databases)
+
+abbrev pub CountsAreChanged : Type 0
+CountsAreChanged = (entries : List Entry) (rows : Rows) (last_txn last_db : ℕ) (change : Change)
+    → IsKept entries rows last_txn last_db → MayBeLogged rows last_db change → HasCounts rows change (store_of rows) (changed change (store_of rows))
+
 -- ---- what is kept
 
 -- no record that is kept is wrong
@@ -60,6 +87,14 @@ DatabasesByNumber = (rows : Rows) (name : List ℕ) → is_environment rows ≡ 
     × (number_named rows name ≢ 0
     → database_of name (store_of rows) ≡ Some (record { name = name; kind = kind_named rows name; pairs = map (pair_of (kind_named rows name)) (rows (number_named rows name)) }))
 
+-- the catalog has a record for each of the store's databases, of its kind, and no other; what it tells of one is its number and kind
+abbrev pub CatalogsAreOfStores : Type 0
+CatalogsAreOfStores = (rows : Rows) → is_environment rows ≡ true → IsCatalogOf (store_of rows) (record_named rows)
+
+abbrev pub FoundByNumber : Type 0
+FoundByNumber = (rows : Rows) (name : List ℕ) → number_named rows name ≢ 0
+    → found_in (record_named rows name) ≡ Some (record { number = number_named rows name; kind = kind_named rows name })
+
 -- ---- changes of records, one at a time
 
 -- the transaction's number is in the entries alone
@@ -71,3 +106,20 @@ ChangedByAnyTransaction = (txn last_db : ℕ) (changes : List Change) (rows : Ro
 abbrev pub LoggedAsEntries : Type 0
 LoggedAsEntries = (txn last_db : ℕ) (change : Change) (rows : Rows)
     → map row_entry (row_changes txn last_db change rows) ≡ entries_of (record_named rows) txn (number_for last_db change rows) change
+
+-- changes of records that may each be logged may be logged together, and each is logged as it is alone
+abbrev pub RecordsMayBeLogged : Type 0
+RecordsMayBeLogged = (rows : Rows) (last_db : ℕ) (changes : List Change)
+    → AllByRecursion (λ c. IsRecordChange c × MayBeLogged rows last_db c) changes → AllMayBeLogged rows last_db changes
+
+abbrev pub RecordsAreLogged : Type 0
+RecordsAreLogged = (txn last_db : ℕ) (changes : List Change) (rows : Rows)
+    → AllByRecursion (λ c. IsRecordChange c × MayBeLogged rows last_db c) changes
+    → all_row_changes txn last_db changes rows ≡ flat_map (λ c. row_changes txn last_db c rows) changes
+
+-- each entry of a transaction may stand behind a file's header, and no number changes an entry's size
+abbrev pub EntriesFollow : Type 0
+EntriesFollow = (txn last_db : ℕ) (changes : List Change) (rows : Rows) → AllByRecursion (λ e. may_follow e ≡ true) (transaction_entries txn last_db changes rows)
+
+abbrev pub SizesOfAnyNumbers : Type 0
+SizesOfAnyNumbers = (txn db : ℕ) (change : RowChange) → size_of (row_entry (record { txn = txn; db = db; name = change.name; value = change.value })) ≡ size_of (row_entry change)

@@ -1,17 +1,18 @@
 // What holds of all logs.
-ghost use Rattle.log_replay.specs.Laws.{AreReadAgain, TransactionsAreKept, StoresAreChanged, NumbersAreChanged, KeptIsRight, KeptForLater, DatabasesByNumber, ChangedByAnyTransaction, LoggedAsEntries};
+ghost use Rattle.log_replay.specs.Laws.{AreReadAgain, TransactionsAreKept, StoresAreChanged, NumbersAreChanged, CountsAreChanged, KeptIsRight, KeptForLater, DatabasesByNumber, CatalogsAreOfStores, FoundByNumber, ChangedByAnyTransaction, LoggedAsEntries, RecordsMayBeLogged, RecordsAreLogged, EntriesFollow, SizesOfAnyNumbers};
 
 /// A log whose files are there whole, with no gap between their numbers, is read again.
 pub fn logs_are_read()
     ensures { AreReadAgain }
 {}
 
-/// A transaction whose changes may be logged leaves what is kept: its records, their store and the
-/// databases' numbers are those that the changes make.
+/// A transaction whose changes may be logged leaves what is kept: its records, their store, the
+/// databases' numbers and how much the store holds are those that the changes make.
 pub fn transactions_are_kept()
     ensures kept { TransactionsAreKept }
     ensures store { StoresAreChanged }
     ensures numbers { NumbersAreChanged }
+    ensures counts { CountsAreChanged }
 {}
 
 /// What is kept is right, stays kept, and has the store's databases under their numbers.
@@ -19,10 +20,16 @@ pub fn kept_is_right()
     ensures right { KeptIsRight }
     ensures later { KeptForLater }
     ensures databases { DatabasesByNumber }
+    ensures catalog { CatalogsAreOfStores }
+    ensures found { FoundByNumber }
 {}
 
 /// A change is logged by its changes of records, which do the same by any transaction.
 pub fn changes_are_logged()
     ensures any { ChangedByAnyTransaction }
     ensures entries { LoggedAsEntries }
+    ensures may { RecordsMayBeLogged }
+    ensures records { RecordsAreLogged }
+    ensures follow { EntriesFollow }
+    ensures sizes { SizesOfAnyNumbers }
 {}
