@@ -76,10 +76,7 @@ impl<R: Files + AllocGlobal + Clone + Drop> DirDisk<R> {
     }
 }
 
-impl<R: Files + AllocGlobal + Clone + Drop> Disk for DirDisk<R>
-where
-    R::File: Send,
-{
+impl<R: Files + AllocGlobal + Clone + Drop> Disk for DirDisk<R> {
     ghost use Rattle.std.specs.Prelude.{◌≡◌, [], false, None, IsErr, string_bytes};
     ghost use Rattle.je_disk.specs.Causes.{HasFault};
     ghost use Rattle.je_disk.specs.Moments.{History};

@@ -79,7 +79,7 @@ impl<F> DirJob<F> {
     }
 }
 
-impl<F: OpenFile + Drop + Send> SyncJob for DirJob<F> {
+impl<F: OpenFile + Drop> SyncJob for DirJob<F> {
     type Done = DirDone;
 
     ghost job_number = { λ job. job.number };
@@ -121,7 +121,7 @@ impl SyncDone for DirDone {
     }
 }
 
-impl<F: Read + Drop + Send> ReadJob for DirReadJob<F> {
+impl<F: Read + Drop> ReadJob for DirReadJob<F> {
     type Done = DirReadDone;
 
     ghost job_number = { λ job. job.number };

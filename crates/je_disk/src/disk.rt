@@ -18,10 +18,10 @@ use std::alloc::Global;
 /// numbers from one count, from 1 on.
 pub trait Disk {
     /// A sync that was begun.
-    type Job: SyncJob + Send;
+    type Job: SyncJob;
 
     /// The reading of a file that was begun.
-    type ReadJob: ReadJob + Send;
+    type ReadJob: ReadJob;
 
     /// Whether this kind of disk is observable.
     ghost observable: { Bool };

@@ -5,7 +5,7 @@ ghost use Rattle.std.specs.Prelude.{◌≡◌, ℕ};
 /// in use. It has to be run, and what comes of it has to be ended or given up.
 pub trait SyncJob {
     /// What comes of it.
-    type Done: SyncDone + Send;
+    type Done: SyncDone;
 
     /// The number that was allocated for it.
     ghost job_number: { Self → ℕ };
@@ -36,7 +36,7 @@ pub trait SyncDone {
 /// thread while the disk is in use. It has to be run, and what comes of it has to be ended or given up.
 pub trait ReadJob {
     /// What comes of it.
-    type Done: ReadDone + Send;
+    type Done: ReadDone;
 
     /// The number that was allocated for it.
     ghost job_number: { Self → ℕ };

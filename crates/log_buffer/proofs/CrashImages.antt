@@ -18,6 +18,8 @@ use Rattle.log_file.specs.declared.file_scan.FileScan.{FileScan}
 use Rattle.log_file.specs.declared.file_scan.FileScan.TheVariants.{Prefix}
 use Rattle.log_file.specs.Scan.{scan_of, prefix_with}
 use Rattle.log_file.specs.Log.{Log, IsLog, AreFiles, AreFileEntries, file_bytes, files_of_log, entries_of, entries_scanned, log_in}
+use Rattle.log_file.specs.Placed.{placed}
+use Rattle.log_file.proofs.PlacedLaws.{placed-append, fronts_are_placed}
 use Rattle.log_file.proofs.EncodedLaws.{length-file_bytes}
 use Rattle.log_file.proofs.FilesLaws.{Rises, AreAbove as AllAbove, are_one_list, encoded_files, are_encoded_files, log_in-encoded}
 use Rattle.log_buffer.specs.Crash.{KeepsFront, KeepsFile, KeepsLog, HoldsPrefix, HoldPrefixes, entries_at}
@@ -204,6 +206,10 @@ module _ (log gone : Log) (least : ℕ) (state : State) (image : Files) (is : Is
 
   first_without : (held : List (ℕ × List ℕ)) → AreFiles (among log image) held → image k.at ≡ None → AreFirst log least held
   first_without held are none = record {
+    places = record {
+      rest = placed ((k.at, k.kept ++ k.more) ∷ k.after);
+      are = ap placed k.log_is ∙ placed-append k.before ((k.at, k.kept ++ k.more) ∷ k.after) ∙ ap (λ (l : Log). placed l ++ placed ((k.at, k.kept ++ k.more) ∷ k.after)) (sym log_held);
+    };
     more = (k.kept ++ k.more) ++ entries_of k.after;
     entries = ap entries_of k.log_is ∙ entries-append k.before ((k.at, k.kept ++ k.more) ∷ k.after) ∙ ap (λ (l : Log). entries_of l ++ ((k.kept ++ k.more) ++ entries_of k.after)) (sym log_held);
     at_least = let enough = k.at_least in let count = ap (λ (l : Log). length (entries_of l)) log_held in let empty = ap length (nothing k.front) in omega (arith, enough, count, empty);
@@ -229,6 +235,15 @@ module _ (log gone : Log) (least : ℕ) (state : State) (image : Files) (is : Is
 
   first_with : (held : List (ℕ × List ℕ)) (bytes : List ℕ) → AreFiles (among log image) held → image k.at ≡ Some bytes → (left : HoldsPrefix k.at (k.kept ++ k.more) bytes) → length k.kept ≤ length left.prefix.entries → AreFirst log least held
   first_with held bytes are some left count = record {
+    places = fronts_are_placed log (log_in held) (record {
+      before = k.before;
+      file = k.at;
+      entries = left.prefix.entries;
+      more = left.more;
+      later = k.after;
+      log_is = k.log_is ∙ ap (λ (x : List Entry). k.before ++ (k.at, x) ∷ k.after) left.is;
+      front_is = log_held;
+    });
     more = left.more ++ entries_of k.after;
     entries = ap entries_of k.log_is
         ∙ ap (λ (x : List Entry). entries_of (k.before ++ (k.at, x) ∷ k.after)) left.is

@@ -13,6 +13,7 @@ use Rattle.log_file.specs.declared.file_scan.FileScan.{FileScan}
 use Rattle.log_file.specs.declared.file_scan.FileScan.TheVariants.{Prefix}
 use Rattle.log_file.specs.Scan.{scan_of}
 use Rattle.log_file.specs.Log.{Log, IsLog, AreFiles, file_bytes, files_of_log, entries_scanned, entries_of, log_in}
+use Rattle.log_file.specs.Placed.{HasFirst}
 use Rattle.log_buffer.specs.Crash.{KeepsLog, KeepsFront, HoldPrefixes}
 
 -- the first of these entries
@@ -38,8 +39,9 @@ if_logged (Some _) there = there
 abbrev pub among : Log → Files → Files
 among log image f = if_logged (lookup (λ n. n == f) log) (image f)
 
--- files hold the log's first entries, at least so many, and are its first files
+-- files hold the log's first entries, at least so many, each at its place, and are its first files
 pub record AreFirst (log : Log) (least : ℕ) (held : List (ℕ × List ℕ)) : Type 0 where
+  pub places : HasFirst log (log_in held)
   pub more : List Entry
   pub entries : entries_of log ≡ entries_of (log_in held) ++ more
   pub at_least : least ≤ length (entries_of (log_in held))

@@ -33,7 +33,7 @@ use Rattle.je_order.proofs.Lists.{all_append}
 use Rattle.log_trees.specs.Placed.{Placed, placed_from, placed}
 use Rattle.log_trees.specs.Changes.{Written, unwritten, LoggedChange, rows_after}
 use Rattle.log_trees.specs.Walk.{and_then, read_roots}
-use Rattle.log_trees.proofs.PlacedLaws.{placed_are_entries}
+use Rattle.log_file.proofs.PlacedLaws.{placed_are_entries}
 use Rattle.log_meaning.specs.Redo.{from, redone, record_at}
 use Rattle.log_meaning.specs.Checkpoint.{Checkpoint, no_checkpoint, checkpoint_in, last_end}
 use Rattle.log_meaning.specs.Meaning.{Meaning, rows_of, db_number, most, meaning_of, lsn_there}

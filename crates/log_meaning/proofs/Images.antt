@@ -23,7 +23,7 @@ use Rattle.log_meaning.proofs.Leaving.{commits_rise, few_commits}
 
 -- ---- no gap
 
-gap-front : (n : ℕ) (a b : List ℕ) → gap_behind n (a ++ b) ≡ None → gap_behind n a ≡ None
+pub gap-front : (n : ℕ) (a b : List ℕ) → gap_behind n (a ++ b) ≡ None → gap_behind n a ≡ None
 gap-front n [] b none = refl
 gap-front n (m ∷ a) b none = by_case (m == n + 1) none (gap-front m a b)
   where
@@ -31,7 +31,7 @@ gap-front n (m ∷ a) b none = by_case (m == n + 1) none (gap-front m a b)
     by_case true h rest = rest h
     by_case false h rest = cc
 
-no_gap-front : (a b : List ℕ) → gap_in (a ++ b) ≡ None → gap_in a ≡ None
+pub no_gap-front : (a b : List ℕ) → gap_in (a ++ b) ≡ None → gap_in a ≡ None
 no_gap-front [] b none = refl
 no_gap-front (n ∷ a) b none = gap-front n a b none
 
@@ -61,7 +61,7 @@ gap_from-here f n ns at none =
 gap_from-less : (f n : ℕ) (ns : List ℕ) → n < f → gap_from f (n ∷ ns) ≡ gap_from f ns
 gap_from-less f n ns less = ap (gap_at f) (cond-false (nat_le f n) (n ∷ filter (λ m. nat_le f m) ns) (filter (λ m. nat_le f m) ns) (lt-leb f n less))
 
-gap_from-none : (f n : ℕ) (ns : List ℕ) → n ≤ f → gap_behind n ns ≡ None → gap_from f (n ∷ ns) ≡ None
+pub gap_from-none : (f n : ℕ) (ns : List ℕ) → n ≤ f → gap_behind n ns ≡ None → gap_from f (n ∷ ns) ≡ None
 gap_from-none f n [] le none = by_order (cases_lt n f)
   where
     by_order : (n < f) ⊎ (f ≤ n) → gap_from f (n ∷ []) ≡ None
@@ -77,7 +77,7 @@ gap_from-none f n (m ∷ ms) le none = by_order (cases_lt n f) (gap_from-none f 
     by_order (inr ge) rest = gap_from-here f n (m ∷ ms) (omega (arith, le, ge)) none
 
 -- nothing is wrong with the files from the redo LSN on
-no_redo_corruption : (first : ℕ) (files : List ℕ) (o : Option Checkpoint) → gap_in files ≡ None → IsFirstFile first files → IsRedoLsn first o → redo_corruption files o ≡ None
+pub no_redo_corruption : (first : ℕ) (files : List ℕ) (o : Option Checkpoint) → gap_in files ≡ None → IsFirstFile first files → IsRedoLsn first o → redo_corruption files o ≡ None
 no_redo_corruption first files None gap begins is = ap missing gap
 no_redo_corruption first [] (Some c) gap begins is = cond-true (nat_lt c.redo c.at) (missing (gap_from (c.redo / 2 ^ 32) [])) (Some (nowhere [] c.redo)) (lt-ltb c.redo c.at is.0)
 no_redo_corruption first (n ∷ ns) (Some c) gap begins is =
@@ -91,20 +91,20 @@ none_wrong : (redo : Redo) → is_environment (rows_of redo) ≡ true → wrong_
 none_wrong redo environment = ap (option_map (λ place. lsn_there (record_at redo place.db place.name))) (environment_is_none (rows_of redo) environment)
 
 -- files whose entries leave a store mean it
-reads_leaves : (first : ℕ) (files : List ℕ) (es : List Placed) (store : Store) → gap_in files ≡ None → IsFirstFile first files → Leaves first es store →
+pub reads_leaves : (first : ℕ) (files : List ℕ) (es : List Placed) (store : Store) → redo_corruption files (last_end es) ≡ None → Leaves first es store →
     (meaning : Meaning) × (meaning_in files es ≡ Ok meaning) × (meaning.store ≡ store)
-reads_leaves first files es store gap begins leaves =
+reads_leaves first files es store none leaves =
     let c : Checkpoint = last_checkpoint es in
     let read = leaves.roots files in
     let walk : Walk = record { seen = read.0; rows = rows_of_roots es c.at c.roots } in (
       meaning_of es c walk,
       ap (λ (r : Result Walk Corruption). and_then r (λ w. unless (redo_corruption files (last_end es)) (validated es c w))) read.1
-          ∙ ap (λ (o : Option Corruption). unless o (validated es c walk)) (no_redo_corruption first files (last_end es) gap begins leaves.redo)
+          ∙ ap (λ (o : Option Corruption). unless o (validated es c walk)) none
           ∙ ap (validated_by es c walk) (none_wrong (restarted es) leaves.environment),
       leaves.store_is,
     )
 
-first-front : (first : ℕ) (a b : List ℕ) → IsFirstFile first (a ++ b) → IsFirstFile first a
+pub first-front : (first : ℕ) (a b : List ℕ) → IsFirstFile first (a ++ b) → IsFirstFile first a
 first-front first [] b is = tt
 first-front first (n ∷ a) b is = is
 
@@ -115,8 +115,9 @@ images_recover first opening base least transactions log held gap begins is from
     let leaves : Leaves first (placed (log_in held)) (store_after opening (take (commits_in base holds.count (placed log)) transactions)) =
     subst (λ (l : List Placed). Leaves first l (store_after opening (take (commits_in base holds.count (placed log)) transactions))) (sym holds.entries)
     (is.each holds.count (omega (arith, from, low)) holds.within) in
-    let read = reads_leaves first files (placed (log_in held)) _ (no_gap-front files holds.later (sym (ap gap_in holds.numbers) ∙ gap))
-    (first-front first files holds.later (subst (IsFirstFile first) holds.numbers begins)) leaves in
+    let read = reads_leaves first files (placed (log_in held)) _
+    (no_redo_corruption first files (last_end (placed (log_in held))) (no_gap-front files holds.later (sym (ap gap_in holds.numbers) ∙ gap))
+    (first-front first files holds.later (subst (IsFirstFile first) holds.numbers begins)) leaves.redo) leaves in
     record {
       meaning = read.0;
       reads = ap (λ (o : Option Corruption). unless o (meaning_in files (placed (log_in held)))) holds.none ∙ read.1;

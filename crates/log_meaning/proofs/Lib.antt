@@ -10,6 +10,10 @@ pub mod Listing
 pub mod Leaving
 -- What a crash leaves of a log that recovers transactions.
 pub mod Images
+-- A log that an environment works on, longer by the entries of a transaction.
+pub mod Appending
+-- It recovers the transaction.
+pub mod Recovering
 -- A redo and a replay with one list of pending changes, entry by entry. The data of each put may be marked with its LSN.
 pub mod Replays
 -- Files of a log of puts, deletes and commits alone are read as a replay of the whole log reads them.
@@ -18,5 +22,11 @@ pub mod Alike
 pub mod Drawn
 -- Files that are read with no corruption.
 pub mod Opened
+-- A log that is longer by a checkpoint's end.
+pub mod Ending
+-- Which files of a log are needed.
+pub mod NeededFiles
+-- A log that was found, and what an environment begins with.
+pub mod Found
 -- The log worked by hand.
 pub mod Worked

@@ -30,11 +30,11 @@ use Rattle.log_meaning.specs.Recovery.{IsRedoLsn, IsOpened, ReadFilesLeave}
 -- ---- results
 
 -- a reading that went on to a result
-then_parts : {A B : Type 0} (r : Result A Corruption) (f : A → Result B Corruption) (y : B) → and_then r f ≡ Ok y → (x : A) × (r ≡ Ok x) × (f x ≡ Ok y)
+pub then_parts : {A B : Type 0} (r : Result A Corruption) (f : A → Result B Corruption) (y : B) → and_then r f ≡ Ok y → (x : A) × (r ≡ Ok x) × (f x ≡ Ok y)
 then_parts (Ok x) f y h = (x, refl, h)
 then_parts (Err corruption) f y h = absurd cc
 
-unless_parts : {A : Type 0} (o : Option Corruption) (r : Result A Corruption) (y : A) → unless o r ≡ Ok y → (o ≡ None) × (r ≡ Ok y)
+pub unless_parts : {A : Type 0} (o : Option Corruption) (r : Result A Corruption) (y : A) → unless o r ≡ Ok y → (o ≡ None) × (r ≡ Ok y)
 unless_parts None r y h = (refl, h)
 unless_parts (Some corruption) r y h = absurd cc
 
@@ -42,7 +42,7 @@ judged_parts : (es : List Placed) (c : Checkpoint) (walk : Walk) (o : Option ℕ
 judged_parts es c walk None meaning h = (refl, cc)
 judged_parts es c walk (Some lsn) meaning h = absurd cc
 
-mapped_none : {A B : Type 0} (f : A → B) (o : Option A) → option_map f o ≡ None → o ≡ None
+pub mapped_none : {A B : Type 0} (f : A → B) (o : Option A) → option_map f o ≡ None → o ≡ None
 mapped_none f None h = refl
 mapped_none f (Some x) h = absurd cc
 

@@ -402,7 +402,7 @@ at_entry at (CkptEnd number start redo last_txn last_node last_db summary roots)
     sym (ap (λ (k : Checkpoint). k.at) (same_Some made c h))
 at_entry at entry c h = absurd (none-some c h)
 
-end_below : (es : List Placed) (base : ℕ) (c : Checkpoint) → AllByRecursion (λ p. p.0 < base) es → last_end es ≡ Some c → c.at < base
+pub end_below : (es : List Placed) (base : ℕ) (c : Checkpoint) → AllByRecursion (λ p. p.0 < base) es → last_end es ≡ Some c → c.at < base
 end_below [] base c all is = absurd (none-some c is)
 end_below (p ∷ es) base c all is = by_end (last_end es) refl is (end_below es base c all.1)
   where

@@ -6,5 +6,8 @@ pub mod Listing
 pub mod Meaning
 pub mod Reading
 pub mod Recovery
+pub mod Transactions
+pub mod Found
+pub mod Ending
 pub mod Plain
 pub mod Worked

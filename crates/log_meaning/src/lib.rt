@@ -8,6 +8,9 @@ ghost use Rattle.log_meaning.specs.Growth.{StandsNeutral, StandsPut, StandsDelet
 ghost use Rattle.log_meaning.specs.Listing.{ListedByName, ListedInOrder};
 ghost use Rattle.log_meaning.specs.Plain.{ReplayedAlike, ReadAlike};
 ghost use Rattle.log_meaning.specs.Worked.{IsWorked};
+ghost use Rattle.log_meaning.specs.Ending.{EndsRecover};
+ghost use Rattle.log_meaning.specs.Found.{ReadFilesAreFound, NoGapHasFiles, NextFileStays, OpenedIsBegun, NeededFilesRecover};
+ghost use Rattle.log_meaning.specs.Transactions.{LoneAreFree, ChangesStand, TransactionsStand, NeutralsStand, StandsAlike, CheckpointsStay, ChangesRecover, TransactionsRecover, NeutralsRecover, CommitsRecover};
 ghost use Rattle.log_meaning.specs.Recovery.{StandsLeaves, RecoversFirst, RecoversPush, ReadFilesLeave, ImagesRecover};
 
 /// An entry more: an image, a change, a commit or a checkpoint's end.
@@ -44,6 +47,46 @@ pub fn logs_recover()
 /// them, at least as many as the entries that a crash keeps have commits of.
 pub fn images_recover()
     ensures { ImagesRecover }
+{}
+
+/// The entries of a transaction that are appended together, each front of them, and its changes alone; and
+/// entries that change nothing.
+pub fn transactions_stand()
+    ensures lone { LoneAreFree }
+    ensures changes { ChangesStand }
+    ensures whole { TransactionsStand }
+    ensures neutrals { NeutralsStand }
+    ensures alike { StandsAlike }
+{}
+
+/// A log that is longer by a transaction, or by the Commit of one, recovers one transaction more; by changes
+/// alone, or by entries that change nothing, it recovers the same ones. It keeps its last checkpoint.
+pub fn transactions_recover()
+    ensures checkpoint { CheckpointsStay }
+    ensures changes { ChangesRecover }
+    ensures whole { TransactionsRecover }
+    ensures neutrals { NeutralsRecover }
+    ensures commits { CommitsRecover }
+{}
+
+/// A log that is longer by a checkpoint's end stands and recovers what it did.
+pub fn ends_recover()
+    ensures { EndsRecover }
+{}
+
+/// Files that are read with no corruption miss none that is needed, as a log without a gap and a log with a
+/// next file more. What a crash leaves of such a log means the opening store changed by the first of its
+/// transactions.
+pub fn files_are_needed()
+    ensures found { ReadFilesAreFound }
+    ensures whole { NoGapHasFiles }
+    ensures next { NextFileStays }
+    ensures recover { NeededFilesRecover }
+{}
+
+/// A log that was found stands as its environment begins.
+pub fn logs_begin()
+    ensures { OpenedIsBegun }
 {}
 
 /// A log of puts, deletes and commits alone means what a replay of the whole log gives, corruptions

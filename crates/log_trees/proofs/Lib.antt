@@ -1,5 +1,3 @@
--- The entries of a log with their LSNs.
-pub mod PlacedLaws
 -- What an image shows is the same in a longer log, since it names lower LSNs alone.
 pub mod Staying
 -- Names and bounds.
@@ -8,6 +6,8 @@ pub mod Bounds
 pub mod Shown
 -- What the roots of right trees give is what they show name by name.
 pub mod Rooted
+-- Trees are read alike in a longer log.
+pub mod LongerLogs
 -- Right trees are read with no corruption.
 pub mod Reading
 -- The names of slots that images show rise.

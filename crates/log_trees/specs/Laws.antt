@@ -28,6 +28,10 @@ ShowsStay = (es more : List Placed) (above at : ℕ) (x : Name) → AreBehind at
 abbrev pub RootsStay : Type 0
 RootsStay = (es more : List Placed) (end : ℕ) (roots : List Root) → AllByRecursion (λ p. end ≤ p.0) more → rows_of_roots (es ++ more) end roots ≡ rows_of_roots es end roots
 
+-- which are read alike, corruptions included
+abbrev pub ReadingsStay : Type 0
+ReadingsStay = (files : List ℕ) (es more : List Placed) (end : ℕ) (roots : List Root) → AllByRecursion (λ p. end ≤ p.0) more → read_roots files (es ++ more) end roots ≡ read_roots files es end roots
+
 -- a right tree is right in a longer log
 abbrev pub TreesStay : Type 0
 TreesStay = (es more : List Placed) (home : ℕ → Home) (d above : ℕ) (low : Name) (high : Option Name) (at : ℕ) → AreBehind at more

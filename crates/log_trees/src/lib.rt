@@ -4,27 +4,17 @@
 //! functions have nothing to do: their contracts are the laws.
 #![tactic(auto)]
 
-ghost use Rattle.log_trees.specs.Laws.{SlotsStay, ShowsStay, RootsStay, TreesStay, ShowsAreSlots, RootsShow, RootsAreRead, RootsStayRight, ReadTreesAreRight};
+ghost use Rattle.log_trees.specs.Laws.{SlotsStay, ShowsStay, RootsStay, ReadingsStay, TreesStay, ShowsAreSlots, RootsShow, RootsAreRead, RootsStayRight, ReadTreesAreRight};
 ghost use Rattle.log_trees.specs.Building.{BinsAreRight, InsAreRight, BinsShow, InsShow};
-ghost use Rattle.log_trees.specs.Placed.{PlacedAreEntries, PlacedGoLast, PlacedGoOn, FrontsArePlaced, PlacedAreInOrder};
 
-/// The entries of a log with their LSNs are the log's entries; an entry more is the last one, a front of the
-/// log has the first of them, and LSNs rise.
-pub fn entries_are_placed()
-    ensures entries { PlacedAreEntries }
-    ensures last { PlacedGoLast }
-    ensures next { PlacedGoOn }
-    ensures front { FrontsArePlaced }
-    ensures order { PlacedAreInOrder }
-{}
-
-/// What an image shows is the same in a longer log.
+/// What an image shows is the same in a longer log, and trees are read alike.
 pub fn trees_stay()
     ensures slots { SlotsStay }
     ensures shows { ShowsStay }
     ensures roots { RootsStay }
     ensures trees { TreesStay }
     ensures right { RootsStayRight }
+    ensures readings { ReadingsStay }
 {}
 
 /// The records below the image of a right tree are those that it shows name by name.

@@ -1,10 +1,13 @@
 -- What the log gets from a change of a tree.
-use Rattle.std.specs.Prelude.{◌≡◌, ℕ, List, ◌++◌, Option, Some, None, Result, Ok, Err}
-use Rattle.std.specs.List.{AllByRecursion}
+use Rattle.std.specs.Prelude.{◌≡◌, ◌==◌, ◌&&◌, ℕ, Bool, false, List, [], ◌∷◌, ◌++◌, Option, Some, None, Result, Ok, Err, find, reverse}
+use Rattle.std.specs.List.{AllByRecursion, list_any}
+use Rattle.std.specs.Ordering.{is_eq}
+use Rattle.je_order.specs.Order.{name_cmp}
 use Rattle.je_order.specs.declared.name.Name.{Name}
 use Rattle.je_order.specs.declared.txn_id.TxnId.{TxnId}
 use Rattle.log_entry.specs.declared.entry.Entry.{Entry}
-use Rattle.log_entry.specs.declared.entry.Entry.TheVariants.{Put, Delete, In, Bin}
+use Rattle.log_entry.specs.declared.entry.Entry.TheVariants.{Put, Delete, Commit, In, Bin}
+use Rattle.record_tree.specs.declared.tree_change.TreeChange.{TreeChange}
 use Rattle.record_tree.specs.declared.tree_err.TreeErr.{TreeErr}
 use Rattle.record_tree.specs.declared.tree_err.TreeErr.TheVariants.{Fault, Full, IdsEnded, Memory}
 
@@ -22,6 +25,36 @@ IsImage entry = ⊥
 -- images of nodes
 abbrev pub AreImages : List Entry → Type 0
 AreImages entries = AllByRecursion IsImage entries
+
+-- entries log changes of a transaction, in order, each behind images of nodes
+abbrev pub LogsChanges : TxnId → List TreeChange → List Entry → Type 0
+LogsChanges txn [] entries = entries ≡ []
+LogsChanges txn (c ∷ cs) entries = (images rest : List Entry) × AreImages images × (entries ≡ images ++ entry_for txn c.db c.name c.value ∷ rest) × LogsChanges txn cs rest
+
+-- and its Commit behind them
+abbrev pub LogsTransaction : TxnId → List TreeChange → List Entry → Type 0
+LogsTransaction txn changes entries = (front : List Entry) × LogsChanges txn changes front × (entries ≡ front ++ Commit txn ∷ [])
+
+-- whether a change is of a name
+abbrev pub is_change_of : ℕ → Name → TreeChange → Bool
+is_change_of db x c = (c.db == db) && is_eq (name_cmp c.name x)
+
+-- the last of some changes that is of a name
+abbrev pub last_change : ℕ → Name → List TreeChange → Option TreeChange
+last_change db x changes = find (is_change_of db x) (reverse changes)
+
+-- whether a change makes a database of that number
+abbrev pub makes_db : ℕ → Option ℕ → Bool
+makes_db db None = false
+makes_db db (Some made) = made == db
+
+abbrev pub is_made : ℕ → List TreeChange → Bool
+is_made db changes = list_any (λ c. makes_db db c.makes) changes
+
+-- the data under a name after changes
+abbrev pub value_changed : Option TreeChange → Option (List ℕ) → Option (List ℕ)
+value_changed None value = value
+value_changed (Some c) value = c.value
 
 -- a front of some entries
 abbrev pub IsFront : List Entry → List Entry → Type 0

@@ -10,6 +10,9 @@ use Rattle.node_core.specs.declared.slot.Version.TheVariants.{There, Deleted, Un
 use Rattle.record_map.specs.declared.cell.Cell.{Cell}
 use Rattle.record_map.specs.declared.write.Write.{Write}
 use Rattle.record_map.specs.Cells.{value_at}
+use Rattle.record_tree.specs.declared.tree_change.TreeChange.{TreeChange}
+use Rattle.record_tree.specs.declared.tree_name.TreeName.{TreeName}
+use Rattle.record_tree.specs.Logged.{last_change}
 
 -- what an occupied name has: the committed data, if a record is committed, and the change of an active transaction, if there is one
 pub record Occupied : Type 0 where
@@ -47,9 +50,10 @@ abbrev pub IsFreeFor : TxnId → Option Write → Type 0
 IsFreeFor txn None = Unit {0}
 IsFreeFor txn (Some write) = write.txn ≡ txn
 
--- a name with a change
-abbrev pub with_change : Write → Option Occupied → Option Occupied
-with_change write o = Some (record { value = value_in o; write = Some write })
+-- a name's change after those of a transaction: its last one, at some LSN, or the one that it had
+abbrev pub IsWritten : Option TreeChange → TxnId → Option Write → Option Write → Type 0
+IsWritten None txn old new = new ≡ old
+IsWritten (Some c) txn old new = (at : ℕ) × (new ≡ Some (record { txn = txn; at = at; value = c.value }))
 
 -- a name whose change is committed, and one whose change is given up
 abbrev pub value_after : Option (List ℕ) → Option Write → Option (List ℕ)
@@ -68,17 +72,17 @@ after_abort (Some o) = if_occupied (record { value = o.value; write = None })
 abbrev pub AllCells : Type 0
 AllCells = ℕ → List (Name × Occupied)
 
--- one name of one database changed, and all else as before
-pub record HasChanged (old new : AllCells) (db : ℕ) (name : Name) (change : Option Occupied → Option Occupied) : Type 0 where
-  pub here : (x : Name) → value_at x (new db) ≡ (if is_eq (name_cmp name x) then change (value_at name (old db)) else value_at x (old db))
-  pub others : (d : ℕ) → (d ≡ db → ⊥) → new d ≡ old d
+-- a transaction wrote: names have its changes, and what is committed is as before
+pub record AreWritten (txn : TxnId) (changes : List TreeChange) (old new : AllCells) : Type 0 where
+  pub values : (db : ℕ) (x : Name) → value_in (value_at x (new db)) ≡ value_in (value_at x (old db))
+  pub writes : (db : ℕ) (x : Name) → IsWritten (last_change db x changes) txn (write_in (value_at x (old db))) (write_in (value_at x (new db)))
 
 -- whether a name of a database is among some
-abbrev pub is_among : ℕ → Name → List (ℕ × Name) → Bool
-is_among db x names = list_any (λ e. e.0 == db && is_eq (name_cmp e.1 x)) names
+abbrev pub is_among : ℕ → Name → List TreeName → Bool
+is_among db x names = list_any (λ e. e.db == db && is_eq (name_cmp e.name x)) names
 
 -- each of some names changed, and all else as before
-abbrev pub HasChangedAll : AllCells → AllCells → List (ℕ × Name) → (Option Occupied → Option Occupied) → Type 0
+abbrev pub HasChangedAll : AllCells → AllCells → List TreeName → (Option Occupied → Option Occupied) → Type 0
 HasChangedAll old new names change = (db : ℕ) (x : Name) → value_at x (new db) ≡ (if is_among db x names then change (value_at x (old db)) else value_at x (old db))
 
 -- no cell changed

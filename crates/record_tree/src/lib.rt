@@ -6,8 +6,12 @@
 
 pub mod lacks;
 pub mod records;
+pub mod tree_change;
 pub mod tree_err;
+pub mod tree_name;
 
 pub use lacks::Lacks;
 pub use records::Records;
+pub use tree_change::TreeChange;
 pub use tree_err::TreeErr;
+pub use tree_name::TreeName;

@@ -1,15 +1,17 @@
 // The records of an environment's trees.
-ghost use Rattle.std.specs.Prelude.{◌≡◌, ℕ, List, [], ◌∷◌, ◌++◌, Option, Some, None, Ok, Err, IfOk, OnOk, IfErr, IsOk, option_map, map, Bool, true, false};
+ghost use Rattle.std.specs.Prelude.{◌≡◌, ◌==◌, ◌||◌, ℕ, suc, List, [], ◌∷◌, ◌++◌, Option, Some, None, Ok, Err, IfOk, OnOk, IfErr, OnErr, IfSome, IsOk, option_map, Bool, true, false, if◌then◌else◌};
 ghost use Rattle.je_order.specs.declared.name.Name.{Name};
 ghost use Rattle.log_entry.specs.declared.entry.Entry.{Entry};
 ghost use Rattle.log_entry.specs.declared.entry.Entry.TheVariants.{Commit};
 ghost use Rattle.record_map.specs.Cells.{value_at, IsRising, first_of, last_of, from_edge, below_edge, edge_of};
 ghost use Rattle.record_tree.specs.declared.tree_err.TreeErr.{TreeErr as Reason};
-ghost use Rattle.record_tree.specs.Occupied.{AllCells, occupied_by, write_in, IsFreeFor, with_change, after_commit, after_abort, HasChanged, HasChangedAll, AreSame};
-ghost use Rattle.record_tree.specs.Logged.{entry_for, AreImages, IsFront, IsEndOf, IsLimit};
+ghost use Rattle.record_tree.specs.Occupied.{AllCells, occupied_by, write_in, IsFreeFor, AreWritten, after_commit, after_abort, HasChangedAll, AreSame};
+ghost use Rattle.record_tree.specs.declared.tree_change.TreeChange.{TreeChange};
+ghost use Rattle.std.specs.List.{AllByRecursion};
+ghost use Rattle.log_entry.specs.Body.{IsEntry};
+ghost use Rattle.record_tree.specs.Logged.{entry_for, LogsChanges, is_made, IsFront, IsEndOf, IsLimit};
 
-use crate::{Lacks, TreeErr};
-use je_lsn::Lsn;
+use crate::{Lacks, TreeChange, TreeErr, TreeName};
 use je_order::TxnId;
 use record_map::{Cell, EdgeRef, SortKey};
 use std::alloc::Global;
@@ -28,8 +30,11 @@ pub trait Records {
 
     ghost tried: { Self → Self → List Entry → Type 0 };
 
-    /// The limit that a change of a name to a value, with so many Commits owed, would meet.
-    ghost limit: { Self → ℕ → Name → Option (List ℕ) → ℕ → Option Reason };
+    /// The limit that changes, with so many Commits owed, would meet.
+    ghost limit: { Self → List TreeChange → ℕ → Option Reason };
+
+    /// The log has room for so many Commits.
+    ghost has_room: { Self → ℕ → Type 0 };
 
     /// The cell of the name, where it is occupied.
     fn get(&self, db: u32, name: &SortKey) -> Result<Option<&Cell>, Lacks>
@@ -49,43 +54,57 @@ pub trait Records {
         ensures here { IsOk result }
         ensures rising { IsRising (cells self.now db) };
 
-    /// Changes the name for the transaction, and logs the change, behind the images of the nodes that are split
-    /// for it. Room for `owed` Commits is left. Gives the LSN of the change.
-    fn write(
+    /// Changes names for the transaction, and logs the changes in order, each behind the images of the nodes that
+    /// are split for it. Room for `owed` Commits is left, that of the transaction among them. A database that a
+    /// change makes has an empty tree then. An error but Fault leaves all as it was.
+    fn write_all(
         &mut self,
         alloc: Global,
         txn: TxnId,
-        db: u32,
-        name: &SortKey,
-        value: Option<&[u8]>,
+        changes: &[TreeChange],
         owed: u32,
-    ) -> Result<Lsn, TreeErr>
-        requires tree { has_tree self.old db ≡ true }
-        requires free { IsFreeFor txn (write_in (value_at name.now (cells self.old db))) }
-        ensures cells { IfOk result (λ at. HasChanged (cells self.old) (cells self.new) db name.now (with_change (record { txn = txn; at = at; value = option_map (λ bytes. bytes.now) value.entry }))) }
-        ensures grew { OnOk result ((images : List Entry) × AreImages images × grew self.old self.new (images ++ entry_for txn db name.now (option_map (λ bytes. bytes.now) value.entry) ∷ [])) }
-        ensures tried { IsEndOf Reason.Fault result ((images : List Entry) × (front : List Entry) × AreImages images × IsFront front (images ++ entry_for txn db name.now (option_map (λ bytes. bytes.now) value.entry) ∷ []) × tried self.old self.new front) }
-        ensures limited { IfErr result (λ e. IsLimit e → limit self.old db name.now (option_map (λ bytes. bytes.now) value.entry) owed ≡ Some e) }
-        ensures room { OnOk result (limit self.old db name.now (option_map (λ bytes. bytes.now) value.entry) owed ≡ None) }
-        ensures fault_room { IsEndOf Reason.Fault result (limit self.old db name.now (option_map (λ bytes. bytes.now) value.entry) owed ≡ None) }
+    ) -> Result<(), TreeErr>
+        requires trees { AllByRecursion (λ c. has_tree self.old c.db ≡ true) changes.now }
+        requires free { AllByRecursion (λ c. IsFreeFor txn (write_in (value_at c.name (cells self.old c.db)))) changes.now }
+        requires new { AllByRecursion (λ c. IfSome c.makes (λ d. has_tree self.old d ≡ false)) changes.now }
+        requires entries { AllByRecursion (λ c. IsEntry (entry_for txn c.db c.name c.value)) changes.now }
+        ensures cells { OnOk result (AreWritten txn changes.now (cells self.old) (cells self.new)) }
+        ensures trees { OnOk result ((d : ℕ) → has_tree self.new d ≡ (is_made d changes.now || has_tree self.old d)) }
+        ensures grew { OnOk result ((entries : List Entry) × LogsChanges txn changes.now entries × grew self.old self.new entries) }
+        ensures left { OnOk result (has_room self.new owed) }
+        ensures tried { IsEndOf Reason.Fault result ((entries : List Entry) × (front : List Entry) × LogsChanges txn changes.now entries × IsFront front entries × tried self.old self.new front) }
+        ensures limited { IfErr result (λ e. IsLimit e → limit self.old changes.now owed ≡ Some e) }
+        ensures room { OnOk result (limit self.old changes.now owed ≡ None) }
+        ensures fault_room { IsEndOf Reason.Fault result (limit self.old changes.now owed ≡ None) }
         ensures same { IfErr result (λ e. IsLimit e → self.new ≡ self.old) }
         ensures memory { IsEndOf Reason.Memory result (AreSame (cells self.old) (cells self.new) × grew self.old self.new []) }
-        ensures trees { (d : ℕ) → has_tree self.new d ≡ has_tree self.old d };
+        ensures memory_trees { IsEndOf Reason.Memory result ((d : ℕ) → has_tree self.new d ≡ has_tree self.old d) };
 
-    /// Commits the changes of these names, which are those of the transaction, and logs its Commit.
-    fn commit(&mut self, txn: TxnId, first: Lsn, names: &[(u32, SortKey)]) -> Result<(), TreeErr>
+    /// Commits the changes of these names, which are those of the transaction, and logs its Commit, for which
+    /// there is room. It takes no memory, and the one error is Fault.
+    fn commit(&mut self, txn: TxnId, names: &[TreeName]) -> Result<(), TreeErr>
+        requires { (owed : ℕ) × has_room self.old (suc owed) }
         ensures cells { OnOk result (HasChangedAll (cells self.old) (cells self.new) names.now after_commit) }
         ensures grew { OnOk result (grew self.old self.new (Commit txn ∷ [])) }
-        ensures tried { IsEndOf Reason.Fault result ((front : List Entry) × IsFront front (Commit txn ∷ []) × tried self.old self.new front) }
-        ensures same { IfErr result (λ e. IsLimit e → self.new ≡ self.old) }
-        ensures memory { IsEndOf Reason.Memory result (AreSame (cells self.old) (cells self.new) × grew self.old self.new []) }
+        ensures left { (owed : ℕ) → has_room self.old (suc owed) → OnOk result (has_room self.new owed) }
+        ensures by_fault { IfErr result (λ e. e ≡ Reason.Fault) }
+        ensures tried { OnErr result ((front : List Entry) × IsFront front (Commit txn ∷ []) × tried self.old self.new front) }
         ensures trees { (d : ℕ) → has_tree self.new d ≡ has_tree self.old d };
 
     /// Gives the changes of these names up. It takes no memory and logs nothing.
-    fn abort(&mut self, names: &[(u32, SortKey)])
+    fn abort(&mut self, names: &[TreeName])
         ensures cells { HasChangedAll (cells self.old) (cells self.new) names.now after_abort }
         ensures grew { grew self.old self.new [] }
         ensures trees { (d : ℕ) → has_tree self.new d ≡ has_tree self.old d };
+
+    /// Takes the tree of a database out, with its records. It takes no memory and logs nothing.
+    fn drop_db(&mut self, db: u32)
+        ensures cells { (d : ℕ) → cells self.new d ≡ (if d == db then [] else cells self.old d) }
+        ensures trees { (d : ℕ) → has_tree self.new d ≡ (if d == db then false else has_tree self.old d) }
+        ensures grew { grew self.old self.new [] };
+
+    /// A database without a tree has no records.
+    ghost no_cells: { (x : Self) (d : ℕ) → has_tree x d ≡ false → cells x d ≡ [] };
 
     /// The log gets nothing where nothing happens, and the entries of one step behind those of another.
     ghost grew_none: { (x : Self) → grew x x [] };

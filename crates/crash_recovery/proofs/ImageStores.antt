@@ -1,0 +1,65 @@
+-- Which stores the images of a disk mean.
+use Rattle.std.proofs.Common.{ℕ, ◌≤◌, List, [], ◌++◌, length, sym, ap, ◌∙◌, arith}
+use Rattle.std.proofs.lemmas.List.{take-append-le, length-append}
+use Rattle.je_disk.specs.States.{Files}
+use Rattle.je_disk.specs.Moments.{now}
+use Rattle.je_disk.proofs.MomentLaws.{passes_weaken}
+use Rattle.store_model.specs.declared.change.Change.{Change}
+use Rattle.store_model.specs.declared.store.Store.{Store}
+use Rattle.store_model.specs.Store.{store_after}
+use Rattle.log_buffer.specs.Crash.{IsKeptSince}
+use Rattle.log_buffer.proofs.CrashImages.{kept_is_left}
+use Rattle.log_buffer.proofs.ChanceMatches.{reads_have_no_chance}
+use Rattle.log_trees.specs.Placed.{placed}
+use Rattle.log_meaning.specs.Recovery.{IsRecovered, commits_in}
+use Rattle.log_meaning.proofs.NeededFiles.{needed_files_recover}
+use Rattle.crash_recovery.specs.Recovery.{IsImageRecovered, IsStateRecovered}
+use Rattle.crash_recovery.specs.Laws.{ImagesRecover, KeptImagesRecover, StatesRecover, ThroughRecovers, WiderIsRecovered}
+use Rattle.crash_recovery.proofs.ImageReading.{images_hold_first}
+
+pub images_recover : ImagesRecover
+images_recover first opening base least transactions log image is from left =
+    let holds = images_hold_first log least image is.named left in
+    record {
+      held = holds.held;
+      are = holds.are;
+      recovered = needed_files_recover first opening base least transactions log holds.held is.files is.recovers from holds.first;
+    }
+
+pub kept_images_recover : KeptImagesRecover
+kept_images_recover first opening base least transactions log state is from keeps prefixes image files chance =
+    images_recover first opening base least transactions log image is from (kept_is_left log [] least state image is.named.is_log keeps prefixes files chance)
+
+pub states_recover : StatesRecover
+states_recover first opening base least transactions log state is from kept =
+    let images = kept_images_recover first opening base least transactions log state is from kept.keeps kept.prefixes in
+    record { read = images state.reads kept.read (reads_have_no_chance state.reads); images = images }
+
+pub through_recovers : ThroughRecovers
+through_recovers first opening base least transactions log old new is from through =
+    passes_weaken old new (IsKeptSince log [] least (now old).reads) (IsStateRecovered opening (commits_in base least (placed log)) transactions)
+    (λ s k. states_recover first opening base least transactions log s is from k.kept) through
+
+-- ---- fewer transactions that are sure, and more that may be there
+
+wider_files : (opening : Store) (least fewer : ℕ) (transactions more : List (List Change)) (held : List (ℕ × List ℕ)) → IsRecovered opening least transactions held → fewer ≤ least →
+    IsRecovered opening fewer (transactions ++ more) held
+wider_files opening least fewer transactions more held is le = record {
+  meaning = is.meaning;
+  reads = is.reads;
+  count = is.count;
+  at_least = let enough : least ≤ is.count = is.at_least in omega (arith, le, enough);
+  within = let low : is.count ≤ length transactions = is.within in omega (arith, low, length-append transactions more);
+  store = is.store ∙ ap (store_after opening) (sym (take-append-le is.count transactions more is.within));
+}
+
+wider_image : (opening : Store) (least fewer : ℕ) (transactions more : List (List Change)) (image : Files) → IsImageRecovered opening least transactions image → fewer ≤ least →
+    IsImageRecovered opening fewer (transactions ++ more) image
+wider_image opening least fewer transactions more image is le =
+    record { held = is.held; are = is.are; recovered = wider_files opening least fewer transactions more is.held is.recovered le }
+
+pub wider_is_recovered : WiderIsRecovered
+wider_is_recovered opening least fewer transactions more state is le = record {
+  read = wider_image opening least fewer transactions more state.reads is.read le;
+  images = λ image files chance. wider_image opening least fewer transactions more image (is.images image files chance) le;
+}
