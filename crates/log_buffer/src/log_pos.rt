@@ -21,7 +21,9 @@ impl LogPos {
         requires offset { self.offset < 2 ^ 33 }
         ensures { result ≡ placed_at file_max self size }
     {
-        if self.offset + u64::from(size) <= u64::from(file_max) || self.offset == u64::from(HEADER_SIZE) {
+        if self.offset + u64::from(size) <= u64::from(file_max)
+            || self.offset == u64::from(HEADER_SIZE)
+        {
             self
         } else {
             LogPos {
