@@ -15,11 +15,11 @@ ghost use Rattle.log_buffer.specs.Growth.{Grew, Tried};
 ghost use Rattle.log_buffer.specs.Flip.{header_size, placed_at, next_file, behind, end_after, pos_lsn};
 ghost use Rattle.log_buffer.specs.Causes.{HasLogCause, FailsByFault};
 
-use crate::log_pos::LAST_FILE;
-use crate::{HEADER_SIZE, LogBuffer, LogErr, LogPos};
+use crate::{LogBuffer, LogErr, LogPos};
 use je_disk::Disk;
-use je_lsn::{FileNo, Lsn};
+use je_lsn::{FileNo, LAST_FILE, Lsn};
 use log_entry::{Entry, EntryRef, ref_size};
+use log_file::HEADER_SIZE;
 use std::alloc::AllocError;
 
 /// The write buffer is written out once it has more bytes than this.
@@ -200,8 +200,8 @@ impl<D: Disk> LogBuffer<D> {
         let next = FileNo(self.file.0 + 1);
         self.unwritten.begin(next, entry)?;
         self.file = next;
-        self.last = HEADER_SIZE as u32;
-        self.offset = HEADER_SIZE as u32 + size;
+        self.last = HEADER_SIZE;
+        self.offset = HEADER_SIZE + size;
         Ok(())
     }
 }

@@ -8,6 +8,7 @@ ghost use Rattle.log_buffer.specs.Flip.{header_size};
 
 use je_lsn::FileNo;
 use log_entry::{Entry, EntryRef, encode_ref_onto};
+use log_file::LOG_VERSION;
 use std::alloc::AllocError;
 
 // The first entry of a file.
@@ -15,7 +16,7 @@ fn header(file: FileNo) -> Entry
     ensures { result ≡ FileHeader 1 file.0 }
 {
     Entry::FileHeader {
-        version: 1,
+        version: LOG_VERSION,
         file: file.0,
     }
 }

@@ -24,4 +24,4 @@ pub mod writing;
 pub use buffer::LogBuffer;
 pub use error::LogErr;
 pub use laws::{entries_go_last, files_are_bounded, kept_is_left, logs_grow};
-pub use log_pos::{HEADER_SIZE, LogPos};
+pub use log_pos::LogPos;

@@ -1,18 +1,14 @@
 // Places of the log, and where an entry goes.
 ghost use Rattle.std.specs.Prelude.{◌≡◌, ◌+◌, ◌<◌, ◌^◌};
 
+use log_file::HEADER_SIZE;
+
 /// A place of the log: a file's number, which may be one past the last, and an offset there in bytes.
 #[derive(Clone, Copy, Debug, PartialEq, Eq)]
 pub struct LogPos {
     pub file: u32,
     pub offset: u64,
 }
-
-/// How many bytes a file's header has.
-pub const HEADER_SIZE: u64 = 26;
-
-/// The greatest number of a log file.
-pub(crate) const LAST_FILE: u32 = 0xffff_fffe;
 
 impl LogPos {
     ghost use Rattle.log_buffer.specs.Flip.{placed_at, behind};
@@ -25,12 +21,14 @@ impl LogPos {
         requires offset { self.offset < 2 ^ 33 }
         ensures { result ≡ placed_at file_max self size }
     {
-        if self.offset + u64::from(size) <= u64::from(file_max) || self.offset == HEADER_SIZE {
+        if self.offset + u64::from(size) <= u64::from(file_max)
+            || self.offset == u64::from(HEADER_SIZE)
+        {
             self
         } else {
             LogPos {
                 file: self.file + 1,
-                offset: HEADER_SIZE,
+                offset: u64::from(HEADER_SIZE),
             }
         }
     }

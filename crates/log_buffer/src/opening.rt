@@ -15,6 +15,7 @@ use crate::LogBuffer;
 use crate::write_buffer::WriteBuffer;
 use je_disk::Disk;
 use je_lsn::{FileNo, Lsn};
+use log_file::HEADER_SIZE;
 use std::alloc::{AllocError, Global};
 
 impl<D: Disk> LogBuffer<D> {
@@ -70,7 +71,7 @@ impl<D: Disk> LogBuffer<D> {
                 disk,
                 unwritten,
                 file,
-                offset: 26,
+                offset: HEADER_SIZE,
                 last: 0,
                 flushed_len: 0,
                 file_max,

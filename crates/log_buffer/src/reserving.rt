@@ -4,9 +4,10 @@ ghost use Rattle.je_lsn.specs.Naming.{last_file};
 ghost use Rattle.log_buffer.specs.Buffer.{end_of, file_max_of, has_failed, room_for, HasRoom, IsUnchanged};
 ghost use Rattle.log_buffer.specs.Flip.{end_after_all};
 
-use crate::log_pos::LAST_FILE;
 use crate::{LogBuffer, LogErr, LogPos};
 use je_disk::Disk;
+use je_lsn::LAST_FILE;
+use log_file::HEADER_SIZE;
 use std::alloc::AllocError;
 
 // Whether entries of these sizes do not pass the last file, in a log that ends here.
@@ -32,7 +33,7 @@ fn room(sizes: &[u32]) -> Option<usize>
 {
     let mut bytes: usize = 0;
     for size in sizes {
-        bytes = bytes.checked_add(26 + *size as usize)?;
+        bytes = bytes.checked_add(HEADER_SIZE as usize + *size as usize)?;
     }
     Some(bytes)
 }

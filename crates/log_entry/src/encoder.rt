@@ -18,6 +18,9 @@ use std::alloc::{AllocError, Global};
 /// length.
 pub const HEAD_SIZE: u32 = 14;
 
+/// How many bytes a Commit has.
+pub const COMMIT_SIZE: u32 = HEAD_SIZE + 8;
+
 /// How many bytes the entry's encoding has, whatever its prev field.
 pub fn size(entry: &Entry) -> u32
     requires { IsEntry entry.now }

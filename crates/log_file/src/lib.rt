@@ -14,5 +14,5 @@ pub mod valid_prefix;
 pub use file_scan::FileScan;
 pub use laws::{entries_are_placed, files_are_found, files_are_one_list};
 pub use reading::{Scanned, scan};
-pub use scanning::scan_bytes;
+pub use scanning::{HEADER_SIZE, LOG_VERSION, scan_bytes};
 pub use valid_prefix::ValidPrefix;

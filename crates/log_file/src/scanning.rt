@@ -11,11 +11,11 @@ use je_order::List;
 use log_entry::{Decoded, Entry, decode, decode_at, size};
 use std::alloc::{AllocError, Global};
 
-// The version of the format that this project writes.
-const VERSION: u32 = 1;
+/// The version of the format that this project writes.
+pub const LOG_VERSION: u32 = 1;
 
-// How many bytes a file's header has.
-const HEADER_BYTES: u32 = 26;
+/// How many bytes a file's header has.
+pub const HEADER_SIZE: u32 = 26;
 
 // Whether an entry may stand behind a file's header: each may but another header.
 fn may_follow(entry: &Entry) -> bool
@@ -72,7 +72,7 @@ fn scan_behind(alloc: Global, bytes: &[u8]) -> Result<ValidPrefix, AllocError>
 {
     let mut entries = Vec::new(alloc);
     let mut last = 0;
-    let mut at = HEADER_BYTES;
+    let mut at = HEADER_SIZE;
     while let Some(Next { entry, end }) = next_entry(alloc, bytes, at, last)? {
         entries.push(entry)?;
         last = at;
@@ -113,7 +113,7 @@ fn scan_after_header(
     if prev != 0 {
         return Ok(FileScan::Damaged);
     }
-    if *version != VERSION {
+    if *version != LOG_VERSION {
         return Ok(FileScan::VersionUnknown { version: *version });
     }
     if *file != f.0 {
