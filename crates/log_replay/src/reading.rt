@@ -20,12 +20,9 @@ use crate::replayed::{Validated, validate};
 use crate::replaying::Replaying;
 use crate::{Corruption, LastFile, LogRead, ReadLog};
 use je_disk::{Disk, DiskErr};
-use je_lsn::{FileNo, Lsn};
+use je_lsn::{FileNo, LAST_FILE, Lsn};
 use log_file::{FileScan, Scanned, ValidPrefix, scan};
 use std::alloc::{AllocError, Global};
-
-/// The greatest number of a log file.
-const LAST_FILE: u32 = 0xffff_fffe;
 
 // What was read of one file: it is right where it stands, and its entries were replayed, or a
 // corruption.
