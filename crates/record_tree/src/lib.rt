@@ -5,13 +5,19 @@
 #![tactic(auto)]
 
 pub mod lacks;
+pub mod load_err;
+pub mod loads;
 pub mod records;
+pub mod stored_record;
 pub mod tree_change;
 pub mod tree_err;
 pub mod tree_name;
 
 pub use lacks::Lacks;
+pub use load_err::LoadErr;
+pub use loads::Loads;
 pub use records::Records;
+pub use stored_record::StoredRecord;
 pub use tree_change::TreeChange;
 pub use tree_err::TreeErr;
 pub use tree_name::TreeName;
