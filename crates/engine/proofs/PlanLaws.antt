@@ -1,0 +1,346 @@
+-- What a call of a valid environment comes to is what the model answers, and how it ends.
+use Rattle.std.proofs.Common.{◌≡◌, ℕ, ◌+◌, ◌<◌, ◌≤◌, List, [], ◌∷◌, Bool, true, false, cond, nat_lt, Option, None, Some, map, option_map, is_some, refl, ap, sym, ◌∙◌, subst, arith, inl, inr}
+use Rattle.std.proofs.lemmas.Bool.{ltb-true, ltb-false, true≢false}
+use Rattle.std.proofs.lemmas.Option.{none-some}
+use Rattle.store_model.specs.declared.store.TheConstants.{LAST_DATABASE, LAST_TXN}
+use Rattle.store_model.specs.declared.store.Database.{Database}
+use Rattle.store_model.specs.declared.store.Store.{Store}
+use Rattle.store_model.specs.declared.call.Call.{Call}
+use Rattle.store_model.specs.declared.call.Call.TheVariants.{List as Lists, Create, Remove, Rename, Truncate, Get, GetBoth, Put, Delete}
+use Rattle.store_model.specs.declared.change.Change.{Change}
+use Rattle.store_model.specs.declared.change.Change.TheVariants.{Make, Remove as Removes, Rename as Renames, Empty}
+use Rattle.store_model.specs.declared.record_change.RecordChange.{RecordChange}
+use Rattle.store_model.specs.declared.record_change.RecordChange.TheVariants.{Set, Unset}
+use Rattle.store_model.specs.declared.answer.Fault.{Fault}
+use Rattle.store_model.specs.declared.answer.Answer.{Answer}
+use Rattle.store_model.specs.declared.answer.Answer.TheVariants.{NoDatabase, Logged, LogFull, IdsEnded, DiskFault, Invalid}
+use Rattle.store_model.specs.Evaluation.{Outcome, answers, changes_by, evaluation, evaluation_in}
+use Rattle.store_model.specs.Store.{database_of, change_in}
+use Rattle.store_model.specs.Refusals.{made_by, or_refusal, access_refusal}
+use Rattle.db_catalog.specs.Planning.{outcome_unless}
+use Rattle.je_answers.specs.Views.{Target, target, target_of}
+use Rattle.je_answers.specs.Refusals.{there_refusal, name_refusal, target_refusal, late_refusal}
+use Rattle.je_answers.specs.After.{fate_of}
+use Rattle.je_answers.specs.Events.{database_limit, catalog_limit, IsDone, IsLogged, auto_active}
+use Rattle.je_answers.specs.Alone.{Alone, alone, evaluated_on, IsDoneOn, IsPerformedAlone, IsEvaluatedAlone, IsAnsweredAlone, drawn_alone, faulted_alone, committed_alone, fate_alone, changes_alone, target_alone, performed_alone, evaluated_alone, after_alone, IsAutoCommitted}
+use Rattle.engine.specs.declared.kept.Kept.{Kept}
+use Rattle.engine.specs.declared.planned.Planned.TheVariants.{Answered}
+use Rattle.engine.specs.declared.planned_changes.PlannedChanges.{PlannedChanges}
+use Rattle.engine.specs.Planning.{outcome_on, performed_outcome, HasModel, IsPlannedLog, IsPlanned, EndsAlone}
+
+-- a list with an item is not empty
+abbrev has_item : {X : Type 0} → List X → Bool
+has_item [] = false
+has_item (x ∷ xs) = true
+
+cons-nil : {X : Type 0} (x : X) (xs : List X) → x ∷ xs ≡ [] → ⊥
+cons-nil x xs h = true≢false (ap has_item h)
+
+-- ---- limits
+
+-- what is logged meets this limit, by the database numbers that its changes allocate, unless the log has no room
+abbrev numbers_end : ℕ → Option Answer
+numbers_end last = cond (nat_lt LAST_DATABASE last) (Some IdsEnded) None
+
+within : (last : ℕ) → last ≤ LAST_DATABASE → numbers_end last ≡ None
+within last h = by_test (nat_lt LAST_DATABASE last) refl
+  where
+    by_test : (b : Bool) → nat_lt LAST_DATABASE last ≡ b → cond b (Some IdsEnded) None ≡ None
+    by_test true e = let over = ltb-true LAST_DATABASE last e in absurd (omega (arith, over, h))
+    by_test false e = refl
+
+past : (last : ℕ) → LAST_DATABASE < last → numbers_end last ≡ Some IdsEnded
+past last h = by_test (nat_lt LAST_DATABASE last) refl
+  where
+    by_test : (b : Bool) → nat_lt LAST_DATABASE last ≡ b → cond b (Some IdsEnded) None ≡ Some IdsEnded
+    by_test true e = refl
+    by_test false e = let under = ltb-false LAST_DATABASE last e in absurd (omega (arith, under, h))
+
+-- ---- what was not refused
+
+-- where neither refuses, the first does not and the second does not
+pub no_refusal : (first second : Option Answer) → or_refusal first second ≡ None → (first ≡ None) × (second ≡ None)
+no_refusal None second h = (refl, h)
+no_refusal (Some refusal) second h = absurd (none-some refusal (sym h))
+
+-- the second of no refusals, and none
+refused_first : (first : Option Answer) → or_refusal first None ≡ first
+refused_first None = refl
+refused_first (Some refusal) = refl
+
+-- a database whose access is not refused is there
+pub is_there : (number rest : Option Answer) (o : Option Database) → or_refusal number (or_refusal (access_refusal (is_some o)) rest) ≡ None → (d : Database) × (o ≡ Some d)
+is_there number rest None h = absurd (none-some NoDatabase (sym (no_refusal (Some NoDatabase) rest (no_refusal number (Some NoDatabase) h).1).0))
+is_there number rest (Some d) h = (d, refl)
+
+-- ---- an answer without changes
+
+-- what an answer alone says of an outcome
+says : (o : Outcome) (answer : Answer) → o ≡ answers answer → answer ≡ o.answer
+says o answer h = sym (ap (λ (x : Outcome). x.answer) h)
+
+changes_nothing : (o : Outcome) (answer : Answer) → o ≡ answers answer → o.changes ≡ []
+changes_nothing o answer h = ap (λ (x : Outcome). x.changes) h
+
+-- a change of the catalog changes something
+one_changes : (change : Change) (answer : Answer) → changes_by change ≡ answers answer → ⊥
+one_changes change answer h = cons-nil change [] (changes_nothing (changes_by change) answer h)
+
+-- a call on records that changes nothing
+done_only : (g : Target) (changes : List RecordChange) (limit : Option Answer) (p : Alone) (session : ℕ) (call : Call) (answer : Answer) →
+    map (λ c. change_in g.database.name c) changes ≡ [] → answer ≡ (evaluated_on call g).answer →
+    IsDone changes limit (alone p) (auto_active (alone p) session) (evaluated_on call g) answer × (changes_alone changes g p answer ≡ drawn_alone p)
+done_only g [] limit p session call answer none is = (is, refl)
+done_only g (c ∷ cs) limit p session call answer none is = absurd (cons-nil (change_in g.database.name c) (map (λ c. change_in g.database.name c) cs) none)
+
+-- by the database that is there
+on_answered : (number : ℕ) (o : Option Database) (d : Database) (limit : Option Answer) (p : Alone) (session : ℕ) (call : Call) (answer : Answer) →
+    o ≡ Some d → outcome_on call (option_map (target number None) o) ≡ answers answer →
+    IsDoneOn (option_map (target number None) o) limit p session call answer × (target_alone (option_map (target number None) o) call p answer ≡ drawn_alone p)
+on_answered number None d limit p session call answer there e = absurd (none-some d there)
+on_answered number (Some g) d limit p session call answer there e =
+    done_only (target number None g) (evaluated_on call (target number None g)).changes limit p session call answer
+    (changes_nothing (outcome_on call (Some (target number None g))) answer e) (says (outcome_on call (Some (target number None g))) answer e)
+
+-- a call on the catalog's database that is there changes something
+catalog_answered : (call : Call) (change : Change) (o : Option Database) (d : Database) (store : Store) (answer : Answer) →
+    ((x : Database) → evaluation_in call store (Some x) ≡ changes_by change) → o ≡ Some d → evaluation_in call store o ≡ answers answer → ⊥
+catalog_answered call change o d store answer by there e =
+    one_changes change answer (sym (ap (evaluation_in call store) there ∙ by d) ∙ e)
+
+performed_answered : (call : Call) (limit : Option Answer) (p : Alone) (session : ℕ) (answer : Answer) → IsAutoCommitted call → late_refusal (alone p) session call ≡ None →
+    performed_outcome p session call ≡ answers answer → IsPerformedAlone call limit p session answer × (performed_alone call p session answer ≡ drawn_alone p)
+performed_answered Lists limit p session answer is late e = (says (evaluation Lists p.store) answer e, refl)
+performed_answered (Create db kind) limit p session answer is late e = absurd (one_changes (Make db kind) answer e)
+performed_answered (Remove db) limit p session answer is late e =
+    let there = is_there _ _ (database_of db p.store) late in
+    absurd (catalog_answered (Remove db) (Removes db) (database_of db p.store) there.0 p.store answer (λ x. refl) there.1 e)
+performed_answered (Rename db to) limit p session answer is late e =
+    let there = is_there _ _ (database_of db p.store) late in
+    absurd (catalog_answered (Rename db to) (Renames db to) (database_of db p.store) there.0 p.store answer (λ x. refl) there.1 e)
+performed_answered (Truncate db) limit p session answer is late e =
+    let there = is_there _ _ (database_of db p.store) late in
+    absurd (catalog_answered (Truncate db) (Empty db) (database_of db p.store) there.0 p.store answer (λ x. refl) there.1 e)
+performed_answered (Get db key rmw) limit p session answer is late e =
+    let there = is_there _ _ (database_of db p.store) late in
+    on_answered (p.numbers db) (database_of db p.store) there.0 limit p session (Get db key rmw) answer there.1 e
+performed_answered (GetBoth db key value rmw) limit p session answer is late e =
+    let there = is_there _ _ (database_of db p.store) late in
+    on_answered (p.numbers db) (database_of db p.store) there.0 limit p session (GetBoth db key value rmw) answer there.1 e
+performed_answered (Put db key value mode) limit p session answer is late e =
+    let there = is_there _ _ (database_of db p.store) late in
+    on_answered (p.numbers db) (database_of db p.store) there.0 limit p session (Put db key value mode) answer there.1 e
+performed_answered (Delete db key) limit p session answer is late e =
+    let there = is_there _ _ (database_of db p.store) late in
+    on_answered (p.numbers db) (database_of db p.store) there.0 limit p session (Delete db key) answer there.1 e
+performed_answered call limit p session answer is late e = absurd is
+
+refused_or_answered : (late : Option Answer) (call : Call) (limit : Option Answer) (p : Alone) (session : ℕ) (answer : Answer) → IsAutoCommitted call →
+    late_refusal (alone p) session call ≡ late → outcome_unless late (performed_outcome p session call) ≡ answers answer →
+    IsEvaluatedAlone late limit p session call answer × (evaluated_alone late call p session answer ≡ drawn_alone p)
+refused_or_answered (Some refusal) call limit p session answer is late e = (says (answers refusal) answer e, refl)
+refused_or_answered None call limit p session answer is late e = performed_answered call limit p session answer is late e
+
+-- ---- changes
+
+-- a call that changes something: under no limit it is logged, and where the log has no room it says so
+record LogsAlone (call : Call) (p : Alone) (session : ℕ) (changes : List Change) : Type 0 where
+  logged : (answer : Answer) → p.last_db ≤ LAST_DATABASE → IsLogged (database_limit p.last_db changes) (Logged (p.commits + 1)) answer → IsPerformedAlone call None p session answer
+  full : IsPerformedAlone call (Some LogFull) p session LogFull
+  leaves : (answer : Answer) → performed_alone call p session answer ≡ fate_alone (fate_of answer) changes p
+
+catalog_logs : (call : Call) (o : Outcome) (p : Alone) (session : ℕ) (changes : List Change) → o.changes ≡ changes → (answer : Answer) → p.last_db ≤ LAST_DATABASE →
+    IsLogged (database_limit p.last_db changes) (Logged (p.commits + 1)) answer → IsLogged (catalog_limit None (alone p) o.changes) (Logged (p.commits + 1)) answer
+catalog_logs call o p session changes is answer low h =
+    subst (λ (l : Option Answer). IsLogged l (Logged (p.commits + 1)) answer) (sym (ap (catalog_limit None (alone p)) is ∙ refused_first (database_limit p.last_db changes))) h
+
+-- changes of records allocate no database number
+pub records_make_none : (name : List ℕ) (cs : List RecordChange) → made_by (map (λ c. change_in name c) cs) ≡ 0
+records_make_none name [] = refl
+records_make_none name (Set at value ∷ cs) = records_make_none name cs
+records_make_none name (Unset at ∷ cs) = records_make_none name cs
+
+-- the changes of records of a call, where they are some
+record_logs : (g : Target) (cs : List RecordChange) (p : Alone) (session : ℕ) (call : Call) (change : Change) (more : List Change) →
+    map (λ c. change_in g.database.name c) cs ≡ change ∷ more →
+    ((answer : Answer) → p.last_db ≤ LAST_DATABASE → IsLogged (database_limit p.last_db (change ∷ more)) (Logged (p.commits + 1)) answer →
+    IsDone cs None (alone p) (auto_active (alone p) session) (evaluated_on call g) answer)
+    × IsDone cs (Some LogFull) (alone p) (auto_active (alone p) session) (evaluated_on call g) LogFull
+    × ((answer : Answer) → changes_alone cs g p answer ≡ fate_alone (fate_of answer) (change ∷ more) p)
+record_logs g [] p session call change more is = absurd (cons-nil change more (sym is))
+record_logs g (c ∷ cs) p session call change more is = (
+  λ answer low h. subst (λ (l : Option Answer). IsLogged l (Logged (p.commits + 1)) answer)
+      (ap (database_limit p.last_db) (sym is) ∙ within (p.last_db + made_by (change_in g.database.name c ∷ map (λ c. change_in g.database.name c) cs))
+      (let none = records_make_none g.database.name (c ∷ cs) in omega (arith, low, none))) h,
+  refl,
+  λ answer. ap (λ (l : List Change). fate_alone (fate_of answer) l p) is,
+)
+
+on_logged : (number : ℕ) (o : Option Database) (d : Database) (p : Alone) (session : ℕ) (call : Call) (change : Change) (more : List Change) →
+    o ≡ Some d → (outcome_on call (option_map (target number None) o)).changes ≡ change ∷ more →
+    ((answer : Answer) → p.last_db ≤ LAST_DATABASE → IsLogged (database_limit p.last_db (change ∷ more)) (Logged (p.commits + 1)) answer →
+    IsDoneOn (option_map (target number None) o) None p session call answer)
+    × IsDoneOn (option_map (target number None) o) (Some LogFull) p session call LogFull
+    × ((answer : Answer) → target_alone (option_map (target number None) o) call p answer ≡ fate_alone (fate_of answer) (change ∷ more) p)
+on_logged number None d p session call change more there is = absurd (none-some d there)
+on_logged number (Some x) d p session call change more there is =
+    record_logs (target number None x) (evaluated_on call (target number None x)).changes p session call change more is
+
+performed_logs : (call : Call) (p : Alone) (session : ℕ) (change : Change) (more : List Change) → IsAutoCommitted call → late_refusal (alone p) session call ≡ None →
+    (performed_outcome p session call).changes ≡ change ∷ more → LogsAlone call p session (change ∷ more)
+performed_logs Lists p session change more is late e = absurd (cons-nil change more (sym e))
+performed_logs (Create db kind) p session change more is late e =
+    let o : Outcome = evaluation (Create db kind) p.store in
+    record {
+      logged = λ answer low h. catalog_logs (Create db kind) o p session (change ∷ more) e answer low h;
+      full = refl;
+      leaves = λ answer. ap (λ (l : List Change). fate_alone (fate_of answer) l p) e;
+    }
+performed_logs (Remove db) p session change more is late e =
+    let o : Outcome = evaluation (Remove db) p.store in
+    record {
+      logged = λ answer low h. catalog_logs (Remove db) o p session (change ∷ more) e answer low h;
+      full = refl;
+      leaves = λ answer. ap (λ (l : List Change). fate_alone (fate_of answer) l p) e;
+    }
+performed_logs (Rename db to) p session change more is late e =
+    let o : Outcome = evaluation (Rename db to) p.store in
+    record {
+      logged = λ answer low h. catalog_logs (Rename db to) o p session (change ∷ more) e answer low h;
+      full = refl;
+      leaves = λ answer. ap (λ (l : List Change). fate_alone (fate_of answer) l p) e;
+    }
+performed_logs (Truncate db) p session change more is late e =
+    let o : Outcome = evaluation (Truncate db) p.store in
+    record {
+      logged = λ answer low h. catalog_logs (Truncate db) o p session (change ∷ more) e answer low h;
+      full = refl;
+      leaves = λ answer. ap (λ (l : List Change). fate_alone (fate_of answer) l p) e;
+    }
+performed_logs (Get db key rmw) p session change more is late e =
+    let there = is_there _ _ (database_of db p.store) late in
+    let on = on_logged (p.numbers db) (database_of db p.store) there.0 p session (Get db key rmw) change more there.1 e in
+    record { logged = on.0; full = on.1; leaves = on.2 }
+performed_logs (GetBoth db key value rmw) p session change more is late e =
+    let there = is_there _ _ (database_of db p.store) late in
+    let on = on_logged (p.numbers db) (database_of db p.store) there.0 p session (GetBoth db key value rmw) change more there.1 e in
+    record { logged = on.0; full = on.1; leaves = on.2 }
+performed_logs (Put db key value mode) p session change more is late e =
+    let there = is_there _ _ (database_of db p.store) late in
+    let on = on_logged (p.numbers db) (database_of db p.store) there.0 p session (Put db key value mode) change more there.1 e in
+    record { logged = on.0; full = on.1; leaves = on.2 }
+performed_logs (Delete db key) p session change more is late e =
+    let there = is_there _ _ (database_of db p.store) late in
+    let on = on_logged (p.numbers db) (database_of db p.store) there.0 p session (Delete db key) change more there.1 e in
+    record { logged = on.0; full = on.1; leaves = on.2 }
+performed_logs call p session change more is late e = absurd is
+
+-- a call that changes something was not refused
+not_refused : (late : Option Answer) (o : Outcome) (change : Change) (more : List Change) → (outcome_unless late o).changes ≡ change ∷ more → (late ≡ None) × (o.changes ≡ change ∷ more)
+not_refused None o change more e = (refl, e)
+not_refused (Some refusal) o change more e = absurd (cons-nil change more (sym e))
+
+-- where a call was not refused, and no fault came before
+alone_ends : (fault : Option Fault) (late : Option Answer) (limit : Option Answer) (p : Alone) (session : ℕ) (call : Call) (answer : Answer) (after : Alone) →
+    p.fault ≡ None → late_refusal (alone p) session call ≡ None → IsPerformedAlone call limit p session answer → performed_alone call p session answer ≡ after →
+    EndsAlone limit p session call answer after
+alone_ends fault late limit p session call answer after none some may leaves = record {
+  answers = subst (λ (f : Option Fault). IsAnsweredAlone f limit p session call answer) (sym none)
+      (subst (λ (r : Option Answer). IsEvaluatedAlone r limit p session call answer) (sym some) may);
+  leaves = ap (λ (f : Option Fault). after_alone f call p session answer) none ∙ ap (λ (r : Option Answer). evaluated_alone r call p session answer) some ∙ leaves;
+}
+
+-- ---- how a call ends
+
+-- an answer that changes nothing
+pub answered_ends : (limit : Option Answer) (kept : Kept) (p : Alone) (session : ℕ) (call : Call) (answer : Answer) → p.fault ≡ None → IsAutoCommitted call →
+    IsPlanned kept p session call (Answered answer) → EndsAlone limit p session call answer (drawn_alone p)
+answered_ends limit kept p session call answer none is e =
+    let ends = refused_or_answered (late_refusal (alone p) session call) call limit p session answer is refl e in
+    record {
+      answers = subst (λ (f : Option Fault). IsAnsweredAlone f limit p session call answer) (sym none) ends.0;
+      leaves = ap (λ (f : Option Fault). after_alone f call p session answer) none ∙ ends.1;
+    }
+
+logs_alone : (kept : Kept) (p : Alone) (session : ℕ) (call : Call) (planned : PlannedChanges) → IsAutoCommitted call → (log : IsPlannedLog kept p session call planned) →
+    (late_refusal (alone p) session call ≡ None) × LogsAlone call p session (log.change ∷ log.more)
+logs_alone kept p session call planned is log =
+    let some = not_refused (late_refusal (alone p) session call) (performed_outcome p session call) log.change log.more log.changes in
+    (some.0, performed_logs call p session log.change log.more is some.0 some.1)
+
+-- the log has no room
+pub full_ends : (kept : Kept) (p : Alone) (session : ℕ) (call : Call) (planned : PlannedChanges) → p.fault ≡ None → IsAutoCommitted call →
+    IsPlannedLog kept p session call planned → EndsAlone (Some LogFull) p session call LogFull (drawn_alone p)
+full_ends kept p session call planned none is log =
+    let logs = logs_alone kept p session call planned is log in
+    alone_ends p.fault None (Some LogFull) p session call LogFull (drawn_alone p) none logs.0 logs.1.full (logs.1.leaves LogFull)
+
+-- where the log has room: an answer that the numbers let through
+some_end : (kept : Kept) (p : Alone) (session : ℕ) (call : Call) (planned : PlannedChanges) (answer : Answer) (after : Alone) → p.fault ≡ None → IsAutoCommitted call →
+    (log : IsPlannedLog kept p session call planned) → p.last_db ≤ LAST_DATABASE → IsLogged (database_limit p.last_db (log.change ∷ log.more)) (Logged (p.commits + 1)) answer →
+    fate_alone (fate_of answer) (log.change ∷ log.more) p ≡ after → EndsAlone None p session call answer after
+some_end kept p session call planned answer after none is log low may leaves =
+    let logs = logs_alone kept p session call planned is log in
+    alone_ends p.fault None None p session call answer after none logs.0 (logs.1.logged answer low may) (logs.1.leaves answer ∙ leaves)
+
+-- the last number of a database after the changes, as the model has it
+last_is : (kept : Kept) (p : Alone) (session : ℕ) (call : Call) (planned : PlannedChanges) → HasModel kept p → (log : IsPlannedLog kept p session call planned) →
+    p.last_db + made_by (log.change ∷ log.more) ≡ planned.last_db
+last_is kept p session call planned has log = ap (λ n. n + made_by (log.change ∷ log.more)) (sym has.last_db) ∙ sym log.last_db
+
+-- the changes are logged
+pub logged_ends : (kept : Kept) (p : Alone) (session : ℕ) (call : Call) (planned : PlannedChanges) → p.fault ≡ None → IsAutoCommitted call → HasModel kept p →
+    (log : IsPlannedLog kept p session call planned) → planned.last_db ≤ LAST_DATABASE →
+    EndsAlone None p session call (Logged (p.commits + 1)) (committed_alone (log.change ∷ log.more) (drawn_alone p))
+logged_ends kept p session call planned none is has log low =
+    let last = last_is kept p session call planned has log in
+    some_end kept p session call planned (Logged (p.commits + 1)) (committed_alone (log.change ∷ log.more) (drawn_alone p)) none is log (omega (arith, last, low))
+    (subst (λ (l : Option Answer). IsLogged l (Logged (p.commits + 1)) (Logged (p.commits + 1)))
+    (sym (within (p.last_db + made_by (log.change ∷ log.more)) (omega (arith, last, low)))) (inl refl)) refl
+
+-- the disk fails
+pub fault_ends : (kept : Kept) (p : Alone) (session : ℕ) (call : Call) (planned : PlannedChanges) → p.fault ≡ None → IsAutoCommitted call → HasModel kept p →
+    IsPlannedLog kept p session call planned → planned.last_db ≤ LAST_DATABASE → EndsAlone None p session call DiskFault (faulted_alone p)
+fault_ends kept p session call planned none is has log low =
+    let last = last_is kept p session call planned has log in
+    some_end kept p session call planned DiskFault (faulted_alone p) none is log (omega (arith, last, low))
+    (subst (λ (l : Option Answer). IsLogged l (Logged (p.commits + 1)) DiskFault)
+    (sym (within (p.last_db + made_by (log.change ∷ log.more)) (omega (arith, last, low)))) (inr refl)) refl
+
+-- no number is left for a database
+pub ids_ends : (kept : Kept) (p : Alone) (session : ℕ) (call : Call) (planned : PlannedChanges) → p.fault ≡ None → IsAutoCommitted call → HasModel kept p →
+    IsPlannedLog kept p session call planned → kept.last_db ≤ LAST_DATABASE → LAST_DATABASE < planned.last_db → EndsAlone None p session call IdsEnded (drawn_alone p)
+ids_ends kept p session call planned none is has log low over =
+    let last = last_is kept p session call planned has log in
+    let last_db = has.last_db in
+    some_end kept p session call planned IdsEnded (drawn_alone p) none is log (omega (arith, last_db, low))
+    (subst (λ (l : Option Answer). IsLogged l (Logged (p.commits + 1)) IdsEnded)
+    (sym (past (p.last_db + made_by (log.change ∷ log.more)) (omega (arith, last, over)))) refl) refl
+
+-- after a fault
+pub invalid_ends : (limit : Option Answer) (p : Alone) (session : ℕ) (call : Call) (first : Fault) → p.fault ≡ Some first → EndsAlone limit p session call (Invalid first) p
+invalid_ends limit p session call first is = record {
+  answers = subst (λ (f : Option Fault). IsAnsweredAlone f limit p session call (Invalid first)) (sym is) refl;
+  leaves = ap (λ (f : Option Fault). after_alone f call p session (Invalid first)) is;
+}
+
+-- no number is left for a transaction
+no_number : (last : ℕ) → LAST_TXN ≤ last → nat_lt last LAST_TXN ≡ false
+no_number last h = by_test (nat_lt last LAST_TXN) refl
+  where
+    by_test : (b : Bool) → nat_lt last LAST_TXN ≡ b → b ≡ false
+    by_test true e = let under = ltb-true last LAST_TXN e in absurd (omega (arith, under, h))
+    by_test false e = refl
+
+pub no_number_ends : (limit : Option Answer) (p : Alone) (session : ℕ) (call : Call) → p.fault ≡ None → LAST_TXN ≤ p.last_txn → EndsAlone limit p session call IdsEnded p
+no_number_ends limit p session call none over =
+    let test = no_number p.last_txn over in
+    let late : late_refusal (alone p) session call ≡ Some IdsEnded =
+    ap (λ (b : Bool). or_refusal (cond b None (Some IdsEnded)) (or_refusal (there_refusal (alone p) session call) (or_refusal (name_refusal (alone p) session call) (target_refusal call (target_of (alone p) session call))))) test in
+    let at : ℕ → Alone = λ last. record p { last_txn = last } in
+    record {
+      answers = subst (λ (f : Option Fault). IsAnsweredAlone f limit p session call IdsEnded) (sym none)
+          (subst (λ (r : Option Answer). IsEvaluatedAlone r limit p session call IdsEnded) (sym late) refl);
+      leaves = ap (λ (f : Option Fault). after_alone f call p session IdsEnded) none ∙ ap (λ (r : Option Answer). evaluated_alone r call p session IdsEnded) late
+          ∙ ap (λ (b : Bool). at (cond b (p.last_txn + 1) p.last_txn)) test;
+    }
