@@ -1,5 +1,5 @@
 -- What a call of a valid environment that is a transaction of its own comes to, from the records in memory.
-use Rattle.std.specs.Prelude.{ℕ, ◌≡◌, ◌<◌, ◌+◌, ◌^◌, ◌∷◌, List, Option, Some, None, true, map}
+use Rattle.std.specs.Prelude.{ℕ, ◌≡◌, ◌<◌, ◌≤◌, ◌+◌, ◌^◌, ◌∷◌, List, Option, Some, None, true, map}
 use Rattle.std.specs.List.{AllByRecursion}
 use Rattle.store_model.specs.declared.store.TheConstants.{LAST_TXN}
 use Rattle.store_model.specs.declared.call.Call.{Call}
@@ -15,7 +15,7 @@ use Rattle.je_answers.specs.Views.{Target, target_of, changes_on}
 use Rattle.je_answers.specs.Refusals.{late_refusal}
 use Rattle.je_answers.specs.Alone.{Alone, alone, evaluated_on, IsAnsweredAlone, after_alone}
 use Rattle.log_entry.specs.Body.{IsEntry}
-use Rattle.log_replay.specs.Rows.{RowChange, rows_in, store_of, is_environment, IsRising}
+use Rattle.log_replay.specs.Rows.{RowChange, rows_in, store_of, numbers_of, is_environment, IsRising}
 use Rattle.log_replay.specs.Kept.{AllMayBeLogged}
 use Rattle.log_replay.specs.Logging.{all_row_changes, row_entry}
 use Rattle.engine.specs.declared.kept.Kept.{Kept}
@@ -51,10 +51,13 @@ outcome_alone p session call = outcome_unless (late_refusal (alone p) session ca
 abbrev pub row_by : ℕ → PlannedRow → RowChange
 row_by txn row = record { txn = txn; db = row.db; name = row.name; value = row.value }
 
--- what a plan needs of what is kept: the records are those of an environment, the totals those of its store, and a transaction number is left
+-- what a plan needs of what is kept: the records are those of an environment, with no later number than the last one, the totals are those of
+-- its store, and a transaction number is left
 pub record CanPlan (kept : Kept) : Type 0 where
   pub environment : is_environment (rows_in kept.rows) ≡ true
   pub rising : (db : ℕ) → IsRising (rows_in kept.rows db)
+  pub unused : (db : ℕ) → kept.last_db < db → rows_in kept.rows db ≡ []
+  pub numbers : AllByRecursion (λ n. n ≤ kept.last_db) (numbers_of (rows_in kept.rows))
   pub totals : kept.totals ≡ totals_of (store_of (rows_in kept.rows))
   pub last_txn : kept.last_txn < LAST_TXN
 
