@@ -1,5 +1,5 @@
 -- What a call of a valid environment that is a transaction of its own comes to, from the records in memory.
-use Rattle.std.specs.Prelude.{ℕ, ◌≡◌, ◌<◌, ◌≤◌, ◌+◌, ◌^◌, ◌∷◌, List, Option, Some, None, true, map}
+use Rattle.std.specs.Prelude.{ℕ, ◌≡◌, ◌<◌, ◌≤◌, ◌+◌, ◌^◌, ◌∷◌, [], List, Option, Some, None, true, map}
 use Rattle.std.specs.List.{AllByRecursion}
 use Rattle.store_model.specs.declared.store.TheConstants.{LAST_TXN}
 use Rattle.store_model.specs.declared.call.Call.{Call}
