@@ -2,7 +2,7 @@
 pub mod Counts
 -- The store that a log's files mean.
 pub mod LogStores
--- What a call of a valid environment comes to is what the model answers.
+-- What a call of a valid environment comes to is what the model answers, and how it ends.
 pub mod PlanLaws
 -- A log's end moves on with each entry.
 pub mod FlipLaws

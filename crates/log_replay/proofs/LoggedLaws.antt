@@ -57,7 +57,7 @@ pub catalog_kind-record : (number : ℕ) (kind : Kind) → number < 2 ^ 32 → c
 catalog_kind-record number kind fits = ap kind_or_plain (db_record_in-again (record_for number kind) (record_fits number kind fits)) ∙ kind-again kind number
 
 -- a record with a number is that of the number and the kind
-record-again : (o : Option DbRecord) → number_or_0 o ≢ 0 → o ≡ Some (record_for (number_or_0 o) (kind_or_plain o))
+pub record-again : (o : Option DbRecord) → number_or_0 o ≢ 0 → o ≡ Some (record_for (number_or_0 o) (kind_or_plain o))
 record-again None has = absurd (has refl)
 record-again (Some r) has = by_kind r.kind refl
   where

@@ -84,7 +84,7 @@ pair_for-is Plain at value = refl
 pair_for-is Dup at value = refl
 
 -- right records, one by one
-each_right : (kind : Kind) (rows : List Row) → are_right kind rows ≡ true → AllByRecursion (λ r. name_of kind (pair_of kind r) ≡ r.0) rows
+pub each_right : (kind : Kind) (rows : List Row) → are_right kind rows ≡ true → AllByRecursion (λ r. name_of kind (pair_of kind r) ≡ r.0) rows
 each_right kind rows right =
     all_weaker (λ (r : Row). is_right_row kind r ≡ true) (λ r. name_of kind (pair_of kind r) ≡ r.0) (λ r e. name_of-right kind r e) rows
     (all_true (is_right_row kind) rows right)

@@ -44,7 +44,7 @@ catalog-any txn [] rows = refl
 catalog-any txn (PutRecord db row ∷ changes) rows = catalog-any txn changes (row_changed (catalog_row_change 0 (PutRecord db row)) rows)
 catalog-any txn (DeleteRecord db ∷ changes) rows = catalog-any txn changes (row_changed (catalog_row_change 0 (DeleteRecord db)) rows)
 
-any_txn : (txn last_db : ℕ) (change : Change) (rows : Rows) → rows_changed (row_changes txn last_db change rows) rows ≡ rows_changed (row_changes 0 last_db change rows) rows
+pub any_txn : (txn last_db : ℕ) (change : Change) (rows : Rows) → rows_changed (row_changes txn last_db change rows) rows ≡ rows_changed (row_changes 0 last_db change rows) rows
 any_txn txn last_db (Set db at value) rows = refl
 any_txn txn last_db (Unset db at) rows = refl
 any_txn txn last_db (Make db kind) rows = catalog-any txn (logged_as (record_named rows) (last_db + 1) (Make db kind)) rows
@@ -53,7 +53,7 @@ any_txn txn last_db (Rename db to) rows = catalog-any txn (logged_as (record_nam
 any_txn txn last_db (Empty db) rows = catalog-any txn (logged_as (record_named rows) (last_db + 1) (Empty db)) rows
 
 -- what several changes leave, one after another
-abbrev rows_after : ℕ → ℕ → List Change → Rows → Rows
+abbrev pub rows_after : ℕ → ℕ → List Change → Rows → Rows
 rows_after txn last_db changes rows = rows_changed (all_row_changes txn last_db changes rows) rows
 
 rows_after-next : (txn last_db : ℕ) (change : Change) (changes : List Change) (rows : Rows) →
@@ -175,7 +175,7 @@ rising-changes [] rows up db = up db
 rising-changes (c ∷ cs) rows up db = rising-changes cs (row_changed c rows) (λ d. rising-row_changed c rows d (up d)) db
 
 -- records stay right, and no number is taken back
-sound-after : (txn last_db : ℕ) (change : Change) (rows : Rows) → IsSound rows last_db → MayBeLogged rows last_db change →
+pub sound-after : (txn last_db : ℕ) (change : Change) (rows : Rows) → IsSound rows last_db → MayBeLogged rows last_db change →
     IsSound (rows_changed (row_changes txn last_db change rows) rows) (last_db_after last_db change)
 sound-after txn last_db change rows sound may =
     let after : ℕ = last_db_after last_db change in
@@ -202,12 +202,12 @@ made-more (Rename db to) changes = omega arith
 made-more (Empty db) changes = omega arith
 
 -- what several changes of the store leave
-record IsLeft (changes : List Change) (last_db : ℕ) (old new : Rows) : Type 0 where
-  sound : IsSound new (last_db + made_by changes)
-  store : store_of new ≡ all_changed changes (store_of old)
-  numbers : number_named new ≡ all_numbered changes last_db (number_named old)
+pub record IsLeft (changes : List Change) (last_db : ℕ) (old new : Rows) : Type 0 where
+  pub sound : IsSound new (last_db + made_by changes)
+  pub store : store_of new ≡ all_changed changes (store_of old)
+  pub numbers : number_named new ≡ all_numbered changes last_db (number_named old)
 
-left : (last_db : ℕ) (changes : List Change) (rows : Rows) → IsSound rows last_db → AllMayBeLogged rows last_db changes → IsLeft changes last_db rows (rows_after 0 last_db changes rows)
+pub left : (last_db : ℕ) (changes : List Change) (rows : Rows) → IsSound rows last_db → AllMayBeLogged rows last_db changes → IsLeft changes last_db rows (rows_after 0 last_db changes rows)
 left last_db [] rows sound may = record { sound = subst (IsSound rows) (omega arith) sound; store = refl; numbers = refl }
 left last_db (change ∷ changes) rows sound may =
     let next : Rows = rows_changed (row_changes 0 last_db change rows) rows in

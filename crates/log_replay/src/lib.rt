@@ -30,6 +30,6 @@ pub use laws::{changes_are_logged, kept_is_right, logs_are_read, transactions_ar
 pub use log_read::{LogRead, ReadLog};
 pub use numbers::{kind_of, number_of};
 pub use reading::read_log;
-pub use record_map::SortKey;
+pub use record_map::{Data, EdgeRef, SortKey};
 pub use replayed::{Replayed, new_environment};
 pub use rows::Rows;

@@ -1,6 +1,7 @@
 // The records of an environment.
-ghost use Rattle.std.specs.Prelude.{◌≡◌, ◌==◌, true, ℕ, [], length, Option, None, Some, IfOk, OnOk, OnErr, option_copied, map, filter, not, if◌then◌else◌};
+ghost use Rattle.std.specs.Prelude.{◌≡◌, ◌==◌, true, ℕ, [], length, Option, None, Some, IfSome, IfOk, OnOk, OnErr, option_copied, option_map, map, filter, not, if◌then◌else◌};
 ghost use Rattle.std.specs.List.{list_all};
+ghost use Rattle.record_map.specs.Cells.{first_of, last_of, from_edge, below_edge, edge_of};
 ghost use Rattle.log_replay.specs.Rows.{IsRising, RowChange, rows_in, rows_put, row_changed, data_at, are_right, pair_of, is_catalog_row, store_of};
 ghost use Rattle.log_replay.specs.Wrong.{least, lesser as lesser_of, numbered_by, wrong_in_catalog, wrong_in, wrong_under, wrong_database, wrong_record};
 ghost use Rattle.log_replay.specs.declared.numbered.Numbered.{Numbered as Found};
@@ -10,8 +11,8 @@ use crate::named::Named;
 use crate::numbered::Numbered;
 use crate::place::Place;
 use crate::table::Table;
-use je_order::{List, Name, Octets};
-use record_map::{Data, SortKey};
+use je_order::{List, Name, Octets, Word};
+use record_map::{Data, EdgeRef, SortKey};
 use std::alloc::{AllocError, Global};
 use std::collections::BTreeMap;
 use std::marker::Model;
@@ -75,6 +76,49 @@ impl Rows {
         match self.databases.get(&db) {
             Some(table) => table.get(name),
             None => None,
+        }
+    }
+
+    /// The record of the name in the database of that number, as it is held, and None where there is no
+    /// such record.
+    pub fn record(&self, db: u32, name: &SortKey) -> Option<(&SortKey, &Data)>
+        ensures name { IfSome result (λ p. p.0.now ≡ name.now) }
+        ensures value { option_map (λ p. p.1.now) result ≡ data_at name.now (rows_in self.now db) }
+    {
+        match self.databases.get(&db) {
+            Some(table) => table.record(name),
+            None => None,
+        }
+    }
+
+    /// The first record that is not below the edge, in the database of that number.
+    pub fn next(&self, db: u32, from: EdgeRef<'_>) -> Option<(&SortKey, &Data)>
+        ensures { option_map (λ p. (p.0.now, p.1.now)) result ≡ first_of (from_edge (edge_of from.entry) (rows_in self.now db)) }
+    {
+        match self.databases.get(&db) {
+            Some(table) => table.next(from),
+            None => None,
+        }
+    }
+
+    /// The last record that is below the edge, in the database of that number.
+    pub fn last_below(&self, db: u32, upto: EdgeRef<'_>) -> Option<(&SortKey, &Data)>
+        ensures { option_map (λ p. (p.0.now, p.1.now)) result ≡ last_of (below_edge (edge_of upto.entry) (rows_in self.now db)) }
+    {
+        match self.databases.get(&db) {
+            Some(table) => table.last_below(upto),
+            None => None,
+        }
+    }
+
+    /// The names of the databases that the catalog has, where it is right, in order.
+    pub fn names(&self, alloc: Global) -> Result<List<Word>, AllocError>
+        requires { list_all is_catalog_row (rows_in self.now 0) ≡ true }
+        ensures { IfOk result (λ names. names ≡ map (λ r. r.0.key) (rows_in self.now 0)) }
+    {
+        match self.databases.get(&CATALOG) {
+            Some(table) => table.names(alloc),
+            None => Ok(List::new(alloc)),
         }
     }
 

@@ -1,5 +1,6 @@
 // The records of one database.
-ghost use Rattle.std.specs.Prelude.{◌≡◌, true, ℕ, List as Items, [], length, Option, None, Some, IfOk, OnOk, OnErr, option_copied, map};
+ghost use Rattle.std.specs.Prelude.{◌≡◌, true, ℕ, List as Items, [], length, Option, None, Some, IfSome, IfOk, OnOk, OnErr, option_copied, option_map, map};
+ghost use Rattle.record_map.specs.Cells.{first_of, last_of, from_edge, below_edge, edge_of};
 ghost use Rattle.log_replay.specs.Rows.{IsRising, rows_with, rows_put, data_at, is_right_row as is_right_for, are_right, pair_of, is_catalog_row, catalog_number};
 ghost use Rattle.log_replay.specs.Wrong.{is_right_behind, wrong_in_catalog as wrong_in_catalog_rows, wrong_in as wrong_in_rows, numbered_by};
 ghost use Rattle.log_replay.specs.Opening.{named_by};
@@ -12,10 +13,11 @@ use crate::named::Named;
 use crate::numbered::Numbered;
 use crate::numbers::{kind_of, number_of};
 use je_order::{List, Name, Octets, Word};
-use record_map::{Data, SortKey};
+use record_map::{Data, EdgeRef, SortKey};
 use std::alloc::{AllocError, Global};
 use std::collections::BTreeMap;
 use std::marker::Model;
+use std::ops::Bound;
 use store_model::{DUP_LIMIT, Kind, MOST_DATABASES};
 
 /// How many puts are at least put in order before they go in.
@@ -97,6 +99,14 @@ fn named_in(alloc: Global, name: &SortKey, data: &Data) -> Result<Named, AllocEr
     })
 }
 
+// The name of the database that a record of a right catalog names.
+fn word_in(alloc: Global, name: &SortKey) -> Result<Word, AllocError>
+    requires { (held : Items ℕ) × (is_catalog_row (name.now, held) ≡ true) }
+    ensures { IfOk result (λ word. word ≡ name.now.key) }
+{
+    Word::from_slice(alloc, name.key())
+}
+
 // The number and the kind in a record of a catalog.
 fn numbered_in(data: &Data) -> Numbered
     ensures { (name : AnyName) → result ≡ numbered_by (name, «data».now) }
@@ -149,6 +159,44 @@ impl Table {
             Some(data) => Some(data.as_slice()),
             None => None,
         }
+    }
+
+    /// The record of the name, as it is held, and None where there is no such record.
+    pub(crate) fn record(&self, name: &SortKey) -> Option<(&SortKey, &Data)>
+        ensures name { IfSome result (λ p. p.0.now ≡ name.now) }
+        ensures value { option_map (λ p. p.1.now) result ≡ data_at name.now self.now }
+    {
+        self.records.get_key_value(name)
+    }
+
+    /// The first record that is not below the edge.
+    #[tactic(auto, using(record_map::proofs::EdgeLaws::none_from_end))]
+    pub(crate) fn next(&self, from: EdgeRef<'_>) -> Option<(&SortKey, &Data)>
+        ensures { option_map (λ p. (p.0.now, p.1.now)) result ≡ first_of (from_edge (edge_of from.entry) self.now) }
+    {
+        let Table { records } = self;
+        let start = match from {
+            EdgeRef::First => Bound::Unbounded,
+            EdgeRef::At(name) => Bound::Included(name),
+            EdgeRef::Behind(name) => Bound::Excluded(name),
+            EdgeRef::End => return None,
+        };
+        records.range((start, Bound::Unbounded)).next()
+    }
+
+    /// The last record that is below the edge.
+    #[tactic(auto, using(record_map::proofs::EdgeLaws::none_below_first, record_map::proofs::EdgeLaws::last_is))]
+    pub(crate) fn last_below(&self, upto: EdgeRef<'_>) -> Option<(&SortKey, &Data)>
+        ensures { option_map (λ p. (p.0.now, p.1.now)) result ≡ last_of (below_edge (edge_of upto.entry) self.now) }
+    {
+        let Table { records } = self;
+        let end = match upto {
+            EdgeRef::First => return None,
+            EdgeRef::At(name) => Bound::Excluded(name),
+            EdgeRef::Behind(name) => Bound::Included(name),
+            EdgeRef::End => Bound::Unbounded,
+        };
+        records.range((Bound::Unbounded, end)).next_back()
     }
 
     /// Sets the name to the data. Running out of memory changes nothing.
@@ -250,6 +298,18 @@ impl Table {
             pairs.push(pair_in(alloc, kind, key, data)?)?;
         }
         Ok(List::from_vec(pairs))
+    }
+
+    /// The names of the databases of a right catalog, in order.
+    pub(crate) fn names(&self, alloc: Global) -> Result<List<Word>, AllocError>
+        requires { list_all is_catalog_row self.now ≡ true }
+        ensures { IfOk result (λ names. names ≡ map (λ r. r.0.key) self.now) }
+    {
+        let mut names = Vec::new(alloc);
+        for (key, _data) in &self.records {
+            names.push(word_in(alloc, key)?)?;
+        }
+        Ok(List::from_vec(names))
     }
 
     /// The databases that the records name, which are those of a right catalog, in order.
