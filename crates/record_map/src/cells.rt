@@ -117,8 +117,8 @@ impl Cells {
         let Cells { cells } = self;
         let start = match from {
             EdgeRef::First => Bound::Unbounded,
-            EdgeRef::At(name) => Bound::Included(name),
-            EdgeRef::Behind(name) => Bound::Excluded(name),
+            EdgeRef::At(low) => Bound::Included(low),
+            EdgeRef::Behind(low) => Bound::Excluded(low),
             EdgeRef::End => return None,
         };
         Some(cells.range((start, Bound::Unbounded)))
@@ -134,8 +134,8 @@ impl Cells {
         let Cells { cells } = self;
         let end = match upto {
             EdgeRef::First => return None,
-            EdgeRef::At(name) => Bound::Excluded(name),
-            EdgeRef::Behind(name) => Bound::Included(name),
+            EdgeRef::At(high) => Bound::Excluded(high),
+            EdgeRef::Behind(high) => Bound::Included(high),
             EdgeRef::End => Bound::Unbounded,
         };
         Some(cells.range((Bound::Unbounded, end)))
