@@ -3,9 +3,10 @@ use Rattle.std.proofs.Common.{◌≡◌, ◌≢◌, ℕ, ◌<◌, ◌≤◌, ◌
 use Rattle.std.proofs.lemmas.Bool.{cases_Bool, cond-true, cond-false}
 use Rattle.je_order.specs.Counts.{HasRisen, HasRisen as Failing}
 use Rattle.je_disk.specs.States.{Files}
-use Rattle.je_model.specs.declared.event.Event.{Event}
-use Rattle.je_model.specs.declared.plan.RunPlan.{RunPlan}
-use Rattle.je_model.specs.Journal.{is_disk_fault, has_answer}
+use Rattle.store_model.specs.declared.event.Event.{Event}
+use Rattle.store_model.specs.declared.plan.RunPlan.{RunPlan}
+use Rattle.store_model.specs.Journal.{is_disk_fault}
+use Rattle.je_answers.specs.Journal.{has_answer}
 use Rattle.log_file.proofs.FilesLaws.{are_one_list}
 use Rattle.log_replay.specs.declared.corruption.Corruption.{Corruption}
 use Rattle.log_replay.specs.Meaning.{Meaning}

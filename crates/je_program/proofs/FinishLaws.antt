@@ -1,52 +1,32 @@
 -- The end of a run.
-use Rattle.std.proofs.Common.{◌≡◌, ◌≢◌, ℕ, ◌≤◌, ◌||◌, nat_le, Bool, true, false, List, [], ◌∷◌, None, refl, ap, sym, ◌∙◌, subst, inl, inr, ⊎_elim, arith}
+use Rattle.std.proofs.Common.{◌≡◌, ◌≢◌, ℕ, ◌≤◌, nat_le, Bool, true, false, List, [], ◌∷◌, Option, Some, refl, ap, sym, ◌∙◌, subst, inl, inr, ⊎_elim, arith}
 use Rattle.std.proofs.lemmas.Bool.{cases_Bool, cond-true, cond-false, le-leb, or_left, true≢false}
 use Rattle.std.specs.List.{list_any}
 use Rattle.je_order.specs.Counts.{HasRisen}
-use Rattle.je_model.specs.declared.store.Store.{Store}
-use Rattle.je_model.specs.declared.event.Event.{Event}
-use Rattle.je_model.specs.declared.event.Event.TheVariants.{Call as Called, SyncBegin, SyncEnd}
-use Rattle.je_model.specs.declared.answer.Answer.{Answer}
-use Rattle.je_model.specs.declared.answer.Answer.TheVariants.{Done as Synced, Logged, Durable, LogFull as LogFullAnswer, IdsEnded as IdsEndedAnswer, DiskFault}
-use Rattle.je_model.specs.Store.{store_after}
-use Rattle.je_model.specs.Answers.{Standing, after_event, after_events}
-use Rattle.je_model.specs.Journal.{answer_of, is_disk_fault, has_answer, acknowledges, AllAcknowledged, AreSyncedAtOnce, ComesLater, IsSyncedAtOnce, IsSyncedBy, commits_of}
-use Rattle.je_model.proofs.JournalLaws.{store-after_events}
+use Rattle.store_model.specs.declared.durability.Durability.{Durability}
+use Rattle.store_model.specs.declared.event.Event.{Event}
+use Rattle.store_model.specs.declared.event.Event.TheVariants.{Call as Called, Resume, SyncBegin, SyncEnd}
+use Rattle.store_model.specs.declared.answer.Answer.{Answer}
+use Rattle.store_model.specs.declared.answer.Answer.TheVariants.{Done as Synced, Logged, Durable, LogFull as LogFullAnswer, IdsEnded as IdsEndedAnswer, DiskFault}
+use Rattle.store_model.specs.Journal.{acknowledges, answer_of, answers_some, is_disk_fault}
+use Rattle.je_answers.specs.Standing.{Standing, active_of}
+use Rattle.je_answers.specs.After.{after_event}
+use Rattle.je_answers.specs.Journal.{has_answer, durability_of, AllAcknowledged, AreSyncedAtOnce, ComesLater, IsSyncedAtOnce, IsSyncedBy}
 use Rattle.log_replay.specs.declared.corruption.Corruption.{Corruption}
 use Rattle.je_program.specs.declared.cause.Cause.{Cause}
 use Rattle.je_program.specs.declared.cause.Cause.TheVariants.{Done, Disk, Unreadable, Memory, LogFull, IdsEnded}
-use Rattle.engine.specs.Environment.{log_rule}
 use Rattle.engine.proofs.Counts.{rose_earlier, rose_later}
-use Rattle.je_program.specs.Program.{cause_closed, final_store, ClosesBy, ClosesRun, EndsBy, RunsIf, is_before_disk}
+use Rattle.je_program.specs.Program.{cause_closed, ClosesBy, ClosesRun, EndsBy, RunsIf, is_before_disk}
 use Rattle.je_program.specs.Run.{IsCaused, cause_of_journal, cause_of_room, cause_of_answer}
-
--- a valid environment stays valid under an event that is no disk fault
-valid_after : (most : ℕ) (st : Standing) (event : Event) → st.fault ≡ None → is_disk_fault (answer_of event) ≡ false → (after_event (log_rule most) st event).fault ≡ None
-valid_after most st (Called session line call DiskFault) none h = cc
-valid_after most st (Called session line call answer) none h = none
-valid_after most st (SyncBegin DiskFault) none h = cc
-valid_after most st (SyncBegin answer) none h = none
-valid_after most st (SyncEnd DiskFault) none h = cc
-valid_after most st (SyncEnd answer) none h = none
-
-or_false : (a b : Bool) → (a || b) ≡ false → (a ≡ false) × (b ≡ false)
-or_false true b h = cc
-or_false false b h = (refl, h)
-
--- and under events that are none
-pub valid_afterwards : (most : ℕ) (st : Standing) (events : List Event) → st.fault ≡ None → has_answer is_disk_fault events ≡ false → (after_events (log_rule most) st events).fault ≡ None
-valid_afterwards most st [] none h = none
-valid_afterwards most st (event ∷ events) none h =
-    let parts = or_false (is_disk_fault (answer_of event)) (has_answer is_disk_fault events) h in
-    valid_afterwards most (after_event (log_rule most) st event) events (valid_after most st event none parts.0) parts.1
+use Rattle.je_program.proofs.FaultLaws.{or_false}
 
 -- the cause that room gives is no disk fault
 room_is_none : (events : List Event) → cause_of_room events ≢ Disk
 room_is_none [] = λ e. cc
 room_is_none (event ∷ events) = room_step (answer_of event) (cause_of_room events) (room_is_none events) where
-  room_step : (answer : Answer) (later : Cause) → later ≢ Disk → cause_of_answer answer later ≢ Disk
-  room_step LogFullAnswer later h = λ e. cc
-  room_step IdsEndedAnswer later h = λ e. cc
+  room_step : (answer : Option Answer) (later : Cause) → later ≢ Disk → cause_of_answer answer later ≢ Disk
+  room_step (Some LogFullAnswer) later h = λ e. cc
+  room_step (Some IdsEndedAnswer) later h = λ e. cc
   room_step answer later h = h
 
 -- a journal ends in a disk fault exactly where it has one
@@ -68,31 +48,28 @@ no_fault_of_cause journal h =
       disk_is_not_done : Disk ≡ Done → ⊥
       disk_is_not_done e = cc
 
--- the store that a run leaves is the opening one changed by its commits
-pub final_is : (most : ℕ) (st : Standing) (opening : Store) (journal : List Event) → st.store ≡ opening → (after_events (log_rule most) st journal).store ≡ final_store opening journal
-final_is most st opening journal same =
-    store-after_events (log_rule most) st journal ∙ ap (λ (s : Store). store_after s (commits_of s journal)) same
-
 -- without a disk fault, the sync that follows a commit at once acknowledges it
-acknowledged_by : (commit : ℕ) (later : List Event) → has_answer is_disk_fault later ≡ false → IsSyncedBy commit later → list_any (acknowledges commit) later ≡ true
-acknowledged_by commit later none h =
+acknowledged_by : (durability : Durability) (commit : ℕ) (later : List Event) → has_answer is_disk_fault later ≡ false → IsSyncedBy commit later →
+    list_any (acknowledges durability commit) later ≡ true
+acknowledged_by durability commit later none h =
     ⊎_elim
-    (λ (e : later ≡ SyncBegin Synced ∷ SyncEnd (Durable commit) ∷ h.0). ap (list_any (acknowledges commit)) e ∙ or_left (nat_le commit commit) (list_any (acknowledges commit) h.0) (le-leb commit commit (omega arith)))
+    (λ (e : later ≡ SyncBegin Synced ∷ SyncEnd (Durable commit) ∷ h.0). ap (list_any (acknowledges durability commit)) e ∙ or_left (nat_le commit commit) (list_any (acknowledges durability commit) h.0) (le-leb commit commit (omega arith)))
     (λ f. ⊎_elim
     (λ (e : later ≡ SyncBegin Synced ∷ SyncEnd DiskFault ∷ h.0). absurd (true≢false (sym (ap (has_answer is_disk_fault) e) ∙ none)))
     (λ (e : later ≡ SyncBegin DiskFault ∷ h.0). absurd (true≢false (sym (ap (has_answer is_disk_fault) e) ∙ none)))
     f)
     h.1
 
-later_acknowledged : (event : Event) (later : List Event) → has_answer is_disk_fault later ≡ false → IsSyncedAtOnce event later → ComesLater acknowledges event later
-later_acknowledged (Called session line call (Logged commit)) later none h = acknowledged_by commit later none h
-later_acknowledged event later none h = tt
+later_acknowledged : (st : Standing) (event : Event) (later : List Event) → has_answer is_disk_fault later ≡ false → IsSyncedAtOnce event later → ComesLater st event later
+later_acknowledged st (Called session line call (Logged commit) victims) later none h = acknowledged_by (durability_of (active_of session st.actives)) commit later none h
+later_acknowledged st (Resume session line (Logged commit) victims) later none h = acknowledged_by (durability_of (active_of session st.actives)) commit later none h
+later_acknowledged st event later none h = tt
 
-pub all_acknowledged : (journal : List Event) → has_answer is_disk_fault journal ≡ false → AreSyncedAtOnce journal → AllAcknowledged journal
-all_acknowledged [] none synced = tt
-all_acknowledged (event ∷ events) none synced =
-    let parts = or_false (is_disk_fault (answer_of event)) (has_answer is_disk_fault events) none in
-    (later_acknowledged event events parts.1 synced.0, all_acknowledged events parts.1 synced.1)
+pub all_acknowledged : (st : Standing) (journal : List Event) → has_answer is_disk_fault journal ≡ false → AreSyncedAtOnce journal → AllAcknowledged st journal
+all_acknowledged st [] none synced = tt
+all_acknowledged st (event ∷ events) none synced =
+    let parts = or_false (answers_some is_disk_fault event) (has_answer is_disk_fault events) none in
+    (later_acknowledged st event events parts.1 synced.0, all_acknowledged (after_event st event) events parts.1 synced.1)
 
 -- closing keeps what is known of faults
 pub closes_run : (before mid after : ℕ) (journal : List Event) (memory_ended : Bool) (old new : Cause) → IsCaused before mid journal → ClosesBy mid after old new → mid ≤ after →
@@ -136,9 +113,9 @@ IsRanCause cause = ⊥
 room_ran : (events : List Event) → IsRanCause (cause_of_room events)
 room_ran [] = tt
 room_ran (event ∷ events) = room_step (answer_of event) (cause_of_room events) (room_ran events) where
-  room_step : (answer : Answer) (later : Cause) → IsRanCause later → IsRanCause (cause_of_answer answer later)
-  room_step LogFullAnswer later h = tt
-  room_step IdsEndedAnswer later h = tt
+  room_step : (answer : Option Answer) (later : Cause) → IsRanCause later → IsRanCause (cause_of_answer answer later)
+  room_step (Some LogFullAnswer) later h = tt
+  room_step (Some IdsEndedAnswer) later h = tt
   room_step answer later h = h
 
 journal_ran : (journal : List Event) → IsRanCause (cause_of_journal journal)
@@ -191,10 +168,10 @@ caused_earlier before mid after journal earlier caused = record {
 }
 
 -- where a run is done, each commit is acknowledged
-pub done_acknowledged : (journal : List Event) (cause : Cause) → cause ≡ Done → EndsBy journal cause → AreSyncedAtOnce journal → AllAcknowledged journal
-done_acknowledged journal cause done ends settled =
+pub done_acknowledged : (st : Standing) (journal : List Event) (cause : Cause) → cause ≡ Done → EndsBy journal cause → AreSyncedAtOnce journal → AllAcknowledged st journal
+done_acknowledged st journal cause done ends settled =
     ⊎_elim
-    (λ (e : cause ≡ cause_of_journal journal). all_acknowledged journal (no_fault_of_cause journal (sym e ∙ done)) settled)
+    (λ (e : cause ≡ cause_of_journal journal). all_acknowledged st journal (no_fault_of_cause journal (sym e ∙ done)) settled)
     (λ (e : cause ≡ Disk). absurd (disk_not_done (sym e ∙ done)))
     ends where
       disk_not_done : Disk ≡ Done → ⊥
@@ -204,9 +181,6 @@ pub done_is_no_memory : (cause : Cause) → cause ≡ Done → cause ≢ Memory
 done_is_no_memory cause done = λ e. done_not_memory (sym done ∙ e) where
   done_not_memory : Done ≡ Memory → ⊥
   done_not_memory e = cc
-
-pub done_opened : (cause : Cause) (opened : Bool) → cause ≡ Done → RunsIf cause opened → opened ≡ true
-done_opened cause opened done runs = subst (λ (c : Cause). RunsIf c opened) done runs
 
 -- ---- closing
 

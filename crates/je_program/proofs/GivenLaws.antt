@@ -2,15 +2,33 @@
 use Rattle.std.proofs.Common.{◌≡◌, ℕ, zero, suc, replicate, ◌<◌, ◌==◌, Bool, true, false, List, [], ◌∷◌, ◌++◌, length, set, get_or, refl, ap, sym, ◌∙◌, subst, ⊎_elim, append_assoc, get_or-set_same, get_or-set_other}
 use Rattle.std.proofs.lemmas.List.{append-nil}
 use Rattle.std.proofs.lemmas.List.Elements.{filter-append}
+use Rattle.std.proofs.lemmas.Grind.{flat_map-append}
 use Rattle.std.specs.List.{list_all}
 use Rattle.std.proofs.lemmas.Bool.{and_parts, cases_Bool, cond-false, eqb-true, eqb-false, ne_eqb, true≢false}
-use Rattle.je_model.specs.declared.call.Call.{Call}
-use Rattle.je_model.specs.declared.event.Event.{Event}
-use Rattle.je_model.specs.declared.plan.ScriptLine.{ScriptLine}
-use Rattle.je_model.specs.declared.plan.ScriptLine.TheVariants.{Session}
-use Rattle.je_model.specs.Journal.{lines_of}
-use Rattle.script_text.specs.Grammar.{is_line}
+use Rattle.store_model.specs.declared.call.Call.{Call}
+use Rattle.store_model.specs.declared.call.Call.TheVariants.{List as Lists, Create, Remove, Rename, Truncate, Get, Put, Delete}
+use Rattle.store_model.specs.declared.event.Event.{Event}
+use Rattle.store_model.specs.declared.plan.ScriptLine.{ScriptLine}
+use Rattle.store_model.specs.declared.plan.ScriptLine.TheVariants.{Session}
+use Rattle.je_answers.specs.Alone.{IsAutoCommitted}
+use Rattle.je_answers.specs.Journal.{line_of, lines_of}
+use Rattle.script_text.specs.Grammar.{has_line, is_line}
 use Rattle.je_program.specs.Run.{HasGiven, AreFirstLines, of_session, is_of_session}
+
+-- the call of a line is a transaction of its own
+pub line_is_auto : (call : Call) → has_line call ≡ true → IsAutoCommitted call
+line_is_auto Lists h = tt
+line_is_auto (Create db kind) h = tt
+line_is_auto (Remove db) h = tt
+line_is_auto (Rename db to) h = tt
+line_is_auto (Truncate db) h = tt
+line_is_auto (Get db key rmw) h = tt
+line_is_auto (Put db key value mode) h = tt
+line_is_auto (Delete db key) h = tt
+line_is_auto call h = cc
+
+pub lines_of-append : (before after : List Event) → lines_of (before ++ after) ≡ lines_of before ++ lines_of after
+lines_of-append before after = flat_map-append line_of before after
 
 -- the first of lines that the grammar has, and those behind it
 pub first_line : (given : ScriptLine) (rest all : List ScriptLine) → all ≡ given ∷ rest → list_all is_line all ≡ true → (is_line given ≡ true) × (list_all is_line rest ≡ true)

@@ -1,3 +1,5 @@
+-- Where no event is answered by a disk fault, a valid environment stays valid.
+pub mod FaultLaws
 -- The end of a run.
 pub mod FinishLaws
 -- A run goes on by one line of its script.
@@ -14,5 +16,7 @@ pub mod Digits
 pub mod EndLaws
 -- A disk that was left as it was.
 pub mod UntouchedLaws
+-- Where a run begins.
+pub mod BeginLaws
 -- How a program ends whose environment was not opened.
 pub mod StopLaws

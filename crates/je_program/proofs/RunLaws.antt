@@ -1,25 +1,57 @@
 -- A run goes on by one line of its script.
-use Rattle.std.proofs.Common.{◌≡◌, ℕ, ◌≤◌, ◌||◌, Bool, true, false, List, [], ◌∷◌, ◌++◌, Option, Some, None, Ok, refl, ap, sym, ◌∙◌, subst, ⊎_elim, inl, inr, append_assoc, arith}
+use Rattle.std.proofs.Common.{◌≡◌, ℕ, suc, ◌≤◌, ◌<◌, ◌+◌, ◌*◌, ◌||◌, Bool, true, false, List, [], ◌∷◌, ◌++◌, Option, Some, None, Ok, length, refl, ap, sym, ◌∙◌, subst, ⊎_elim, inl, inr, append_assoc, arith}
+use Rattle.std.proofs.lemmas.List.{length-append}
 use Rattle.std.proofs.lemmas.List.Folds.{list_any-append}
+use Rattle.je_lsn.specs.Naming.{last_file}
 use Rattle.je_order.specs.Counts.{HasRisen}
 use Rattle.je_disk.specs.States.{State}
-use Rattle.je_model.specs.declared.call.Call.{Call}
-use Rattle.je_model.specs.declared.event.Event.{Event}
-use Rattle.je_model.specs.declared.event.Event.TheVariants.{Call as Called, SyncBegin, SyncEnd}
-use Rattle.je_model.specs.declared.answer.Answer.{Answer}
-use Rattle.je_model.specs.declared.answer.Answer.TheVariants.{Done, Logged, Durable, DiskFault}
-use Rattle.je_model.specs.Answers.{Standing, IsAnswered, MayAnswer, MayBeginSync, MayEndSync, answer_after, after_begin, after_event, after_events, after_call}
-use Rattle.je_model.specs.declared.answer.Fault.{Fault}
-use Rattle.je_model.specs.Journal.{answer_of, has_answer, is_disk_fault, is_logged, AreSyncedAtOnce, IsSyncedBy}
-use Rattle.je_model.proofs.JournalLaws.{after_events-append, answers-append, answers-push, synced-append}
+use Rattle.store_model.specs.declared.call.Call.{Call}
+use Rattle.store_model.specs.declared.event.Event.{Event}
+use Rattle.store_model.specs.declared.event.Event.TheVariants.{Call as Called, Resume, SyncBegin, SyncEnd}
+use Rattle.store_model.specs.declared.answer.Answer.{Answer}
+use Rattle.store_model.specs.declared.answer.Answer.TheVariants.{Done, Logged, Durable, LogFull, DiskFault, Invalid}
+use Rattle.store_model.specs.declared.answer.Fault.{Fault}
+use Rattle.store_model.specs.Journal.{answers_some, is_disk_fault, is_logged}
+use Rattle.store_model.specs.Refusals.{or_refusal}
+use Rattle.je_answers.specs.Standing.{Standing}
+use Rattle.je_answers.specs.Refusals.{early_refusal, fault_refusal}
+use Rattle.je_answers.specs.Events.{IsAnswered, IsCallAnswered, IsSyncBegun, IsSyncEnded}
+use Rattle.je_answers.specs.After.{AnswersAsModel, after_event, after_events}
+use Rattle.je_answers.specs.Journal.{has_answer, AreSyncedAtOnce, IsSyncedAtOnce, IsSyncedBy}
+use Rattle.je_answers.proofs.Journals.{after_events-append, answers-append}
 use Rattle.engine.specs.declared.engine.Engine.{Engine}
-use Rattle.engine.specs.Environment.{log_rule}
-use Rattle.engine.specs.Whole.{EndsSync, GoesOn, IsAt}
+use Rattle.engine.specs.Limits.{AreBounded, IsBounded, most_logged}
+use Rattle.engine.specs.Whole.{EndsSync, GoesOn, IsAt, end_file}
 use Rattle.je_program.specs.Run.{IsRunning, IsCaused}
 use Rattle.engine.proofs.Counts.{rose_earlier, rose_later}
+use Rattle.je_program.proofs.FaultLaws.{valid_after}
+
+-- ---- limits
+
+-- a limit that comes early enough comes no earlier where the log ends later
+bounded_later : (early late : ℕ) (limit : Option Answer) → early ≤ late → IsBounded early limit → IsBounded late limit
+bounded_later early late limit later bounded =
+    ⊎_elim
+    (λ (none : limit ≡ None). inl none)
+    (λ (full : (limit ≡ Some LogFull) × (last_file < early + most_logged)). (let near : last_file < early + 3 = full.1 in inr (full.0, omega (arith, near, later))))
+    bounded
+
+-- limits, and then others
+bounded-append : (first : ℕ) (limits others : List (Option Answer)) → AreBounded first limits → AreBounded (first + most_logged * length limits) others → AreBounded first (limits ++ others)
+bounded-append first [] others b o = subst (λ (n : ℕ). AreBounded n others) (none_more first) o where
+  none_more : (n : ℕ) → n + 3 * 0 ≡ n
+  none_more n = omega arith
+bounded-append first (limit ∷ limits) others b o = (b.0, bounded-append (first + most_logged) limits others b.1 (subst (λ (n : ℕ). AreBounded n others) (one_more first (length limits)) o)) where
+  one_more : (n k : ℕ) → n + 3 * suc k ≡ n + 3 + 3 * k
+  one_more n k = omega arith
+
+near_more : (old new first a b : ℕ) → old ≤ first + 3 * a → new ≤ old + 3 * b → new ≤ first + 3 * (a + b)
+near_more old new first a b near grows = omega (arith, near, grows)
+
+-- ---- answers
 
 -- a call that was not logged waits for nothing
-not_waiting : (session line : ℕ) (call : Call) (answer : Answer) → is_logged answer ≡ false → AreSyncedAtOnce (Called session line call answer ∷ [])
+not_waiting : (session line : ℕ) (call : Call) (answer : Answer) → is_logged answer ≡ false → AreSyncedAtOnce (Called session line call answer [] ∷ [])
 not_waiting session line call (Logged commit) h = cc
 not_waiting session line call answer h = (tt, tt)
 
@@ -28,55 +60,29 @@ logged_is : (answer : Answer) → is_logged answer ≡ true → (commit : ℕ) �
 logged_is (Logged commit) h = (commit, refl)
 logged_is answer h = cc
 
--- a call of an environment that is not valid is not answered Logged
-pub logged_valid : (most : ℕ) (fault : Option Fault) (st : Standing) (call : Call) (commit : ℕ) → MayAnswer (answer_after fault (log_rule most) st call) (Logged commit) → fault ≡ None
-logged_valid most None st call commit may = refl
-logged_valid most (Some fault) st call commit may = cc
+-- after a fault a call is refused
+fault_refuses : (fault : Option Fault) (first : Fault) (later : Option Answer) → fault ≡ Some first → or_refusal (fault_refusal fault) later ≡ Some (Invalid first)
+fault_refuses fault first later is = ap (λ (f : Option Fault). or_refusal (fault_refusal f) later) is
 
-module _ {D : Type 0} where
-  -- one event more
-  pub runs_on : (most : ℕ) (observable : Bool) (before after : State) (old new : Engine D) (journal : List Event) (event : Event) (st : Standing) →
-      IsRunning most observable before old journal st →
-      IsAnswered (log_rule most) (after_events (log_rule most) st journal) event → IsAt most observable after new (after_event (log_rule most) (after_events (log_rule most) st journal) event) →
-      AreSyncedAtOnce (event ∷ []) → IsRunning most observable after new (journal ++ event ∷ []) st
-  runs_on most observable before after old new journal event st running answered here synced = record {
-    here = subst (λ (s : Standing). IsAt most observable after new s) (sym (after_events-append (log_rule most) st journal (event ∷ []))) here;
-    answers = answers-push (log_rule most) st journal event running.answers answered;
-    synced = synced-append journal (event ∷ []) running.synced synced;
-  }
+-- so a call that was logged found a valid environment
+logged_valid : (limit : Option Answer) (st : Standing) (session line : ℕ) (call : Call) (commit : ℕ) → IsAnswered limit st (Called session line call (Logged commit) []) → st.fault ≡ None
+logged_valid limit st session line call commit answered = by_fault st.fault refl where
+  by_fault : (fault : Option Fault) → st.fault ≡ fault → st.fault ≡ None
+  by_fault None is = is
+  by_fault (Some first) is =
+      let early : early_refusal st session call ≡ Some (Invalid first) = fault_refuses st.fault first _ is in
+      let refused = subst (λ (o : Option Answer). IsCallAnswered o limit st session line call (Logged commit) []) early answered in
+      let wrong : Logged commit ≡ Invalid first = refused.0 in cc
 
-  -- no event more: a call found no memory
-  pub runs_same : (most : ℕ) (observable : Bool) (before after : State) (old new : Engine D) (journal : List Event) (st : Standing) →
-      IsRunning most observable before old journal st → IsAt most observable after new (after_events (log_rule most) st journal) → IsRunning most observable after new journal st
-  runs_same most observable before after old new journal st running here = record { here = here; answers = running.answers; synced = running.synced }
-
-  -- where a call was logged, the model stands at a valid environment
-  pub logged_at_work : (most : ℕ) (observable : Bool) (state : State) (engine : Engine D) (st : Standing) (call : Call) (answer : Answer) →
-      GoesOn most observable state engine st call (Ok answer) → is_logged answer ≡ true → (s : Standing) × IsAt most observable state engine s × (s.fault ≡ None)
-  logged_at_work most observable state engine st call answer goes logged =
-      let of = logged_is answer logged in
-      at_work of.0 (subst (λ (a : Answer). GoesOn most observable state engine st call (Ok a)) of.1 goes)
-    where
-      at_work : (commit : ℕ) → GoesOn most observable state engine st call (Ok (Logged commit)) → (s : Standing) × IsAt most observable state engine s × (s.fault ≡ None)
-      at_work commit goes =
-          let none : st.fault ≡ None = logged_valid most st.fault st call commit goes.0 in
-          (after_call (log_rule most) st call (Logged commit), goes.1, none)
-
-  -- where a call was logged, the model stands at a valid environment
-  pub logged_none : (most : ℕ) (observable : Bool) (state : State) (engine : Engine D) (st : Standing) (call : Call) (answer : Answer) →
-      GoesOn most observable state engine st call (Ok answer) → is_logged answer ≡ true → (after_call (log_rule most) st call answer).fault ≡ None
-  logged_none most observable state engine st call (Logged commit) goes logged = logged_valid most st.fault st call commit goes.0
-  logged_none most observable state engine st call answer goes logged = cc
-
-  -- a call that was not logged
-  pub runs_plain : (most : ℕ) (observable : Bool) (before after : State) (old new : Engine D) (journal : List Event) (session line : ℕ) (call : Call) (answer : Answer) (st : Standing) →
-      IsRunning most observable before old journal st → GoesOn most observable after new (after_events (log_rule most) st journal) call (Ok answer) → is_logged answer ≡ false →
-      IsRunning most observable after new (journal ++ Called session line call answer ∷ []) st
-  runs_plain most observable before after old new journal session line call answer st running goes plain =
-      runs_on most observable before after old new journal (Called session line call answer) st running goes.0 goes.1 (not_waiting session line call answer plain)
+-- and left one
+pub logged_none : (limit : Option Answer) (st : Standing) (session line : ℕ) (call : Call) (answer : Answer) → is_logged answer ≡ true →
+    IsAnswered limit st (Called session line call answer []) → (after_event st (Called session line call answer [])).fault ≡ None
+logged_none limit st session line call (Logged commit) logged answered =
+    valid_after st (Called session line call (Logged commit) []) (logged_valid limit st session line call commit answered) refl
+logged_none limit st session line call answer logged answered = cc
 
 -- a sync of the commits so far follows the last one at once
-ends_synced : (commit commits : ℕ) (ending : Answer) → commit ≡ commits → MayEndSync None (Some commits) ending → IsSyncedBy commit (SyncBegin Done ∷ SyncEnd ending ∷ [])
+ends_synced : (commit commits : ℕ) (ending : Answer) → commit ≡ commits → IsSyncEnded None (Some commits) ending → IsSyncedBy commit (SyncBegin Done ∷ SyncEnd ending ∷ [])
 ends_synced commit commits ending is ends = (
   [],
   ⊎_elim
@@ -85,75 +91,132 @@ ends_synced commit commits ending is ends = (
       ends,
 )
 
+-- what follows a commit at once follows it where more events come
+synced_longer : (commit : ℕ) (later more : List Event) → IsSyncedBy commit later → IsSyncedBy commit (later ++ more)
+synced_longer commit later more synced = (
+  synced.0 ++ more,
+  ⊎_elim
+      (λ (e : later ≡ SyncBegin Done ∷ SyncEnd (Durable commit) ∷ synced.0). inl (ap (λ (l : List Event). l ++ more) e))
+      (λ f. ⊎_elim
+      (λ (e : later ≡ SyncBegin Done ∷ SyncEnd DiskFault ∷ synced.0). inr (inl (ap (λ (l : List Event). l ++ more) e)))
+      (λ (e : later ≡ SyncBegin DiskFault ∷ synced.0). inr (inr (ap (λ (l : List Event). l ++ more) e)))
+      f)
+      synced.1,
+)
+
+synced_more : (event : Event) (later more : List Event) → IsSyncedAtOnce event later → IsSyncedAtOnce event (later ++ more)
+synced_more (Called session line call (Logged commit) victims) later more synced = synced_longer commit later more synced
+synced_more (Resume session line (Logged commit) victims) later more synced = synced_longer commit later more synced
+synced_more event later more synced = tt
+
+synced-append : (before after : List Event) → AreSyncedAtOnce before → AreSyncedAtOnce after → AreSyncedAtOnce (before ++ after)
+synced-append [] after b a = a
+synced-append (event ∷ events) after b a = (synced_more event events after b.0, synced-append events after b.1 a)
+
+-- ---- runs
+
 module _ {D : Type 0} where
+  -- several events more
+  runs_more : (most first : ℕ) (observable : Bool) (before after : State) (old new : Engine D) (journal events : List Event) (others : List (Option Answer)) (st : Standing) →
+      (running : IsRunning most first observable before old journal st) →
+      IsAt most observable after new (after_events (after_events st journal) events) → AnswersAsModel (after_events st journal) others events →
+      AreBounded (first + most_logged * length running.limits) others → end_file new ≤ end_file old + most_logged * length others →
+      AreSyncedAtOnce events → IsRunning most first observable after new (journal ++ events) st
+  runs_more most first observable before after old new journal events others st running here answers bounded grows synced = record {
+    here = subst (λ (s : Standing). IsAt most observable after new s) (sym (after_events-append st journal events)) here;
+    limits = running.limits ++ others;
+    answers = answers-append st running.limits others journal events running.answers answers;
+    bounded = bounded-append first running.limits others running.bounded bounded;
+    near = subst (λ (n : ℕ). end_file new ≤ first + 3 * n) (sym (length-append running.limits others))
+        (near_more (end_file old) (end_file new) first (length running.limits) (length others) running.near grows);
+    synced = synced-append journal events running.synced synced;
+  }
+
+  -- no event more: a call found no memory
+  pub runs_same : (most first : ℕ) (observable : Bool) (before after : State) (old new : Engine D) (journal : List Event) (st : Standing) →
+      IsRunning most first observable before old journal st → IsAt most observable after new (after_events st journal) → end_file new ≤ end_file old →
+      IsRunning most first observable after new journal st
+  runs_same most first observable before after old new journal st running here grows = record {
+    here = here;
+    limits = running.limits;
+    answers = running.answers;
+    bounded = running.bounded;
+    near = (let near : end_file old ≤ first + 3 * length running.limits = running.near in omega (arith, near, grows));
+    synced = running.synced;
+  }
+
+  -- a call that was not logged
+  pub runs_plain : (most first : ℕ) (observable : Bool) (before after : State) (old new : Engine D) (journal : List Event) (session line : ℕ) (call : Call) (answer : Answer) (st : Standing) →
+      IsRunning most first observable before old journal st → GoesOn most observable after old new (after_events st journal) session line call (Ok answer) → is_logged answer ≡ false →
+      end_file new ≤ end_file old + most_logged → IsRunning most first observable after new (journal ++ Called session line call answer [] ∷ []) st
+  runs_plain most first observable before after old new journal session line call answer st running goes plain grows =
+      runs_more most first observable before after old new journal (Called session line call answer [] ∷ []) (goes.0 ∷ []) st running goes.3 (goes.2, tt)
+      (bounded_later (end_file old) (first + most_logged * length running.limits) goes.0 running.near goes.1, tt)
+      (let less : end_file new ≤ end_file old + 3 = grows in omega (arith, less))
+      (not_waiting session line call answer plain)
+
   -- a call that was logged, and a sync that could not begin
-  pub runs_unsynced : (most : ℕ) (observable : Bool) (before middle after : State) (old mid new : Engine D) (journal : List Event) (session line : ℕ) (call : Call) (answer : Answer) (st : Standing) →
-      IsRunning most observable before old journal st → GoesOn most observable middle mid (after_events (log_rule most) st journal) call (Ok answer) → is_logged answer ≡ true →
-      ((s : Standing) → IsAt most observable middle mid s → s.fault ≡ None → IsAt most observable after new (after_begin s DiskFault)) →
-      IsRunning most observable after new ((journal ++ Called session line call answer ∷ []) ++ SyncBegin DiskFault ∷ []) st
-  runs_unsynced most observable before middle after old mid new journal session line call answer st running goes logged begins =
-      let of = logged_is answer logged in
-      subst (λ (a : Answer). IsRunning most observable after new ((journal ++ Called session line call a ∷ []) ++ SyncBegin DiskFault ∷ []) st) (sym of.1)
-      (of_commit of.0 (subst (λ (a : Answer). GoesOn most observable middle mid (after_events (log_rule most) st journal) call (Ok a)) of.1 goes))
-    where
-      of_commit : (commit : ℕ) → GoesOn most observable middle mid (after_events (log_rule most) st journal) call (Ok (Logged commit)) →
-          IsRunning most observable after new ((journal ++ Called session line call (Logged commit) ∷ []) ++ SyncBegin DiskFault ∷ []) st
-      of_commit commit goes =
-          let st0 = after_events (log_rule most) st journal in
-          let st1 = after_call (log_rule most) st0 call (Logged commit) in
-          let valid = logged_valid most st0.fault st0 call commit goes.0 in
-          let begun = begins st1 goes.1 valid in
-          let events : List Event = Called session line call (Logged commit) ∷ SyncBegin DiskFault ∷ [] in
-          let all : IsRunning most observable after new (journal ++ events) st = record {
-            here = subst (λ (s : Standing). IsAt most observable after new s) (sym (after_events-append (log_rule most) st journal events)) begun;
-            answers = answers-append (log_rule most) st journal events running.answers (goes.0, (subst (λ (f : Option Fault). MayBeginSync f DiskFault) (sym valid) (inr refl), tt));
-            synced = synced-append journal events running.synced (([], inr (inr refl)), (tt, tt));
-          } in
-          let same : journal ++ events ≡ (journal ++ Called session line call (Logged commit) ∷ []) ++ SyncBegin DiskFault ∷ [] =
-          sym (append_assoc journal (Called session line call (Logged commit) ∷ []) (SyncBegin DiskFault ∷ [])) in
-          subst (λ (l : List Event). IsRunning most observable after new l st) same all
+  pub runs_unsynced : (most first : ℕ) (observable : Bool) (before middle after : State) (old mid new : Engine D) (journal : List Event) (session line : ℕ) (call : Call) (answer : Answer) (st : Standing) →
+      IsRunning most first observable before old journal st → GoesOn most observable middle old mid (after_events st journal) session line call (Ok answer) → is_logged answer ≡ true →
+      end_file mid ≤ end_file old + most_logged → end_file new ≡ end_file mid →
+      ((s : Standing) → IsAt most observable middle mid s → s.fault ≡ None → IsAt most observable after new (after_event s (SyncBegin DiskFault))) →
+      IsRunning most first observable after new ((journal ++ Called session line call answer [] ∷ []) ++ SyncBegin DiskFault ∷ []) st
+  runs_unsynced most first observable before middle after old mid new journal session line call (Logged commit) st running goes logged grows same begins =
+      let st0 = after_events st journal in
+      let event : Event = Called session line call (Logged commit) [] in
+      let valid : (after_event st0 event).fault ≡ None = logged_none goes.0 st0 session line call (Logged commit) refl goes.2 in
+      let events : List Event = event ∷ SyncBegin DiskFault ∷ [] in
+      let start = first + most_logged * length running.limits in
+      let all : IsRunning most first observable after new (journal ++ events) st =
+      runs_more most first observable before after old new journal events (goes.0 ∷ None ∷ []) st running (begins (after_event st0 event) goes.3 valid)
+      (goes.2, (subst (λ (f : Option Fault). IsSyncBegun f DiskFault) (sym valid) (inr refl), tt))
+      (bounded_later (end_file old) start goes.0 running.near goes.1, (inl refl, tt))
+      (let less : end_file mid ≤ end_file old + 3 = grows in omega (arith, less, same))
+      (([], inr (inr refl)), (tt, tt)) in
+      let joined : journal ++ events ≡ (journal ++ event ∷ []) ++ SyncBegin DiskFault ∷ [] = sym (append_assoc journal (event ∷ []) (SyncBegin DiskFault ∷ [])) in
+      subst (λ (l : List Event). IsRunning most first observable after new l st) joined all
+  runs_unsynced most first observable before middle after old mid new journal session line call answer st running goes logged grows same begins = cc
 
   -- a call that was logged, and its sync
-  pub runs_logged : (most : ℕ) (observable : Bool) (before middle after : State) (old mid new : Engine D) (journal : List Event) (session line : ℕ) (call : Call) (answer ending : Answer) (st : Standing) →
-      IsRunning most observable before old journal st → GoesOn most observable middle mid (after_events (log_rule most) st journal) call (Ok answer) → is_logged answer ≡ true →
-      ((s : Standing) → IsAt most observable middle mid s → s.fault ≡ None → EndsSync most observable after new s ending) →
-      IsRunning most observable after new (((journal ++ Called session line call answer ∷ []) ++ SyncBegin Done ∷ []) ++ SyncEnd ending ∷ []) st
-  runs_logged most observable before middle after old mid new journal session line call answer ending st running goes logged sync =
-      let of = logged_is answer logged in
-      subst (λ (a : Answer). IsRunning most observable after new (((journal ++ Called session line call a ∷ []) ++ SyncBegin Done ∷ []) ++ SyncEnd ending ∷ []) st) (sym of.1)
-      (of_commit of.0 (subst (λ (a : Answer). GoesOn most observable middle mid (after_events (log_rule most) st journal) call (Ok a)) of.1 goes))
-    where
-      of_commit : (commit : ℕ) → GoesOn most observable middle mid (after_events (log_rule most) st journal) call (Ok (Logged commit)) →
-          IsRunning most observable after new (((journal ++ Called session line call (Logged commit) ∷ []) ++ SyncBegin Done ∷ []) ++ SyncEnd ending ∷ []) st
-      of_commit commit goes =
-          let st0 = after_events (log_rule most) st journal in
-          let st1 = after_call (log_rule most) st0 call (Logged commit) in
-          let valid = logged_valid most st0.fault st0 call commit goes.0 in
-          let ended = sync st1 goes.1 valid in
-          let events : List Event = Called session line call (Logged commit) ∷ SyncBegin Done ∷ SyncEnd ending ∷ [] in
-          let number : commit ≡ st1.commits = goes.2 in
-          let all : IsRunning most observable after new (journal ++ events) st = record {
-            here = subst (λ (s : Standing). IsAt most observable after new s) (sym (after_events-append (log_rule most) st journal events)) ended.1;
-            answers = answers-append (log_rule most) st journal events running.answers (
-              goes.0,
-              (subst (λ (f : Option Fault). MayBeginSync f Done) (sym valid) (inl refl), (subst (λ (f : Option Fault). MayEndSync f (Some st1.commits) ending) (sym valid) ended.0, tt)),
-            );
-            synced = synced-append journal events running.synced (ends_synced commit st1.commits ending number ended.0, (tt, (tt, tt)));
-          } in
-          let same : journal ++ events ≡ ((journal ++ Called session line call (Logged commit) ∷ []) ++ SyncBegin Done ∷ []) ++ SyncEnd ending ∷ [] =
-          sym (append_assoc journal (Called session line call (Logged commit) ∷ SyncBegin Done ∷ []) (SyncEnd ending ∷ []))
-          ∙ ap (λ (l : List Event). l ++ SyncEnd ending ∷ []) (sym (append_assoc journal (Called session line call (Logged commit) ∷ []) (SyncBegin Done ∷ []))) in
-          subst (λ (l : List Event). IsRunning most observable after new l st) same all
+  pub runs_logged : (most first : ℕ) (observable : Bool) (before middle after : State) (old mid new : Engine D) (journal : List Event) (session line : ℕ) (call : Call) (answer ending : Answer) (st : Standing) →
+      IsRunning most first observable before old journal st → GoesOn most observable middle old mid (after_events st journal) session line call (Ok answer) → is_logged answer ≡ true →
+      end_file mid ≤ end_file old + most_logged → end_file new ≡ end_file mid →
+      ((s : Standing) → IsAt most observable middle mid s → s.fault ≡ None → EndsSync most observable after new (after_event s (SyncBegin Done)) ending) →
+      IsRunning most first observable after new (((journal ++ Called session line call answer [] ∷ []) ++ SyncBegin Done ∷ []) ++ SyncEnd ending ∷ []) st
+  runs_logged most first observable before middle after old mid new journal session line call (Logged commit) ending st running goes logged grows same sync =
+      let st0 = after_events st journal in
+      let event : Event = Called session line call (Logged commit) [] in
+      let st1 = after_event st0 event in
+      let valid : st1.fault ≡ None = logged_none goes.0 st0 session line call (Logged commit) refl goes.2 in
+      let ended = sync st1 goes.3 valid in
+      let events : List Event = event ∷ SyncBegin Done ∷ SyncEnd ending ∷ [] in
+      let start = first + most_logged * length running.limits in
+      let number : commit ≡ st1.commits = goes.4 in
+      let all : IsRunning most first observable after new (journal ++ events) st =
+      runs_more most first observable before after old new journal events (goes.0 ∷ None ∷ None ∷ []) st running ended.1 (
+        goes.2,
+        (subst (λ (f : Option Fault). IsSyncBegun f Done) (sym valid) (inl refl), (subst (λ (f : Option Fault). IsSyncEnded f (Some st1.commits) ending) (sym valid) ended.0, tt)),
+      )
+      (bounded_later (end_file old) start goes.0 running.near goes.1, (inl refl, (inl refl, tt)))
+      (let less : end_file mid ≤ end_file old + 3 = grows in omega (arith, less, same))
+      (ends_synced commit st1.commits ending number ended.0, (tt, (tt, tt))) in
+      let joined : journal ++ events ≡ ((journal ++ event ∷ []) ++ SyncBegin Done ∷ []) ++ SyncEnd ending ∷ [] =
+      sym (append_assoc journal (event ∷ SyncBegin Done ∷ []) (SyncEnd ending ∷ []))
+      ∙ ap (λ (l : List Event). l ++ SyncEnd ending ∷ []) (sym (append_assoc journal (event ∷ []) (SyncBegin Done ∷ []))) in
+      subst (λ (l : List Event). IsRunning most first observable after new l st) joined all
+  runs_logged most first observable before middle after old mid new journal session line call answer ending st running goes logged grows same sync = cc
 
   -- a run that begins
-  pub runs_none : (most : ℕ) (observable : Bool) (state : State) (engine : Engine D) (st : Standing) → IsAt most observable state engine st → IsRunning most observable state engine [] st
-  runs_none most observable state engine st here = record { here = here; answers = tt; synced = tt }
+  pub runs_none : (most : ℕ) (observable : Bool) (state : State) (engine : Engine D) (st : Standing) → IsAt most observable state engine st →
+      IsRunning most (end_file engine) observable state engine [] st
+  runs_none most observable state engine st here =
+      record { here = here; limits = []; answers = tt; bounded = tt; near = (let e : end_file engine ≤ end_file engine + 3 * 0 = omega arith in e); synced = tt }
 
 pub caused_none : (faults : ℕ) → IsCaused faults faults []
 caused_none faults = record { never_falls = omega arith; fault = λ h. cc }
 
-has_answer-push : (test : Answer → Bool) (journal : List Event) (event : Event) → has_answer test (journal ++ event ∷ []) ≡ (has_answer test journal || test (answer_of event))
-has_answer-push test journal event = list_any-append (λ (e : Event). test (answer_of e)) journal (event ∷ []) ∙ ap (λ b. has_answer test journal || b) (or_none (test (answer_of event)))
+has_answer-push : (test : Answer → Bool) (journal : List Event) (event : Event) → has_answer test (journal ++ event ∷ []) ≡ (has_answer test journal || answers_some test event)
+has_answer-push test journal event = list_any-append (answers_some test) journal (event ∷ []) ∙ ap (λ b. has_answer test journal || b) (or_none (answers_some test event))
   where
     or_none : (b : Bool) → (b || false) ≡ b
     or_none true = refl
@@ -183,29 +246,29 @@ rose_by_either before start begun after first steps ends false false old last h 
 
 -- a call that was answered
 pub caused_answered : (before start after : ℕ) (journal : List Event) (session line : ℕ) (call : Call) (answer : Answer) → IsCaused before start journal → start ≤ after →
-    (answer ≡ DiskFault → HasRisen start after) → IsCaused before after (journal ++ Called session line call answer ∷ [])
+    (answer ≡ DiskFault → HasRisen start after) → IsCaused before after (journal ++ Called session line call answer [] ∷ [])
 caused_answered before start after journal session line call answer caused steps rose = record {
   never_falls = (let first : before ≤ start = caused.never_falls in omega (arith, first, steps));
   fault = λ h. rose_by_either before start start after caused.never_falls (omega arith) steps (has_answer is_disk_fault journal) (is_disk_fault answer) caused.fault (λ e. rose (fault_is answer e))
-      (sym (has_answer-push is_disk_fault journal (Called session line call answer)) ∙ h);
+      (sym (has_answer-push is_disk_fault journal (Called session line call answer [])) ∙ h);
 }
 
 -- a call that was logged, and its sync: only the sync's end can be a disk fault
 pub caused_synced : (before start mid begun after : ℕ) (journal : List Event) (session line : ℕ) (call : Call) (answer ending : Answer) → IsCaused before start journal →
     start ≤ mid → mid ≤ begun → begun ≤ after → is_logged answer ≡ true → (ending ≡ DiskFault → HasRisen begun after) →
-    IsCaused before after (((journal ++ Called session line call answer ∷ []) ++ SyncBegin Done ∷ []) ++ SyncEnd ending ∷ [])
+    IsCaused before after (((journal ++ Called session line call answer [] ∷ []) ++ SyncBegin Done ∷ []) ++ SyncEnd ending ∷ [])
 caused_synced before start mid begun after journal session line call answer ending caused steps begins ends logged rose = record {
   never_falls = (let first : before ≤ start = caused.never_falls in omega (arith, first, steps, begins, ends));
   fault = λ h. rose_by_either before start begun after caused.never_falls (omega (arith, steps, begins)) ends
       (has_answer is_disk_fault journal) (is_disk_fault ending) caused.fault (λ e. rose (fault_is ending e)) (sym parts ∙ h);
 }
   where
-    parts : has_answer is_disk_fault (((journal ++ Called session line call answer ∷ []) ++ SyncBegin Done ∷ []) ++ SyncEnd ending ∷ []) ≡ (has_answer is_disk_fault journal || is_disk_fault ending)
+    parts : has_answer is_disk_fault (((journal ++ Called session line call answer [] ∷ []) ++ SyncBegin Done ∷ []) ++ SyncEnd ending ∷ []) ≡ (has_answer is_disk_fault journal || is_disk_fault ending)
     parts =
-        has_answer-push is_disk_fault ((journal ++ Called session line call answer ∷ []) ++ SyncBegin Done ∷ []) (SyncEnd ending)
-        ∙ ap (λ b. b || is_disk_fault ending) (has_answer-push is_disk_fault (journal ++ Called session line call answer ∷ []) (SyncBegin Done)
-        ∙ or_false_is (has_answer is_disk_fault (journal ++ Called session line call answer ∷ []))
-        ∙ has_answer-push is_disk_fault journal (Called session line call answer)
+        has_answer-push is_disk_fault ((journal ++ Called session line call answer [] ∷ []) ++ SyncBegin Done ∷ []) (SyncEnd ending)
+        ∙ ap (λ b. b || is_disk_fault ending) (has_answer-push is_disk_fault (journal ++ Called session line call answer [] ∷ []) (SyncBegin Done)
+        ∙ or_false_is (has_answer is_disk_fault (journal ++ Called session line call answer [] ∷ []))
+        ∙ has_answer-push is_disk_fault journal (Called session line call answer [])
         ∙ ap (λ b. has_answer is_disk_fault journal || b) (logged_no_fault answer logged) ∙ or_false_is (has_answer is_disk_fault journal))
       where
         or_false_is : (b : Bool) → (b || false) ≡ b

@@ -2,8 +2,9 @@
 use Rattle.std.proofs.Common.{◌≡◌, ◌≤◌, ℕ, Bool, true, false, List, [], refl, sym, ap, ◌∙◌, subst, arith}
 use Rattle.je_order.specs.Counts.{HasRisen}
 use Rattle.je_disk.specs.States.{Files}
-use Rattle.je_model.specs.declared.event.Event.{Event}
-use Rattle.je_model.specs.Journal.{has_answer, is_disk_fault}
+use Rattle.store_model.specs.declared.event.Event.{Event}
+use Rattle.store_model.specs.Journal.{is_disk_fault}
+use Rattle.je_answers.specs.Journal.{has_answer}
 use Rattle.log_replay.specs.declared.corruption.Corruption.{Corruption}
 use Rattle.engine.specs.declared.open_err.OpenErr.{OpenErr}
 use Rattle.engine.specs.declared.open_err.OpenErr.TheVariants.{Disk as NoDisk, Memory as NoMemory, Unreadable as CannotRead}

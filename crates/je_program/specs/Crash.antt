@@ -2,18 +2,18 @@
 use Rattle.std.specs.Prelude.{◌≡◌, List}
 use Rattle.je_disk.specs.States.{synced_crash_states}
 use Rattle.je_disk.specs.Moments.{History, now}
-use Rattle.je_model.specs.declared.event.Event.{Event}
-use Rattle.je_model.specs.declared.store.Store.{Store}
+use Rattle.store_model.specs.declared.event.Event.{Event}
+use Rattle.je_answers.specs.Standing.{Standing}
 use Rattle.engine.specs.Crash.{ImagesMean, IsSafeRun, KeepsEntry}
 use Rattle.je_program.specs.declared.cause.Cause.{Cause}
 use Rattle.je_program.specs.declared.cause.Cause.TheVariants.{Done as AllDone}
-use Rattle.je_program.specs.Program.{final_store}
+use Rattle.je_program.specs.Run.{final_store}
 
--- A program's run began at the end of the sync with which the files at entry were opened, and was safe from there on; before it the files
+-- A program's run began, with the model at `st`, at the end of the sync with which the files at entry were opened, and was safe from there on; before it the files
 -- of entry were kept. Where all was done, each image at the end means the final store.
-pub record IsSafeProgram (old history : History) (opening : Store) (journal : List Event) (cause : Cause) : Type 0 where
+pub record IsSafeProgram (old history : History) (st : Standing) (journal : List Event) (cause : Cause) : Type 0 where
   pub start : History
   pub stable : (now start).crash_states ≡ synced_crash_states (now start).reads
   pub before : KeepsEntry old start
-  pub run : IsSafeRun opening start history journal
-  pub ends : cause ≡ AllDone → ImagesMean (now history) (final_store opening journal)
+  pub run : IsSafeRun st start history journal
+  pub ends : cause ≡ AllDone → ImagesMean (now history) (final_store st journal)

@@ -1,5 +1,5 @@
 pub mod Untouched
 pub mod Run
+pub mod Crash
 pub mod Program
 pub mod Reading
-pub mod Crash

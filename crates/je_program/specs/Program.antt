@@ -2,12 +2,16 @@
 use Rattle.std.specs.Prelude.{ℕ, ◌/◌, ◌%◌, ◌^◌, ◌≡◌, ◌≢◌, ◌≤◌, ◌<◌, ◌⊎◌, [], ◌++◌, List, Option, Some, None, Bool, true, false, Ok, Err, length, codes, decimal, IfSome}
 use Rattle.je_order.specs.Counts.{HasRisen}
 use Rattle.je_io.specs.Sink.{Gains, GainsPart}
-use Rattle.je_model.specs.declared.store.Store.{Store}
-use Rattle.je_model.specs.declared.event.Event.{Event}
-use Rattle.je_model.specs.declared.plan.RunPlan.{RunPlan}
-use Rattle.je_model.specs.declared.totals.Totals.{Totals}
-use Rattle.je_model.specs.Store.{store_after}
-use Rattle.je_model.specs.Journal.{commits_of, lines_of, has_answer, is_disk_fault}
+use Rattle.je_disk.specs.Moments.{History, now}
+use Rattle.store_model.specs.declared.answer.Answer.{Answer}
+use Rattle.store_model.specs.declared.store.Store.{Store}
+use Rattle.store_model.specs.declared.event.Event.{Event}
+use Rattle.store_model.specs.declared.plan.RunPlan.{RunPlan}
+use Rattle.store_model.specs.declared.totals.Totals.{Totals}
+use Rattle.store_model.specs.Journal.{is_disk_fault}
+use Rattle.je_answers.specs.Standing.{Standing}
+use Rattle.je_answers.specs.After.{AnswersAsModel}
+use Rattle.je_answers.specs.Journal.{AllAcknowledged, AreSyncedAtOnce, lines_of, has_answer}
 use Rattle.script_text.specs.Grammar.{plan_of}
 use Rattle.script_text.specs.Report.{report_text}
 use Rattle.je_program.specs.declared.reading.TheConstants.{MOST_INPUT}
@@ -19,8 +23,12 @@ use Rattle.log_replay.specs.declared.corruption.Corruption.{Corruption}
 use Rattle.log_replay.specs.declared.corruption.Corruption.TheVariants.{Damaged, Missing, Tree, VersionUnknown}
 use Rattle.engine.specs.declared.open_err.OpenErr.{OpenErr}
 use Rattle.engine.specs.declared.open_err.OpenErr.TheVariants.{Disk as NoDisk, Memory as NoMemory, Unreadable as CannotRead}
+use Rattle.engine.specs.Files.{MeanStore}
+use Rattle.engine.specs.Limits.{AreBounded, end_file_in}
+use Rattle.engine.specs.Opening.{StartsAt}
 use Rattle.engine.specs.Totals.{totals_of}
-use Rattle.je_program.specs.Run.{cause_of_journal, of_session, AreFirstLines, status_of, unwritten_status_of}
+use Rattle.je_program.specs.Crash.{IsSafeProgram}
+use Rattle.je_program.specs.Run.{cause_of_journal, final_store, of_session, AreFirstLines, status_of, unwritten_status_of}
 
 -- the input was a script, and was read to its end
 abbrev pub ReadsPlan : Option (List ℕ) → Option (List ℕ) → RunPlan → Type 0
@@ -78,9 +86,19 @@ RunsIf cause opened = opened ≡ false
 abbrev pub EndsBy : List Event → Cause → Type 0
 EndsBy journal cause = (cause ≡ cause_of_journal journal) ⊎ (cause ≡ Disk)
 
--- the store that a run leaves
-abbrev pub final_store : Store → List Event → Store
-final_store opening journal = store_after opening (commits_of opening journal)
+-- A run from one history of the disk to another, with log files of at most so many bytes. It begins where the files at entry are opened: each event
+-- of the journal answers what the model lets it from there on, within the limits of the log, and each commit's sync follows it at once. At every
+-- moment the disk is safe. Where all was done, each commit is acknowledged and the files mean the final store. What is counted is how much that holds.
+pub record IsRunOf (file_max : ℕ) (observable : Bool) (old new : History) (opening : Store) (counted : Totals) (journal : List Event) (cause : Cause) (st : Standing) : Type 0 where
+  pub starts : StartsAt observable (now old).reads opening st
+  pub limits : List (Option Answer)
+  pub answers : AnswersAsModel st limits journal
+  pub bounded : AreBounded (end_file_in starts.held) limits
+  pub synced_at_once : AreSyncedAtOnce journal
+  pub acknowledged : cause ≡ Done → AllAcknowledged st journal
+  pub safe : observable ≡ true → IsSafeProgram old new st journal cause
+  pub files : cause ≡ Done → observable ≡ true → MeanStore (now new).reads (final_store st journal)
+  pub totals : counted ≡ totals_of (final_store st journal)
 
 -- an LSN as it is printed: its file and its offset there, in hexadecimal digits
 abbrev pub lsn_text : ℕ → List ℕ
@@ -111,9 +129,9 @@ abbrev pub report_of : Bool → List Event → Totals → List ℕ
 report_of true journal totals = report_text journal totals
 report_of false journal totals = []
 
--- all that the program writes: the report with the totals of the final store, and the fault line
-abbrev pub output_text : Cause → Bool → Store → List Event → List ℕ
-output_text cause opened opening journal = report_of opened journal (totals_of (final_store opening journal)) ++ fault_text cause
+-- all that the program writes: the report with how much the final store holds, and the fault line
+abbrev pub output_text : Cause → Bool → List Event → Totals → List ℕ
+output_text cause opened journal totals = report_of opened journal totals ++ fault_text cause
 
 -- the output was written, and the status is the cause's; or the sink failed, which has a part of it
 abbrev pub IsOutputWritten : Option (List ℕ) → Option (List ℕ) → ℕ → ℕ → List ℕ → Cause → ℕ → Type 0

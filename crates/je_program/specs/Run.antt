@@ -1,27 +1,36 @@
 -- A run of a script.
-use Rattle.std.specs.Prelude.{ℕ, ◌≡◌, ◌≤◌, ◌∷◌, [], ◌++◌, ◌==◌, List, Bool, true, false, filter, slice_index_or, if◌then◌else◌}
+use Rattle.std.specs.Prelude.{ℕ, ◌≡◌, ◌≤◌, ◌+◌, ◌*◌, ◌∷◌, [], ◌++◌, ◌==◌, List, Option, Some, Bool, true, false, length, filter, slice_index_or, if◌then◌else◌}
 use Rattle.je_order.specs.Counts.{HasRisen}
-use Rattle.je_disk.specs.States.{State, Files}
-use Rattle.je_model.specs.declared.store.Store.{Store}
-use Rattle.je_model.specs.declared.answer.Answer.{Answer}
-use Rattle.je_model.specs.declared.answer.Answer.TheVariants.{LogFull, IdsEnded}
-use Rattle.je_model.specs.declared.event.Event.{Event}
-use Rattle.je_model.specs.declared.plan.ScriptLine.{ScriptLine}
-use Rattle.je_model.specs.declared.plan.ScriptLine.TheVariants.{Session}
-use Rattle.je_model.specs.Answers.{Standing, AnswersAsModel, after_events}
-use Rattle.je_model.specs.Journal.{AreSyncedAtOnce, answer_of, is_disk_fault, has_answer, lines_of}
+use Rattle.je_disk.specs.States.{State}
+use Rattle.store_model.specs.declared.store.Store.{Store}
+use Rattle.store_model.specs.declared.answer.Answer.{Answer}
+use Rattle.store_model.specs.declared.answer.Answer.TheVariants.{LogFull, IdsEnded}
+use Rattle.store_model.specs.declared.event.Event.{Event}
+use Rattle.store_model.specs.declared.plan.ScriptLine.{ScriptLine}
+use Rattle.store_model.specs.declared.plan.ScriptLine.TheVariants.{Session, Maintenance}
+use Rattle.store_model.specs.Journal.{answer_of, is_disk_fault}
+use Rattle.je_answers.specs.Standing.{Standing}
+use Rattle.je_answers.specs.After.{AnswersAsModel, after_events}
+use Rattle.je_answers.specs.Journal.{AreSyncedAtOnce, has_answer, lines_of}
 use Rattle.engine.specs.declared.engine.Engine.{Engine}
 use Rattle.je_program.specs.declared.cause.Cause.{Cause}
 use Rattle.je_program.specs.declared.cause.Cause.TheVariants.{Done, Usage, BadScript, Disk, Unreadable, Memory, Input, InputTooLong, LogFull as NoRoom, IdsEnded as NoNumbers}
-use Rattle.engine.specs.Environment.{log_rule}
-use Rattle.engine.specs.Opening.{StartsAt}
-use Rattle.engine.specs.Whole.{IsAt}
+use Rattle.engine.specs.Limits.{AreBounded, most_logged}
+use Rattle.engine.specs.Whole.{IsAt, end_file}
+
+-- the store that a run leaves
+abbrev pub final_store : Standing → List Event → Store
+final_store st journal = (after_events st journal).store
 
 module _ {D : Type 0} where
-  -- a run is under way: the engine is where the journal leaves the model, and each answer so far is the model's
-  pub record IsRunning (most : ℕ) (observable : Bool) (state : State) (engine : Engine D) (journal : List Event) (st : Standing) : Type 0 where
-    pub here : IsAt most observable state engine (after_events (log_rule most) st journal)
-    pub answers : AnswersAsModel (log_rule most) st journal
+  -- a run is under way whose log ended in the file `first` as it began: the engine is where the journal leaves the model, and each answer so far
+  -- is the model's
+  pub record IsRunning (most first : ℕ) (observable : Bool) (state : State) (engine : Engine D) (journal : List Event) (st : Standing) : Type 0 where
+    pub here : IsAt most observable state engine (after_events st journal)
+    pub limits : List (Option Answer)
+    pub answers : AnswersAsModel st limits journal
+    pub bounded : AreBounded first limits
+    pub near : end_file engine ≤ first + most_logged * length limits
     pub synced : AreSyncedAtOnce journal
 
 -- since the disk's count stood at `before` it never fell, and it rose where the journal has a disk fault
@@ -29,17 +38,10 @@ pub record IsCaused (before after : ℕ) (journal : List Event) : Type 0 where
   pub never_falls : before ≤ after
   pub fault : has_answer is_disk_fault journal ≡ true → HasRisen before after
 
--- a run took place on an environment with these files: each answer is the model's on the opening store, and each commit's
--- sync follows it at once
-pub record HasRun (most : ℕ) (observable : Bool) (files : Files) (opening : Store) (journal : List Event) (st : Standing) : Type 0 where
-  pub starts : StartsAt observable files opening st
-  pub answers : AnswersAsModel (log_rule most) st journal
-  pub synced_at_once : AreSyncedAtOnce journal
-
 -- the cause that a journal's first answer of LogFull or IdsEnded gives
-abbrev pub cause_of_answer : Answer → Cause → Cause
-cause_of_answer LogFull later = NoRoom
-cause_of_answer IdsEnded later = NoNumbers
+abbrev pub cause_of_answer : Option Answer → Cause → Cause
+cause_of_answer (Some LogFull) later = NoRoom
+cause_of_answer (Some IdsEnded) later = NoNumbers
 cause_of_answer answer later = later
 
 abbrev pub cause_of_room : List Event → Cause
@@ -50,9 +52,10 @@ cause_of_room (event ∷ events) = cause_of_answer (answer_of event) (cause_of_r
 abbrev pub cause_of_journal : List Event → Cause
 cause_of_journal journal = if has_answer is_disk_fault journal then Disk else cause_of_room journal
 
--- the session that a line is of, and the lines of one session
+-- whether a line is of a session, and the lines of one session
 abbrev pub is_of_session : ℕ → ScriptLine → Bool
 is_of_session session (Session s line call) = s == session
+is_of_session session (Maintenance line step) = false
 
 abbrev pub of_session : ℕ → List ScriptLine → List ScriptLine
 of_session session lines = filter (is_of_session session) lines

@@ -1,32 +1,37 @@
 // How a run ends.
-ghost use Rattle.std.specs.Prelude.{◌≡◌};
-ghost use Rattle.je_model.specs.Journal.{answer_of, has_answer, is_disk_fault};
-ghost use Rattle.je_program.specs.Run.{cause_of_journal, cause_of_room};
+ghost use Rattle.std.specs.Prelude.{◌≡◌, option_map};
+ghost use Rattle.store_model.specs.Journal.{answer_of, answers_some, is_disk_fault};
+ghost use Rattle.je_answers.specs.Journal.{has_answer};
+ghost use Rattle.je_program.specs.Run.{cause_of_answer, cause_of_journal, cause_of_room};
 
 use crate::cause::Cause;
-use je_model::{Answer, Event};
+use store_model::{Answer, Event};
 
-// What an event answers.
-fn answer_in(event: &Event) -> &Answer
-    ensures { result.now ≡ answer_of event.now }
+// What an event answers, if it answers.
+fn answer_in(event: &Event) -> Option<&Answer>
+    ensures { option_map (λ answer. answer.now) result ≡ answer_of event.now }
 {
     match event {
-        Event::Call { answer, .. } => answer,
-        Event::SyncBegin { answer } => answer,
-        Event::SyncEnd { answer } => answer,
+        Event::Call { answer, .. } => Some(answer),
+        Event::Resume { answer, .. } => Some(answer),
+        Event::End { session: _ } => None,
+        Event::WriteOut { answer } => Some(answer),
+        Event::SyncBegin { answer } => Some(answer),
+        Event::SyncEnd { answer } => Some(answer),
+        Event::Turn { answer, .. } => Some(answer),
     }
 }
 
-fn is_fault(answer: &Answer) -> bool
-    ensures { result ≡ is_disk_fault answer.now }
+fn is_fault(event: &Event) -> bool
+    ensures { result ≡ answers_some is_disk_fault event.now }
 {
-    matches!(answer, Answer::DiskFault)
+    matches!(answer_in(event), Some(Answer::DiskFault))
 }
 
 fn has_fault(journal: &[Event]) -> bool
     ensures { result ≡ has_answer is_disk_fault journal.now }
 {
-    journal.iter().any(|event| is_fault(answer_in(event)))
+    journal.iter().any(|event| is_fault(event))
 }
 
 // The cause that the first answer of LogFull or IdsEnded gives.
@@ -35,8 +40,8 @@ fn room_cause(journal: &[Event]) -> Cause
 {
     for event in journal {
         match answer_in(event) {
-            Answer::LogFull => return Cause::LogFull,
-            Answer::IdsEnded => return Cause::IdsEnded,
+            Some(Answer::LogFull) => return Cause::LogFull,
+            Some(Answer::IdsEnded) => return Cause::IdsEnded,
             _ => {}
         }
     }

@@ -4,15 +4,18 @@ ghost use Rattle.std.specs.Prelude.{◌≡◌, ◌≤◌, ◌<◌, ◌+◌, ◌+
 ghost use Rattle.script_text.specs.Grammar.{has_line};
 ghost use Rattle.je_disk.specs.Moments.{History, now};
 ghost use Rattle.engine.specs.Whole.{CanGoOn, IsGuarded, disk_of};
-ghost use Rattle.je_model.specs.Answers.{Standing};
-ghost use Rattle.je_model.specs.Journal.{is_logged, lines_of};
-ghost use Rattle.je_model.specs.declared.plan.ScriptLine.TheVariants.{Session};
+ghost use Rattle.store_model.specs.Journal.{is_logged};
+ghost use Rattle.store_model.specs.declared.event.Event.TheVariants.{Call as Called};
+ghost use Rattle.store_model.specs.declared.plan.ScriptLine.TheVariants.{Session};
+ghost use Rattle.je_answers.specs.Standing.{Standing};
+ghost use Rattle.je_answers.specs.Journal.{lines_of};
 ghost use Rattle.je_program.specs.Run.{IsRunning, IsCaused};
 
 use engine::Engine;
 use je_disk::{Disk, SyncJob};
-use je_model::{Answer, Call, Event};
+use je_order::List;
 use std::alloc::{AllocError, Global};
+use store_model::{Answer, Call, Event};
 
 // Whether an answer says that a commit waits for its sync.
 fn waits_for_sync(answer: &Answer) -> bool
@@ -30,6 +33,30 @@ fn record(journal: &mut Vec<Event>, event: Event)
     journal.push(event).unwrap();
 }
 
+// The journal gains a call with its answer; a call that is a transaction of its own has no victims.
+fn record_call(
+    journal: &mut Vec<Event>,
+    alloc: Global,
+    session: u8,
+    line: u32,
+    call: Call,
+    answer: Answer,
+)
+    requires room { length journal.old.items < vec_capacity journal.old }
+    ensures items { journal.new.items ≡ journal.old.items ++ Called session line call answer [] ∷ [] }
+    ensures room { vec_capacity journal.old ≤ vec_capacity journal.new }
+{
+    let victims = List::new(alloc);
+    let event = Event::Call {
+        session,
+        line,
+        call,
+        answer,
+        victims,
+    };
+    record(journal, event);
+}
+
 /// Gives a session's call to the engine, and syncs where it was logged; the journal gains the
 /// events. Running out of memory leaves both as they were.
 pub fn execute<D: Disk>(
@@ -40,14 +67,14 @@ pub fn execute<D: Disk>(
     line: u32,
     call: Call,
 ) -> Result<(), AllocError>
-    requires running { (most : ℕ) × (st : Standing) × IsRunning most D.observable (now (D.history (disk_of engine.old))) engine.old journal.old.items st }
+    requires running { (most : ℕ) × (first : ℕ) × (st : Standing) × IsRunning most first D.observable (now (D.history (disk_of engine.old))) engine.old journal.old.items st }
     requires bounds { CanGoOn engine.old }
     requires has_line { has_line call ≡ true }
-    ensures runs { (most : ℕ) (st : Standing) → IsRunning most D.observable (now (D.history (disk_of engine.old))) engine.old journal.old.items st
-        → IsRunning most D.observable (now (D.history (disk_of engine.new))) engine.new journal.new.items st }
+    ensures runs { (most first : ℕ) (st : Standing) → IsRunning most first D.observable (now (D.history (disk_of engine.old))) engine.old journal.old.items st
+        → IsRunning most first D.observable (now (D.history (disk_of engine.new))) engine.new journal.new.items st }
     ensures bounds { CanGoOn engine.new }
     ensures caused { (before : ℕ) → IsCaused before (D.faults (disk_of engine.old)) journal.old.items → IsCaused before (D.faults (disk_of engine.new)) journal.new.items }
-    ensures crash { D.observable ≡ true → (most : ℕ) (st : Standing) (start : History) → IsRunning most D.observable (now (D.history (disk_of engine.old))) engine.old journal.old.items st
+    ensures crash { D.observable ≡ true → (most first : ℕ) (st : Standing) (start : History) → IsRunning most first D.observable (now (D.history (disk_of engine.old))) engine.old journal.old.items st
         → IsGuarded most st start (D.history (disk_of engine.old)) engine.old journal.old.items
         → IsGuarded most st start (D.history (disk_of engine.new)) engine.new journal.new.items }
     ensures line { OnOk result (lines_of journal.new.items ≡ lines_of journal.old.items ++ Session session line call ∷ []) }
@@ -57,7 +84,7 @@ pub fn execute<D: Disk>(
         drop(call);
         return Err(AllocError);
     }
-    let answer = match engine.step(alloc, &call) {
+    let answer = match engine.step(alloc, session, line, &call) {
         Ok(answer) => answer,
         Err(_) => {
             drop(call);
@@ -65,13 +92,7 @@ pub fn execute<D: Disk>(
         }
     };
     let logged = waits_for_sync(&answer);
-    let event = Event::Call {
-        session,
-        line,
-        call,
-        answer,
-    };
-    record(journal, event);
+    record_call(journal, alloc, session, line, call, answer);
     if !logged {
         return Ok(());
     }

@@ -7,8 +7,8 @@ ghost use Rattle.je_program.specs.Program.{fault_text, report_of, IsOutputWritte
 use crate::cause::Cause;
 use crate::fault_line::fault_line;
 use je_io::{Failed, Sink, write_all};
-use je_model::{Event, Totals};
 use script_text::report;
+use store_model::{Event, Totals};
 
 // Writes the fault line of a cause, and nothing where all was done.
 fn write_fault<K: Sink>(cause: &Cause, output: &mut K) -> Result<(), Failed>

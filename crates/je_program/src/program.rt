@@ -2,22 +2,21 @@
 ghost use Rattle.std.specs.Prelude.{◌≡◌, ◌≢◌, ◌≤◌, ◌<◌, ◌⊎◌, [], ℕ, List, Some, Ok, Err, IfSome, true, false, length, map, string_bytes};
 ghost use Rattle.je_order.specs.Counts.{HasRisen, HasRisen as Failing};
 ghost use Rattle.je_disk.specs.Moments.{now};
-ghost use Rattle.je_model.specs.declared.plan.RunPlan.{RunPlan};
-ghost use Rattle.je_model.specs.Answers.{Standing};
-ghost use Rattle.je_model.specs.Journal.{AllAcknowledged, has_answer, is_disk_fault};
-ghost use Rattle.je_model.specs.Store.{no_databases};
+ghost use Rattle.store_model.specs.declared.plan.RunPlan.{RunPlan};
+ghost use Rattle.store_model.specs.Journal.{is_disk_fault};
+ghost use Rattle.store_model.specs.Store.{no_databases};
+ghost use Rattle.je_answers.specs.Standing.{Standing};
+ghost use Rattle.je_answers.specs.Journal.{has_answer};
 ghost use Rattle.log_replay.specs.Meaning.{Meaning};
 ghost use Rattle.log_replay.specs.declared.corruption.Corruption.{Corruption as Wrong};
 ghost use Rattle.script_text.specs.Grammar.{plan_of};
 ghost use Rattle.je_program.specs.declared.cause.Cause.{Cause as Why};
 ghost use Rattle.je_program.specs.declared.reading.TheConstants.{MOST_INPUT};
 ghost use Rattle.engine.specs.Crash.{KeepsEntry};
-ghost use Rattle.je_program.specs.Crash.{IsSafeProgram};
 ghost use Rattle.engine.specs.Untouched.{IsUntouched};
 ghost use Rattle.engine.specs.Files.{HasCorruption, Means};
-ghost use Rattle.engine.specs.Files.{MeanStore};
-ghost use Rattle.je_program.specs.Program.{EndsBy, IsGivenTo, IsOutputWritten, ReadsPlan, RunsIf, final_store, is_before_disk, output_text};
-ghost use Rattle.je_program.specs.Run.{HasRun, cause_of_room};
+ghost use Rattle.je_program.specs.Program.{EndsBy, IsGivenTo, IsOutputWritten, IsRunOf, ReadsPlan, RunsIf, is_before_disk, output_text};
+ghost use Rattle.je_program.specs.Run.{cause_of_room};
 ghost use Rattle.command_line.specs.Arguments.{file_max_in, is_taken};
 
 use crate::cause::Cause;
@@ -25,13 +24,14 @@ use crate::output::write_output;
 use crate::run_result::{RunResult, run_unprinted};
 use je_disk::Disk;
 use je_io::{Sink, Source};
-use je_model::{Event, Store};
 use log_replay::Rows;
 use std::alloc::Global;
+use store_model::{Event, Store, Totals};
 
 /// How a program ended: the status for the process; the cause behind it, which a failing output does
-/// not change; whether the environment was opened and the script run; the disk; the journal, and the
-/// store that the files at entry meant. Where nothing was opened, the journal and the store are empty.
+/// not change; whether the environment was opened and the script run; the disk; the journal, the store
+/// that the files at entry meant, and how much the store holds at the end. Where nothing was opened, the
+/// journal and the stores are empty.
 /// The records that were kept in memory are handed out too: a process that ends now need not give them
 /// back one by one.
 pub struct Ended<D> {
@@ -41,6 +41,7 @@ pub struct Ended<D> {
     pub disk: D,
     pub journal: Vec<Event>,
     pub opening: Store,
+    pub totals: Totals,
     pub rows: Rows,
 }
 
@@ -79,28 +80,22 @@ pub fn run_je<D: Disk, S: Source, K: Sink>(
     // Where the files at entry cannot be opened, the disk's state is at each moment what it was.
     ensures unreadable_untouched { (corruption : Wrong) → result.cause ≡ Why.Unreadable corruption → D.observable ≡ true → IsUntouched (D.history disk) (D.history result.disk) }
 
-    // A run: its journal holds the script's lines, each answer is the model's on the opening store, and
-    // each commit's sync follows it at once.
+    // A run: its journal holds the script's lines. Each answer is the model's, from what the files at entry mean on;
+    // each commit's sync follows it at once; where all was done, each commit is acknowledged, and the files mean the
+    // opening store changed by the commits in order. Over an observable disk, at each moment from the end of the
+    // opening's own sync on, what the disk reads, and each image of the disk in which no checksum matches by chance,
+    // means the opening store changed by the first of the attempted commits, at least the synced ones. Behind a disk
+    // fault the disk stands still. Each file stays. Where all was done, each image at the end means the final store.
     ensures runs { RunsIf result.cause result.opened }
     ensures given { result.opened ≡ true → (plan : RunPlan) × IsGivenTo (S.left input.old) (S.left input.new) result.journal.items result.cause plan }
-    ensures run { result.opened ≡ true → (file_max : ℕ) × (st : Standing) × (file_max_in (map string_bytes args.now) ≡ Some file_max) × HasRun file_max D.observable (now (D.history disk)).reads result.opening result.journal.items st }
+    ensures run { result.opened ≡ true → (file_max : ℕ) × (st : Standing) × (file_max_in (map string_bytes args.now) ≡ Some file_max) × IsRunOf file_max D.observable (D.history disk) (D.history result.disk) result.opening result.totals result.journal.items result.cause st }
     ensures unopened { result.opened ≡ false → (result.opening ≡ no_databases) × (result.journal.items ≡ []) }
     ensures ends { result.opened ≡ true → result.cause ≢ Why.Memory → EndsBy result.journal.items result.cause }
     ensures faults { has_answer is_disk_fault result.journal.items ≡ true → HasRisen (D.faults disk) (D.faults result.disk) }
 
-    // Where all was done, each commit is acknowledged, and the files mean the opening store changed by
-    // the commits in order.
-    ensures acknowledged { result.cause ≡ Why.Done → AllAcknowledged result.journal.items }
-    ensures files { result.cause ≡ Why.Done → D.observable ≡ true → MeanStore (now (D.history result.disk)).reads (final_store result.opening result.journal.items) }
-
-    // A run: at each moment from the end of the opening's own sync on, what the disk reads, and each image of the
-    // disk in which no checksum matches by chance, means the opening store changed by the first of the attempted
-    // commits, at least the synced ones. Behind a disk fault the disk stands still. Each file stays. Where all was
-    // done, each image at the end means the final store.
-    // From entry until then, and at each moment where nothing was opened: each file reads as it did at entry, but
+    // From entry until the run, and at each moment where nothing was opened: each file reads as it did at entry, but
     // for a torn tail of the last one that was cut off. Where the files at entry mean a store, each image means it
     // too, if nothing was pending at entry; and each image at the end does, if nothing is pending then.
-    ensures crash { D.observable ≡ true → result.opened ≡ true → IsSafeProgram (D.history disk) (D.history result.disk) result.opening result.journal.items result.cause }
     ensures crash_unopened { D.observable ≡ true → result.opened ≡ false → KeepsEntry (D.history disk) (D.history result.disk) }
 
     // Valid arguments, a script and files with a meaning end in a run, unless memory ran out or a count
@@ -116,7 +111,7 @@ pub fn run_je<D: Disk, S: Source, K: Sink>(
 
     // What was written, and the status: the cause's, unless the output failed.
     ensures written { IsOutputWritten (K.written output.old) (K.written output.new) (K.faults output.old) (K.faults output.new)
-        (output_text result.cause result.opened result.opening result.journal.items) result.cause result.status }
+        (output_text result.cause result.opened result.journal.items result.totals) result.cause result.status }
 
     // No count of faults falls.
     ensures disk_faults { D.faults disk ≤ D.faults result.disk }
@@ -141,6 +136,7 @@ pub fn run_je<D: Disk, S: Source, K: Sink>(
         disk,
         journal,
         opening,
+        totals,
         rows,
     }
 }

@@ -6,9 +6,9 @@ ghost use Rattle.je_program.specs.Program.{ReadsPlan, StopsReading};
 
 use crate::cause::Cause;
 use je_io::{ReadErr, Source, read_all};
-use je_model::RunPlan;
 use script_text::{ParseErr, parse};
 use std::alloc::Global;
+use store_model::RunPlan;
 
 /// The most bytes that an input may have.
 pub const MOST_INPUT: usize = 16_777_216;

@@ -9,8 +9,8 @@ use crate::cause::Cause;
 use crate::reading::read_script;
 use command_line::parse;
 use je_io::Source;
-use je_model::RunPlan;
 use std::alloc::Global;
+use store_model::RunPlan;
 
 /// What a program is to do: to run a plan over log files of at most so many bytes.
 pub struct RunRequest {

@@ -1,24 +1,22 @@
 // A program's work, up to its output.
 ghost use Rattle.std.specs.Prelude.{◌≡◌, ◌≢◌, ◌≤◌, ◌^◌, ◌⊎◌, [], ℕ, true, false, map, string_bytes, Some};
 ghost use Rattle.std.specs.List.{list_all};
-ghost use Rattle.je_model.specs.declared.plan.RunPlan.{RunPlan};
+ghost use Rattle.store_model.specs.declared.plan.RunPlan.{RunPlan};
 ghost use Rattle.script_text.specs.Grammar.{is_line};
 ghost use Rattle.command_line.specs.Arguments.{file_max_in, is_taken};
 ghost use Rattle.je_disk.specs.Moments.{History, now};
 ghost use Rattle.engine.specs.Whole.{IsGuarded, disk_of};
 ghost use Rattle.log_replay.specs.declared.corruption.Corruption.{Corruption as Wrong};
-ghost use Rattle.je_model.specs.Answers.{Standing, after_events};
-ghost use Rattle.je_model.specs.Journal.{lines_of};
-ghost use Rattle.je_model.specs.Store.{no_databases};
+ghost use Rattle.store_model.specs.Store.{no_databases};
+ghost use Rattle.je_answers.specs.Standing.{Standing};
+ghost use Rattle.je_answers.specs.Journal.{lines_of};
 ghost use Rattle.je_program.specs.declared.cause.Cause.{Cause as Why};
 ghost use Rattle.engine.specs.Crash.{ImagesMean, IsSafeRun, KeepsEntry};
-ghost use Rattle.je_program.specs.Crash.{IsSafeProgram};
-ghost use Rattle.engine.specs.Environment.{log_rule};
 ghost use Rattle.je_program.specs.Untouched.{LeavesUnreadable};
 ghost use Rattle.engine.specs.Files.{HasCorruption, MeanStore};
 ghost use Rattle.engine.specs.Totals.{totals_of};
-ghost use Rattle.je_program.specs.Program.{ClosesRun, EndsBy, IsGivenTo, IsStopped, ReadsPlan, RunsIf, final_store, is_before_disk, cause_closed, cause_of_opening};
-ghost use Rattle.je_program.specs.Run.{HasRun, IsCaused, AreFirstLines, IsRunning, cause_of_journal, of_session};
+ghost use Rattle.je_program.specs.Program.{ClosesRun, EndsBy, IsGivenTo, IsRunOf, IsStopped, ReadsPlan, RunsIf, is_before_disk, cause_closed, cause_of_opening};
+ghost use Rattle.je_program.specs.Run.{IsCaused, AreFirstLines, IsRunning, cause_of_journal, final_store, of_session};
 
 use crate::cause::Cause;
 use crate::ending::journal_cause;
@@ -27,9 +25,9 @@ use crate::running::{Running, run};
 use engine::{Closed, Config, Engine, OpenErr, Opened, Stopped};
 use je_disk::Disk;
 use je_io::Source;
-use je_model::{Event, RunPlan, Store, Totals};
 use log_replay::Rows;
 use std::alloc::Global;
+use store_model::{Event, RunPlan, Store, Totals};
 
 /// What a program came to, before its output is written: the cause of its end, whether its environment
 /// was opened and the script run, the disk, the journal, the store at entry, how much the store holds at
@@ -111,16 +109,16 @@ fn finish<D: Disk>(running: Running<D>, opening: Store) -> RunResult<D>
     ensures memory { running.memory_ended ≡ true → result.cause ≡ Why.Memory }
     ensures ends { running.memory_ended ≡ false → EndsBy running.journal.items result.cause }
     ensures caused { (before : ℕ) → IsCaused before (D.faults (disk_of running.engine)) running.journal.items → ClosesRun before (D.faults result.disk) running.journal.items result.cause }
-    ensures crash { D.observable ≡ true → (most : ℕ) (start : History) (st : Standing) → IsRunning most D.observable (now (D.history (disk_of running.engine))) running.engine running.journal.items st
+    ensures crash { D.observable ≡ true → (most first : ℕ) (start : History) (st : Standing) → IsRunning most first D.observable (now (D.history (disk_of running.engine))) running.engine running.journal.items st
         → IsGuarded most st start (D.history (disk_of running.engine)) running.engine running.journal.items
-        → IsSafeRun st.store start (D.history result.disk) running.journal.items }
-    ensures crash_end { D.observable ≡ true → (most : ℕ) (start : History) (st : Standing) → IsRunning most D.observable (now (D.history (disk_of running.engine))) running.engine running.journal.items st
+        → IsSafeRun st start (D.history result.disk) running.journal.items }
+    ensures crash_end { D.observable ≡ true → (most first : ℕ) (start : History) (st : Standing) → IsRunning most first D.observable (now (D.history (disk_of running.engine))) running.engine running.journal.items st
         → IsGuarded most st start (D.history (disk_of running.engine)) running.engine running.journal.items → st.fault ≡ None → result.cause ≡ Why.Done
-        → ImagesMean (now (D.history result.disk)) (after_events (log_rule most) st running.journal.items).store }
-    ensures totals { (most : ℕ) (st : Standing) → IsRunning most D.observable (now (D.history (disk_of running.engine))) running.engine running.journal.items st
-        → result.totals ≡ totals_of (after_events (log_rule most) st running.journal.items).store }
-    ensures files { (most : ℕ) (st : Standing) → IsRunning most D.observable (now (D.history (disk_of running.engine))) running.engine running.journal.items st
-        → st.fault ≡ None → result.cause ≡ Why.Done → D.observable ≡ true → MeanStore (now (D.history result.disk)).reads (after_events (log_rule most) st running.journal.items).store }
+        → ImagesMean (now (D.history result.disk)) (final_store st running.journal.items) }
+    ensures totals { (most first : ℕ) (st : Standing) → IsRunning most first D.observable (now (D.history (disk_of running.engine))) running.engine running.journal.items st
+        → result.totals ≡ totals_of (final_store st running.journal.items) }
+    ensures files { (most first : ℕ) (st : Standing) → IsRunning most first D.observable (now (D.history (disk_of running.engine))) running.engine running.journal.items st
+        → st.fault ≡ None → result.cause ≡ Why.Done → D.observable ≡ true → MeanStore (now (D.history result.disk)).reads (final_store st running.journal.items) }
 {
     let Running {
         engine,
@@ -150,8 +148,7 @@ pub fn run_plan<D: Disk>(alloc: Global, disk: D, file_max: u32, plan: RunPlan) -
     requires lines { list_all is_line plan.lines ≡ true }
     ensures runs { RunsIf result.cause result.opened }
     ensures after_reading { is_before_disk result.cause ≡ false }
-    ensures run { result.opened ≡ true → (st : Standing) × HasRun file_max D.observable (now (D.history disk)).reads result.opening result.journal.items st }
-    ensures crash { D.observable ≡ true → result.opened ≡ true → IsSafeProgram (D.history disk) (D.history result.disk) result.opening result.journal.items result.cause }
+    ensures run { result.opened ≡ true → (st : Standing) × IsRunOf file_max D.observable (D.history disk) (D.history result.disk) result.opening result.totals result.journal.items result.cause st }
     ensures crash_unopened { D.observable ≡ true → result.opened ≡ false → KeepsEntry (D.history disk) (D.history result.disk) }
     ensures unopened { result.opened ≡ false → (result.opening ≡ no_databases) × (result.journal.items ≡ []) }
     ensures unreadable { (corruption : Wrong) → result.cause ≡ Why.Unreadable corruption → D.observable ≡ true → HasCorruption (now (D.history disk)).reads corruption }
@@ -159,8 +156,6 @@ pub fn run_plan<D: Disk>(alloc: Global, disk: D, file_max: u32, plan: RunPlan) -
     ensures front { result.opened ≡ true → (session : ℕ) → AreFirstLines (of_session session (lines_of result.journal.items)) (of_session session plan.lines) }
     ensures ends { result.opened ≡ true → result.cause ≢ Why.Memory → EndsBy result.journal.items result.cause }
     ensures caused { ClosesRun (D.faults disk) (D.faults result.disk) result.journal.items result.cause }
-    ensures totals { result.opened ≡ true → result.totals ≡ totals_of (final_store result.opening result.journal.items) }
-    ensures files { result.cause ≡ Why.Done → D.observable ≡ true → MeanStore (now (D.history result.disk)).reads (final_store result.opening result.journal.items) }
     ensures left_alone { D.observable ≡ true → LeavesUnreadable result.cause (D.history disk) (D.history result.disk) }
 {
     let config = Config { file_max };
@@ -192,15 +187,12 @@ pub fn run_unprinted<D: Disk, S: Source>(
     ensures given { result.opened ≡ true → (plan : RunPlan) × IsGivenTo (S.left input.old) (S.left input.new) result.journal.items result.cause plan }
     ensures untouched { is_before_disk result.cause ≡ true → result.disk ≡ disk }
     ensures runs { RunsIf result.cause result.opened }
-    ensures run { result.opened ≡ true → (file_max : ℕ) × (st : Standing) × (file_max_in (map string_bytes args.now) ≡ Some file_max) × HasRun file_max D.observable (now (D.history disk)).reads result.opening result.journal.items st }
-    ensures crash { D.observable ≡ true → result.opened ≡ true → IsSafeProgram (D.history disk) (D.history result.disk) result.opening result.journal.items result.cause }
+    ensures run { result.opened ≡ true → (file_max : ℕ) × (st : Standing) × (file_max_in (map string_bytes args.now) ≡ Some file_max) × IsRunOf file_max D.observable (D.history disk) (D.history result.disk) result.opening result.totals result.journal.items result.cause st }
     ensures crash_unopened { D.observable ≡ true → result.opened ≡ false → KeepsEntry (D.history disk) (D.history result.disk) }
     ensures unopened { result.opened ≡ false → (result.opening ≡ no_databases) × (result.journal.items ≡ []) }
     ensures unreadable { (corruption : Wrong) → result.cause ≡ Why.Unreadable corruption → D.observable ≡ true → HasCorruption (now (D.history disk)).reads corruption }
     ensures ends { result.opened ≡ true → result.cause ≢ Why.Memory → EndsBy result.journal.items result.cause }
     ensures caused { ClosesRun (D.faults disk) (D.faults result.disk) result.journal.items result.cause }
-    ensures totals { result.opened ≡ true → result.totals ≡ totals_of (final_store result.opening result.journal.items) }
-    ensures files { result.cause ≡ Why.Done → D.observable ≡ true → MeanStore (now (D.history result.disk)).reads (final_store result.opening result.journal.items) }
     ensures source { S.faults input.old ≤ S.faults input.new }
     ensures left_alone { D.observable ≡ true → LeavesUnreadable result.cause (D.history disk) (D.history result.disk) }
 {

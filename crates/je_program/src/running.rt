@@ -3,17 +3,17 @@ ghost use Rattle.std.specs.Prelude.{◌≡◌, ◌≤◌, ◌<◌, ◌++◌, ◌
 ghost use Rattle.std.specs.List.{list_all};
 ghost use Rattle.script_text.specs.Grammar.{has_line, is_line};
 ghost use Rattle.je_disk.specs.Moments.{History, now};
-ghost use Rattle.engine.specs.Whole.{CanGoOn, IsAt, IsGuarded, disk_of};
-ghost use Rattle.je_model.specs.Answers.{Standing};
-ghost use Rattle.je_model.specs.declared.plan.ScriptLine.{ScriptLine as Line};
-ghost use Rattle.je_model.specs.declared.plan.ScriptLine.TheVariants.{Session};
+ghost use Rattle.engine.specs.Whole.{CanGoOn, IsAt, IsGuarded, disk_of, end_file};
+ghost use Rattle.store_model.specs.declared.plan.ScriptLine.{ScriptLine as Line};
+ghost use Rattle.store_model.specs.declared.plan.ScriptLine.TheVariants.{Session};
+ghost use Rattle.je_answers.specs.Standing.{Standing};
 ghost use Rattle.je_program.specs.Run.{IsRunning, IsCaused, HasGiven};
 
 use crate::executing::execute;
 use engine::Engine;
 use je_disk::Disk;
-use je_model::{Call, Event, ScriptLine};
 use std::alloc::Global;
+use store_model::{Call, Event, ScriptLine};
 
 /// A run under way: its engine, the journal so far, whether a call found no memory, and which
 /// sessions were ended by that, by their numbers.
@@ -50,17 +50,17 @@ fn execute_line<D: Disk>(
     line: u32,
     call: Call,
 )
-    requires running { (most : ℕ) × (st : Standing) × IsRunning most D.observable (now (D.history (disk_of running.old.engine))) running.old.engine running.old.journal.items st }
+    requires running { (most : ℕ) × (first : ℕ) × (st : Standing) × IsRunning most first D.observable (now (D.history (disk_of running.old.engine))) running.old.engine running.old.journal.items st }
     requires bounds { CanGoOn running.old.engine }
     requires sessions { length running.old.stopped ≡ 256 }
     requires has_line { has_line call ≡ true }
-    ensures runs { (most : ℕ) (st : Standing) → IsRunning most D.observable (now (D.history (disk_of running.old.engine))) running.old.engine running.old.journal.items st
-        → IsRunning most D.observable (now (D.history (disk_of running.new.engine))) running.new.engine running.new.journal.items st }
+    ensures runs { (most first : ℕ) (st : Standing) → IsRunning most first D.observable (now (D.history (disk_of running.old.engine))) running.old.engine running.old.journal.items st
+        → IsRunning most first D.observable (now (D.history (disk_of running.new.engine))) running.new.engine running.new.journal.items st }
     ensures bounds { CanGoOn running.new.engine }
     ensures sessions { length running.new.stopped ≡ 256 }
     ensures caused { (before : ℕ) → IsCaused before (D.faults (disk_of running.old.engine)) running.old.journal.items
         → IsCaused before (D.faults (disk_of running.new.engine)) running.new.journal.items }
-    ensures crash { D.observable ≡ true → (most : ℕ) (st : Standing) (start : History) → IsRunning most D.observable (now (D.history (disk_of running.old.engine))) running.old.engine running.old.journal.items st
+    ensures crash { D.observable ≡ true → (most first : ℕ) (st : Standing) (start : History) → IsRunning most first D.observable (now (D.history (disk_of running.old.engine))) running.old.engine running.old.journal.items st
         → IsGuarded most st start (D.history (disk_of running.old.engine)) running.old.engine running.old.journal.items
         → IsGuarded most st start (D.history (disk_of running.new.engine)) running.new.engine running.new.journal.items }
     ensures given { (lines : List Line) → HasGiven running.old.journal.items running.old.memory_ended running.old.stopped lines
@@ -89,17 +89,17 @@ fn execute_line<D: Disk>(
 
 // Gives the next line.
 fn execute_next<D: Disk>(running: &mut Running<D>, alloc: Global, given: ScriptLine)
-    requires running { (most : ℕ) × (st : Standing) × IsRunning most D.observable (now (D.history (disk_of running.old.engine))) running.old.engine running.old.journal.items st }
+    requires running { (most : ℕ) × (first : ℕ) × (st : Standing) × IsRunning most first D.observable (now (D.history (disk_of running.old.engine))) running.old.engine running.old.journal.items st }
     requires bounds { CanGoOn running.old.engine }
     requires sessions { length running.old.stopped ≡ 256 }
     requires line { is_line given ≡ true }
-    ensures runs { (most : ℕ) (st : Standing) → IsRunning most D.observable (now (D.history (disk_of running.old.engine))) running.old.engine running.old.journal.items st
-        → IsRunning most D.observable (now (D.history (disk_of running.new.engine))) running.new.engine running.new.journal.items st }
+    ensures runs { (most first : ℕ) (st : Standing) → IsRunning most first D.observable (now (D.history (disk_of running.old.engine))) running.old.engine running.old.journal.items st
+        → IsRunning most first D.observable (now (D.history (disk_of running.new.engine))) running.new.engine running.new.journal.items st }
     ensures bounds { CanGoOn running.new.engine }
     ensures sessions { length running.new.stopped ≡ 256 }
     ensures caused { (before : ℕ) → IsCaused before (D.faults (disk_of running.old.engine)) running.old.journal.items
         → IsCaused before (D.faults (disk_of running.new.engine)) running.new.journal.items }
-    ensures crash { D.observable ≡ true → (most : ℕ) (st : Standing) (start : History) → IsRunning most D.observable (now (D.history (disk_of running.old.engine))) running.old.engine running.old.journal.items st
+    ensures crash { D.observable ≡ true → (most first : ℕ) (st : Standing) (start : History) → IsRunning most first D.observable (now (D.history (disk_of running.old.engine))) running.old.engine running.old.journal.items st
         → IsGuarded most st start (D.history (disk_of running.old.engine)) running.old.engine running.old.journal.items
         → IsGuarded most st start (D.history (disk_of running.new.engine)) running.new.engine running.new.journal.items }
     ensures given { (lines : List Line) → HasGiven running.old.journal.items running.old.memory_ended running.old.stopped lines
@@ -111,6 +111,8 @@ fn execute_next<D: Disk>(running: &mut Running<D>, alloc: Global, given: ScriptL
             line,
             call,
         } => execute_line(running, alloc, session, line, call),
+        // no line of a script gives one
+        ScriptLine::Maintenance { line: _, step: _ } => unreachable!(),
     }
 }
 
@@ -121,7 +123,7 @@ pub fn run<D: Disk>(alloc: Global, engine: Engine<D>, lines: Vec<ScriptLine>) ->
     requires bounds { CanGoOn engine }
     requires lines { list_all is_line lines.items ≡ true }
     ensures runs { (most : ℕ) (st : Standing) → IsAt most D.observable (now (D.history (disk_of engine))) engine st
-        → IsRunning most D.observable (now (D.history (disk_of result.engine))) result.engine result.journal.items st }
+        → IsRunning most (end_file engine) D.observable (now (D.history (disk_of result.engine))) result.engine result.journal.items st }
     ensures caused { IsCaused (D.faults (disk_of engine)) (D.faults (disk_of result.engine)) result.journal.items }
     ensures crash { D.observable ≡ true → (most : ℕ) (st : Standing) (start : History) → IsAt most D.observable (now (D.history (disk_of engine))) engine st
         → IsGuarded most st start (D.history (disk_of engine)) engine []

@@ -1,6 +1,5 @@
 use Rattle.je_disk.specs.Moments.{now}
 use Rattle.je_program.proofs.EndLaws.{completes, finds}
-use Rattle.je_program.proofs.FinishLaws.{done_acknowledged, done_is_no_memory, done_opened}
 use Rattle.std.proofs.Common.{subst}
 use Rattle.je_program.specs.Untouched.{LeavesUnreadable}
 use Rattle.je_program.proofs.program.run_je.Goals as goal
@@ -9,13 +8,6 @@ pub returns-clause-unreadable_untouched : goal.returns-clause-unreadable_untouch
 returns-clause-unreadable_untouched g c = λ corruption is observed.
     let a = c.run_unprinted-run_result in
     subst (λ why. LeavesUnreadable why (g.D.Disk.history c.args.disk) (g.D.Disk.history a.result.disk)) is (a.ensures.left_alone observed)
-
-pub returns-clause-acknowledged : goal.returns-clause-acknowledged
-returns-clause-acknowledged g c = λ done.
-    let a = c.run_unprinted-run_result in
-    let opened = done_opened a.result.cause a.result.opened done a.ensures.runs in
-    let run = a.ensures.run opened in
-    done_acknowledged a.result.journal.items a.result.cause done (a.ensures.ends opened (done_is_no_memory a.result.cause done)) run.3.synced_at_once
 
 pub returns-clause-complete : goal.returns-clause-complete
 returns-clause-complete g c = λ bytes plan meaning taken left short plans observed means.
@@ -63,12 +55,6 @@ returns-clause-unopened g c = c.run_unprinted-run_result.ensures.unopened
 
 pub returns-clause-ends : goal.returns-clause-ends
 returns-clause-ends g c = c.run_unprinted-run_result.ensures.ends
-
-pub returns-clause-files : goal.returns-clause-files
-returns-clause-files g c = c.run_unprinted-run_result.ensures.files
-
-pub returns-clause-crash : goal.returns-clause-crash
-returns-clause-crash g c = c.run_unprinted-run_result.ensures.crash
 
 pub returns-clause-crash_unopened : goal.returns-clause-crash_unopened
 returns-clause-crash_unopened g c = c.run_unprinted-run_result.ensures.crash_unopened

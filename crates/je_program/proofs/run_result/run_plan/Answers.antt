@@ -1,17 +1,17 @@
-use Rattle.std.proofs.Common.{◌∙◌, Bool, List, sym, ap, subst}
+use Rattle.std.proofs.Common.{◌≡◌, ◌∙◌, ℕ, true, List, None, sym, ap, subst}
 use Rattle.je_disk.specs.Moments.{now}
-use Rattle.je_model.specs.declared.event.Event.{Event}
-use Rattle.je_model.specs.declared.plan.ScriptLine.{ScriptLine}
-use Rattle.je_model.specs.declared.store.Store.{Store}
-use Rattle.je_model.specs.Journal.{lines_of}
-use Rattle.engine.specs.Whole.{IsAt, disk_of}
-use Rattle.engine.specs.Crash.{ImagesMean, IsSafeRun, KeepsEntry}
+use Rattle.store_model.specs.declared.event.Event.{Event}
+use Rattle.store_model.specs.declared.plan.ScriptLine.{ScriptLine}
+use Rattle.store_model.specs.declared.store.Store.{Store}
+use Rattle.je_answers.specs.Journal.{lines_of}
+use Rattle.engine.specs.Whole.{disk_of, end_file}
+use Rattle.engine.specs.Crash.{KeepsEntry}
+use Rattle.engine.specs.Limits.{AreBounded}
 use Rattle.je_program.specs.Crash.{IsSafeProgram}
-use Rattle.engine.specs.Files.{MeanStore}
-use Rattle.engine.specs.Totals.{totals_of}
-use Rattle.je_program.specs.Program.{final_store, EndsBy, ClosesRun, RunsIf, cause_of_opening, is_before_disk}
-use Rattle.je_program.specs.Run.{HasRun, AreFirstLines, of_session}
-use Rattle.je_program.proofs.FinishLaws.{ran_cause, runs_if, ran_after_reading, ran_not_unreadable, ends_by, final_is, caused_earlier}
+use Rattle.je_program.specs.Program.{EndsBy, ClosesRun, IsRunOf, RunsIf, cause_of_opening, is_before_disk}
+use Rattle.je_program.specs.Run.{AreFirstLines, of_session}
+use Rattle.je_program.proofs.BeginLaws.{opened_as_one, starts_valid}
+use Rattle.je_program.proofs.FinishLaws.{done_acknowledged, done_is_no_memory, ran_cause, runs_if, ran_after_reading, ran_not_unreadable, ends_by, caused_earlier}
 use Rattle.je_program.specs.declared.cause.Cause.{Cause}
 use Rattle.je_program.specs.Untouched.{LeavesUnreadable}
 use Rattle.je_program.proofs.StopLaws.{stopped_after_reading, stopped_caused, stopped_failed, stopped_runs, stopped_unreadable}
@@ -29,15 +29,48 @@ returns-in-Ok-clause-after_reading g c =
     ran_after_reading f.result.cause (ran_cause c.run-running.result.journal.items c.run-running.result.memory_ended f.result.cause f.ensures.memory f.ensures.ends)
 
 pub returns-in-Ok-clause-run : goal.returns-in-Ok-clause-run
-returns-in-Ok-clause-run g c = λ opened.
-    let st = c.in-Ok.ensures.opened.0 in
-    let at = c.in-Ok.ensures.opened.1 in
-    let running = c.run-running.ensures.runs c.args.file_max st at.here in
-    let files = (now (g.D.Disk.history c.args.disk)).reads in
-    let run : HasRun c.args.file_max g.D.Disk.observable files c.in-Ok.opened.opening c.run-running.result.journal.items st = record { starts = at.starts; answers = running.answers; synced_at_once = running.synced } in (
+returns-in-Ok-clause-run g c = λ is_opened.
+    let f = c.finish in
+    let history = g.D.Disk.history in
+    let engine = c.in-Ok.opened.engine in
+    let opening = c.in-Ok.opened.opening in
+    let most = c.args.file_max in
+    let journal = c.run-running.result.journal.items in
+    let cause = f.result.cause in
+    let totals = f.result.totals in
+    let old = history c.args.disk in
+    let start = history (disk_of engine) in
+    let new = history f.result.disk in
+    let at = opened_as_one most g.D.Disk.observable (now old).reads opening start engine c.in-Ok.ensures.opened c.in-Ok.ensures.crash in
+    let st = at.st in
+    let running = c.run-running.ensures.runs most st at.here in
+    let first = end_file engine in
+    let valid : st.fault ≡ None = starts_valid g.D.Disk.observable (now old).reads opening st at.starts in
+    let safe : g.D.Disk.observable ≡ true → IsSafeProgram old new st journal cause = λ observed.
+    let begun = at.safe observed in
+    let guarded = c.run-running.ensures.crash observed most st start at.here begun.guarded in
+    record {
+      start = start;
+      stable = begun.stable;
+      before = c.in-Ok.ensures.entry observed;
+      run = f.ensures.crash observed most first start st running guarded;
+      ends = λ done. f.ensures.crash_end observed most first start st running guarded valid done;
+    } in
+    let run : IsRunOf most g.D.Disk.observable old new opening totals journal cause st = record {
+      starts = at.starts;
+      limits = running.limits;
+      answers = running.answers;
+      bounded = subst (λ (n : ℕ). AreBounded n running.limits) at.ends running.bounded;
+      synced_at_once = running.synced;
+      acknowledged = λ done. done_acknowledged st journal cause done
+          (ends_by journal c.run-running.result.memory_ended cause f.ensures.memory f.ensures.ends (done_is_no_memory cause done)) running.synced;
+      safe = safe;
+      files = λ done observed. f.ensures.files most first st running valid done observed;
+      totals = f.ensures.totals most first st running;
+    } in (
       st,
-      subst (λ (s : Store). HasRun c.args.file_max g.D.Disk.observable files s c.finish.result.journal.items st) (sym c.finish.ensures.opening)
-          (subst (λ (j : List Event). HasRun c.args.file_max g.D.Disk.observable files c.in-Ok.opened.opening j st) (sym c.finish.ensures.journal) run),
+      subst (λ (s : Store). IsRunOf most g.D.Disk.observable old new s totals f.result.journal.items cause st) (sym f.ensures.opening)
+          (subst (λ (j : List Event). IsRunOf most g.D.Disk.observable old new opening totals j cause st) (sym f.ensures.journal) run),
     )
 
 pub returns-in-Ok-clause-unreadable : goal.returns-in-Ok-clause-unreadable
@@ -65,50 +98,6 @@ returns-in-Ok-clause-caused g c =
     subst (λ (l : List Event). ClosesRun (faults c.args.disk) (faults f.result.disk) l f.result.cause) (sym f.ensures.journal)
     (f.ensures.caused (faults c.args.disk)
     (caused_earlier (faults c.args.disk) (faults (disk_of c.in-Ok.opened.engine)) (faults (disk_of c.run-running.result.engine)) j c.in-Ok.ensures.faults c.run-running.ensures.caused))
-
-pub returns-in-Ok-clause-totals : goal.returns-in-Ok-clause-totals
-returns-in-Ok-clause-totals g c = λ opened.
-    let f = c.finish in
-    let st = c.in-Ok.ensures.opened.0 in
-    let at = c.in-Ok.ensures.opened.1 in
-    let running = c.run-running.ensures.runs c.args.file_max st at.here in
-    let j = c.run-running.result.journal.items in
-    f.ensures.totals c.args.file_max st running ∙ ap totals_of (final_is c.args.file_max st c.in-Ok.opened.opening j at.starts.store
-    ∙ ap (λ (s : Store). final_store s j) (sym f.ensures.opening) ∙ ap (λ (l : List Event). final_store f.result.opening l) (sym f.ensures.journal))
-
-pub returns-in-Ok-clause-files : goal.returns-in-Ok-clause-files
-returns-in-Ok-clause-files g c = λ done observed.
-    let f = c.finish in
-    let st = c.in-Ok.ensures.opened.0 in
-    let at = c.in-Ok.ensures.opened.1 in
-    let running = c.run-running.ensures.runs c.args.file_max st at.here in
-    let j = c.run-running.result.journal.items in
-    let same = final_is c.args.file_max st c.in-Ok.opened.opening j at.starts.store
-    ∙ ap (λ (s : Store). final_store s j) (sym f.ensures.opening) ∙ ap (λ (l : List Event). final_store f.result.opening l) (sym f.ensures.journal) in
-    subst (λ (s : Store). MeanStore (now (g.D.Disk.history f.result.disk)).reads s) same (f.ensures.files c.args.file_max st running at.starts.fault done observed)
-
-pub returns-in-Ok-clause-crash : goal.returns-in-Ok-clause-crash
-returns-in-Ok-clause-crash g c = λ observed is_opened.
-    let f = c.finish in
-    let at = c.in-Ok.ensures.crash observed in
-    let engine = c.in-Ok.opened.engine in
-    let history = g.D.Disk.history in
-    let j = c.run-running.result.journal.items in
-    let start = history (disk_of engine) in
-    let here : IsAt c.args.file_max g.D.Disk.observable (now (history (disk_of engine))) engine at.st =
-    subst (λ (t : Bool). IsAt c.args.file_max t (now (history (disk_of engine))) engine at.st) (sym observed) at.here in
-    let running = c.run-running.ensures.runs c.args.file_max at.st here in
-    let guarded = c.run-running.ensures.crash observed c.args.file_max at.st start here at.guarded in
-    let run : IsSafeProgram (history c.args.disk) (history f.result.disk) c.in-Ok.opened.opening j f.result.cause = record {
-      start = start;
-      stable = at.stable;
-      before = c.in-Ok.ensures.entry observed;
-      run = subst (λ (s : Store). IsSafeRun s start (history f.result.disk) j) at.starts.store (f.ensures.crash observed c.args.file_max start at.st running guarded);
-      ends = λ done. subst (λ (s : Store). ImagesMean (now (history f.result.disk)) s) (final_is c.args.file_max at.st c.in-Ok.opened.opening j at.starts.store)
-          (f.ensures.crash_end observed c.args.file_max start at.st running guarded at.starts.fault done);
-    } in
-    subst (λ (s : Store). IsSafeProgram (history c.args.disk) (history f.result.disk) s f.result.journal.items f.result.cause) (sym f.ensures.opening)
-    (subst (λ (l : List Event). IsSafeProgram (history c.args.disk) (history f.result.disk) c.in-Ok.opened.opening l f.result.cause) (sym f.ensures.journal) run)
 
 pub returns-in-Err-clause-crash_unopened : goal.returns-in-Err-clause-crash_unopened
 returns-in-Err-clause-crash_unopened g c = λ observed opened. subst (λ d. KeepsEntry (g.D.Disk.history c.args.disk) (g.D.Disk.history d)) (sym c.unopened.ensures.disk) (c.in-Err.ensures.stopped_entry observed)

@@ -23,9 +23,6 @@ returns-in-Ok-clause-runs g c = c.run_plan.ensures.runs
 pub returns-in-Ok-clause-run : goal.returns-in-Ok-clause-run
 returns-in-Ok-clause-run g c = λ opened. (let r = c.run_plan.ensures.run opened in (c.in-Ok.field-0.file_max, r.0, c.in-Ok.ensures.file_max, r.1))
 
-pub returns-in-Ok-clause-crash : goal.returns-in-Ok-clause-crash
-returns-in-Ok-clause-crash g c = c.run_plan.ensures.crash
-
 pub returns-in-Ok-clause-crash_unopened : goal.returns-in-Ok-clause-crash_unopened
 returns-in-Ok-clause-crash_unopened g c = c.run_plan.ensures.crash_unopened
 
@@ -40,12 +37,6 @@ returns-in-Ok-clause-ends g c = c.run_plan.ensures.ends
 
 pub returns-in-Ok-clause-caused : goal.returns-in-Ok-clause-caused
 returns-in-Ok-clause-caused g c = c.run_plan.ensures.caused
-
-pub returns-in-Ok-clause-totals : goal.returns-in-Ok-clause-totals
-returns-in-Ok-clause-totals g c = c.run_plan.ensures.totals
-
-pub returns-in-Ok-clause-files : goal.returns-in-Ok-clause-files
-returns-in-Ok-clause-files g c = c.run_plan.ensures.files
 
 pub returns-in-Ok-clause-script : goal.returns-in-Ok-clause-script
 returns-in-Ok-clause-script g c = λ after memory. (c.in-Ok.field-0.plan, c.in-Ok.ensures.read)
