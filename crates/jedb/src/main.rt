@@ -70,6 +70,7 @@ fn run<R: Runtime + AllocGlobal>(rt: &R) -> Result<u8, AllocError> {
         disk: _,
         journal,
         opening,
+        totals: _,
         rows,
     } = ended;
     drop(held);

@@ -1,14 +1,15 @@
 // The program's answers beside the plain program's.
 use crate::fixture::run_script;
-use je_eval::eval;
-use je_model::{Answer, Call, Event, Store};
 use mem_disk::MemDisk;
 use std::alloc::{AllocError, Global};
 use std::process::Abort;
 use std::test::Fail;
+use store_eval::eval;
+use store_model::{Answer, Call, Event, Store};
 
-// Three databases, one of them made late, and keys that are prefixes of each other or empty. No name
-// is made twice, since the plain program does not know that refusal.
+// Three databases, one of them made late, and keys that are prefixes of each other or empty; then each is
+// renamed, emptied or removed. No name is taken twice, since the plain program does not know that
+// refusal.
 const SCRIPT: &[u8] = b"s1 get t 61\n\
 s1 put t 61 31\n\
 s1 delete t 61\n\
@@ -41,7 +42,23 @@ s5 delete u 00\n\
 s5 create u plain\n\
 s5 delete u 00\n\
 s5 put u 00 00\n\
-s5 get s 61\n";
+s5 get s 61\n\
+s6 list\n\
+s6 putno s 61 00\n\
+s6 putno s 62 00\n\
+s6 rename s v\n\
+s6 get s 61\n\
+s6 get v 62\n\
+s6 truncate t\n\
+s6 get t 6162\n\
+s6 remove u\n\
+s6 putno u 00 00\n\
+s6 truncate u\n\
+s6 rename u s\n\
+s6 remove u\n\
+s6 create u plain\n\
+s6 get u 00\n\
+s6 list\n";
 
 // Whether a session has this answer of a call at the end: a commit that was logged is done.
 fn is_answered(answer: &Answer, want: &Answer) -> bool {
@@ -51,16 +68,17 @@ fn is_answered(answer: &Answer, want: &Answer) -> bool {
     }
 }
 
-// The store after a call, which was answered as the plain program answers it.
+// The store after the call of a line, which was answered as the plain program answers it.
 fn follow(
     rt: &impl Abort,
     alloc: Global,
     store: &Store,
+    line: u32,
     call: &Call,
     answer: &Answer,
 ) -> Result<Store, AllocError> {
     let (want, after) = eval(alloc, store, call)?;
-    assert!(rt; is_answered(answer, &want), "{call:?}");
+    assert!(rt; is_answered(answer, &want), "line {line}");
     Ok(after)
 }
 
@@ -69,8 +87,11 @@ fn follow_all(rt: &impl Abort, alloc: Global, journal: &[Event]) -> Result<u32, 
     let mut store = Store::new(alloc);
     let mut calls = 0u32;
     for event in journal {
-        if let Event::Call { call, answer, .. } = event {
-            store = follow(rt, alloc, &store, call, answer)?;
+        if let Event::Call {
+            line, call, answer, ..
+        } = event
+        {
+            store = follow(rt, alloc, &store, *line, call, answer)?;
             calls = calls.saturating_add(1);
         }
     }
@@ -81,8 +102,8 @@ fn follow_all(rt: &impl Abort, alloc: Global, journal: &[Event]) -> Result<u32, 
 fn as_the_plain_program(rt: HostRuntime) -> Result<(), Fail> {
     let alloc = rt.alloc();
     let ran = run_script(alloc, MemDisk::new(alloc), SCRIPT)?;
-    assert!(rt; follow_all(&rt, alloc, &ran.journal)? == 33);
-    let end = "\nend commits 13 databases 3 records 5\n";
+    assert!(rt; follow_all(&rt, alloc, &ran.journal)? == 49);
+    let end = "\nend commits 18 databases 3 records 2\n";
     assert!(rt; ran.text().ends_with(end));
     Ok(())
 }

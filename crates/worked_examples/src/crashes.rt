@@ -2,11 +2,11 @@
 // durable, or to those and the one that was under way.
 use crate::fixture::{FIRST, RUN, RUN_SMALL, Ran, run_args, run_script, strings};
 use je_lsn::FileNo;
-use je_model::{Answer, Event};
 use mem_disk::MemDisk;
 use std::alloc::{AllocError, Global};
 use std::process::Abort;
 use std::test::Fail;
+use store_model::{Answer, Event};
 
 // The files of a disk, by number.
 type Files = Vec<(FileNo, Vec<u8>)>;
@@ -273,6 +273,36 @@ fn stops_in_the_first_example(rt: HostRuntime) -> Result<(), Fail> {
     let alloc = rt.alloc();
     let mut prefixes = first_prefixes(alloc)?;
     assert!(rt; stop_at_each_call(&rt, alloc, &RUN, FIRST, &mut prefixes)? == Some(1));
+    Ok(())
+}
+
+// A database is made, renamed, emptied and removed. The rename logs two entries and its commit.
+const CHANGES: &[u8] =
+    b"s1 create t plain\ns1 put t 61 31\ns1 rename t u\ns1 truncate u\ns1 remove u\n";
+
+// What is read of each prefix of its commits.
+fn change_prefixes(alloc: Global) -> Result<Prefixes, AllocError> {
+    let texts = [
+        "1 s1 ok\n2 s1 nodatabase\n3 s1 nodatabase\nend commits 0 databases 0 records 0\n",
+        "1 s1 ok t\n2 s1 notfound\n3 s1 nodatabase\nend commits 0 databases 1 records 0\n",
+        "1 s1 ok t\n2 s1 ok 61 31\n3 s1 nodatabase\nend commits 0 databases 1 records 1\n",
+        "1 s1 ok u\n2 s1 nodatabase\n3 s1 ok 61 31\nend commits 0 databases 1 records 1\n",
+        "1 s1 ok u\n2 s1 nodatabase\n3 s1 notfound\nend commits 0 databases 1 records 0\n",
+        "1 s1 ok\n2 s1 nodatabase\n3 s1 nodatabase\nend commits 0 databases 0 records 0\n",
+    ];
+    Ok(Prefixes {
+        reading: Vec::from_slice(alloc, b"s1 list\ns1 get t 61\ns1 get u 61\n")?,
+        texts: strings(alloc, &texts)?,
+        last: FileNo(0),
+        found: Vec::new(alloc),
+    })
+}
+
+#[test]
+fn stops_in_changes_of_a_database(rt: HostRuntime) -> Result<(), Fail> {
+    let alloc = rt.alloc();
+    let mut prefixes = change_prefixes(alloc)?;
+    assert!(rt; stop_at_each_call(&rt, alloc, &RUN, CHANGES, &mut prefixes)? == Some(1));
     Ok(())
 }
 

@@ -1,11 +1,11 @@
 // A run of the program in memory, and what it came to.
 use je_io::{MemSink, MemSource, Source};
 use je_lsn::FileNo;
-use je_model::Event;
 use je_program::{Ended, run_je};
 use mem_disk::MemDisk;
 use std::alloc::{AllocError, Global};
 use std::process::Abort;
+use store_model::Event;
 
 // What a run came to. It is handed out in a box, so that each way out of a test lets it go in one step.
 #[derive(Drop)]
@@ -122,6 +122,7 @@ pub fn run_with<S: Source>(
         disk,
         journal,
         opening: _,
+        totals: _,
         rows: _,
     } = run_je(alloc, &args, disk, input, &mut output);
     let ran = Ran {

@@ -1,13 +1,15 @@
 //! Worked examples: the whole program over a disk, an input and an output in memory, with the report,
 //! the status and the files that were worked out by hand, and runs in which the disk, the input or the
 //! output fails. There are tests alone here. They stand on `je_program` and on the crates that its
-//! parameters come from, and compare its answers with `je_eval`'s plain program.
+//! parameters come from, and compare its answers with `store_eval`'s plain program.
 #![tactic(auto)]
 
 #[cfg(test)]
 mod agreeing;
 #[cfg(test)]
 mod crashes;
+#[cfg(test)]
+mod databases;
 #[cfg(test)]
 mod failing;
 #[cfg(test)]
