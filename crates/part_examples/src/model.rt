@@ -199,7 +199,12 @@ static DUPLICATES: [Row; 14] = [
     (b't', Step::PutNo("b", "1"), "done", "t a=1 a=2 a=3 b=1;"),
     (b't', Step::Get("a"), "a=1", "t a=1 a=2 a=3 b=1;"),
     (b't', Step::GetBoth("a", "2"), "a=2", "t a=1 a=2 a=3 b=1;"),
-    (b't', Step::GetBoth("b", "2"), "not found", "t a=1 a=2 a=3 b=1;"),
+    (
+        b't',
+        Step::GetBoth("b", "2"),
+        "not found",
+        "t a=1 a=2 a=3 b=1;",
+    ),
     (b't', Step::Delete("a"), "done", "t b=1;"),
     (b't', Step::Rename, "done", "s b=1;"),
     (b's', Step::Put("b", "0"), "done", "s b=0 b=1;"),

@@ -98,6 +98,7 @@ t\
 \x00\x00\
 \x00\x00\x00\x00\
 \x00";
+
 const DUPLICATES: &[u8] = b"\
 \x06\x15\x00\x91\
 \x02\
@@ -127,6 +128,7 @@ u\
 \x00\x00\
 \x00\x00\x00\x01\
 \x00";
+
 const WITH_DUP: &[u8] = b"\
 \x06\x15\x01\x0c\
 \x02\
@@ -139,6 +141,7 @@ const WITH_DUP: &[u8] = b"\
 a\
 \x00\x01\
 x";
+
 const WITH_DATA: &[u8] = b"\
 \x07\x66\x01\x3e\
 \x02\
