@@ -1,5 +1,5 @@
 -- What a name asks behind it, and lists that do not grow.
-use Rattle.std.proofs.Common.{◌≡◌, Bool, true, false, List, [], ◌∷◌, ◌++◌, refl, ap, sym, ◌∙◌}
+use Rattle.std.proofs.Common.{◌≡◌, true, false, List, [], ◌∷◌, ◌++◌, refl, ap, sym, ◌∙◌}
 use Rattle.std.specs.Prelude.{ℕ}
 use Rattle.je_order.specs.declared.bound.Bound.{Bound}
 use Rattle.lock_mode.specs.declared.lock_type.LockType.TheVariants.{RangeInsert}
