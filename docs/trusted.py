@@ -23,7 +23,7 @@ TOP_CALL = "run_je"  # the call whose contract is the store's theorem
 # The questions that a reader has, in order, each with the crates whose definitions answer it. What the theorem takes of a
 # crate that is not named here answers the question on the run; the rest of it is of parts that the program does not use.
 QUESTIONS = [
-    ("Store and answers", "je_order order_laws record_map je_model je_eval je_answers db_catalog"),
+    ("Store and answers", "je_order order_laws record_map store_model record_eval store_eval je_answers db_catalog"),
     ("Text", "je_io command_line script_text"),
     ("The disk and crashes", "je_disk mem_disk dir_disk crash_meaning"),
     ("The log's bytes", "je_bytes je_lsn log_entry log_file log_buffer log_replay"),

@@ -1,6 +1,6 @@
 //! Examples of the parts: values, bytes, names and streams; disks in memory and over a folder; the log's
 //! entries, files, replay and buffer, and nodes and their images; locks; the model's evaluation, the
-//! catalog, and the texts that come in and go out. There are tests alone here, of the crates below
+//! catalog's records, and the texts that come in and go out. There are tests alone here, of the crates below
 //! `je_program`. What has a variant for each kind of entry, call or plan is let go by `drop`, in one step
 //! of a proof: where a scope ends with it there is one for each kind.
 #![tactic(auto)]
@@ -11,8 +11,6 @@ mod arguments;
 mod buffer;
 #[cfg(test)]
 mod bytes;
-#[cfg(test)]
-mod catalog;
 #[cfg(test)]
 mod catalog_records;
 #[cfg(test)]

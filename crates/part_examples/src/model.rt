@@ -1,20 +1,23 @@
 // Calls on a store, their answers and the stores after them.
-use je_eval::eval;
-use je_model::{Answer, Call, Kind, Store};
-use je_order::{Octets, Word, copy_of};
+use je_order::{Octets, Word};
 use std::alloc::{AllocError, Global};
+use store_eval::eval;
+use store_model::{Answer, Call, Kind, PutMode, Store};
 
 // A call on a database, or on all of them.
 #[derive(Clone, Copy)]
 enum Step {
     List,
     Create,
+    CreateDup,
     Remove,
     Rename,
     Truncate,
     Put(&'static str, &'static str),
     PutNo(&'static str, &'static str),
+    PutPair(&'static str, &'static str),
     Get(&'static str),
+    GetBoth(&'static str, &'static str),
     Delete(&'static str),
 }
 
@@ -22,21 +25,30 @@ fn octets(alloc: Global, text: &str) -> Result<Octets, AllocError> {
     Octets::from_slice(alloc, text.as_bytes())
 }
 
-// A put of a pair, that overwrites or not.
+// A put of a pair by its mode; with none a get of the pair.
 fn put(
     alloc: Global,
     db: Word,
     key: &str,
     value: &str,
-    overwrites: bool,
+    mode: Option<PutMode>,
 ) -> Result<Call, AllocError> {
     let key = octets(alloc, key)?;
     let value = octets(alloc, value)?;
-    if overwrites {
-        Ok(Call::Put { db, key, value })
-    } else {
-        Ok(Call::PutNo { db, key, value })
-    }
+    Ok(match mode {
+        Some(mode) => Call::Put {
+            db,
+            key,
+            value,
+            mode,
+        },
+        None => Call::GetBoth {
+            db,
+            key,
+            value,
+            rmw: false,
+        },
+    })
 }
 
 // A get of a key, or its deletion.
@@ -61,11 +73,17 @@ fn call_of(alloc: Global, db: Word, to: Word, step: Step) -> Result<Call, AllocE
             db,
             kind: Kind::Plain,
         }),
+        Step::CreateDup => Ok(Call::Create {
+            db,
+            kind: Kind::Dup,
+        }),
         Step::Remove => Ok(Call::Remove { db }),
         Step::Rename => Ok(Call::Rename { db, to }),
         Step::Truncate => Ok(Call::Truncate { db }),
-        Step::Put(key, value) => put(alloc, db, key, value, true),
-        Step::PutNo(key, value) => put(alloc, db, key, value, false),
+        Step::Put(key, value) => put(alloc, db, key, value, Some(PutMode::Overwrite)),
+        Step::PutNo(key, value) => put(alloc, db, key, value, Some(PutMode::NoOverwrite)),
+        Step::PutPair(key, value) => put(alloc, db, key, value, Some(PutMode::NoDupData)),
+        Step::GetBoth(key, value) => put(alloc, db, key, value, None),
         Step::Get(key) => get(alloc, db, key, false),
         Step::Delete(key) => get(alloc, db, key, true),
     }
@@ -169,6 +187,29 @@ static DATABASES: [Row; 17] = [
     (b's', Step::Remove, "done", ""),
 ];
 
+// The calls on a database of sorted duplicates.
+static DUPLICATES: [Row; 14] = [
+    (b't', Step::CreateDup, "done", "t;"),
+    (b't', Step::Put("a", "2"), "done", "t a=2;"),
+    (b't', Step::Put("a", "1"), "done", "t a=1 a=2;"),
+    (b't', Step::Put("a", "1"), "done", "t a=1 a=2;"),
+    (b't', Step::PutNo("a", "3"), "key exist", "t a=1 a=2;"),
+    (b't', Step::PutPair("a", "2"), "key exist", "t a=1 a=2;"),
+    (b't', Step::PutPair("a", "3"), "done", "t a=1 a=2 a=3;"),
+    (b't', Step::PutNo("b", "1"), "done", "t a=1 a=2 a=3 b=1;"),
+    (b't', Step::Get("a"), "a=1", "t a=1 a=2 a=3 b=1;"),
+    (b't', Step::GetBoth("a", "2"), "a=2", "t a=1 a=2 a=3 b=1;"),
+    (
+        b't',
+        Step::GetBoth("b", "2"),
+        "not found",
+        "t a=1 a=2 a=3 b=1;",
+    ),
+    (b't', Step::Delete("a"), "done", "t b=1;"),
+    (b't', Step::Rename, "done", "s b=1;"),
+    (b's', Step::Put("b", "0"), "done", "s b=0 b=1;"),
+];
+
 // The name of one letter.
 fn word(alloc: Global, letter: u8) -> Result<Word, AllocError> {
     let name = [letter];
@@ -241,10 +282,5 @@ fn first_other(alloc: Global, rows: &[Row]) -> Result<Option<usize>, AllocError>
 fn evaluates_calls(rt: HostRuntime) {
     assert!(rt; first_other(rt.alloc(), &RECORDS) == Ok(None));
     assert!(rt; first_other(rt.alloc(), &DATABASES) == Ok(None));
-}
-
-#[test]
-fn copies_a_store(rt: HostRuntime) {
-    let store = Store::new(rt.alloc());
-    assert!(rt; copy_of(&store) == Ok(store));
+    assert!(rt; first_other(rt.alloc(), &DUPLICATES) == Ok(None));
 }

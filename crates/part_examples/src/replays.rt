@@ -2,10 +2,10 @@
 use crate::samples::{first, second};
 use je_disk::{Disk, DiskErr};
 use je_lsn::{FileNo, Lsn};
-use je_model::{Store, Totals};
 use log_replay::{Corruption, LogRead, Replayed, new_environment, read_log};
 use mem_disk::MemDisk;
 use std::alloc::Global;
+use store_model::{Store, Totals};
 
 // What a log of files from number 0 on comes to.
 fn read(alloc: Global, files: &[&[u8]]) -> Result<LogRead, DiskErr> {
@@ -15,6 +15,11 @@ fn read(alloc: Global, files: &[&[u8]]) -> Result<LogRead, DiskErr> {
         disk.append(FileNo(number), bytes)?;
         number = number.saturating_add(1);
     }
+    read_disk(alloc, disk)
+}
+
+fn read_disk(alloc: Global, disk: MemDisk) -> Result<LogRead, DiskErr> {
+    let mut disk = disk;
     let listed = disk.list(alloc)?;
     read_log(alloc, &mut disk, listed.as_slice())
 }
@@ -36,14 +41,6 @@ fn has_t(store: &Store, wanted: &[(u8, u8)]) -> bool {
         same = same && is_pair(key.as_slice(), data.as_slice(), *pair);
     }
     same
-}
-
-// Whether the entry at this offset of file 0 is the first that put a wrong record.
-fn is_wrong_at(alloc: Global, bytes: &[u8], offset: u32) -> Result<bool, DiskErr> {
-    let LogRead::Corrupt(corruption) = read(alloc, &[bytes])? else {
-        return Ok(false);
-    };
-    Ok(corruption == Corruption::Tree(Lsn::new(FileNo(0), offset)))
 }
 
 // Whether the replay of both files found all that they have.
@@ -87,19 +84,8 @@ fn begins_with_nothing(rt: HostRuntime) {
     assert!(rt; new.opening.databases.is_empty() && new.rows.count(0) == 0);
 }
 
-#[test]
-fn finds_the_first_wrong_record(rt: HostRuntime) {
-    let alloc = rt.alloc();
-    // the database t with number 0; a record a with the dup x; the databases t and u with one number
-    let number_0 = b"\
-\x0c\xb3\x01\x31\
-\x01\
-\x00\
-\x00\x00\x00\x00\
-\x00\x00\x00\x0c\
-\x4a\x45\x4c\x47\
-\x00\x00\x00\x01\
-\x00\x00\x00\x00\
+// The first entry of transaction 1: the database t with number 0, or as one of duplicates with number 1.
+const NUMBER_0: &[u8] = b"\
 \x06\x12\x00\x8f\
 \x02\
 \x00\
@@ -111,23 +97,10 @@ fn finds_the_first_wrong_record(rt: HostRuntime) {
 t\
 \x00\x00\
 \x00\x00\x00\x00\
-\x00\
-\x02\x07\x00\x29\
-\x05\
-\x00\
-\x00\x00\x00\x1a\
-\x00\x00\x00\x08\
-\x00\x00\x00\x00\x00\x00\x00\x01";
-    let with_dup = b"\
-\x0c\xb3\x01\x31\
-\x01\
-\x00\
-\x00\x00\x00\x00\
-\x00\x00\x00\x0c\
-\x4a\x45\x4c\x47\
-\x00\x00\x00\x01\
-\x00\x00\x00\x00\
-\x06\x14\x00\x90\
+\x00";
+
+const DUPLICATES: &[u8] = b"\
+\x06\x15\x00\x91\
 \x02\
 \x00\
 \x00\x00\x00\x00\
@@ -138,45 +111,11 @@ t\
 t\
 \x00\x00\
 \x00\x00\x00\x01\
-\x00\
-\x06\x15\x01\x0c\
-\x02\
-\x00\
-\x00\x00\x00\x1a\
-\x00\x00\x00\x12\
-\x00\x00\x00\x00\x00\x00\x00\x01\
-\x00\x00\x00\x01\
-\x00\x01\
-a\
-\x00\x01\
-x\
-\x03\xdb\x00\x4d\
-\x05\
-\x00\
-\x00\x00\x00\x3e\
-\x00\x00\x00\x08\
-\x00\x00\x00\x00\x00\x00\x00\x01";
-    let twice = b"\
-\x0c\xb3\x01\x31\
-\x01\
-\x00\
-\x00\x00\x00\x00\
-\x00\x00\x00\x0c\
-\x4a\x45\x4c\x47\
-\x00\x00\x00\x01\
-\x00\x00\x00\x00\
-\x06\x14\x00\x90\
-\x02\
-\x00\
-\x00\x00\x00\x00\
-\x00\x00\x00\x16\
-\x00\x00\x00\x00\x00\x00\x00\x01\
-\x00\x00\x00\x00\
-\x00\x01\
-t\
-\x00\x00\
-\x00\x00\x00\x01\
-\x00\
+\x01";
+
+// Its second entry: the database u with number 1, or in database 1 a record of a and the dup x, and one
+// with data beside it.
+const SAME_NUMBER: &[u8] = b"\
 \x08\xda\x00\xab\
 \x02\
 \x00\
@@ -188,14 +127,63 @@ t\
 u\
 \x00\x00\
 \x00\x00\x00\x01\
+\x00";
+
+const WITH_DUP: &[u8] = b"\
+\x06\x15\x01\x0c\
+\x02\
 \x00\
+\x00\x00\x00\x1a\
+\x00\x00\x00\x12\
+\x00\x00\x00\x00\x00\x00\x00\x01\
+\x00\x00\x00\x01\
+\x00\x01\
+a\
+\x00\x01\
+x";
+
+const WITH_DATA: &[u8] = b"\
+\x07\x66\x01\x3e\
+\x02\
+\x00\
+\x00\x00\x00\x1a\
+\x00\x00\x00\x13\
+\x00\x00\x00\x00\x00\x00\x00\x01\
+\x00\x00\x00\x01\
+\x00\x01\
+a\
+\x00\x01\
+x1";
+
+// Its commit behind two entries.
+const COMMIT: &[u8] = b"\
 \x03\xdb\x00\x4d\
 \x05\
 \x00\
 \x00\x00\x00\x3e\
 \x00\x00\x00\x08\
 \x00\x00\x00\x00\x00\x00\x00\x01";
-    assert!(rt; is_wrong_at(alloc, number_0, 26) == Ok(true));
-    assert!(rt; is_wrong_at(alloc, with_dup, 62) == Ok(true));
-    assert!(rt; is_wrong_at(alloc, twice, 62) == Ok(true));
+
+// Whether the entry at this offset of file 0, which has these pieces, is the first that put a wrong record.
+fn is_wrong_at(alloc: Global, pieces: &[&[u8]], offset: u32) -> Result<bool, DiskErr> {
+    let mut disk = MemDisk::new(alloc);
+    for piece in pieces {
+        disk.append(FileNo(0), piece)?;
+    }
+    let LogRead::Corrupt(corruption) = read_disk(alloc, disk)? else {
+        return Ok(false);
+    };
+    Ok(corruption == Corruption::Tree(Lsn::new(FileNo(0), offset)))
+}
+
+#[test]
+fn finds_the_first_wrong_record(rt: HostRuntime) {
+    let alloc = rt.alloc();
+    let header = &first()[..26];
+    let plain = &first()[..62];
+    let number_0 = [header, NUMBER_0, &first()[62..84]];
+    assert!(rt; is_wrong_at(alloc, &number_0, 26) == Ok(true));
+    assert!(rt; is_wrong_at(alloc, &[plain, SAME_NUMBER, COMMIT], 62) == Ok(true));
+    assert!(rt; is_wrong_at(alloc, &[plain, WITH_DUP, COMMIT], 62) == Ok(true));
+    assert!(rt; is_wrong_at(alloc, &[header, DUPLICATES, WITH_DATA, COMMIT], 62) == Ok(true));
 }

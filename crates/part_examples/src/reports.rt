@@ -1,9 +1,9 @@
 // The report of a journal.
 use je_io::{Failed, MemSink, Sink};
-use je_model::{Answer, Call, Event, Fault, Kind, Totals};
-use je_order::{List, Octets, Word};
+use je_order::{Bound, List, Name, Octets, TxnId, Word};
 use script_text::report;
 use std::alloc::{AllocError, Global};
+use store_model::{Answer, Call, Event, Fault, Kind, LockTarget, Totals, Victim};
 
 // What an event of the journal below answers.
 #[derive(Clone, Copy)]
@@ -17,6 +17,9 @@ enum Said {
     NotFound,
     TooMany,
     TooLong,
+    Txn,
+    Waiting,
+    Deadlock,
     DiskFault,
     Invalid,
 }
@@ -26,6 +29,40 @@ fn two_names(alloc: Global) -> Result<List<Word>, AllocError> {
     names.push(Word::from_slice(alloc, b"s_1")?)?;
     names.push(Word::from_slice(alloc, b"t")?)?;
     Ok(names)
+}
+
+// A cycle of two transactions, the least behind.
+fn cycle(alloc: Global) -> Result<List<TxnId>, AllocError> {
+    let mut cycle = List::new(alloc);
+    cycle.push(TxnId(5))?;
+    cycle.push(TxnId(2))?;
+    Ok(cycle)
+}
+
+// The record of a key and data, in a database of sorted duplicates.
+fn target(alloc: Global) -> Result<LockTarget, AllocError> {
+    let name = Name {
+        key: Octets::from_slice(alloc, b"a")?,
+        dup: Octets::from_slice(alloc, b"1")?,
+    };
+    Ok(LockTarget {
+        db: Word::from_slice(alloc, b"t")?,
+        kind: Kind::Dup,
+        at: Bound::At(name),
+    })
+}
+
+// The victim of an event, if its call was in a cycle.
+fn victims(alloc: Global, said: Said) -> Result<List<Victim>, AllocError> {
+    let mut victims = List::new(alloc);
+    if matches!(said, Said::Deadlock) {
+        victims.push(Victim {
+            session: 7,
+            line: 12,
+            cycle: cycle(alloc)?,
+        })?;
+    }
+    Ok(victims)
 }
 
 fn answer_of(alloc: Global, said: Said) -> Result<Answer, AllocError> {
@@ -44,6 +81,14 @@ fn answer_of(alloc: Global, said: Said) -> Result<Answer, AllocError> {
         Said::NotFound => Answer::NotFound,
         Said::TooMany => Answer::TooMany { count: 1_000 },
         Said::TooLong => Answer::TooLong { length: 4_097 },
+        Said::Txn => Answer::Txn { txn: TxnId(7) },
+        Said::Waiting => Answer::Waiting {
+            at: target(alloc)?,
+            owner: TxnId(3),
+        },
+        Said::Deadlock => Answer::Deadlock {
+            cycle: cycle(alloc)?,
+        },
         Said::DiskFault => Answer::DiskFault,
         Said::Invalid => Answer::Invalid { first: Fault::Disk },
     })
@@ -62,11 +107,12 @@ fn event_of(alloc: Global, session: u8, line: u32, said: Said) -> Result<Event, 
                 kind: Kind::Plain,
             },
             answer,
+            victims: victims(alloc, said)?,
         }),
     }
 }
 
-static JOURNAL: [(u8, u32, Said); 15] = [
+static JOURNAL: [(u8, u32, Said); 18] = [
     (1, 1, Said::Logged(1)),
     (0, 0, Said::Begun),
     (0, 0, Said::Durable(1)),
@@ -80,6 +126,9 @@ static JOURNAL: [(u8, u32, Said); 15] = [
     (4, 9, Said::TooLong),
     (5, 10, Said::Names),
     (5, 11, Said::KeyExist),
+    (6, 13, Said::Txn),
+    (7, 12, Said::Waiting),
+    (6, 14, Said::Deadlock),
     (1, 8, Said::DiskFault),
     (64, 1_000_000, Said::Invalid),
 ];
@@ -93,7 +142,7 @@ fn journal(alloc: Global) -> Result<Vec<Event>, AllocError> {
 }
 
 const TEXT: &[u8] =
-    b"1 s1 ok\n3 s2 ok 00ff -\n6 s1 notfound\n4 s2 ok\n7 s1 toomany 1000\n9 s4 toolong 4097\n10 s5 ok s_1 t\n11 s5 keyexist\n8 s1 diskfault\n5 s3 diskfault\n1000000 s64 invalid\nend commits 3 databases 1 records 2\n";
+    b"1 s1 ok\n3 s2 ok 00ff -\n6 s1 notfound\n4 s2 ok\n7 s1 toomany 1000\n9 s4 toolong 4097\n10 s5 ok s_1 t\n11 s5 keyexist\n13 s6 ok txn 7\n12 s7 waiting t 61 31 by 3\n14 s6 deadlock 2 5\n12 s7 deadlock 2 5\n8 s1 diskfault\n5 s3 diskfault\n1000000 s64 invalid\nend commits 3 databases 1 records 2\n";
 
 fn report_into(alloc: Global, out: &mut MemSink) -> Result<Result<(), Failed>, AllocError> {
     let totals = Totals {

@@ -1,27 +1,51 @@
 // Scripts that are read, and scripts that are none.
 use crate::rows::first_wrong;
-use je_model::{Call, Kind, ScriptLine};
 use je_order::{Octets, Word};
 use script_text::{ParseErr, parse};
 use std::alloc::{AllocError, Global};
+use store_model::{Call, Kind, PutMode, ScriptLine};
 
-// The calls of the script below, which starts with line 3.
-fn call_at(alloc: Global, line: u32) -> Result<Call, AllocError> {
+// A call on the database t, at a line of the script below.
+fn catalog_call(alloc: Global, line: u32) -> Result<Call, AllocError> {
+    let db = Word::from_slice(alloc, b"t")?;
+    Ok(match line {
+        3 => Call::Create {
+            db,
+            kind: Kind::Plain,
+        },
+        9 => Call::Remove { db },
+        10 => Call::Truncate { db },
+        _ => Call::Rename {
+            db,
+            to: Word::from_slice(alloc, b"u")?,
+        },
+    })
+}
+
+// A call on its records.
+fn record_call(alloc: Global, line: u32) -> Result<Call, AllocError> {
     let digits: &[u8] = match line {
         4 => b"\x00\xff",
         5 => b"\x0a",
-        7 => b"\xab",
+        7 | 8 => b"\xab",
         _ => b"",
     };
     let db = Word::from_slice(alloc, b"t")?;
     let key = Octets::from_slice(alloc, digits)?;
     let value = Octets::new(alloc);
     Ok(match line {
-        3 => Call::Create {
+        4 => Call::Put {
             db,
-            kind: Kind::Plain,
+            key,
+            value,
+            mode: PutMode::Overwrite,
         },
-        4 => Call::Put { db, key, value },
+        8 => Call::Put {
+            db,
+            key,
+            value,
+            mode: PutMode::NoOverwrite,
+        },
         5 => Call::Get {
             db,
             key,
@@ -30,6 +54,15 @@ fn call_at(alloc: Global, line: u32) -> Result<Call, AllocError> {
         6 => Call::Get { db, key, rmw: true },
         _ => Call::Delete { db, key },
     })
+}
+
+// The calls of the script below, which starts with line 3.
+fn call_at(alloc: Global, line: u32) -> Result<Call, AllocError> {
+    match line {
+        3 | 9 | 10 | 11 => catalog_call(alloc, line),
+        12 => Ok(Call::List),
+        _ => record_call(alloc, line),
+    }
 }
 
 fn is_given(alloc: Global, given: &ScriptLine, session: u8, line: u32) -> Result<bool, AllocError> {
@@ -44,7 +77,18 @@ fn is_given(alloc: Global, given: &ScriptLine, session: u8, line: u32) -> Result
 }
 
 // The lines that have a call, and the session of each.
-static LINES: [(u8, u32); 5] = [(1, 3), (64, 4), (9, 5), (10, 6), (2, 7)];
+static LINES: [(u8, u32); 10] = [
+    (1, 3),
+    (64, 4),
+    (9, 5),
+    (10, 6),
+    (2, 7),
+    (2, 8),
+    (3, 9),
+    (4, 10),
+    (5, 11),
+    (6, 12),
+];
 
 // Whether those are the calls.
 fn are_given(alloc: Global, lines: &[ScriptLine]) -> Result<bool, AllocError> {
@@ -58,7 +102,7 @@ fn are_given(alloc: Global, lines: &[ScriptLine]) -> Result<bool, AllocError> {
 // Each form, in a script with a comment, an empty line and no feed at its end.
 fn reads_forms(alloc: Global) -> Result<bool, ParseErr> {
     let text =
-        b"# a test\n\ns1 create t plain\ns64 put t 00fF -\ns9 get t 0a\ns10 get t - rmw\ns2 delete t aB";
+        b"# a test\n\ns1 create t plain\ns64 put t 00fF -\ns9 get t 0a\ns10 get t - rmw\ns2 delete t aB\ns2 putno t ab -\ns3 remove t\ns4 truncate t\ns5 rename t u\ns6 list";
     let plan = parse(alloc, text)?;
     let same = are_given(alloc, plan.lines.as_slice());
     drop(plan);
@@ -71,13 +115,14 @@ fn reads_each_form(rt: HostRuntime) {
 }
 
 // Scripts with a bad line, and the number of the first one.
-static BAD: [(&[u8], u32); 25] = [
+static BAD: [(&[u8], u32); 26] = [
     (b" ", 1),
-    (b"\n\ns1 list", 3),
-    (b"s1 remove t", 1),
-    (b"s1 rename t u", 1),
-    (b"s1 truncate t", 1),
-    (b"s1 putno t 00 00", 1),
+    (b"\n\ns1 lists", 3),
+    (b"s1 list t", 1),
+    (b"s1 remove", 1),
+    (b"s1 rename t", 1),
+    (b"s1 truncate t u", 1),
+    (b"s1 putno t 00", 1),
     (b"# \x80", 1),
     (b"s0 create t plain", 1),
     (b"s01 create t plain", 1),

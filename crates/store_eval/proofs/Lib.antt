@@ -1,2 +1,2 @@
--- Records by their name, and the ends of lists.
-pub mod Taken
+-- Lists from which nothing was taken.
+pub mod Kept

@@ -4,14 +4,13 @@ ghost use Rattle.std.specs.Option.{option_copied};
 ghost use Rattle.store_model.specs.Store.{pair_for, pairs_changed, all_pairs_changed, database_of, pairs_with, pairs_without, with_pairs, with_name, in_database, databases_with, databases_without, databases_renamed, changed, all_changed};
 ghost use Rattle.je_order.specs.Order.{is_same_bytes as is_same_text};
 
-use crate::edge::{cmp_pair, proper_name};
-use crate::filtering::{copies_where, with_item};
 use je_order::{List, Name, Octets, Word, cmp_bytes, copy_of};
+use record_eval::{cmp_pair, copies_where, proper_name, with_item};
 use std::alloc::{AllocError, Global};
 use store_model::{Change, Database, Kind, RecordChange, Store};
 
-/// Whether two byte strings are the same.
-pub fn same_bytes(a: &[u8], b: &[u8]) -> bool
+// Whether two byte strings are the same.
+fn same_bytes(a: &[u8], b: &[u8]) -> bool
     ensures { result ≡ is_same_text a.now b.now }
 {
     cmp_bytes(a, b).is_eq()

@@ -1,6 +1,6 @@
 use Rattle.std.proofs.Common.{rules, ◌∙◌, true, ap}
 use Rattle.store_model.specs.Store.{Pair, all_pairs_changed}
-use Rattle.store_eval.proofs.Taken.{all_kept}
+use Rattle.store_eval.proofs.Kept.{all_kept}
 use Rattle.store_eval.proofs.changing.pairs_after.Goals as goal
 
 pub loop-change-init : goal.loop-change-init

@@ -1,0 +1,2 @@
+-- Records by their name, and the ends of lists.
+pub mod Taken
