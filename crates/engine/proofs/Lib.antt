@@ -2,6 +2,8 @@
 pub mod Counts
 -- The store that a log's files mean.
 pub mod LogStores
+-- What the views of the records in memory see.
+pub mod ViewLaws
 -- What a call of a valid environment comes to is what the model answers, and how it ends.
 pub mod PlanLaws
 -- A log's end moves on with each entry.

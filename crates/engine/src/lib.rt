@@ -7,9 +7,12 @@
 //! definitions of specs/Whole alone.
 #![tactic(auto)]
 
+mod catalog_rows;
 mod closing;
 mod config;
 mod engine;
+mod found_record;
+mod held_edge;
 mod kept;
 mod logging;
 mod open_err;
@@ -18,6 +21,7 @@ mod planned;
 mod planned_changes;
 mod planned_row;
 mod planning;
+mod record_rows;
 
 pub use closing::Closed;
 pub use config::Config;
