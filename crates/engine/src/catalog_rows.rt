@@ -8,6 +8,7 @@ use log_replay::{Rows, SortKey};
 use std::alloc::{AllocError, Global};
 
 /// The catalog of an environment in memory.
+#[derive(Drop)]
 pub struct CatalogRows<'a> {
     pub rows: &'a Rows,
     ghost environment: { is_environment (rows_in rows.now) ≡ true },

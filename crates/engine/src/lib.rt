@@ -7,6 +7,7 @@
 //! definitions of specs/Whole alone.
 #![tactic(auto)]
 
+mod catalog_plan;
 mod catalog_rows;
 mod closing;
 mod config;
@@ -21,6 +22,7 @@ mod planned;
 mod planned_changes;
 mod planned_row;
 mod planning;
+mod record_plan;
 mod record_rows;
 
 pub use closing::Closed;

@@ -11,6 +11,7 @@ use std::alloc::{AllocError, Global};
 use store_model::Kind;
 
 /// The records of the database of a number and a kind, in memory.
+#[derive(Drop)]
 pub struct RecordRows<'a> {
     pub rows: &'a Rows,
     pub number: u32,
