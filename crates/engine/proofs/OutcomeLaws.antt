@@ -7,6 +7,7 @@ use Rattle.store_model.specs.declared.store.Database.{Database}
 use Rattle.store_model.specs.declared.kind.Kind.{Kind}
 use Rattle.store_model.specs.declared.call.Call.{Call}
 use Rattle.store_model.specs.declared.call.Call.TheVariants.{Get, GetBoth, Put, Delete}
+use Rattle.store_model.specs.declared.put_mode.PutMode.{PutMode}
 use Rattle.store_model.specs.declared.record_change.RecordChange.{RecordChange}
 use Rattle.store_model.specs.declared.answer.Answer.{Answer}
 use Rattle.store_model.specs.declared.answer.Answer.TheVariants.{NoDatabase, IdsEnded}
@@ -41,6 +42,21 @@ pub outcome_get : (p : Alone) (session : ℕ) (db key : List ℕ) (rmw : Bool) �
 outcome_get p session db key rmw h =
     ap (counted (or_refusal (access_refusal (is_some (database_of db p.store))) (target_refusal (Get db key rmw) (target_of (alone p) session (Get db key rmw))))
     (performed_outcome p session (Get db key rmw))) (numbered p h)
+
+pub outcome_get_both : (p : Alone) (session : ℕ) (db key value : List ℕ) (rmw : Bool) → p.last_txn < LAST_TXN → outcome_alone p session (GetBoth db key value rmw) ≡ outcome_by (GetBoth db key value rmw) (p.numbers db) (database_of db p.store)
+outcome_get_both p session db key value rmw h =
+    ap (counted (or_refusal (access_refusal (is_some (database_of db p.store))) (target_refusal (GetBoth db key value rmw) (target_of (alone p) session (GetBoth db key value rmw))))
+    (performed_outcome p session (GetBoth db key value rmw))) (numbered p h)
+
+pub outcome_put : (p : Alone) (session : ℕ) (db key value : List ℕ) (mode : PutMode) → p.last_txn < LAST_TXN → outcome_alone p session (Put db key value mode) ≡ outcome_by (Put db key value mode) (p.numbers db) (database_of db p.store)
+outcome_put p session db key value mode h =
+    ap (counted (or_refusal (access_refusal (is_some (database_of db p.store))) (target_refusal (Put db key value mode) (target_of (alone p) session (Put db key value mode))))
+    (performed_outcome p session (Put db key value mode))) (numbered p h)
+
+pub outcome_delete : (p : Alone) (session : ℕ) (db key : List ℕ) → p.last_txn < LAST_TXN → outcome_alone p session (Delete db key) ≡ outcome_by (Delete db key) (p.numbers db) (database_of db p.store)
+outcome_delete p session db key h =
+    ap (counted (or_refusal (access_refusal (is_some (database_of db p.store))) (target_refusal (Delete db key) (target_of (alone p) session (Delete db key))))
+    (performed_outcome p session (Delete db key))) (numbered p h)
 
 -- where the database is there: its refusal, else what evaluation on its records says
 abbrev pub outcome_found : Kind → List ℕ → Call → Evaluated → Outcome

@@ -24,9 +24,11 @@ catalog_of rows env name = by_row (row_at (plain_name name) (rows 0)) refl
         subst (λ (d : Option Database). IsRecordOf d (record_named rows name)) (sym (database_of-store_of rows name env ∙ ap (option_map (database_in rows)) e))
         (ap (λ (o : Option Row). record_in (option_map (λ (r : Row). r.1) o)) e)
     by_row (Some row) e =
-        subst (λ (d : Option Database). IsRecordOf d (record_named rows name)) (sym (database_of-store_of rows name env ∙ ap (option_map (database_in rows)) e))
-        (catalog_number row.1, ap (λ (o : Option Row). record_in (option_map (λ (r : Row). r.1) o)) e
-        ∙ record-again (record_in (Some row.1)) (named-above rows name row (environment_parts rows env) e))
+        subst (λ (d : Option Database). IsRecordOf d (record_named rows name)) (sym (database_of-store_of rows name env ∙ ap (option_map (database_in rows)) e)) (
+          catalog_number row.1,
+          ap (λ (o : Option Row). record_in (option_map (λ (r : Row). r.1) o)) e
+              ∙ record-again (record_in (Some row.1)) (named-above rows name row (environment_parts rows env) e),
+        )
 
 -- names that stand behind a name do so in the pairs
 behind : (kind : Kind) (n : Name) (rows : List Row) → AllByRecursion (λ r. name_of kind (pair_of kind r) ≡ r.0) rows → AllByRecursion (λ (r : Row). name_cmp n r.0 ≡ Less) rows →
