@@ -2,6 +2,14 @@
 pub mod Counts
 -- The store that a log's files mean.
 pub mod LogStores
+-- What the views of the records in memory see.
+pub mod ViewLaws
+-- What the parts of a plan come to.
+pub mod PlanParts
+-- What the model says a call comes to, from the records in memory.
+pub mod OutcomeLaws
+-- Changes of the records of one database, as a transaction logs them.
+pub mod RecordLaws
 -- What a call of a valid environment comes to is what the model answers, and how it ends.
 pub mod PlanLaws
 -- A log's end moves on with each entry.

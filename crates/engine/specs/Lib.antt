@@ -3,6 +3,8 @@ pub mod Totals
 pub mod Untouched
 pub mod Environment
 pub mod Planning
+pub mod Plans
+pub mod Views
 pub mod Logging
 pub mod Steps
 pub mod Opening

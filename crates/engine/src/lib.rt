@@ -7,9 +7,13 @@
 //! definitions of specs/Whole alone.
 #![tactic(auto)]
 
+mod catalog_plan;
+mod catalog_rows;
 mod closing;
 mod config;
 mod engine;
+mod found_record;
+mod held_edge;
 mod kept;
 mod logging;
 mod open_err;
@@ -18,6 +22,8 @@ mod planned;
 mod planned_changes;
 mod planned_row;
 mod planning;
+mod record_plan;
+mod record_rows;
 
 pub use closing::Closed;
 pub use config::Config;

@@ -46,3 +46,5 @@ pub mod PlacingLaws
 pub mod AgainLaws
 -- Records that go in many at a time.
 pub mod LoadedRows
+-- What plans read of the records of an environment.
+pub mod PlanViews

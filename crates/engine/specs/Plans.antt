@@ -1,0 +1,86 @@
+-- What the parts of a plan come to, from the records in memory.
+use Rattle.std.specs.Prelude.{ℕ, ◌≡◌, ◌≢◌, ◌+◌, ◌-◌, ◌∷◌, [], List, Option, Some, None, map, length}
+use Rattle.store_model.specs.declared.kind.Kind.{Kind}
+use Rattle.store_model.specs.declared.call.Call.{Call}
+use Rattle.store_model.specs.declared.change.Change.{Change}
+use Rattle.store_model.specs.declared.change.Change.TheVariants.{Make, Remove, Empty}
+use Rattle.store_model.specs.declared.record_change.RecordChange.{RecordChange}
+use Rattle.store_model.specs.declared.record_change.RecordChange.TheVariants.{Set, Unset}
+use Rattle.store_model.specs.declared.answer.Answer.{Answer}
+use Rattle.store_model.specs.declared.answer.Answer.TheVariants.{NoDatabase}
+use Rattle.store_model.specs.declared.totals.Totals.{Totals}
+use Rattle.store_model.specs.Records.{Evaluated, evaluation}
+use Rattle.store_model.specs.Evaluation.{Outcome, plain_name}
+use Rattle.store_model.specs.Refusals.{made_by, database_refuses}
+use Rattle.db_catalog.specs.declared.found_db.FoundDb.{FoundDb}
+use Rattle.db_catalog.specs.declared.catalog_change.CatalogChange.{CatalogChange}
+use Rattle.db_catalog.specs.declared.catalog_change.CatalogChange.TheVariants.{Put as PutRecord, Delete as DeleteRecord}
+use Rattle.db_catalog.specs.Catalog.{record_bytes}
+use Rattle.db_catalog.specs.Planning.{logged_as}
+use Rattle.log_replay.specs.Rows.{Row, Rows, rows_in, data_at, pair_of}
+use Rattle.log_replay.specs.Logging.{record_named, number_named}
+use Rattle.engine.specs.declared.kept.Kept.{Kept}
+use Rattle.engine.specs.declared.planned.Planned.{Planned}
+use Rattle.engine.specs.declared.planned.Planned.TheVariants.{Answered, Logs}
+use Rattle.engine.specs.declared.planned_changes.PlannedChanges.{PlannedChanges}
+use Rattle.engine.specs.declared.planned_row.PlannedRow.{PlannedRow}
+
+-- ---- records
+
+-- a change of the records of the database of a number
+abbrev pub record_planned : ℕ → RecordChange → PlannedRow
+record_planned number (Set at value) = record { db = number; name = at; value = Some value }
+record_planned number (Unset at) = record { db = number; name = at; value = None }
+
+-- how many records there are after one was set, by the data that its name had, and after changes: one is set, or each takes a record out
+abbrev pub records_with : ℕ → Option (List ℕ) → ℕ
+records_with records None = records + 1
+records_with records (Some old) = records
+
+abbrev pub records_by : ℕ → List Row → List RecordChange → ℕ
+records_by records rows (Set at value ∷ []) = records_with records (data_at at rows)
+records_by records rows changes = records - length changes
+
+-- the changes of a database's records are to be logged
+pub record LogsRecords (kept : Kept) (number : ℕ) (changes : List RecordChange) (planned : PlannedChanges) : Type 0 where
+  pub rows : planned.rows ≡ map (record_planned number) changes
+  pub last_db : planned.last_db ≡ kept.last_db
+  pub databases : planned.totals.databases ≡ kept.totals.databases
+  pub records : planned.totals.records ≡ records_by kept.totals.records (rows_in kept.rows number) changes
+
+-- what a call on records comes to, in the database of that number
+abbrev pub IsRecordPlan : Option Answer → Kept → ℕ → Evaluated → Planned → Type 0
+IsRecordPlan (Some refusal) kept number evaluated planned = planned ≡ Answered refusal
+IsRecordPlan None kept number evaluated (Answered answer) = (evaluated.answer ≡ answer) × (evaluated.changes ≡ [])
+IsRecordPlan None kept number evaluated (Logs planned) = (evaluated.changes ≢ []) × LogsRecords kept number evaluated.changes planned
+
+-- and in the database that was found
+abbrev pub IsFoundPlan : Option FoundDb → Kept → Call → Planned → Type 0
+IsFoundPlan None kept call planned = planned ≡ Answered NoDatabase
+IsFoundPlan (Some db) kept call planned =
+    IsRecordPlan (database_refuses db.kind call) kept db.number (evaluation db.kind call None (map (pair_of db.kind) (rows_in kept.rows db.number))) planned
+
+-- ---- the catalog
+
+-- a change of the catalog's records
+abbrev pub catalog_planned : CatalogChange → PlannedRow
+catalog_planned (PutRecord db row) = record { db = 0; name = plain_name db; value = Some (record_bytes row) }
+catalog_planned (DeleteRecord db) = record { db = 0; name = plain_name db; value = None }
+
+-- how much the store holds after a change of the catalog
+abbrev pub totals_by : Totals → Rows → Change → Totals
+totals_by totals rows (Make db kind) = record { databases = totals.databases + 1; records = totals.records }
+totals_by totals rows (Remove db) = record { databases = totals.databases - 1; records = totals.records - length (rows (number_named rows db)) }
+totals_by totals rows (Empty db) = record { databases = totals.databases; records = totals.records - length (rows (number_named rows db)) }
+totals_by totals rows change = totals
+
+-- a change of the catalog is to be logged
+pub record LogsCatalog (kept : Kept) (change : Change) (planned : PlannedChanges) : Type 0 where
+  pub rows : planned.rows ≡ map catalog_planned (logged_as (record_named (rows_in kept.rows)) (kept.last_db + 1) change)
+  pub last_db : planned.last_db ≡ kept.last_db + made_by (change ∷ [])
+  pub totals : planned.totals ≡ totals_by kept.totals (rows_in kept.rows) change
+
+-- what a call on the catalog comes to
+abbrev pub IsCatalogPlan : Kept → Outcome → Planned → Type 0
+IsCatalogPlan kept outcome (Answered answer) = (outcome.answer ≡ answer) × (outcome.changes ≡ [])
+IsCatalogPlan kept outcome (Logs planned) = (change : Change) × (more : List Change) × (outcome.changes ≡ change ∷ more) × LogsCatalog kept change planned

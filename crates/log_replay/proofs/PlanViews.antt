@@ -1,0 +1,49 @@
+-- What plans read of the records of an environment: the catalog's records are those of its databases, and the names of pairs rise.
+use Rattle.std.proofs.Common.{◌≡◌, ℕ, List, [], ◌∷◌, true, Option, None, Some, map, option_map, refl, ap, ap₂, sym, ◌∙◌, subst, Less}
+use Rattle.std.specs.List.{AllByRecursion}
+use Rattle.std.specs.List.Sorted.{IsStrictlySortedBy}
+use Rattle.je_order.specs.declared.name.Name.{Name}
+use Rattle.je_order.specs.Order.{name_cmp}
+use Rattle.db_catalog.specs.Planning.{IsCatalogOf, IsRecordOf}
+use Rattle.store_model.specs.declared.kind.Kind.{Kind}
+use Rattle.store_model.specs.declared.store.Database.{Database}
+use Rattle.store_model.specs.Store.{Pair, name_of, HasRisingNames, database_of}
+use Rattle.store_model.specs.Evaluation.{plain_name}
+use Rattle.log_replay.specs.Rows.{Row, Rows, row_at, is_environment, are_right, IsRising, pair_of, catalog_number, database_in, store_of}
+use Rattle.log_replay.specs.Logging.{record_in, record_named}
+use Rattle.log_replay.proofs.RowLaws.{each_right}
+use Rattle.log_replay.proofs.LoggedLaws.{record-again}
+use Rattle.log_replay.proofs.StoreLaws.{environment_parts, database_of-store_of, named-above}
+
+-- a catalog's record is that of its database
+pub catalog_of : (rows : Rows) → is_environment rows ≡ true → IsCatalogOf (store_of rows) (record_named rows)
+catalog_of rows env name = by_row (row_at (plain_name name) (rows 0)) refl
+  where
+    by_row : (o : Option Row) → row_at (plain_name name) (rows 0) ≡ o → IsRecordOf (database_of name (store_of rows)) (record_named rows name)
+    by_row None e =
+        subst (λ (d : Option Database). IsRecordOf d (record_named rows name)) (sym (database_of-store_of rows name env ∙ ap (option_map (database_in rows)) e))
+        (ap (λ (o : Option Row). record_in (option_map (λ (r : Row). r.1) o)) e)
+    by_row (Some row) e =
+        subst (λ (d : Option Database). IsRecordOf d (record_named rows name)) (sym (database_of-store_of rows name env ∙ ap (option_map (database_in rows)) e)) (
+          catalog_number row.1,
+          ap (λ (o : Option Row). record_in (option_map (λ (r : Row). r.1) o)) e
+              ∙ record-again (record_in (Some row.1)) (named-above rows name row (environment_parts rows env) e),
+        )
+
+-- names that stand behind a name do so in the pairs
+behind : (kind : Kind) (n : Name) (rows : List Row) → AllByRecursion (λ r. name_of kind (pair_of kind r) ≡ r.0) rows → AllByRecursion (λ (r : Row). name_cmp n r.0 ≡ Less) rows →
+    AllByRecursion (λ (p : Pair). name_cmp n (name_of kind p) ≡ Less) (map (pair_of kind) rows)
+behind kind n [] same h = tt
+behind kind n (r ∷ rows) same h = (ap (name_cmp n) same.0 ∙ h.0, behind kind n rows same.1 h.1)
+
+rising_by : (kind : Kind) (rows : List Row) → AllByRecursion (λ r. name_of kind (pair_of kind r) ≡ r.0) rows → IsRising rows → HasRisingNames kind (map (pair_of kind) rows)
+unfolding IsStrictlySortedBy
+rising_by kind [] same up = tt
+rising_by kind (r ∷ rows) same up = (
+  subst (λ (n : Name). AllByRecursion (λ (p : Pair). name_cmp n (name_of kind p) ≡ Less) (map (pair_of kind) rows)) (sym same.0) (behind kind r.0 rows same.1 up.0),
+  rising_by kind rows same.1 up.1,
+)
+
+-- the names of the pairs rise
+pub rising_pairs : (kind : Kind) (rows : List Row) → are_right kind rows ≡ true → IsRising rows → HasRisingNames kind (map (pair_of kind) rows)
+rising_pairs kind rows right up = rising_by kind rows (each_right kind rows right) up
