@@ -14,7 +14,6 @@ put_last-requires-clause-fits g c =
     let old = c.args.self.now in
     let e = entry_by c.args.entry.now in
     let size = body_small e c.requires.entry in
-    λ κs within.
     fits_in (file_max_of old) (offset_of old) (size_of e) old.max (omega (arith, size))
     ((is_placed (file_max_of old) (end_of old) (size_of e)).same (sym (ap (λ (p : LogPos). p.file) c.requires.pos) ∙ c.if-pos-self.true)).1
 
