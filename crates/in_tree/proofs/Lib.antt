@@ -18,3 +18,7 @@ pub mod Children
 pub mod Records
 -- Logging a node keeps that a tree fits its log.
 pub mod NodeLogging
+-- What transactions see of cells.
+pub mod Seen
+-- How the trees of all databases change where that of one does.
+pub mod Forests

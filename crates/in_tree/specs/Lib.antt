@@ -2,3 +2,4 @@ pub mod Images
 pub mod Content
 pub mod Trees
 pub mod Laws
+pub mod Forest

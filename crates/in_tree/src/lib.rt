@@ -6,10 +6,15 @@
 #![tactic(auto)]
 
 pub mod db_tree;
+mod forest;
 pub mod laws;
 pub mod log_node;
+pub mod log_trees;
 pub mod tree_log;
+pub mod trees;
 
 pub use db_tree::DbTree;
 pub use laws::{images_show_their_nodes, trees_are_covered, trees_fit_their_log};
+pub use log_trees::LogTrees;
 pub use tree_log::TreeLog;
+pub use trees::Trees;
