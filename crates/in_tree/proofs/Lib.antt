@@ -22,3 +22,11 @@ pub mod NodeLogging
 pub mod Seen
 -- How the trees of all databases change where that of one does.
 pub mod Forests
+-- What is taken before changes are logged, change by change.
+pub mod Preparation
+-- Changes are written one after the other.
+pub mod Written
+-- The sizes of entries that are to come.
+pub mod Sizes
+-- Changes of several names, one after the other.
+pub mod Names

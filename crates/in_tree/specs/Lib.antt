@@ -3,3 +3,4 @@ pub mod Content
 pub mod Trees
 pub mod Laws
 pub mod Forest
+pub mod Limits

@@ -10,8 +10,10 @@ mod forest;
 pub mod laws;
 pub mod log_node;
 pub mod log_trees;
+mod preparing;
 pub mod tree_log;
 pub mod trees;
+mod writing;
 
 pub use db_tree::DbTree;
 pub use laws::{images_show_their_nodes, trees_are_covered, trees_fit_their_log};

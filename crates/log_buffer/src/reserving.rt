@@ -38,6 +38,13 @@ fn room(sizes: &[u32]) -> Option<usize>
 }
 
 impl<D: Disk> LogBuffer<D> {
+    /// Whether entries of these sizes do not pass the last file.
+    pub fn has_files(&self, sizes: &[u32]) -> bool
+        ensures { IsTrue result ↔ (end_after_all (file_max_of self.now) (end_of self.now) sizes.now).file ≤ last_file }
+    {
+        has_files(self.pos(), self.file_max, sizes)
+    }
+
     /// Makes room for appends of entries of these sizes, which then take no memory. It answers Full where
     /// they would pass the last file, and else can only run out of memory; the log stays as it is.
     pub fn reserve(&mut self, sizes: &[u32]) -> Result<(), LogErr>
@@ -50,7 +57,7 @@ impl<D: Disk> LogBuffer<D> {
         if self.failed {
             return Err(LogErr::Fault);
         }
-        if !has_files(self.pos(), self.file_max, sizes) {
+        if !self.has_files(sizes) {
             return Err(LogErr::Full);
         }
         self.make_room(sizes)?;
