@@ -30,3 +30,7 @@ pub mod Written
 pub mod Sizes
 -- Changes of several names, one after the other.
 pub mod Names
+-- What is taken before changes are written, and what holds when they were.
+pub mod Checked
+-- What reads find among the cells.
+pub mod ReadCells

@@ -56,7 +56,7 @@ names_step before trees after names left e change once so_far has same = record 
         value_at x (last d) ≡ cond (is_among d x (e ∷ left)) (change (value_at x (cells_seen trees d))) (value_at x (cells_seen trees d))
     step last changed d x =
         let here : value_at x (cells_seen after d) ≡ cond (e.db == d && is_eq (name_cmp e.name x)) (change (value_at x (cells_seen trees d))) (value_at x (cells_seen trees d)) =
-            has d x ∙ ap (λ (t : Bool). cond (t && is_eq (name_cmp e.name x)) (change (value_at x (cells_seen trees d))) (value_at x (cells_seen trees d))) (same_test d e.db) in
+        has d x ∙ ap (λ (t : Bool). cond (t && is_eq (name_cmp e.name x)) (change (value_at x (cells_seen trees d))) (value_at x (cells_seen trees d))) (same_test d e.db) in
         changed d x
         ∙ ap (λ (o : Option Occupied). cond (is_among d x left) (change o) o) here
         ∙ by_tests change once (e.db == d && is_eq (name_cmp e.name x)) (is_among d x left) (value_at x (cells_seen trees d))

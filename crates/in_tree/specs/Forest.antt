@@ -1,5 +1,5 @@
 -- The trees of all databases, and what transactions see in them.
-use Rattle.std.specs.Prelude.{◌≡◌, ◌==◌, ◌&&◌, ℕ, Bool, List, [], Option, Some, None, IsSome, is_some, map, filter, if◌then◌else◌}
+use Rattle.std.specs.Prelude.{◌≡◌, ◌==◌, ◌&&◌, ℕ, Bool, false, refl, List, [], Option, Some, None, IsSome, is_some, map, filter, if◌then◌else◌}
 use Rattle.std.specs.Ordering.{is_eq, nat_cmp}
 use Rattle.std.specs.BTreeMap.{BTreeMap, get}
 use Rattle.je_order.specs.Order.{name_cmp}
@@ -63,3 +63,8 @@ HasOne forest db name = IsSome (value_at name (cells_at forest db))
 -- the change that is to be kept in a cell, before it is logged
 abbrev pub write_for : TxnId → TreeChange → Write
 write_for txn c = record { txn = txn; at = 0; value = c.value }
+
+-- nothing is seen of a database without a tree
+pub none_seen : (o : Option DbTree) → is_some o ≡ false → occupied (cells_of o) ≡ []
+none_seen None none = refl
+none_seen (Some tree) none = λ i. if none i then occupied tree.cells else []

@@ -8,7 +8,6 @@ ghost use Rattle.in_tree.specs.Images.{Placed};
 ghost use Rattle.tree_nodes.specs.Levels.{row_of};
 ghost use Rattle.in_tree.specs.Content.{slot_for, record_slots, bin_image};
 ghost use Rattle.in_tree.specs.Trees.{IsTree, HasCell, cell_or_fresh, given_up};
-
 ghost use Rattle.in_tree.specs.Forest.{occupied, seen, with_change};
 ghost use Rattle.record_tree.specs.Occupied.{after_commit, after_abort};
 

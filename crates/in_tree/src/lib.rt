@@ -11,6 +11,7 @@ pub mod laws;
 pub mod log_node;
 pub mod log_trees;
 mod preparing;
+mod reading;
 pub mod tree_log;
 pub mod trees;
 mod writing;

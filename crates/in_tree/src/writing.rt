@@ -61,11 +61,7 @@ fn commit_size(txn: TxnId) -> u32
 }
 
 // The sizes of the changes' entries.
-fn change_sizes(
-    alloc: Global,
-    txn: TxnId,
-    changes: &[TreeChange],
-) -> Result<Vec<u32>, AllocError>
+fn change_sizes(alloc: Global, txn: TxnId, changes: &[TreeChange]) -> Result<Vec<u32>, AllocError>
     requires { AllByRecursion (λ c. IsEntry (entry_for txn c.db c.name c.value)) changes.now }
     ensures { IfOk result (λ sizes. sizes.items ≡ map change_size changes.now) }
 {
@@ -95,11 +91,7 @@ pub(crate) fn sizes_for(
 }
 
 // Logs a change, for which there is room.
-fn log_one<D: Disk>(
-    log: &mut LogBuffer<D>,
-    txn: TxnId,
-    change: &TreeChange,
-) -> Result<Lsn, TreeErr>
+fn log_one<D: Disk>(log: &mut LogBuffer<D>, txn: TxnId, change: &TreeChange) -> Result<Lsn, TreeErr>
     requires entry { IsEntry (entry_for txn change.now.db change.now.name change.now.value) }
     requires room { (sizes : List ℕ) × HasRoomFor log.old (change_size change.now ∷ sizes) }
     ensures grew { OnOk result (Grew D.observable D.history D.sync_out D.read_out D.read_of log.old log.new (entry_for txn change.now.db change.now.name change.now.value ∷ [])) }

@@ -26,3 +26,9 @@ none_from_end edge entries is = sym (ap (λ (e : Edge). first_of (from_edge e en
 -- nothing is below the first edge
 pub none_below_first : {V : Type 0} (edge : Edge) (entries : List (Name × V)) → edge ≡ First → None ≡ last_of (below_edge edge entries)
 none_below_first edge entries is = sym (ap (λ (e : Edge). last_of (below_edge e entries)) is ∙ ap last_of (none_pass entries))
+
+pub nothing_from_end : {V : Type 0} (edge : Edge) (entries : List (Name × V)) → edge ≡ End → from_edge edge entries ≡ []
+nothing_from_end edge entries is = ap (λ (e : Edge). from_edge e entries) is ∙ none_left entries
+
+pub nothing_below_first : {V : Type 0} (edge : Edge) (entries : List (Name × V)) → edge ≡ First → below_edge edge entries ≡ []
+nothing_below_first edge entries is = ap (λ (e : Edge). below_edge e entries) is ∙ none_pass entries

@@ -107,6 +107,40 @@ impl Cells {
         cells.range((Bound::Included(low), end))
     }
 
+    #[tactic(auto, using(crate::proofs::EdgeLaws::nothing_from_end))]
+    /// The cells from an edge on; None where that is the end.
+    pub fn iter_from(&self, from: EdgeRef<'_>) -> Option<Range<'_, SortKey, Cell>>
+        ensures cells { IfSome result (λ found. found ≡ from_edge (edge_of from.entry) self.now) }
+        ensures none { result ≡ None → from_edge (edge_of from.entry) self.now ≡ [] }
+        ensures rising { IsRising self.now }
+    {
+        let Cells { cells } = self;
+        let start = match from {
+            EdgeRef::First => Bound::Unbounded,
+            EdgeRef::At(name) => Bound::Included(name),
+            EdgeRef::Behind(name) => Bound::Excluded(name),
+            EdgeRef::End => return None,
+        };
+        Some(cells.range((start, Bound::Unbounded)))
+    }
+
+    #[tactic(auto, using(crate::proofs::EdgeLaws::nothing_below_first))]
+    /// The cells below an edge; None where that is the first one.
+    pub fn iter_below(&self, upto: EdgeRef<'_>) -> Option<Range<'_, SortKey, Cell>>
+        ensures cells { IfSome result (λ found. found ≡ below_edge (edge_of upto.entry) self.now) }
+        ensures none { result ≡ None → below_edge (edge_of upto.entry) self.now ≡ [] }
+        ensures rising { IsRising self.now }
+    {
+        let Cells { cells } = self;
+        let end = match upto {
+            EdgeRef::First => return None,
+            EdgeRef::At(name) => Bound::Excluded(name),
+            EdgeRef::Behind(name) => Bound::Included(name),
+            EdgeRef::End => Bound::Unbounded,
+        };
+        Some(cells.range((Bound::Unbounded, end)))
+    }
+
     /// How many cells there are from a name on and below another one, or to the end. It goes over these.
     pub fn count_between(&self, low: &SortKey, high: Option<&SortKey>) -> usize
         requires { IfSome high (λ h. name_cmp low.now h.now ≡ Less) }

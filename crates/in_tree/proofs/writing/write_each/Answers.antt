@@ -21,8 +21,8 @@ write_one-requires-clause-room g c =
     let i = c.loop-change.change-index in
     let changes = c.args.changes.now in
     let turn = writes_turn g.D.Disk.observable g.D.Disk.history g.D.Disk.sync_out g.D.Disk.read_out g.D.Disk.read_of c.args.txn c.args.log.now c.loop-change.log c.args.trees.now c.loop-change.trees changes
-        (drop i changes) (c.change-item.result ∷ drop (i + 1) changes) (map value_of c.loop-change.writes.rest.items) (c.in-Some.write.value ∷ map value_of c.next.new.self.rest.items)
-        c.loop-change.invariant (next_left changes i c.change-item.result c.loop-change-test.true c.change-item.is) (ap (map value_of) c.in-Some.ensures.items) in
+    (drop i changes) (c.change-item.result ∷ drop (i + 1) changes) (map value_of c.loop-change.writes.rest.items) (c.in-Some.write.value ∷ map value_of c.next.new.self.rest.items)
+    c.loop-change.invariant (next_left changes i c.change-item.result c.loop-change-test.true c.change-item.is) (ap (map value_of) c.in-Some.ensures.items) in
     (_, turn.some_room.1)
 
 pub write_one-requires-clause-there : goal.write_one-requires-clause-there
@@ -30,8 +30,8 @@ write_one-requires-clause-there g c =
     let i = c.loop-change.change-index in
     let changes = c.args.changes.now in
     let turn = writes_turn g.D.Disk.observable g.D.Disk.history g.D.Disk.sync_out g.D.Disk.read_out g.D.Disk.read_of c.args.txn c.args.log.now c.loop-change.log c.args.trees.now c.loop-change.trees changes
-        (drop i changes) (c.change-item.result ∷ drop (i + 1) changes) (map value_of c.loop-change.writes.rest.items) (c.in-Some.write.value ∷ map value_of c.next.new.self.rest.items)
-        c.loop-change.invariant (next_left changes i c.change-item.result c.loop-change-test.true c.change-item.is) (ap (map value_of) c.in-Some.ensures.items) in
+    (drop i changes) (c.change-item.result ∷ drop (i + 1) changes) (map value_of c.loop-change.writes.rest.items) (c.in-Some.write.value ∷ map value_of c.next.new.self.rest.items)
+    c.loop-change.invariant (next_left changes i c.change-item.result c.loop-change-test.true c.change-item.is) (ap (map value_of) c.in-Some.ensures.items) in
     turn.there.0
 
 pub write_one-requires-clause-write : goal.write_one-requires-clause-write
@@ -39,8 +39,8 @@ write_one-requires-clause-write g c =
     let i = c.loop-change.change-index in
     let changes = c.args.changes.now in
     let turn = writes_turn g.D.Disk.observable g.D.Disk.history g.D.Disk.sync_out g.D.Disk.read_out g.D.Disk.read_of c.args.txn c.args.log.now c.loop-change.log c.args.trees.now c.loop-change.trees changes
-        (drop i changes) (c.change-item.result ∷ drop (i + 1) changes) (map value_of c.loop-change.writes.rest.items) (c.in-Some.write.value ∷ map value_of c.next.new.self.rest.items)
-        c.loop-change.invariant (next_left changes i c.change-item.result c.loop-change-test.true c.change-item.is) (ap (map value_of) c.in-Some.ensures.items) in
+    (drop i changes) (c.change-item.result ∷ drop (i + 1) changes) (map value_of c.loop-change.writes.rest.items) (c.in-Some.write.value ∷ map value_of c.next.new.self.rest.items)
+    c.loop-change.invariant (next_left changes i c.change-item.result c.loop-change-test.true c.change-item.is) (ap (map value_of) c.in-Some.ensures.items) in
     heads_same c.in-Some.write.value (write_for c.args.txn c.change-item.result) (map value_of c.next.new.self.rest.items) (map (write_for c.args.txn) (drop (i + 1) changes)) turn.writes_are
 
 pub returns-in_err-write_one-in-Some-clause-tried : goal.returns-in_err-write_one-in-Some-clause-tried
@@ -48,8 +48,8 @@ returns-in_err-write_one-in-Some-clause-tried g c =
     let i = c.loop-change.change-index in
     let changes = c.args.changes.now in
     let turn = writes_turn g.D.Disk.observable g.D.Disk.history g.D.Disk.sync_out g.D.Disk.read_out g.D.Disk.read_of c.args.txn c.args.log.now c.loop-change.log c.args.trees.now c.loop-change.trees changes
-        (drop i changes) (c.change-item.result ∷ drop (i + 1) changes) (map value_of c.loop-change.writes.rest.items) (c.in-Some.write.value ∷ map value_of c.next.new.self.rest.items)
-        c.loop-change.invariant (next_left changes i c.change-item.result c.loop-change-test.true c.change-item.is) (ap (map value_of) c.in-Some.ensures.items) in
+    (drop i changes) (c.change-item.result ∷ drop (i + 1) changes) (map value_of c.loop-change.writes.rest.items) (c.in-Some.write.value ∷ map value_of c.next.new.self.rest.items)
+    c.loop-change.invariant (next_left changes i c.change-item.result c.loop-change-test.true c.change-item.is) (ap (map value_of) c.in-Some.ensures.items) in
     on_err c.from_residual.result
     (writes_fail g.D.Disk.observable g.D.Disk.history g.D.Disk.sync_out g.D.Disk.read_out g.D.Disk.read_of c.args.txn c.args.log.now c.loop-change.log c.write_one.new.log c.args.trees.now c.loop-change.trees changes (drop (i + 1) changes) c.change-item.result
     (c.in-Some.write.value ∷ map value_of c.next.new.self.rest.items) turn c.in_err-write_one-in-Some.ensures.tried)
@@ -70,8 +70,8 @@ loop-change-preserved g c =
     let i = c.loop-change.change-index in
     let changes = c.args.changes.now in
     let turn = writes_turn g.D.Disk.observable g.D.Disk.history g.D.Disk.sync_out g.D.Disk.read_out g.D.Disk.read_of c.args.txn c.args.log.now c.loop-change.log c.args.trees.now c.loop-change.trees changes
-        (drop i changes) (c.change-item.result ∷ drop (i + 1) changes) (map value_of c.loop-change.writes.rest.items) (c.in-Some.write.value ∷ map value_of c.next.new.self.rest.items)
-        c.loop-change.invariant (next_left changes i c.change-item.result c.loop-change-test.true c.change-item.is) (ap (map value_of) c.in-Some.ensures.items) in
+    (drop i changes) (c.change-item.result ∷ drop (i + 1) changes) (map value_of c.loop-change.writes.rest.items) (c.in-Some.write.value ∷ map value_of c.next.new.self.rest.items)
+    c.loop-change.invariant (next_left changes i c.change-item.result c.loop-change-test.true c.change-item.is) (ap (map value_of) c.in-Some.ensures.items) in
     let done = c.in_ok-write_one-in-Some.ensures in
     writes_step g.D.Disk.observable g.D.Disk.history g.D.Disk.sync_out g.D.Disk.read_out g.D.Disk.read_of c.args.txn c.args.log.now c.loop-change.log c.write_one.new.log c.args.trees.now c.loop-change.trees c.write_one.new.trees changes (drop (i + 1) changes) c.change-item.result
     c.in-Some.write.value (map value_of c.next.new.self.rest.items) turn
@@ -82,24 +82,24 @@ pub returns-clause-grew : goal.returns-clause-grew
 returns-clause-grew g c =
     let changes = c.args.changes.now in
     let ended = writes_turn g.D.Disk.observable g.D.Disk.history g.D.Disk.sync_out g.D.Disk.read_out g.D.Disk.read_of c.args.txn c.args.log.now c.loop-change.log c.args.trees.now c.loop-change.trees changes
-        (drop c.loop-change.change-index changes) [] (map value_of c.loop-change.writes.rest.items) (map value_of c.loop-change.writes.rest.items)
-        c.loop-change.invariant (drop_all c.loop-change.change-index changes c.loop-change-test.false) refl in
+    (drop c.loop-change.change-index changes) [] (map value_of c.loop-change.writes.rest.items) (map value_of c.loop-change.writes.rest.items)
+    c.loop-change.invariant (drop_all c.loop-change.change-index changes c.loop-change-test.false) refl in
     writes_end g.D.Disk.observable g.D.Disk.history g.D.Disk.sync_out g.D.Disk.read_out g.D.Disk.read_of c.args.txn c.args.log.now c.loop-change.log c.args.trees.now c.loop-change.trees changes (map value_of c.loop-change.writes.rest.items) ended
 
 pub returns-clause-left : goal.returns-clause-left
 returns-clause-left g c =
     let changes = c.args.changes.now in
     let ended = writes_turn g.D.Disk.observable g.D.Disk.history g.D.Disk.sync_out g.D.Disk.read_out g.D.Disk.read_of c.args.txn c.args.log.now c.loop-change.log c.args.trees.now c.loop-change.trees changes
-        (drop c.loop-change.change-index changes) [] (map value_of c.loop-change.writes.rest.items) (map value_of c.loop-change.writes.rest.items)
-        c.loop-change.invariant (drop_all c.loop-change.change-index changes c.loop-change-test.false) refl in
+    (drop c.loop-change.change-index changes) [] (map value_of c.loop-change.writes.rest.items) (map value_of c.loop-change.writes.rest.items)
+    c.loop-change.invariant (drop_all c.loop-change.change-index changes c.loop-change-test.false) refl in
     ended.room
 
 pub returns-clause-cells : goal.returns-clause-cells
 returns-clause-cells g c =
     let changes = c.args.changes.now in
     let ended = writes_turn g.D.Disk.observable g.D.Disk.history g.D.Disk.sync_out g.D.Disk.read_out g.D.Disk.read_of c.args.txn c.args.log.now c.loop-change.log c.args.trees.now c.loop-change.trees changes
-        (drop c.loop-change.change-index changes) [] (map value_of c.loop-change.writes.rest.items) (map value_of c.loop-change.writes.rest.items)
-        c.loop-change.invariant (drop_all c.loop-change.change-index changes c.loop-change-test.false) refl in
+    (drop c.loop-change.change-index changes) [] (map value_of c.loop-change.writes.rest.items) (map value_of c.loop-change.writes.rest.items)
+    c.loop-change.invariant (drop_all c.loop-change.change-index changes c.loop-change-test.false) refl in
     ended.cells (cells_seen c.loop-change.trees) (nothing_written c.args.txn (cells_seen c.loop-change.trees))
 
 pub returns-clause-trees : goal.returns-clause-trees
