@@ -1,5 +1,5 @@
 -- What transactions see of cells.
-use Rattle.std.proofs.Common.{◌≡◌, ◌⊎◌, ℕ, List, [], ◌∷◌, Bool, true, false, cond, Option, None, Some, IsSome, filter, map, option_map, refl, ap, ap₂, sym, subst, ◌∙◌, inl, inr, Ordering, Less, Equal, Greater, is_eq, Box}
+use Rattle.std.proofs.Common.{◌≡◌, ◌⊎◌, ℕ, List, [], ◌∷◌, Bool, true, false, cond, Option, None, Some, IsSome, filter, map, option_map, is_some, refl, ap, ap₂, sym, subst, ◌∙◌, inl, inr, Ordering, Less, Equal, Greater, is_eq, Box}
 use Rattle.std.specs.Global.{Global}
 use Rattle.std.specs.List.{AllByRecursion}
 use Rattle.std.specs.List.Sorted.{IsStrictlySortedBy}
@@ -17,9 +17,9 @@ use Rattle.record_map.specs.declared.cell.Cell.{Cell}
 use Rattle.record_map.specs.declared.write.Write.{Write}
 use Rattle.record_map.specs.Cells.{value_at, IsRising, committed, with_committed, with_write, fresh, first_of, committed_by}
 use Rattle.record_map.proofs.NameLaws.{same_or_other, name_same, name_exact, other_stays, same_gets}
-use Rattle.record_tree.specs.Occupied.{Occupied, occupied_by, is_occupied, if_occupied, after_commit, after_abort, value_in, committed_value}
+use Rattle.record_tree.specs.Occupied.{Occupied, occupied_by, is_occupied, if_occupied, after_commit, after_abort, value_in, write_in, committed_value}
 use Rattle.in_tree.specs.Trees.{HasCell, cell_or_fresh, given_up}
-use Rattle.in_tree.specs.Forest.{occupied, seen, with_change}
+use Rattle.in_tree.specs.Forest.{occupied, seen, with_change, with_value, with_logged}
 use Rattle.in_tree.proofs.Contents.{none_behind}
 
 -- ---- rising lists
@@ -259,3 +259,30 @@ kept_put old new name raw has some x there = subst IsSome (sym (has x)) (by_test
     by_test : (t : Bool) → IsSome (cond t raw (value_at x old))
     by_test true = some
     by_test false = there
+
+-- ---- what is seen of a cell that the log has
+
+write_kept : (o : Occupied) → is_some o.write ≡ true → write_in (if_occupied o) ≡ o.write
+write_kept o some = by_value o.value o.write refl refl
+  where
+    by_value : (v : Option (List ℕ)) (w : Option Write) → o.value ≡ v → o.write ≡ w → write_in (if_occupied o) ≡ o.write
+    by_value (Some v) w is_v is_w = ap (λ (t : Option (List ℕ)). write_in (cond (is_occupied (record { value = t; write = o.write })) (Some o) None)) is_v
+    by_value None (Some w) is_v is_w = ap₂ (λ (t : Option (List ℕ)) (u : Option Write). write_in (cond (is_occupied (record { value = t; write = u })) (Some o) None)) is_v is_w
+    by_value None None is_v is_w = absurd (true≢false (sym some ∙ ap (λ (u : Option Write). is_some u) is_w))
+
+write_seen_of : (o : Occupied) → write_in (if_occupied o) ≡ o.write
+write_seen_of o = by_write o.write refl
+  where
+    by_value : (v : Option (List ℕ)) → o.value ≡ v → o.write ≡ None → write_in (if_occupied o) ≡ o.write
+    by_value (Some v) is_v none = ap (λ (t : Option (List ℕ)). write_in (cond (is_occupied (record { value = t; write = o.write })) (Some o) None)) is_v
+    by_value None is_v none = ap₂ (λ (t : Option (List ℕ)) (u : Option Write). write_in (cond (is_occupied (record { value = t; write = u })) (Some o) None)) is_v none ∙ sym none
+
+    by_write : (w : Option Write) → o.write ≡ w → write_in (if_occupied o) ≡ o.write
+    by_write (Some w) is = write_kept o (ap (λ (u : Option Write). is_some u) is)
+    by_write None is = by_value o.value refl is
+
+pub logged_seen : (value : Option (List ℕ)) (at commit : ℕ) (last : Option ℕ) (o : Option Cell) → seen (option_map (with_logged value at commit last) (Some (cell_or_fresh o))) ≡ with_value value (seen o)
+logged_seen (Some value) at commit last None = refl
+logged_seen None at commit last None = refl
+logged_seen (Some value) at commit last (Some cell) = ap (λ (w : Option Write). if_both (Some value) w) (sym (write_seen_of (occupied_by cell)))
+logged_seen None at commit last (Some cell) = ap (λ (w : Option Write). if_both None w) (sym (write_seen_of (occupied_by cell)))

@@ -5,10 +5,11 @@ use Rattle.std.specs.BTreeMap.{BTreeMap, get}
 use Rattle.je_order.specs.Order.{name_cmp}
 use Rattle.je_order.specs.declared.name.Name.{Name}
 use Rattle.je_order.specs.declared.txn_id.TxnId.{TxnId}
+use Rattle.node_core.specs.declared.slot.Version.TheVariants.{There, Deleted}
 use Rattle.record_map.specs.declared.cell.Cell.{Cell}
 use Rattle.record_map.specs.declared.write.Write.{Write}
-use Rattle.record_map.specs.Cells.{value_at}
-use Rattle.record_tree.specs.Occupied.{Occupied, AllCells, occupied_by, is_occupied, if_occupied, value_in}
+use Rattle.record_map.specs.Cells.{value_at, with_version}
+use Rattle.record_tree.specs.Occupied.{Occupied, AllCells, occupied_by, is_occupied, if_occupied, value_in, write_in}
 use Rattle.record_tree.specs.declared.tree_change.TreeChange.{TreeChange}
 use Rattle.in_tree.specs.declared.db_tree.DbTree.{DbTree}
 
@@ -47,6 +48,15 @@ HasChange old new db name change =
 -- a name with a change that is not committed
 abbrev pub with_change : Write → Option Occupied → Option Occupied
 with_change write o = Some (record { value = value_in o; write = Some write })
+
+-- a name of which other data, or none, is committed
+abbrev pub with_value : Option (List ℕ) → Option Occupied → Option Occupied
+with_value value o = if_occupied (record { value = value; write = write_in o })
+
+-- a cell with what was committed of its name: the record that was logged at an LSN, or none
+abbrev pub with_logged : Option (List ℕ) → ℕ → ℕ → Option ℕ → Cell → Cell
+with_logged (Some value) at commit last cell = with_version (There at) value commit last cell
+with_logged None at commit last cell = with_version Deleted [] commit last cell
 
 -- each database has a tree as before
 abbrev pub HasSameTrees : Forest → Forest → Type 0

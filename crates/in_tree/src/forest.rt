@@ -3,10 +3,11 @@ ghost use Rattle.std.specs.Prelude.{◌≡◌, ℕ, true, false, [], Option, Non
 ghost use Rattle.je_order.specs.declared.name.Name.{Name};
 ghost use Rattle.record_map.specs.Cells.{value_at, IsRising, first_of, last_of, from_edge, below_edge, edge_of};
 ghost use Rattle.record_tree.specs.Occupied.{AreSame, occupied_by, after_commit, after_abort};
-ghost use Rattle.in_tree.specs.Forest.{cells_at, cells_seen, is_there, HasChange, with_change, HasSameTrees, KeepsCells, HasOne};
+ghost use Rattle.in_tree.specs.Forest.{cells_at, cells_seen, is_there, HasChange, with_change, HasSameTrees, KeepsCells, HasOne, with_value};
 
 use crate::DbTree;
 use je_lsn::Lsn;
+use je_order::Octets;
 use record_map::{Cell, SortKey, Write};
 use std::alloc::{AllocError, Global};
 use std::collections::BTreeMap;
@@ -95,6 +96,27 @@ pub(crate) fn make(
     let tree = DbTree::new(alloc, number)?;
     drop(trees.insert(db, tree)?);
     Ok(())
+}
+
+// Sets what is committed of the name: the record that was logged at `at`, by the Commit at `commit`.
+pub(crate) fn redo(
+    trees: &mut BTreeMap<u32, DbTree>,
+    alloc: Global,
+    db: u32,
+    name: &SortKey,
+    value: Option<Octets>,
+    at: Lsn,
+    commit: Lsn,
+) -> Result<(), AllocError>
+    requires { is_there trees.old db ≡ true }
+    ensures cells { OnOk result (HasChange (cells_seen trees.old) (cells_seen trees.new) db name.now (with_value value)) }
+    ensures same { OnErr result (AreSame (cells_seen trees.old) (cells_seen trees.new)) }
+    ensures trees { HasSameTrees trees.old trees.new }
+{
+    match trees.get_mut(&db) {
+        Some(tree) => tree.redo(alloc, name, value, at, commit),
+        None => unreachable!(),
+    }
 }
 
 // Takes the tree of a database out.
