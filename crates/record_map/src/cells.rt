@@ -117,8 +117,8 @@ impl Cells {
         let Cells { cells } = self;
         let start = match from {
             EdgeRef::First => Bound::Unbounded,
-            EdgeRef::At(name) => Bound::Included(name),
-            EdgeRef::Behind(name) => Bound::Excluded(name),
+            EdgeRef::At(edge) => Bound::Included(edge),
+            EdgeRef::Behind(edge) => Bound::Excluded(edge),
             EdgeRef::End => return None,
         };
         Some(cells.range((start, Bound::Unbounded)))
@@ -134,8 +134,8 @@ impl Cells {
         let Cells { cells } = self;
         let end = match upto {
             EdgeRef::First => return None,
-            EdgeRef::At(name) => Bound::Excluded(name),
-            EdgeRef::Behind(name) => Bound::Included(name),
+            EdgeRef::At(edge) => Bound::Excluded(edge),
+            EdgeRef::Behind(edge) => Bound::Included(edge),
             EdgeRef::End => Bound::Unbounded,
         };
         Some(cells.range((Bound::Unbounded, end)))
