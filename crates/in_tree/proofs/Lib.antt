@@ -34,3 +34,5 @@ pub mod Names
 pub mod Checked
 -- What reads find among the cells.
 pub mod ReadCells
+-- A split is a copy, and an IN's image has its children's slots.
+pub mod SplitLaws

@@ -4,3 +4,4 @@ pub mod Trees
 pub mod Laws
 pub mod Forest
 pub mod Limits
+pub mod Splitting

@@ -12,6 +12,7 @@ pub mod log_node;
 pub mod log_trees;
 mod preparing;
 mod reading;
+pub mod splitting;
 pub mod tree_log;
 pub mod trees;
 mod writing;
