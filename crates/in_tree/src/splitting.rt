@@ -6,15 +6,17 @@ ghost use Rattle.tree_nodes.specs.Levels.{row_of, HasPutAt};
 ghost use Rattle.tree_nodes.specs.declared.node.Node.{Node as Kept};
 ghost use Rattle.in_tree.specs.Images.{Placed};
 ghost use Rattle.in_tree.specs.Content.{child_slot_for, lsn_of, in_image};
-ghost use Rattle.in_tree.specs.Splitting.{children_in, split_off};
+ghost use Rattle.std.specs.List.{slice_get};
+ghost use Rattle.in_tree.specs.Splitting.{children_in, split_off, name_of, cells_within, middle_of};
 ghost use Rattle.in_tree.specs.Trees.{IsTree};
 
 use crate::DbTree;
 use je_order::List;
 use log_entry::{ChildSlot, Entry};
 use node_core::{Slot, Version};
-use record_map::SortKey;
+use record_map::{Cell, SortKey};
 use std::alloc::{AllocError, Global};
+use std::collections::btree_map::Range;
 use tree_nodes::Node;
 
 // The node that is split off: its image is that of the node that it was part of, until it is logged.
@@ -54,7 +56,36 @@ fn children_in(alloc: Global, slots: List<Slot>) -> Result<List<ChildSlot>, Allo
     Ok(List::from_vec(children))
 }
 
+// The name of the cell with so many before it.
+fn nth_name(
+    alloc: Global,
+    cells: Range<'_, SortKey, Cell>,
+    n: usize,
+) -> Result<Option<SortKey>, AllocError>
+    ensures { IfOk result (λ name. name ≡ name_of (slice_get cells.entry n)) }
+{
+    let mut left = n;
+    for (name, _cell) in cells {
+        if left == 0 {
+            return Ok(Some(name.copy(alloc)?));
+        }
+        left -= 1;
+    }
+    Ok(None)
+}
+
 impl DbTree {
+    /// Where the BIN with the low is split: the name of the first slot of its second half, where the first one, rounded up,
+    /// stays. None where it has fewer than two slots.
+    pub fn middle(&self, alloc: Global, low: &SortKey) -> Result<Option<SortKey>, AllocError>
+        ensures { IfOk result (λ name. name ≡ middle_of (cells_within low.now (row_of self.now.levels 0) self.now.cells)) }
+    {
+        let _height = self.levels.height();
+        let high = self.levels.upper_bound(0, low);
+        let count = self.cells.count_between(low, high);
+        nth_name(alloc, self.cells.between(low, high), count - count / 2)
+    }
+
     /// Splits the node of the level over `middle`: from there on its names are those of a new node with the
     /// number, of so many slots. The level below has that low. Running out of memory changes nothing.
     pub fn split_node(
