@@ -8,7 +8,7 @@ use Rattle.je_order.specs.Edges.Edge.{At}
 use Rattle.je_order.specs.declared.name.Name.{Name}
 use Rattle.log_entry.specs.declared.entry.Entry.{Entry}
 use Rattle.record_map.specs.declared.cell.Cell.{Cell}
-use Rattle.record_map.specs.Cells.{between_edges, upper_edge}
+use Rattle.record_map.specs.Cells.{value_at, between_edges, upper_edge}
 use Rattle.tree_nodes.specs.Nodes.{NodeRow, IsOver, low_behind}
 use Rattle.tree_nodes.specs.Levels.{row_of}
 use Rattle.in_tree.specs.Content.{child_slot_for, lsn_of, in_image}
@@ -39,3 +39,7 @@ ImagedBelow rows k = (x : Name) (c : Name × Node) → IsOver (row_of rows k) x 
 -- an entry is the image of the IN of a level with a low, made of its children on the level below
 abbrev pub IsInImage : List NodeRow → ℕ → ℕ → Name → Entry → Type 0
 IsInImage rows level k low entry = (db : ℕ) × (number : ℕ) × (of_level : ℕ) × (entry ≡ in_image db number of_level low (row_of rows level) (row_of rows k))
+
+-- each level has the same node under each low
+abbrev pub AreSameByName : List NodeRow → List NodeRow → Type 0
+AreSameByName old new = (k : ℕ) (x : Name) → value_at x (row_of new k) ≡ value_at x (row_of old k)

@@ -2,12 +2,14 @@
 ghost use Rattle.std.specs.Prelude.{◌≡◌, ◌≤◌, ◌<◌, ◌++◌, ◌∷◌, ℕ, suc, [], length, Option, None, Some, IsSome, IfOk, OnOk, OnErr};
 ghost use Rattle.je_order.specs.declared.name.Name.{Name};
 ghost use Rattle.record_map.specs.Cells.{value_at};
+ghost use Rattle.std.specs.Prelude.{List as Rows};
+ghost use Rattle.tree_nodes.specs.Nodes.{NodeRow, least};
 ghost use Rattle.tree_nodes.specs.Levels.{row_of, HasPutAt};
 ghost use Rattle.tree_nodes.specs.declared.node.Node.{Node as Kept};
 ghost use Rattle.in_tree.specs.Images.{Placed};
 ghost use Rattle.in_tree.specs.Content.{child_slot_for, lsn_of, in_image};
 ghost use Rattle.std.specs.List.{slice_get};
-ghost use Rattle.in_tree.specs.Splitting.{children_in, split_off, name_of, cells_within, middle_of};
+ghost use Rattle.in_tree.specs.Splitting.{children_in, split_off, name_of, cells_within, middle_of, AreSameByName};
 ghost use Rattle.in_tree.specs.Trees.{IsTree};
 
 use crate::DbTree;
@@ -107,6 +109,18 @@ impl DbTree {
         let right = split_off(node, number, slots);
         self.levels.split(level, middle, right)?;
         Ok(())
+    }
+
+    /// Takes back a split, the last one of the level: the node under `middle` goes, and each low has the node that it had before. It
+    /// takes no memory.
+    pub fn join_node(&mut self, level: usize, middle: &SortKey)
+        requires there { level < length self.old.levels }
+        requires above { value_at middle.now (row_of self.old.levels (suc level)) ≡ None }
+        requires low { middle.now ≡ least → ⊥ }
+        ensures back { (before : Rows NodeRow) (node : Kept) → value_at middle.now (row_of before level) ≡ None → HasPutAt before self.old.levels level middle.now node → AreSameByName before self.new.levels }
+        ensures cells { self.new.cells ≡ self.old.cells }
+    {
+        self.levels.join(level, middle);
     }
 
     /// The image of the IN of the level with the low, of the children that have one. `of_level` is the level as images
