@@ -5,3 +5,4 @@ pub mod Laws
 pub mod Forest
 pub mod Limits
 pub mod Splitting
+pub mod Whole

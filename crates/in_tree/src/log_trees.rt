@@ -62,6 +62,15 @@ impl<D: Disk> LogTrees<D> {
         LogTrees { log, trees }
     }
 
+    /// The log alone.
+    pub fn into_log(self) -> LogBuffer<D>
+        ensures { result ≡ self.log }
+    {
+        let LogTrees { log, trees } = self;
+        drop(trees);
+        log
+    }
+
     // Whether entries of these sizes pass the last file.
     fn passes(&self, sizes: &[u32]) -> bool
         ensures { result ≡ nat_lt last_file (end_behind self.now.log sizes.now) }

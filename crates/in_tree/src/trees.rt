@@ -38,7 +38,8 @@ impl Trees {
         requires numbers { last_node ≤ 0x7fffffffffffffff }
         requires least { 4 ≤ fanout }
         requires most { fanout ≤ 128 }
-        ensures { result.forest.entries ≡ [] }
+        ensures none { (d : ℕ) → is_there result.forest d ≡ false }
+        ensures last { result.last_node ≡ last_node }
     {
         Trees {
             forest: BTreeMap::new(alloc),
