@@ -141,12 +141,13 @@ passed_is {V} p (e ∷ row) x h = by_test (p e.0) (passed_is p row x) h
 
 -- ---- BINs
 
--- the slots of cells that pass a test show what is held under a name that passes it
-none_behind : {V : Type 0} (x : Name) (row : List (Name × V)) → AllByRecursion (λ y. name_cmp x y ≡ Less) (keys_of row) → value_at x row ≡ None
+-- a name before all others has nothing
+pub none_behind : {V : Type 0} (x : Name) (row : List (Name × V)) → AllByRecursion (λ y. name_cmp x y ≡ Less) (keys_of row) → value_at x row ≡ None
 none_behind x [] all = refl
 none_behind x (e ∷ row) all =
     other_stays x e.0 (Some e.1) (value_at x row) (ap is_eq all.0) ∙ none_behind x row all.1
 
+-- the slots of cells that pass a test show what is held under a name that passes it
 shows_held : (p : Name → Bool) (cells : List (Name × Cell)) (x : Name) → IsStrictlySortedBy name_cmp (keys_of cells) → p x ≡ true →
     lsn_in (find (λ (slot : RecordSlot). is_eq (name_cmp x slot.name)) (record_slots (filter (λ e. p e.0) cells))) ≡ held_by cells x
 unfolding IsStrictlySortedBy

@@ -18,3 +18,21 @@ pub mod Children
 pub mod Records
 -- Logging a node keeps that a tree fits its log.
 pub mod NodeLogging
+-- What transactions see of cells.
+pub mod Seen
+-- How the trees of all databases change where that of one does.
+pub mod Forests
+-- What is taken before changes are logged, change by change.
+pub mod Preparation
+-- Changes are written one after the other.
+pub mod Written
+-- The sizes of entries that are to come.
+pub mod Sizes
+-- Changes of several names, one after the other.
+pub mod Names
+-- What is taken before changes are written, and what holds when they were.
+pub mod Checked
+-- What reads find among the cells.
+pub mod ReadCells
+-- A split is a copy, and an IN's image has its children's slots.
+pub mod SplitLaws

@@ -8,6 +8,7 @@ use Rattle.tree_nodes.specs.Nodes.{NodeRow, IsOver}
 use Rattle.tree_nodes.specs.Levels.{row_of, AreParts, HasPutAt, HasRaised}
 use Rattle.in_tree.specs.Images.{Placed, entry_at, shown, shows, IsRead}
 use Rattle.in_tree.specs.Content.{held_by, bin_image, in_image}
+use Rattle.in_tree.specs.Splitting.{AreSameByName}
 use Rattle.in_tree.specs.Trees.{IsTreeOf, IsBehind, IsMark, IsImageOf, IsHandedOn}
 
 -- a longer log is a log of the tree, whatever it got
@@ -57,3 +58,7 @@ InImagesShowChildren = (es : Placed) (rows : List NodeRow) (held : Name → Opti
     AreParts rows → value_at low (row_of rows (suc level)) ≡ Some n →
     ((x : Name) (c : Name × Node) → IsOver (row_of rows level) x c → (lsn : ℕ) × (c.1.last ≡ Some lsn) × IsRead es level lsn x) →
     entry_at es at ≡ Some (in_image db number of_level low (row_of rows (suc level)) (row_of rows level)) → IsImageOf es rows held (suc level) (low, n) at
+
+-- nodes count by their lows alone
+abbrev pub TreesAreByName : Type 0
+TreesAreByName = (es : Placed) (base : ℕ) (newest : Name → ℕ) (old new : List NodeRow) (held : Name → Option ℕ) → AreSameByName old new → IsTreeOf es base newest old held → IsTreeOf es base newest new held

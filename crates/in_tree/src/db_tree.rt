@@ -1,19 +1,21 @@
 // The tree of one database.
-ghost use Rattle.std.specs.Prelude.{◌≡◌, ◌≤◌, ◌++◌, ℕ, [], Option, None, Some, IsSome, IfOk, OnOk, OnErr, option_map, if◌then◌else◌};
+ghost use Rattle.std.specs.Prelude.{◌≡◌, ◌≤◌, ◌++◌, ℕ, true, [], Option, None, Some, IsSome, IfOk, OnOk, OnErr, option_map, if◌then◌else◌};
 ghost use Rattle.std.specs.Ordering.{is_eq};
 ghost use Rattle.je_order.specs.Order.{name_cmp};
 ghost use Rattle.je_order.specs.declared.name.Name.{Name};
-ghost use Rattle.record_map.specs.Cells.{value_at, with_write, committed};
+ghost use Rattle.record_map.specs.Cells.{value_at, with_write, committed, IsRising};
 ghost use Rattle.in_tree.specs.Images.{Placed};
 ghost use Rattle.tree_nodes.specs.Levels.{row_of};
 ghost use Rattle.in_tree.specs.Content.{slot_for, record_slots, bin_image};
 ghost use Rattle.in_tree.specs.Trees.{IsTree, HasCell, cell_or_fresh, given_up};
+ghost use Rattle.in_tree.specs.Forest.{occupied, seen, with_change, with_logged, with_value};
+ghost use Rattle.record_tree.specs.Occupied.{after_commit, after_abort};
 
 use je_lsn::Lsn;
-use je_order::List;
+use je_order::{List, Octets};
 use log_entry::{Entry, RecordSlot};
 use node_core::Version;
-use record_map::{Cell, Cells, SortKey, Write};
+use record_map::{Cell, Cells, Data, SortKey, Write};
 use std::alloc::{AllocError, Global};
 use std::collections::btree_map::Range;
 use tree_nodes::{Levels, Node};
@@ -33,6 +35,40 @@ fn make_cell(cells: &mut Cells, alloc: Global, name: &SortKey) -> Result<(), All
     match cells.get(name) {
         Some(_) => Ok(()),
         None => cells.insert(name.copy(alloc)?, Cell::new()),
+    }
+}
+
+// Sets what is committed of a name that has a cell: the record that was logged at `at`, or none.
+fn set_logged(
+    cells: &mut Cells,
+    name: &SortKey,
+    value: Option<Octets>,
+    at: Lsn,
+    commit: Lsn,
+    last: &Option<Lsn>,
+)
+    requires { IsSome (value_at name.now cells.old) }
+    ensures others { (x : Name) → value_at x cells.new ≡ (if is_eq (name_cmp name.now x) then option_map (with_logged value at commit last.now) (value_at name.now cells.old) else value_at x cells.old) }
+    ensures rising { IsRising cells.new }
+{
+    match value {
+        Some(octets) => {
+            cells.set_version(name, Version::There(at), Data::new(octets), commit, last);
+        }
+        None => cells.set_version(name, Version::Deleted, Data::empty(), commit, last),
+    }
+}
+
+// Whether the name has a cell that says nothing.
+fn is_unused(cells: &Cells, name: &SortKey) -> bool
+    ensures { result ≡ true → seen (value_at name.now cells.now) ≡ None }
+{
+    match cells.get(name) {
+        Some(cell) => match (cell.version, &cell.write) {
+            (Version::Unset, None) => true,
+            _ => false,
+        },
+        None => false,
     }
 }
 
@@ -106,6 +142,89 @@ impl DbTree {
         })
     }
 
+    // Makes a cell for the name where it has none.
+    pub(crate) fn put_cell(&mut self, alloc: Global, name: &SortKey) -> Result<(), AllocError>
+        ensures there { OnOk result (IsSome (value_at name.now self.new.cells)) }
+        ensures same { occupied self.new.cells ≡ occupied self.old.cells }
+        ensures kept { (x : Name) → IsSome (value_at x self.old.cells) → IsSome (value_at x self.new.cells) }
+    {
+        let _before = self.cells.len();
+        make_cell(&mut self.cells, alloc, name)?;
+        let _after = self.cells.len();
+        Ok(())
+    }
+
+    // Takes the name's cell out where it says nothing.
+    pub(crate) fn drop_unused(&mut self, name: &SortKey)
+        ensures { occupied self.new.cells ≡ occupied self.old.cells }
+    {
+        let _len = self.cells.len();
+        if is_unused(&self.cells, name) {
+            self.cells.remove(name);
+        }
+    }
+
+    // Gives the name's cell a change.
+    pub(crate) fn put_write(&mut self, name: &SortKey, write: Box<Write>)
+        requires { IsSome (value_at name.now self.old.cells) }
+        ensures cells { (x : Name) → value_at x (occupied self.new.cells) ≡ (if is_eq (name_cmp name.now x) then with_change write.value (value_at x (occupied self.old.cells)) else value_at x (occupied self.old.cells)) }
+        ensures kept { (x : Name) → IsSome (value_at x self.old.cells) → IsSome (value_at x self.new.cells) }
+    {
+        let _len = self.cells.len();
+        self.cells.set_write(name, Some(write));
+    }
+
+    // Commits the name's change, by the Commit at `at`.
+    pub(crate) fn commit_write(&mut self, name: &SortKey, at: Lsn)
+        ensures { (x : Name) → value_at x (occupied self.new.cells) ≡ (if is_eq (name_cmp name.now x) then after_commit (value_at x (occupied self.old.cells)) else value_at x (occupied self.old.cells)) }
+    {
+        let _before = self.cells.len();
+        match self.written_at(name, at) {
+            Some(from) => self.commit(name, at, from),
+            None => return,
+        }
+        let _after = self.cells.len();
+    }
+
+    /// Sets what is committed of the name: the record that was logged at `at`, or none, by the Commit at `commit`. Its
+    /// BIN is marked. Running out of memory changes nothing.
+    pub fn redo(
+        &mut self,
+        alloc: Global,
+        name: &SortKey,
+        value: Option<Octets>,
+        at: Lsn,
+        commit: Lsn,
+    ) -> Result<(), AllocError>
+        ensures cells { OnOk result ((x : Name) → value_at x (occupied self.new.cells) ≡ (if is_eq (name_cmp name.now x) then with_value value (value_at x (occupied self.old.cells)) else value_at x (occupied self.old.cells))) }
+        ensures err { OnErr result (self.new.cells ≡ self.old.cells) }
+        ensures tree { (es : Placed) (base : ℕ) (newest : Name → ℕ) → at ≤ newest name.now → IsTree es base newest self.old.levels self.old.cells → IsTree es base newest self.new.levels self.new.cells }
+    {
+        let _height = self.levels.height();
+        let _before = self.cells.len();
+        make_cell(&mut self.cells, alloc, name)?;
+        let _made = self.cells.len();
+        let (_low, node) = self.levels.over(0, name);
+        let last = node.last;
+        self.levels.mark(0, name, at);
+        set_logged(&mut self.cells, name, value, at, commit, &last);
+        Ok(())
+    }
+
+    // The LSN of the name's change, where it has a cell.
+    fn written_at(&self, name: &SortKey, at: Lsn) -> Option<Lsn>
+        ensures there { IsSome result → IsSome (value_at name.now self.now.cells) }
+        ensures none { result ≡ None → value_at name.now self.now.cells ≡ None }
+    {
+        match self.cells.get(name) {
+            Some(cell) => match &cell.write {
+                Some(write) => Some(write.at),
+                None => Some(at),
+            },
+            None => None,
+        }
+    }
+
     /// Gives the name a change that is not committed. Running out of memory changes nothing, and does
     /// not come where the name has a cell.
     pub fn set_write(
@@ -140,11 +259,14 @@ impl DbTree {
 
     /// Gives the change of the name up: a cell of which nothing is committed goes. It takes no memory.
     pub fn abort(&mut self, name: &SortKey)
+        ensures seen { (x : Name) → value_at x (occupied self.new.cells) ≡ (if is_eq (name_cmp name.now x) then after_abort (value_at x (occupied self.old.cells)) else value_at x (occupied self.old.cells)) }
         ensures cells { (x : Name) → value_at x self.new.cells ≡ (if is_eq (name_cmp name.now x) then given_up (value_at name.now self.old.cells) else value_at x self.old.cells) }
         ensures tree { (es : Placed) (base : ℕ) (newest : Name → ℕ) → IsTree es base newest self.old.levels self.old.cells → IsTree es base newest self.new.levels self.new.cells }
         ensures levels { self.new.levels ≡ self.old.levels }
     {
+        let _before = self.cells.len();
         give_up(&mut self.cells, name);
+        let _after = self.cells.len();
     }
 
     /// The image of the BIN with the low.

@@ -1,15 +1,16 @@
 // What holds of every tree of a log.
-ghost use Rattle.in_tree.specs.Laws.{TreesStayInLongerLogs, TreesAreSplitAndMarked, TreesAreCommitted, TreesAreLogged, TreesAreRaised, TreesAreCovered, BinImagesShowCells, InImagesShowChildren};
+ghost use Rattle.in_tree.specs.Laws.{TreesStayInLongerLogs, TreesAreSplitAndMarked, TreesAreCommitted, TreesAreLogged, TreesAreRaised, TreesAreByName, TreesAreCovered, BinImagesShowCells, InImagesShowChildren};
 
 /// Each step of a tree and its log keeps that the tree fits the log: the log gets an entry of any kind; a
 /// node is marked, or split by a copy of it that takes part of its names; records are committed whose BINs are marked; a
-/// node is logged whose mark was handed on to the node above it; a root is put above the top.
+/// node is logged whose mark was handed on to the node above it; a root is put above the top; each low has the node that it had.
 pub fn trees_fit_their_log()
     ensures longer { TreesStayInLongerLogs }
     ensures marked { TreesAreSplitAndMarked }
     ensures committed { TreesAreCommitted }
     ensures logged { TreesAreLogged }
     ensures raised { TreesAreRaised }
+    ensures by_name { TreesAreByName }
 {}
 
 /// Where each mark of a tree is at a redo LSN or behind it, its root's image shows of each name what is

@@ -2,14 +2,24 @@
 //! nodes, on `record_map` for the records and on `log_entry` for images. A tree fits a log (`IsTreeOf`) where each node's last
 //! image shows what its children's do, and a BIN's what is committed, but for names that the node is marked for. Upward it
 //! promises that each step of a tree and its log keeps this, and that what the images of a checkpoint
-//! lack is behind its redo LSN.
+//! lack is behind its redo LSN. Over a log buffer the trees of all databases (`LogTrees`) are the records that transactions read and
+//! change: a change takes all its memory first, is logged, and is then set in its cell.
 #![tactic(auto)]
 
 pub mod db_tree;
+mod forest;
 pub mod laws;
 pub mod log_node;
+pub mod log_trees;
+mod preparing;
+mod reading;
+pub mod splitting;
 pub mod tree_log;
+pub mod trees;
+mod writing;
 
 pub use db_tree::DbTree;
 pub use laws::{images_show_their_nodes, trees_are_covered, trees_fit_their_log};
+pub use log_trees::LogTrees;
 pub use tree_log::TreeLog;
+pub use trees::Trees;

@@ -6,6 +6,7 @@ ghost use Rattle.record_map.specs.Cells.{value_at, IsRising};
 ghost use Rattle.tree_nodes.specs.Levels.{row_of, AreParts};
 ghost use Rattle.in_tree.specs.Images.{Placed};
 ghost use Rattle.in_tree.specs.Content.{bin_image};
+ghost use Rattle.in_tree.specs.Splitting.{ImagedBelow, IsInImage};
 ghost use Rattle.in_tree.specs.Trees.{IsTreeOf, IsTree, IsHandedOn};
 
 use crate::{DbTree, TreeLog};
@@ -33,6 +34,7 @@ fn hand_on(levels: &mut Levels, level: usize, low: &SortKey, node: &Node)
     ensures handed { IsHandedOn levels.new level low.now node.now }
     ensures tree { (es : Placed) (base : ℕ) (newest : Name → ℕ) (held : Name → Option ℕ) → IsTreeOf es base newest levels.old held → IsTreeOf es base newest levels.new held }
     ensures row { row_of levels.new level ≡ row_of levels.old level }
+    ensures others { (k : ℕ) → (k ≡ suc level → ⊥) → row_of levels.new k ≡ row_of levels.old k }
     ensures height { length levels.new ≡ length levels.old }
     ensures parts { AreParts levels.new }
 {
@@ -69,6 +71,32 @@ impl DbTree {
         let node = node_at(&self.levels, 0, low);
         hand_on(&mut self.levels, 0, low, &node);
         self.levels.set(0, low, node.logged(at));
+        Ok(at)
+    }
+
+    /// Logs an image of the IN of the level with the low, whose children all have an image: it is the IN's last image, and its mark goes
+    /// to the node above it. The tree stays as it was where the log fails.
+    pub fn log_in<L: TreeLog>(
+        &mut self,
+        log: &mut L,
+        level: usize,
+        low: &SortKey,
+        entry: &Entry,
+    ) -> Result<Lsn, TreeErr>
+        requires level { level < length self.old.levels }
+        requires there { IsSome (value_at low.now (row_of self.old.levels level)) }
+        requires entry { IsEntry entry.now }
+        requires image { (k : ℕ) × (level ≡ suc k) × ImagedBelow self.old.levels k × IsInImage self.old.levels level k low.now entry.now }
+        ensures tree { IfOk result (λ at. (es : Placed) (base : ℕ) (newest : Name → ℕ) → L.is_log log.old es → IsTree es base newest self.old.levels self.old.cells → IsTree (es ++ (at, entry.now) ∷ []) base newest self.new.levels self.new.cells) }
+        ensures log { IfOk result (λ at. (es : Placed) → L.is_log log.old es → L.is_log log.new (es ++ (at, entry.now) ∷ [])) }
+        ensures cells { self.new.cells ≡ self.old.cells }
+        ensures err { OnErr result (self.new.levels ≡ self.old.levels) }
+    {
+        let _height = self.levels.height();
+        let at = log.append(entry)?;
+        let node = node_at(&self.levels, level, low);
+        hand_on(&mut self.levels, level, low, &node);
+        self.levels.set(level, low, node.logged(at));
         Ok(at)
     }
 }

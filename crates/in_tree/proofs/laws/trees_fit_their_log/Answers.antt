@@ -1,6 +1,7 @@
 use Rattle.in_tree.proofs.Longer.{longer}
 use Rattle.in_tree.proofs.Marking.{marked_or_split, committed}
 use Rattle.in_tree.proofs.Logging.{logged, raised}
+use Rattle.in_tree.proofs.SplitLaws.{by_name}
 use Rattle.in_tree.proofs.laws.trees_fit_their_log.Goals as goal
 
 pub returns-clause-longer : goal.returns-clause-longer
@@ -17,3 +18,6 @@ returns-clause-logged c = logged
 
 pub returns-clause-raised : goal.returns-clause-raised
 returns-clause-raised c = raised
+
+pub returns-clause-by_name : goal.returns-clause-by_name
+returns-clause-by_name c = by_name

@@ -12,3 +12,7 @@ returns-clause-handed c =
 pub returns-clause-tree : goal.returns-clause-tree
 returns-clause-tree c = λ es base newest held tree.
     marks es base newest c.args.levels.now c.mark.new.self held (c.args.level + 1) c.args.low.now c.in-Some.from c.mark.ensures.marked tree
+
+pub returns-clause-others : goal.returns-clause-others
+returns-clause-others c =
+    (subst (λ l. HasMarkedAt c.args.levels.now c.mark.new.self l c.args.low.now c.in-Some.from) (add-one c.args.level) c.mark.ensures.marked).put.others

@@ -1,0 +1,18 @@
+use Rattle.std.proofs.Common.{◌≡◌, ◌∙◌, Option, Some, IsSome, option_map, refl, ap, sym, subst}
+use Rattle.record_map.specs.declared.cell.Cell.{Cell}
+use Rattle.record_map.specs.Cells.{value_at, with_write}
+use Rattle.in_tree.specs.Forest.{seen, with_change}
+use Rattle.in_tree.proofs.Seen.{change_seen, write_seen_at, kept_put, some_mapped}
+use Rattle.in_tree.proofs.db_tree.DbTree.put_write.Goals as goal
+
+pub returns-clause-cells : goal.returns-clause-cells
+returns-clause-cells c =
+    let old = c.args.self.now.cells in
+    change_seen old c.set_write.new.self c.args.name.now (option_map (with_write (Some c.args.write)) (value_at c.args.name.now old)) (with_change c.args.write.value)
+    c.len-len.ensures.rising c.set_write.ensures.rising c.set_write.ensures.others (write_seen_at (value_at c.args.name.now old) c.args.write c.requires)
+
+pub returns-clause-kept : goal.returns-clause-kept
+returns-clause-kept c =
+    let old = c.args.self.now.cells in
+    kept_put old c.set_write.new.self c.args.name.now (option_map (with_write (Some c.args.write)) (value_at c.args.name.now old)) c.set_write.ensures.others
+    (some_mapped (with_write (Some c.args.write)) (value_at c.args.name.now old) c.requires)

@@ -1,0 +1,12 @@
+use Rattle.std.proofs.Common.{List, drop, ◌+◌, subst}
+use Rattle.record_tree.specs.declared.tree_change.TreeChange.{TreeChange}
+use Rattle.in_tree.proofs.Preparation.{BackLeft, next_left, back_step}
+use Rattle.in_tree.proofs.preparing.give_back.Goals as goal
+
+pub loop-change-preserved : goal.loop-change-preserved
+loop-change-preserved c =
+    let i = c.loop-change.change-index in
+    let changes = c.args.changes.now in
+    back_step c.args.trees.now c.loop-change.trees c.give_one.new.trees changes (drop (i + 1) changes) c.change-item.result
+    (subst (λ (l : List TreeChange). BackLeft c.args.trees.now c.loop-change.trees changes l) (next_left changes i c.change-item.result c.loop-change-test.true c.change-item.is) c.loop-change.invariant)
+    c.give_one.ensures.same c.give_one.ensures.trees

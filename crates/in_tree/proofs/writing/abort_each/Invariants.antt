@@ -1,0 +1,7 @@
+use Rattle.std.proofs.Common.{drop}
+use Rattle.record_tree.specs.Occupied.{after_abort}
+use Rattle.in_tree.proofs.Names.{NamesLeft}
+use Rattle.in_tree.proofs.writing.abort_each.Given as goal
+
+abbrev pub invariant-loop-name : goal.invariant-loop-name
+invariant-loop-name l = NamesLeft l.initial.trees l.trees l.names (drop l.name-index l.names) after_abort

@@ -1,0 +1,80 @@
+-- The trees of all databases, and what transactions see in them.
+use Rattle.std.specs.Prelude.{◌≡◌, ◌==◌, ◌&&◌, ℕ, Bool, false, refl, List, [], Option, Some, None, IsSome, is_some, map, filter, if◌then◌else◌}
+use Rattle.std.specs.Ordering.{is_eq, nat_cmp}
+use Rattle.std.specs.BTreeMap.{BTreeMap, get}
+use Rattle.je_order.specs.Order.{name_cmp}
+use Rattle.je_order.specs.declared.name.Name.{Name}
+use Rattle.je_order.specs.declared.txn_id.TxnId.{TxnId}
+use Rattle.node_core.specs.declared.slot.Version.TheVariants.{There, Deleted}
+use Rattle.record_map.specs.declared.cell.Cell.{Cell}
+use Rattle.record_map.specs.declared.write.Write.{Write}
+use Rattle.record_map.specs.Cells.{value_at, with_version}
+use Rattle.record_tree.specs.Occupied.{Occupied, AllCells, occupied_by, is_occupied, if_occupied, value_in, write_in}
+use Rattle.record_tree.specs.declared.tree_change.TreeChange.{TreeChange}
+use Rattle.in_tree.specs.declared.db_tree.DbTree.{DbTree}
+
+-- the trees by their databases' numbers
+abbrev pub Forest : Type 0
+Forest = BTreeMap ℕ DbTree
+
+abbrev pub cells_of : Option DbTree → List (Name × Cell)
+cells_of None = []
+cells_of (Some tree) = tree.cells
+
+-- the cells of a database, none where it has no tree
+abbrev pub cells_at : Forest → ℕ → List (Name × Cell)
+cells_at forest d = cells_of (get nat_cmp forest d)
+
+abbrev pub is_there : Forest → ℕ → Bool
+is_there forest d = is_some (get nat_cmp forest d)
+
+-- what transactions see of a name
+abbrev pub seen : Option Cell → Option Occupied
+seen None = None
+seen (Some cell) = if_occupied (occupied_by cell)
+
+-- the names that are occupied
+abbrev pub occupied : List (Name × Cell) → List (Name × Occupied)
+occupied cells = filter (λ e. is_occupied e.1) (map (λ e. (e.0, occupied_by e.1)) cells)
+
+abbrev pub cells_seen : Forest → AllCells
+cells_seen forest d = occupied (cells_at forest d)
+
+-- one name of one database changed
+abbrev pub HasChange : AllCells → AllCells → ℕ → Name → (Option Occupied → Option Occupied) → Type 0
+HasChange old new db name change =
+    (d : ℕ) (x : Name) → value_at x (new d) ≡ (if d == db && is_eq (name_cmp name x) then change (value_at x (old d)) else value_at x (old d))
+
+-- a name with a change that is not committed
+abbrev pub with_change : Write → Option Occupied → Option Occupied
+with_change write o = Some (record { value = value_in o; write = Some write })
+
+-- a name of which other data, or none, is committed
+abbrev pub with_value : Option (List ℕ) → Option Occupied → Option Occupied
+with_value value o = if_occupied (record { value = value; write = write_in o })
+
+-- a cell with what was committed of its name: the record that was logged at an LSN, or none
+abbrev pub with_logged : Option (List ℕ) → ℕ → ℕ → Option ℕ → Cell → Cell
+with_logged (Some value) at commit last cell = with_version (There at) value commit last cell
+with_logged None at commit last cell = with_version Deleted [] commit last cell
+
+-- each database has a tree as before
+abbrev pub HasSameTrees : Forest → Forest → Type 0
+HasSameTrees old new = (d : ℕ) → is_there new d ≡ is_there old d
+
+-- no cell went
+abbrev pub KeepsCells : Forest → Forest → Type 0
+KeepsCells old new = (d : ℕ) (x : Name) → IsSome (value_at x (cells_at old d)) → IsSome (value_at x (cells_at new d))
+
+-- a name has a cell
+abbrev pub HasOne : Forest → ℕ → Name → Type 0
+HasOne forest db name = IsSome (value_at name (cells_at forest db))
+
+-- the change that is to be kept in a cell, before it is logged
+abbrev pub write_for : TxnId → TreeChange → Write
+write_for txn c = record { txn = txn; at = 0; value = c.value }
+
+-- nothing is seen of a database without a tree
+pub none_seen : (o : Option DbTree) → is_some o ≡ false → occupied (cells_of o) ≡ []
+none_seen None none = refl
+none_seen (Some tree) none = λ i. if none i then occupied tree.cells else []

@@ -1,0 +1,66 @@
+-- Which limit changes meet, and what the log has room for.
+use Rattle.std.specs.Prelude.{◌≡◌, ◌+◌, ◌<◌, ◌≤◌, ℕ, zero, suc, nat_lt, if◌then◌else◌, List, [], ◌∷◌, ◌++◌, map, Option, Some, None, false}
+use Rattle.je_lsn.specs.Naming.{last_file}
+use Rattle.je_order.specs.declared.txn_id.TxnId.{TxnId}
+use Rattle.log_entry.specs.Encoding.{size_of}
+use Rattle.log_entry.specs.declared.entry.Entry.TheVariants.{Commit}
+use Rattle.log_buffer.specs.declared.buffer.LogBuffer.{LogBuffer}
+use Rattle.log_buffer.specs.Buffer.{end_of, file_max_of, has_failed, HasRoom}
+use Rattle.log_buffer.specs.Flip.{end_after_all}
+use Rattle.record_tree.specs.Logged.{entry_for}
+use Rattle.record_tree.specs.declared.tree_change.TreeChange.{TreeChange}
+use Rattle.record_tree.specs.declared.tree_err.TreeErr.{TreeErr}
+use Rattle.record_tree.specs.declared.tree_err.TreeErr.TheVariants.{Full, IdsEnded}
+
+-- a transaction: which one, the size of an entry does not depend on
+abbrev pub any_txn : TxnId
+any_txn = record { 0 = 0 }
+
+-- the size of a change's entry
+abbrev pub change_size : TreeChange → ℕ
+change_size c = size_of (entry_for any_txn c.db c.name c.value)
+
+-- the size of a Commit
+abbrev pub commit_size : ℕ
+commit_size = size_of (Commit any_txn)
+
+-- the sizes of so many Commits
+abbrev pub commit_sizes : ℕ → List ℕ
+commit_sizes zero = []
+commit_sizes (suc n) = commit_size ∷ commit_sizes n
+
+-- the sizes of the entries of changes, and of the Commits that are owed behind them
+abbrev pub sizes_for : List TreeChange → ℕ → List ℕ
+sizes_for changes owed = map change_size changes ++ commit_sizes owed
+
+-- how many databases changes make
+abbrev pub one_made : Option ℕ → ℕ
+one_made None = 0
+one_made (Some db) = 1
+
+abbrev pub count_made : List TreeChange → ℕ
+count_made [] = 0
+count_made (c ∷ changes) = one_made c.makes + count_made changes
+
+-- the greatest number of a node
+abbrev pub last_number : ℕ
+last_number = 0x7fffffffffffffff
+
+module _ {D : Type 0} where
+  -- the log passes its last file by entries of these sizes
+  abbrev pub end_behind : LogBuffer D → List ℕ → ℕ
+  end_behind log sizes = (end_after_all (file_max_of log) (end_of log) sizes).file
+
+  -- the limit that changes meet, where `last` is the node number allocated last: the log's, and then that of numbers
+  abbrev pub limit_of : LogBuffer D → ℕ → List TreeChange → ℕ → Option TreeErr
+  limit_of log last changes owed =
+      if has_failed log then None
+      else if nat_lt last_file (end_behind log (sizes_for changes owed)) then Some Full
+      else if nat_lt last_number (last + count_made changes) then Some IdsEnded
+      else None
+
+  -- the log works, and appends of entries of these sizes take no memory and pass no last file
+  pub record HasRoomFor (log : LogBuffer D) (sizes : List ℕ) : Type 0 where
+    pub works : has_failed log ≡ false
+    pub room : HasRoom log sizes
+    pub files : end_behind log sizes ≤ last_file

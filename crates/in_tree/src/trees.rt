@@ -1,0 +1,125 @@
+// The trees of an environment.
+ghost use Rattle.std.specs.Prelude.{◌≡◌, ◌≤◌, ◌<◌, ◌+◌, ◌==◌, ℕ, [], true, false, if◌then◌else◌, OnOk, OnErr, option_map};
+ghost use Rattle.record_map.specs.Cells.{value_at, IsRising, first_of, last_of, from_edge, below_edge, edge_of};
+ghost use Rattle.record_tree.specs.Logged.{IsEndOf};
+ghost use Rattle.record_tree.specs.Occupied.{AreSame, occupied_by};
+ghost use Rattle.record_tree.specs.declared.tree_err.TreeErr.{TreeErr as Reason};
+ghost use Rattle.in_tree.specs.Forest.{cells_seen, is_there, HasSameTrees, HasChange, with_value};
+
+use crate::{DbTree, forest, reading};
+use je_lsn::Lsn;
+use je_order::Octets;
+use record_map::{Cell, EdgeRef, SortKey};
+use record_tree::TreeErr;
+use std::alloc::{AllocError, Global};
+use std::collections::BTreeMap;
+
+/// The greatest number that a node has.
+pub(crate) const LAST_NODE: u64 = 0x7fff_ffff_ffff_ffff;
+
+/// The trees of all databases. They begin without one; opening puts those in that the log has.
+#[derive(Drop)]
+pub struct Trees {
+    /// The trees by their databases' numbers.
+    pub(crate) forest: BTreeMap<u32, DbTree>,
+    /// The node number that was allocated last.
+    pub(crate) last_node: u64,
+    /// How many slots a node has at most when one is put in.
+    pub(crate) fanout: u32,
+    ghost numbers: { last_node ≤ 0x7fffffffffffffff },
+    ghost least: { 4 ≤ fanout },
+    ghost most: { fanout ≤ 128 },
+}
+
+impl Trees {
+    /// No trees, of nodes of at most so many slots. The numbers of nodes go on behind `last_node`. It takes no
+    /// memory.
+    pub fn new(alloc: Global, fanout: u32, last_node: u64) -> Trees
+        requires numbers { last_node ≤ 0x7fffffffffffffff }
+        requires least { 4 ≤ fanout }
+        requires most { fanout ≤ 128 }
+        ensures none { (d : ℕ) → is_there result.forest d ≡ false }
+        ensures last { result.last_node ≡ last_node }
+    {
+        Trees {
+            forest: BTreeMap::new(alloc),
+            last_node,
+            fanout,
+        }
+    }
+
+    /// The cell of the name, where it is occupied.
+    pub fn get(&self, db: u32, name: &SortKey) -> Option<&Cell>
+        ensures found { option_map (λ c. occupied_by c.now) result ≡ value_at name.now (cells_seen self.now.forest db) }
+        ensures rising { IsRising (cells_seen self.now.forest db) }
+    {
+        reading::get(&self.forest, db, name)
+    }
+
+    /// The first occupied name that is not below the edge.
+    pub fn next(&self, db: u32, from: EdgeRef<'_>) -> Option<(&SortKey, &Cell)>
+        ensures found { option_map (λ p. (p.0.now, occupied_by p.1.now)) result ≡ first_of (from_edge (edge_of from.entry) (cells_seen self.now.forest db)) }
+        ensures rising { IsRising (cells_seen self.now.forest db) }
+    {
+        reading::next(&self.forest, db, from)
+    }
+
+    /// The last occupied name below the edge.
+    pub fn last_below(&self, db: u32, upto: EdgeRef<'_>) -> Option<(&SortKey, &Cell)>
+        ensures found { option_map (λ p. (p.0.now, occupied_by p.1.now)) result ≡ last_of (below_edge (edge_of upto.entry) (cells_seen self.now.forest db)) }
+        ensures rising { IsRising (cells_seen self.now.forest db) }
+    {
+        reading::last_below(&self.forest, db, upto)
+    }
+
+    /// Makes the tree of a database that has none: a root without records, with the next node number. IdsEnded
+    /// where no number is left; an error leaves the trees as they were.
+    pub fn make(&mut self, alloc: Global, db: u32) -> Result<(), TreeErr>
+        requires { is_there self.old.forest db ≡ false }
+        ensures same { AreSame (cells_seen self.old.forest) (cells_seen self.new.forest) }
+        ensures trees { OnOk result ((d : ℕ) → is_there self.new.forest d ≡ (if d == db then true else is_there self.old.forest d)) }
+        ensures number { OnOk result (self.new.last_node ≡ self.old.last_node + 1) }
+        ensures ended { IsEndOf Reason.IdsEnded result (self.old.last_node ≡ 0x7fffffffffffffff) }
+        ensures no_fault { IsEndOf Reason.Fault result ⊥ }
+        ensures no_limit { IsEndOf Reason.Full result ⊥ }
+        ensures err { OnErr result (HasSameTrees self.old.forest self.new.forest) }
+    {
+        if self.last_node == LAST_NODE {
+            return Err(TreeErr::IdsEnded);
+        }
+        let number = self.last_node + 1;
+        match forest::make(&mut self.forest, alloc, db, number) {
+            Ok(()) => {}
+            Err(_) => return Err(TreeErr::Memory),
+        }
+        self.last_node = number;
+        Ok(())
+    }
+
+    /// Takes the tree of a database out, with its records. It takes no memory.
+    pub fn drop_db(&mut self, db: u32)
+        ensures cells { (d : ℕ) → cells_seen self.new.forest d ≡ (if d == db then [] else cells_seen self.old.forest d) }
+        ensures trees { (d : ℕ) → is_there self.new.forest d ≡ (if d == db then false else is_there self.old.forest d) }
+    {
+        forest::drop_db(&mut self.forest, db);
+    }
+
+    /// Sets what is committed of a name, as the log has it: the record that was logged at `at`, or none where the record was
+    /// deleted there, by the Commit at `commit`. Nothing is logged. Running out of memory changes nothing.
+    pub fn redo(
+        &mut self,
+        alloc: Global,
+        db: u32,
+        name: &SortKey,
+        value: Option<Octets>,
+        at: Lsn,
+        commit: Lsn,
+    ) -> Result<(), AllocError>
+        requires { is_there self.old.forest db ≡ true }
+        ensures cells { OnOk result (HasChange (cells_seen self.old.forest) (cells_seen self.new.forest) db name.now (with_value value)) }
+        ensures same { OnErr result (AreSame (cells_seen self.old.forest) (cells_seen self.new.forest)) }
+        ensures trees { HasSameTrees self.old.forest self.new.forest }
+    {
+        forest::redo(&mut self.forest, alloc, db, name, value, at, commit)
+    }
+}
