@@ -5,12 +5,16 @@
 #![tactic(auto)]
 
 pub mod lacks;
+pub mod load_err;
+pub mod loads;
 pub mod records;
 pub mod tree_change;
 pub mod tree_err;
 pub mod tree_name;
 
 pub use lacks::Lacks;
+pub use load_err::LoadErr;
+pub use loads::Loads;
 pub use records::Records;
 pub use tree_change::TreeChange;
 pub use tree_err::TreeErr;

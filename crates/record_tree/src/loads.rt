@@ -1,0 +1,75 @@
+// Trees that are made of a log.
+ghost use Rattle.std.specs.Prelude.{◌≡◌, ◌==◌, ◌||◌, ℕ, [], length, option_map, OnOk, IfOk, Bool, true, false, if◌then◌else◌};
+ghost use Rattle.std.specs.List.{list_any};
+ghost use Rattle.record_map.specs.Cells.{IsRising, first_of, from_edge, edge_of};
+ghost use Rattle.record_tree.specs.Stored.{AllStored, stored_at, HasStored, AreStoredStill};
+
+use crate::LoadErr;
+use je_lsn::Lsn;
+use je_order::{Name, Octets};
+use record_map::{EdgeRef, SortKey};
+use std::alloc::{AllocError, Global};
+
+/// The trees of an environment in memory, while they are made of a log. No transaction is active, so
+/// each record is committed. A contract sees the records alone; what nodes are made of them is the
+/// implementation's.
+pub trait Loads {
+    /// The records of each database, with the LSNs at which they were logged.
+    ghost stored: { Self → AllStored };
+
+    /// Whether a database of that number has a tree.
+    ghost has_tree: { Self → ℕ → Bool };
+
+    /// Nodes that are made from now on take the numbers behind this one.
+    fn number_from(&mut self, last_node: u64)
+        ensures stored { AreStoredStill (stored self.old) (stored self.new) }
+        ensures trees { (d : ℕ) → has_tree self.new d ≡ has_tree self.old d };
+
+    /// Whether the database has a tree.
+    fn is_made(&self, db: u32) -> bool
+        ensures made { result ≡ has_tree self.now db }
+        ensures rising { (d : ℕ) → IsRising (stored self.now d) };
+
+    /// The numbers of the databases with trees.
+    fn databases(&self, alloc: Global) -> Result<Vec<u32>, AllocError>
+        ensures { IfOk result (λ numbers. (d : ℕ) → has_tree self.now d ≡ list_any (λ n. n == d) numbers.items) };
+
+    /// Makes an empty tree for a database without one. Its root takes the next node number.
+    fn make(&mut self, alloc: Global, db: u32) -> Result<(), LoadErr>
+        requires { has_tree self.old db ≡ false }
+        ensures stored { OnOk result (AreStoredStill (stored self.old) (stored self.new)) }
+        ensures trees { OnOk result ((d : ℕ) → has_tree self.new d ≡ ((d == db) || has_tree self.old d)) };
+
+    /// Takes the tree of a database out, with its records. It takes no memory.
+    fn drop_db(&mut self, db: u32)
+        ensures stored { (d : ℕ) → stored self.new d ≡ (if d == db then [] else stored self.old d) }
+        ensures trees { (d : ℕ) → has_tree self.new d ≡ (if d == db then false else has_tree self.old d) };
+
+    /// Makes a committed change, which was logged at `at`: the record's new data, or none where it is
+    /// deleted. A redo finds the change again from the LSN `first` on. Nodes that are split for it take the
+    /// next node numbers.
+    fn redo(
+        &mut self,
+        alloc: Global,
+        db: u32,
+        name: Name,
+        first: Lsn,
+        at: Lsn,
+        value: Option<Octets>,
+    ) -> Result<(), LoadErr>
+        requires { has_tree self.old db ≡ true }
+        ensures stored { OnOk result (HasStored (stored self.old) (stored self.new) db name (stored_at at value)) }
+        ensures trees { OnOk result ((d : ℕ) → has_tree self.new d ≡ has_tree self.old d) };
+
+    /// How many records the database has.
+    fn count(&self, db: u32) -> usize
+        ensures { result ≡ length (stored self.now db) };
+
+    /// The first record whose name is not below the edge, with its LSN and its data.
+    fn next(&self, db: u32, from: EdgeRef<'_>) -> Option<(&SortKey, Lsn, &[u8])>
+        ensures found { option_map (λ r. (r.0.now, record { at = r.1; value = r.2.now })) result ≡ first_of (from_edge (edge_of from.entry) (stored self.now db)) }
+        ensures rising { IsRising (stored self.now db) };
+
+    /// A database without a tree has no records.
+    ghost none_stored: { (x : Self) (d : ℕ) → has_tree x d ≡ false → stored x d ≡ [] };
+}

@@ -1,0 +1,11 @@
+//! Reading the files of an environment: the trees that its log means, or what is wrong with it. It stands
+//! on the files of logs, on what a log with checkpoints means, and on trees in memory by what the trait
+//! `Loads` says of them. Upward it promises that the files mean the store that the trees hold, with the
+//! numbers that were allocated last, or that the corruption is the first in the order of reading.
+#![tactic(auto)]
+
+mod placed_entry;
+mod reading;
+mod redoing;
+mod waiting;
+mod waiting_change;
