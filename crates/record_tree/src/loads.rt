@@ -1,13 +1,13 @@
 // Trees that are made of a log.
-ghost use Rattle.std.specs.Prelude.{◌≡◌, ◌==◌, ◌||◌, ℕ, [], length, option_map, OnOk, IfOk, Bool, true, false, if◌then◌else◌};
+ghost use Rattle.std.specs.Prelude.{◌≡◌, ◌==◌, ◌||◌, ℕ, [], length, option_map, find, not, OnOk, IfOk, Bool, true, false, if◌then◌else◌};
 ghost use Rattle.std.specs.List.{list_any};
-ghost use Rattle.record_map.specs.Cells.{IsRising, first_of, from_edge, edge_of};
+ghost use Rattle.record_map.specs.Cells.{IsRising, value_at};
 ghost use Rattle.record_tree.specs.Stored.{AllStored, stored_at, HasStored, AreStoredStill};
 
-use crate::LoadErr;
+use crate::{LoadErr, StoredRecord};
 use je_lsn::Lsn;
 use je_order::{Name, Octets};
-use record_map::{EdgeRef, SortKey};
+use record_map::SortKey;
 use std::alloc::{AllocError, Global};
 
 /// The trees of an environment in memory, while they are made of a log. No transaction is active, so
@@ -65,10 +65,17 @@ pub trait Loads {
     fn count(&self, db: u32) -> usize
         ensures { result ≡ length (stored self.now db) };
 
-    /// The first record whose name is not below the edge, with its LSN and its data.
-    fn next(&self, db: u32, from: EdgeRef<'_>) -> Option<(&SortKey, Lsn, &[u8])>
-        ensures found { option_map (λ r. (r.0.now, record { at = r.1; value = r.2.now })) result ≡ first_of (from_edge (edge_of from.entry) (stored self.now db)) }
-        ensures rising { IsRising (stored self.now db) };
+    /// The LSN and the data of the record of that name, if there is one.
+    fn get(&self, db: u32, name: &SortKey) -> Option<(Lsn, &[u8])>
+        ensures found { option_map (λ r. record { at = r.0; value = r.1.now }) result ≡ value_at name.now (stored self.now db) };
+
+    /// Copies of the records of the database, in order.
+    fn records(&self, alloc: Global, db: u32) -> Result<Vec<StoredRecord>, AllocError>
+        ensures { IfOk result (λ records. records.items ≡ stored self.now db) };
+
+    /// The name of the first record whose dup is not empty, if there is one.
+    fn first_with_dup(&self, db: u32) -> Option<&SortKey>
+        ensures found { option_map (λ name. name.now) result ≡ option_map (λ r. r.0) (find (λ r. not (length r.0.dup == 0)) (stored self.now db)) };
 
     /// A database without a tree has no records.
     ghost none_stored: { (x : Self) (d : ℕ) → has_tree x d ≡ false → stored x d ≡ [] };

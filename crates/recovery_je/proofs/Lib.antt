@@ -4,3 +4,9 @@ pub mod FilesRead
 pub mod WaitingLaws
 -- Records while a log is read again.
 pub mod RedoingLaws
+-- The greatest numbers in the entries of a log.
+pub mod NumberLaws
+-- Records without their LSNs, and which of them is wrong.
+pub mod CheckLaws
+-- The trees of the databases that the catalog names.
+pub mod FinishLaws

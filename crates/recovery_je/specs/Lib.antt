@@ -1,2 +1,6 @@
 pub mod Files
 pub mod Redoing
+pub mod Numbers
+pub mod Checking
+pub mod Finishing
+pub mod Recovering

@@ -4,8 +4,18 @@
 //! numbers that were allocated last, or that the corruption is the first in the order of reading.
 #![tactic(auto)]
 
+mod checking;
+mod checkpoint_end;
+mod finishing;
+mod gaps;
+mod numbers;
+pub mod opening_store;
 mod placed_entry;
+mod read_err;
 mod reading;
 mod redoing;
+mod roots;
 mod waiting;
 mod waiting_change;
+
+pub use opening_store::OpeningStore;
