@@ -71,7 +71,8 @@ pub trait Loads {
 
     /// Copies of the records of the database, in order.
     fn records(&self, alloc: Global, db: u32) -> Result<Vec<StoredRecord>, AllocError>
-        ensures { IfOk result (λ records. records.items ≡ stored self.now db) };
+        ensures records { IfOk result (λ records. records.items ≡ stored self.now db) }
+        ensures rising { (d : ℕ) → IsRising (stored self.now d) };
 
     /// The name of the first record whose dup is not empty, if there is one.
     fn first_with_dup(&self, db: u32) -> Option<&SortKey>

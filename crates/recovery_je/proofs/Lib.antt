@@ -10,3 +10,7 @@ pub mod NumberLaws
 pub mod CheckLaws
 -- The trees of the databases that the catalog names.
 pub mod FinishLaws
+-- Records in trees are those of a redo.
+pub mod MeaningLaws
+-- What reading the files of an environment answers.
+pub mod AnswerLaws

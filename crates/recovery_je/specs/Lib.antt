@@ -4,3 +4,4 @@ pub mod Numbers
 pub mod Checking
 pub mod Finishing
 pub mod Recovering
+pub mod Answer

@@ -2,6 +2,7 @@
 ghost use Rattle.std.specs.Prelude.{◌≡◌, ◌==◌, ℕ, List as Items, [], Some, IfOk, map, filter, not, option_map, if◌then◌else◌};
 ghost use Rattle.log_replay.specs.Rows.{catalog_number, are_plain};
 ghost use Rattle.log_replay.specs.Wrong.{is_right_behind, wrong_in_catalog as wrong_in_rows, wrong_in_plain, lesser_number as lesser_of, least_number};
+ghost use Rattle.record_map.specs.Cells.{IsRising};
 ghost use Rattle.recovery_je.specs.Checking.{values_of, wrong_lsn_in, wrong_lsn_under, lsn_of as lsn_of_name};
 
 use je_lsn::Lsn;
@@ -44,8 +45,8 @@ fn wrong_in_catalog(
     Ok(None)
 }
 
-/// The numbers in the catalog's records, in order.
-pub(crate) fn numbers_in(
+// The numbers in the catalog's records, in order.
+fn numbers_in(
     alloc: Global,
     records: &[StoredRecord],
 ) -> Result<Vec<u32>, AllocError>
@@ -130,7 +131,8 @@ fn wrong_under<T: Loads>(trees: &T, numbers: &[u32]) -> Option<Lsn>
 
 /// The LSN of the first record that breaks a rule of environments, if one does.
 pub(crate) fn wrong_lsn<T: Loads>(alloc: Global, trees: &T) -> Result<Option<Lsn>, AllocError>
-    ensures { IfOk result (λ wrong. wrong ≡ wrong_lsn_in (T.stored trees.now)) }
+    ensures wrong { IfOk result (λ wrong. wrong ≡ wrong_lsn_in (T.stored trees.now)) }
+    ensures rising { (d : ℕ) → IsRising (T.stored trees.now d) }
 {
     let records = trees.records(alloc, CATALOG)?;
     match wrong_in_catalog(alloc, &records)? {
@@ -140,4 +142,12 @@ pub(crate) fn wrong_lsn<T: Loads>(alloc: Global, trees: &T) -> Result<Option<Lsn
             Ok(wrong_under(trees, &numbers))
         }
     }
+}
+
+/// The numbers of the databases that the catalog names, in order of their names.
+pub(crate) fn catalog_numbers<T: Loads>(alloc: Global, trees: &T) -> Result<Vec<u32>, AllocError>
+    ensures { IfOk result (λ numbers. numbers.items ≡ map (λ r. catalog_number r.1) (values_of (T.stored trees.now 0))) }
+{
+    let records = trees.records(alloc, CATALOG)?;
+    numbers_in(alloc, &records)
 }

@@ -12,10 +12,18 @@ mod numbers;
 pub mod opening_store;
 mod placed_entry;
 mod read_err;
+pub mod recover_err;
+pub mod recovered;
+mod recovering;
+pub mod recovery;
 mod reading;
 mod redoing;
 mod roots;
+mod settling;
 mod waiting;
 mod waiting_change;
 
 pub use opening_store::OpeningStore;
+pub use recover_err::RecoverErr;
+pub use recovered::Recovered;
+pub use recovery::recover;

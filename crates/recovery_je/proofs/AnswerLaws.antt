@@ -1,0 +1,119 @@
+-- What reading the files of an environment answers.
+use Rattle.std.proofs.Common.{◌≡◌, ◌≤◌, ◌+◌, ℕ, Bool, true, List, [], ◌∷◌, ◌++◌, Option, None, Some, Result, Ok, Err, map, refl, sym, ap, ap₂, subst, ◌∙◌}
+use Rattle.std.specs.Prelude.{IsErrAnd, IfErr}
+use Rattle.std.proofs.lemmas.List.{append-nil}
+use Rattle.std.specs.List.{AllByRecursion}
+use Rattle.je_bytes.specs.Reading.{AreBytes}
+use Rattle.je_disk.specs.declared.error.DiskErr.{DiskErr}
+use Rattle.je_disk.specs.declared.error.DiskErr.TheVariants.{Failed, Memory as OutOfMemory}
+use Rattle.je_disk.specs.Causes.{HasCause}
+use Rattle.je_disk.specs.States.{Files, AreRisingNumbers}
+use Rattle.je_lsn.specs.declared.file_no.FileNo.{FileNo}
+use Rattle.je_order.proofs.Lists.{all_append}
+use Rattle.log_entry.specs.declared.entry.Entry.{Entry}
+use Rattle.log_entry.specs.Body.{IsEntry}
+use Rattle.log_entry.specs.Encoding.{size_of}
+use Rattle.log_file.specs.Log.{log_in, entries_scanned}
+use Rattle.log_file.specs.Scan.{scan_of}
+use Rattle.log_replay.specs.declared.corruption.Corruption.{Corruption}
+use Rattle.log_replay.specs.declared.last_file.LastFile.{LastFile}
+use Rattle.log_replay.specs.Reading.{corruption_in}
+use Rattle.log_replay.specs.UnderWay.{AreOf, HaveCorruption}
+use Rattle.log_replay.proofs.FilesLaws.{entries_scanned-are}
+use Rattle.log_replay.proofs.ListedLaws.{same_files, listed}
+use Rattle.log_trees.specs.Placed.{Placed, placed_from, placed}
+use Rattle.log_trees.specs.Changes.{LoggedChange}
+use Rattle.log_trees.specs.Trees.{rows_of_roots}
+use Rattle.log_trees.proofs.Right.{read_trees_are_right}
+use Rattle.log_meaning.specs.Redo.{redone}
+use Rattle.log_meaning.specs.Checkpoint.{last_checkpoint, behind, restarted}
+use Rattle.log_meaning.specs.Meaning.{Meaning}
+use Rattle.log_meaning.specs.Reading.{unless, meaning_in, reading_of}
+use Rattle.record_tree.specs.Stored.{AllStored}
+use Rattle.recovery_je.specs.declared.read_err.ReadErr.{ReadErr}
+use Rattle.recovery_je.specs.declared.read_err.ReadErr.TheVariants.{Memory as ReadMemory, IdsEnded as ReadIdsEnded, Found}
+use Rattle.recovery_je.specs.declared.recover_err.RecoverErr.{RecoverErr}
+use Rattle.recovery_je.specs.declared.recover_err.RecoverErr.TheVariants.{Disk, Memory, IdsEnded, Corrupt}
+use Rattle.recovery_je.specs.Files.{IsReading}
+use Rattle.recovery_je.specs.Recovering.{HasTrees, IsMeant, IsFoundBy}
+use Rattle.recovery_je.specs.Answer.{disk_error, read_error, IsCorruptBy, HasCauseOf, IsReadingOf, IsRecoveredFrom}
+
+-- ---- entries of files that were read
+
+placed_entries : (f at : ℕ) (entries : List Entry) → AllByRecursion IsEntry entries → AllByRecursion (λ (p : Placed). IsEntry p.1) (placed_from f at entries)
+placed_entries f at [] all = tt
+placed_entries f at (e ∷ entries) all = (all.0, placed_entries f (at + size_of e) entries all.1)
+
+all_entries : (held : List (ℕ × List ℕ)) → AllByRecursion (λ (file : ℕ × List ℕ). AreBytes file.1) held → AllByRecursion (λ (p : Placed). IsEntry p.1) (placed (log_in held))
+all_entries [] all = tt
+all_entries (h ∷ held) all =
+    all_append (λ (p : Placed). IsEntry p.1) (placed_from h.0 26 (entries_scanned (scan_of h.0 h.1))) (placed (log_in held))
+    (placed_entries h.0 26 (entries_scanned (scan_of h.0 h.1)) (entries_scanned-are h.0 h.1 all.0).entries) (all_entries held all.1)
+
+-- ---- answers
+
+pub stopped : (observable : Bool) (reads : Files) (files : List FileNo) (corruption : Corruption) → AreRisingNumbers files → HaveCorruption observable reads files corruption →
+    IsReadingOf observable reads files (λ held. reading_of held ≡ Err corruption)
+stopped observable reads files corruption rising have = record {
+  held = have.held;
+  numbers = have.are_of.numbers;
+  observed = λ t. same_files reads files have.held have.are_of.numbers (have.are_of.observed t);
+  listed = λ t listing. listed reads files have.held have.are_of.numbers (have.are_of.observed t) rising listing;
+  is = ap (λ (o : Option Corruption). unless o (meaning_in (map (λ file. file.0) have.held) (placed (log_in have.held)))) have.found;
+}
+
+-- what holds of the entries of all files holds of the files
+pub all_read : (observable : Bool) (reads : Files) (files : List FileNo) (es : List Placed) (tail : Option LastFile) (P : List (ℕ × List ℕ) → Type 0) → AreRisingNumbers files →
+    (all : IsReading observable reads files [] es tail) → P all.held → IsReadingOf observable reads files P
+all_read observable reads files es tail P rising all is =
+    let are_of : AreOf observable reads files all.held = subst (λ (l : List FileNo). AreOf observable reads l all.held) (sym (all.parts ∙ append-nil all.done)) all.are_of in
+    record {
+      held = all.held;
+      numbers = are_of.numbers;
+      observed = λ t. same_files reads files all.held are_of.numbers (are_of.observed t);
+      listed = λ t listing. listed reads files all.held are_of.numbers (are_of.observed t) rising listing;
+      is = is;
+    }
+
+-- the meaning of files that may all stand where they do
+pub by_entries : (observable : Bool) (reads : Files) (files : List FileNo) (es : List Placed) (tail : Option LastFile) (all : IsReading observable reads files [] es tail) →
+    reading_of all.held ≡ meaning_in (map (λ f. f.0) files) es
+by_entries observable reads files es tail all =
+    let are_of : AreOf observable reads files all.held = subst (λ (l : List FileNo). AreOf observable reads l all.held) (sym (all.parts ∙ append-nil all.done)) all.are_of in
+    let none : corruption_in all.held ≡ None = ap corruption_in (sym (append-nil all.held)) ∙ all.none [] refl in
+    ap (λ (o : Option Corruption). unless o (meaning_in (map (λ file. file.0) all.held) (placed (log_in all.held)))) none
+    ∙ ap₂ meaning_in are_of.numbers (sym all.entries_are)
+
+pub recovered : (observable : Bool) (reads : Files) (files : List FileNo) (es : List Placed) (tail : Option LastFile) (meaning : Meaning) (has : ℕ → Bool) (stored : AllStored) (databases records : ℕ) →
+    AreRisingNumbers files → IsReading observable reads files [] es tail → IsMeant (map (λ f. f.0) files) es meaning has stored databases records →
+    IsReadingOf observable reads files (IsRecoveredFrom meaning has stored databases records tail)
+recovered observable reads files es tail meaning has stored databases records rising all meant =
+    let c = last_checkpoint es in
+    let entries : AllByRecursion (λ (p : Placed). IsEntry p.1) es = subst (AllByRecursion (λ (p : Placed). IsEntry p.1)) (sym all.entries_are) (all_entries all.held all.bytes) in
+    let right = read_trees_are_right (map (λ f. f.0) files) es c.at c.roots meant.walk entries meant.walked in
+    let trees : HasTrees (restarted es) has stored = subst (λ (rows : List LoggedChange). HasTrees (behind rows (redone c.redo es)) has stored) right.rows meant.trees in
+    all_read observable reads files es tail (IsRecoveredFrom meaning has stored databases records tail) rising all (record {
+      bytes = all.bytes;
+      meaning_is = by_entries observable reads files es tail all ∙ meant.meaning_is;
+      trees = subst (λ (l : List Placed). HasTrees (restarted l) has stored) all.entries_are trees;
+      databases_are = meant.databases_are;
+      records_are = meant.records_are;
+      tail_is = all.last;
+    })
+
+pub corrupt : (observable : Bool) (reads : Files) (files : List FileNo) (es : List Placed) (tail : Option LastFile) (corruption : Corruption) → AreRisingNumbers files →
+    IsReading observable reads files [] es tail → meaning_in (map (λ f. f.0) files) es ≡ Err corruption → IsReadingOf observable reads files (λ held. reading_of held ≡ Err corruption)
+corrupt observable reads files es tail corruption rising all is =
+    all_read observable reads files es tail (λ held. reading_of held ≡ Err corruption) rising all (by_entries observable reads files es tail all ∙ is)
+
+-- ---- errors that are handed on
+
+pub corrupt_on : {T : Type 0} (P Q : Corruption → Type 0) (r : Result T RecoverErr) (e : ReadErr) → IsErrAnd r (λ x. x ≡ read_error e) → IsFoundBy e P → ((c : Corruption) → P c → Q c) →
+    IfErr r (λ x. IsCorruptBy x Q)
+corrupt_on P Q (Ok v) e is holds more = absurd is
+corrupt_on P Q (Err x) e is holds more = subst (λ (y : RecoverErr). IsCorruptBy y Q) (sym is) (by_error e holds)
+  where
+    by_error : (y : ReadErr) → IsFoundBy y P → IsCorruptBy (read_error y) Q
+    by_error ReadMemory h = tt
+    by_error ReadIdsEnded h = tt
+    by_error (Found c) h = more c h
