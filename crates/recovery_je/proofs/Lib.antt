@@ -14,3 +14,7 @@ pub mod FinishLaws
 pub mod MeaningLaws
 -- What reading the files of an environment answers.
 pub mod AnswerLaws
+-- Entries by their LSNs.
+pub mod LookupLaws
+-- Files that are missing from one on.
+pub mod FileGaps

@@ -5,3 +5,4 @@ pub mod Checking
 pub mod Finishing
 pub mod Recovering
 pub mod Answer
+pub mod Walking

@@ -8,6 +8,8 @@ mod checking;
 mod checkpoint_end;
 mod finishing;
 mod gaps;
+mod images;
+mod lookup;
 mod numbers;
 pub mod opening_store;
 mod placed_entry;

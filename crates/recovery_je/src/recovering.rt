@@ -10,7 +10,7 @@ ghost use Rattle.log_meaning.specs.Reading.{redo_corruption as redo_corruption_o
 ghost use Rattle.recovery_je.specs.Recovering.{HoldsChanges, HoldsRedo, IsWalked, IsMeant, IsFoundBy};
 
 use crate::checkpoint_end::{CheckpointEnd, last_end, or_none};
-use crate::gaps::gap_corruption;
+use crate::gaps::{end_corruption, gap_corruption};
 use crate::numbers::Numbers;
 use crate::placed_entry::PlacedEntry;
 use crate::read_err::ReadErr;
@@ -22,7 +22,7 @@ use je_lsn::{FileNo, Lsn};
 use log_entry::Root;
 use log_replay::Corruption;
 use record_tree::{LoadErr, Loads};
-use std::alloc::{AllocError, Global};
+use std::alloc::Global;
 
 /// The number of the catalog.
 const CATALOG: u32 = 0;
@@ -77,13 +77,13 @@ fn greatest_db(roots: &[Root]) -> u32
 fn redo_corruption(
     files: &[FileNo],
     end: &Option<CheckpointEnd>,
-) -> Result<Option<Corruption>, AllocError>
+) -> Option<Corruption>
     requires { AreRisingNumbers files.now }
-    ensures { IfOk result (λ corruption. corruption ≡ redo_corruption_of (map (λ f. f.0) files.now) end.now) }
+    ensures { result ≡ redo_corruption_of (map (λ f. f.0) files.now) end.now }
 {
     match end {
-        None => Ok(gap_corruption(files)),
-        Some(_) => Err(AllocError),
+        Some(end) => end_corruption(files, end),
+        None => gap_corruption(files),
     }
 }
 
@@ -121,7 +121,7 @@ pub(crate) fn recover_entries<T: Loads + Drop>(
     ensures found { IfErr result (λ e. IsFoundBy e (λ c. meaning_in (map (λ f. f.0) files.now) entries.items ≡ Err c)) }
 {
     let end = last_end(alloc, &entries)?;
-    let corruption = redo_corruption(files, &end)?;
+    let corruption = redo_corruption(files, &end);
     let end = or_none(alloc, end);
     let mut trees = trees;
     let walked = read_trees(alloc, files, &entries, &end, corruption, &mut trees)?;

@@ -17,7 +17,7 @@ returns-in_err-settled-clause-found g c =
     let e : Checkpoint = record { at = c.end.inside.at; number = c.end.inside.number; redo = c.end.inside.redo; last_txn = c.end.inside.last_txn; last_node = c.end.inside.last_node; last_db = c.end.inside.last_db; roots = c.end.inside.roots } in
     let found_end : c.in_ok-end.end ≡ last_end es = c.in_ok-end.ensures ∙ ap last_end c.deref.ensures.value in
     let at : e ≡ last_checkpoint es = c.end.view_is ∙ c.or_none-end.ensures ∙ ap (λ (o : Option Checkpoint). unwrap_or o no_checkpoint) found_end in
-    let right = c.in_ok-corruption.ensures ∙ ap (redo_corruption files) found_end in
+    let right = c.redo_corruption-corruption.ensures ∙ ap (redo_corruption files) found_end in
     let walk = c.in_ok-walked.ensures.read.0 in
     let before = g.T.Loads.stored c.read_trees.new.trees in
     let walked = subst (λ (k : Checkpoint). IsWalked files es k c.in_ok-walked.walked before walk) (sym c.end.view_is)
@@ -25,7 +25,7 @@ returns-in_err-settled-clause-found g c =
     let redo = behind walk.rows (redone e.redo es) in
     handed_on (IsWrong redo) (λ f. meaning_in files es ≡ Err f) c.from_residual-in_err-settled.result c.in_err-settled.field-0.0 c.from_residual-in_err-settled.ensures.1
     (c.in_err-settled.ensures.found redo (c.in_ok-trees.ensures walk.rows walked.records))
-    (λ f wrong. found_wrong files es e c.in_ok-corruption.corruption walk f at right c.in_ok-walked.ensures.right walked.read wrong)
+    (λ f wrong. found_wrong files es e c.redo_corruption-corruption.result walk f at right c.in_ok-walked.ensures.right walked.read wrong)
 
 pub returns-clause-meant : goal.returns-clause-meant
 returns-clause-meant g c =
@@ -34,13 +34,13 @@ returns-clause-meant g c =
     let e : Checkpoint = record { at = c.end.inside.at; number = c.end.inside.number; redo = c.end.inside.redo; last_txn = c.end.inside.last_txn; last_node = c.end.inside.last_node; last_db = c.end.inside.last_db; roots = c.end.inside.roots } in
     let found_end : c.in_ok-end.end ≡ last_end es = c.in_ok-end.ensures ∙ ap last_end c.deref.ensures.value in
     let at : e ≡ last_checkpoint es = c.end.view_is ∙ c.or_none-end.ensures ∙ ap (λ (o : Option Checkpoint). unwrap_or o no_checkpoint) found_end in
-    let right = c.in_ok-corruption.ensures ∙ ap (redo_corruption files) found_end in
+    let right = c.redo_corruption-corruption.ensures ∙ ap (redo_corruption files) found_end in
     let walk = c.in_ok-walked.ensures.read.0 in
     let before = g.T.Loads.stored c.read_trees.new.trees in
     let walked = subst (λ (k : Checkpoint). IsWalked files es k c.in_ok-walked.walked before walk) (sym c.end.view_is)
     (subst (λ (l : List Placed). IsWalked files l c.or_none-end.result c.in_ok-walked.walked before walk) c.deref-2.ensures.value c.in_ok-walked.ensures.read.1) in
     let redo = behind walk.rows (redone e.redo es) in
-    meant files es e c.in_ok-corruption.corruption c.in_ok-walked.walked before (g.T.Loads.stored c.in_ok-settled.settled.trees) (g.T.Loads.has_tree c.in_ok-settled.settled.trees) c.in_ok-settled.settled.opening
+    meant files es e c.redo_corruption-corruption.result c.in_ok-walked.walked before (g.T.Loads.stored c.in_ok-settled.settled.trees) (g.T.Loads.has_tree c.in_ok-settled.settled.trees) c.in_ok-settled.settled.opening
     c.in_ok-settled.settled.databases c.in_ok-settled.settled.records c.max-2.result c.max-last_node.result c.max-5.result walk at right c.in_ok-walked.ensures.right walked
     (c.in_ok-settled.ensures.settled redo (c.in_ok-trees.ensures walk.rows walked.records))
     (c.max-2.ensures ∙ ap (λ (n : ℕ). max e.last_txn n) (c.of-numbers.ensures.txn ∙ ap (λ (l : List Placed). most (λ (p : Placed). txn_in p.1) (from e.redo l)) c.deref-3.ensures.value))
