@@ -1,19 +1,21 @@
 -- What reading the files of an environment answers.
-use Rattle.std.proofs.Common.{◌≡◌, ◌≤◌, ◌+◌, ℕ, Bool, true, List, [], ◌∷◌, ◌++◌, Option, None, Some, Result, Ok, Err, map, refl, sym, ap, ap₂, subst, ◌∙◌}
-use Rattle.std.specs.Prelude.{IsErrAnd, IfErr}
+use Rattle.std.proofs.Common.{◌≡◌, ◌≤◌, ◌+◌, ℕ, Bool, true, List, [], ◌∷◌, ◌++◌, Option, None, Some, Result, Ok, Err, map, refl, sym, ap, ap₂, subst, arith, ◌∙◌}
+use Rattle.std.specs.Prelude.{IsErrAnd, IfOk, IfErr, OnOk}
 use Rattle.std.proofs.lemmas.List.{append-nil}
 use Rattle.std.specs.List.{AllByRecursion}
 use Rattle.je_bytes.specs.Reading.{AreBytes}
 use Rattle.je_disk.specs.declared.error.DiskErr.{DiskErr}
 use Rattle.je_disk.specs.declared.error.DiskErr.TheVariants.{Failed, Memory as OutOfMemory}
 use Rattle.je_disk.specs.Causes.{HasCause}
-use Rattle.je_disk.specs.States.{Files, AreRisingNumbers}
+use Rattle.je_disk.specs.States.{Files, IsListing, AreRisingNumbers}
+use Rattle.je_order.specs.Counts.{HasRisen}
+use Rattle.std.proofs.lemmas.Grind.{common_steps}
 use Rattle.je_lsn.specs.declared.file_no.FileNo.{FileNo}
 use Rattle.je_order.proofs.Lists.{all_append}
 use Rattle.log_entry.specs.declared.entry.Entry.{Entry}
 use Rattle.log_entry.specs.Body.{IsEntry}
 use Rattle.log_entry.specs.Encoding.{size_of}
-use Rattle.log_file.specs.Log.{log_in, entries_scanned}
+use Rattle.log_file.specs.Log.{AreFiles, log_in, entries_scanned}
 use Rattle.log_file.specs.Scan.{scan_of}
 use Rattle.log_replay.specs.declared.corruption.Corruption.{Corruption}
 use Rattle.log_replay.specs.declared.last_file.LastFile.{LastFile}
@@ -36,7 +38,7 @@ use Rattle.recovery_je.specs.declared.recover_err.RecoverErr.{RecoverErr}
 use Rattle.recovery_je.specs.declared.recover_err.RecoverErr.TheVariants.{Disk, Memory, IdsEnded, Corrupt}
 use Rattle.recovery_je.specs.Files.{IsReading}
 use Rattle.recovery_je.specs.Recovering.{HasTrees, IsMeant, IsFoundBy}
-use Rattle.recovery_je.specs.Answer.{disk_error, read_error, IsCorruptBy, HasCauseOf, IsReadingOf, IsRecoveredFrom}
+use Rattle.recovery_je.specs.Answer.{disk_error, read_error, IsCorruptBy, HasCauseOf, IsReadingOf, HasFiles, IsRecoveredFrom}
 
 -- ---- entries of files that were read
 
@@ -117,3 +119,46 @@ corrupt_on P Q (Err x) e is holds more = subst (λ (y : RecoverErr). IsCorruptBy
     by_error ReadMemory h = tt
     by_error ReadIdsEnded h = tt
     by_error (Found c) h = more c h
+
+-- ---- all files of a disk
+
+pub has_files : (observable : Bool) (before now_ : Files) (files : List FileNo) (P : List (ℕ × List ℕ) → Type 0) → (observable ≡ true → now_ ≡ before) → (observable ≡ true → IsListing before files) →
+    IsReadingOf observable now_ files P → HasFiles observable before P
+has_files observable before now_ files P same listing r = record {
+  held = r.held;
+  are = λ t. subst (λ (reads : Files). AreFiles reads r.held) (same t) (r.listed t (subst (λ (reads : Files). IsListing reads files) (sym (same t)) (listing t)));
+  is = r.is;
+}
+
+pub ok_weaker : {T E : Type 0} (P Q : T → Type 0) (r : Result T E) → ((x : T) → P x → Q x) → IfOk r P → IfOk r Q
+ok_weaker P Q (Ok x) weaker holds = weaker x holds
+ok_weaker P Q (Err e) weaker holds = tt
+
+pub corrupt_weaker : {T : Type 0} (P Q : Corruption → Type 0) (r : Result T RecoverErr) → ((c : Corruption) → P c → Q c) → IfErr r (λ e. IsCorruptBy e P) → IfErr r (λ e. IsCorruptBy e Q)
+corrupt_weaker P Q (Ok x) weaker holds = tt
+corrupt_weaker P Q (Err e) weaker holds = by_error e holds
+  where
+    by_error : (y : RecoverErr) → IsCorruptBy y P → IsCorruptBy y Q
+    by_error Disk h = tt
+    by_error Memory h = tt
+    by_error IdsEnded h = tt
+    by_error (Corrupt c) h = weaker c h
+
+pub on_ok_to : {T E : Type 0} {P Q : Type 0} (r : Result T E) → (P → Q) → P → OnOk r Q
+on_ok_to (Ok x) f h = f h
+on_ok_to (Err e) f h = tt
+
+-- ---- causes
+
+rose_earlier : (before mid after : ℕ) → before ≤ mid → mid ≤ after → HasRisen mid after → HasRisen before after
+rose_earlier before mid after le later rose = grind (arith, common_steps)
+
+pub cause_then : {T : Type 0} (before mid after : ℕ) (r : Result T RecoverErr) → before ≤ mid → HasCauseOf mid after r → HasCauseOf before after r
+cause_then before mid after r le cause =
+    let falls : mid ≤ after = cause.never_falls in
+    record { never_falls = omega (arith, le, falls); failed = λ failed. rose_earlier before mid after le falls (cause.failed failed) }
+
+pub cause_of_list : {T : Type 0} (before mid after : ℕ) (r : Result T DiskErr) → before ≤ mid → HasCause mid after r → HasCause before after r
+cause_of_list before mid after r le cause =
+    let falls : mid ≤ after = cause.never_falls in
+    record { never_falls = omega (arith, le, falls); failed = λ failed. rose_earlier before mid after le falls (cause.failed failed) }

@@ -63,6 +63,12 @@ pub record IsReadingOf (observable : Bool) (reads : Files) (files : List FileNo)
   pub listed : observable ≡ true → IsListing reads files → AreFiles reads held
   pub is : P held
 
+-- what holds of the files of a disk
+pub record HasFiles (observable : Bool) (reads : Files) (P : List (ℕ × List ℕ) → Type 0) : Type 0 where
+  pub held : List (ℕ × List ℕ)
+  pub are : observable ≡ true → AreFiles reads held
+  pub is : P held
+
 -- files mean this, and the environment has these trees
 pub record IsRecoveredFrom (meaning : Meaning) (has : ℕ → Bool) (stored : AllStored) (databases records : ℕ) (tail : Option LastFile) (held : List (ℕ × List ℕ)) : Type 0 where
   pub bytes : AllByRecursion (λ file. AreBytes file.1) held

@@ -28,4 +28,4 @@ mod waiting_change;
 pub use opening_store::OpeningStore;
 pub use recover_err::RecoverErr;
 pub use recovered::Recovered;
-pub use recovery::recover;
+pub use recovery::{recover, recover_disk};

@@ -1,17 +1,18 @@
 // Recovery from the files of a disk.
-ghost use Rattle.std.specs.Prelude.{◌≡◌, ℕ, Bool, true, false, Err, IfOk, IfErr};
+ghost use Rattle.std.specs.Prelude.{◌≡◌, ℕ, Bool, true, false, None, Err, IfOk, IfErr, OnOk};
+ghost use Rattle.je_disk.specs.Causes.{HasCause};
 ghost use Rattle.je_disk.specs.Moments.{now, Passes};
-ghost use Rattle.je_disk.specs.States.{Files, AreRisingNumbers};
+ghost use Rattle.je_disk.specs.States.{Files, IsListing, AreRisingNumbers};
 ghost use Rattle.log_meaning.specs.Reading.{reading_of};
 ghost use Rattle.recovery_je.specs.Files.{AreRead};
-ghost use Rattle.recovery_je.specs.Answer.{IsReadingOf, IsRecoveredFrom, IsCorruptBy, IsNoDiskErr, HasCauseOf};
+ghost use Rattle.recovery_je.specs.Answer.{IsReadingOf, IsRecoveredFrom, IsCorruptBy, IsNoDiskErr, HasCauseOf, HasFiles};
 
 use crate::reading::{FilesRead, read_files};
 use crate::recovered::Recovered;
 use crate::recover_err::RecoverErr;
 use crate::recovering::{Meant, recover_entries};
 use crate::settling::Settled;
-use je_disk::Disk;
+use je_disk::{Disk, DiskErr};
 use je_lsn::FileNo;
 use record_tree::Loads;
 use std::alloc::Global;
@@ -86,4 +87,36 @@ pub fn recover<D: Disk, T: Loads + Drop>(
 {
     let read = read_files(alloc, disk, files)?;
     recover_files(alloc, files, read, trees)
+}
+
+// Mounts the disk, and lists its files.
+fn list_files<D: Disk>(alloc: Global, disk: &mut D) -> Result<Vec<FileNo>, DiskErr>
+    ensures rising { IfOk result (λ files. AreRisingNumbers files.items) }
+    ensures listed { D.observable ≡ true → IfOk result (λ files. IsListing (now (D.history disk.old)).reads files.items) }
+    ensures same { D.observable ≡ true → now (D.history disk.new) ≡ now (D.history disk.old) }
+    ensures moments { D.observable ≡ true → Passes (D.history disk.old) (D.history disk.new) (λ s. s ≡ now (D.history disk.old)) }
+    ensures none_out { OnOk result (D.sync_out disk.new ≡ None) }
+    ensures cause { HasCause (D.faults disk.old) (D.faults disk.new) result }
+{
+    disk.mount()?;
+    disk.list(alloc)
+}
+
+/// Mounts the disk, and recovers the environment of the files that it has, in trees that are empty. Its
+/// clauses are those of `recover` for all files of an observable disk. No job is out afterwards.
+pub fn recover_disk<D: Disk, T: Loads + Drop>(
+    alloc: Global,
+    disk: &mut D,
+    trees: T,
+) -> Result<Recovered<T>, RecoverErr>
+    requires { (d : ℕ) → T.has_tree trees d ≡ false }
+    ensures recovered { IfOk result (λ r. HasFiles D.observable (now (D.history disk.old)).reads (IsRecoveredFrom (record { store = r.opening; last_txn = r.last_txn; last_node = r.last_node; last_db = r.last_db; checkpoint = r.checkpoint }) (T.has_tree r.trees) (T.stored r.trees) r.databases r.records r.tail)) }
+    ensures corrupt { IfErr result (λ e. IsCorruptBy e (λ corruption. HasFiles D.observable (now (D.history disk.old)).reads (λ held. reading_of held ≡ Err corruption))) }
+    ensures same { D.observable ≡ true → now (D.history disk.new) ≡ now (D.history disk.old) }
+    ensures moments { D.observable ≡ true → Passes (D.history disk.old) (D.history disk.new) (λ s. s ≡ now (D.history disk.old)) }
+    ensures none_out { OnOk result (D.sync_out disk.new ≡ None) }
+    ensures cause { HasCauseOf (D.faults disk.old) (D.faults disk.new) result }
+{
+    let files = list_files(alloc, disk)?;
+    recover(alloc, disk, &files, trees)
 }
