@@ -1,5 +1,5 @@
 // Trees that are made of a log.
-ghost use Rattle.std.specs.Prelude.{◌≡◌, ◌==◌, ◌||◌, ℕ, [], length, option_map, find, not, OnOk, IfOk, Bool, true, false, if◌then◌else◌};
+ghost use Rattle.std.specs.Prelude.{◌≡◌, ◌==◌, ◌||◌, ℕ, [], length, option_map, find, not, Some, OnOk, IfOk, Bool, true, false, if◌then◌else◌};
 ghost use Rattle.std.specs.List.{list_any};
 ghost use Rattle.record_map.specs.Cells.{IsRising, value_at};
 ghost use Rattle.record_tree.specs.Stored.{AllStored, stored_at, HasStored, AreStoredStill};
@@ -7,6 +7,7 @@ ghost use Rattle.record_tree.specs.Stored.{AllStored, stored_at, HasStored, AreS
 use crate::{LoadErr, StoredRecord};
 use je_lsn::Lsn;
 use je_order::{Name, Octets};
+use node_core::Node;
 use record_map::SortKey;
 use std::alloc::{AllocError, Global};
 
@@ -39,6 +40,22 @@ pub trait Loads {
         requires { has_tree self.old db ≡ false }
         ensures stored { OnOk result (AreStoredStill (stored self.old) (stored self.new)) }
         ensures trees { OnOk result ((d : ℕ) → has_tree self.new d ≡ ((d == db) || has_tree self.old d)) };
+
+    /// Puts a node of a database's tree as the image at `at` shows it: no name in it is below `low`. The
+    /// nodes of a tree come from the left, each behind those above it, and a BIN before its records.
+    fn load_node(&mut self, alloc: Global, node: &Node, low: &Name, at: Lsn) -> Result<(), LoadErr>
+        ensures { OnOk result (AreStoredStill (stored self.old) (stored self.new)) };
+
+    /// Puts a record of the BIN that was put last, which was logged at `at`.
+    fn load(
+        &mut self,
+        alloc: Global,
+        db: u32,
+        name: &Name,
+        at: Lsn,
+        value: &[u8],
+    ) -> Result<(), LoadErr>
+        ensures { OnOk result (HasStored (stored self.old) (stored self.new) db name.now (stored_at at (Some value.now))) };
 
     /// Takes the tree of a database out, with its records. It takes no memory.
     fn drop_db(&mut self, db: u32)

@@ -1,11 +1,10 @@
 -- What reading the files of an environment answers.
-use Rattle.std.proofs.Common.{◌≡◌, ◌≤◌, ◌+◌, ℕ, Bool, true, List, [], ◌∷◌, ◌++◌, Option, None, Some, Result, Ok, Err, map, refl, sym, ap, ap₂, subst, arith, ◌∙◌}
+use Rattle.std.proofs.Common.{◌≡◌, ◌≤◌, ◌+◌, ℕ, Bool, true, List, [], ◌∷◌, Option, None, Result, Ok, Err, map, refl, sym, ap, ap₂, subst, arith, ◌∙◌}
 use Rattle.std.specs.Prelude.{IsErrAnd, IfOk, IfErr, OnOk}
 use Rattle.std.proofs.lemmas.List.{append-nil}
 use Rattle.std.specs.List.{AllByRecursion}
 use Rattle.je_bytes.specs.Reading.{AreBytes}
 use Rattle.je_disk.specs.declared.error.DiskErr.{DiskErr}
-use Rattle.je_disk.specs.declared.error.DiskErr.TheVariants.{Failed, Memory as OutOfMemory}
 use Rattle.je_disk.specs.Causes.{HasCause}
 use Rattle.je_disk.specs.States.{Files, IsListing, AreRisingNumbers}
 use Rattle.je_order.specs.Counts.{HasRisen}
@@ -25,7 +24,6 @@ use Rattle.log_replay.proofs.FilesLaws.{entries_scanned-are}
 use Rattle.log_replay.proofs.ListedLaws.{same_files, listed}
 use Rattle.log_trees.specs.Placed.{Placed, placed_from, placed}
 use Rattle.log_trees.specs.Changes.{LoggedChange}
-use Rattle.log_trees.specs.Trees.{rows_of_roots}
 use Rattle.log_trees.proofs.Right.{read_trees_are_right}
 use Rattle.log_meaning.specs.Redo.{redone}
 use Rattle.log_meaning.specs.Checkpoint.{last_checkpoint, behind, restarted}
@@ -38,7 +36,7 @@ use Rattle.recovery_je.specs.declared.recover_err.RecoverErr.{RecoverErr}
 use Rattle.recovery_je.specs.declared.recover_err.RecoverErr.TheVariants.{Disk, Memory, IdsEnded, Corrupt}
 use Rattle.recovery_je.specs.Files.{IsReading}
 use Rattle.recovery_je.specs.Recovering.{HasTrees, IsMeant, IsFoundBy}
-use Rattle.recovery_je.specs.Answer.{disk_error, read_error, IsCorruptBy, HasCauseOf, IsReadingOf, HasFiles, IsRecoveredFrom}
+use Rattle.recovery_je.specs.Answer.{read_error, IsCorruptBy, HasCauseOf, IsReadingOf, HasFiles, IsRecoveredFrom}
 
 -- ---- entries of files that were read
 

@@ -1,7 +1,6 @@
 -- Records without their LSNs, and which of them is wrong.
-use Rattle.std.proofs.Common.{◌≡◌, ℕ, ◌==◌, not, Bool, true, false, cond, List, [], ◌∷◌, Option, None, Some, map, find, length, option_map, is_some, filter, refl, sym, ap, ◌∙◌}
+use Rattle.std.proofs.Common.{◌≡◌, ℕ, ◌==◌, not, Bool, true, false, cond, List, [], ◌∷◌, Option, None, Some, find, length, option_map, is_some, filter, refl, sym, ap, ◌∙◌}
 use Rattle.std.specs.Prelude.{◌&&◌}
-use Rattle.std.specs.List.{list_all}
 use Rattle.je_order.specs.declared.name.Name.{Name}
 use Rattle.record_tree.specs.Stored.{Stored, AllStored}
 use Rattle.log_replay.specs.Rows.{Row, are_plain}

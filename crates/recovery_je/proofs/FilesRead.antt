@@ -12,7 +12,7 @@ use Rattle.log_replay.specs.declared.corruption.Corruption.{Corruption}
 use Rattle.log_replay.specs.declared.last_file.LastFile.{LastFile}
 use Rattle.log_replay.specs.Wrong.{or_else}
 use Rattle.log_replay.specs.Reading.{corruption_at, corruption_in, files_read}
-use Rattle.log_replay.specs.UnderWay.{AreOf, HaveCorruption}
+use Rattle.log_replay.specs.UnderWay.{HaveCorruption}
 use Rattle.log_entry.specs.Encoding.{size_of}
 use Rattle.log_trees.specs.Placed.{Placed, placed_from, placed}
 use Rattle.recovery_je.specs.declared.reading.FileRead.{FileRead}

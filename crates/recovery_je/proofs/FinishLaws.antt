@@ -1,7 +1,7 @@
 -- The trees of the databases that the catalog names.
-use Rattle.std.proofs.Common.{◌≡◌, ℕ, ◌==◌, not, Bool, true, false, cond, List, [], ◌∷◌, suc, ◌+◌, ◌<◌, length, drop, get_or, drop-cons, add-one, refl, sym, ap, subst, ◌∙◌, arith}
+use Rattle.std.proofs.Common.{◌≡◌, ℕ, ◌==◌, not, Bool, true, false, cond, List, [], ◌∷◌, suc, ◌+◌, ◌<◌, length, drop, get_or, drop-cons, add-one, refl, sym, ap, subst, ◌∙◌}
 use Rattle.std.specs.Prelude.{◌&&◌, ◌||◌}
-use Rattle.std.specs.List.{AllByRecursion, list_any}
+use Rattle.std.specs.List.{list_any}
 use Rattle.std.proofs.lemmas.Bool.{eqb-true, eq-eqb, true≢false}
 use Rattle.record_tree.specs.Stored.{AllStored}
 use Rattle.recovery_je.specs.Finishing.{is_kept, HaveTrees, HasDropped, IsFinished}

@@ -18,3 +18,5 @@ pub mod AnswerLaws
 pub mod LookupLaws
 -- Files that are missing from one on.
 pub mod FileGaps
+-- Reading trees.
+pub mod WalkLaws

@@ -1,5 +1,5 @@
 -- Entries by their LSNs.
-use Rattle.std.proofs.Common.{◌≡◌, ◌≢◌, ◌<◌, ◌≤◌, ◌-◌, ◌+◌, ℕ, zero, suc, ◌==◌, cond, List, [], ◌∷◌, ◌++◌, Bool, true, false, Option, None, Some, length, take, drop, get_or, refl, sym, ap, ap₂, subst, ◌∙◌, arith}
+use Rattle.std.proofs.Common.{◌≡◌, ◌≢◌, ◌<◌, ◌-◌, ℕ, zero, suc, ◌==◌, cond, List, [], ◌∷◌, ◌++◌, Bool, true, false, Option, None, Some, length, take, drop, get_or, refl, sym, ap, ap₂, subst, ◌∙◌, arith}
 use Rattle.std.proofs.Math.Seq.{take-length}
 use Rattle.std.proofs.lemmas.Bool.{cond-true, cond-false, ne_eqb, eq-eqb}
 use Rattle.std.specs.List.{AllByRecursion}
@@ -68,21 +68,21 @@ pub at_middle : (es below above : List Placed) (p : Placed) (at : ℕ) → es �
 at_middle es below above p at is up here =
     let order : AreInOrder (below ++ p ∷ above) = subst AreInOrder is up in
     sym (ap (λ (l : List Placed). entry_at l at) is
-      ∙ none_before at below (p ∷ above) (all_weaker (λ q. q.0 < p.0) (λ q. q.0 ≢ at) (λ q lt e. omega (arith, lt, e, here)) below (below_middle below above p order))
-      ∙ cond-true (p.0 == at) (Some p.1) (entry_at above at) (eq-eqb p.0 at (sym here)))
+    ∙ none_before at below (p ∷ above) (all_weaker (λ q. q.0 < p.0) (λ q. q.0 ≢ at) (λ q lt e. omega (arith, lt, e, here)) below (below_middle below above p order))
+    ∙ cond-true (p.0 == at) (Some p.1) (entry_at above at) (eq-eqb p.0 at (sym here)))
 
 pub at_below : (es below above : List Placed) (p : Placed) (at : ℕ) → es ≡ below ++ p ∷ above → AreInOrder es → at < p.0 → entry_at below at ≡ entry_at es at
 at_below es below above p at is up lt =
     let order : AreInOrder (p ∷ above) = order_back below (p ∷ above) (subst AreInOrder is up) in
     sym (ap (λ (l : List Placed). entry_at l at) is
-      ∙ none_behind at below (p ∷ above) ((λ e. omega (arith, lt, e)), all_weaker (λ q. p.0 < q.0) (λ q. q.0 ≢ at) (λ q above_ e. omega (arith, lt, e, above_)) above order.0))
+    ∙ none_behind at below (p ∷ above) ((λ e. omega (arith, lt, e)), all_weaker (λ q. p.0 < q.0) (λ q. q.0 ≢ at) (λ q above_ e. omega (arith, lt, e, above_)) above order.0))
 
 pub at_above : (es below above : List Placed) (p : Placed) (at : ℕ) → es ≡ below ++ p ∷ above → AreInOrder es → (at ≡ p.0 → ⊥) → (at < p.0 → ⊥) → entry_at above at ≡ entry_at es at
 at_above es below above p at is up other ge =
     let order : AreInOrder (below ++ p ∷ above) = subst AreInOrder is up in
     sym (ap (λ (l : List Placed). entry_at l at) is
-      ∙ none_before at below (p ∷ above) (all_weaker (λ q. q.0 < p.0) (λ q. q.0 ≢ at) (λ q lt e. ge (omega (arith, lt, e))) below (below_middle below above p order))
-      ∙ cond-false (p.0 == at) (Some p.1) (entry_at above at) (ne_eqb p.0 at (λ e. other (sym e))))
+    ∙ none_before at below (p ∷ above) (all_weaker (λ q. q.0 < p.0) (λ q. q.0 ≢ at) (λ q lt e. ge (omega (arith, lt, e))) below (below_middle below above p order))
+    ∙ cond-false (p.0 == at) (Some p.1) (entry_at above at) (ne_eqb p.0 at (λ e. other (sym e))))
 
 -- an entry that an LSN names is one of the entries
 pub named_entry : (P : Entry → Type 0) (es : List Placed) (at : ℕ) (e : Entry) → AllByRecursion (λ p. P p.1) es → Some e ≡ entry_at es at → P e

@@ -76,7 +76,7 @@ pub rows_are : (redo : Redo) (stored : AllStored) → HoldsRedo redo stored → 
 rows_are redo stored holds up = fun_ext (λ d.
     same_rows (values_of (stored d)) (rows_of redo d) (values_rise (stored d) (up d)) (rising-after redo.done no_rows (λ e. rising-nil) d)
     (λ x. found_value (stored d) x ∙ ap (λ (o : Option Stored). option_map (λ (s : Stored). s.value) o) (holds d x) ∙ there_value (record_at redo d x)
-        ∙ sym (found-after redo.done no_rows unwritten d x refl)))
+    ∙ sym (found-after redo.done no_rows unwritten d x refl)))
 
 -- and so is the LSN of the first wrong one
 abbrev wrong_by : (ℕ → Name → ℕ) → Rows → Option ℕ
@@ -190,8 +190,8 @@ meant files es e corruption numbers before stored has opening databases records 
       ∙ ap (λ (o : Option Corruption). unless o (validated es e walk)) (sym right ∙ none)
       ∙ ap (validated_by es e walk) made.right
       ∙ ap Ok (ap (λ (s : Store). make s t_ n_ d_) (sym made.opening_is) ∙ ap (λ (t : ℕ). make opening t n_ d_) (sym txn_is) ∙ ap₂ (λ (n d : ℕ). make opening txn n d)
-          (ap (λ (n : ℕ). max e.last_node (max n (most (λ (p : Placed). node_number p.1) (from e.redo es)))) (sym walked.node) ∙ sym node_is)
-          (ap (λ (n : ℕ). max e.last_db (max (most (λ (r : Root). r.db) e.roots) (max n (most (λ (p : Placed). db_number p.1) (from e.redo es))))) (sym walked.db) ∙ sym db_is));
+      (ap (λ (n : ℕ). max e.last_node (max n (most (λ (p : Placed). node_number p.1) (from e.redo es)))) (sym walked.node) ∙ sym node_is)
+      (ap (λ (n : ℕ). max e.last_db (max (most (λ (r : Root). r.db) e.roots) (max n (most (λ (p : Placed). db_number p.1) (from e.redo es))))) (sym walked.db) ∙ sym db_is));
   walk = walk;
   walked = ap (λ (c : Checkpoint). read_roots files es c.at c.roots) (sym at) ∙ walked.read;
   trees = subst (λ (c : Checkpoint). HasTrees (behind walk.rows (redone c.redo es)) has stored) at made.trees;

@@ -1,5 +1,5 @@
 -- A reading of files that is under way.
-use Rattle.std.specs.Prelude.{ℕ, ◌≡◌, ◌++◌, [], List, Option, None, Some, Bool, true, map, length}
+use Rattle.std.specs.Prelude.{ℕ, ◌≡◌, ◌++◌, [], List, Option, None, Some, Bool, true, length}
 use Rattle.std.specs.List.{AllByRecursion}
 use Rattle.je_bytes.specs.Reading.{AreBytes}
 use Rattle.je_disk.specs.States.{Files, content}
@@ -8,7 +8,6 @@ use Rattle.log_entry.specs.declared.entry.Entry.{Entry}
 use Rattle.log_file.specs.declared.file_scan.FileScan.TheVariants.{Prefix}
 use Rattle.log_file.specs.Scan.{scan_of}
 use Rattle.log_file.specs.Log.{entries_scanned, log_in}
-use Rattle.log_replay.specs.declared.corruption.Corruption.{Corruption}
 use Rattle.log_replay.specs.declared.last_file.LastFile.{LastFile}
 use Rattle.log_replay.specs.Reading.{corruption_at, corruption_in}
 use Rattle.log_replay.specs.UnderWay.{AreOf, HaveCorruption, IsTailOf}

@@ -16,7 +16,7 @@ use Rattle.log_meaning.specs.Checkpoint.{Checkpoint, last_checkpoint, behind}
 use Rattle.log_meaning.specs.Meaning.{Meaning, most, db_given, rows_of, wrong_lsn}
 use Rattle.log_meaning.specs.Reading.{meaning_in}
 use Rattle.recovery_je.specs.declared.read_err.ReadErr.{ReadErr}
-use Rattle.recovery_je.specs.declared.read_err.ReadErr.TheVariants.{Memory, IdsEnded, Found}
+use Rattle.recovery_je.specs.declared.read_err.ReadErr.TheVariants.{Found}
 use Rattle.recovery_je.specs.declared.roots.WalkNumbers.{WalkNumbers}
 use Rattle.recovery_je.specs.Redoing.{there}
 use Rattle.recovery_je.specs.Finishing.{is_kept}

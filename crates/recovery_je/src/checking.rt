@@ -28,10 +28,7 @@ fn is_right(name: &Name, number: u32, before: &[u32]) -> bool
 }
 
 // The name of the first of the catalog's records that is wrong.
-fn wrong_in_catalog(
-    alloc: Global,
-    records: &[StoredRecord],
-) -> Result<Option<Name>, AllocError>
+fn wrong_in_catalog(alloc: Global, records: &[StoredRecord]) -> Result<Option<Name>, AllocError>
     ensures { IfOk result (λ wrong. wrong ≡ wrong_in_rows [] (values_of records.now)) }
 {
     let mut before = Vec::new(alloc);
@@ -46,10 +43,7 @@ fn wrong_in_catalog(
 }
 
 // The numbers in the catalog's records, in order.
-fn numbers_in(
-    alloc: Global,
-    records: &[StoredRecord],
-) -> Result<Vec<u32>, AllocError>
+fn numbers_in(alloc: Global, records: &[StoredRecord]) -> Result<Vec<u32>, AllocError>
     ensures { IfOk result (λ numbers. numbers.items ≡ map (λ r. catalog_number r.1) (values_of records.now)) }
 {
     let mut numbers = Vec::new(alloc);

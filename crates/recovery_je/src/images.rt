@@ -76,7 +76,11 @@ fn is_bin_of(db: u32, number: u64, entry: &Entry) -> bool
 fn wrong_delta(at: Lsn, db: u32, number: u64, full: Lsn, base: &Entry) -> Lsn
     ensures { result ≡ (if is_bin db number base.now then at else full) }
 {
-    if is_bin_of(db, number, base) { at } else { full }
+    if is_bin_of(db, number, base) {
+        at
+    } else {
+        full
+    }
 }
 
 // The node that a delta at an LSN and its full image show.

@@ -14,16 +14,17 @@ mod numbers;
 pub mod opening_store;
 mod placed_entry;
 mod read_err;
+mod reading;
 pub mod recover_err;
 pub mod recovered;
 mod recovering;
 pub mod recovery;
-mod reading;
 mod redoing;
 mod roots;
 mod settling;
 mod waiting;
 mod waiting_change;
+mod walking;
 
 pub use opening_store::OpeningStore;
 pub use recover_err::RecoverErr;

@@ -74,10 +74,7 @@ fn greatest_db(roots: &[Root]) -> u32
 }
 
 // What is wrong with the redo LSN.
-fn redo_corruption(
-    files: &[FileNo],
-    end: &Option<CheckpointEnd>,
-) -> Option<Corruption>
+fn redo_corruption(files: &[FileNo], end: &Option<CheckpointEnd>) -> Option<Corruption>
     requires { AreRisingNumbers files.now }
     ensures { result ≡ redo_corruption_of (map (λ f. f.0) files.now) end.now }
 {

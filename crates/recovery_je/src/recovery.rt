@@ -8,8 +8,8 @@ ghost use Rattle.recovery_je.specs.Files.{AreRead};
 ghost use Rattle.recovery_je.specs.Answer.{IsReadingOf, IsRecoveredFrom, IsCorruptBy, IsNoDiskErr, HasCauseOf, HasFiles};
 
 use crate::reading::{FilesRead, read_files};
-use crate::recovered::Recovered;
 use crate::recover_err::RecoverErr;
+use crate::recovered::Recovered;
 use crate::recovering::{Meant, recover_entries};
 use crate::settling::Settled;
 use je_disk::{Disk, DiskErr};

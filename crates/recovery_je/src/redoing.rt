@@ -25,8 +25,8 @@ pub(crate) struct Redoing<T> {
     pub(crate) waiting: Waiting,
 }
 
-// The number in a record of a database, if that is the catalog; 0 where there is none.
-fn number_in(db: u32, value: &Octets) -> u32
+/// The number in a record of a database, if that is the catalog; 0 where there is none.
+pub(crate) fn number_in(db: u32, value: &Octets) -> u32
     ensures { result ≡ named_by db (Some value.now) }
 {
     if db == CATALOG {

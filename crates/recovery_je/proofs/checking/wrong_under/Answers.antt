@@ -1,4 +1,4 @@
-use Rattle.std.proofs.Common.{◌∙◌, sym}
+use Rattle.std.proofs.Common.{sym}
 use Rattle.recovery_je.proofs.CheckLaws.{under_some, under_none}
 use Rattle.recovery_je.proofs.checking.wrong_under.Goals as goal
 

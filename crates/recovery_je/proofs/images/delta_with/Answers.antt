@@ -1,4 +1,4 @@
-use Rattle.std.proofs.Common.{◌==◌, ◌∙◌, ap, sym, Option, Err, cond, ℕ}
+use Rattle.std.proofs.Common.{◌∙◌, ap, sym, Option, Err, cond, ℕ}
 use Rattle.node_core.specs.declared.node.Node.{Node}
 use Rattle.log_replay.specs.declared.corruption.Corruption.TheVariants.{Tree}
 use Rattle.log_trees.specs.Walk.{is_bin_of, delta_by}

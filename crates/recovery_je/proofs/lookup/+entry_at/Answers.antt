@@ -1,4 +1,4 @@
-use Rattle.std.proofs.Common.{◌≡◌, ◌∙◌, ◌∷◌, ◌++◌, ◌-◌, ◌/◌, List, take, drop, length, get_or, ap, sym, subst, arith}
+use Rattle.std.proofs.Common.{◌≡◌, ◌∙◌, ◌∷◌, ◌++◌, ◌-◌, ◌/◌, take, drop, length, get_or, ap, sym, subst, arith}
 use Rattle.log_trees.specs.Placed.{Placed, AreInOrder}
 use Rattle.recovery_je.proofs.LookupLaws.{any_default, first_and_rest, parts, order_front, order_back, at_middle, at_below, at_above}
 use Rattle.recovery_je.proofs.lookup.+entry_at.Goals as goal

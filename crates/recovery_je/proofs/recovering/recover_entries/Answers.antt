@@ -45,8 +45,8 @@ returns-clause-meant g c =
     (c.in_ok-settled.ensures.settled redo (c.in_ok-trees.ensures walk.rows walked.records))
     (c.max-2.ensures ∙ ap (λ (n : ℕ). max e.last_txn n) (c.of-numbers.ensures.txn ∙ ap (λ (l : List Placed). most (λ (p : Placed). txn_in p.1) (from e.redo l)) c.deref-3.ensures.value))
     (c.max-last_node.ensures ∙ ap (λ (n : ℕ). max e.last_node n) (c.max.ensures ∙ ap (λ (n : ℕ). max c.in_ok-walked.walked.node n)
-        (c.of-numbers.ensures.node ∙ ap (λ (l : List Placed). most (λ (p : Placed). node_number p.1) (from e.redo l)) c.deref-3.ensures.value)))
+    (c.of-numbers.ensures.node ∙ ap (λ (l : List Placed). most (λ (p : Placed). node_number p.1) (from e.redo l)) c.deref-3.ensures.value)))
     (c.max-5.ensures ∙ ap (λ (n : ℕ). max e.last_db n) (c.max-4.ensures
-        ∙ ap (λ (n : ℕ). max n c.max-3.result) (c.greatest_db-roots_db.ensures ∙ ap (most (λ (r : Root). r.db)) c.as_slice.ensures)
-        ∙ ap (λ (n : ℕ). max (most (λ (r : Root). r.db) e.roots) n) (c.max-3.ensures ∙ ap (λ (n : ℕ). max c.in_ok-walked.walked.db n)
-            (c.of-numbers.ensures.db ∙ ap (λ (l : List Placed). most (λ (p : Placed). db_number p.1) (from e.redo l)) c.deref-3.ensures.value))))
+    ∙ ap (λ (n : ℕ). max n c.max-3.result) (c.greatest_db-roots_db.ensures ∙ ap (most (λ (r : Root). r.db)) c.as_slice.ensures)
+    ∙ ap (λ (n : ℕ). max (most (λ (r : Root). r.db) e.roots) n) (c.max-3.ensures ∙ ap (λ (n : ℕ). max c.in_ok-walked.walked.db n)
+    (c.of-numbers.ensures.db ∙ ap (λ (l : List Placed). most (λ (p : Placed). db_number p.1) (from e.redo l)) c.deref-3.ensures.value))))

@@ -1,5 +1,4 @@
-use Rattle.std.proofs.Common.{◌≡◌, ◌∙◌, List, ap, subst, sym}
-use Rattle.je_disk.specs.Moments.{now}
+use Rattle.std.proofs.Common.{◌∙◌, ap, subst}
 use Rattle.je_disk.specs.States.{Files, State, IsListing}
 use Rattle.log_replay.proofs.UnchangedMoments.{passes_again}
 use Rattle.recovery_je.proofs.AnswerLaws.{ok_weaker, on_ok_to, cause_of_list}

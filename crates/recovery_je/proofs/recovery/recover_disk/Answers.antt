@@ -1,7 +1,6 @@
-use Rattle.std.proofs.Common.{◌≡◌, ◌∙◌, List, ap, subst, sym, Err}
+use Rattle.std.proofs.Common.{◌≡◌, ◌∙◌, ap, subst, sym, Err}
 use Rattle.je_disk.specs.Moments.{now}
-use Rattle.je_disk.specs.States.{Files, State, IsListing}
-use Rattle.je_lsn.specs.declared.file_no.FileNo.{FileNo}
+use Rattle.je_disk.specs.States.{State, IsListing}
 use Rattle.log_meaning.specs.Reading.{reading_of}
 use Rattle.log_replay.proofs.UnchangedMoments.{passes_again}
 use Rattle.recovery_je.specs.Answer.{IsReadingOf, HasFiles}
@@ -30,7 +29,7 @@ returns-clause-recovered g c =
     let files = c.deref.result.now in
     ok_weaker _ _ c.recover.result
     (λ r is. has_files observable before mid files _ (λ t. ap (λ (s : State). s.reads) (c.in_ok-files.ensures.same t))
-        (λ t. subst (IsListing before) (sym c.deref.ensures.value) (c.in_ok-files.ensures.listed t)) is)
+    (λ t. subst (IsListing before) (sym c.deref.ensures.value) (c.in_ok-files.ensures.listed t)) is)
     c.recover.ensures.recovered
 
 pub returns-clause-corrupt : goal.returns-clause-corrupt
@@ -41,5 +40,5 @@ returns-clause-corrupt g c =
     let files = c.deref.result.now in
     corrupt_weaker (λ corruption. IsReadingOf observable mid files (λ held. reading_of held ≡ Err corruption)) (λ corruption. HasFiles observable before (λ held. reading_of held ≡ Err corruption)) c.recover.result
     (λ f is. has_files observable before mid files (λ held. reading_of held ≡ Err f) (λ t. ap (λ (s : State). s.reads) (c.in_ok-files.ensures.same t))
-        (λ t. subst (IsListing before) (sym c.deref.ensures.value) (c.in_ok-files.ensures.listed t)) is)
+    (λ t. subst (IsListing before) (sym c.deref.ensures.value) (c.in_ok-files.ensures.listed t)) is)
     c.recover.ensures.corrupt

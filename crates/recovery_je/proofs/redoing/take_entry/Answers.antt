@@ -1,5 +1,5 @@
 use Rattle.std.proofs.lemmas.Result.{on_ok_weaker}
-use Rattle.recovery_je.proofs.RedoingLaws.{waits_more, committed, migrated}
+use Rattle.recovery_je.proofs.RedoingLaws.{committed, migrated}
 use Rattle.recovery_je.proofs.redoing.take_entry.Goals as goal
 
 pub returns-in-Commit : goal.returns-in-Commit

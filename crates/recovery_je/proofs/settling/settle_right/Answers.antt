@@ -1,4 +1,4 @@
-use Rattle.std.proofs.Common.{◌∙◌, ap, sym, length, sum_by, List, ℕ}
+use Rattle.std.proofs.Common.{◌∙◌, ap, sym, length, sum_by}
 use Rattle.recovery_je.proofs.MeaningLaws.{settled}
 use Rattle.recovery_je.proofs.settling.settle_right.Goals as goal
 
