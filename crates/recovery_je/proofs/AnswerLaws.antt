@@ -1,5 +1,5 @@
 -- What reading the files of an environment answers.
-use Rattle.std.proofs.Common.{◌≡◌, ◌≤◌, ◌+◌, ℕ, Bool, true, List, [], ◌∷◌, Option, None, Result, Ok, Err, map, refl, sym, ap, ap₂, subst, arith, ◌∙◌}
+use Rattle.std.proofs.Common.{◌≡◌, ◌≤◌, ◌+◌, ℕ, Bool, true, List, [], ◌∷◌, Option, None, Result, Ok, Err, map, refl, sym, ap, ap₂, subst, arith, ◌∙◌, ◌<◌, ◌^◌}
 use Rattle.std.specs.Prelude.{IsErrAnd, IfOk, IfErr, OnOk}
 use Rattle.std.proofs.lemmas.List.{append-nil}
 use Rattle.std.specs.List.{AllByRecursion}
@@ -14,7 +14,7 @@ use Rattle.je_order.proofs.Lists.{all_append}
 use Rattle.log_entry.specs.declared.entry.Entry.{Entry}
 use Rattle.log_entry.specs.Body.{IsEntry}
 use Rattle.log_entry.specs.Encoding.{size_of}
-use Rattle.log_file.specs.Log.{AreFiles, log_in, entries_scanned}
+use Rattle.log_file.specs.Log.{AreFiles, log_in, entries_scanned, IsLog, AreFileEntries}
 use Rattle.log_file.specs.Scan.{scan_of}
 use Rattle.log_replay.specs.declared.corruption.Corruption.{Corruption}
 use Rattle.log_replay.specs.declared.last_file.LastFile.{LastFile}
@@ -22,9 +22,13 @@ use Rattle.log_replay.specs.Reading.{corruption_in}
 use Rattle.log_replay.specs.UnderWay.{AreOf, HaveCorruption}
 use Rattle.log_replay.proofs.FilesLaws.{entries_scanned-are}
 use Rattle.log_replay.proofs.ListedLaws.{same_files, listed}
-use Rattle.log_trees.specs.Placed.{Placed, placed_from, placed}
+use Rattle.log_trees.specs.Placed.{Placed, AreInOrder, placed_from, placed}
 use Rattle.log_trees.specs.Changes.{LoggedChange}
+use Rattle.log_trees.proofs.PlacedLaws.{placed_are_in_order}
 use Rattle.log_trees.proofs.Right.{read_trees_are_right}
+use Rattle.std.specs.List.Sorted.{IsStrictlyIncreasing}
+use Rattle.recovery_je.specs.declared.reading.FilesRead.{FilesRead}
+use Rattle.recovery_je.specs.declared.reading.FilesRead.TheVariants.{All as AllRead, Stopped}
 use Rattle.log_meaning.specs.Redo.{redone}
 use Rattle.log_meaning.specs.Checkpoint.{last_checkpoint, behind, restarted}
 use Rattle.log_meaning.specs.Meaning.{Meaning}
@@ -34,7 +38,7 @@ use Rattle.recovery_je.specs.declared.read_err.ReadErr.{ReadErr}
 use Rattle.recovery_je.specs.declared.read_err.ReadErr.TheVariants.{Memory as ReadMemory, IdsEnded as ReadIdsEnded, Found}
 use Rattle.recovery_je.specs.declared.recover_err.RecoverErr.{RecoverErr}
 use Rattle.recovery_je.specs.declared.recover_err.RecoverErr.TheVariants.{Disk, Memory, IdsEnded, Corrupt}
-use Rattle.recovery_je.specs.Files.{IsReading}
+use Rattle.recovery_je.specs.Files.{IsReading, AreRead, AreSound}
 use Rattle.recovery_je.specs.Recovering.{HasTrees, IsMeant, IsFoundBy}
 use Rattle.recovery_je.specs.Answer.{read_error, IsCorruptBy, HasCauseOf, IsReadingOf, HasFiles, IsRecoveredFrom}
 
@@ -49,6 +53,25 @@ all_entries [] all = tt
 all_entries (h ∷ held) all =
     all_append (λ (p : Placed). IsEntry p.1) (placed_from h.0 26 (entries_scanned (scan_of h.0 h.1))) (placed (log_in held))
     (placed_entries h.0 26 (entries_scanned (scan_of h.0 h.1)) (entries_scanned-are h.0 h.1 all.0).entries) (all_entries held all.1)
+
+-- files that were read are a log
+are_log : (held : List (ℕ × List ℕ)) → AllByRecursion (λ (file : ℕ × List ℕ). file.0 < 2 ^ 32) held → AllByRecursion (λ (file : ℕ × List ℕ). AreBytes file.1) held →
+    AllByRecursion (λ (file : ℕ × List Entry). (file.0 < 2 ^ 32) × AreFileEntries file.1) (log_in held)
+are_log [] fits bytes = tt
+are_log (h ∷ held) fits bytes = ((fits.0, entries_scanned-are h.0 h.1 bytes.0), are_log held fits.1 bytes.1)
+
+numbers_in : (held : List (ℕ × List ℕ)) → map (λ (file : ℕ × List Entry). file.0) (log_in held) ≡ map (λ (file : ℕ × List ℕ). file.0) held
+numbers_in [] = refl
+numbers_in (h ∷ held) = ap (λ (l : List ℕ). h.0 ∷ l) (numbers_in held)
+
+pub sound : (observable : Bool) (reads : Files) (files : List FileNo) (read : FilesRead) → AreRisingNumbers files → AreRead observable reads files read → AreSound read
+sound observable reads files (Stopped corruption) rising have = tt
+sound observable reads files (AllRead es tail) rising all =
+    let are_of : AreOf observable reads files all.held = subst (λ (l : List FileNo). AreOf observable reads l all.held) (sym (all.parts ∙ append-nil all.done)) all.are_of in
+    let log : IsLog (log_in all.held) = record { rising = subst IsStrictlyIncreasing (sym (numbers_in all.held ∙ are_of.numbers)) rising; each = are_log all.held all.fits all.bytes } in (
+      subst AreInOrder (sym all.entries_are) (placed_are_in_order (log_in all.held) log),
+      subst (AllByRecursion (λ (p : Placed). IsEntry p.1)) (sym all.entries_are) (all_entries all.held all.bytes),
+    )
 
 -- ---- answers
 

@@ -29,6 +29,7 @@ reading_begins observable reads files = record {
   held = [];
   are_of = record { numbers = refl; observed = λ t. tt };
   bytes = tt;
+  fits = tt;
   none = λ more len. refl;
   entries_are = refl;
   last = refl;
@@ -48,9 +49,9 @@ placed-push (h ∷ held) x =
     ∙ sym (append_assoc (placed_from h.0 26 (entries_scanned (scan_of h.0 h.1))) (placed (log_in held)) (placed_from x.0 26 (entries_scanned (scan_of x.0 x.1))))
 
 pub reading_goes_on : (observable : Bool) (reads : Files) (files left rest : List FileNo) (f : FileNo) (es : List Placed) (tail : Option LastFile) (entries : List Entry) (file : LastFile) (last : Bool) →
-    IsReading observable reads files left es tail → left ≡ f ∷ rest → (length rest == 0) ≡ last → IsFileRead observable reads last f.0 (GoesOn entries file) →
+    IsReading observable reads files left es tail → left ≡ f ∷ rest → (length rest == 0) ≡ last → IsFileRead observable reads last f.0 (GoesOn entries file) → f.0 < 2 ^ 32 →
     IsReading observable reads files rest (es ++ placed_from f.0 26 entries) (Some file)
-reading_goes_on observable reads files left rest f es tail entries file last so_far is at read =
+reading_goes_on observable reads files left rest f es tail entries file last so_far is at read fits =
     let bytes = read.bytes in
     let gone : HasGoneOn last f.0 bytes entries file = read.is in
     let x : ℕ × List ℕ = (f.0, bytes) in
@@ -64,6 +65,7 @@ reading_goes_on observable reads files left rest f es tail entries file last so_
         observed = λ t. all_push (λ (e : ℕ × List ℕ). e.1 ≡ content reads e.0) so_far.held x (so_far.are_of.observed t) (read.observed t);
       };
       bytes = all_push (λ (e : ℕ × List ℕ). AreBytes e.1) so_far.held x so_far.bytes read.are;
+      fits = all_push (λ (e : ℕ × List ℕ). e.0 < 2 ^ 32) so_far.held x so_far.fits fits;
       none = λ more len.
           ap corruption_in (append_assoc so_far.held (x ∷ []) more)
           ∙ so_far.none (x ∷ more) (ap suc len ∙ sym (ap length is))

@@ -1,5 +1,5 @@
 // Reading the files of a log.
-ghost use Rattle.std.specs.Prelude.{◌≡◌, ◌∷◌, ◌++◌, [], nat_lt, ℕ, List as Items, true, Some, IfOk, OnOk, length, if◌then◌else◌};
+ghost use Rattle.std.specs.Prelude.{◌≡◌, ◌∷◌, ◌++◌, [], nat_lt, ℕ, List as Items, true, Some, IfOk, OnOk, length, if◌then◌else◌, ◌<◌, ◌^◌};
 ghost use Rattle.je_disk.specs.Moments.{now, Passes};
 ghost use Rattle.je_disk.specs.Causes.{HasCause};
 ghost use Rattle.log_file.specs.declared.file_scan.FileScan.TheVariants.{Prefix};
@@ -102,6 +102,7 @@ fn read_file<D: Disk>(
     is_last: bool,
 ) -> Result<FileRead, DiskErr>
     ensures read { IfOk result (IsFileRead D.observable (now (D.history disk.old)).reads is_last f.0) }
+    ensures number { f.0 < 2 ^ 32 }
     ensures same { D.observable ≡ true → now (D.history disk.new) ≡ now (D.history disk.old) }
     ensures moments { D.observable ≡ true → Passes (D.history disk.old) (D.history disk.new) (λ s. s ≡ now (D.history disk.old)) }
     ensures jobs { (D.sync_out disk.new ≡ D.sync_out disk.old) × (D.read_out disk.new ≡ D.read_out disk.old) × (D.read_of disk.new ≡ D.read_of disk.old) × (D.last_job disk.new ≡ D.last_job disk.old) }

@@ -2,6 +2,9 @@
 ghost use Rattle.std.specs.Prelude.{◌≡◌, ℕ, List as Items, false, None, Ok, Err, IfOk, IfErr, map};
 ghost use Rattle.log_trees.specs.Walk.{Walk, and_then, read_roots as read_roots_of};
 ghost use Rattle.je_disk.specs.States.{AreRisingNumbers};
+ghost use Rattle.std.specs.List.{AllByRecursion};
+ghost use Rattle.log_entry.specs.Body.{IsEntry};
+ghost use Rattle.log_trees.specs.Placed.{AreInOrder};
 ghost use Rattle.log_trees.specs.Changes.{LoggedChange};
 ghost use Rattle.log_meaning.specs.Redo.{redone};
 ghost use Rattle.log_meaning.specs.Checkpoint.{behind};
@@ -93,7 +96,9 @@ fn read_trees<T: Loads>(
     corruption: Option<Corruption>,
     trees: &mut T,
 ) -> Result<WalkNumbers, ReadErr>
-    requires { (d : ℕ) → T.has_tree trees.old d ≡ false }
+    requires empty { (d : ℕ) → T.has_tree trees.old d ≡ false }
+    requires order { AreInOrder entries.now }
+    requires entries { AllByRecursion (λ p. IsEntry p.1) entries.now }
     ensures read { IfOk result (λ numbers. (walk : Walk) × IsWalked (map (λ f. f.0) files.now) entries.now end.now numbers (T.stored trees.new) walk) }
     ensures right { IfOk result (λ numbers. corruption ≡ None) }
     ensures found { IfErr result (λ e. IsFoundBy e (λ c. and_then (read_roots_of (map (λ f. f.0) files.now) entries.now end.now.at end.now.roots) (λ walk. unless corruption (Ok walk)) ≡ Err c)) }
@@ -114,6 +119,8 @@ pub(crate) fn recover_entries<T: Loads + Drop>(
 ) -> Result<Meant<T>, ReadErr>
     requires files { AreRisingNumbers files.now }
     requires empty { (d : ℕ) → T.has_tree trees d ≡ false }
+    requires order { AreInOrder entries.items }
+    requires entries { AllByRecursion (λ p. IsEntry p.1) entries.items }
     ensures meant { IfOk result (λ m. IsMeant (map (λ f. f.0) files.now) entries.items (record { store = m.settled.opening; last_txn = m.last_txn; last_node = m.last_node; last_db = m.last_db; checkpoint = m.checkpoint }) (T.has_tree m.settled.trees) (T.stored m.settled.trees) m.settled.databases m.settled.records) }
     ensures found { IfErr result (λ e. IsFoundBy e (λ c. meaning_in (map (λ f. f.0) files.now) entries.items ≡ Err c)) }
 {

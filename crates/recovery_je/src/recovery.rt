@@ -4,7 +4,7 @@ ghost use Rattle.je_disk.specs.Causes.{HasCause};
 ghost use Rattle.je_disk.specs.Moments.{now, Passes};
 ghost use Rattle.je_disk.specs.States.{Files, IsListing, AreRisingNumbers};
 ghost use Rattle.log_meaning.specs.Reading.{reading_of};
-ghost use Rattle.recovery_je.specs.Files.{AreRead};
+ghost use Rattle.recovery_je.specs.Files.{AreRead, AreSound};
 ghost use Rattle.recovery_je.specs.Answer.{IsReadingOf, IsRecoveredFrom, IsCorruptBy, IsNoDiskErr, HasCauseOf, HasFiles};
 
 use crate::reading::{FilesRead, read_files};
@@ -26,6 +26,7 @@ fn recover_files<T: Loads + Drop>(
 ) -> Result<Recovered<T>, RecoverErr>
     requires files { AreRisingNumbers files.now }
     requires empty { (d : ℕ) → T.has_tree trees d ≡ false }
+    requires sound { AreSound read }
     ensures recovered { (observable : Bool) (reads : Files) → AreRead observable reads files.now read → IfOk result (λ r. IsReadingOf observable reads files.now (IsRecoveredFrom (record { store = r.opening; last_txn = r.last_txn; last_node = r.last_node; last_db = r.last_db; checkpoint = r.checkpoint }) (T.has_tree r.trees) (T.stored r.trees) r.databases r.records r.tail)) }
     ensures corrupt { (observable : Bool) (reads : Files) → AreRead observable reads files.now read → IfErr result (λ e. IsCorruptBy e (λ corruption. IsReadingOf observable reads files.now (λ held. reading_of held ≡ Err corruption))) }
     ensures other { IfErr result IsNoDiskErr }

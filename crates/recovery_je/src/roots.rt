@@ -1,5 +1,8 @@
 // The trees of a checkpoint's roots.
 ghost use Rattle.std.specs.Prelude.{◌≡◌, ℕ, false, Err, IfOk, IfErr, map};
+ghost use Rattle.std.specs.List.{AllByRecursion};
+ghost use Rattle.log_entry.specs.Body.{IsEntry};
+ghost use Rattle.log_trees.specs.Placed.{AreInOrder};
 ghost use Rattle.log_trees.specs.Walk.{Walk, read_roots as read_roots_of};
 ghost use Rattle.recovery_je.specs.Recovering.{IsWalked, IsFoundBy};
 
@@ -25,7 +28,9 @@ pub(crate) fn read_roots<T: Loads>(
     end: &CheckpointEnd,
     _trees: &mut T,
 ) -> Result<WalkNumbers, ReadErr>
-    requires { (d : ℕ) → T.has_tree _trees.old d ≡ false }
+    requires empty { (d : ℕ) → T.has_tree _trees.old d ≡ false }
+    requires order { AreInOrder _entries.now }
+    requires entries { AllByRecursion (λ p. IsEntry p.1) _entries.now }
     ensures read { IfOk result (λ numbers. (walk : Walk) × IsWalked (map (λ f. f.0) _files.now) _entries.now end.now numbers (T.stored _trees.new) walk) }
     ensures found { IfErr result (λ e. IsFoundBy e (λ corruption. read_roots_of (map (λ f. f.0) _files.now) _entries.now end.now.at end.now.roots ≡ Err corruption)) }
 {

@@ -56,7 +56,7 @@ loop-f-preserved g c =
           (reading_goes_on observable reads c.args.files.now (drop c.loop-f.f-index c.args.files.now) (drop (c.loop-f.f-index + 1) c.args.files.now) f c.loop-f.placed.items
           c.loop-f.last c.in-GoesOn.entries c.in-GoesOn.tail last before.reading at (ap (λ (n : ℕ). n == 0) left)
           (read_along observable reads (now (history c.loop-f.disk)).reads last f.0 _ (λ t. ap (λ (s : State). s.reads) (before.same t))
-          (subst (IsFileRead observable (now (history c.loop-f.disk)).reads last f.0) c.in-GoesOn.is read.read)));
+          (subst (IsFileRead observable (now (history c.loop-f.disk)).reads last f.0) c.in-GoesOn.is read.read)) read.number);
       left = sym left;
       same = λ t. read.same t ∙ before.same t;
       moments = λ t.
