@@ -21,8 +21,9 @@ pub trait Loads {
     /// Whether a database of that number has a tree.
     ghost has_tree: { Self → ℕ → Bool };
 
-    /// Nodes that are made from now on take the numbers behind this one.
-    fn number_from(&mut self, last_node: u64)
+    /// A redo begins at the LSN `from`, from which on nodes that it splits are found again. Nodes that it
+    /// makes take the numbers behind `last_node`.
+    fn begin_redo(&mut self, last_node: u64, from: Lsn)
         ensures stored { AreStoredStill (stored self.old) (stored self.new) }
         ensures trees { (d : ℕ) → has_tree self.new d ≡ has_tree self.old d };
 

@@ -42,18 +42,19 @@ pub(crate) struct Meant<T: Loads> {
 }
 
 // Redoes the entries from the redo LSN on over the trees of the roots. Nodes that are made take the
-// numbers behind `last_node`.
+// numbers behind `last_node`, and what is split is found again from `from` on.
 fn redo_entries<T: Loads + Drop>(
     alloc: Global,
     trees: T,
     last_node: u64,
+    from: Lsn,
     redo: Lsn,
     entries: Vec<PlacedEntry>,
 ) -> Result<T, LoadErr>
     ensures { (rows : Items LoggedChange) → HoldsChanges rows (T.stored trees) → IfOk result (λ made. HoldsRedo (behind rows (redone redo entries.items)) (T.stored made)) }
 {
     let mut trees = trees;
-    trees.number_from(last_node);
+    trees.begin_redo(last_node, from);
     ensure_tree(&mut trees, alloc, CATALOG)?;
     let mut going = Redoing {
         trees,
@@ -63,6 +64,14 @@ fn redo_entries<T: Loads + Drop>(
     let Redoing { trees, waiting } = going;
     drop(waiting);
     Ok(trees)
+}
+
+// The redo LSN, or that of the first file's header where it is lower.
+fn redo_begin(files: &[FileNo], redo: Lsn) -> Lsn {
+    match files {
+        [first, ..] if redo.as_u64() < Lsn::new(*first, 0).as_u64() => Lsn::new(*first, 0),
+        _ => redo,
+    }
 }
 
 // The greatest number of a root's database, 0 where there is no root.
@@ -130,8 +139,9 @@ pub(crate) fn recover_entries<T: Loads + Drop>(
     let mut trees = trees;
     let walked = read_trees(alloc, files, &entries, &end, corruption, &mut trees)?;
     let numbers = Numbers::of(&entries, end.redo);
+    let from = redo_begin(files, end.redo);
     let last_node = end.last_node.max(walked.node.max(numbers.node));
-    let trees = redo_entries(alloc, trees, last_node, end.redo, entries)?;
+    let trees = redo_entries(alloc, trees, last_node, from, end.redo, entries)?;
     let settled = settle(alloc, trees)?;
     let roots_db = greatest_db(end.roots.as_slice());
     Ok(Meant {

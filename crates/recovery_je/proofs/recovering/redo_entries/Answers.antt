@@ -9,4 +9,4 @@ returns g c rows holds =
     let stored = g.T.Loads.stored in
     redo_ends rows c.args.redo c.args.entries.items (stored c.take_all.new.going.trees) c.take_all.new.going.waiting
     (c.in_ok-take_all.ensures (behind rows nothing_redone) (redo_begins rows (stored c.ensure_tree.new.trees) c.new.result
-    (same_stored rows (stored c.args.trees) (stored c.ensure_tree.new.trees) (λ d. c.in_ok-ensure_tree.ensures.stored d ∙ c.number_from.ensures.stored d) holds) c.new.ensures))
+    (same_stored rows (stored c.args.trees) (stored c.ensure_tree.new.trees) (λ d. c.in_ok-ensure_tree.ensures.stored d ∙ c.begin_redo.ensures.stored d) holds) c.new.ensures))
