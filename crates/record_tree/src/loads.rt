@@ -1,5 +1,5 @@
 // Trees that are made of a log.
-ghost use Rattle.std.specs.Prelude.{◌≡◌, ◌==◌, ◌||◌, ℕ, [], length, option_map, find, not, OnOk, IfOk, Bool, true, false, if◌then◌else◌};
+ghost use Rattle.std.specs.Prelude.{◌≡◌, ◌==◌, ◌||◌, ℕ, [], length, option_map, find, not, Some, OnOk, IfOk, Bool, true, false, if◌then◌else◌};
 ghost use Rattle.std.specs.List.{list_any};
 ghost use Rattle.record_map.specs.Cells.{IsRising, value_at};
 ghost use Rattle.record_tree.specs.Stored.{AllStored, stored_at, HasStored, AreStoredStill};
@@ -7,6 +7,7 @@ ghost use Rattle.record_tree.specs.Stored.{AllStored, stored_at, HasStored, AreS
 use crate::{LoadErr, StoredRecord};
 use je_lsn::Lsn;
 use je_order::{Name, Octets};
+use node_core::Node;
 use record_map::SortKey;
 use std::alloc::{AllocError, Global};
 
@@ -20,8 +21,9 @@ pub trait Loads {
     /// Whether a database of that number has a tree.
     ghost has_tree: { Self → ℕ → Bool };
 
-    /// Nodes that are made from now on take the numbers behind this one.
-    fn number_from(&mut self, last_node: u64)
+    /// A redo begins at the LSN `from`, from which on nodes that it splits are found again. Nodes that it
+    /// makes take the numbers behind `last_node`.
+    fn begin_redo(&mut self, last_node: u64, from: Lsn)
         ensures stored { AreStoredStill (stored self.old) (stored self.new) }
         ensures trees { (d : ℕ) → has_tree self.new d ≡ has_tree self.old d };
 
@@ -39,6 +41,22 @@ pub trait Loads {
         requires { has_tree self.old db ≡ false }
         ensures stored { OnOk result (AreStoredStill (stored self.old) (stored self.new)) }
         ensures trees { OnOk result ((d : ℕ) → has_tree self.new d ≡ ((d == db) || has_tree self.old d)) };
+
+    /// Puts a node of a database's tree as the image at `at` shows it: no name in it is below `low`. The
+    /// nodes of a tree come from the left, each behind those above it, and a BIN before its records.
+    fn load_node(&mut self, alloc: Global, node: &Node, low: &Name, at: Lsn) -> Result<(), LoadErr>
+        ensures { OnOk result (AreStoredStill (stored self.old) (stored self.new)) };
+
+    /// Puts a record of the BIN that was put last, which was logged at `at`.
+    fn load(
+        &mut self,
+        alloc: Global,
+        db: u32,
+        name: &Name,
+        at: Lsn,
+        value: &[u8],
+    ) -> Result<(), LoadErr>
+        ensures { OnOk result (HasStored (stored self.old) (stored self.new) db name.now (stored_at at (Some value.now))) };
 
     /// Takes the tree of a database out, with its records. It takes no memory.
     fn drop_db(&mut self, db: u32)

@@ -1,0 +1,22 @@
+-- A reading of files that is under way.
+pub mod FilesRead
+-- Changes that wait for their commits.
+pub mod WaitingLaws
+-- Records while a log is read again.
+pub mod RedoingLaws
+-- The greatest numbers in the entries of a log.
+pub mod NumberLaws
+-- Records without their LSNs, and which of them is wrong.
+pub mod CheckLaws
+-- The trees of the databases that the catalog names.
+pub mod FinishLaws
+-- Records in trees are those of a redo.
+pub mod MeaningLaws
+-- What reading the files of an environment answers.
+pub mod AnswerLaws
+-- Entries by their LSNs.
+pub mod LookupLaws
+-- Files that are missing from one on.
+pub mod FileGaps
+-- Reading trees.
+pub mod WalkLaws

@@ -1,0 +1,147 @@
+// The first record that breaks a rule of environments.
+ghost use Rattle.std.specs.Prelude.{◌≡◌, ◌==◌, ℕ, List as Items, [], Some, IfOk, map, filter, not, option_map, if◌then◌else◌};
+ghost use Rattle.log_replay.specs.Rows.{catalog_number, are_plain};
+ghost use Rattle.log_replay.specs.Wrong.{is_right_behind, wrong_in_catalog as wrong_in_rows, wrong_in_plain, lesser_number as lesser_of, least_number};
+ghost use Rattle.record_map.specs.Cells.{IsRising};
+ghost use Rattle.recovery_je.specs.Checking.{values_of, wrong_lsn_in, wrong_lsn_under, lsn_of as lsn_of_name};
+
+use je_lsn::Lsn;
+use store_model::MOST_DATABASES;
+use je_order::{Name, Word, copy_of};
+use log_replay::number_of;
+use record_map::SortKey;
+use record_tree::{Loads, StoredRecord};
+use std::alloc::{AllocError, Global};
+
+/// The number of the catalog.
+const CATALOG: u32 = 0;
+
+// Whether a catalog record of this name and number is right behind records of other numbers.
+fn is_right(name: &Name, number: u32, before: &[u32]) -> bool
+    ensures { (data_ : Items ℕ) → catalog_number data_ ≡ number → result ≡ is_right_behind before.now (name.now, data_) }
+{
+    Word::is_word(name.key.as_slice())
+        && name.dup.is_empty()
+        && number != 0
+        && !before.contains(&number)
+        && before.len() < MOST_DATABASES as usize
+}
+
+// The name of the first of the catalog's records that is wrong.
+fn wrong_in_catalog(alloc: Global, records: &[StoredRecord]) -> Result<Option<Name>, AllocError>
+    ensures { IfOk result (λ wrong. wrong ≡ wrong_in_rows [] (values_of records.now)) }
+{
+    let mut before = Vec::new(alloc);
+    for record in records {
+        let number = number_of(record.value.as_slice());
+        if !is_right(&record.name, number, &before) {
+            return Ok(Some(copy_of(&record.name)?));
+        }
+        before.push(number)?;
+    }
+    Ok(None)
+}
+
+// The numbers in the catalog's records, in order.
+fn numbers_in(alloc: Global, records: &[StoredRecord]) -> Result<Vec<u32>, AllocError>
+    ensures { IfOk result (λ numbers. numbers.items ≡ map (λ r. catalog_number r.1) (values_of records.now)) }
+{
+    let mut numbers = Vec::new(alloc);
+    for record in records {
+        numbers.push(number_of(record.value.as_slice()))?;
+    }
+    Ok(numbers)
+}
+
+// The lesser of a number and another one, if there is one.
+fn lesser(number: u32, other: Option<u32>) -> u32
+    ensures { Some result ≡ lesser_of number other }
+{
+    match other {
+        Some(other) => number.min(other),
+        None => number,
+    }
+}
+
+// Whether a database has a record that is wrong in a plain one.
+fn is_wrong<T: Loads>(trees: &T, db: u32) -> bool
+    ensures { result ≡ not (are_plain (values_of (T.stored trees.now db))) }
+{
+    trees.first_with_dup(db).is_some()
+}
+
+// The least of these databases that has a record that is wrong in a plain one.
+fn least_wrong<T: Loads>(trees: &T, numbers: &[u32]) -> Option<u32>
+    ensures { result ≡ least_number (filter (λ n. not (are_plain (values_of (T.stored trees.now n)))) numbers.now) }
+{
+    let mut found = None;
+    for number in numbers {
+        if is_wrong(trees, *number) {
+            found = Some(lesser(*number, found));
+        }
+    }
+    found
+}
+
+// The LSN of the record of that name, 0 where there is none.
+fn lsn_of<T: Loads>(trees: &T, db: u32, name: &SortKey) -> Lsn
+    ensures { result ≡ lsn_of_name (T.stored trees.now) db name.now }
+{
+    match trees.get(db, name) {
+        Some((at, _)) => at,
+        None => Lsn::from_u64(0),
+    }
+}
+
+// The LSN of the catalog's record of that name, 0 where there is none.
+fn lsn_in_catalog<T: Loads>(alloc: Global, trees: &T, name: Name) -> Result<Lsn, AllocError>
+    ensures { IfOk result (λ at. at ≡ lsn_of_name (T.stored trees.now) 0 name) }
+{
+    let name = SortKey::new(alloc, name)?;
+    let at = lsn_of(trees, CATALOG, &name);
+    drop(name);
+    Ok(at)
+}
+
+// The LSN of the first record of a database that is wrong in a plain one.
+fn wrong_in_db<T: Loads>(trees: &T, db: u32) -> Option<Lsn>
+    ensures { result ≡ option_map (λ x. lsn_of_name (T.stored trees.now) db x) (wrong_in_plain (values_of (T.stored trees.now db))) }
+{
+    match trees.first_with_dup(db) {
+        Some(name) => Some(lsn_of(trees, db, name)),
+        None => None,
+    }
+}
+
+// The LSN of the first wrong record of the databases of these numbers.
+fn wrong_under<T: Loads>(trees: &T, numbers: &[u32]) -> Option<Lsn>
+    ensures { result ≡ wrong_lsn_under (T.stored trees.now) numbers.now }
+{
+    match least_wrong(trees, numbers) {
+        Some(db) => wrong_in_db(trees, db),
+        None => None,
+    }
+}
+
+/// The LSN of the first record that breaks a rule of environments, if one does.
+pub(crate) fn wrong_lsn<T: Loads>(alloc: Global, trees: &T) -> Result<Option<Lsn>, AllocError>
+    ensures wrong { IfOk result (λ wrong. wrong ≡ wrong_lsn_in (T.stored trees.now)) }
+    ensures rising { (d : ℕ) → IsRising (T.stored trees.now d) }
+{
+    let records = trees.records(alloc, CATALOG)?;
+    match wrong_in_catalog(alloc, &records)? {
+        Some(name) => Ok(Some(lsn_in_catalog(alloc, trees, name)?)),
+        None => {
+            let numbers = numbers_in(alloc, &records)?;
+            Ok(wrong_under(trees, &numbers))
+        }
+    }
+}
+
+/// The numbers of the databases that the catalog names, in order of their names.
+pub(crate) fn catalog_numbers<T: Loads>(alloc: Global, trees: &T) -> Result<Vec<u32>, AllocError>
+    ensures { IfOk result (λ numbers. numbers.items ≡ map (λ r. catalog_number r.1) (values_of (T.stored trees.now 0))) }
+{
+    let records = trees.records(alloc, CATALOG)?;
+    numbers_in(alloc, &records)
+}

@@ -1,0 +1,32 @@
+//! Reading the files of an environment: the trees that its log means, or what is wrong with it. It stands
+//! on the files of logs, on what a log with checkpoints means, and on trees in memory by what the trait
+//! `Loads` says of them. Upward it promises that the files mean the store that the trees hold, with the
+//! numbers that were allocated last, or that the corruption is the first in the order of reading.
+#![tactic(auto)]
+
+mod checking;
+mod checkpoint_end;
+mod finishing;
+mod gaps;
+mod images;
+mod lookup;
+mod numbers;
+pub mod opening_store;
+mod placed_entry;
+mod read_err;
+mod reading;
+pub mod recover_err;
+pub mod recovered;
+mod recovering;
+pub mod recovery;
+mod redoing;
+mod roots;
+mod settling;
+mod waiting;
+mod waiting_change;
+mod walking;
+
+pub use opening_store::OpeningStore;
+pub use recover_err::RecoverErr;
+pub use recovered::Recovered;
+pub use recovery::{recover, recover_disk};

@@ -1,0 +1,46 @@
+// Why an environment was not recovered.
+use crate::read_err::ReadErr;
+use je_disk::DiskErr;
+use log_replay::Corruption;
+
+/// Why an environment was not recovered. Its files are as they were.
+#[derive(Clone, Copy, Debug, PartialEq, Eq)]
+pub enum RecoverErr {
+    /// The disk failed.
+    Disk,
+    /// Out of memory.
+    Memory,
+    /// A node's number or level would pass the last one.
+    IdsEnded,
+    /// The first corruption in the order of reading.
+    Corrupt(Corruption),
+}
+
+impl From<DiskErr> for RecoverErr {
+    ghost use Rattle.std.specs.Prelude.{◌≡◌};
+    ghost use Rattle.recovery_je.specs.Answer.{disk_error};
+
+    ghost from_gives = { λ failure e. e ≡ disk_error failure };
+
+    fn from(failure: DiskErr) -> RecoverErr {
+        match failure {
+            DiskErr::Failed => RecoverErr::Disk,
+            DiskErr::Memory => RecoverErr::Memory,
+        }
+    }
+}
+
+impl From<ReadErr> for RecoverErr {
+    ghost use Rattle.std.specs.Prelude.{◌≡◌};
+    ghost use Rattle.recovery_je.specs.Answer.{read_error};
+
+    ghost from_gives = { λ failure e. e ≡ read_error failure };
+
+    fn from(failure: ReadErr) -> RecoverErr {
+        match failure {
+            ReadErr::Memory => RecoverErr::Memory,
+            ReadErr::IdsEnded => RecoverErr::IdsEnded,
+            ReadErr::Found(corruption) => RecoverErr::Corrupt(corruption),
+        }
+    }
+}

@@ -1,0 +1,154 @@
+// Recovery from the entries of a log.
+ghost use Rattle.std.specs.Prelude.{◌≡◌, ℕ, List as Items, false, None, Ok, Err, IfOk, IfErr, map};
+ghost use Rattle.log_trees.specs.Walk.{Walk, and_then, read_roots as read_roots_of};
+ghost use Rattle.je_disk.specs.States.{AreRisingNumbers};
+ghost use Rattle.std.specs.List.{AllByRecursion};
+ghost use Rattle.log_entry.specs.Body.{IsEntry};
+ghost use Rattle.log_trees.specs.Placed.{AreInOrder};
+ghost use Rattle.log_trees.specs.Changes.{LoggedChange};
+ghost use Rattle.log_meaning.specs.Redo.{redone};
+ghost use Rattle.log_meaning.specs.Checkpoint.{behind};
+ghost use Rattle.log_meaning.specs.Meaning.{most};
+ghost use Rattle.log_meaning.specs.Reading.{redo_corruption as redo_corruption_of, unless, meaning_in};
+ghost use Rattle.recovery_je.specs.Recovering.{HoldsChanges, HoldsRedo, IsWalked, IsMeant, IsFoundBy};
+
+use crate::checkpoint_end::{CheckpointEnd, last_end, or_none};
+use crate::gaps::{end_corruption, gap_corruption};
+use crate::numbers::Numbers;
+use crate::placed_entry::PlacedEntry;
+use crate::read_err::ReadErr;
+use crate::redoing::{Redoing, ensure_tree, take_all};
+use crate::roots::{WalkNumbers, read_roots};
+use crate::settling::{Settled, settle};
+use crate::waiting::Waiting;
+use je_lsn::{FileNo, Lsn};
+use log_entry::Root;
+use log_replay::Corruption;
+use record_tree::{LoadErr, Loads};
+use std::alloc::Global;
+
+/// The number of the catalog.
+const CATALOG: u32 = 0;
+
+/// What a log means: its environment, the numbers that were allocated last, and the number of the last
+/// checkpoint.
+#[derive(Drop)]
+pub(crate) struct Meant<T: Loads> {
+    pub(crate) settled: Settled<T>,
+    pub(crate) last_txn: u64,
+    pub(crate) last_node: u64,
+    pub(crate) last_db: u32,
+    pub(crate) checkpoint: u64,
+}
+
+// Redoes the entries from the redo LSN on over the trees of the roots. Nodes that are made take the
+// numbers behind `last_node`, and what is split is found again from `from` on.
+fn redo_entries<T: Loads + Drop>(
+    alloc: Global,
+    trees: T,
+    last_node: u64,
+    from: Lsn,
+    redo: Lsn,
+    entries: Vec<PlacedEntry>,
+) -> Result<T, LoadErr>
+    ensures { (rows : Items LoggedChange) → HoldsChanges rows (T.stored trees) → IfOk result (λ made. HoldsRedo (behind rows (redone redo entries.items)) (T.stored made)) }
+{
+    let mut trees = trees;
+    trees.begin_redo(last_node, from);
+    ensure_tree(&mut trees, alloc, CATALOG)?;
+    let mut going = Redoing {
+        trees,
+        waiting: Waiting::new(alloc),
+    };
+    take_all(&mut going, alloc, redo, entries)?;
+    let Redoing { trees, waiting } = going;
+    drop(waiting);
+    Ok(trees)
+}
+
+// The redo LSN, or that of the first file's header where it is lower.
+fn redo_begin(files: &[FileNo], redo: Lsn) -> Lsn {
+    match files {
+        [first, ..] if redo.as_u64() < Lsn::new(*first, 0).as_u64() => Lsn::new(*first, 0),
+        _ => redo,
+    }
+}
+
+// The greatest number of a root's database, 0 where there is no root.
+fn greatest_db(roots: &[Root]) -> u32
+    ensures { result ≡ most (λ r. r.db) roots.now }
+{
+    let mut greatest = 0u32;
+    for root in roots {
+        greatest = greatest.max(root.db);
+    }
+    greatest
+}
+
+// What is wrong with the redo LSN.
+fn redo_corruption(files: &[FileNo], end: &Option<CheckpointEnd>) -> Option<Corruption>
+    requires { AreRisingNumbers files.now }
+    ensures { result ≡ redo_corruption_of (map (λ f. f.0) files.now) end.now }
+{
+    match end {
+        Some(end) => end_corruption(files, end),
+        None => gap_corruption(files),
+    }
+}
+
+// Reads the trees of the roots, and tells the first corruption up to the redo.
+fn read_trees<T: Loads>(
+    alloc: Global,
+    files: &[FileNo],
+    entries: &[PlacedEntry],
+    end: &CheckpointEnd,
+    corruption: Option<Corruption>,
+    trees: &mut T,
+) -> Result<WalkNumbers, ReadErr>
+    requires empty { (d : ℕ) → T.has_tree trees.old d ≡ false }
+    requires order { AreInOrder entries.now }
+    requires entries { AllByRecursion (λ p. IsEntry p.1) entries.now }
+    ensures read { IfOk result (λ numbers. (walk : Walk) × IsWalked (map (λ f. f.0) files.now) entries.now end.now numbers (T.stored trees.new) walk) }
+    ensures right { IfOk result (λ numbers. corruption ≡ None) }
+    ensures found { IfErr result (λ e. IsFoundBy e (λ c. and_then (read_roots_of (map (λ f. f.0) files.now) entries.now end.now.at end.now.roots) (λ walk. unless corruption (Ok walk)) ≡ Err c)) }
+{
+    let numbers = read_roots(alloc, files, entries, end, trees)?;
+    match corruption {
+        Some(corruption) => Err(ReadErr::Found(corruption)),
+        None => Ok(numbers),
+    }
+}
+
+/// What the entries of files of these numbers mean, or the first corruption behind those of the files.
+pub(crate) fn recover_entries<T: Loads + Drop>(
+    alloc: Global,
+    files: &[FileNo],
+    entries: Vec<PlacedEntry>,
+    trees: T,
+) -> Result<Meant<T>, ReadErr>
+    requires files { AreRisingNumbers files.now }
+    requires empty { (d : ℕ) → T.has_tree trees d ≡ false }
+    requires order { AreInOrder entries.items }
+    requires entries { AllByRecursion (λ p. IsEntry p.1) entries.items }
+    ensures meant { IfOk result (λ m. IsMeant (map (λ f. f.0) files.now) entries.items (record { store = m.settled.opening; last_txn = m.last_txn; last_node = m.last_node; last_db = m.last_db; checkpoint = m.checkpoint }) (T.has_tree m.settled.trees) (T.stored m.settled.trees) m.settled.databases m.settled.records) }
+    ensures found { IfErr result (λ e. IsFoundBy e (λ c. meaning_in (map (λ f. f.0) files.now) entries.items ≡ Err c)) }
+{
+    let end = last_end(alloc, &entries)?;
+    let corruption = redo_corruption(files, &end);
+    let end = or_none(alloc, end);
+    let mut trees = trees;
+    let walked = read_trees(alloc, files, &entries, &end, corruption, &mut trees)?;
+    let numbers = Numbers::of(&entries, end.redo);
+    let from = redo_begin(files, end.redo);
+    let last_node = end.last_node.max(walked.node.max(numbers.node));
+    let trees = redo_entries(alloc, trees, last_node, from, end.redo, entries)?;
+    let settled = settle(alloc, trees)?;
+    let roots_db = greatest_db(end.roots.as_slice());
+    Ok(Meant {
+        settled,
+        last_txn: end.last_txn.max(numbers.txn),
+        last_node,
+        last_db: end.last_db.max(roots_db.max(walked.db.max(numbers.db))),
+        checkpoint: end.number,
+    })
+}

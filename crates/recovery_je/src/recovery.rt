@@ -1,0 +1,123 @@
+// Recovery from the files of a disk.
+ghost use Rattle.std.specs.Prelude.{◌≡◌, ℕ, Bool, true, false, None, Err, IfOk, IfErr, OnOk};
+ghost use Rattle.je_disk.specs.Causes.{HasCause};
+ghost use Rattle.je_disk.specs.Moments.{now, Passes};
+ghost use Rattle.je_disk.specs.States.{Files, IsListing, AreRisingNumbers};
+ghost use Rattle.log_meaning.specs.Reading.{reading_of};
+ghost use Rattle.recovery_je.specs.Files.{AreRead, AreSound};
+ghost use Rattle.recovery_je.specs.Answer.{IsReadingOf, IsRecoveredFrom, IsCorruptBy, IsNoDiskErr, HasCauseOf, HasFiles};
+
+use crate::reading::{FilesRead, read_files};
+use crate::recover_err::RecoverErr;
+use crate::recovered::Recovered;
+use crate::recovering::{Meant, recover_entries};
+use crate::settling::Settled;
+use je_disk::{Disk, DiskErr};
+use je_lsn::FileNo;
+use record_tree::Loads;
+use std::alloc::Global;
+
+// What files come to that were read.
+fn recover_files<T: Loads + Drop>(
+    alloc: Global,
+    files: &[FileNo],
+    read: FilesRead,
+    trees: T,
+) -> Result<Recovered<T>, RecoverErr>
+    requires files { AreRisingNumbers files.now }
+    requires empty { (d : ℕ) → T.has_tree trees d ≡ false }
+    requires sound { AreSound read }
+    ensures recovered { (observable : Bool) (reads : Files) → AreRead observable reads files.now read → IfOk result (λ r. IsReadingOf observable reads files.now (IsRecoveredFrom (record { store = r.opening; last_txn = r.last_txn; last_node = r.last_node; last_db = r.last_db; checkpoint = r.checkpoint }) (T.has_tree r.trees) (T.stored r.trees) r.databases r.records r.tail)) }
+    ensures corrupt { (observable : Bool) (reads : Files) → AreRead observable reads files.now read → IfErr result (λ e. IsCorruptBy e (λ corruption. IsReadingOf observable reads files.now (λ held. reading_of held ≡ Err corruption))) }
+    ensures other { IfErr result IsNoDiskErr }
+{
+    match read {
+        FilesRead::Stopped(corruption) => {
+            drop(trees);
+            Err(RecoverErr::Corrupt(corruption))
+        }
+        FilesRead::All(entries, tail) => {
+            let meant = recover_entries(alloc, files, entries, trees)?;
+            let Meant {
+                settled,
+                last_txn,
+                last_node,
+                last_db,
+                checkpoint,
+            } = meant;
+            let Settled {
+                trees,
+                opening,
+                databases,
+                records,
+            } = settled;
+            Ok(Recovered {
+                trees,
+                opening,
+                databases,
+                records,
+                last_txn,
+                last_node,
+                last_db,
+                checkpoint,
+                tail,
+            })
+        }
+    }
+}
+
+/// Reads the files of a log whose numbers these are, rising, each once and whole, and makes the trees that
+/// they mean of trees that are empty. If the disk is observable, and these are all its files, they mean the
+/// store that the trees hold, with these numbers, or the corruption is their first. The disk's state stays
+/// the same, and so do the jobs that are out. `Disk` comes only where the disk counted a fault; Memory
+/// is free, and comes for a count of records beyond a u64's too.
+pub fn recover<D: Disk, T: Loads + Drop>(
+    alloc: Global,
+    disk: &mut D,
+    files: &[FileNo],
+    trees: T,
+) -> Result<Recovered<T>, RecoverErr>
+    requires files { AreRisingNumbers files.now }
+    requires empty { (d : ℕ) → T.has_tree trees d ≡ false }
+    ensures recovered { IfOk result (λ r. IsReadingOf D.observable (now (D.history disk.old)).reads files.now (IsRecoveredFrom (record { store = r.opening; last_txn = r.last_txn; last_node = r.last_node; last_db = r.last_db; checkpoint = r.checkpoint }) (T.has_tree r.trees) (T.stored r.trees) r.databases r.records r.tail)) }
+    ensures corrupt { IfErr result (λ e. IsCorruptBy e (λ corruption. IsReadingOf D.observable (now (D.history disk.old)).reads files.now (λ held. reading_of held ≡ Err corruption))) }
+    ensures same { D.observable ≡ true → now (D.history disk.new) ≡ now (D.history disk.old) }
+    ensures moments { D.observable ≡ true → Passes (D.history disk.old) (D.history disk.new) (λ s. s ≡ now (D.history disk.old)) }
+    ensures jobs { (D.sync_out disk.new ≡ D.sync_out disk.old) × (D.read_out disk.new ≡ D.read_out disk.old) × (D.read_of disk.new ≡ D.read_of disk.old) × (D.last_job disk.new ≡ D.last_job disk.old) }
+    ensures cause { HasCauseOf (D.faults disk.old) (D.faults disk.new) result }
+{
+    let read = read_files(alloc, disk, files)?;
+    recover_files(alloc, files, read, trees)
+}
+
+// Mounts the disk, and lists its files.
+fn list_files<D: Disk>(alloc: Global, disk: &mut D) -> Result<Vec<FileNo>, DiskErr>
+    ensures rising { IfOk result (λ files. AreRisingNumbers files.items) }
+    ensures listed { D.observable ≡ true → IfOk result (λ files. IsListing (now (D.history disk.old)).reads files.items) }
+    ensures same { D.observable ≡ true → now (D.history disk.new) ≡ now (D.history disk.old) }
+    ensures moments { D.observable ≡ true → Passes (D.history disk.old) (D.history disk.new) (λ s. s ≡ now (D.history disk.old)) }
+    ensures none_out { OnOk result (D.sync_out disk.new ≡ None) }
+    ensures cause { HasCause (D.faults disk.old) (D.faults disk.new) result }
+{
+    disk.mount()?;
+    disk.list(alloc)
+}
+
+/// Mounts the disk, and recovers the environment of the files that it has, in trees that are empty. Its
+/// clauses are those of `recover` for all files of an observable disk. No job is out afterwards.
+pub fn recover_disk<D: Disk, T: Loads + Drop>(
+    alloc: Global,
+    disk: &mut D,
+    trees: T,
+) -> Result<Recovered<T>, RecoverErr>
+    requires { (d : ℕ) → T.has_tree trees d ≡ false }
+    ensures recovered { IfOk result (λ r. HasFiles D.observable (now (D.history disk.old)).reads (IsRecoveredFrom (record { store = r.opening; last_txn = r.last_txn; last_node = r.last_node; last_db = r.last_db; checkpoint = r.checkpoint }) (T.has_tree r.trees) (T.stored r.trees) r.databases r.records r.tail)) }
+    ensures corrupt { IfErr result (λ e. IsCorruptBy e (λ corruption. HasFiles D.observable (now (D.history disk.old)).reads (λ held. reading_of held ≡ Err corruption))) }
+    ensures same { D.observable ≡ true → now (D.history disk.new) ≡ now (D.history disk.old) }
+    ensures moments { D.observable ≡ true → Passes (D.history disk.old) (D.history disk.new) (λ s. s ≡ now (D.history disk.old)) }
+    ensures none_out { OnOk result (D.sync_out disk.new ≡ None) }
+    ensures cause { HasCauseOf (D.faults disk.old) (D.faults disk.new) result }
+{
+    let files = list_files(alloc, disk)?;
+    recover(alloc, disk, &files, trees)
+}

@@ -1,0 +1,219 @@
+// Reading trees.
+ghost use Rattle.std.specs.Prelude.{◌≡◌, OnOk, map, option_map, option_copied};
+ghost use Rattle.std.specs.List.{AllByRecursion, flat_map, list_all};
+ghost use Rattle.log_entry.specs.Body.{IsEntry};
+ghost use Rattle.node_log.specs.Slots.{lsn_in};
+ghost use Rattle.log_trees.specs.Images.{named, slot_shown};
+ghost use Rattle.log_trees.specs.Sound.{is_within as is_name_within};
+ghost use Rattle.log_trees.specs.Placed.{AreInOrder};
+ghost use Rattle.log_trees.specs.Trees.{data_in};
+ghost use Rattle.log_trees.specs.Walk.{Walk, each, met, with_record, read_record as record_at, read_here as node_here, may_stand as node_may_stand};
+ghost use Rattle.recovery_je.specs.Walking.{Answers, IsWalking, GoesOn};
+
+use crate::images::{nowhere, read_image};
+use crate::lookup::entry_at;
+use crate::placed_entry::PlacedEntry;
+use crate::read_err::ReadErr;
+use crate::redoing::number_in;
+use je_lsn::{FileNo, Lsn};
+use je_order::{Name, Octets};
+use log_entry::Entry;
+use log_replay::Corruption;
+use node_core::{Marked, Node, Slot, Version};
+use record_tree::{LoadErr, Loads};
+use std::alloc::Global;
+
+/// A reading of trees under way: the trees, the numbers of the nodes that were read, and the greatest
+/// numbers of a node and of a database in a catalog record.
+#[derive(Drop)]
+pub(crate) struct Walking<T> {
+    pub(crate) trees: T,
+    pub(crate) seen: Vec<u64>,
+    pub(crate) node: u64,
+    pub(crate) db: u32,
+}
+
+// Puts a node that was read.
+fn meet<T: Loads>(
+    walking: &mut Walking<T>,
+    alloc: Global,
+    node: &Node,
+    low: &Name,
+    at: Lsn,
+) -> Result<(), LoadErr>
+    ensures { (walk : Walk) → IsWalking (T.stored walking.old.trees) walking.old.seen.items walking.old.node walking.old.db walk → OnOk result (IsWalking (T.stored walking.new.trees) walking.new.seen.items walking.new.node walking.new.db (met node.now walk)) }
+{
+    walking.trees.load_node(alloc, node, low, at)?;
+    if walking.seen.push(node.number).is_err() {
+        return Err(LoadErr::Memory);
+    }
+    walking.node = walking.node.max(node.number);
+    Ok(())
+}
+
+// Puts a record that was read.
+fn put_record<T: Loads>(
+    walking: &mut Walking<T>,
+    alloc: Global,
+    d: u32,
+    name: &Name,
+    lsn: Lsn,
+    value: &Octets,
+) -> Result<(), LoadErr>
+    ensures { (walk : Walk) → IsWalking (T.stored walking.old.trees) walking.old.seen.items walking.old.node walking.old.db walk → OnOk result (IsWalking (T.stored walking.new.trees) walking.new.seen.items walking.new.node walking.new.db (with_record d (name.now, lsn) value.now walk)) }
+{
+    walking.trees.load(alloc, d, name, lsn, value.as_slice())?;
+    walking.db = walking.db.max(number_in(d, value));
+    Ok(())
+}
+
+// The data that an entry gives a record.
+fn data_of<'a>(d: u32, name: &Name, entry: &'a Entry) -> Option<&'a Octets>
+    ensures { option_map (λ value. value.now) result ≡ data_in d name.now entry.now }
+{
+    match entry {
+        Entry::Put {
+            db,
+            name: at,
+            value,
+            ..
+        }
+        | Entry::Migrated {
+            db,
+            name: at,
+            value,
+        } => {
+            if *db == d && at.cmp(name).is_eq() {
+                Some(value)
+            } else {
+                None
+            }
+        }
+        _ => None,
+    }
+}
+
+// Reads the record that a slot of the image at an LSN names.
+fn read_record<T: Loads>(
+    walking: &mut Walking<T>,
+    alloc: Global,
+    files: &[FileNo],
+    entries: &[PlacedEntry],
+    d: u32,
+    at: Lsn,
+    name: &Name,
+    lsn: Lsn,
+) -> Result<(), ReadErr>
+    requires order { AreInOrder entries.now }
+    ensures { (walk : Walk) → IsWalking (T.stored walking.old.trees) walking.old.seen.items walking.old.node walking.old.db walk → GoesOn (record_at (map (λ f. f.0) files.now) entries.now d at (name.now, lsn) walk) (IsWalking (T.stored walking.new.trees) walking.new.seen.items walking.new.node walking.new.db) result }
+{
+    if lsn.as_u64() >= at.as_u64() {
+        return Err(ReadErr::Found(nowhere(files, lsn)));
+    }
+    let Some(entry) = entry_at(entries, lsn) else {
+        return Err(ReadErr::Found(nowhere(files, lsn)));
+    };
+    let Some(value) = data_of(d, name, entry) else {
+        return Err(ReadErr::Found(Corruption::Tree(lsn)));
+    };
+    put_record(walking, alloc, d, name, lsn, value)?;
+    Ok(())
+}
+
+// Reads the record that a slot of the image at an LSN names, if it names one.
+fn read_slot<T: Loads>(
+    walking: &mut Walking<T>,
+    alloc: Global,
+    files: &[FileNo],
+    entries: &[PlacedEntry],
+    d: u32,
+    at: Lsn,
+    slot: &Slot,
+) -> Result<(), ReadErr>
+    requires order { AreInOrder entries.now }
+    ensures { (walk : Walk) → IsWalking (T.stored walking.old.trees) walking.old.seen.items walking.old.node walking.old.db walk → GoesOn (each (record_at (map (λ f. f.0) files.now) entries.now d at) (named slot.now.name (lsn_in slot.now.version)) walk) (IsWalking (T.stored walking.new.trees) walking.new.seen.items walking.new.node walking.new.db) result }
+{
+    match slot.version {
+        Version::There(lsn) => {
+            read_record(walking, alloc, files, entries, d, at, &slot.name, lsn)
+        }
+        Version::Deleted | Version::Unset => Ok(()),
+    }
+}
+
+// Reads the records that the slots of the image at an LSN name.
+fn read_slots<T: Loads>(
+    walking: &mut Walking<T>,
+    alloc: Global,
+    files: &[FileNo],
+    entries: &[PlacedEntry],
+    d: u32,
+    at: Lsn,
+    slots: &[Marked],
+) -> Result<(), ReadErr>
+    requires order { AreInOrder entries.now }
+    ensures { (walk : Walk) → IsWalking (T.stored walking.old.trees) walking.old.seen.items walking.old.node walking.old.db walk → GoesOn (each (record_at (map (λ f. f.0) files.now) entries.now d at) (flat_map slot_shown slots.now) walk) (IsWalking (T.stored walking.new.trees) walking.new.seen.items walking.new.node walking.new.db) result }
+{
+    for marked in slots {
+        read_slot(walking, alloc, files, entries, d, at, &marked.slot)?;
+    }
+    Ok(())
+}
+
+// Whether a name lies within bounds, the lower one included.
+fn is_within(low: &Name, high: Option<&Name>, name: &Name) -> bool
+    ensures { result ≡ is_name_within low.now (option_copied high.entry) name.now }
+{
+    if name.cmp(low).is_lt() {
+        return false;
+    }
+    match high {
+        Some(high) => name.cmp(high).is_lt(),
+        None => true,
+    }
+}
+
+// Whether the names of all slots lie within bounds.
+fn are_within(low: &Name, high: Option<&Name>, slots: &[Marked]) -> bool
+    ensures { result ≡ list_all (λ m. is_name_within low.now (option_copied high.entry) m.slot.name) slots.now }
+{
+    for marked in slots {
+        if !is_within(low, high, &marked.slot.name) {
+            return false;
+        }
+    }
+    true
+}
+
+// Whether a node may stand at a level, within bounds, and behind nodes of these numbers.
+fn may_stand(node: &Node, level: u8, low: &Name, high: Option<&Name>, seen: &[u64]) -> bool
+    ensures { result ≡ node_may_stand level low.now (option_copied high.entry) seen.now node.now }
+{
+    node.level == level
+        && !seen.contains(&node.number)
+        && are_within(low, high, node.slots.as_slice())
+}
+
+// The node that the image at an LSN shows, if it may stand there, behind nodes of these numbers.
+fn read_here(
+    alloc: Global,
+    files: &[FileNo],
+    entries: &[PlacedEntry],
+    d: u32,
+    level: u8,
+    low: &Name,
+    high: Option<&Name>,
+    at: Lsn,
+    seen: &[u64],
+) -> Result<Node, ReadErr>
+    requires order { AreInOrder entries.now }
+    requires entries { AllByRecursion (λ p. IsEntry p.1) entries.now }
+    ensures { Answers (node_here (map (λ f. f.0) files.now) entries.now d level low.now (option_copied high.entry) at seen.now) result }
+{
+    let node = read_image(alloc, files, entries, d, at)?;
+    if may_stand(&node, level, low, high, seen) {
+        return Ok(node);
+    }
+    drop(node);
+    Err(ReadErr::Found(Corruption::Tree(at)))
+}
