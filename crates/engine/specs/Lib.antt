@@ -1,10 +1,11 @@
-pub mod Files
 pub mod Totals
 pub mod Untouched
 pub mod Environment
 pub mod Planning
 pub mod Logging
 pub mod Steps
+pub mod Files
+pub mod Limits
 pub mod Opening
 pub mod Crash
 pub mod Guarded

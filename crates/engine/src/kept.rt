@@ -1,7 +1,7 @@
 // What an open environment keeps in memory.
-use je_model::{Fault, Totals};
 use log_buffer::LogPos;
 use log_replay::Rows;
+use store_model::{Fault, Totals};
 
 /// The last file that a log may have: the greatest number that names a file.
 pub const LAST_FILE: u32 = 0xffff_fffe;

@@ -14,6 +14,9 @@ mod kept;
 mod logging;
 mod open_err;
 mod opening;
+mod planned;
+mod planned_changes;
+mod planned_row;
 mod planning;
 
 pub use closing::Closed;
