@@ -76,6 +76,10 @@ pub planned_may : (kept : Kept) (p : Alone) (session : ℕ) (call : Call) (plann
 planned_may kept p session call planned below log =
     may_all (kept.last_txn + 1) planned.rows (omega (arith, below)) (log.entries (kept.last_txn + 1) (omega (arith, below)))
 
+pub may_from : (txn : ℕ) (rows : List PlannedRow) → AllByRecursion IsEntry (entries_planned txn rows) → AllByRecursion MayFollow (entries_planned txn rows)
+may_from txn [] all = ((all.0, refl), tt)
+may_from txn (row ∷ rows) all = ((all.0, follows (row_by txn row)), may_from txn rows all.1)
+
 pub entries_of_may : (entries : List Entry) → AllByRecursion MayFollow entries → AllByRecursion IsEntry entries
 entries_of_may [] all = tt
 entries_of_may (e ∷ entries) all = (all.0.0, entries_of_may entries all.1)

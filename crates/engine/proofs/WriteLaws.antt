@@ -1,11 +1,16 @@
 -- Entries that are appended, and records that are changed, one after another.
-use Rattle.std.proofs.Common.{◌≡◌, ℕ, ◌+◌, ◌≤◌, Bool, Option, List, [], ◌∷◌, ◌++◌, Result, Ok, Err, IsErr, OnErr, OnOk, map, refl, ap, sym, ◌∙◌, subst, arith, append_assoc}
+use Rattle.std.proofs.Common.{◌≡◌, ℕ, ◌+◌, ◌<◌, ◌≤◌, ◌^◌, Bool, true, false, cond, nat_lt, if◌then◌else◌, Option, Some, None, List, [], ◌∷◌, ◌++◌, Result, Ok, Err, IsErr, OnErr, OnOk, map, refl, ap, sym, ◌∙◌, subst, arith, append_assoc}
+use Rattle.std.specs.Prelude.{unwrap_or}
+use Rattle.std.proofs.lemmas.Bool.{ltb-true, ltb-false}
 use Rattle.std.specs.declared.alloc.AllocError.{AllocError}
 use Rattle.std.specs.List.{AllByRecursion}
 use Rattle.je_disk.specs.Moments.{History}
 use Rattle.je_lsn.specs.Naming.{last_file}
 use Rattle.store_model.specs.declared.answer.Answer.{Answer}
 use Rattle.log_entry.specs.declared.entry.Entry.{Entry}
+use Rattle.std.proofs.lemmas.Bool.Decides.{nat_tests}
+use Rattle.log_entry.specs.Body.{IsEntry}
+use Rattle.log_entry.proofs.BodyLaws.{body_small}
 use Rattle.log_entry.specs.Encoding.{size_of}
 use Rattle.log_buffer.specs.declared.buffer.LogBuffer.{LogBuffer}
 use Rattle.log_buffer.specs.declared.error.LogErr.{LogErr}
@@ -13,7 +18,7 @@ use Rattle.log_buffer.specs.declared.error.LogErr.TheVariants.{Full, Fault, Dama
 use Rattle.log_buffer.specs.declared.log_pos.LogPos.{LogPos}
 use Rattle.log_buffer.specs.Buffer.{IsUnchanged}
 use Rattle.log_buffer.specs.Causes.{FailsByFault}
-use Rattle.log_buffer.specs.Flip.{end_after, end_after_all, placed_at}
+use Rattle.log_buffer.specs.Flip.{behind, end_after, end_after_all, goes_in, next_file, placed_at}
 use Rattle.log_buffer.specs.Growth.{Grew, Tried}
 use Rattle.log_buffer.proofs.GrowthLaws.{grew_then, grew_unchanged, tried_more, tried_then}
 use Rattle.log_buffer.proofs.UnchangedBuffer.{unwritten_same}
@@ -22,7 +27,7 @@ use Rattle.engine.specs.declared.kept.Kept.{Kept}
 use Rattle.engine.specs.declared.kept.TheConstants.{LAST_FILE}
 use Rattle.engine.specs.declared.planned_changes.PlannedChanges.{PlannedChanges}
 use Rattle.engine.specs.declared.planned_row.PlannedRow.{PlannedRow}
-use Rattle.engine.specs.Logging.{IsSame, rows_after}
+use Rattle.engine.specs.Logging.{IsSame, end_planned, entries_planned, rows_after}
 use Rattle.engine.specs.Steps.{LogsChanges, WritesRows}
 use Rattle.engine.proofs.FlipLaws.{files_rise}
 
@@ -74,3 +79,51 @@ module _ {D : Type 0} where
         LogsChanges observable history sync_out read_out read_of x y old new planned result
     logs_nothing x y old new planned (Ok answer) is same log = cc
     logs_nothing x y old new planned (Err error) is same log = (same, log)
+
+-- ---- the end behind them
+
+-- entries pass the last file
+pub end_none : (end : LogPos) (found : Option LogPos) → found ≡ None → found ≡ (if nat_lt LAST_FILE end.file then None else Some end) → LAST_FILE < end.file
+end_none end found none is = by_test (nat_lt LAST_FILE end.file) refl (sym none ∙ is)
+  where
+    by_test : (b : Bool) → nat_lt LAST_FILE end.file ≡ b → (let o : Option LogPos = None in o) ≡ cond b None (Some end) → LAST_FILE < end.file
+    by_test true e h = ltb-true LAST_FILE end.file e
+    by_test false e h = cc
+
+-- or they do not
+pub end_some : (end here : LogPos) (found : Option LogPos) → found ≡ Some here → found ≡ (if nat_lt LAST_FILE end.file then None else Some end) → (here ≡ end) × (end.file ≤ LAST_FILE)
+end_some end here found some is = by_test (nat_lt LAST_FILE end.file) refl (sym some ∙ is)
+  where
+    by_test : (b : Bool) → nat_lt LAST_FILE end.file ≡ b → (let o : Option LogPos = Some here in o) ≡ cond b None (Some end) → (here ≡ end) × (end.file ≤ LAST_FILE)
+    by_test true e h = cc
+    by_test false e h = (ap (λ (o : Option LogPos). unwrap_or o end) h, (let low = ltb-false LAST_FILE end.file e in omega (arith, low)))
+
+pub sizes_end : (kept : Kept) (planned : List PlannedRow) (entries : List Entry) (sizes : List ℕ) → entries ≡ entries_planned (kept.last_txn + 1) planned → sizes ≡ map size_of entries →
+    end_after_all kept.file_max kept.end sizes ≡ end_planned kept planned
+sizes_end kept planned entries sizes are is = ap (end_after_all kept.file_max kept.end) (is ∙ ap (map size_of) are)
+
+-- what is found then
+pub found_none : (end : LogPos) → LAST_FILE < end.file → (let o : Option LogPos = None in o) ≡ (if nat_lt LAST_FILE end.file then None else Some end)
+found_none end past = by_test (nat_lt LAST_FILE end.file) refl
+  where
+    by_test : (b : Bool) → nat_lt LAST_FILE end.file ≡ b → (let o : Option LogPos = None in o) ≡ cond b None (Some end)
+    by_test true e = refl
+    by_test false e = let low = ltb-false LAST_FILE end.file e in absurd (omega (arith, low, past))
+
+pub found_some : (end here : LogPos) → end ≡ here → here.file ≤ LAST_FILE → (let o : Option LogPos = Some here in o) ≡ (if nat_lt LAST_FILE end.file then None else Some end)
+found_some end here same room = subst (λ (e : LogPos). (let o : Option LogPos = Some here in o) ≡ (if nat_lt LAST_FILE e.file then None else Some e)) (sym same) (by_test (nat_lt LAST_FILE here.file) refl)
+  where
+    by_test : (b : Bool) → nat_lt LAST_FILE here.file ≡ b → (let o : Option LogPos = Some here in o) ≡ cond b None (Some here)
+    by_test true e = let past = ltb-true LAST_FILE here.file e in absurd (omega (arith, past, room))
+    by_test false e = refl
+
+-- the offset stays within a file
+bound_by : (here : Bool) (most : ℕ) (end : LogPos) (size : ℕ) → goes_in most end.offset size ≡ here → most ≤ 2 ^ 30 → size < 2 ^ 31 → (behind (cond here end (next_file end)) size).offset < 2 ^ 32
+bound_by true most end size is max small = grind (arith, nat_tests)
+bound_by false most end size is max small = omega arith
+
+pub all_bound : (most : ℕ) (end : LogPos) (entries : List Entry) → most ≤ 2 ^ 30 → AllByRecursion IsEntry entries → end.offset < 2 ^ 32 → (end_after_all most end (map size_of entries)).offset < 2 ^ 32
+all_bound most end [] max all here = here
+all_bound most end (e ∷ entries) max all here =
+    all_bound most (end_after most end (size_of e)) entries max all.1
+    (bound_by (goes_in most end.offset (size_of e)) most end (size_of e) refl max (let small = body_small e all.0 in omega (arith, small)))

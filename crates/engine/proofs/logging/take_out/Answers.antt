@@ -11,3 +11,9 @@ loop-at-preserved c d =
     rows_changed-same (map taken_at (into_iter_items c.next.new.self)) (row_changed (taken_at c.in-Some.at) (rows_in c.loop-at.rows)) (rows_in c.unset.new.self) c.unset.ensures.value d
     ∙ ap (λ (l : List (ℕ × Name)). rows_changed (map taken_at l) (rows_in c.loop-at.rows) d) (sym c.in-Some.ensures.steps.0)
     ∙ c.loop-at.invariant d
+
+pub loop-at-preserved-in-Some : goal.loop-at-preserved-in-Some
+loop-at-preserved-in-Some c d =
+    rows_changed-same (map taken_at (into_iter_items c.next.new.self)) (row_changed (taken_at c.in-Some.at) (rows_in c.loop-at.rows)) (rows_in c.unset.new.self) c.unset.ensures.value d
+    ∙ ap (λ (l : List (ℕ × Name)). rows_changed (map taken_at l) (rows_in c.loop-at.rows) d) (sym c.in-Some.ensures.steps.0)
+    ∙ c.loop-at.invariant d
