@@ -277,6 +277,12 @@ module _ {D : Type 0} (observable : Bool) (history : D → History) (sync_out re
 
 -- ---- a guarded run
 
+-- the log with the transaction of a call, and what was kept of it
+record IsAttempted (st : Standing) (base least : ℕ) (journal : List Event) (changes : List Change) (longer_log : Log) : Type 0 where
+  gap : HasNoGap longer_log
+  recovers : Recovers st.store base (attempts_of st journal ++ changes ∷ []) (entries_of longer_log)
+  synced : synced_of journal ≤ commits_in base least (entries_of longer_log)
+
 -- the event of a call's answer
 abbrev call_event : ℕ → ℕ → Call → Answer → Event
 call_event session line call answer = Called session line call answer []
@@ -329,12 +335,6 @@ module _ {D : Type 0} where
         faultless = g.faultless;
         files = subst (λ (h : History). (k : ℕ) → start.moment ≤ k → k ≤ h.moment → FilesStay (now start).reads (h.state_at k).reads) alike g.files;
       }
-
-  -- the log with the transaction of a call, and what was kept of it
-  record IsAttempted (st : Standing) (base least : ℕ) (journal : List Event) (changes : List Change) (longer_log : Log) : Type 0 where
-    gap : HasNoGap longer_log
-    recovers : Recovers st.store base (attempts_of st journal ++ changes ∷ []) (entries_of longer_log)
-    synced : synced_of journal ≤ commits_in base least (entries_of longer_log)
 
   attempted : (most : ℕ) (st : Standing) (log : Log) (start : History) (history : History) (buffer : LogBuffer D) (kept : Kept) (journal : List Event) (p : Alone) (session : ℕ) (call : Call) (planned : PlannedChanges) →
       AreAlone most true (now history) buffer kept p → p.fault ≡ None → (g : IsGuardedLog st log start history buffer journal None) → IsKeeping (now history) buffer log g.least None →

@@ -1,4 +1,4 @@
-use Rattle.std.proofs.Common.{◌≡◌, ◌≤◌, ◌<◌, ◌^◌, ◌+◌, ℕ, Bool, List, true, false, None, Some, Result, Ok, Err, ◌∙◌, sym, subst, ap, refl, arith}
+use Rattle.std.proofs.Common.{◌≡◌, ◌≤◌, ◌<◌, ◌^◌, ◌+◌, ℕ, Bool, List, true, false, true≢false, None, Some, Result, Ok, Err, ◌∙◌, sym, subst, ap, refl, arith}
 use Rattle.std.specs.declared.alloc.AllocError.{AllocError}
 use Rattle.je_disk.specs.Moments.{now}
 use Rattle.store_model.specs.declared.answer.Answer.{Answer}
@@ -24,7 +24,7 @@ use Rattle.engine.proofs.StepLaws.{drawn_at, entries_of_may, planned_may}
 use Rattle.engine.proofs.engine.Engine.step.Goals as goal
 
 pub plan-requires-clause-can : goal.plan-requires-clause-can
-plan-requires-clause-can g c κs within =
+plan-requires-clause-can g c =
     let kept = c.args.self.now.kept in
     let log = c.args.self.now.log in
     let here = c.requires.here.2 in
@@ -210,3 +210,12 @@ returns-in-Logs-clause-crash g c = λ observed most st start journal here is.
     safely_as_one most st start (g.D.Disk.history (disk_of new.log)) new journal c.args.session c.args.line c.args.call.now c.log.result
     (guarded_logs g.D.Disk.observable g.D.Disk.history g.D.Disk.sync_out g.D.Disk.read_out g.D.Disk.read_of most st is.0 start engine.log new.log engine.kept new.kept journal p c.args.session c.args.line c.args.call.now c.in-Logs.planned c.log.result
     observed here.st_is here.here none c.requires.call c.if-self-ge-LAST_TXN.false (omega (arith, small)) planned c.log.ensures.logs is.1)
+
+pub returns-in-Answered-clause-cause : goal.returns-in-Answered-clause-cause
+returns-in-Answered-clause-cause g c =
+    let kept = c.args.self.now.kept in
+    let here = c.requires.here.2 in
+    let p = here.alone_at in
+    let planned = subst (λ (x : Planned). IsPlanned kept p c.args.session c.args.call.now x) c.in-Answered.is (c.in_ok-answer.ensures p c.args.session (model kept p here.here (sym here.here.fault ∙ c.in_default.is))) in
+    let calm : is_disk_fault c.in-Answered.answer ≡ false = sym (ap (λ (o : Outcome). is_disk_fault o.answer) planned) ∙ outcome_calm p c.args.session c.args.call.now c.requires.call in
+    record { never_falls = omega arith; fault = λ e. absurd (true≢false (sym (ap is_disk_fault e) ∙ calm)) }
