@@ -1,5 +1,5 @@
 -- What a call attempts to commit where nothing is under way.
-use Rattle.std.proofs.Common.{◌≡◌, ℕ, List, [], ◌∷◌, Option, None, Some, refl, ap, sym, ◌∙◌}
+use Rattle.std.proofs.Common.{◌≡◌, ℕ, List, [], ◌∷◌, Option, None, Some, refl, ap, ◌∙◌}
 use Rattle.store_model.specs.declared.answer.Answer.{Answer}
 use Rattle.store_model.specs.declared.answer.Fault.{Fault}
 use Rattle.store_model.specs.declared.call.Call.{Call}
@@ -9,14 +9,13 @@ use Rattle.store_model.specs.declared.need.Need.{Need}
 use Rattle.store_model.specs.Refusals.{or_refusal}
 use Rattle.db_catalog.specs.Planning.{outcome_unless}
 use Rattle.je_answers.specs.Standing.{Standing}
-use Rattle.je_answers.specs.Views.{Target, changes_on, needs_in, target_of}
+use Rattle.je_answers.specs.Views.{Target, needs_in, target_of}
 use Rattle.je_answers.specs.Refusals.{early_refusal, fault_refusal, late_refusal, txn_refusal}
-use Rattle.je_answers.specs.Locking.{first_blocked}
 use Rattle.je_answers.specs.Events.{auto_active, begun}
 use Rattle.je_answers.specs.After.{Fate}
 use Rattle.je_answers.specs.After.Fate.{Succeeds, IsRefused, Faults}
 use Rattle.je_answers.specs.Journal.{changes_evaluated, changes_in, changes_of, changes_performed, changes_taken, tried}
-use Rattle.je_answers.specs.Alone.{Alone, IsAutoCommitted, alone, evaluated_on}
+use Rattle.je_answers.specs.Alone.{Alone, IsAutoCommitted, alone}
 use Rattle.je_answers.proofs.Unlocked.{none_own, none_stopped}
 use Rattle.engine.specs.Planning.{outcome_alone, outcome_on, performed_outcome}
 

@@ -1,7 +1,6 @@
 -- A call goes on as the model does, and a guarded run by it.
-use Rattle.std.proofs.Common.{◌≡◌, ℕ, suc, ◌+◌, ◌*◌, ◌<◌, ◌≤◌, ◌^◌, Bool, true, false, cond, nat_lt, List, [], ◌∷◌, ◌++◌, Option, Some, None, Result, Ok, Err, IsErr, IfOk, length, map, refl, ap, sym, ◌∙◌, subst, arith, ◌⊎◌, inl, inr}
+use Rattle.std.proofs.Common.{◌≡◌, ℕ, suc, ◌+◌, ◌<◌, ◌≤◌, Bool, true, false, cond, nat_lt, List, [], ◌∷◌, ◌++◌, Option, Some, None, Result, Ok, Err, IsErr, IfOk, length, map, refl, ap, sym, ◌∙◌, subst, arith, ◌⊎◌, inl, inr}
 use Rattle.std.specs.declared.alloc.AllocError.{AllocError}
-use Rattle.std.specs.List.{AllByRecursion}
 use Rattle.std.proofs.lemmas.Bool.{ltb-true, ltb-false}
 use Rattle.std.proofs.lemmas.List.{length-append}
 use Rattle.je_disk.specs.States.{State}
@@ -9,7 +8,6 @@ use Rattle.je_disk.specs.Moments.{History, now}
 use Rattle.je_lsn.specs.Naming.{last_file}
 use Rattle.store_model.specs.declared.answer.Answer.{Answer}
 use Rattle.store_model.specs.declared.answer.Answer.TheVariants.{Logged, LogFull, IdsEnded, DiskFault}
-use Rattle.store_model.specs.declared.answer.Fault.TheVariants.{Disk}
 use Rattle.store_model.specs.declared.call.Call.{Call}
 use Rattle.store_model.specs.declared.change.Change.{Change}
 use Rattle.store_model.specs.declared.event.Event.{Event}
@@ -19,7 +17,7 @@ use Rattle.je_answers.specs.Standing.{Standing}
 use Rattle.je_answers.specs.Alone.{Alone, IsAutoCommitted, after_alone, alone, committed_alone, drawn_alone, faulted_alone}
 use Rattle.je_answers.specs.After.{after_event, after_events}
 use Rattle.je_answers.specs.Events.{IsAnswered}
-use Rattle.je_answers.specs.Journal.{answers_some, attempt_of, attempts_of, changes_by, changes_of, durable_by, is_disk_fault, synced_of}
+use Rattle.je_answers.specs.Journal.{answers_some, attempt_of, attempts_of, changes_of, durable_by, is_disk_fault, synced_of}
 use Rattle.je_answers.specs.Refusals.{early_refusal}
 use Rattle.je_answers.proofs.AloneLaws.{calls-stay_alone}
 use Rattle.je_answers.proofs.Journals.{after_events-append}
@@ -31,8 +29,7 @@ use Rattle.log_buffer.specs.declared.log_pos.LogPos.{LogPos}
 use Rattle.log_buffer.specs.Buffer.{IsUnchanged, disk_of, end_of, file_max_of, has_failed, last_of}
 use Rattle.log_buffer.specs.Crash.{FilesStay, KeepsRead, KeptThrough}
 use Rattle.log_buffer.specs.Flip.{end_after_all}
-use Rattle.log_buffer.specs.Growth.{Grew, Tried, longer}
-use Rattle.log_buffer.specs.Log.{HasLog}
+use Rattle.log_buffer.specs.Growth.{longer}
 use Rattle.log_buffer.proofs.CrashSync.{count_kept}
 use Rattle.log_buffer.proofs.GrowthLaws.{ends_in, read_with_all}
 use Rattle.log_buffer.proofs.Staying.{read_through}
@@ -45,24 +42,22 @@ use Rattle.crash_meaning.specs.Recovery.{Recovers, commits_in}
 use Rattle.crash_meaning.proofs.RecoveryLaws.{commits-front, longer_logs_recover}
 use Rattle.engine.specs.declared.kept.Kept.{Kept}
 use Rattle.engine.specs.declared.kept.TheConstants.{LAST_FILE}
-use Rattle.engine.specs.declared.planned.Planned.TheVariants.{Answered}
 use Rattle.engine.specs.declared.planned_changes.PlannedChanges.{PlannedChanges}
 use Rattle.engine.specs.declared.engine.Engine.{Engine}
 use Rattle.engine.specs.Whole.{GoesOn, GoesOnSafely, IsAt, IsGuarded}
-use Rattle.engine.specs.Environment.{AreAlone, AreAt, IsValid}
+use Rattle.engine.specs.Environment.{AreAlone, AreAt}
 use Rattle.engine.specs.Crash.{AreSafeEvents, Follows}
 use Rattle.engine.specs.Guarded.{IsGuardedLog, IsKeeping, IsKept as IsSafeKept}
 use Rattle.engine.specs.Limits.{IsBounded, limit_of, most_logged}
 use Rattle.engine.specs.Totals.{totals_of}
 use Rattle.engine.specs.Logging.{SetsLast, drawn_kept, end_planned, entries_planned}
-use Rattle.engine.specs.Planning.{EndsAlone, HasModel, CanPlan, IsPlanned, IsPlannedLog, outcome_alone, row_by}
+use Rattle.engine.specs.Planning.{EndsAlone, HasModel, CanPlan, IsPlannedLog, row_by}
 use Rattle.engine.specs.Steps.{Fits, LogsChanges}
-use Rattle.engine.proofs.AttemptLaws.{alone_changes, tried_none, tried_refused, tried_some}
+use Rattle.engine.proofs.AttemptLaws.{alone_changes, tried_refused, tried_some}
 use Rattle.engine.proofs.FlipLaws.{files_few}
-use Rattle.engine.proofs.GrownLaws.{IsLongerByAll}
 use Rattle.engine.proofs.GuardLaws.{goes_freely, guarded_quiet, keeping_read, keeping_unchanged, one_log}
 use Rattle.engine.proofs.ObservedLaws.{as_observed, of_observed}
-use Rattle.engine.proofs.PlanLaws.{answered_ends, full_ends, ids_ends, fault_ends, logged_ends}
+use Rattle.engine.proofs.PlanLaws.{full_ends, ids_ends, fault_ends, logged_ends}
 use Rattle.engine.proofs.SafeLaws.{attempts-push, guarded_on}
 use Rattle.engine.proofs.ShapeLaws.{IsSimple, planned_simple, rows_few, sets_last}
 use Rattle.engine.proofs.StepLaws.{drawn_at, entries_are, faulted_at, grown, logged_at, planned_may, same_at}
@@ -403,13 +398,14 @@ module _ {D : Type 0} where
           has = of_observed observable (now (history (disk_of other))) other (longer buffer entries log) observed (grew.log log has);
           whole = tried_.gap.whole;
           holds = grew.holds observed log [] g.least None has keeping.holds;
-        } in
-        (longer buffer entries log,
-        guarded_attempt st log start (history (disk_of buffer)) (history (disk_of other)) buffer other journal event (planned_log.change ∷ planned_log.more) (longer buffer entries log) p
-        (committed_alone (planned_log.change ∷ planned_log.more) (drawn_alone p)) g tried_ stands (stays.leaves ∙ ap alone leaves) none
-        (tried_some (changes_of (early_refusal (alone p) session call) (alone p) session call) planned_log.change planned_log.more (alone_changes p session call none is ∙ planned_log.changes)).0 refl
-        (grew.crash observed log [] g.least None has keeping.holds) (keeping_read (now (history (disk_of other))) other (longer buffer entries log) g.least None kept)
-        (λ fault. (kept, refl)) (λ ok. none))
+        } in (
+          longer buffer entries log,
+          guarded_attempt st log start (history (disk_of buffer)) (history (disk_of other)) buffer other journal event (planned_log.change ∷ planned_log.more) (longer buffer entries log) p
+              (committed_alone (planned_log.change ∷ planned_log.more) (drawn_alone p)) g tried_ stands (stays.leaves ∙ ap alone leaves) none
+              (tried_some (changes_of (early_refusal (alone p) session call) (alone p) session call) planned_log.change planned_log.more (alone_changes p session call none is ∙ planned_log.changes)).0 refl
+              (grew.crash observed log [] g.least None has keeping.holds) (keeping_read (now (history (disk_of other))) other (longer buffer entries log) g.least None kept)
+              (λ fault. (kept, refl)) (λ ok. none),
+        )
     guarded_logs most st log start buffer other old new journal p session line call planned (Ok DiskFault) observed stands at none is below low planned_log logs g =
         let event : Event = call_event session line call DiskFault in
         let entries = entries_planned (old.last_txn + 1) planned.rows in
@@ -421,23 +417,28 @@ module _ {D : Type 0} where
         let tried = logs.2 in
         let tried_ = attempted most st log start (history (disk_of buffer)) buffer old journal p session call planned
         (subst (λ (t : Bool). AreAlone most t (now (history (disk_of buffer))) buffer old p) observed at) none g keeping below planned_log logs.1 in
-        let through = tried.crash observed log [] g.least None has keeping.holds in
-        (longer buffer entries log,
-        guarded_attempt st log start (history (disk_of buffer)) (history (disk_of other)) buffer other journal event (planned_log.change ∷ planned_log.more) (longer buffer entries log) p
-        (faulted_alone p) g tried_ stands (stays.leaves ∙ ap alone leaves) none
-        (tried_some (changes_of (early_refusal (alone p) session call) (alone p) session call) planned_log.change planned_log.more (alone_changes p session call none is ∙ planned_log.changes)).1 refl
-        through
-        (passes_now (history (disk_of buffer)) (history (disk_of other)) (KeepsRead (longer buffer entries log) [] g.least)
-        (read_through (longer buffer entries log) [] g.least (history (disk_of buffer)) (history (disk_of other)) through)
-        (read_with_all log [] (end_of buffer) (file_max_of buffer) g.least entries (now (history (disk_of buffer))) (ends_in log (end_of buffer) (last_of buffer) keeping.has.is_log keeping.has.ends) g.kept.keeps))
-        (λ fault. absurd cc) (λ ok. (let failed = tried.failed in absurd cc)))
-    guarded_logs most st log start buffer other old new journal p session line call planned (Ok LogFull) observed stands at none is below low planned_log logs g =
-        (log, guarded_calm_along history st log start buffer other journal p (drawn_alone p) session line call LogFull logs.2 stands is (full_ends old p session call planned none is planned_log).leaves refl refl
-        (tried_refused (changes_of (early_refusal (alone p) session call) (alone p) session call)) g)
-    guarded_logs most st log start buffer other old new journal p session line call planned (Ok IdsEnded) observed stands at none is below low planned_log logs g =
-        (log, guarded_calm_along history st log start buffer other journal p (drawn_alone p) session line call IdsEnded logs.3 stands is
-        (ids_ends old p session call planned none is (model old p at none) planned_log low logs.1).leaves refl refl
-        (tried_refused (changes_of (early_refusal (alone p) session call) (alone p) session call)) g)
+        let through = tried.crash observed log [] g.least None has keeping.holds in (
+          longer buffer entries log,
+          guarded_attempt st log start (history (disk_of buffer)) (history (disk_of other)) buffer other journal event (planned_log.change ∷ planned_log.more) (longer buffer entries log) p
+              (faulted_alone p) g tried_ stands (stays.leaves ∙ ap alone leaves) none
+              (tried_some (changes_of (early_refusal (alone p) session call) (alone p) session call) planned_log.change planned_log.more (alone_changes p session call none is ∙ planned_log.changes)).1 refl
+              through
+              (passes_now (history (disk_of buffer)) (history (disk_of other)) (KeepsRead (longer buffer entries log) [] g.least)
+              (read_through (longer buffer entries log) [] g.least (history (disk_of buffer)) (history (disk_of other)) through)
+              (read_with_all log [] (end_of buffer) (file_max_of buffer) g.least entries (now (history (disk_of buffer))) (ends_in log (end_of buffer) (last_of buffer) keeping.has.is_log keeping.has.ends) g.kept.keeps))
+              (λ fault. absurd cc) (λ ok. (let failed = tried.failed in absurd cc)),
+        )
+    guarded_logs most st log start buffer other old new journal p session line call planned (Ok LogFull) observed stands at none is below low planned_log logs g = (
+      log,
+      guarded_calm_along history st log start buffer other journal p (drawn_alone p) session line call LogFull logs.2 stands is (full_ends old p session call planned none is planned_log).leaves refl refl
+          (tried_refused (changes_of (early_refusal (alone p) session call) (alone p) session call)) g,
+    )
+    guarded_logs most st log start buffer other old new journal p session line call planned (Ok IdsEnded) observed stands at none is below low planned_log logs g = (
+      log,
+      guarded_calm_along history st log start buffer other journal p (drawn_alone p) session line call IdsEnded logs.3 stands is
+          (ids_ends old p session call planned none is (model old p at none) planned_log low logs.1).leaves refl refl
+          (tried_refused (changes_of (early_refusal (alone p) session call) (alone p) session call)) g,
+    )
     guarded_logs most st log start buffer other old new journal p session line call planned (Ok answer) observed stands at none is below low planned_log logs g = absurd logs
     guarded_logs most st log start buffer other old new journal p session line call planned (Err error) observed stands at none is below low planned_log logs g =
         let before : (after_events st journal).fault ≡ None = ap (λ (s : Standing). s.fault) stands ∙ none in

@@ -1,9 +1,8 @@
 -- Planned changes of records, made with the last one first.
-use Rattle.std.proofs.Common.{◌≡◌, ◌≢◌, ℕ, ◌==◌, ◌<◌, ◌^◌, ◌≤◌, cond, Bool, true, false, not, filter, List, [], ◌∷◌, ◌++◌, Option, None, Some, map, refl, ap, ap₂, sym, ◌∙◌, subst, ◌⊎◌, inl, inr, arith}
+use Rattle.std.proofs.Common.{◌≡◌, ℕ, ◌==◌, cond, Bool, true, false, not, filter, List, [], ◌∷◌, ◌++◌, Option, None, Some, map, refl, ap, ap₂, sym, ◌∙◌, subst, ◌⊎◌, inl, inr}
 use Rattle.std.specs.List.{AllByRecursion}
 use Rattle.std.specs.Ordering.{is_eq, is_gt, is_lt}
 use Rattle.std.proofs.lemmas.List.Elements.{filter-append}
-use Rattle.std.proofs.lemmas.List.{append-nil}
 use Rattle.je_order.specs.Order.{name_cmp}
 use Rattle.je_order.specs.declared.name.Name.{Name}
 use Rattle.log_replay.specs.Rows.{Row, RowChange, Rows, row_changed, rows_changed, rows_with}

@@ -9,7 +9,6 @@ use Rattle.store_model.specs.declared.event.Event.{Event}
 use Rattle.store_model.specs.declared.store.Store.{Store}
 use Rattle.store_model.specs.Store.{store_after}
 use Rattle.je_answers.specs.Standing.{Standing}
-use Rattle.je_answers.specs.After.{after_events}
 use Rattle.je_answers.specs.Journal.{has_answer, is_disk_fault}
 use Rattle.log_file.specs.Log.{Log, entries_of}
 use Rattle.log_buffer.specs.declared.buffer.LogBuffer.{LogBuffer}

@@ -1,5 +1,5 @@
 -- An environment that was opened is a guarded run that begins.
-use Rattle.std.proofs.Common.{◌≡◌, ℕ, true, false, List, [], ◌∷◌, ◌++◌, Option, Some, None, Result, Ok, Err, IfOk, IfErr, OnOk, is_err, length, refl, ap, sym, ◌∙◌, subst}
+use Rattle.std.proofs.Common.{◌≡◌, ℕ, true, false, [], ◌∷◌, ◌++◌, None, Result, Ok, Err, IfOk, IfErr, OnOk, is_err, length, refl, ◌∙◌, subst}
 use Rattle.std.proofs.lemmas.List.{append-nil}
 use Rattle.je_disk.specs.States.{Files, synced_crash_states}
 use Rattle.je_disk.specs.Moments.{History, now}

@@ -6,11 +6,9 @@ use mathlib.Core.Path.{fun_ext}
 use Rattle.je_disk.specs.States.{State}
 use Rattle.je_disk.specs.Moments.{History, now}
 use Rattle.store_model.specs.declared.change.Change.{Change}
-use Rattle.store_model.specs.declared.answer.Fault.{Fault}
 use Rattle.store_model.specs.declared.answer.Fault.TheVariants.{Disk}
 use Rattle.store_model.specs.declared.call.Call.{Call}
-use Rattle.store_model.specs.declared.store.Store.{Store}
-use Rattle.store_model.specs.declared.store.TheConstants.{LAST_DATABASE, LAST_TXN}
+use Rattle.store_model.specs.declared.store.TheConstants.{LAST_TXN}
 use Rattle.store_model.specs.Store.{all_changed}
 use Rattle.store_model.specs.Refusals.{made_by, next_txn}
 use Rattle.je_answers.specs.Alone.{Alone, committed_alone, drawn_alone}
@@ -36,8 +34,8 @@ use Rattle.engine.specs.declared.kept.Kept.{Kept}
 use Rattle.engine.specs.declared.kept.TheConstants.{LAST_FILE}
 use Rattle.engine.specs.declared.planned_changes.PlannedChanges.{PlannedChanges}
 use Rattle.engine.specs.declared.planned_row.PlannedRow.{PlannedRow}
-use Rattle.engine.specs.Environment.{AreAlone, IsAtEnd, IsValid, IsWholeLog}
-use Rattle.engine.specs.Logging.{HasFaulted, HasLogged, IsSame, drawn_kept, end_planned, entries_planned, rows_after}
+use Rattle.engine.specs.Environment.{AreAlone, IsAtEnd, IsWholeLog}
+use Rattle.engine.specs.Logging.{HasFaulted, HasLogged, IsSame, drawn_kept, end_planned, entries_planned}
 use Rattle.engine.specs.Planning.{IsPlannedLog, row_by}
 use Rattle.engine.specs.Steps.{Fits}
 use Rattle.engine.proofs.GrownLaws.{IsLongerByAll, MayFollow, longer_by_all}

@@ -1,7 +1,7 @@
 -- An engine as one value, from its parts.
 use Rattle.std.proofs.Common.{◌≡◌, ◌↔◌, ℕ, ◌∙◌, Bool, true, false, None, Result, Ok, Err, IsErrOf, refl, ap, sym, subst}
 use Rattle.je_disk.specs.States.{Files, State}
-use Rattle.je_disk.specs.Moments.{History, now}
+use Rattle.je_disk.specs.Moments.{History}
 use Rattle.store_model.specs.declared.store.Store.{Store}
 use Rattle.je_answers.specs.Standing.{Standing}
 use Rattle.log_buffer.specs.declared.buffer.LogBuffer.{LogBuffer}

@@ -1,5 +1,5 @@
 -- An open environment beside the model: its log, what it keeps in memory, and where the model stands.
-use Rattle.std.specs.Prelude.{ℕ, ◌≡◌, ◌≤◌, List, None, Bool, false, map}
+use Rattle.std.specs.Prelude.{ℕ, ◌≡◌, None, Bool, false, map}
 use Rattle.je_disk.specs.States.{State}
 use Rattle.store_model.specs.declared.store.Store.{Store}
 use Rattle.je_answers.specs.Standing.{Standing}

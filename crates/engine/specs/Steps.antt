@@ -1,5 +1,5 @@
 -- What one step of an environment does, beside the model.
-use Rattle.std.specs.Prelude.{ℕ, ◌≡◌, ◌≤◌, ◌<◌, ◌+◌, ◌^◌, List, Option, Some, Bool, Result, Ok, Err, IfOk, IsErrOf}
+use Rattle.std.specs.Prelude.{ℕ, ◌≡◌, ◌≤◌, ◌<◌, ◌+◌, ◌^◌, List, Option, Bool, Result, Ok, Err, IfOk, IsErrOf}
 use Rattle.std.specs.declared.alloc.AllocError.{AllocError}
 use Rattle.je_order.specs.Counts.{HasRisen}
 use Rattle.je_disk.specs.Moments.{History}

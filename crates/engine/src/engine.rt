@@ -107,7 +107,14 @@ impl<D: Disk> Engine<D> {
             self.kept.last_txn = txn;
             return Ok(Answer::IdsEnded);
         }
-        match write_rows(&mut self.log, &mut self.kept.rows, alloc, rows, entries, &sizes) {
+        match write_rows(
+            &mut self.log,
+            &mut self.kept.rows,
+            alloc,
+            rows,
+            entries,
+            &sizes,
+        ) {
             Ok(()) => {
                 self.kept.last_txn = txn;
                 self.kept.commits += 1;

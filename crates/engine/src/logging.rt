@@ -46,11 +46,7 @@ fn entry_of(alloc: Global, txn: u64, row: &PlannedRow) -> Result<Entry, AllocErr
 }
 
 /// The entries of a transaction with planned changes, its commit last.
-pub fn entries_of(
-    alloc: Global,
-    txn: u64,
-    rows: &[PlannedRow],
-) -> Result<Vec<Entry>, AllocError>
+pub fn entries_of(alloc: Global, txn: u64, rows: &[PlannedRow]) -> Result<Vec<Entry>, AllocError>
     ensures { IfOk result (λ entries. entries.items ≡ entries_planned txn rows.now) }
 {
     let mut entries = Vec::new(alloc);

@@ -1,10 +1,9 @@
-use Rattle.std.proofs.Common.{◌≡◌, ◌≤◌, ◌<◌, ◌^◌, ◌+◌, ℕ, List, map, ◌∙◌, ap, sym, subst, arith}
+use Rattle.std.proofs.Common.{◌≤◌, ◌<◌, ◌^◌, ◌+◌, ℕ, List, map, ◌∙◌, ap, sym, subst, arith}
 use Rattle.std.specs.List.{AllByRecursion}
 use Rattle.log_entry.specs.declared.entry.Entry.{Entry}
 use Rattle.log_entry.specs.Encoding.{size_of}
 use Rattle.log_buffer.specs.declared.log_pos.LogPos.{LogPos}
-use Rattle.engine.specs.declared.kept.TheConstants.{LAST_FILE}
-use Rattle.engine.specs.Logging.{end_planned, entries_planned}
+use Rattle.engine.specs.Logging.{entries_planned}
 use Rattle.engine.proofs.GrownLaws.{MayFollow}
 use Rattle.engine.proofs.StepLaws.{may_from}
 use Rattle.engine.proofs.WriteLaws.{all_bound, end_some, sizes_end}

@@ -1,23 +1,17 @@
-use Rattle.std.proofs.Common.{◌≡◌, ◌≤◌, ◌<◌, ◌^◌, ◌+◌, ℕ, Bool, List, true, false, true≢false, None, Some, Result, Ok, Err, ◌∙◌, sym, subst, ap, refl, arith}
-use Rattle.std.specs.declared.alloc.AllocError.{AllocError}
+use Rattle.std.proofs.Common.{◌≡◌, ◌≤◌, ◌+◌, false, true≢false, None, Ok, ◌∙◌, sym, subst, ap, refl, arith}
 use Rattle.je_disk.specs.Moments.{now}
-use Rattle.store_model.specs.declared.answer.Answer.{Answer}
 use Rattle.store_model.specs.declared.answer.Answer.TheVariants.{IdsEnded, Invalid}
-use Rattle.store_model.specs.declared.change.Change.{Change}
 use Rattle.store_model.specs.Evaluation.{Outcome}
 use Rattle.je_answers.specs.Standing.{Standing}
-use Rattle.je_answers.specs.Alone.{alone, drawn_alone}
-use Rattle.je_answers.specs.After.{after_events}
+use Rattle.je_answers.specs.Alone.{drawn_alone}
 use Rattle.je_answers.specs.Journal.{changes_of, is_disk_fault}
 use Rattle.je_answers.specs.Refusals.{early_refusal}
 use Rattle.log_buffer.specs.Buffer.{disk_of}
 use Rattle.engine.specs.declared.planned.Planned.{Planned}
-use Rattle.engine.specs.declared.planned.Planned.TheVariants.{Answered, Logs}
 use Rattle.engine.specs.Limits.{most_logged}
-use Rattle.engine.specs.Planning.{IsPlanned, outcome_alone}
-use Rattle.engine.specs.Whole.{end_file}
+use Rattle.engine.specs.Planning.{IsPlanned}
 use Rattle.engine.proofs.AttemptLaws.{alone_changes, fault_changes, tried_none, tried_refused}
-use Rattle.engine.proofs.CallLaws.{IsEnded, answers_exactly, can_plan, goes_on_by, guarded_calm, guarded_logs, logs_end, logs_grow, model, no_memory, no_memory_safely, none_answered, planned_sets, safely_as_one}
+use Rattle.engine.proofs.CallLaws.{answers_exactly, can_plan, goes_on_by, guarded_calm, guarded_logs, logs_end, logs_grow, model, no_memory, no_memory_safely, none_answered, planned_sets, safely_as_one}
 use Rattle.engine.proofs.PlanLaws.{answered_ends, invalid_ends, no_number_ends}
 use Rattle.engine.proofs.ShapeLaws.{outcome_calm}
 use Rattle.engine.proofs.StepLaws.{drawn_at, entries_of_may, planned_may}
@@ -71,10 +65,12 @@ pub returns-in-Some-clause-crash : goal.returns-in-Some-clause-crash
 returns-in-Some-clause-crash g c = λ observed most st start journal here is.
     let engine = c.args.self.now in
     let p = here.alone_at in
-    let fault = sym here.here.fault ∙ c.in-Some.is in
-    (is.0, guarded_calm st is.0 start (g.D.Disk.history (disk_of engine.log)) engine.log journal p p c.args.session c.args.line c.args.call.now (Invalid c.in-Some.first) here.st_is c.requires.call
-    (invalid_ends None p c.args.session c.args.call.now c.in-Some.first fault).leaves refl refl
-    (tried_none _ _ (fault_changes p c.args.session c.args.call.now c.in-Some.first fault)) is.1)
+    let fault = sym here.here.fault ∙ c.in-Some.is in (
+      is.0,
+      guarded_calm st is.0 start (g.D.Disk.history (disk_of engine.log)) engine.log journal p p c.args.session c.args.line c.args.call.now (Invalid c.in-Some.first) here.st_is c.requires.call
+          (invalid_ends None p c.args.session c.args.call.now c.in-Some.first fault).leaves refl refl
+          (tried_none _ _ (fault_changes p c.args.session c.args.call.now c.in-Some.first fault)) is.1,
+    )
 
 -- ---- no transaction number
 
@@ -101,10 +97,12 @@ returns-then-self-ge-LAST_TXN-clause-crash g c = λ observed most st start journ
     let engine = c.args.self.now in
     let p = here.alone_at in
     let last = here.here.last_txn in
-    let over = c.if-self-ge-LAST_TXN.true in
-    (is.0, guarded_calm st is.0 start (g.D.Disk.history (disk_of engine.log)) engine.log journal p p c.args.session c.args.line c.args.call.now IdsEnded here.st_is c.requires.call
-    (no_number_ends None p c.args.session c.args.call.now (sym here.here.fault ∙ c.in_default.is) (omega (arith, last, over))).leaves refl refl
-    (tried_refused _) is.1)
+    let over = c.if-self-ge-LAST_TXN.true in (
+      is.0,
+      guarded_calm st is.0 start (g.D.Disk.history (disk_of engine.log)) engine.log journal p p c.args.session c.args.line c.args.call.now IdsEnded here.st_is c.requires.call
+          (no_number_ends None p c.args.session c.args.call.now (sym here.here.fault ∙ c.in_default.is) (omega (arith, last, over))).leaves refl refl
+          (tried_refused _) is.1,
+    )
 
 -- ---- no memory
 
@@ -156,11 +154,13 @@ returns-in-Answered-clause-crash g c = λ observed most st start journal here is
     let engine = c.args.self.now in
     let p = here.alone_at in
     let none = sym here.here.fault ∙ c.in_default.is in
-    let planned = subst (λ (x : Planned). IsPlanned engine.kept p c.args.session c.args.call.now x) c.in-Answered.is (c.in_ok-answer.ensures p c.args.session (model engine.kept p here.here none)) in
-    (is.0, guarded_calm st is.0 start (g.D.Disk.history (disk_of engine.log)) engine.log journal p (drawn_alone p) c.args.session c.args.line c.args.call.now c.in-Answered.answer here.st_is c.requires.call
-    (answered_ends None engine.kept p c.args.session c.args.call.now c.in-Answered.answer none c.requires.call planned).leaves refl
-    (sym (ap (λ (o : Outcome). is_disk_fault o.answer) planned) ∙ outcome_calm p c.args.session c.args.call.now c.requires.call)
-    (tried_none _ _ (alone_changes p c.args.session c.args.call.now none c.requires.call ∙ ap (λ (o : Outcome). o.changes) planned)) is.1)
+    let planned = subst (λ (x : Planned). IsPlanned engine.kept p c.args.session c.args.call.now x) c.in-Answered.is (c.in_ok-answer.ensures p c.args.session (model engine.kept p here.here none)) in (
+      is.0,
+      guarded_calm st is.0 start (g.D.Disk.history (disk_of engine.log)) engine.log journal p (drawn_alone p) c.args.session c.args.line c.args.call.now c.in-Answered.answer here.st_is c.requires.call
+          (answered_ends None engine.kept p c.args.session c.args.call.now c.in-Answered.answer none c.requires.call planned).leaves refl
+          (sym (ap (λ (o : Outcome). is_disk_fault o.answer) planned) ∙ outcome_calm p c.args.session c.args.call.now c.requires.call)
+          (tried_none _ _ (alone_changes p c.args.session c.args.call.now none c.requires.call ∙ ap (λ (o : Outcome). o.changes) planned)) is.1,
+    )
 
 -- ---- changes that are logged
 

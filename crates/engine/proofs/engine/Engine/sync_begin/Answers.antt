@@ -1,4 +1,4 @@
-use Rattle.std.proofs.Common.{◌≡◌, None, Some, [], Err, length, ap, sym, refl, inl, inr}
+use Rattle.std.proofs.Common.{None, Some, [], Err, ap, refl, inl, inr}
 use Rattle.je_disk.specs.Moments.{now}
 use Rattle.je_disk.specs.States.{State}
 use Rattle.store_model.specs.declared.answer.Answer.TheVariants.{Done, DiskFault}
@@ -7,7 +7,7 @@ use Rattle.store_model.specs.declared.event.Event.TheVariants.{SyncBegin}
 use Rattle.je_answers.specs.Standing.{Standing}
 use Rattle.je_answers.specs.After.{after_event}
 use Rattle.log_buffer.specs.Buffer.{disk_of}
-use Rattle.log_file.specs.Log.{Log, entries_of}
+use Rattle.log_file.specs.Log.{Log}
 use Rattle.engine.proofs.ObservedLaws.{as_observed, of_observed}
 use Rattle.engine.proofs.StepLaws.{faulted_at, synced_at}
 use Rattle.engine.proofs.SyncLaws.{begun_safely, not_begun_safely}

@@ -1,4 +1,4 @@
-use Rattle.std.proofs.Common.{◌≡◌, [], None, Some, Err, length, ap, refl, sym, ◌∙◌, inl, inr}
+use Rattle.std.proofs.Common.{[], None, Some, Err, length, ap, refl, inl, inr}
 use Rattle.je_disk.specs.Moments.{now}
 use Rattle.je_disk.specs.States.{State}
 use Rattle.store_model.specs.declared.answer.Answer.TheVariants.{Durable, DiskFault}
