@@ -12,7 +12,7 @@ use Rattle.je_disk.specs.States.{Files, IsEither, CrashState, State, cut, cut_by
 use Rattle.je_disk.specs.Images.{IsFileImage}
 use Rattle.je_disk.specs.Moments.{History, Passes, now}
 use Rattle.je_disk.proofs.MomentLaws.{passes_none, passes_then, passes_weaken}
-use Rattle.je_model.specs.declared.store.Store.{Store}
+use Rattle.store_model.specs.declared.store.Store.{Store}
 use Rattle.log_entry.specs.declared.entry.Entry.{Entry}
 use Rattle.log_file.specs.declared.valid_prefix.ValidPrefix.{ValidPrefix}
 use Rattle.log_file.specs.declared.file_scan.FileScan.{FileScan}
@@ -43,7 +43,7 @@ use Rattle.crash_meaning.proofs.RecoveryLaws.{images_recover, logs_recover}
 use Rattle.engine.specs.declared.kept.TheConstants.{LAST_FILE}
 use Rattle.engine.specs.Crash.{ImagesMean, IsTailCut, KeepsEntry, NothingPending, ReadAsAtEntry}
 use Rattle.engine.specs.Opening.{HasTornTailCut, IsSettling, StartsLog, WasRead, cut_off, log_start_of}
-use Rattle.engine.proofs.CallLaws.{passes_now}
+use Rattle.engine.proofs.SyncLaws.{passes_now}
 use Rattle.engine.proofs.ClosedLaws.{all_recovered}
 use Rattle.engine.proofs.FileLaws.{front_reads, headless, log_is, lookup-last}
 use Rattle.engine.proofs.LogStores.{small_files}

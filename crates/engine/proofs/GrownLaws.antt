@@ -1,6 +1,8 @@
--- A log with a transaction more, and what a crash keeps of it.
-use Rattle.std.proofs.Common.{◌≡◌, ℕ, ◌+◌, ◌<◌, ◌≤◌, ◌^◌, cond, Bool, true, false, List, [], ◌∷◌, ◌++◌, refl, ap, sym, ◌∙◌, subst, arith, append_assoc}
+-- A log with entries more.
+use Rattle.std.proofs.Common.{◌≡◌, ℕ, ◌+◌, ◌<◌, ◌≤◌, ◌^◌, cond, Bool, true, false, List, [], ◌∷◌, ◌++◌, map, refl, ap, sym, ◌∙◌, subst, arith, append_assoc}
+use Rattle.std.specs.List.{AllByRecursion}
 use Rattle.std.proofs.lemmas.Bool.Decides.{nat_tests}
+use Rattle.std.proofs.lemmas.List.{append-nil}
 use Rattle.log_entry.specs.declared.entry.Entry.{Entry}
 use Rattle.log_entry.specs.Body.{IsEntry}
 use Rattle.log_entry.specs.Encoding.{size_of}
@@ -12,14 +14,13 @@ use Rattle.log_buffer.specs.declared.log_pos.LogPos.{LogPos}
 use Rattle.log_buffer.specs.Flip.{behind, end_after, end_after_all, goes_in, header_size, next_file, placed_at}
 use Rattle.log_buffer.specs.Log.{EndsAt, log_with}
 use Rattle.log_buffer.proofs.LogChanges.{AreBelow, below_last, below_more, below_push, is_log_last, is_log_push, last_entries, with_last, with_next}
-use Rattle.log_buffer.proofs.GrowthLaws.{EndsIn, ends_in}
 use Rattle.crash_meaning.specs.Reading.{HasNoGap}
 use Rattle.log_buffer.specs.Growth.{log_with_all}
 use Rattle.engine.specs.declared.kept.TheConstants.{LAST_FILE}
 use Rattle.engine.specs.Environment.{IsWholeLog}
 use Rattle.engine.proofs.AppendLaws.{Grows, grows}
 use Rattle.engine.proofs.LogStores.{small_files}
-use Rattle.engine.proofs.FlipLaws.{file_rises, placed_in}
+use Rattle.engine.proofs.FlipLaws.{files_rise, placed_in}
 
 -- ---- an entry more
 
@@ -76,31 +77,31 @@ longer_at most end last log e max is ends entry follows = by_case (goes_in most 
     by_case true goes room = longer_here log end.file end.offset last e is ends entry follows (fits_here most end.offset (size_of e) max small goes)
     by_case false goes room = longer_next log end.file end.offset last e is ends entry follows (omega (arith, small)) (omega (arith, room))
 
--- ---- two entries more
+-- ---- entries more
 
--- the log with both
-pub record IsLongerByBoth (most : ℕ) (end : LogPos) (a b : Entry) (log : Log) : Type 0 where
-  pub gap : HasNoGap (log_with_all most end (a ∷ b ∷ []) log)
-  pub entries : entries_of (log_with_all most end (a ∷ b ∷ []) log) ≡ entries_of log ++ a ∷ b ∷ []
-  pub ends : EndsIn log end
+-- each may be logged behind others
+abbrev pub MayFollow : Entry → Type 0
+MayFollow e = IsEntry e × (may_follow e ≡ true)
 
-pub longer_by_both : (most : ℕ) (end : LogPos) (last : ℕ) (a b : Entry) (log : Log) → most ≤ 2 ^ 30 → IsLog log → EndsAt log end.file end.offset last → IsWholeLog log →
-    IsEntry a × IsEntry b → (may_follow a ≡ true) × (may_follow b ≡ true) → (end_after_all most end (size_of a ∷ size_of b ∷ [])).file ≤ LAST_FILE → IsLongerByBoth most end a b log
-longer_by_both most end last a b log max is ends whole entries follow room =
-    let f = (placed_at most end (size_of a)).file in
-    let middle : LogPos = end_after most end (size_of a) in
-    let g = (placed_at most middle (size_of b)).file in
-    let rises : f ≤ g = file_rises most middle (size_of b) in
-    let one : IsLonger log f middle.offset a = longer_at most end last log a max is ends entries.0 follow.0 (omega (arith, room)) in
-    let two : IsLonger (log_with f a log) g (end_after most middle (size_of b)).offset b = longer_at most middle one.last (log_with f a log) b max one.is_log one.ends entries.1 follow.1 room in
-    let first : Grows log f a = grows log end.file end.offset last f a is ends whole (placed_in most end (size_of a)) in
-    let second : Grows (log_with f a log) g b = grows (log_with f a log) f middle.offset one.last g b one.is_log one.ends first.whole (placed_in most middle (size_of b)) in
+-- the log with all of them
+pub record IsLongerByAll (most : ℕ) (end : LogPos) (entries : List Entry) (log : Log) : Type 0 where
+  pub gap : HasNoGap (log_with_all most end entries log)
+  pub all : entries_of (log_with_all most end entries log) ≡ entries_of log ++ entries
+
+pub longer_by_all : (most : ℕ) (end : LogPos) (last : ℕ) (entries : List Entry) (log : Log) → most ≤ 2 ^ 30 → IsLog log → EndsAt log end.file end.offset last → IsWholeLog log →
+    AllByRecursion MayFollow entries → (end_after_all most end (map size_of entries)).file ≤ LAST_FILE → IsLongerByAll most end entries log
+longer_by_all most end last [] log max is ends whole may room = record {
+  gap = record { is_log = is; small = small_files log end.file end.offset last is ends (omega (arith, room)); whole = whole };
+  all = sym (append-nil (entries_of log));
+}
+longer_by_all most end last (e ∷ entries) log max is ends whole may room =
+    let f = (placed_at most end (size_of e)).file in
+    let next : LogPos = end_after most end (size_of e) in
+    let rises : next.file ≤ (end_after_all most next (map size_of entries)).file = files_rise most next (map size_of entries) in
+    let one : IsLonger log f next.offset e = longer_at most end last log e max is ends may.0.0 may.0.1 (omega (arith, room, rises)) in
+    let first : Grows log f e = grows log end.file end.offset last f e is ends whole (placed_in most end (size_of e)) in
+    let rest : IsLongerByAll most next entries (log_with f e log) = longer_by_all most next one.last entries (log_with f e log) max one.is_log one.ends first.whole may.1 room in
     record {
-      gap = record {
-        is_log = two.is_log;
-        small = small_files (log_with g b (log_with f a log)) g (end_after most middle (size_of b)).offset two.last two.is_log two.ends (omega (arith, room));
-        whole = second.whole;
-      };
-      entries = second.entries ∙ ap (λ (l : List Entry). l ++ b ∷ []) first.entries ∙ append_assoc (entries_of log) (a ∷ []) (b ∷ []);
-      ends = ends_in log end last is ends;
+      gap = rest.gap;
+      all = rest.all ∙ ap (λ (l : List Entry). l ++ entries) first.entries ∙ append_assoc (entries_of log) (e ∷ []) entries;
     }

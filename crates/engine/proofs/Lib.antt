@@ -1,7 +1,5 @@
 -- Counts that rose.
 pub mod Counts
--- The store that a log's files mean.
-pub mod LogStores
 -- What the views of the records in memory see.
 pub mod ViewLaws
 -- What the parts of a plan come to.
@@ -10,36 +8,44 @@ pub mod PlanParts
 pub mod OutcomeLaws
 -- Changes of the records of one database, as a transaction logs them.
 pub mod RecordLaws
--- What a call of a valid environment comes to is what the model answers, and how it ends.
-pub mod PlanLaws
+-- Over an observable disk.
+pub mod ObservedLaws
 -- A log's end moves on with each entry.
 pub mod FlipLaws
+-- The store that a log's files mean.
+pub mod LogStores
+-- What an append does to the log.
+pub mod AppendLaws
+-- A log with entries more.
+pub mod GrownLaws
+-- What a call comes to, and how it ends.
+pub mod PlanLaws
+-- Planned changes of records, made with the last one first.
+pub mod ChangeLaws
+-- What planned changes look like, and how many they are.
+pub mod ShapeLaws
+-- What a call attempts to commit.
+pub mod AttemptLaws
+-- Entries that are appended, and records that are changed, one after another.
+pub mod WriteLaws
 -- One step of an environment, beside the model's.
 pub mod StepLaws
--- A step of an environment goes on as the model does.
-pub mod GoesOnLaws
+-- A run whose disk was safe so far, one event later.
+pub mod SafeLaws
+-- A guarded run goes on by one event.
+pub mod GuardLaws
+-- A guarded run goes on by a sync.
+pub mod SyncLaws
+-- A call goes on as the model does, and a guarded run by it.
+pub mod CallLaws
+-- A guarded run that was closed, and one that begins.
+pub mod ClosedLaws
+-- The numbers of databases, by name.
+pub mod NumberLaws
 -- The log of files that were read, once the rest of the last one is cut off.
 pub mod FileLaws
 -- Opening an environment: the log that is gone on from, and where the model starts.
 pub mod OpeningLaws
--- What an append does to the log.
-pub mod AppendLaws
--- What the calls come to that log a change.
-pub mod LoggingLaws
--- A run whose disk was safe so far, one event later.
-pub mod SafeLaws
--- A log with a transaction more, and what a crash keeps of it.
-pub mod GrownLaws
--- A guarded run goes on by one event.
-pub mod GuardLaws
--- Two appends of a transaction, and what a crash keeps through them.
-pub mod BothLaws
--- A guarded run goes on by a call that was to be logged.
-pub mod CallLaws
--- A guarded run goes on by a sync.
-pub mod SyncLaws
--- A guarded run that was closed, and one that begins.
-pub mod ClosedLaws
 -- An environment that was opened is a guarded run that begins.
 pub mod OpenedLaws
 -- A disk that was left as it was.

@@ -2,7 +2,7 @@
 use Rattle.std.proofs.Common.{◌≡◌, ℕ, ◌<◌, ◌≤◌, List, [], ◌∷◌, ◌++◌, sym, ◌∙◌, subst, arith}
 use Rattle.std.specs.List.{AllByRecursion}
 use Rattle.je_disk.specs.States.{Files}
-use Rattle.je_model.specs.declared.store.Store.{Store}
+use Rattle.store_model.specs.declared.store.Store.{Store}
 use Rattle.je_lsn.specs.Naming.{last_file}
 use Rattle.je_order.proofs.Lists.{all_push}
 use Rattle.log_entry.specs.declared.entry.Entry.{Entry}

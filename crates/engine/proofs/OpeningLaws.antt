@@ -13,8 +13,9 @@ use Rattle.je_disk.specs.Moments.{History, Passes, now}
 use Rattle.je_disk.specs.States.{Files, State, IsListing, content, put_at}
 use Rattle.je_disk.proofs.MomentLaws.{passes_then, passes_weaken}
 use Rattle.je_lsn.specs.declared.file_no.FileNo.{FileNo}
-use Rattle.je_model.specs.declared.store.Store.{Store}
-use Rattle.je_model.specs.Answers.{Standing}
+use Rattle.store_model.specs.declared.store.Store.{Store}
+use Rattle.store_model.specs.declared.totals.Totals.{Totals}
+use Rattle.je_answers.specs.Alone.{Alone, alone}
 use Rattle.log_entry.specs.declared.entry.Entry.{Entry}
 use Rattle.log_entry.specs.Prefix.{last_from}
 use Rattle.je_lsn.specs.Naming.{last_file}
@@ -39,6 +40,7 @@ use Rattle.log_replay.specs.Answer.{IsCorruptionOf, IsLogOf, IsReadingOf}
 use Rattle.log_replay.specs.Meaning.{Meaning}
 use Rattle.log_replay.specs.Reading.{files_read, corruption_at, corruption_behind, corruption_in, gap_in, lsn_at, reading_by, reading_of}
 use Rattle.log_replay.specs.Rows.{rows_in}
+use Rattle.log_replay.specs.Logging.{number_named}
 use Rattle.log_replay.specs.UnderWay.{IsLastOf, IsTailOf}
 use Rattle.log_replay.specs.Wrong.{or_else}
 use Rattle.log_replay.specs.Kept.{IsKept}
@@ -47,9 +49,10 @@ use Rattle.engine.specs.declared.open_err.OpenErr.{OpenErr}
 use Rattle.engine.specs.declared.open_err.OpenErr.TheVariants.{Disk, Unreadable, Memory}
 use Rattle.engine.specs.declared.kept.Kept.{Kept}
 use Rattle.engine.specs.declared.kept.TheConstants.{LAST_FILE}
-use Rattle.engine.specs.Environment.{IsWholeLog, log_end_of}
-use Rattle.engine.specs.Files.{end_in, opened_end}
-use Rattle.engine.specs.Opening.{HasOpened, HasTornTailCut, StartsLog, StopsBy, WasRead, kept_at_start, log_start_of}
+use Rattle.engine.specs.Environment.{AreAlone, IsWholeLog}
+use Rattle.engine.specs.Files.{end_file_in}
+use Rattle.engine.specs.Opening.{AreNumbers, HasOpened, HasOpenedAt, StartsAt, HasTornTailCut, StartsLog, StopsBy, WasRead, kept_at_start, log_start_of}
+use Rattle.engine.proofs.NumberLaws.{kept_numbers}
 use Rattle.engine.proofs.Counts.{rose_earlier}
 use Rattle.engine.proofs.FileLaws.{AreFull, IsFile, IsFull, NoneIs, front_reads, headless, is_log, log_is, lookup-last, numbers_of-log_in, reads_as}
 
@@ -365,17 +368,16 @@ stops_earlier observable files before mid after Memory earlier later stops = tt
 
 -- ---- where the model starts
 
--- the end of the log in files of which the last one is this
-end_in-last : (front : List File) (file : File) → end_in (front ++ file ∷ []) ≡ opened_end file.0 (scan_of file.0 file.1)
-end_in-last [] file = refl
-end_in-last (a ∷ []) file = refl
-end_in-last (a ∷ b ∷ front) file = end_in-last (b ∷ front) file
+-- the file in which the log of files ends, of which the last one is this
+end_file-last : (front : List File) (file : File) → end_file_in (front ++ file ∷ []) ≡ file.0
+end_file-last [] file = refl
+end_file-last (a ∷ []) file = refl
+end_file-last (a ∷ b ∷ front) file = end_file-last (b ∷ front) file
 
--- the log grows where the model says
-starts_at_end : (held : List File) (tail : Option LastFile) → IsTailOf held tail → log_end_of (log_start_of tail) ≡ end_in held
-starts_at_end held None is = ap end_in (sym is)
-starts_at_end held (Some last) is =
-    sym (ap end_in is.parts ∙ end_in-last is.before (last.file.0, is.bytes) ∙ ap (opened_end last.file.0) is.found)
+-- the log goes on there
+starts_in : (held : List File) (tail : Option LastFile) → IsTailOf held tail → (log_start_of tail).file ≡ end_file_in held
+starts_in held None is = sym (ap end_file_in is)
+starts_in held (Some last) is = sym (ap end_file_in is.parts ∙ end_file-last is.before (last.file.0, is.bytes))
 
 -- no file is missing in the log that is gone on from
 pub whole_from : (held : List File) (tail : Option LastFile) → gap_in (numbers held) ≡ None → IsWholeLog (log_from tail held)
@@ -387,61 +389,83 @@ pub entries_from : (held : List File) (tail : Option LastFile) → IsTailOf held
 entries_from held None is = ap (λ (h : List File). entries_of (log_in h)) (sym is)
 entries_from held (Some last) is = refl
 
--- the standing that an environment starts at
-abbrev pub start_standing : ReadLog → Standing
-start_standing r = record {
+-- where an environment starts
+abbrev pub start_alone : ReadLog → Alone
+start_alone r = record {
   store = r.replayed.opening;
+  numbers = number_named (rows_in r.replayed.rows);
   last_txn = r.replayed.last_txn;
   last_db = r.replayed.last_db;
-  log_end = log_end_of (log_start_of r.tail);
   commits = 0;
   begun = None;
   fault = None;
+  in_checkpoint = false;
 }
 
 module _ {D : Type 0} where
   -- an environment that was opened is where the model starts
+  pub alone_opened : (most : ℕ) (observable : Bool) (reads : Files) (state : State) (buffer : LogBuffer D) (r : ReadLog) (w : WasRead observable reads r) →
+      HasLog observable state buffer (log_from r.tail w.reading.held) → end_of buffer ≡ log_start_of r.tail → file_max_of buffer ≡ most → has_failed buffer ≡ false →
+      AreAlone most observable state buffer (kept_at_start r.replayed (log_start_of r.tail) most) (start_alone r)
+  alone_opened most observable reads state buffer r w has end max works =
+      let held = w.reading.held in
+      let answer : IsLogOf held r = w.reading.answer in
+      let none = no_corruption held _ answer.meaning in
+      let make : ℕ → ℕ → Totals = λ d n. record { databases = d; records = n } in
+      record {
+        file_max = refl;
+        fault = refl;
+        last_txn = refl;
+        last_db = refl;
+        commits = refl;
+        totals = ap (λ d. make d r.replayed.totals.records) answer.replay.databases ∙ ap (λ n. make (length r.replayed.opening.databases) n) answer.replay.records;
+        valid = λ again. record {
+          log = log_from r.tail held;
+          has = has;
+          whole = whole_from held r.tail none.1;
+          made = answer.replay.store;
+          records = subst (λ (es : List Entry). IsKept es (rows_in r.replayed.rows) r.replayed.last_txn r.replayed.last_db) (sym (entries_from held r.tail answer.tail))
+              (kept_opened (entries_of (log_in held)) r.replayed answer.replay);
+          at_end = record { end = end; file_max = max; works = works };
+        };
+      }
+
+-- its model starts from what the files mean
+pub starts_opened : (observable : Bool) (reads : Files) (r : ReadLog) → WasRead observable reads r → StartsAt observable reads r.replayed.opening (alone (start_alone r))
+starts_opened observable reads r w =
+    let held = w.reading.held in
+    let answer : IsLogOf held r = w.reading.answer in
+    let records : IsKept (entries_of (log_in held)) (rows_in r.replayed.rows) r.replayed.last_txn r.replayed.last_db = kept_opened (entries_of (log_in held)) r.replayed answer.replay in
+    record {
+      alone_at = start_alone r;
+      st_is = refl;
+      store = refl;
+      commits = refl;
+      begun = refl;
+      fault = refl;
+      checkpoint = refl;
+      numbers = subst (λ (s : Store). AreNumbers s r.replayed.last_db (number_named (rows_in r.replayed.rows))) answer.replay.store
+          (kept_numbers (rows_in r.replayed.rows) r.replayed.last_db records.environment (records.rising 0) records.numbers);
+      held = held;
+      observed = λ t. w.reading.listed t (w.listed t);
+      means = answer.meaning;
+    }
+
+module _ {D : Type 0} where
+  pub opened_here : (most : ℕ) (observable : Bool) (reads : Files) (state : State) (buffer : LogBuffer D) (r : ReadLog) (w : WasRead observable reads r) →
+      HasLog observable state buffer (log_from r.tail w.reading.held) → end_of buffer ≡ log_start_of r.tail → file_max_of buffer ≡ most → has_failed buffer ≡ false →
+      HasOpenedAt most observable reads state buffer r.replayed.opening (kept_at_start r.replayed (log_start_of r.tail) most) (alone (start_alone r))
+  unfolding starts_opened
+  opened_here most observable reads state buffer r w has end max works = record {
+    starts = starts_opened observable reads r w;
+    here = record { alone_at = start_alone r; st_is = refl; here = alone_opened most observable reads state buffer r w has end max works };
+    ends = starts_in w.reading.held r.tail w.reading.answer.tail;
+  }
+
   pub opened_at : (most : ℕ) (observable : Bool) (reads : Files) (state : State) (buffer : LogBuffer D) (r : ReadLog) (w : WasRead observable reads r) →
       HasLog observable state buffer (log_from r.tail w.reading.held) → end_of buffer ≡ log_start_of r.tail → file_max_of buffer ≡ most → has_failed buffer ≡ false →
       HasOpened most observable reads state buffer r.replayed.opening (kept_at_start r.replayed (log_start_of r.tail) most)
-  opened_at most observable reads state buffer r w has end max works =
-      let held = w.reading.held in
-      let answer : IsLogOf held r = w.reading.answer in
-      let none = no_corruption held _ answer.meaning in (
-        start_standing r,
-        record {
-          starts = record {
-            store = refl;
-            commits = refl;
-            begun = refl;
-            fault = refl;
-            held = held;
-            observed = λ t. w.reading.listed t (w.listed t);
-            means = answer.meaning;
-            log_end = starts_at_end held r.tail answer.tail;
-          };
-          here = record {
-            file_max = refl;
-            fault = refl;
-            last_txn = refl;
-            last_db = refl;
-            log_end = refl;
-            commits = refl;
-            databases = answer.replay.databases;
-            record_count_is = answer.replay.records;
-            few = omega arith;
-            valid = λ again. record {
-              log = log_from r.tail held;
-              has = has;
-              whole = whole_from held r.tail none.1;
-              made = answer.replay.store;
-              records = subst (λ (es : List Entry). IsKept es (rows_in r.replayed.rows) r.replayed.last_txn r.replayed.last_db) (sym (entries_from held r.tail answer.tail))
-                  (kept_opened (entries_of (log_in held)) r.replayed answer.replay);
-              at_end = record { end = end; file_max = max; works = works };
-            };
-          };
-        },
-      )
+  opened_at most observable reads state buffer r w has end max works = (alone (start_alone r), opened_here most observable reads state buffer r w has end max works)
 
   -- what was opened, under equal names
   pub opened_along : (most : ℕ) (observable : Bool) (files : Files) (a b : State) (buffer other : LogBuffer D) (o p : Store) (k l : Kept) → a ≡ b → buffer ≡ other → o ≡ p → k ≡ l →

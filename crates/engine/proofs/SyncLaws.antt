@@ -1,60 +1,82 @@
 -- A guarded run goes on by a sync.
-use Rattle.std.proofs.Common.{◌≡◌, ℕ, true, false, List, [], ◌∷◌, ◌++◌, Option, Some, None, length, refl, sym, ◌∙◌, arith}
-use Rattle.je_disk.specs.Moments.{History, now}
-use Rattle.je_model.specs.declared.answer.Answer.TheVariants.{Done, Durable, DiskFault}
-use Rattle.je_model.specs.declared.event.Event.{Event}
-use Rattle.je_model.specs.declared.event.Event.TheVariants.{SyncBegin, SyncEnd}
-use Rattle.je_model.specs.Answers.{Standing, after_events}
+use Rattle.std.proofs.Common.{◌≡◌, ℕ, ◌+◌, ◌<◌, ◌≤◌, ◌⊎◌, inl, inr, true, List, [], ◌∷◌, ◌++◌, Option, Some, None, length, option_to_list, refl, ap, sym, ◌∙◌, subst, arith}
+use Rattle.std.proofs.lemmas.Bool.{cases_order}
+use Rattle.std.proofs.lemmas.List.{length-append}
+use Rattle.je_disk.specs.States.{State}
+use Rattle.je_disk.specs.Moments.{History, Passes, now}
+use Rattle.store_model.specs.declared.answer.Answer.TheVariants.{Done, Durable, DiskFault}
+use Rattle.store_model.specs.declared.change.Change.{Change}
+use Rattle.store_model.specs.declared.event.Event.{Event}
+use Rattle.store_model.specs.declared.event.Event.TheVariants.{SyncBegin, SyncEnd}
+use Rattle.je_answers.specs.Standing.{Standing}
+use Rattle.je_answers.specs.After.{after_events}
+use Rattle.je_answers.specs.Journal.{attempts_of, commits_of}
+use Rattle.je_answers.proofs.Commits.{commits-make_the_store, attempts-go_on}
 use Rattle.log_file.specs.Log.{Log, entries_of}
 use Rattle.log_buffer.specs.declared.buffer.LogBuffer.{LogBuffer}
 use Rattle.log_buffer.specs.Buffer.{has_failed}
 use Rattle.log_buffer.specs.Crash.{KeepsRead, KeptThrough}
 use Rattle.log_buffer.proofs.CrashSync.{count_kept}
 use Rattle.log_buffer.proofs.Staying.{read_through}
-use Rattle.crash_meaning.specs.Recovery.{commits_in}
-use Rattle.engine.specs.Environment.{log_rule}
-use Rattle.engine.specs.Guarded.{log_after, IsKeeping, IsGuardedLog, SyncBeginsSafely}
-use Rattle.engine.proofs.CallLaws.{passes_now}
-use Rattle.engine.proofs.GuardLaws.{guarded_same, keeping_read}
-use Rattle.engine.proofs.SafeLaws.{fault_stands}
+use Rattle.engine.specs.Guarded.{IsKeeping, IsGuardedLog}
+use Rattle.engine.proofs.GuardLaws.{goes_freely, guarded_same, keeping_read}
+
+-- the last moment, where time may have stood still
+pub passes_now : (old new : History) (P : State → Type 0) → Passes old new P → P (now old) → P (now new)
+passes_now old new P passes here = by_order (cases_order old.moment new.moment)
+  where
+    by_order : (old.moment ≡ new.moment) ⊎ ((old.moment < new.moment) ⊎ (new.moment < old.moment)) → P (now new)
+    by_order (inl same) = subst (λ (k : ℕ). P (new.state_at k)) same (subst P (sym (passes.keeps old.moment (omega arith))) here)
+    by_order (inr (inl later)) = passes.each new.moment later (omega arith)
+    by_order (inr (inr earlier)) = let on : old.moment ≤ new.moment = passes.later in absurd (omega arith)
+
+-- a run has committed no more transactions than it attempted
+pub commits_attempted : (st : Standing) (journal : List Event) → st.commits ≡ 0 → (after_events st journal).commits ≤ length (attempts_of st journal)
+commits_attempted st journal none =
+    let count = (commits-make_the_store st journal).count in
+    let goes = attempts-go_on st journal in
+    let all : length (attempts_of st journal) ≡ length (commits_of st journal) + length (option_to_list goes.0) =
+    ap (λ (l : List (List Change)). length l) goes.1 ∙ length-append (commits_of st journal) (option_to_list goes.0) in
+    omega (arith, count, all, none)
 
 module _ {D : Type 0} where
   -- a sync began
-  pub begun_safely : (most : ℕ) (st : Standing) (log : Log) (start : History) (old new : History) (buffer longer : LogBuffer D) (journal : List Event) → (after_events (log_rule most) st journal).fault ≡ None →
-      (g : IsGuardedLog most st log start old buffer journal None) → KeptThrough old new (log_after most st journal log) [] g.least →
-      IsKeeping (now new) longer (log_after most st journal log) g.least (Some (length (entries_of (log_after most st journal log)))) →
-      SyncBeginsSafely most st log start new longer journal true
-  begun_safely most st log start old new buffer longer journal none g through keeping =
-      let w = g.works none in
-      guarded_same most st log start old new buffer longer journal (SyncBegin Done) None (Some (length (entries_of (log_after most st journal log)))) g.least g refl (λ s. refl) through (omega arith)
-      (keeping_read (now new) longer (log_after most st journal log) g.least (Some (length (entries_of (log_after most st journal log)))) keeping) (omega arith)
-      (λ fault. record { keeping = keeping; store = w.store; commits = w.commits }) (λ ok. none) (λ fault. absurd (fault_stands most st journal fault none))
+  pub begun_safely : (st : Standing) (log : Log) (start : History) (old new : History) (buffer longer : LogBuffer D) (journal : List Event) → (after_events st journal).fault ≡ None →
+      (g : IsGuardedLog st log start old buffer journal None) → KeptThrough old new log [] g.least →
+      IsKeeping (now new) longer log g.least (Some (length (entries_of log))) →
+      IsGuardedLog st log start new longer (journal ++ SyncBegin Done ∷ []) (Some (length (entries_of log)))
+  begun_safely st log start old new buffer longer journal none g through keeping =
+      guarded_same st log start old new buffer longer journal (SyncBegin Done) None (Some (length (entries_of log))) g.least g refl through (omega arith)
+      (keeping_read (now new) longer log g.least (Some (length (entries_of log))) keeping) (omega arith)
+      (λ fault. keeping) (λ ok. none) (λ fault. (none, refl)) (goes_freely st log start old new buffer journal None g none)
 
   -- a sync could not begin
-  pub not_begun_safely : (most : ℕ) (st : Standing) (log : Log) (start : History) (old new : History) (buffer longer : LogBuffer D) (journal : List Event) → (after_events (log_rule most) st journal).fault ≡ None →
-      (g : IsGuardedLog most st log start old buffer journal None) → KeptThrough old new (log_after most st journal log) [] g.least → has_failed longer ≡ true → SyncBeginsSafely most st log start new longer journal false
-  not_begun_safely most st log start old new buffer longer journal none g through failed =
-      guarded_same most st log start old new buffer longer journal (SyncBegin DiskFault) None None g.least g refl (λ s. refl) through (omega arith)
-      (passes_now old new (KeepsRead (log_after most st journal log) [] g.least) (read_through (log_after most st journal log) [] g.least old new through) g.kept.keeps) (omega arith) (λ fault. absurd cc) (λ ok. absurd cc) (λ fault. absurd (fault_stands most st journal fault none))
+  pub not_begun_safely : (st : Standing) (log : Log) (start : History) (old new : History) (buffer longer : LogBuffer D) (journal : List Event) → (after_events st journal).fault ≡ None →
+      (g : IsGuardedLog st log start old buffer journal None) → KeptThrough old new log [] g.least → has_failed longer ≡ true →
+      IsGuardedLog st log start new longer (journal ++ SyncBegin DiskFault ∷ []) None
+  not_begun_safely st log start old new buffer longer journal none g through failed =
+      guarded_same st log start old new buffer longer journal (SyncBegin DiskFault) None None g.least g refl through (omega arith)
+      (passes_now old new (KeepsRead log [] g.least) (read_through log [] g.least old new through) g.kept.keeps) (omega arith)
+      (λ fault. absurd cc) (λ ok. absurd cc) (λ fault. absurd cc) (goes_freely st log start old new buffer journal None g none)
 
   -- a sync ended, and made all commits durable
-  pub ended_safely : (most : ℕ) (st : Standing) (log : Log) (start : History) (commits : ℕ) (old new : History) (buffer longer : LogBuffer D) (journal : List Event) → (after_events (log_rule most) st journal).fault ≡ None →
-      commits ≡ (after_events (log_rule most) st journal).commits →
-      (g : IsGuardedLog most st log start old buffer journal (Some (length (entries_of (log_after most st journal log))))) → KeptThrough old new (log_after most st journal log) [] g.least →
-      IsKeeping (now new) longer (log_after most st journal log) (length (entries_of (log_after most st journal log))) None →
-      IsGuardedLog most st log start new longer (journal ++ SyncEnd (Durable commits) ∷ []) None
-  ended_safely most st log start commits old new buffer longer journal none count g through keeping =
-      let w = g.works none in
-      let now_log : Log = log_after most st journal log in
-      let all : commits ≡ commits_in (length (entries_of log)) (length (entries_of now_log)) (entries_of now_log) = count ∙ w.commits ∙ sym g.kept.recovers.all in
-      guarded_same most st log start old new buffer longer journal (SyncEnd (Durable commits)) (Some (length (entries_of now_log))) None (length (entries_of now_log)) g refl (λ s. refl) through
-      (count_kept now_log [] g.least (now old).crash_states g.kept.keeps.keeps) (keeping_read (now new) longer now_log (length (entries_of now_log)) None keeping) (omega (arith, all))
-      (λ fault. record { keeping = keeping; store = w.store; commits = w.commits }) (λ ok. none) (λ fault. absurd (fault_stands most st journal fault none))
+  pub ended_safely : (st : Standing) (log : Log) (start : History) (commits : ℕ) (old new : History) (buffer longer : LogBuffer D) (journal : List Event) → (after_events st journal).fault ≡ None →
+      commits ≡ (after_events st journal).commits →
+      (g : IsGuardedLog st log start old buffer journal (Some (length (entries_of log)))) → KeptThrough old new log [] g.least →
+      IsKeeping (now new) longer log (length (entries_of log)) None →
+      IsGuardedLog st log start new longer (journal ++ SyncEnd (Durable commits) ∷ []) None
+  ended_safely st log start commits old new buffer longer journal none count g through keeping =
+      let few = commits_attempted st journal g.none_before in
+      let all = g.kept.recovers.all in
+      guarded_same st log start old new buffer longer journal (SyncEnd (Durable commits)) (Some (length (entries_of log))) None (length (entries_of log)) g refl through
+      (count_kept log [] g.least (now old).crash_states g.kept.keeps.keeps) (keeping_read (now new) longer log (length (entries_of log)) None keeping) (omega (arith, few, all, count))
+      (λ fault. keeping) (λ ok. none) (λ fault. (none, refl)) (goes_freely st log start old new buffer journal (Some (length (entries_of log))) g none)
 
   -- the disk failed as it ended
-  pub not_ended_safely : (most : ℕ) (st : Standing) (log : Log) (start : History) (old new : History) (buffer longer : LogBuffer D) (journal : List Event) (begun : Option ℕ) → (after_events (log_rule most) st journal).fault ≡ None →
-      (g : IsGuardedLog most st log start old buffer journal begun) → KeptThrough old new (log_after most st journal log) [] g.least → has_failed longer ≡ true →
-      IsGuardedLog most st log start new longer (journal ++ SyncEnd DiskFault ∷ []) None
-  not_ended_safely most st log start old new buffer longer journal begun none g through failed =
-      guarded_same most st log start old new buffer longer journal (SyncEnd DiskFault) begun None g.least g refl (λ s. refl) through (omega arith)
-      (passes_now old new (KeepsRead (log_after most st journal log) [] g.least) (read_through (log_after most st journal log) [] g.least old new through) g.kept.keeps) (omega arith) (λ fault. absurd cc) (λ ok. absurd cc) (λ fault. absurd (fault_stands most st journal fault none))
+  pub not_ended_safely : (st : Standing) (log : Log) (start : History) (old new : History) (buffer longer : LogBuffer D) (journal : List Event) (begun : Option ℕ) → (after_events st journal).fault ≡ None →
+      (g : IsGuardedLog st log start old buffer journal begun) → KeptThrough old new log [] g.least → has_failed longer ≡ true →
+      IsGuardedLog st log start new longer (journal ++ SyncEnd DiskFault ∷ []) None
+  not_ended_safely st log start old new buffer longer journal begun none g through failed =
+      guarded_same st log start old new buffer longer journal (SyncEnd DiskFault) begun None g.least g refl through (omega arith)
+      (passes_now old new (KeepsRead log [] g.least) (read_through log [] g.least old new through) g.kept.keeps) (omega arith)
+      (λ fault. absurd cc) (λ ok. absurd cc) (λ fault. absurd cc) (goes_freely st log start old new buffer journal begun g none)

@@ -1,4 +1,3 @@
-pub mod Files
 pub mod Totals
 pub mod Untouched
 pub mod Environment
@@ -7,6 +6,8 @@ pub mod Plans
 pub mod Views
 pub mod Logging
 pub mod Steps
+pub mod Files
+pub mod Limits
 pub mod Opening
 pub mod Crash
 pub mod Guarded

@@ -1,40 +1,76 @@
--- What logging a change does to what is kept.
-use Rattle.std.specs.Prelude.{ℕ, ◌≡◌, ◌+◌, ◌∷◌, [], List, Some, None, max}
+-- What logging changes does to what is kept.
+use Rattle.std.specs.Prelude.{ℕ, ◌≡◌, ◌⊎◌, ◌+◌, ◌++◌, ◌∷◌, [], List, None, Some, false, map}
+use Rattle.std.specs.List.{AllByRecursion}
+use Rattle.std.specs.Ordering.{is_eq}
+use Rattle.je_order.specs.Order.{name_cmp}
+use Rattle.je_order.specs.declared.name.Name.{Name}
 use Rattle.log_entry.specs.declared.entry.Entry.{Entry}
-use Rattle.log_entry.specs.declared.entry.Entry.TheVariants.{Put, Delete, Commit}
+use Rattle.log_entry.specs.declared.entry.Entry.TheVariants.{Commit}
+use Rattle.log_entry.specs.Encoding.{size_of}
+use Rattle.log_buffer.specs.declared.log_pos.LogPos.{LogPos}
 use Rattle.log_buffer.specs.Flip.{end_after_all}
-use Rattle.je_model.specs.declared.change.Change.{Change}
-use Rattle.je_model.specs.declared.totals.Totals.{Totals}
-use Rattle.log_replay.specs.Rows.{Rows, rows_in, row_changed}
-use Rattle.log_replay.specs.Kept.{row_change_of}
-use Rattle.log_replay.specs.Logging.{HasOneEntry, change_entry}
+use Rattle.store_model.specs.declared.answer.Fault.TheVariants.{Disk}
+use Rattle.log_replay.specs.Rows.{RowChange, Rows, rows_in, rows_changed}
+use Rattle.log_replay.specs.Logging.{row_entry}
 use Rattle.engine.specs.declared.kept.Kept.{Kept}
-use Rattle.engine.specs.Environment.{logged_sizes}
+use Rattle.engine.specs.declared.planned_changes.PlannedChanges.{PlannedChanges}
+use Rattle.engine.specs.declared.planned_row.PlannedRow.{PlannedRow}
+use Rattle.engine.specs.Planning.{row_by}
 
--- the records after an entry of a committed transaction
-abbrev pub rows_after : Entry → Rows → Rows
-rows_after (Put txn db name value) rows = row_changed (record { txn = 0; db = db; name = name; value = Some value }) rows
-rows_after (Delete txn db name) rows = row_changed (record { txn = 0; db = db; name = name; value = None }) rows
-rows_after entry rows = rows
+-- the records after planned changes
+abbrev pub rows_after : List PlannedRow → Rows → Rows
+rows_after planned rows = rows_changed (map (row_by 0) planned) rows
 
--- the entries of a transaction with one change, its commit last
-abbrev pub entries_logged : ℕ → ℕ → Change → List Entry
-entries_logged txn number change = change_entry txn number change ∷ Commit (record { 0 = txn }) ∷ []
+-- the entries of a transaction with planned changes, its commit last
+abbrev pub entries_planned : ℕ → List PlannedRow → List Entry
+entries_planned txn planned = map (λ row. row_entry (row_by txn row)) planned ++ Commit (record { 0 = txn }) ∷ []
 
--- these are the entries of a transaction with one change, which one entry logs
-abbrev pub IsTransaction : ℕ → ℕ → Change → Entry → Entry → Type 0
-IsTransaction txn number change entry commit = (entry ≡ change_entry txn number change) × (commit ≡ Commit (record { 0 = txn })) × HasOneEntry change
+-- where the log ends behind them
+abbrev pub end_planned : Kept → List PlannedRow → LogPos
+end_planned kept planned = end_after_all kept.file_max kept.end (map size_of (entries_planned (kept.last_txn + 1) planned))
 
--- a change was logged: what is kept now has it
-pub record HasLogged (old new : Kept) (number : ℕ) (change : Change) (totals : Totals) : Type 0 where
-  pub rows : (db : ℕ) → rows_in new.rows db ≡ row_changed (row_change_of (old.last_txn + 1) number change) (rows_in old.rows) db
-  pub counts : new.totals ≡ totals
+-- a change takes a record out, and the last one, which may set a record, is of another one than it
+abbrev pub IsTakenBefore : RowChange → RowChange → Type 0
+IsTakenBefore last change = (change.value ≡ None) × ((last.value ≡ None) ⊎ (is_eq (name_cmp last.name change.name) ≡ false))
+
+-- all changes but the last take records out, others than the last one's
+pub record SetsLast (changes : List RowChange) : Type 0 where
+  pub front : List RowChange
+  pub last : RowChange
+  pub parts : changes ≡ front ++ last ∷ []
+  pub taken : AllByRecursion (IsTakenBefore last) front
+
+-- a record that is taken out, by the record's name alone
+abbrev pub taken_at : ℕ × Name → RowChange
+taken_at at = record { txn = 0; db = at.0; name = at.1; value = None }
+
+abbrev pub taken : PlannedRow → RowChange
+taken row = taken_at (row.db, row.name)
+
+-- a transaction number was allocated, and nothing else
+abbrev pub drawn_kept : Kept → Kept
+drawn_kept kept = record kept { last_txn = kept.last_txn + 1 }
+
+-- changes were logged: what is kept now has them
+pub record HasLogged (old new : Kept) (planned : PlannedChanges) : Type 0 where
+  pub rows : (db : ℕ) → rows_in new.rows db ≡ rows_after planned.rows (rows_in old.rows) db
+  pub totals : new.totals ≡ planned.totals
   pub last_txn : new.last_txn ≡ old.last_txn + 1
-  pub last_db : new.last_db ≡ max old.last_db number
-  pub end : new.end ≡ end_after_all old.file_max old.end (logged_sizes (change ∷ []))
+  pub last_db : new.last_db ≡ planned.last_db
+  pub end : new.end ≡ end_planned old planned.rows
   pub file_max : new.file_max ≡ old.file_max
   pub commits : new.commits ≡ old.commits + 1
   pub fault : new.fault ≡ old.fault
+
+-- changes were to be logged, and the disk failed: the environment is invalid, and its records count for nothing
+pub record HasFaulted (old new : Kept) : Type 0 where
+  pub totals : new.totals ≡ old.totals
+  pub last_txn : new.last_txn ≡ old.last_txn
+  pub last_db : new.last_db ≡ old.last_db
+  pub end : new.end ≡ old.end
+  pub file_max : new.file_max ≡ old.file_max
+  pub commits : new.commits ≡ old.commits
+  pub fault : new.fault ≡ Some Disk
 
 -- only the records' place in memory may have changed
 pub record IsSame (old new : Kept) : Type 0 where

@@ -1,12 +1,14 @@
 -- Opening an environment.
-use Rattle.std.specs.Prelude.{ℕ, ◌≡◌, ◌≤◌, ◌<◌, ◌⊎◌, ◌==◌, nat_lt, ◌∷◌, [], ◌++◌, take, Bool, true, Option, None, Some, Ok, IfSome, option_map, List, if◌then◌else◌}
+use Rattle.std.specs.Prelude.{ℕ, ◌≡◌, ◌≤◌, ◌<◌, ◌⊎◌, ◌==◌, nat_lt, ◌∷◌, [], ◌++◌, take, Bool, true, false, Option, IsSome, None, Some, Ok, IfSome, option_map, List, if◌then◌else◌}
 use Rattle.je_disk.specs.declared.error.DiskErr.{DiskErr}
 use Rattle.je_disk.specs.declared.error.DiskErr.TheVariants.{Failed, Memory as NoMemory}
 use Rattle.je_order.specs.Counts.{HasRisen}
 use Rattle.je_disk.specs.States.{State, Files, IsEither, IsListing, AreRisingNumbers, cut, put_at, synced}
 use Rattle.je_lsn.specs.declared.file_no.FileNo.{FileNo}
-use Rattle.je_model.specs.declared.store.Store.{Store}
-use Rattle.je_model.specs.Answers.{Standing}
+use Rattle.store_model.specs.declared.store.Store.{Store}
+use Rattle.store_model.specs.Store.{database_of}
+use Rattle.je_answers.specs.Standing.{Standing}
+use Rattle.je_answers.specs.Alone.{Alone, alone}
 use Rattle.log_file.specs.Log.{Log, IsLog, AreFiles}
 use Rattle.log_buffer.specs.declared.buffer.LogBuffer.{LogBuffer}
 use Rattle.log_buffer.specs.declared.log_pos.LogPos.{LogPos}
@@ -22,7 +24,7 @@ use Rattle.engine.specs.declared.open_err.OpenErr.{OpenErr}
 use Rattle.engine.specs.declared.open_err.OpenErr.TheVariants.{Disk, Unreadable, Memory}
 use Rattle.engine.specs.declared.kept.Kept.{Kept}
 use Rattle.engine.specs.declared.kept.TheConstants.{LAST_FILE}
-use Rattle.engine.specs.Files.{HasCorruption, end_in}
+use Rattle.engine.specs.Files.{HasCorruption, end_file_in}
 use Rattle.engine.specs.Environment.{AreAt}
 
 -- the error that a failed call of the disk gives
@@ -94,10 +96,11 @@ pub record StartsAt (observable : Bool) (files : Files) (opening : Store) (st : 
   pub means : reading_of held ≡ Ok (record { store = opening; last_txn = alone_at.last_txn; last_db = alone_at.last_db })
 
 module _ {D : Type 0} where
-  -- an environment was opened: the model starts from what the files mean
+  -- an environment was opened: the model starts from what the files mean, and the log goes on in the last of them
   pub record HasOpenedAt (most : ℕ) (observable : Bool) (files : Files) (state : State) (buffer : LogBuffer D) (opening : Store) (kept : Kept) (st : Standing) : Type 0 where
     pub starts : StartsAt observable files opening st
     pub here : AreAt most observable state buffer kept st
+    pub ends : kept.end.file ≡ end_file_in starts.held
 
   abbrev pub HasOpened : ℕ → Bool → Files → State → LogBuffer D → Store → Kept → Type 0
   HasOpened most observable files state buffer opening kept = (st : Standing) × HasOpenedAt most observable files state buffer opening kept st

@@ -12,14 +12,16 @@ use Rattle.store_model.specs.declared.store.Store.{Store}
 use Rattle.je_answers.specs.Standing.{Standing}
 use Rattle.je_answers.specs.Events.{IsAnswered, IsSyncBegun, IsSyncEnded}
 use Rattle.je_answers.specs.After.{after_event}
+use Rattle.je_answers.specs.Journal.{changes_by}
 use Rattle.log_file.specs.Log.{Log, entries_of}
 use Rattle.log_buffer.specs.Buffer.{disk_of as disk_below}
 use Rattle.engine.specs.declared.engine.Engine.{Engine}
 use Rattle.engine.specs.Environment.{AreAt}
-use Rattle.engine.specs.Guarded.{IsGuardedLog, log_after}
+use Rattle.engine.specs.Files.{end_file_in}
+use Rattle.engine.specs.Guarded.{IsGuardedLog}
 use Rattle.engine.specs.Limits.{IsBounded}
 use Rattle.engine.specs.Opening.{StartsAt}
-use Rattle.engine.specs.Steps.{LeavesRoom, StepsOn}
+use Rattle.engine.specs.Steps.{LeavesRoom}
 
 module _ {D : Type 0} where
   -- the disk below
@@ -36,12 +38,12 @@ module _ {D : Type 0} where
 
   -- a run under way whose disk was safe at each moment of it, with this journal so far
   abbrev pub IsGuarded : ℕ → Standing → History → History → Engine D → List Event → Type 0
-  IsGuarded most st start history engine journal = (log : Log) × IsGuardedLog most st log start history engine.log journal None
+  IsGuarded most st start history engine journal = (log : Log) × IsGuardedLog st log start history engine.log journal None
 
   -- the same while a sync is out of all that was logged
   abbrev pub IsGuardedInSync : ℕ → Standing → History → History → Engine D → List Event → Type 0
   IsGuardedInSync most st start history engine journal =
-      (log : Log) × IsGuardedLog most st log start history engine.log journal (Some (length (entries_of (log_after most st journal log))))
+      (log : Log) × IsGuardedLog st log start history engine.log journal (Some (length (entries_of log)))
 
   -- the file in which the log ends
   abbrev pub end_file : Engine D → ℕ
@@ -50,7 +52,8 @@ module _ {D : Type 0} where
   -- a call was answered as the model may, and the engine is where the model then stands; out of memory left it where it was
   abbrev pub GoesOn : ℕ → Bool → State → Engine D → Engine D → Standing → ℕ → ℕ → Call → Result Answer AllocError → Type 0
   GoesOn most observable state old new st session line call (Ok answer) =
-      (limit : Option Answer) × IsBounded (end_file old) limit × IsAnswered limit st (Called session line call answer [])
+      (limit : Option Answer) × IsBounded (end_file old) (changes_by st (Called session line call answer [])) limit
+      × IsAnswered limit st (Called session line call answer [])
       × IsAt most observable state new (after_event st (Called session line call answer []))
   GoesOn most observable state old new st session line call (Err error) = IsAt most observable state new st
 
@@ -73,10 +76,11 @@ module _ {D : Type 0} where
   EndsSync most observable state engine st answer =
       IsSyncEnded None (Some st.commits) answer × IsAt most observable state engine (after_event (record st { begun = Some st.commits }) (SyncEnd answer))
 
-  -- an engine was opened: the model starts from what the files mean
+  -- an engine was opened: the model starts from what the files mean, and the log goes on in the last of them
   pub record IsOpenedAt (most : ℕ) (observable : Bool) (files : Files) (state : State) (engine : Engine D) (opening : Store) (st : Standing) : Type 0 where
     pub starts : StartsAt observable files opening st
     pub here : IsAt most observable state engine st
+    pub ends : end_file engine ≡ end_file_in starts.held
 
   abbrev pub IsOpened : ℕ → Bool → Files → State → Engine D → Store → Type 0
   IsOpened most observable files state engine opening = (st : Standing) × IsOpenedAt most observable files state engine opening st
@@ -86,5 +90,6 @@ module _ {D : Type 0} where
     pub st : Standing
     pub starts : StartsAt true files opening st
     pub here : IsAt most true (now history) engine st
+    pub ends : end_file engine ≡ end_file_in starts.held
     pub stable : (now history).crash_states ≡ synced_crash_states (now history).reads
     pub guarded : IsGuarded most st history history engine []

@@ -2,14 +2,14 @@
 ghost use Rattle.std.specs.Prelude.{◌≡◌, ◌≤◌, [], ℕ, List, None, true, false, length};
 ghost use Rattle.je_order.specs.Counts.{HasRisen};
 ghost use Rattle.je_disk.specs.Moments.{History, now};
-ghost use Rattle.je_model.specs.Answers.{Standing, after_events};
-ghost use Rattle.je_model.specs.declared.event.Event.{Event};
+ghost use Rattle.store_model.specs.declared.event.Event.{Event};
+ghost use Rattle.je_answers.specs.Standing.{Standing};
+ghost use Rattle.je_answers.specs.After.{after_events};
 ghost use Rattle.log_buffer.specs.Buffer.{disk_of as disk_below, has_failed};
 ghost use Rattle.log_buffer.specs.Crash.{KeepsRead, KeptThrough};
 ghost use Rattle.log_buffer.specs.Log.{HasLog, ReadAs};
 ghost use Rattle.log_file.specs.Log.{Log, entries_of};
 ghost use Rattle.engine.specs.Crash.{ImagesMean, IsSafeRun};
-ghost use Rattle.engine.specs.Environment.{log_rule};
 ghost use Rattle.engine.specs.Files.{MeanStore};
 ghost use Rattle.engine.specs.Guarded.{KeepsIfWorks};
 ghost use Rattle.engine.specs.Whole.{IsAt, IsGuarded, disk_of};
@@ -51,10 +51,10 @@ impl<D: Disk> Engine<D> {
     /// memory.
     pub fn close(self) -> Closed<D>
         ensures crash { D.observable ≡ true → (most : ℕ) (st : Standing) (start : History) (journal : List Event) → IsGuarded most st start (D.history (disk_of self)) self journal
-            → IsSafeRun st.store start (D.history result.disk) journal }
+            → IsSafeRun st start (D.history result.disk) journal }
         ensures images { D.observable ≡ true → result.failed ≡ false → (most : ℕ) (st : Standing) (start : History) (journal : List Event)
-            → IsAt most D.observable (now (D.history (disk_of self))) self (after_events (log_rule most) st journal) → IsGuarded most st start (D.history (disk_of self)) self journal
-            → (after_events (log_rule most) st journal).fault ≡ None → ImagesMean (now (D.history result.disk)) (after_events (log_rule most) st journal).store }
+            → IsAt most D.observable (now (D.history (disk_of self))) self (after_events st journal) → IsGuarded most st start (D.history (disk_of self)) self journal
+            → (after_events st journal).fault ≡ None → ImagesMean (now (D.history result.disk)) (after_events st journal).store }
         ensures files { D.observable ≡ true → result.failed ≡ false → (most : ℕ) (st : Standing) → IsAt most D.observable (now (D.history (disk_of self))) self st → st.fault ≡ None
             → MeanStore (now (D.history result.disk)).reads st.store }
         ensures cause { result.failed ≡ true → HasRisen (D.faults (disk_of self)) (D.faults result.disk) }

@@ -1,33 +1,35 @@
 // An open environment.
-ghost use Rattle.script_text.specs.Grammar.{has_line};
-ghost use Rattle.std.specs.Prelude.{◌≡◌, ◌≤◌, ◌<◌, ◌+◌, ◌-◌, ◌^◌, ◌∷◌, [], ℕ, None, Some, is_some, true, false, IfSome, IsNone, if◌then◌else◌, ◌++◌, List, length};
+ghost use Rattle.std.specs.Prelude.{◌≡◌, ◌≤◌, ◌<◌, ◌+◌, ◌^◌, ◌∷◌, [], ◌++◌, ℕ, None, Some, is_some, true, false, IfSome, IfOk, IsNone, if◌then◌else◌, List, map};
+ghost use Rattle.std.specs.List.{AllByRecursion};
 ghost use Rattle.je_order.specs.Counts.{HasRisen};
 ghost use Rattle.je_disk.specs.Moments.{History, now};
-ghost use Rattle.je_model.specs.Answers.{Standing, after_events};
-ghost use Rattle.je_model.specs.declared.change.Change.{Change as OneChange};
-ghost use Rattle.je_model.specs.declared.event.Event.{Event};
-ghost use Rattle.je_model.specs.declared.event.Event.TheVariants.{SyncEnd};
+ghost use Rattle.store_model.specs.declared.store.TheConstants.{LAST_DATABASE, LAST_TXN};
+ghost use Rattle.store_model.specs.declared.event.Event.{Event};
+ghost use Rattle.store_model.specs.declared.event.Event.TheVariants.{Call as Called, SyncEnd};
+ghost use Rattle.je_answers.specs.Standing.{Standing};
+ghost use Rattle.je_answers.specs.After.{after_events};
+ghost use Rattle.je_answers.specs.Alone.{IsAutoCommitted};
+ghost use Rattle.je_answers.specs.Events.{IsAnswered};
+ghost use Rattle.je_answers.specs.Journal.{changes_of};
+ghost use Rattle.je_answers.specs.Refusals.{early_refusal};
 ghost use Rattle.log_entry.specs.Body.{IsEntry};
-ghost use Rattle.log_file.specs.Log.{Log};
-ghost use Rattle.log_replay.specs.Logging.{HasOneEntry, change_entry as entry_of_change};
-ghost use Rattle.log_buffer.specs.Growth.{log_with_all};
-ghost use Rattle.engine.specs.Guarded.{IsKeeping, LogsSafely};
-ghost use Rattle.engine.specs.Environment.{IsAtEnd, log_rule};
-ghost use Rattle.engine.specs.Logging.{IsTransaction, entries_logged};
-ghost use Rattle.engine.specs.Planning.{end_behind};
-ghost use Rattle.engine.specs.declared.kept.TheConstants.{LAST_FILE};
-ghost use Rattle.engine.specs.Steps.{LeavesRoom, LogsChange, HasStepCause};
+ghost use Rattle.engine.specs.Environment.{IsAtEnd};
+ghost use Rattle.engine.specs.Limits.{limit_of, most_logged};
+ghost use Rattle.engine.specs.Logging.{SetsLast, entries_planned};
+ghost use Rattle.engine.specs.Planning.{row_by};
+ghost use Rattle.engine.specs.Steps.{HasStepCause, LeavesRoom, LogsChanges};
 ghost use Rattle.engine.specs.Totals.{totals_of};
-ghost use Rattle.engine.specs.Whole.{BeginsSafely, BeginsSync, CanGoOn, EndsSync, GoesOn, GoesOnSafely, IsAt, IsGuarded, IsGuardedInSync, disk_of};
+ghost use Rattle.engine.specs.Whole.{BeginsSafely, BeginsSync, CanGoOn, EndsSync, GoesOn, GoesOnSafely, IsAt, IsGuarded, IsGuardedInSync, disk_of, end_file};
 
-use crate::kept::{COMMIT_SIZE, Kept};
-use crate::logging::{append_both, change_rows, entries_of};
-use crate::planning::{Planned, end_of_transaction, plan};
+use crate::kept::Kept;
+use crate::logging::{end_behind, entries_of, sizes_of, write_rows};
+use crate::planned::Planned;
+use crate::planned_changes::PlannedChanges;
+use crate::planning::plan;
 use je_disk::{Disk, SyncJob};
-use je_model::{Answer, Call, Change, Fault, LAST_TXN, Totals};
-use log_buffer::LogBuffer;
-use log_entry::{Entry, size};
+use log_buffer::{LogBuffer, LogErr};
 use std::alloc::{AllocError, Global};
+use store_model::{Answer, Call, Fault, LAST_DATABASE, LAST_TXN, Totals};
 
 /// An open environment: its log over its disk, and what is kept of it in memory. It is made by `open`,
 /// answers calls by `step`, makes commits durable by `sync_begin` and `sync_end`, and ends by `close`.
@@ -39,16 +41,26 @@ pub struct Engine<D> {
 }
 
 impl<D: Disk> Engine<D> {
-    /// Answers a call, and logs what it changes. Running out of memory leaves the environment as it
-    /// was.
-    pub fn step(&mut self, alloc: Global, call: &Call) -> Result<Answer, AllocError>
+    /// Answers a session's call that is a transaction of its own, and logs what it changes. Running out of
+    /// memory leaves the environment as it was.
+    pub fn step(
+        &mut self,
+        alloc: Global,
+        session: u8,
+        line: u32,
+        call: &Call,
+    ) -> Result<Answer, AllocError>
         requires here { (most : ℕ) × (st : Standing) × IsAt most D.observable (now (D.history (disk_of self.old))) self.old st }
         requires bounds { CanGoOn self.old }
-        requires line { has_line call.now ≡ true }
-        ensures goes_on { (most : ℕ) (st : Standing) → IsAt most D.observable (now (D.history (disk_of self.old))) self.old st → GoesOn most D.observable (now (D.history (disk_of self.new))) self.new st call.now result }
+        requires call { IsAutoCommitted call.now }
+        ensures goes_on { (most : ℕ) (st : Standing) → IsAt most D.observable (now (D.history (disk_of self.old))) self.old st → GoesOn most D.observable (now (D.history (disk_of self.new))) self.old self.new st session line call.now result }
+        ensures exact { (most : ℕ) (st : Standing) → IsAt most D.observable (now (D.history (disk_of self.old))) self.old st
+            → IfOk result (λ answer. IsAnswered (limit_of self.old.kept (changes_of (early_refusal st session call.now) st session call.now)) st (Called session line call.now answer [])) }
+        ensures grows { (most : ℕ) (st : Standing) → IsAt most D.observable (now (D.history (disk_of self.old))) self.old st
+            → end_file self.new ≤ end_file self.old + most_logged (changes_of (early_refusal st session call.now) st session call.now) }
         ensures bounds { CanGoOn self.new }
-        ensures crash { D.observable ≡ true → (most : ℕ) (st : Standing) (start : History) (session line : ℕ) (journal : List Event)
-            → IsAt most D.observable (now (D.history (disk_of self.old))) self.old (after_events (log_rule most) st journal)
+        ensures crash { D.observable ≡ true → (most : ℕ) (st : Standing) (start : History) (journal : List Event)
+            → IsAt most D.observable (now (D.history (disk_of self.old))) self.old (after_events st journal)
             → IsGuarded most st start (D.history (disk_of self.old)) self.old journal
             → GoesOnSafely most st start (D.history (disk_of self.new)) self.new journal session line call.now result }
         ensures cause { HasStepCause (D.faults (disk_of self.old)) (D.faults (disk_of self.new)) result }
@@ -64,82 +76,56 @@ impl<D: Disk> Engine<D> {
                 self.kept.last_txn += 1;
                 Ok(answer)
             }
-            Planned::Logs {
-                number,
-                change,
-                totals,
-            } => self.log(alloc, number, change, totals),
+            Planned::Logs(planned) => self.log(alloc, planned),
         }
     }
 
-    // Logs a change of a valid environment, in the database of that number. Running out of memory
-    // leaves the environment as it was.
-    fn log(
-        &mut self,
-        alloc: Global,
-        number: u32,
-        change: Change,
-        totals: Totals,
-    ) -> Result<Answer, AllocError>
+    // Logs planned changes of a valid environment. Running out of memory leaves the environment as it was.
+    fn log(&mut self, alloc: Global, planned: PlannedChanges) -> Result<Answer, AllocError>
         requires bounds { LeavesRoom self.old.kept }
         requires works { IsAtEnd self.old.log self.old.kept }
-        requires numbers { self.old.kept.last_txn < 2 ^ 63 - 1 }
-        requires one { HasOneEntry change }
-        requires entry { IsEntry (entry_of_change (self.old.kept.last_txn + 1) number change) }
-        requires room { (end_behind self.old.kept change).file ≤ LAST_FILE }
-        ensures logs { LogsChange D.observable (now (D.history (disk_of self.old))) (now (D.history (disk_of self.new))) self.old.log self.new.log self.old.kept self.new.kept number change totals result }
+        requires numbers { self.old.kept.last_txn < LAST_TXN }
+        requires last { planned.last_db ≤ LAST_DATABASE → SetsLast (map (row_by 0) planned.rows) }
+        requires entries { AllByRecursion IsEntry (entries_planned (self.old.kept.last_txn + 1) planned.rows) }
+        ensures logs { LogsChanges D.observable D.history D.sync_out D.read_out D.read_of self.old.log self.new.log self.old.kept self.new.kept planned result }
         ensures bounds { LeavesRoom self.new.kept }
-        ensures crash { D.observable ≡ true → (held : Log) (least : ℕ) → IsKeeping (now (D.history (disk_of self.old))) self.old.log held least None
-            → LogsSafely (D.history (disk_of self.old)) (D.history (disk_of self.new)) self.new.log held (log_with_all self.old.kept.file_max self.old.kept.end (entries_logged (self.old.kept.last_txn + 1) number change) held) least result }
         ensures cause { HasStepCause (D.faults (disk_of self.old)) (D.faults (disk_of self.new)) result }
     {
         let txn = self.kept.last_txn + 1;
-        let (entry, commit) = entries_of(alloc, txn, number, change)?;
-        let answer = self.log_both(alloc, number, totals, &entry, &commit);
-        // let go by name, each is one step of a proof, and not one for each kind of entry
-        drop(entry);
-        drop(commit);
-        answer
-    }
-
-    // Logs the entry of a change and the commit of its transaction. Running out of memory leaves the
-    // environment as it was.
-    fn log_both(
-        &mut self,
-        alloc: Global,
-        number: u32,
-        totals: Totals,
-        entry: &Entry,
-        commit: &Entry,
-    ) -> Result<Answer, AllocError>
-        requires bounds { LeavesRoom self.old.kept }
-        requires works { IsAtEnd self.old.log self.old.kept }
-        requires numbers { self.old.kept.last_txn < 2 ^ 63 - 1 }
-        requires logs { (change : OneChange) × IsTransaction (self.old.kept.last_txn + 1) number change entry.now commit.now × IsEntry entry.now × ((end_behind self.old.kept change).file ≤ LAST_FILE) }
-        ensures logs { (change : OneChange) → IsTransaction (self.old.kept.last_txn + 1) number change entry.now commit.now
-            → LogsChange D.observable (now (D.history (disk_of self.old))) (now (D.history (disk_of self.new))) self.old.log self.new.log self.old.kept self.new.kept number change totals result }
-        ensures bounds { LeavesRoom self.new.kept }
-        ensures crash { D.observable ≡ true → (held : Log) (least : ℕ) → IsKeeping (now (D.history (disk_of self.old))) self.old.log held least None
-            → LogsSafely (D.history (disk_of self.old)) (D.history (disk_of self.new)) self.new.log held (log_with_all self.old.kept.file_max self.old.kept.end (entry.now ∷ commit.now ∷ []) held) least result }
-        ensures cause { HasStepCause (D.faults (disk_of self.old)) (D.faults (disk_of self.new)) result }
-    {
-        let size = size(entry);
-        let end = end_of_transaction(self.kept.end, self.kept.file_max, size).unwrap();
-        if self.log.reserve(&[size, COMMIT_SIZE]).is_err() {
-            return Err(AllocError);
+        let PlannedChanges {
+            rows,
+            last_db,
+            totals,
+        } = planned;
+        let entries = entries_of(alloc, txn, rows.as_slice())?;
+        let sizes = sizes_of(alloc, &entries)?;
+        let Some(end) = end_behind(self.kept.end, self.kept.file_max, &sizes) else {
+            self.kept.last_txn = txn;
+            return Ok(Answer::LogFull);
+        };
+        if u64::from(LAST_DATABASE) < last_db {
+            self.kept.last_txn = txn;
+            return Ok(Answer::IdsEnded);
         }
-        change_rows(&mut self.kept.rows, alloc, entry)?;
-        self.kept.last_txn += 1;
-        match append_both(&mut self.log, entry, commit) {
+        match write_rows(
+            &mut self.log,
+            &mut self.kept.rows,
+            alloc,
+            rows,
+            entries,
+            &sizes,
+        ) {
             Ok(()) => {
+                self.kept.last_txn = txn;
                 self.kept.commits += 1;
                 self.kept.totals = totals;
-                self.kept.last_db = self.kept.last_db.max(number);
+                self.kept.last_db = last_db as u32;
                 self.kept.end = end;
                 Ok(Answer::Logged {
                     commit: self.kept.commits,
                 })
             }
+            Err(LogErr::Memory) => Err(AllocError),
             Err(_) => {
                 self.kept.fault = Some(Fault::Disk);
                 Ok(Answer::DiskFault)
@@ -153,7 +139,7 @@ impl<D: Disk> Engine<D> {
         ensures begins { (most : ℕ) (st : Standing) → IsAt most D.observable (now (D.history (disk_of self.old))) self.old st → st.fault ≡ None
             → BeginsSync most D.observable (now (D.history (disk_of self.new))) self.new st (if is_some result then Answer.Done else Answer.DiskFault) }
         ensures crash { D.observable ≡ true → (most : ℕ) (st : Standing) (start : History) (journal : List Event)
-            → (after_events (log_rule most) st journal).fault ≡ None → IsGuarded most st start (D.history (disk_of self.old)) self.old journal
+            → (after_events st journal).fault ≡ None → IsGuarded most st start (D.history (disk_of self.old)) self.old journal
             → BeginsSafely most st start (D.history (disk_of self.new)) self.new journal (is_some result) }
         ensures out { IfSome result (λ job. D.sync_out (disk_of self.new) ≡ Some (D.Job.job_number job)) }
         ensures bounds { CanGoOn self.old → CanGoOn self.new }
@@ -176,7 +162,7 @@ impl<D: Disk> Engine<D> {
         ensures ends { (most : ℕ) (st : Standing) → IsAt most D.observable (now (D.history (disk_of self.old))) self.old st → st.fault ≡ None
             → EndsSync most D.observable (now (D.history (disk_of self.new))) self.new st result }
         ensures crash { D.observable ≡ true → (most : ℕ) (st : Standing) (start : History) (journal : List Event)
-            → IsAt most D.observable (now (D.history (disk_of self.old))) self.old (after_events (log_rule most) st journal) → (after_events (log_rule most) st journal).fault ≡ None
+            → IsAt most D.observable (now (D.history (disk_of self.old))) self.old (after_events st journal) → (after_events st journal).fault ≡ None
             → IsGuardedInSync most st start (D.history (disk_of self.old)) self.old journal
             → IsGuarded most st start (D.history (disk_of self.new)) self.new (journal ++ SyncEnd result ∷ []) }
         ensures bounds { CanGoOn self.old → CanGoOn self.new }

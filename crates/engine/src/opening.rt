@@ -19,10 +19,10 @@ use crate::kept::Kept;
 use crate::open_err::OpenErr;
 use je_disk::{Disk, DiskErr};
 use je_lsn::{FileNo, Lsn};
-use je_model::Store;
 use log_buffer::{HEADER_SIZE, LogBuffer, LogPos};
 use log_replay::{LastFile, LogRead, ReadLog, Replayed, read_log};
 use std::alloc::{AllocError, Global};
+use store_model::Store;
 
 /// An open environment, and the store that it held at entry.
 pub struct Opened<D> {

@@ -1,6 +1,6 @@
 use Rattle.std.proofs.Common.{[], None, sym, ◌∙◌}
 use Rattle.je_disk.specs.Moments.{now}
-use Rattle.engine.proofs.BothLaws.{as_observed}
+use Rattle.engine.proofs.ObservedLaws.{as_observed}
 use Rattle.engine.proofs.closing.close_log.Goals as goal
 
 pub returns-in_default-Ok-clause-crash : goal.returns-in_default-Ok-clause-crash

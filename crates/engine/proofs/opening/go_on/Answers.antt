@@ -4,11 +4,10 @@ use Rattle.je_disk.specs.States.{Files}
 use Rattle.log_buffer.specs.Buffer.{disk_of}
 use Rattle.engine.specs.Opening.{HasTornTailCut, StartsLog, WasRead, kept_at_start, log_start_of}
 use Rattle.engine.specs.Crash.{KeepsEntry}
-use Rattle.engine.proofs.BothLaws.{of_observed}
+use Rattle.engine.proofs.ObservedLaws.{of_observed}
 use Rattle.engine.proofs.EntryLaws.{entry_settled}
-use Rattle.engine.proofs.OpenedLaws.{opened_safely, opened_safely_along}
+use Rattle.engine.proofs.OpenedLaws.{on_ok_not_err, opened_safely, opened_safely_along}
 use Rattle.engine.proofs.OpeningLaws.{log_from, opened_along, opened_at, starts_log}
-use Rattle.engine.proofs.LoggingLaws.{on_ok_not_err}
 use Rattle.engine.proofs.WholeLaws.{opened_as_one, opened_safely_as_one}
 use Rattle.engine.proofs.opening.go_on.Goals as goal
 

@@ -1,107 +1,221 @@
-use Rattle.std.proofs.Common.{◌≡◌, Bool, true, None, ◌∙◌, ◌+◌, sym, subst, refl, arith}
+use Rattle.std.proofs.Common.{◌≡◌, ◌≤◌, ◌+◌, false, true≢false, None, Ok, ◌∙◌, sym, subst, ap, refl, arith}
 use Rattle.je_disk.specs.Moments.{now}
+use Rattle.store_model.specs.declared.answer.Answer.TheVariants.{IdsEnded, Invalid}
+use Rattle.store_model.specs.Evaluation.{Outcome}
+use Rattle.je_answers.specs.Standing.{Standing}
+use Rattle.je_answers.specs.Alone.{drawn_alone}
+use Rattle.je_answers.specs.Journal.{changes_of, is_disk_fault}
+use Rattle.je_answers.specs.Refusals.{early_refusal}
 use Rattle.log_buffer.specs.Buffer.{disk_of}
-use Rattle.je_model.specs.declared.answer.Answer.TheVariants.{IdsEnded, Invalid}
-use Rattle.engine.specs.declared.planning.Planned.TheVariants.{Answered, Logs}
-use Rattle.engine.specs.Planning.{IsLogged}
-use Rattle.engine.specs.Guarded.{log_after}
-use Rattle.je_model.specs.Answers.{after_events}
-use Rattle.engine.specs.Environment.{AreAt, log_rule}
-use Rattle.engine.proofs.CallLaws.{both_logged, goes_on_safely, goes_nowhere}
-use Rattle.engine.proofs.GuardLaws.{guarded_quiet, plain_no_fault, plain_unlogged}
-use Rattle.log_replay.specs.Rows.{rows_in}
-use Rattle.log_file.specs.Log.{Log}
-use Rattle.engine.proofs.LoggingLaws.{one_entry}
-use Rattle.engine.proofs.WholeLaws.{safely_as_one}
-use Rattle.engine.proofs.GoesOnLaws.{plan_of, answered_goes_on, logged_goes_on}
+use Rattle.engine.specs.declared.planned.Planned.{Planned}
+use Rattle.engine.specs.Limits.{most_logged}
+use Rattle.engine.specs.Planning.{IsPlanned}
+use Rattle.engine.proofs.AttemptLaws.{alone_changes, fault_changes, tried_none, tried_refused}
+use Rattle.engine.proofs.CallLaws.{answers_exactly, can_plan, goes_on_by, guarded_calm, guarded_logs, logs_end, logs_grow, model, no_memory, no_memory_safely, none_answered, planned_sets, safely_as_one}
+use Rattle.engine.proofs.PlanLaws.{answered_ends, invalid_ends, no_number_ends}
+use Rattle.engine.proofs.ShapeLaws.{outcome_calm}
+use Rattle.engine.proofs.StepLaws.{drawn_at, entries_of_may, planned_may}
 use Rattle.engine.proofs.engine.Engine.step.Goals as goal
 
-pub log-requires-clause-entry : goal.log-requires-clause-entry
-log-requires-clause-entry g c κs within =
+pub plan-requires-clause-can : goal.plan-requires-clause-can
+plan-requires-clause-can g c =
     let kept = c.args.self.now.kept in
     let log = c.args.self.now.log in
-    let logged : IsLogged kept c.requires.here.1 c.args.call.now c.in-Logs.number c.in-Logs.change c.in-Logs.totals =
-    plan_of c.requires.here.0 g.D.Disk.observable (now (g.D.Disk.history (disk_of log))) log kept c.requires.here.1 c.args.call.now (Logs c.in-Logs.number c.in-Logs.change c.in-Logs.totals)
-    c.requires.here.2 c.in_default.is c.requires.bounds.last_db c.in_ok-answer.ensures.word c.requires.line (sym c.in-Logs.is ∙ c.in_ok-answer.ensures.planned) in
-    logged.entry (kept.last_txn + 1) (omega arith)
+    let here = c.requires.here.2 in
+    can_plan c.requires.here.0 g.D.Disk.observable (now (g.D.Disk.history (disk_of log))) log kept here.alone_at here.here c.in_default.is c.if-self-ge-LAST_TXN.false
 
-pub log-requires-clause-one : goal.log-requires-clause-one
-log-requires-clause-one g c κs within =
-    let kept = c.args.self.now.kept in
-    let log = c.args.self.now.log in
-    let logged : IsLogged kept c.requires.here.1 c.args.call.now c.in-Logs.number c.in-Logs.change c.in-Logs.totals =
-    plan_of c.requires.here.0 g.D.Disk.observable (now (g.D.Disk.history (disk_of log))) log kept c.requires.here.1 c.args.call.now (Logs c.in-Logs.number c.in-Logs.change c.in-Logs.totals)
-    c.requires.here.2 c.in_default.is c.requires.bounds.last_db c.in_ok-answer.ensures.word c.requires.line (sym c.in-Logs.is ∙ c.in_ok-answer.ensures.planned) in
-    one_entry (rows_in kept.rows) kept.last_db c.in-Logs.number c.in-Logs.change logged.may
+pub log-requires-clause-works : goal.log-requires-clause-works
+log-requires-clause-works g c κs within =
+    let here = c.requires.here.2 in
+    (here.here.valid (sym here.here.fault ∙ c.in_default.is)).at_end
 
-pub log-requires-clause-room : goal.log-requires-clause-room
-log-requires-clause-room g c κs within =
+pub log-requires-clause-last : goal.log-requires-clause-last
+log-requires-clause-last g c κs within =
     let kept = c.args.self.now.kept in
-    let log = c.args.self.now.log in
-    let logged : IsLogged kept c.requires.here.1 c.args.call.now c.in-Logs.number c.in-Logs.change c.in-Logs.totals =
-    plan_of c.requires.here.0 g.D.Disk.observable (now (g.D.Disk.history (disk_of log))) log kept c.requires.here.1 c.args.call.now (Logs c.in-Logs.number c.in-Logs.change c.in-Logs.totals)
-    c.requires.here.2 c.in_default.is c.requires.bounds.last_db c.in_ok-answer.ensures.word c.requires.line (sym c.in-Logs.is ∙ c.in_ok-answer.ensures.planned) in
-    logged.room
+    let here = c.requires.here.2 in
+    let p = here.alone_at in
+    let planned = subst (λ (x : Planned). IsPlanned kept p c.args.session c.args.call.now x) c.in-Logs.is (c.in_ok-answer.ensures p c.args.session (model kept p here.here (sym here.here.fault ∙ c.in_default.is))) in
+    planned_sets kept p c.args.session c.args.call.now c.in-Logs.planned c.requires.call planned
+
+pub log-requires-clause-entries : goal.log-requires-clause-entries
+log-requires-clause-entries g c κs within =
+    let kept = c.args.self.now.kept in
+    let here = c.requires.here.2 in
+    let p = here.alone_at in
+    let planned = subst (λ (x : Planned). IsPlanned kept p c.args.session c.args.call.now x) c.in-Logs.is (c.in_ok-answer.ensures p c.args.session (model kept p here.here (sym here.here.fault ∙ c.in_default.is))) in
+    entries_of_may _ (planned_may kept p c.args.session c.args.call.now c.in-Logs.planned c.if-self-ge-LAST_TXN.false planned)
+
+-- ---- Invalid
+
+pub returns-in-Some-clause-goes_on : goal.returns-in-Some-clause-goes_on
+returns-in-Some-clause-goes_on g c = λ most st here.
+    let engine = c.args.self.now in
+    let p = here.alone_at in
+    goes_on_by most g.D.Disk.observable (now (g.D.Disk.history (disk_of engine.log))) engine engine st p c.args.session c.args.line c.args.call.now (Ok (Invalid c.in-Some.first)) here.st_is c.requires.call
+    (record { after = p; ends = invalid_ends _ p c.args.session c.args.call.now c.in-Some.first (sym here.here.fault ∙ c.in-Some.is); here = here.here })
+
+pub returns-in-Some-clause-exact : goal.returns-in-Some-clause-exact
+returns-in-Some-clause-exact g c = λ most st here.
+    let engine = c.args.self.now in
+    let p = here.alone_at in
+    answers_exactly most g.D.Disk.observable (now (g.D.Disk.history (disk_of engine.log))) engine.log engine.kept engine.kept st p c.args.session c.args.line c.args.call.now (Ok (Invalid c.in-Some.first)) here.st_is c.requires.call
+    (record { after = p; ends = invalid_ends _ p c.args.session c.args.call.now c.in-Some.first (sym here.here.fault ∙ c.in-Some.is); here = here.here })
+
+pub returns-in-Some-clause-crash : goal.returns-in-Some-clause-crash
+returns-in-Some-clause-crash g c = λ observed most st start journal here is.
+    let engine = c.args.self.now in
+    let p = here.alone_at in
+    let fault = sym here.here.fault ∙ c.in-Some.is in (
+      is.0,
+      guarded_calm st is.0 start (g.D.Disk.history (disk_of engine.log)) engine.log journal p p c.args.session c.args.line c.args.call.now (Invalid c.in-Some.first) here.st_is c.requires.call
+          (invalid_ends None p c.args.session c.args.call.now c.in-Some.first fault).leaves refl refl
+          (tried_none _ _ (fault_changes p c.args.session c.args.call.now c.in-Some.first fault)) is.1,
+    )
+
+-- ---- no transaction number
+
+pub returns-then-self-ge-LAST_TXN-clause-goes_on : goal.returns-then-self-ge-LAST_TXN-clause-goes_on
+returns-then-self-ge-LAST_TXN-clause-goes_on g c = λ most st here.
+    let engine = c.args.self.now in
+    let p = here.alone_at in
+    let last = here.here.last_txn in
+    let over = c.if-self-ge-LAST_TXN.true in
+    goes_on_by most g.D.Disk.observable (now (g.D.Disk.history (disk_of engine.log))) engine engine st p c.args.session c.args.line c.args.call.now (Ok IdsEnded) here.st_is c.requires.call
+    (record { after = p; ends = no_number_ends _ p c.args.session c.args.call.now (sym here.here.fault ∙ c.in_default.is) (omega (arith, last, over)); here = here.here })
+
+pub returns-then-self-ge-LAST_TXN-clause-exact : goal.returns-then-self-ge-LAST_TXN-clause-exact
+returns-then-self-ge-LAST_TXN-clause-exact g c = λ most st here.
+    let engine = c.args.self.now in
+    let p = here.alone_at in
+    let last = here.here.last_txn in
+    let over = c.if-self-ge-LAST_TXN.true in
+    answers_exactly most g.D.Disk.observable (now (g.D.Disk.history (disk_of engine.log))) engine.log engine.kept engine.kept st p c.args.session c.args.line c.args.call.now (Ok IdsEnded) here.st_is c.requires.call
+    (record { after = p; ends = no_number_ends _ p c.args.session c.args.call.now (sym here.here.fault ∙ c.in_default.is) (omega (arith, last, over)); here = here.here })
+
+pub returns-then-self-ge-LAST_TXN-clause-crash : goal.returns-then-self-ge-LAST_TXN-clause-crash
+returns-then-self-ge-LAST_TXN-clause-crash g c = λ observed most st start journal here is.
+    let engine = c.args.self.now in
+    let p = here.alone_at in
+    let last = here.here.last_txn in
+    let over = c.if-self-ge-LAST_TXN.true in (
+      is.0,
+      guarded_calm st is.0 start (g.D.Disk.history (disk_of engine.log)) engine.log journal p p c.args.session c.args.line c.args.call.now IdsEnded here.st_is c.requires.call
+          (no_number_ends None p c.args.session c.args.call.now (sym here.here.fault ∙ c.in_default.is) (omega (arith, last, over))).leaves refl refl
+          (tried_refused _) is.1,
+    )
+
+-- ---- no memory
+
+pub returns-in_err-answer-clause-goes_on : goal.returns-in_err-answer-clause-goes_on
+returns-in_err-answer-clause-goes_on g c = λ most st here.
+    let engine = c.args.self.now in
+    no_memory most g.D.Disk.observable (now (g.D.Disk.history (disk_of engine.log))) engine st c.args.session c.args.line c.args.call.now c.from_residual.result c.from_residual.ensures.0 here
+
+pub returns-in_err-answer-clause-exact : goal.returns-in_err-answer-clause-exact
+returns-in_err-answer-clause-exact g c = λ most st here. none_answered c.from_residual.result _ c.from_residual.ensures.0
+
+pub returns-in_err-answer-clause-crash : goal.returns-in_err-answer-clause-crash
+returns-in_err-answer-clause-crash g c = λ observed most st start journal here is.
+    let engine = c.args.self.now in
+    no_memory_safely most st start (g.D.Disk.history (disk_of engine.log)) engine journal c.args.session c.args.line c.args.call.now c.from_residual.result c.from_residual.ensures.0 is
+
+-- ---- an answer that changes nothing
 
 pub returns-in-Answered-clause-goes_on : goal.returns-in-Answered-clause-goes_on
 returns-in-Answered-clause-goes_on g c = λ most st here.
-    let kept = c.args.self.now.kept in
-    let log = c.args.self.now.log in
-    answered_goes_on most g.D.Disk.observable (now (g.D.Disk.history (disk_of log))) log kept st c.args.call.now c.in-Answered.answer here c.in_default.is c.if-self-ge-LAST_TXN.false
-    (plan_of most g.D.Disk.observable (now (g.D.Disk.history (disk_of log))) log kept st c.args.call.now (Answered c.in-Answered.answer)
-    here c.in_default.is c.requires.bounds.last_db c.in_ok-answer.ensures.word c.requires.line (sym c.in-Answered.is ∙ c.in_ok-answer.ensures.planned))
+    let engine = c.args.self.now in
+    let p = here.alone_at in
+    let none = sym here.here.fault ∙ c.in_default.is in
+    let state = now (g.D.Disk.history (disk_of engine.log)) in
+    let planned = subst (λ (x : Planned). IsPlanned engine.kept p c.args.session c.args.call.now x) c.in-Answered.is (c.in_ok-answer.ensures p c.args.session (model engine.kept p here.here none)) in
+    goes_on_by most g.D.Disk.observable state engine (record engine { kept = record engine.kept { last_txn = engine.kept.last_txn + 1 } }) st p c.args.session c.args.line c.args.call.now (Ok c.in-Answered.answer) here.st_is c.requires.call
+    (record {
+      after = drawn_alone p;
+      ends = answered_ends _ engine.kept p c.args.session c.args.call.now c.in-Answered.answer none c.requires.call planned;
+      here = drawn_at most g.D.Disk.observable state engine.log engine.kept p here.here c.if-self-ge-LAST_TXN.false;
+    })
+
+pub returns-in-Answered-clause-exact : goal.returns-in-Answered-clause-exact
+returns-in-Answered-clause-exact g c = λ most st here.
+    let engine = c.args.self.now in
+    let p = here.alone_at in
+    let none = sym here.here.fault ∙ c.in_default.is in
+    let state = now (g.D.Disk.history (disk_of engine.log)) in
+    let planned = subst (λ (x : Planned). IsPlanned engine.kept p c.args.session c.args.call.now x) c.in-Answered.is (c.in_ok-answer.ensures p c.args.session (model engine.kept p here.here none)) in
+    answers_exactly most g.D.Disk.observable state engine.log engine.kept (record engine.kept { last_txn = engine.kept.last_txn + 1 }) st p c.args.session c.args.line c.args.call.now (Ok c.in-Answered.answer) here.st_is c.requires.call
+    (record {
+      after = drawn_alone p;
+      ends = answered_ends _ engine.kept p c.args.session c.args.call.now c.in-Answered.answer none c.requires.call planned;
+      here = drawn_at most g.D.Disk.observable state engine.log engine.kept p here.here c.if-self-ge-LAST_TXN.false;
+    })
+
+pub returns-in-Answered-clause-crash : goal.returns-in-Answered-clause-crash
+returns-in-Answered-clause-crash g c = λ observed most st start journal here is.
+    let engine = c.args.self.now in
+    let p = here.alone_at in
+    let none = sym here.here.fault ∙ c.in_default.is in
+    let planned = subst (λ (x : Planned). IsPlanned engine.kept p c.args.session c.args.call.now x) c.in-Answered.is (c.in_ok-answer.ensures p c.args.session (model engine.kept p here.here none)) in (
+      is.0,
+      guarded_calm st is.0 start (g.D.Disk.history (disk_of engine.log)) engine.log journal p (drawn_alone p) c.args.session c.args.line c.args.call.now c.in-Answered.answer here.st_is c.requires.call
+          (answered_ends None engine.kept p c.args.session c.args.call.now c.in-Answered.answer none c.requires.call planned).leaves refl
+          (sym (ap (λ (o : Outcome). is_disk_fault o.answer) planned) ∙ outcome_calm p c.args.session c.args.call.now c.requires.call)
+          (tried_none _ _ (alone_changes p c.args.session c.args.call.now none c.requires.call ∙ ap (λ (o : Outcome). o.changes) planned)) is.1,
+    )
+
+-- ---- changes that are logged
 
 pub returns-in-Logs-clause-goes_on : goal.returns-in-Logs-clause-goes_on
 returns-in-Logs-clause-goes_on g c = λ most st here.
-    let kept = c.args.self.now.kept in
-    let log = c.args.self.now.log in
-    logged_goes_on most g.D.Disk.observable (now (g.D.Disk.history (disk_of log))) (now (g.D.Disk.history (disk_of c.log.new.self.log))) log c.log.new.self.log kept c.log.new.self.kept st c.args.call.now
-    c.in-Logs.number c.in-Logs.change c.in-Logs.totals c.log.result here c.in_default.is c.if-self-ge-LAST_TXN.false c.requires.bounds.offset
-    (plan_of most g.D.Disk.observable (now (g.D.Disk.history (disk_of log))) log kept st c.args.call.now (Logs c.in-Logs.number c.in-Logs.change c.in-Logs.totals)
-    here c.in_default.is c.requires.bounds.last_db c.in_ok-answer.ensures.word c.requires.line (sym c.in-Logs.is ∙ c.in_ok-answer.ensures.planned))
-    c.log.ensures.logs
+    let engine = c.args.self.now in
+    let new = c.log.new.self in
+    let p = here.alone_at in
+    let none = sym here.here.fault ∙ c.in_default.is in
+    let planned = subst (λ (x : Planned). IsPlanned engine.kept p c.args.session c.args.call.now x) c.in-Logs.is (c.in_ok-answer.ensures p c.args.session (model engine.kept p here.here none)) in
+    let small = c.requires.bounds.last_db in
+    goes_on_by most g.D.Disk.observable (now (g.D.Disk.history (disk_of new.log))) engine new st p c.args.session c.args.line c.args.call.now c.log.result here.st_is c.requires.call
+    (logs_end g.D.Disk.observable g.D.Disk.history g.D.Disk.sync_out g.D.Disk.read_out g.D.Disk.read_of most engine.log new.log engine.kept new.kept p c.args.session c.args.call.now c.in-Logs.planned c.log.result
+    here.here none c.requires.call c.if-self-ge-LAST_TXN.false (omega (arith, small)) planned c.log.ensures.logs)
 
-pub returns-in-Answered-clause-crash : goal.returns-in-Answered-clause-crash
-returns-in-Answered-clause-crash g c = λ observed most st start session line journal here is.
-    let kept = c.args.self.now.kept in
-    let buffer = c.args.self.now.log in
-    let planned = plan_of most g.D.Disk.observable (now (g.D.Disk.history (disk_of buffer))) buffer kept (after_events (log_rule most) st journal) c.args.call.now (Answered c.in-Answered.answer)
-    here c.in_default.is c.requires.bounds.last_db c.in_ok-answer.ensures.word c.requires.line (sym c.in-Answered.is ∙ c.in_ok-answer.ensures.planned) in (
-      is.0,
-      guarded_quiet most st is.0 start (g.D.Disk.history (disk_of buffer)) buffer journal session line c.args.call.now c.in-Answered.answer
-          (plain_unlogged c.in-Answered.answer planned.1) (plain_no_fault c.in-Answered.answer planned.1) is.1,
-    )
+pub returns-in-Logs-clause-exact : goal.returns-in-Logs-clause-exact
+returns-in-Logs-clause-exact g c = λ most st here.
+    let engine = c.args.self.now in
+    let new = c.log.new.self in
+    let p = here.alone_at in
+    let none = sym here.here.fault ∙ c.in_default.is in
+    let planned = subst (λ (x : Planned). IsPlanned engine.kept p c.args.session c.args.call.now x) c.in-Logs.is (c.in_ok-answer.ensures p c.args.session (model engine.kept p here.here none)) in
+    let small = c.requires.bounds.last_db in
+    answers_exactly most g.D.Disk.observable (now (g.D.Disk.history (disk_of new.log))) new.log engine.kept new.kept st p c.args.session c.args.line c.args.call.now c.log.result here.st_is c.requires.call
+    (logs_end g.D.Disk.observable g.D.Disk.history g.D.Disk.sync_out g.D.Disk.read_out g.D.Disk.read_of most engine.log new.log engine.kept new.kept p c.args.session c.args.call.now c.in-Logs.planned c.log.result
+    here.here none c.requires.call c.if-self-ge-LAST_TXN.false (omega (arith, small)) planned c.log.ensures.logs)
+
+pub returns-in-Logs-clause-grows : goal.returns-in-Logs-clause-grows
+returns-in-Logs-clause-grows g c = λ most st here.
+    let engine = c.args.self.now in
+    let new = c.log.new.self in
+    let p = here.alone_at in
+    let none = sym here.here.fault ∙ c.in_default.is in
+    let planned = subst (λ (x : Planned). IsPlanned engine.kept p c.args.session c.args.call.now x) c.in-Logs.is (c.in_ok-answer.ensures p c.args.session (model engine.kept p here.here none)) in
+    subst (λ (s : Standing). new.kept.end.file ≤ engine.kept.end.file + most_logged (changes_of (early_refusal s c.args.session c.args.call.now) s c.args.session c.args.call.now)) (sym here.st_is)
+    (logs_grow g.D.Disk.observable g.D.Disk.history g.D.Disk.sync_out g.D.Disk.read_out g.D.Disk.read_of engine.log new.log engine.kept new.kept p c.args.session c.args.call.now c.in-Logs.planned c.log.result
+    none c.requires.call planned c.log.ensures.logs)
 
 pub returns-in-Logs-clause-crash : goal.returns-in-Logs-clause-crash
-returns-in-Logs-clause-crash g c = λ observed most st start session line journal here is.
+returns-in-Logs-clause-crash g c = λ observed most st start journal here is.
+    let engine = c.args.self.now in
+    let new = c.log.new.self in
+    let p = here.alone_at in
+    let none = sym here.here.fault ∙ c.in_default.is in
+    let planned = subst (λ (x : Planned). IsPlanned engine.kept p c.args.session c.args.call.now x) c.in-Logs.is (c.in_ok-answer.ensures p c.args.session (model engine.kept p here.here none)) in
+    let small = c.requires.bounds.last_db in
+    safely_as_one most st start (g.D.Disk.history (disk_of new.log)) new journal c.args.session c.args.line c.args.call.now c.log.result
+    (guarded_logs g.D.Disk.observable g.D.Disk.history g.D.Disk.sync_out g.D.Disk.read_out g.D.Disk.read_of most st is.0 start engine.log new.log engine.kept new.kept journal p c.args.session c.args.line c.args.call.now c.in-Logs.planned c.log.result
+    observed here.st_is here.here none c.requires.call c.if-self-ge-LAST_TXN.false (omega (arith, small)) planned c.log.ensures.logs is.1)
+
+pub returns-in-Answered-clause-cause : goal.returns-in-Answered-clause-cause
+returns-in-Answered-clause-cause g c =
     let kept = c.args.self.now.kept in
-    let buffer = c.args.self.now.log in
-    let log : Log = is.0 in
-    let guarded = is.1 in
-    let history = g.D.Disk.history (disk_of buffer) in
-    let after = g.D.Disk.history (disk_of c.log.new.self.log) in
-    let standing = after_events (log_rule most) st journal in
-    let here_observed : AreAt most true (now history) buffer kept standing = subst (λ (t : Bool). AreAt most t (now history) buffer kept standing) observed here in
-    let none : standing.fault ≡ None = sym here.fault ∙ c.in_default.is in
-    let logged = plan_of most g.D.Disk.observable (now history) buffer kept standing c.args.call.now (Logs c.in-Logs.number c.in-Logs.change c.in-Logs.totals)
-    here c.in_default.is c.requires.bounds.last_db c.in_ok-answer.ensures.word c.requires.line (sym c.in-Logs.is ∙ c.in_ok-answer.ensures.planned) in
-    let keeping = (guarded.works none).keeping in
-    safely_as_one most st log start after c.log.new.self journal session line c.args.call.now c.log.result
-    (goes_on_safely most st log start history after buffer c.log.new.self.log kept c.log.new.self.kept journal session line c.args.call.now
-    c.in-Logs.number c.in-Logs.change c.in-Logs.totals g.D.Disk.observable c.log.result here_observed none guarded logged
-    (both_logged (now history) buffer kept standing c.args.call.now c.in-Logs.number c.in-Logs.change c.in-Logs.totals (log_after most st journal log) guarded.least keeping (here.valid none).at_end logged c.if-self-ge-LAST_TXN.false)
-    c.log.ensures.logs (c.log.ensures.crash observed (log_after most st journal log) guarded.least keeping))
-
-pub returns-in-Some-clause-crash : goal.returns-in-Some-clause-crash
-returns-in-Some-clause-crash g c = λ observed most st start session line journal here is.
-    (is.0, guarded_quiet most st is.0 start (g.D.Disk.history (disk_of c.args.self.now.log)) c.args.self.now.log journal session line c.args.call.now (Invalid c.in-Some.first) refl refl is.1)
-
-pub returns-then-self-ge-LAST_TXN-clause-crash : goal.returns-then-self-ge-LAST_TXN-clause-crash
-returns-then-self-ge-LAST_TXN-clause-crash g c = λ observed most st start session line journal here is.
-    (is.0, guarded_quiet most st is.0 start (g.D.Disk.history (disk_of c.args.self.now.log)) c.args.self.now.log journal session line c.args.call.now IdsEnded refl refl is.1)
-
-pub returns-in_err-answer-clause-crash : goal.returns-in_err-answer-clause-crash
-returns-in_err-answer-clause-crash g c = λ observed most st start session line journal here is.
-    let history = g.D.Disk.history (disk_of c.args.self.now.log) in
-    safely_as_one most st is.0 start history c.args.self.now journal session line c.args.call.now c.from_residual.result
-    (goes_nowhere most st is.0 start history c.args.self.now.log journal session line c.args.call.now c.from_residual.result c.from_residual.ensures.0 is.1)
+    let here = c.requires.here.2 in
+    let p = here.alone_at in
+    let planned = subst (λ (x : Planned). IsPlanned kept p c.args.session c.args.call.now x) c.in-Answered.is (c.in_ok-answer.ensures p c.args.session (model kept p here.here (sym here.here.fault ∙ c.in_default.is))) in
+    let calm : is_disk_fault c.in-Answered.answer ≡ false = sym (ap (λ (o : Outcome). is_disk_fault o.answer) planned) ∙ outcome_calm p c.args.session c.args.call.now c.requires.call in
+    record { never_falls = omega arith; fault = λ e. absurd (true≢false (sym (ap is_disk_fault e) ∙ calm)) }

@@ -1,17 +1,48 @@
-use Rattle.std.proofs.Common.{◌≡◌, List, [], ◌∷◌, ◌++◌, None, Some, Err, length, ap, sym, subst}
+use Rattle.std.proofs.Common.{None, Some, [], Err, ap, refl, inl, inr}
 use Rattle.je_disk.specs.Moments.{now}
 use Rattle.je_disk.specs.States.{State}
+use Rattle.store_model.specs.declared.answer.Answer.TheVariants.{Done, DiskFault}
+use Rattle.store_model.specs.declared.answer.Fault.TheVariants.{Disk}
+use Rattle.store_model.specs.declared.event.Event.TheVariants.{SyncBegin}
+use Rattle.je_answers.specs.Standing.{Standing}
+use Rattle.je_answers.specs.After.{after_event}
 use Rattle.log_buffer.specs.Buffer.{disk_of}
-use Rattle.je_model.specs.declared.event.Event.{Event}
-use Rattle.je_model.specs.declared.event.Event.TheVariants.{SyncBegin}
-use Rattle.je_model.specs.declared.answer.Answer.TheVariants.{Done}
-use Rattle.log_file.specs.Log.{Log, entries_of}
-use Rattle.engine.specs.Guarded.{IsGuardedLog, log_after}
-use Rattle.engine.proofs.BothLaws.{as_observed, of_observed}
+use Rattle.log_file.specs.Log.{Log}
+use Rattle.engine.proofs.ObservedLaws.{as_observed, of_observed}
+use Rattle.engine.proofs.StepLaws.{faulted_at, synced_at}
 use Rattle.engine.proofs.SyncLaws.{begun_safely, not_begun_safely}
-use Rattle.engine.proofs.SafeLaws.{log_after-append}
-use Rattle.engine.proofs.WholeLaws.{works_at}
+use Rattle.engine.proofs.WholeLaws.{works_at, still_works}
 use Rattle.engine.proofs.engine.Engine.sync_begin.Goals as goal
+
+pub returns-in-Ok-clause-begins : goal.returns-in-Ok-clause-begins
+returns-in-Ok-clause-begins g c = λ most st here none.
+    let state : g.row.D.Denot → State = λ d. now (g.D.Disk.history d) in
+    let old = c.args.self.now in
+    let new = c.sync_begin.new.self in
+    let p = here.alone_at in (
+      inl refl,
+      record {
+        alone_at = record p { begun = Some p.commits };
+        st_is = ap (λ (s : Standing). after_event s (SyncBegin Done)) here.st_is;
+        here = synced_at most g.D.Disk.observable (state (disk_of old.log)) (state (disk_of new)) old.log new old.kept p (Some p.commits) here.here
+            c.in-Ok.ensures.log c.sync_begin.ensures.end c.sync_begin.ensures.file_max (still_works c.sync_begin.result c.in-Ok.job new c.in-Ok.is c.sync_begin.ensures.cause.failed);
+      },
+    )
+
+pub returns-in-Err-clause-begins : goal.returns-in-Err-clause-begins
+returns-in-Err-clause-begins g c = λ most st here none.
+    let state : g.row.D.Denot → State = λ d. now (g.D.Disk.history d) in
+    let old = c.args.self.now in
+    let new = c.sync_begin.new.self in
+    let p = here.alone_at in (
+      inr refl,
+      record {
+        alone_at = record p { fault = Some Disk; begun = p.begun };
+        st_is = ap (λ (s : Standing). after_event s (SyncBegin DiskFault)) here.st_is;
+        here = faulted_at most g.D.Disk.observable (state (disk_of old.log)) (state (disk_of new)) old.log new old.kept (record old.kept { fault = Some Disk }) p p.begun here.here
+            (record { totals = refl; last_txn = refl; last_db = refl; end = refl; file_max = refl; commits = refl; fault = refl });
+      },
+    )
 
 pub returns-in-Ok-clause-crash : goal.returns-in-Ok-clause-crash
 returns-in-Ok-clause-crash g c = λ observed most st start journal none is.
@@ -20,20 +51,16 @@ returns-in-Ok-clause-crash g c = λ observed most st start journal none is.
     let state : g.row.D.Denot → State = λ d. now (g.D.Disk.history d) in
     let old = c.args.self.now.log in
     let new = c.sync_begin.new.self in
-    let held = log_after most st journal log in
-    let keeping = (guarded.works none).keeping in
-    let has = as_observed g.D.Disk.observable (state (disk_of old)) old held observed keeping.has in
-    let begun : List Event = journal ++ SyncBegin Done ∷ [] in
-    let same : held ≡ log_after most st begun log = sym (log_after-append most st journal (SyncBegin Done ∷ []) log) in (
+    let keeping = guarded.works none in
+    let has = as_observed g.D.Disk.observable (state (disk_of old)) old log observed keeping.has in (
       log,
-      subst (λ (l : Log). IsGuardedLog most st log start (g.D.Disk.history (disk_of new)) new begun (Some (length (entries_of l)))) same
-          (begun_safely most st log start (g.D.Disk.history (disk_of old)) (g.D.Disk.history (disk_of new)) old new journal none guarded
-          (c.sync_begin.ensures.crash observed held [] guarded.least None has keeping.holds)
+      begun_safely st log start (g.D.Disk.history (disk_of old)) (g.D.Disk.history (disk_of new)) old new journal none guarded
+          (c.sync_begin.ensures.crash observed log [] guarded.least None has keeping.holds)
           (record {
-            has = of_observed g.D.Disk.observable (state (disk_of new)) new held observed (c.in-Ok.ensures.log held has);
+            has = of_observed g.D.Disk.observable (state (disk_of new)) new log observed (c.in-Ok.ensures.log log has);
             whole = keeping.whole;
-            holds = c.in-Ok.ensures.holds observed held [] guarded.least None has keeping.holds;
-          })),
+            holds = c.in-Ok.ensures.holds observed log [] guarded.least None has keeping.holds;
+          }),
     )
 
 pub returns-in-Err-clause-crash : goal.returns-in-Err-clause-crash
@@ -43,11 +70,10 @@ returns-in-Err-clause-crash g c = λ observed most st start journal none is.
     let state : g.row.D.Denot → State = λ d. now (g.D.Disk.history d) in
     let old = c.args.self.now.log in
     let new = c.sync_begin.new.self in
-    let held = log_after most st journal log in
-    let keeping = (guarded.works none).keeping in (
+    let keeping = guarded.works none in (
       log,
-      not_begun_safely most st log start (g.D.Disk.history (disk_of old)) (g.D.Disk.history (disk_of new)) old new journal none guarded
-          (c.sync_begin.ensures.crash observed held [] guarded.least None (as_observed g.D.Disk.observable (state (disk_of old)) old held observed keeping.has) keeping.holds)
+      not_begun_safely st log start (g.D.Disk.history (disk_of old)) (g.D.Disk.history (disk_of new)) old new journal none guarded
+          (c.sync_begin.ensures.crash observed log [] guarded.least None (as_observed g.D.Disk.observable (state (disk_of old)) old log observed keeping.has) keeping.holds)
           (c.in-Err.ensures.cause.failed.1 (ap Err c.in-Err.ensures.by_fault)),
     )
 

@@ -1,31 +1,67 @@
-use Rattle.std.proofs.Common.{[], Some, Err, length, ap, rules}
+use Rattle.std.proofs.Common.{[], None, Some, Err, length, ap, refl, inl, inr}
 use Rattle.je_disk.specs.Moments.{now}
 use Rattle.je_disk.specs.States.{State}
+use Rattle.store_model.specs.declared.answer.Answer.TheVariants.{Durable, DiskFault}
+use Rattle.store_model.specs.declared.answer.Fault.TheVariants.{Disk}
+use Rattle.store_model.specs.declared.event.Event.TheVariants.{SyncEnd}
+use Rattle.je_answers.specs.Standing.{Standing}
+use Rattle.je_answers.specs.After.{after_event}
 use Rattle.log_buffer.specs.Buffer.{disk_of}
 use Rattle.log_file.specs.Log.{Log, entries_of}
-use Rattle.engine.specs.Guarded.{log_after}
-use Rattle.engine.proofs.BothLaws.{as_observed, of_observed}
+use Rattle.engine.proofs.ObservedLaws.{as_observed, of_observed}
+use Rattle.engine.proofs.StepLaws.{faulted_at, synced_at}
 use Rattle.engine.proofs.SyncLaws.{ended_safely, not_ended_safely}
-use Rattle.engine.proofs.WholeLaws.{works_at}
+use Rattle.engine.proofs.WholeLaws.{commits_at, still_works, works_at}
 use Rattle.engine.proofs.engine.Engine.sync_end.Goals as goal
+
+pub returns-in-Ok-clause-ends : goal.returns-in-Ok-clause-ends
+returns-in-Ok-clause-ends g c = λ most st here none.
+    let state : g.row.D.Denot → State = λ d. now (g.D.Disk.history d) in
+    let old = c.args.self.now in
+    let new = c.sync_end.new.self in
+    let p = here.alone_at in
+    let same = c.sync_end.ensures.kept in (
+      inl (ap Durable (commits_at most g.D.Disk.observable (state (disk_of old.log)) old.log old.kept st here)),
+      record {
+        alone_at = record p { begun = None };
+        st_is = ap (λ (s : Standing). after_event (record s { begun = Some s.commits }) (SyncEnd (Durable old.kept.commits))) here.st_is;
+        here = synced_at most g.D.Disk.observable (state (disk_of old.log)) (state (disk_of new)) old.log new old.kept p None here.here
+            c.in-Ok.ensures.log same.end same.max (still_works c.sync_end.result c.in-Ok.field-0 new c.in-Ok.is c.sync_end.ensures.cause.failed);
+      },
+    )
+
+pub returns-in-Err-clause-ends : goal.returns-in-Err-clause-ends
+returns-in-Err-clause-ends g c = λ most st here none.
+    let state : g.row.D.Denot → State = λ d. now (g.D.Disk.history d) in
+    let old = c.args.self.now in
+    let new = c.sync_end.new.self in
+    let p = here.alone_at in (
+      inr refl,
+      record {
+        alone_at = record p { fault = Some Disk; begun = None };
+        st_is = ap (λ (s : Standing). after_event (record s { begun = Some s.commits }) (SyncEnd DiskFault)) here.st_is;
+        here = faulted_at most g.D.Disk.observable (state (disk_of old.log)) (state (disk_of new)) old.log new old.kept (record old.kept { fault = Some Disk }) p None here.here
+            (record { totals = refl; last_txn = refl; last_db = refl; end = refl; file_max = refl; commits = refl; fault = refl });
+      },
+    )
 
 pub returns-in-Ok-clause-crash : goal.returns-in-Ok-clause-crash
 returns-in-Ok-clause-crash g c = λ observed most st start journal here none is.
     let log : Log = is.0 in
     let guarded = is.1 in
     let state : g.row.D.Denot → State = λ d. now (g.D.Disk.history d) in
-    let old = c.args.self.now.log in
+    let old = c.args.self.now in
     let new = c.sync_end.new.self in
-    let held = log_after most st journal log in
-    let keeping = (guarded.works none).keeping in
-    let has = as_observed g.D.Disk.observable (state (disk_of old)) old held observed keeping.has in (
+    let keeping = guarded.works none in
+    let has = as_observed g.D.Disk.observable (state (disk_of old.log)) old.log log observed keeping.has in (
       log,
-      ended_safely most st log start c.args.self.now.kept.commits (g.D.Disk.history (disk_of old)) (g.D.Disk.history (disk_of new)) old new journal none here.commits guarded
-          (c.sync_end.ensures.crash observed held [] guarded.least (length (entries_of held)) has keeping.holds)
+      ended_safely st log start old.kept.commits (g.D.Disk.history (disk_of old.log)) (g.D.Disk.history (disk_of new)) old.log new journal none
+          (commits_at most g.D.Disk.observable (state (disk_of old.log)) old.log old.kept _ here) guarded
+          (c.sync_end.ensures.crash observed log [] guarded.least (length (entries_of log)) has keeping.holds)
           (record {
-            has = of_observed g.D.Disk.observable (state (disk_of new)) new held observed (c.in-Ok.ensures.log held has);
+            has = of_observed g.D.Disk.observable (state (disk_of new)) new log observed (c.in-Ok.ensures.log log has);
             whole = keeping.whole;
-            holds = c.in-Ok.ensures.holds observed held [] guarded.least (length (entries_of held)) has keeping.holds;
+            holds = c.in-Ok.ensures.holds observed log [] guarded.least (length (entries_of log)) has keeping.holds;
           }),
     )
 
@@ -36,16 +72,12 @@ returns-in-Err-clause-crash g c = λ observed most st start journal here none is
     let state : g.row.D.Denot → State = λ d. now (g.D.Disk.history d) in
     let old = c.args.self.now.log in
     let new = c.sync_end.new.self in
-    let held = log_after most st journal log in
-    let keeping = (guarded.works none).keeping in (
+    let keeping = guarded.works none in (
       log,
-      not_ended_safely most st log start (g.D.Disk.history (disk_of old)) (g.D.Disk.history (disk_of new)) old new journal (Some (length (entries_of held))) none guarded
-          (c.sync_end.ensures.crash observed held [] guarded.least (length (entries_of held)) (as_observed g.D.Disk.observable (state (disk_of old)) old held observed keeping.has) keeping.holds)
+      not_ended_safely st log start (g.D.Disk.history (disk_of old)) (g.D.Disk.history (disk_of new)) old new journal (Some (length (entries_of log))) none guarded
+          (c.sync_end.ensures.crash observed log [] guarded.least (length (entries_of log)) (as_observed g.D.Disk.observable (state (disk_of old)) old log observed keeping.has) keeping.holds)
           (c.in-Err.ensures.cause.failed.1 (ap Err c.in-Err.ensures.by_fault)),
     )
-
-pub returns-in-Ok-clause-ends : goal.returns-in-Ok-clause-ends
-returns-in-Ok-clause-ends g c = search rules
 
 pub returns-in-Err-clause-cause : goal.returns-in-Err-clause-cause
 returns-in-Err-clause-cause g c = λ most st here none is.
