@@ -41,7 +41,7 @@ use Rattle.crash_meaning.specs.Reading.{HasNoGap}
 use Rattle.crash_meaning.specs.Recovery.{Recovers, commits_in}
 use Rattle.crash_meaning.proofs.RecoveryLaws.{commits-front, longer_logs_recover}
 use Rattle.engine.specs.declared.kept.Kept.{Kept}
-use Rattle.engine.specs.declared.kept.TheConstants.{LAST_FILE}
+use Rattle.je_lsn.specs.declared.file_no.TheConstants.{LAST_FILE}
 use Rattle.engine.specs.declared.planned_changes.PlannedChanges.{PlannedChanges}
 use Rattle.engine.specs.declared.engine.Engine.{Engine}
 use Rattle.engine.specs.Whole.{GoesOn, GoesOnSafely, IsAt, IsGuarded}

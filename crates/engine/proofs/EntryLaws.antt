@@ -40,7 +40,7 @@ use Rattle.log_replay.proofs.LogLaws.{kept_opened}
 use Rattle.crash_meaning.specs.Reading.{HasNoGap}
 use Rattle.crash_meaning.specs.Recovery.{Recovers, commits_in}
 use Rattle.crash_meaning.proofs.RecoveryLaws.{images_recover, logs_recover}
-use Rattle.engine.specs.declared.kept.TheConstants.{LAST_FILE}
+use Rattle.je_lsn.specs.declared.file_no.TheConstants.{LAST_FILE}
 use Rattle.engine.specs.Crash.{ImagesMean, IsTailCut, KeepsEntry, NothingPending, ReadAsAtEntry}
 use Rattle.engine.specs.Opening.{HasTornTailCut, IsSettling, StartsLog, WasRead, cut_off, log_start_of}
 use Rattle.engine.proofs.SyncLaws.{passes_now}

@@ -16,7 +16,7 @@ use Rattle.log_buffer.specs.Log.{EndsAt, log_with}
 use Rattle.log_buffer.proofs.LogChanges.{AreBelow, below_last, below_more, below_push, is_log_last, is_log_push, last_entries, with_last, with_next}
 use Rattle.crash_meaning.specs.Reading.{HasNoGap}
 use Rattle.log_buffer.specs.Growth.{log_with_all}
-use Rattle.engine.specs.declared.kept.TheConstants.{LAST_FILE}
+use Rattle.je_lsn.specs.declared.file_no.TheConstants.{LAST_FILE}
 use Rattle.engine.specs.Environment.{IsWholeLog}
 use Rattle.engine.proofs.AppendLaws.{Grows, grows}
 use Rattle.engine.proofs.LogStores.{small_files}

@@ -48,7 +48,7 @@ use Rattle.log_replay.proofs.LogLaws.{kept_opened}
 use Rattle.engine.specs.declared.open_err.OpenErr.{OpenErr}
 use Rattle.engine.specs.declared.open_err.OpenErr.TheVariants.{Disk, Unreadable, Memory}
 use Rattle.engine.specs.declared.kept.Kept.{Kept}
-use Rattle.engine.specs.declared.kept.TheConstants.{LAST_FILE}
+use Rattle.je_lsn.specs.declared.file_no.TheConstants.{LAST_FILE}
 use Rattle.engine.specs.Environment.{AreAlone, IsWholeLog}
 use Rattle.engine.specs.Files.{end_file_in}
 use Rattle.engine.specs.Opening.{AreNumbers, HasOpened, HasOpenedAt, StartsAt, HasTornTailCut, StartsLog, StopsBy, WasRead, kept_at_start, log_start_of}

@@ -31,7 +31,7 @@ use Rattle.log_replay.specs.Logging.{all_row_changes, entries_with, row_entry, t
 use Rattle.log_replay.proofs.LogLaws.{kept_later}
 use Rattle.log_replay.proofs.TransactionLaws.{stores_are_changed, transactions_are_kept}
 use Rattle.engine.specs.declared.kept.Kept.{Kept}
-use Rattle.engine.specs.declared.kept.TheConstants.{LAST_FILE}
+use Rattle.je_lsn.specs.declared.file_no.TheConstants.{LAST_FILE}
 use Rattle.engine.specs.declared.planned_changes.PlannedChanges.{PlannedChanges}
 use Rattle.engine.specs.declared.planned_row.PlannedRow.{PlannedRow}
 use Rattle.engine.specs.Environment.{AreAlone, IsAtEnd, IsWholeLog}

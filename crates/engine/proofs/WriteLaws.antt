@@ -24,7 +24,7 @@ use Rattle.log_buffer.proofs.GrowthLaws.{grew_then, grew_unchanged, tried_more, 
 use Rattle.log_buffer.proofs.UnchangedBuffer.{unwritten_same}
 use Rattle.log_replay.specs.Rows.{Rows}
 use Rattle.engine.specs.declared.kept.Kept.{Kept}
-use Rattle.engine.specs.declared.kept.TheConstants.{LAST_FILE}
+use Rattle.je_lsn.specs.declared.file_no.TheConstants.{LAST_FILE}
 use Rattle.engine.specs.declared.planned_changes.PlannedChanges.{PlannedChanges}
 use Rattle.engine.specs.declared.planned_row.PlannedRow.{PlannedRow}
 use Rattle.engine.specs.Logging.{IsSame, end_planned, entries_planned, rows_after}

@@ -3,12 +3,6 @@ use log_buffer::LogPos;
 use log_replay::Rows;
 use store_model::{Fault, Totals};
 
-/// The last file that a log may have: the greatest number that names a file.
-pub const LAST_FILE: u32 = 0xffff_fffe;
-
-/// How many bytes a Commit entry has.
-pub const COMMIT_SIZE: u32 = 22;
-
 /// What an open environment keeps in memory beside its log.
 #[derive(Drop)]
 pub struct Kept {

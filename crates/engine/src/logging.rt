@@ -13,11 +13,11 @@ ghost use Rattle.log_replay.specs.Logging.{row_entry};
 ghost use Rattle.engine.specs.Planning.{row_by};
 ghost use Rattle.engine.specs.Logging.{SetsLast, entries_planned, rows_after, taken, taken_at};
 ghost use Rattle.engine.specs.Steps.{HasWriteCause, WritesRows};
-ghost use Rattle.engine.specs.declared.kept.TheConstants.{LAST_FILE};
+ghost use Rattle.je_lsn.specs.declared.file_no.TheConstants.{LAST_FILE};
 
-use crate::kept::LAST_FILE;
 use crate::planned_row::PlannedRow;
 use je_disk::Disk;
+use je_lsn::LAST_FILE;
 use je_order::{List, TxnId, copy_of};
 use log_buffer::{LogBuffer, LogErr, LogPos};
 use log_entry::{Entry, EntryRef, size};

@@ -11,7 +11,7 @@ ghost use Rattle.engine.specs.Crash.{KeepsEntry};
 ghost use Rattle.engine.specs.Untouched.{IsLeftAlone};
 ghost use Rattle.engine.specs.Opening.{HasTornTailCut, IsSettling, StartsLog, StopsBy, WasRead, cut_off, kept_at_start, log_start_of};
 ghost use Rattle.engine.specs.Whole.{CanGoOn, IsOpened, IsOpenedSafely, disk_of};
-ghost use Rattle.engine.specs.declared.kept.TheConstants.{LAST_FILE};
+ghost use Rattle.je_lsn.specs.declared.file_no.TheConstants.{LAST_FILE};
 
 use crate::config::Config;
 use crate::engine::Engine;
@@ -19,7 +19,8 @@ use crate::kept::Kept;
 use crate::open_err::OpenErr;
 use je_disk::{Disk, DiskErr};
 use je_lsn::{FileNo, Lsn};
-use log_buffer::{HEADER_SIZE, LogBuffer, LogPos};
+use log_buffer::{LogBuffer, LogPos};
+use log_file::HEADER_SIZE;
 use log_replay::{LastFile, LogRead, ReadLog, Replayed, read_log};
 use std::alloc::{AllocError, Global};
 use store_model::Store;
@@ -119,11 +120,11 @@ fn start(tail: Option<LastFile>) -> LogPos
     let Some(last) = tail else {
         return LogPos {
             file: 0,
-            offset: HEADER_SIZE,
+            offset: u64::from(HEADER_SIZE),
         };
     };
     let offset = if last.end == 0 {
-        HEADER_SIZE
+        u64::from(HEADER_SIZE)
     } else {
         u64::from(last.end)
     };

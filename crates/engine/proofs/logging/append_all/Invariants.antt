@@ -6,7 +6,7 @@ use Rattle.log_entry.specs.Encoding.{size_of}
 use Rattle.log_buffer.specs.Buffer.{HasRoom, disk_of, end_of, file_max_of, has_failed}
 use Rattle.log_buffer.specs.Flip.{end_after_all}
 use Rattle.log_buffer.specs.Growth.{Grew}
-use Rattle.engine.specs.declared.kept.TheConstants.{LAST_FILE}
+use Rattle.je_lsn.specs.declared.file_no.TheConstants.{LAST_FILE}
 use Rattle.engine.proofs.GrownLaws.{MayFollow}
 use Rattle.engine.proofs.logging.append_all.Given as goal
 
