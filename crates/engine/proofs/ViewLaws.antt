@@ -95,7 +95,7 @@ last_seen kind rows held edge right is =
     ∙ ap last_pair (sym (searched kind (λ n. is_within (range First edge) n) rows right))
 
 -- the one record of a name
-one_found : (name : Name) (rows : List Row) (row : Row) → IsRising rows → row_at name rows ≡ Some row → filter (λ r. is_eq (name_cmp r.0 name)) rows ≡ row ∷ []
+pub one_found : (name : Name) (rows : List Row) (row : Row) → IsRising rows → row_at name rows ≡ Some row → filter (λ r. is_eq (name_cmp r.0 name)) rows ≡ row ∷ []
 unfolding IsStrictlySortedBy
 one_found name [] row up h = absurd (none-some row h)
 one_found name (r ∷ rows) row up h =

@@ -1,9 +1,10 @@
 -- What the parts of a plan come to, from the records in memory.
-use Rattle.std.specs.Prelude.{ℕ, ◌≡◌, ◌≢◌, ◌+◌, ◌-◌, ◌∷◌, [], List, Option, Some, None, map, length}
+use Rattle.std.specs.Prelude.{ℕ, ◌≡◌, ◌≢◌, ◌+◌, ◌-◌, ◌∷◌, [], List, Option, Some, None, map, length, IsTrue}
+use Rattle.je_order.specs.Words.{is_word}
 use Rattle.store_model.specs.declared.kind.Kind.{Kind}
 use Rattle.store_model.specs.declared.call.Call.{Call}
 use Rattle.store_model.specs.declared.change.Change.{Change}
-use Rattle.store_model.specs.declared.change.Change.TheVariants.{Make, Remove, Empty}
+use Rattle.store_model.specs.declared.change.Change.TheVariants.{Make, Remove, Rename, Empty}
 use Rattle.store_model.specs.declared.record_change.RecordChange.{RecordChange}
 use Rattle.store_model.specs.declared.record_change.RecordChange.TheVariants.{Set, Unset}
 use Rattle.store_model.specs.declared.answer.Answer.{Answer}
@@ -74,8 +75,15 @@ totals_by totals rows (Remove db) = record { databases = totals.databases - 1; r
 totals_by totals rows (Empty db) = record { databases = totals.databases; records = totals.records - length (rows (number_named rows db)) }
 totals_by totals rows change = totals
 
+-- the name that a change gives a database is one
+abbrev pub IsNamed : Change → Type 0
+IsNamed (Make db kind) = IsTrue (is_word db)
+IsNamed (Rename db to) = IsTrue (is_word to)
+IsNamed change = Unit {0}
+
 -- a change of the catalog is to be logged
 pub record LogsCatalog (kept : Kept) (change : Change) (planned : PlannedChanges) : Type 0 where
+  pub named : IsNamed change
   pub rows : planned.rows ≡ map catalog_planned (logged_as (record_named (rows_in kept.rows)) (kept.last_db + 1) change)
   pub last_db : planned.last_db ≡ kept.last_db + made_by (change ∷ [])
   pub totals : planned.totals ≡ totals_by kept.totals (rows_in kept.rows) change

@@ -6,7 +6,7 @@ ghost use Rattle.store_model.specs.Evaluation.{plain_name as name_of_key};
 ghost use Rattle.log_replay.specs.Rows.{rows_in, is_environment, store_of};
 ghost use Rattle.log_replay.specs.Logging.{record_named, number_named};
 ghost use Rattle.db_catalog.specs.Planning.{is_catalog_call, outcome_of};
-ghost use Rattle.engine.specs.Plans.{catalog_planned, totals_by, LogsCatalog, IsCatalogPlan};
+ghost use Rattle.engine.specs.Plans.{catalog_planned, totals_by, IsNamed, LogsCatalog, IsCatalogPlan};
 
 use crate::catalog_rows::CatalogRows;
 use crate::kept::Kept;
@@ -116,6 +116,21 @@ fn next_number(last_db: u32) -> u32
     }
 }
 
+// The name that a change gives a database is one, as each `Word` is.
+fn see_name(change: &Change)
+    ensures { IsNamed change.now }
+{
+    match change {
+        Change::Make { db, .. } => {
+            let _ = db.as_slice();
+        }
+        Change::Rename { to, .. } => {
+            let _ = to.as_slice();
+        }
+        _ => {}
+    }
+}
+
 fn log_catalog(
     kept: &Kept,
     alloc: Global,
@@ -126,6 +141,7 @@ fn log_catalog(
     requires same { rows_in catalog.now.rows.now ≡ rows_in kept.now.rows }
     ensures { IfOk result (LogsCatalog kept.now change.now) }
 {
+    see_name(change);
     let totals = totals_after(kept, alloc, change)?;
     let number = next_number(kept.last_db);
     let logged = catalog_changes(alloc, catalog, number, change)?;
