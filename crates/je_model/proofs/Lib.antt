@@ -1,4 +1,0 @@
--- One more event at a journal's end.
-pub mod JournalLaws
--- Every change leaves a right store right.
-pub mod StoreLaws

@@ -1,4 +1,0 @@
-pub mod Store
-pub mod Evaluation
-pub mod Journal
-pub mod Answers
