@@ -5,7 +5,7 @@ use Rattle.je_disk.specs.Moments.{History, now}
 use Rattle.store_model.specs.declared.store.Store.{Store}
 use Rattle.je_answers.specs.Standing.{Standing}
 use Rattle.engine.specs.declared.engine.Engine.{Engine}
-use Rattle.engine.specs.Limits.{end_file_in}
+use Rattle.engine.specs.Files.{end_file_in}
 use Rattle.engine.specs.Opening.{StartsAt}
 use Rattle.engine.specs.Whole.{IsAt, IsGuarded, IsOpened, IsOpenedSafely, end_file}
 

@@ -1,11 +1,11 @@
 -- A run goes on by one line of its script.
-use Rattle.std.proofs.Common.{◌≡◌, ℕ, suc, ◌≤◌, ◌<◌, ◌+◌, ◌*◌, ◌||◌, Bool, true, false, List, [], ◌∷◌, ◌++◌, Option, Some, None, Ok, length, refl, ap, sym, ◌∙◌, subst, ⊎_elim, inl, inr, append_assoc, arith}
-use Rattle.std.proofs.lemmas.List.{length-append}
+use Rattle.std.proofs.Common.{◌≡◌, ℕ, ◌≤◌, ◌<◌, ◌+◌, ◌||◌, Bool, true, false, List, [], ◌∷◌, ◌++◌, Option, Some, None, Ok, refl, ap, sym, ◌∙◌, subst, ⊎_elim, inl, inr, append_assoc, arith}
 use Rattle.std.proofs.lemmas.List.Folds.{list_any-append}
 use Rattle.je_lsn.specs.Naming.{last_file}
 use Rattle.je_order.specs.Counts.{HasRisen}
 use Rattle.je_disk.specs.States.{State}
 use Rattle.store_model.specs.declared.call.Call.{Call}
+use Rattle.store_model.specs.declared.change.Change.{Change}
 use Rattle.store_model.specs.declared.event.Event.{Event}
 use Rattle.store_model.specs.declared.event.Event.TheVariants.{Call as Called, Resume, SyncBegin, SyncEnd}
 use Rattle.store_model.specs.declared.answer.Answer.{Answer}
@@ -17,36 +17,67 @@ use Rattle.je_answers.specs.Standing.{Standing}
 use Rattle.je_answers.specs.Refusals.{early_refusal, fault_refusal}
 use Rattle.je_answers.specs.Events.{IsAnswered, IsCallAnswered, IsSyncBegun, IsSyncEnded}
 use Rattle.je_answers.specs.After.{AnswersAsModel, after_event, after_events}
-use Rattle.je_answers.specs.Journal.{has_answer, AreSyncedAtOnce, IsSyncedAtOnce, IsSyncedBy}
+use Rattle.je_answers.specs.Journal.{has_answer, AreSyncedAtOnce, IsSyncedAtOnce, IsSyncedBy, changes_by}
 use Rattle.je_answers.proofs.Journals.{after_events-append, answers-append}
 use Rattle.engine.specs.declared.engine.Engine.{Engine}
 use Rattle.engine.specs.Limits.{AreBounded, IsBounded, most_logged}
+use Rattle.engine.specs.Steps.{IsNumbered}
 use Rattle.engine.specs.Whole.{EndsSync, GoesOn, IsAt, end_file}
-use Rattle.je_program.specs.Run.{IsRunning, IsCaused}
+use Rattle.je_program.specs.Run.{IsRunning, IsCaused, all_logged}
 use Rattle.engine.proofs.Counts.{rose_earlier, rose_later}
 use Rattle.je_program.proofs.FaultLaws.{valid_after}
 
 -- ---- limits
 
 -- a limit that comes early enough comes no earlier where the log ends later
-bounded_later : (early late : ℕ) (limit : Option Answer) → early ≤ late → IsBounded early limit → IsBounded late limit
-bounded_later early late limit later bounded =
+bounded_later : (early late : ℕ) (changes : List Change) (limit : Option Answer) → early ≤ late → IsBounded early changes limit → IsBounded late changes limit
+bounded_later early late changes limit later bounded =
     ⊎_elim
     (λ (none : limit ≡ None). inl none)
-    (λ (full : (limit ≡ Some LogFull) × (last_file < early + most_logged)). (let near : last_file < early + 3 = full.1 in inr (full.0, omega (arith, near, later))))
+    (λ (full : (limit ≡ Some LogFull) × (last_file < early + most_logged changes)). inr (full.0, still last_file early late (most_logged changes) full.1 later))
     bounded
+  where
+    still : (last early late count : ℕ) → last < early + count → early ≤ late → last < late + count
+    still last early late count near later = omega (arith, near, later)
 
--- limits, and then others
-bounded-append : (first : ℕ) (limits others : List (Option Answer)) → AreBounded first limits → AreBounded (first + most_logged * length limits) others → AreBounded first (limits ++ others)
-bounded-append first [] others b o = subst (λ (n : ℕ). AreBounded n others) (none_more first) o where
-  none_more : (n : ℕ) → n + 3 * 0 ≡ n
+-- the limits of a journal, and then those of another
+bounded-append : (first : ℕ) (st : Standing) (limits others : List (Option Answer)) (before after : List Event) → AnswersAsModel st limits before → AreBounded first st before limits →
+    AreBounded (first + all_logged st before) (after_events st before) after others → AreBounded first st (before ++ after) (limits ++ others)
+bounded-append first st [] others [] after answers b o = subst (λ (n : ℕ). AreBounded n st after others) (none_more first) o where
+  none_more : (n : ℕ) → n + 0 ≡ n
   none_more n = omega arith
-bounded-append first (limit ∷ limits) others b o = (b.0, bounded-append (first + most_logged) limits others b.1 (subst (λ (n : ℕ). AreBounded n others) (one_more first (length limits)) o)) where
-  one_more : (n k : ℕ) → n + 3 * suc k ≡ n + 3 + 3 * k
-  one_more n k = omega arith
+bounded-append first st (limit ∷ limits) others (event ∷ events) after answers b o = (
+  b.0,
+  bounded-append (first + most_logged (changes_by st event)) (after_event st event) limits others events after answers.1 b.1
+      (subst (λ (n : ℕ). AreBounded n (after_events (after_event st event) events) after others) (joined first (most_logged (changes_by st event)) (all_logged (after_event st event) events)) o),
+) where
+  joined : (n a b : ℕ) → n + (a + b) ≡ n + a + b
+  joined n a b = omega arith
+bounded-append first st [] others (event ∷ events) after answers b o = absurd answers
+bounded-append first st (limit ∷ limits) others [] after answers b o = absurd answers
 
-near_more : (old new first a b : ℕ) → old ≤ first + 3 * a → new ≤ old + 3 * b → new ≤ first + 3 * (a + b)
+all_logged-append : (st : Standing) (before after : List Event) → all_logged st (before ++ after) ≡ all_logged st before + all_logged (after_events st before) after
+all_logged-append st [] after = none_before (all_logged st after) where
+  none_before : (n : ℕ) → n ≡ 0 + n
+  none_before n = omega arith
+all_logged-append st (event ∷ events) after =
+    ap (λ (n : ℕ). most_logged (changes_by st event) + n) (all_logged-append (after_event st event) events after)
+    ∙ joined (most_logged (changes_by st event)) (all_logged (after_event st event) events) (all_logged (after_events (after_event st event) events) after) where
+      joined : (a b c : ℕ) → a + (b + c) ≡ a + b + c
+      joined a b c = omega arith
+
+near_more : (old new first a b : ℕ) → old ≤ first + a → new ≤ old + b → new ≤ first + (a + b)
 near_more old new first a b near grows = omega (arith, near, grows)
+
+-- what a call logs at most, and no more in its sync
+logs_once : (old new count : ℕ) → new ≤ old + count → new ≤ old + (count + 0)
+logs_once old new count grows = omega (arith, grows)
+
+logs_twice : (old mid new count : ℕ) → mid ≤ old + count → new ≡ mid → new ≤ old + (count + (0 + 0))
+logs_twice old mid new count grows same = omega (arith, grows, same)
+
+logs_thrice : (old mid new count : ℕ) → mid ≤ old + count → new ≡ mid → new ≤ old + (count + (0 + (0 + 0)))
+logs_thrice old mid new count grows same = omega (arith, grows, same)
 
 -- ---- answers
 
@@ -120,15 +151,15 @@ module _ {D : Type 0} where
   runs_more : (most first : ℕ) (observable : Bool) (before after : State) (old new : Engine D) (journal events : List Event) (others : List (Option Answer)) (st : Standing) →
       (running : IsRunning most first observable before old journal st) →
       IsAt most observable after new (after_events (after_events st journal) events) → AnswersAsModel (after_events st journal) others events →
-      AreBounded (first + most_logged * length running.limits) others → end_file new ≤ end_file old + most_logged * length others →
+      AreBounded (first + all_logged st journal) (after_events st journal) events others → end_file new ≤ end_file old + all_logged (after_events st journal) events →
       AreSyncedAtOnce events → IsRunning most first observable after new (journal ++ events) st
   runs_more most first observable before after old new journal events others st running here answers bounded grows synced = record {
     here = subst (λ (s : Standing). IsAt most observable after new s) (sym (after_events-append st journal events)) here;
     limits = running.limits ++ others;
     answers = answers-append st running.limits others journal events running.answers answers;
-    bounded = bounded-append first running.limits others running.bounded bounded;
-    near = subst (λ (n : ℕ). end_file new ≤ first + 3 * n) (sym (length-append running.limits others))
-        (near_more (end_file old) (end_file new) first (length running.limits) (length others) running.near grows);
+    bounded = bounded-append first st running.limits others journal events running.answers running.bounded bounded;
+    near = subst (λ (n : ℕ). end_file new ≤ first + n) (sym (all_logged-append st journal events))
+        (near_more (end_file old) (end_file new) first (all_logged st journal) (all_logged (after_events st journal) events) running.near grows);
     synced = synced-append journal events running.synced synced;
   }
 
@@ -141,24 +172,25 @@ module _ {D : Type 0} where
     limits = running.limits;
     answers = running.answers;
     bounded = running.bounded;
-    near = (let near : end_file old ≤ first + 3 * length running.limits = running.near in omega (arith, near, grows));
+    near = (let near : end_file old ≤ first + all_logged st journal = running.near in omega (arith, near, grows));
     synced = running.synced;
   }
 
   -- a call that was not logged
   pub runs_plain : (most first : ℕ) (observable : Bool) (before after : State) (old new : Engine D) (journal : List Event) (session line : ℕ) (call : Call) (answer : Answer) (st : Standing) →
       IsRunning most first observable before old journal st → GoesOn most observable after old new (after_events st journal) session line call (Ok answer) → is_logged answer ≡ false →
-      end_file new ≤ end_file old + most_logged → IsRunning most first observable after new (journal ++ Called session line call answer [] ∷ []) st
+      end_file new ≤ end_file old + most_logged (changes_by (after_events st journal) (Called session line call answer [])) →
+      IsRunning most first observable after new (journal ++ Called session line call answer [] ∷ []) st
   runs_plain most first observable before after old new journal session line call answer st running goes plain grows =
       runs_more most first observable before after old new journal (Called session line call answer [] ∷ []) (goes.0 ∷ []) st running goes.3 (goes.2, tt)
-      (bounded_later (end_file old) (first + most_logged * length running.limits) goes.0 running.near goes.1, tt)
-      (let less : end_file new ≤ end_file old + 3 = grows in omega (arith, less))
+      (bounded_later (end_file old) (first + all_logged st journal) (changes_by (after_events st journal) (Called session line call answer [])) goes.0 running.near goes.1, tt)
+      (logs_once (end_file old) (end_file new) (most_logged (changes_by (after_events st journal) (Called session line call answer []))) grows)
       (not_waiting session line call answer plain)
 
   -- a call that was logged, and a sync that could not begin
   pub runs_unsynced : (most first : ℕ) (observable : Bool) (before middle after : State) (old mid new : Engine D) (journal : List Event) (session line : ℕ) (call : Call) (answer : Answer) (st : Standing) →
       IsRunning most first observable before old journal st → GoesOn most observable middle old mid (after_events st journal) session line call (Ok answer) → is_logged answer ≡ true →
-      end_file mid ≤ end_file old + most_logged → end_file new ≡ end_file mid →
+      end_file mid ≤ end_file old + most_logged (changes_by (after_events st journal) (Called session line call answer [])) → end_file new ≡ end_file mid →
       ((s : Standing) → IsAt most observable middle mid s → s.fault ≡ None → IsAt most observable after new (after_event s (SyncBegin DiskFault))) →
       IsRunning most first observable after new ((journal ++ Called session line call answer [] ∷ []) ++ SyncBegin DiskFault ∷ []) st
   runs_unsynced most first observable before middle after old mid new journal session line call (Logged commit) st running goes logged grows same begins =
@@ -166,12 +198,13 @@ module _ {D : Type 0} where
       let event : Event = Called session line call (Logged commit) [] in
       let valid : (after_event st0 event).fault ≡ None = logged_none goes.0 st0 session line call (Logged commit) refl goes.2 in
       let events : List Event = event ∷ SyncBegin DiskFault ∷ [] in
-      let start = first + most_logged * length running.limits in
+      let start = first + all_logged st journal in
+      let changes = changes_by st0 event in
       let all : IsRunning most first observable after new (journal ++ events) st =
       runs_more most first observable before after old new journal events (goes.0 ∷ None ∷ []) st running (begins (after_event st0 event) goes.3 valid)
       (goes.2, (subst (λ (f : Option Fault). IsSyncBegun f DiskFault) (sym valid) (inr refl), tt))
-      (bounded_later (end_file old) start goes.0 running.near goes.1, (inl refl, tt))
-      (let less : end_file mid ≤ end_file old + 3 = grows in omega (arith, less, same))
+      (bounded_later (end_file old) start changes goes.0 running.near goes.1, (inl refl, tt))
+      (logs_twice (end_file old) (end_file mid) (end_file new) (most_logged changes) grows same)
       (([], inr (inr refl)), (tt, tt)) in
       let joined : journal ++ events ≡ (journal ++ event ∷ []) ++ SyncBegin DiskFault ∷ [] = sym (append_assoc journal (event ∷ []) (SyncBegin DiskFault ∷ [])) in
       subst (λ (l : List Event). IsRunning most first observable after new l st) joined all
@@ -179,38 +212,39 @@ module _ {D : Type 0} where
 
   -- a call that was logged, and its sync
   pub runs_logged : (most first : ℕ) (observable : Bool) (before middle after : State) (old mid new : Engine D) (journal : List Event) (session line : ℕ) (call : Call) (answer ending : Answer) (st : Standing) →
-      IsRunning most first observable before old journal st → GoesOn most observable middle old mid (after_events st journal) session line call (Ok answer) → is_logged answer ≡ true →
-      end_file mid ≤ end_file old + most_logged → end_file new ≡ end_file mid →
+      IsRunning most first observable before old journal st → GoesOn most observable middle old mid (after_events st journal) session line call (Ok answer) →
+      IsNumbered answer (after_event (after_events st journal) (Called session line call answer [])).commits → is_logged answer ≡ true →
+      end_file mid ≤ end_file old + most_logged (changes_by (after_events st journal) (Called session line call answer [])) → end_file new ≡ end_file mid →
       ((s : Standing) → IsAt most observable middle mid s → s.fault ≡ None → EndsSync most observable after new (after_event s (SyncBegin Done)) ending) →
       IsRunning most first observable after new (((journal ++ Called session line call answer [] ∷ []) ++ SyncBegin Done ∷ []) ++ SyncEnd ending ∷ []) st
-  runs_logged most first observable before middle after old mid new journal session line call (Logged commit) ending st running goes logged grows same sync =
+  runs_logged most first observable before middle after old mid new journal session line call (Logged commit) ending st running goes number logged grows same sync =
       let st0 = after_events st journal in
       let event : Event = Called session line call (Logged commit) [] in
       let st1 = after_event st0 event in
       let valid : st1.fault ≡ None = logged_none goes.0 st0 session line call (Logged commit) refl goes.2 in
       let ended = sync st1 goes.3 valid in
       let events : List Event = event ∷ SyncBegin Done ∷ SyncEnd ending ∷ [] in
-      let start = first + most_logged * length running.limits in
-      let number : commit ≡ st1.commits = goes.4 in
+      let start = first + all_logged st journal in
+      let changes = changes_by st0 event in
       let all : IsRunning most first observable after new (journal ++ events) st =
       runs_more most first observable before after old new journal events (goes.0 ∷ None ∷ None ∷ []) st running ended.1 (
         goes.2,
         (subst (λ (f : Option Fault). IsSyncBegun f Done) (sym valid) (inl refl), (subst (λ (f : Option Fault). IsSyncEnded f (Some st1.commits) ending) (sym valid) ended.0, tt)),
       )
-      (bounded_later (end_file old) start goes.0 running.near goes.1, (inl refl, (inl refl, tt)))
-      (let less : end_file mid ≤ end_file old + 3 = grows in omega (arith, less, same))
+      (bounded_later (end_file old) start changes goes.0 running.near goes.1, (inl refl, (inl refl, tt)))
+      (logs_thrice (end_file old) (end_file mid) (end_file new) (most_logged changes) grows same)
       (ends_synced commit st1.commits ending number ended.0, (tt, (tt, tt))) in
       let joined : journal ++ events ≡ ((journal ++ event ∷ []) ++ SyncBegin Done ∷ []) ++ SyncEnd ending ∷ [] =
       sym (append_assoc journal (event ∷ SyncBegin Done ∷ []) (SyncEnd ending ∷ []))
       ∙ ap (λ (l : List Event). l ++ SyncEnd ending ∷ []) (sym (append_assoc journal (event ∷ []) (SyncBegin Done ∷ []))) in
       subst (λ (l : List Event). IsRunning most first observable after new l st) joined all
-  runs_logged most first observable before middle after old mid new journal session line call answer ending st running goes logged grows same sync = cc
+  runs_logged most first observable before middle after old mid new journal session line call answer ending st running goes number logged grows same sync = cc
 
   -- a run that begins
   pub runs_none : (most : ℕ) (observable : Bool) (state : State) (engine : Engine D) (st : Standing) → IsAt most observable state engine st →
       IsRunning most (end_file engine) observable state engine [] st
   runs_none most observable state engine st here =
-      record { here = here; limits = []; answers = tt; bounded = tt; near = (let e : end_file engine ≤ end_file engine + 3 * 0 = omega arith in e); synced = tt }
+      record { here = here; limits = []; answers = tt; bounded = tt; near = (let e : end_file engine ≤ end_file engine + 0 = omega arith in e); synced = tt }
 
 pub caused_none : (faults : ℕ) → IsCaused faults faults []
 caused_none faults = record { never_falls = omega arith; fault = λ h. cc }

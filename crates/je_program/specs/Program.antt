@@ -23,8 +23,8 @@ use Rattle.log_replay.specs.declared.corruption.Corruption.{Corruption}
 use Rattle.log_replay.specs.declared.corruption.Corruption.TheVariants.{Damaged, Missing, Tree, VersionUnknown}
 use Rattle.engine.specs.declared.open_err.OpenErr.{OpenErr}
 use Rattle.engine.specs.declared.open_err.OpenErr.TheVariants.{Disk as NoDisk, Memory as NoMemory, Unreadable as CannotRead}
-use Rattle.engine.specs.Files.{MeanStore}
-use Rattle.engine.specs.Limits.{AreBounded, end_file_in}
+use Rattle.engine.specs.Files.{MeanStore, end_file_in}
+use Rattle.engine.specs.Limits.{AreBounded}
 use Rattle.engine.specs.Opening.{StartsAt}
 use Rattle.engine.specs.Totals.{totals_of}
 use Rattle.je_program.specs.Crash.{IsSafeProgram}
@@ -93,7 +93,7 @@ pub record IsRunOf (file_max : ℕ) (observable : Bool) (old new : History) (ope
   pub starts : StartsAt observable (now old).reads opening st
   pub limits : List (Option Answer)
   pub answers : AnswersAsModel st limits journal
-  pub bounded : AreBounded (end_file_in starts.held) limits
+  pub bounded : AreBounded (end_file_in starts.held) st journal limits
   pub synced_at_once : AreSyncedAtOnce journal
   pub acknowledged : cause ≡ Done → AllAcknowledged st journal
   pub safe : observable ≡ true → IsSafeProgram old new st journal cause

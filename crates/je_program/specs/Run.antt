@@ -1,5 +1,5 @@
 -- A run of a script.
-use Rattle.std.specs.Prelude.{ℕ, ◌≡◌, ◌≤◌, ◌+◌, ◌*◌, ◌∷◌, [], ◌++◌, ◌==◌, List, Option, Some, Bool, true, false, length, filter, slice_index_or, if◌then◌else◌}
+use Rattle.std.specs.Prelude.{ℕ, ◌≡◌, ◌≤◌, ◌+◌, ◌∷◌, [], ◌++◌, ◌==◌, List, Option, Some, Bool, true, false, filter, slice_index_or, if◌then◌else◌}
 use Rattle.je_order.specs.Counts.{HasRisen}
 use Rattle.je_disk.specs.States.{State}
 use Rattle.store_model.specs.declared.store.Store.{Store}
@@ -10,8 +10,8 @@ use Rattle.store_model.specs.declared.plan.ScriptLine.{ScriptLine}
 use Rattle.store_model.specs.declared.plan.ScriptLine.TheVariants.{Session, Maintenance}
 use Rattle.store_model.specs.Journal.{answer_of, is_disk_fault}
 use Rattle.je_answers.specs.Standing.{Standing}
-use Rattle.je_answers.specs.After.{AnswersAsModel, after_events}
-use Rattle.je_answers.specs.Journal.{AreSyncedAtOnce, has_answer, lines_of}
+use Rattle.je_answers.specs.After.{AnswersAsModel, after_event, after_events}
+use Rattle.je_answers.specs.Journal.{AreSyncedAtOnce, changes_by, has_answer, lines_of}
 use Rattle.engine.specs.declared.engine.Engine.{Engine}
 use Rattle.je_program.specs.declared.cause.Cause.{Cause}
 use Rattle.je_program.specs.declared.cause.Cause.TheVariants.{Done, Usage, BadScript, Disk, Unreadable, Memory, Input, InputTooLong, LogFull as NoRoom, IdsEnded as NoNumbers}
@@ -22,6 +22,11 @@ use Rattle.engine.specs.Whole.{IsAt, end_file}
 abbrev pub final_store : Standing → List Event → Store
 final_store st journal = (after_events st journal).store
 
+-- how many entries a journal logs at most
+abbrev pub all_logged : Standing → List Event → ℕ
+all_logged st [] = 0
+all_logged st (event ∷ events) = most_logged (changes_by st event) + all_logged (after_event st event) events
+
 module _ {D : Type 0} where
   -- a run is under way whose log ended in the file `first` as it began: the engine is where the journal leaves the model, and each answer so far
   -- is the model's
@@ -29,8 +34,8 @@ module _ {D : Type 0} where
     pub here : IsAt most observable state engine (after_events st journal)
     pub limits : List (Option Answer)
     pub answers : AnswersAsModel st limits journal
-    pub bounded : AreBounded first limits
-    pub near : end_file engine ≤ first + most_logged * length limits
+    pub bounded : AreBounded first st journal limits
+    pub near : end_file engine ≤ first + all_logged st journal
     pub synced : AreSyncedAtOnce journal
 
 -- since the disk's count stood at `before` it never fell, and it rose where the journal has a disk fault

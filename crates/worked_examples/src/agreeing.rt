@@ -88,7 +88,10 @@ fn follow_all(rt: &impl Abort, alloc: Global, journal: &[Event]) -> Result<u32, 
     let mut calls = 0u32;
     for event in journal {
         if let Event::Call {
-            line, call, answer, ..
+            line,
+            call,
+            answer,
+            ..
         } = event
         {
             store = follow(rt, alloc, &store, *line, call, answer)?;

@@ -17,8 +17,8 @@ use Rattle.je_program.proofs.GivenLaws.{line_is_auto, lines_of-append}
 use Rattle.je_program.proofs.RunLaws.{caused_answered, caused_synced, caused_unsynced, logged_none, runs_logged, runs_plain, runs_same, runs_unsynced}
 use Rattle.je_program.proofs.executing.execute.Goals as goal
 
-pub step-requires-clause-auto : goal.step-requires-clause-auto
-step-requires-clause-auto g c κs within = line_is_auto c.args.call c.requires.has_line
+pub step-requires-clause-call : goal.step-requires-clause-call
+step-requires-clause-call g c κs within = line_is_auto c.args.call c.requires.has_line
 
 pub returns-in-Err-clause-runs : goal.returns-in-Err-clause-runs
 returns-in-Err-clause-runs g c = λ most first st running.
@@ -39,7 +39,7 @@ returns-then-not-logged-clause-runs g c = λ most first st running.
     let all = c.record_call.ensures.items ∙ ap (λ (l : List Event). l ++ call ∷ []) c.reserve.ensures.items in
     subst (λ (l : List Event). IsRunning most first g.D.Disk.observable (state (disk_of new)) new l st) (sym all)
     (runs_plain most first g.D.Disk.observable (state (disk_of old)) (state (disk_of new)) old new journal c.args.session c.args.line c.args.call c.in-Ok.answer st running
-    (c.in-Ok.ensures.goes_on most (after_events st journal) running.here) (sym c.waits_for_sync-logged.ensures ∙ c.if-not-logged.true) c.step.ensures.grows)
+    (c.in-Ok.ensures.goes_on most (after_events st journal) running.here) (sym c.waits_for_sync-logged.ensures ∙ c.if-not-logged.true) (c.step.ensures.grows most (after_events st journal) running.here))
 
 pub returns-in_default-clause-runs : goal.returns-in_default-clause-runs
 returns-in_default-clause-runs g c = λ most first st running.
@@ -54,7 +54,7 @@ returns-in_default-clause-runs g c = λ most first st running.
     (runs_unsynced most first g.D.Disk.observable (state (disk_of old)) (state (disk_of middle)) (state (disk_of new)) old middle new
     journal c.args.session c.args.line c.args.call c.in-Ok.answer st running
     (c.in-Ok.ensures.goes_on most (after_events st journal) running.here) (sym c.waits_for_sync-logged.ensures ∙ c.if-not-logged.false)
-    c.step.ensures.grows c.sync_begin.ensures.same_end (λ s here none. (c.in_default.ensures.begins most s here none).1))
+    (c.step.ensures.grows most (after_events st journal) running.here) c.sync_begin.ensures.same_end (λ s here none. (c.in_default.ensures.begins most s here none).1))
 
 pub returns-in_default-clause-caused : goal.returns-in_default-clause-caused
 returns-in_default-clause-caused g c = λ before caused.
@@ -87,8 +87,9 @@ returns-clause-runs g c = λ most first st running.
     subst (λ (l : List Event). IsRunning most first g.D.Disk.observable (state (disk_of new)) new l st) (sym all)
     (runs_logged most first g.D.Disk.observable (state (disk_of old)) (state (disk_of middle)) (state (disk_of new)) old middle new
     journal c.args.session c.args.line c.args.call c.in-Ok.answer ending st running
-    (c.in-Ok.ensures.goes_on most (after_events st journal) running.here) (sym c.waits_for_sync-logged.ensures ∙ c.if-not-logged.false)
-    c.step.ensures.grows (c.sync_end-answer.ensures.same_end ∙ c.sync_begin.ensures.same_end)
+    (c.in-Ok.ensures.goes_on most (after_events st journal) running.here) (c.in-Ok.ensures.numbered most (after_events st journal) running.here)
+    (sym c.waits_for_sync-logged.ensures ∙ c.if-not-logged.false)
+    (c.step.ensures.grows most (after_events st journal) running.here) (c.sync_end-answer.ensures.same_end ∙ c.sync_begin.ensures.same_end)
     (λ s here none. c.sync_end-answer.ensures.ends most (after_event s (SyncBegin Done)) (c.in-Some.ensures.begins most s here none).1 none))
 
 pub returns-clause-caused : goal.returns-clause-caused
