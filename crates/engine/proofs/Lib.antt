@@ -8,6 +8,8 @@ pub mod PlanParts
 pub mod OutcomeLaws
 -- Changes of the records of one database, as a transaction logs them.
 pub mod RecordLaws
+-- A plan of a call on records is what the model says.
+pub mod RecordPlanLaws
 -- A plan of a call on the catalog is what the model says.
 pub mod CatalogPlanLaws
 -- Over an observable disk.

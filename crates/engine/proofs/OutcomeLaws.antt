@@ -26,7 +26,7 @@ use Rattle.engine.specs.Planning.{outcome_on, outcome_alone, performed_outcome}
 use Rattle.engine.specs.Plans.{IsRecordPlan}
 
 -- the outcome of a call on records, by its database
-abbrev outcome_by : Call → ℕ → Option Database → Outcome
+abbrev pub outcome_by : Call → ℕ → Option Database → Outcome
 outcome_by call number o =
     outcome_unless (or_refusal (access_refusal (is_some o)) (target_refusal call (option_map (target number None) o))) (outcome_on call (option_map (target number None) o))
 

@@ -17,11 +17,11 @@ use Rattle.engine.specs.Planning.{row_by}
 use Rattle.engine.specs.Plans.{record_planned}
 
 -- a change of a database's records leaves the catalog
-catalog_left : (txn : ℕ) (db : List ℕ) (at : Name) (value : Option (List ℕ)) (rows : Rows) → number_named rows db ≢ 0 →
+pub catalog_left : (txn : ℕ) (db : List ℕ) (at : Name) (value : Option (List ℕ)) (rows : Rows) → number_named rows db ≢ 0 →
     row_changed (record { txn = txn; db = number_named rows db; name = at; value = value }) rows 0 ≡ rows 0
 catalog_left txn db at value rows has = row_changed-there (record { txn = txn; db = number_named rows db; name = at; value = value }) rows 0 (λ e. has (sym e))
 
-kind_left : (c : RowChange) (rows : Rows) (db : List ℕ) → row_changed c rows 0 ≡ rows 0 → kind_named (row_changed c rows) db ≡ kind_named rows db
+pub kind_left : (c : RowChange) (rows : Rows) (db : List ℕ) → row_changed c rows 0 ≡ rows 0 → kind_named (row_changed c rows) db ≡ kind_named rows db
 kind_left c rows db h = ap (λ (l : List Row). kind_or_plain (record_in (data_at (plain_name db) l))) h
 
 -- what is planned of them is what log_replay's definition logs

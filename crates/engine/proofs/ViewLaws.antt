@@ -46,7 +46,7 @@ has_database rows name o env is = is_copied o ∙ ap is_some is ∙ by_row (row_
     by_row None = refl
     by_row (Some r) = refl
 
-ok_weaker : {T E : Type 0} {P Q : T → Type 0} (r : Result T E) → ((x : T) → P x → Q x) → IfOk r P → IfOk r Q
+pub ok_weaker : {T E : Type 0} {P Q : T → Type 0} (r : Result T E) → ((x : T) → P x → Q x) → IfOk r P → IfOk r Q
 ok_weaker (Ok x) step h = step x h
 ok_weaker (Err e) step h = h
 
@@ -64,7 +64,7 @@ catalog_right rows env = all_from_true is_catalog_row (rows 0) (environment_part
 -- ---- the records of one database
 
 -- a search among the pairs is one among the records
-searched : (kind : Kind) (test : Name → Bool) (rows : List Row) → are_right kind rows ≡ true →
+pub searched : (kind : Kind) (test : Name → Bool) (rows : List Row) → are_right kind rows ≡ true →
     filter (λ p. test (name_of kind p)) (map (pair_of kind) rows) ≡ map (pair_of kind) (filter (λ r. test r.0) rows)
 searched kind test rows right =
     filter-map (pair_of kind) (λ p. test (name_of kind p)) (λ r. test r.0) rows

@@ -1,5 +1,5 @@
 -- What the parts of a plan come to, from the records in memory.
-use Rattle.std.specs.Prelude.{ℕ, ◌≡◌, ◌≢◌, ◌+◌, ◌-◌, ◌∷◌, [], List, Option, Some, None, map, length, IsTrue}
+use Rattle.std.specs.Prelude.{ℕ, ◌≡◌, ◌≢◌, ◌+◌, ◌-◌, ◌<◌, ◌^◌, ◌∷◌, [], List, Option, Some, None, map, length, IsTrue}
 use Rattle.je_order.specs.Words.{is_word}
 use Rattle.store_model.specs.declared.kind.Kind.{Kind}
 use Rattle.store_model.specs.declared.call.Call.{Call}
@@ -42,7 +42,7 @@ abbrev pub records_by : ℕ → List Row → List RecordChange → ℕ
 records_by records rows (Set at value ∷ []) = records_with records (data_at at rows)
 records_by records rows changes = records - length changes
 
--- the changes of a database's records are to be logged
+-- the changes of a database's records are to be logged, under its number, which has its width
 pub record LogsRecords (kept : Kept) (number : ℕ) (changes : List RecordChange) (planned : PlannedChanges) : Type 0 where
   pub rows : planned.rows ≡ map (record_planned number) changes
   pub last_db : planned.last_db ≡ kept.last_db

@@ -25,10 +25,9 @@ use log_replay::{Rows, SortKey};
 use std::alloc::{AllocError, Global};
 
 // The entry of a change, by a transaction.
-fn entry_of(alloc: Global, txn: u64, row: &PlannedRow) -> Result<Entry, AllocError>
+fn entry_of(txn: u64, row: &PlannedRow) -> Result<Entry, AllocError>
     ensures { IfOk result (λ entry. entry ≡ row_entry (row_by txn row.now)) }
 {
-    drop(alloc);
     let name = copy_of(&row.name)?;
     match &row.value {
         Some(value) => Ok(Entry::Put {
@@ -51,7 +50,7 @@ pub fn entries_of(alloc: Global, txn: u64, rows: &[PlannedRow]) -> Result<Vec<En
 {
     let mut entries = Vec::new(alloc);
     for row in rows {
-        entries.push(entry_of(alloc, txn, row)?)?;
+        entries.push(entry_of(txn, row)?)?;
     }
     entries.push(Entry::Commit { txn: TxnId(txn) })?;
     Ok(entries)
