@@ -44,6 +44,7 @@ records_by records rows changes = records - length changes
 
 -- the changes of a database's records are to be logged, under its number, which has its width
 pub record LogsRecords (kept : Kept) (number : ℕ) (changes : List RecordChange) (planned : PlannedChanges) : Type 0 where
+  pub width : number < 2 ^ 32
   pub rows : planned.rows ≡ map (record_planned number) changes
   pub last_db : planned.last_db ≡ kept.last_db
   pub databases : planned.totals.databases ≡ kept.totals.databases
