@@ -1,5 +1,5 @@
 -- A call goes on as the model does, and a guarded run by it.
-use Rattle.std.proofs.Common.{◌≡◌, ℕ, suc, ◌+◌, ◌<◌, ◌≤◌, Bool, true, false, cond, nat_lt, List, [], ◌∷◌, ◌++◌, Option, Some, None, Result, Ok, Err, IsErr, IfOk, length, map, refl, ap, sym, ◌∙◌, subst, arith, ◌⊎◌, inl, inr}
+use Rattle.std.proofs.Common.{◌≡◌, ℕ, suc, ◌+◌, ◌<◌, ◌≤◌, Bool, true, false, cond, nat_lt, List, [], ◌∷◌, ◌++◌, Option, Some, None, Result, Ok, Err, IsErr, IfOk, OnErr, length, map, refl, ap, sym, ◌∙◌, subst, arith, ◌⊎◌, inl, inr}
 use Rattle.std.specs.declared.alloc.AllocError.{AllocError}
 use Rattle.std.proofs.lemmas.Bool.{ltb-true, ltb-false}
 use Rattle.std.proofs.lemmas.List.{length-append}
@@ -44,7 +44,7 @@ use Rattle.engine.specs.declared.kept.Kept.{Kept}
 use Rattle.je_lsn.specs.declared.file_no.TheConstants.{LAST_FILE}
 use Rattle.engine.specs.declared.planned_changes.PlannedChanges.{PlannedChanges}
 use Rattle.engine.specs.declared.engine.Engine.{Engine}
-use Rattle.engine.specs.Whole.{GoesOn, GoesOnSafely, IsAt, IsGuarded}
+use Rattle.engine.specs.Whole.{GoesOn, GoesOnSafely, IsAt, IsGuarded, end_file}
 use Rattle.engine.specs.Environment.{AreAlone, AreAt}
 use Rattle.engine.specs.Crash.{AreSafeEvents, Follows}
 use Rattle.engine.specs.Guarded.{IsGuardedLog, IsKeeping, IsKept as IsSafeKept}
@@ -52,7 +52,7 @@ use Rattle.engine.specs.Limits.{IsBounded, limit_of, most_logged}
 use Rattle.engine.specs.Totals.{totals_of}
 use Rattle.engine.specs.Logging.{SetsLast, drawn_kept, end_planned, entries_planned}
 use Rattle.engine.specs.Planning.{EndsAlone, HasModel, CanPlan, IsPlannedLog, row_by}
-use Rattle.engine.specs.Steps.{Fits, LogsChanges}
+use Rattle.engine.specs.Steps.{Fits, IsNumbered, LogsChanges}
 use Rattle.engine.proofs.AttemptLaws.{alone_changes, tried_refused, tried_some}
 use Rattle.engine.proofs.FlipLaws.{files_few}
 use Rattle.engine.proofs.GuardLaws.{goes_freely, guarded_quiet, keeping_read, keeping_unchanged, one_log}
@@ -62,6 +62,7 @@ use Rattle.engine.proofs.SafeLaws.{attempts-push, guarded_on}
 use Rattle.engine.proofs.ShapeLaws.{IsSimple, planned_simple, rows_few, sets_last}
 use Rattle.engine.proofs.StepLaws.{drawn_at, entries_are, faulted_at, grown, logged_at, planned_may, same_at}
 use Rattle.engine.proofs.SyncLaws.{passes_now}
+use Rattle.engine.proofs.WholeLaws.{commits_at}
 
 -- ---- limits
 
@@ -269,6 +270,23 @@ module _ {D : Type 0} (observable : Bool) (history : D → History) (sync_out re
   logs_grow buffer other old new p session call planned (Ok DiskFault) none is log logs = let end : new.end.file ≡ old.end.file = ap (λ (e : LogPos). e.file) logs.0.end in omega (arith, end)
   logs_grow buffer other old new p session call planned (Ok answer) none is log logs = absurd logs
   logs_grow buffer other old new p session call planned (Err error) none is log logs = let end : new.end.file ≡ old.end.file = ap (λ (e : LogPos). e.file) logs.0.end in omega (arith, end)
+
+  -- where there was no memory it ends where it did
+  pub logs_stay : (old new : Engine D) (planned : PlannedChanges) (result : Result Answer AllocError) → LogsChanges observable history sync_out read_out read_of old.log new.log old.kept new.kept planned result →
+      OnErr result (end_file new ≡ end_file old)
+  logs_stay old new planned (Ok answer) logs = tt
+  logs_stay old new planned (Err error) logs = ap (λ (e : LogPos). e.file) logs.0.end
+
+  -- a commit has the model's number
+  pub logs_numbered : (most : ℕ) (state : State) (old new : Engine D) (st : Standing) (p : Alone) (session line : ℕ) (call : Call) (planned : PlannedChanges) (result : Result Answer AllocError) →
+      st ≡ alone p → IsAutoCommitted call → EndsBy most observable state new.log old.kept new.kept p session call result →
+      LogsChanges observable history sync_out read_out read_of old.log new.log old.kept new.kept planned result →
+      IfOk result (λ answer. IsNumbered answer (after_event st (Called session line call answer [])).commits)
+  logs_numbered most state old new st p session line call planned (Ok (Logged commit)) stands is ended logs =
+      let gone = is_gone most observable state new.log old.kept new.kept st p session line call (Logged commit) stands is ended in
+      logs.0 ∙ sym logs.1.commits ∙ commits_at most observable state new.log new.kept (after_event st (Called session line call (Logged commit) [])) gone.here
+  logs_numbered most state old new st p session line call planned (Ok answer) stands is ended logs = tt
+  logs_numbered most state old new st p session line call planned (Err error) stands is ended logs = tt
 
 -- ---- a guarded run
 

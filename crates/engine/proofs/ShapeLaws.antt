@@ -1,5 +1,5 @@
 -- What planned changes look like: one change of the store, or records that are taken out.
-use Rattle.std.proofs.Common.{◌≡◌, ◌≢◌, ℕ, ◌+◌, ◌*◌, ◌≤◌, length, arith, cond, nat_lt, nat_le, is_some, IfSome, Bool, true, false, List, [], ◌∷◌, ◌++◌, Option, None, Some, map, option_map, refl, ap, sym, ◌∙◌, subst, ◌⊎◌, inl, inr}
+use Rattle.std.proofs.Common.{◌≡◌, ◌≢◌, true≢false, ℕ, ◌+◌, ◌*◌, ◌≤◌, length, arith, cond, nat_lt, nat_le, is_some, IfSome, Bool, true, false, List, [], ◌∷◌, ◌++◌, Option, None, Some, map, option_map, refl, ap, sym, ◌∙◌, subst, ◌⊎◌, inl, inr}
 use Rattle.std.specs.List.{AllByRecursion}
 use Rattle.std.specs.Ordering.{is_eq}
 use Rattle.std.proofs.lemmas.List.{length-append}
@@ -8,7 +8,7 @@ use Rattle.je_order.specs.declared.name.Name.{Name}
 use Rattle.je_order.proofs.Orderings.{equal_from_test, name_exact}
 use Rattle.store_model.specs.declared.store.Database.{Database}
 use Rattle.store_model.specs.declared.answer.Answer.{Answer}
-use Rattle.store_model.specs.declared.answer.Answer.TheVariants.{IdsEnded, NameTaken, NoDatabase, TooLong, TooMany}
+use Rattle.store_model.specs.declared.answer.Answer.TheVariants.{DiskFault, IdsEnded, Logged, NameTaken, NoDatabase, TooLong, TooMany}
 use Rattle.store_model.specs.declared.call.Call.{Call}
 use Rattle.store_model.specs.declared.call.Call.TheVariants.{List as Lists, Create, Remove as Removes, Rename as Renames, Truncate, Get, GetBoth, Put, Delete}
 use Rattle.store_model.specs.declared.change.Change.{Change}
@@ -37,6 +37,7 @@ use Rattle.log_replay.specs.Logging.{all_row_changes, catalog_row_change, last_d
 use Rattle.log_replay.proofs.LoggedLaws.{empty-is, rename-is}
 use Rattle.engine.specs.Logging.{SetsLast}
 use Rattle.engine.specs.Planning.{outcome_alone, outcome_on, performed_outcome}
+use Rattle.engine.specs.Steps.{IsNumbered}
 
 -- ---- changes of the store
 
@@ -198,9 +199,23 @@ rows_few (change ∷ changes) last_db txn rows =
 
 -- ---- what is answered
 
--- an answer that no disk fault gives
+-- a commit or a disk fault gives the answer
+abbrev pub is_loud : Answer → Bool
+is_loud (Logged commit) = true
+is_loud DiskFault = true
+is_loud answer = false
+
+-- an answer that no commit and no disk fault gives
 abbrev pub IsCalm : Answer → Type 0
-IsCalm answer = is_disk_fault answer ≡ false
+IsCalm answer = is_loud answer ≡ false
+
+pub faultless : (answer : Answer) → IsCalm answer → is_disk_fault answer ≡ false
+faultless DiskFault is = absurd (true≢false is)
+faultless answer is = refl
+
+pub unnumbered : (answer : Answer) (commits : ℕ) → IsCalm answer → IsNumbered answer commits
+unnumbered (Logged commit) commits is = absurd (true≢false is)
+unnumbered answer commits is = tt
 
 abbrev IsCalmRefusal : Option Answer → Type 0
 IsCalmRefusal o = IfSome o IsCalm

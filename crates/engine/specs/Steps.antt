@@ -53,6 +53,11 @@ module _ {D : Type 0} (observable : Bool) (history : D → History) (sync_out re
   LogsChanges buffer longer old new planned (Ok answer) = ⊥
   LogsChanges buffer longer old new planned (Err error) = IsSame old new × IsUnchanged buffer longer
 
+-- an answer of Logged has the number of the last commit
+abbrev pub IsNumbered : Answer → ℕ → Type 0
+IsNumbered (Logged commit) commits = commit ≡ commits
+IsNumbered answer commits = Unit {0}
+
 -- the count of the disk's faults never falls, and rose where the answer is a disk fault
 pub record HasStepCause (before after : ℕ) (result : Result Answer AllocError) : Type 0 where
   pub never_falls : before ≤ after

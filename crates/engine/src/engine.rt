@@ -1,5 +1,5 @@
 // An open environment.
-ghost use Rattle.std.specs.Prelude.{◌≡◌, ◌≤◌, ◌<◌, ◌+◌, ◌^◌, ◌∷◌, [], ◌++◌, ℕ, None, Some, is_some, true, false, IfSome, IfOk, IsNone, if◌then◌else◌, List, map};
+ghost use Rattle.std.specs.Prelude.{◌≡◌, ◌≤◌, ◌<◌, ◌+◌, ◌^◌, ◌∷◌, [], ◌++◌, ℕ, None, Some, is_some, true, false, IfSome, IfOk, IsNone, OnErr, if◌then◌else◌, List, map};
 ghost use Rattle.std.specs.List.{AllByRecursion};
 ghost use Rattle.je_order.specs.Counts.{HasRisen};
 ghost use Rattle.je_disk.specs.Moments.{History, now};
@@ -7,7 +7,7 @@ ghost use Rattle.store_model.specs.declared.store.TheConstants.{LAST_DATABASE, L
 ghost use Rattle.store_model.specs.declared.event.Event.{Event};
 ghost use Rattle.store_model.specs.declared.event.Event.TheVariants.{Call as Called, SyncEnd};
 ghost use Rattle.je_answers.specs.Standing.{Standing};
-ghost use Rattle.je_answers.specs.After.{after_events};
+ghost use Rattle.je_answers.specs.After.{after_event, after_events};
 ghost use Rattle.je_answers.specs.Alone.{IsAutoCommitted};
 ghost use Rattle.je_answers.specs.Events.{IsAnswered};
 ghost use Rattle.je_answers.specs.Journal.{changes_of};
@@ -17,7 +17,7 @@ ghost use Rattle.engine.specs.Environment.{IsAtEnd};
 ghost use Rattle.engine.specs.Limits.{limit_of, most_logged};
 ghost use Rattle.engine.specs.Logging.{SetsLast, entries_planned};
 ghost use Rattle.engine.specs.Planning.{row_by};
-ghost use Rattle.engine.specs.Steps.{HasStepCause, LeavesRoom, LogsChanges};
+ghost use Rattle.engine.specs.Steps.{HasStepCause, IsNumbered, LeavesRoom, LogsChanges};
 ghost use Rattle.engine.specs.Totals.{totals_of};
 ghost use Rattle.engine.specs.Whole.{BeginsSafely, BeginsSync, CanGoOn, EndsSync, GoesOn, GoesOnSafely, IsAt, IsGuarded, IsGuardedInSync, disk_of, end_file};
 
@@ -56,6 +56,8 @@ impl<D: Disk> Engine<D> {
         ensures goes_on { (most : ℕ) (st : Standing) → IsAt most D.observable (now (D.history (disk_of self.old))) self.old st → GoesOn most D.observable (now (D.history (disk_of self.new))) self.old self.new st session line call.now result }
         ensures exact { (most : ℕ) (st : Standing) → IsAt most D.observable (now (D.history (disk_of self.old))) self.old st
             → IfOk result (λ answer. IsAnswered (limit_of self.old.kept (changes_of (early_refusal st session call.now) st session call.now)) st (Called session line call.now answer [])) }
+        ensures numbered { (most : ℕ) (st : Standing) → IsAt most D.observable (now (D.history (disk_of self.old))) self.old st
+            → IfOk result (λ answer. IsNumbered answer (after_event st (Called session line call.now answer [])).commits) }
         ensures grows { (most : ℕ) (st : Standing) → IsAt most D.observable (now (D.history (disk_of self.old))) self.old st
             → end_file self.new ≤ end_file self.old + most_logged (changes_of (early_refusal st session call.now) st session call.now) }
         ensures bounds { CanGoOn self.new }
@@ -63,6 +65,7 @@ impl<D: Disk> Engine<D> {
             → IsAt most D.observable (now (D.history (disk_of self.old))) self.old (after_events st journal)
             → IsGuarded most st start (D.history (disk_of self.old)) self.old journal
             → GoesOnSafely most st start (D.history (disk_of self.new)) self.new journal session line call.now result }
+        ensures same_end { OnErr result (end_file self.new ≡ end_file self.old) }
         ensures cause { HasStepCause (D.faults (disk_of self.old)) (D.faults (disk_of self.new)) result }
     {
         if let Some(first) = self.kept.fault {
@@ -141,6 +144,7 @@ impl<D: Disk> Engine<D> {
         ensures crash { D.observable ≡ true → (most : ℕ) (st : Standing) (start : History) (journal : List Event)
             → (after_events st journal).fault ≡ None → IsGuarded most st start (D.history (disk_of self.old)) self.old journal
             → BeginsSafely most st start (D.history (disk_of self.new)) self.new journal (is_some result) }
+        ensures same_end { end_file self.new ≡ end_file self.old }
         ensures out { IfSome result (λ job. D.sync_out (disk_of self.new) ≡ Some (D.Job.job_number job)) }
         ensures bounds { CanGoOn self.old → CanGoOn self.new }
         ensures never_falls { D.faults (disk_of self.old) ≤ D.faults (disk_of self.new) }
@@ -165,6 +169,7 @@ impl<D: Disk> Engine<D> {
             → IsAt most D.observable (now (D.history (disk_of self.old))) self.old (after_events st journal) → (after_events st journal).fault ≡ None
             → IsGuardedInSync most st start (D.history (disk_of self.old)) self.old journal
             → IsGuarded most st start (D.history (disk_of self.new)) self.new (journal ++ SyncEnd result ∷ []) }
+        ensures same_end { end_file self.new ≡ end_file self.old }
         ensures bounds { CanGoOn self.old → CanGoOn self.new }
         ensures never_falls { D.faults (disk_of self.old) ≤ D.faults (disk_of self.new) }
         ensures cause { (most : ℕ) (st : Standing) → IsAt most D.observable (now (D.history (disk_of self.old))) self.old st → st.fault ≡ None → result ≡ Answer.DiskFault → HasRisen (D.faults (disk_of self.old)) (D.faults (disk_of self.new)) }

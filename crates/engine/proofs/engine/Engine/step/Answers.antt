@@ -11,9 +11,9 @@ use Rattle.engine.specs.declared.planned.Planned.{Planned}
 use Rattle.engine.specs.Limits.{most_logged}
 use Rattle.engine.specs.Planning.{IsPlanned}
 use Rattle.engine.proofs.AttemptLaws.{alone_changes, fault_changes, tried_none, tried_refused}
-use Rattle.engine.proofs.CallLaws.{answers_exactly, can_plan, goes_on_by, guarded_calm, guarded_logs, logs_end, logs_grow, model, no_memory, no_memory_safely, none_answered, planned_sets, safely_as_one}
+use Rattle.engine.proofs.CallLaws.{answers_exactly, can_plan, goes_on_by, guarded_calm, guarded_logs, logs_end, logs_grow, logs_numbered, logs_stay, model, no_memory, no_memory_safely, none_answered, planned_sets, safely_as_one}
 use Rattle.engine.proofs.PlanLaws.{answered_ends, invalid_ends, no_number_ends}
-use Rattle.engine.proofs.ShapeLaws.{outcome_calm}
+use Rattle.engine.proofs.ShapeLaws.{faultless, is_loud, outcome_calm, unnumbered}
 use Rattle.engine.proofs.StepLaws.{drawn_at, entries_of_may, planned_may}
 use Rattle.engine.proofs.engine.Engine.step.Goals as goal
 
@@ -114,6 +114,9 @@ returns-in_err-answer-clause-goes_on g c = λ most st here.
 pub returns-in_err-answer-clause-exact : goal.returns-in_err-answer-clause-exact
 returns-in_err-answer-clause-exact g c = λ most st here. none_answered c.from_residual.result _ c.from_residual.ensures.0
 
+pub returns-in_err-answer-clause-numbered : goal.returns-in_err-answer-clause-numbered
+returns-in_err-answer-clause-numbered g c = λ most st here. none_answered c.from_residual.result _ c.from_residual.ensures.0
+
 pub returns-in_err-answer-clause-crash : goal.returns-in_err-answer-clause-crash
 returns-in_err-answer-clause-crash g c = λ observed most st start journal here is.
     let engine = c.args.self.now in
@@ -149,6 +152,13 @@ returns-in-Answered-clause-exact g c = λ most st here.
       here = drawn_at most g.D.Disk.observable state engine.log engine.kept p here.here c.if-self-ge-LAST_TXN.false;
     })
 
+pub returns-in-Answered-clause-numbered : goal.returns-in-Answered-clause-numbered
+returns-in-Answered-clause-numbered g c = λ most st here.
+    let kept = c.args.self.now.kept in
+    let p = here.alone_at in
+    let planned = subst (λ (x : Planned). IsPlanned kept p c.args.session c.args.call.now x) c.in-Answered.is (c.in_ok-answer.ensures p c.args.session (model kept p here.here (sym here.here.fault ∙ c.in_default.is))) in
+    unnumbered c.in-Answered.answer _ (sym (ap (λ (o : Outcome). is_loud o.answer) planned) ∙ outcome_calm p c.args.session c.args.call.now c.requires.call)
+
 pub returns-in-Answered-clause-crash : goal.returns-in-Answered-clause-crash
 returns-in-Answered-clause-crash g c = λ observed most st start journal here is.
     let engine = c.args.self.now in
@@ -158,7 +168,7 @@ returns-in-Answered-clause-crash g c = λ observed most st start journal here is
       is.0,
       guarded_calm st is.0 start (g.D.Disk.history (disk_of engine.log)) engine.log journal p (drawn_alone p) c.args.session c.args.line c.args.call.now c.in-Answered.answer here.st_is c.requires.call
           (answered_ends None engine.kept p c.args.session c.args.call.now c.in-Answered.answer none c.requires.call planned).leaves refl
-          (sym (ap (λ (o : Outcome). is_disk_fault o.answer) planned) ∙ outcome_calm p c.args.session c.args.call.now c.requires.call)
+          (faultless c.in-Answered.answer (sym (ap (λ (o : Outcome). is_loud o.answer) planned) ∙ outcome_calm p c.args.session c.args.call.now c.requires.call))
           (tried_none _ _ (alone_changes p c.args.session c.args.call.now none c.requires.call ∙ ap (λ (o : Outcome). o.changes) planned)) is.1,
     )
 
@@ -187,6 +197,24 @@ returns-in-Logs-clause-exact g c = λ most st here.
     answers_exactly most g.D.Disk.observable (now (g.D.Disk.history (disk_of new.log))) new.log engine.kept new.kept st p c.args.session c.args.line c.args.call.now c.log.result here.st_is c.requires.call
     (logs_end g.D.Disk.observable g.D.Disk.history g.D.Disk.sync_out g.D.Disk.read_out g.D.Disk.read_of most engine.log new.log engine.kept new.kept p c.args.session c.args.call.now c.in-Logs.planned c.log.result
     here.here none c.requires.call c.if-self-ge-LAST_TXN.false (omega (arith, small)) planned c.log.ensures.logs)
+
+pub returns-in-Logs-clause-numbered : goal.returns-in-Logs-clause-numbered
+returns-in-Logs-clause-numbered g c = λ most st here.
+    let engine = c.args.self.now in
+    let new = c.log.new.self in
+    let p = here.alone_at in
+    let none = sym here.here.fault ∙ c.in_default.is in
+    let planned = subst (λ (x : Planned). IsPlanned engine.kept p c.args.session c.args.call.now x) c.in-Logs.is (c.in_ok-answer.ensures p c.args.session (model engine.kept p here.here none)) in
+    let small = c.requires.bounds.last_db in
+    logs_numbered g.D.Disk.observable g.D.Disk.history g.D.Disk.sync_out g.D.Disk.read_out g.D.Disk.read_of most (now (g.D.Disk.history (disk_of new.log))) engine new st p c.args.session c.args.line c.args.call.now
+    c.in-Logs.planned c.log.result here.st_is c.requires.call
+    (logs_end g.D.Disk.observable g.D.Disk.history g.D.Disk.sync_out g.D.Disk.read_out g.D.Disk.read_of most engine.log new.log engine.kept new.kept p c.args.session c.args.call.now c.in-Logs.planned c.log.result
+    here.here none c.requires.call c.if-self-ge-LAST_TXN.false (omega (arith, small)) planned c.log.ensures.logs)
+    c.log.ensures.logs
+
+pub returns-in-Logs-clause-same_end : goal.returns-in-Logs-clause-same_end
+returns-in-Logs-clause-same_end g c =
+    logs_stay g.D.Disk.observable g.D.Disk.history g.D.Disk.sync_out g.D.Disk.read_out g.D.Disk.read_of c.args.self.now c.log.new.self c.in-Logs.planned c.log.result c.log.ensures.logs
 
 pub returns-in-Logs-clause-grows : goal.returns-in-Logs-clause-grows
 returns-in-Logs-clause-grows g c = λ most st here.
@@ -217,5 +245,5 @@ returns-in-Answered-clause-cause g c =
     let here = c.requires.here.2 in
     let p = here.alone_at in
     let planned = subst (λ (x : Planned). IsPlanned kept p c.args.session c.args.call.now x) c.in-Answered.is (c.in_ok-answer.ensures p c.args.session (model kept p here.here (sym here.here.fault ∙ c.in_default.is))) in
-    let calm : is_disk_fault c.in-Answered.answer ≡ false = sym (ap (λ (o : Outcome). is_disk_fault o.answer) planned) ∙ outcome_calm p c.args.session c.args.call.now c.requires.call in
+    let calm : is_disk_fault c.in-Answered.answer ≡ false = faultless c.in-Answered.answer (sym (ap (λ (o : Outcome). is_loud o.answer) planned) ∙ outcome_calm p c.args.session c.args.call.now c.requires.call) in
     record { never_falls = omega arith; fault = λ e. absurd (true≢false (sym (ap is_disk_fault e) ∙ calm)) }
