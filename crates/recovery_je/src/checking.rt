@@ -6,12 +6,12 @@ ghost use Rattle.record_map.specs.Cells.{IsRising};
 ghost use Rattle.recovery_je.specs.Checking.{values_of, wrong_lsn_in, wrong_lsn_under, lsn_of as lsn_of_name};
 
 use je_lsn::Lsn;
-use store_model::MOST_DATABASES;
 use je_order::{Name, Word, copy_of};
 use log_replay::number_of;
 use record_map::SortKey;
 use record_tree::{Loads, StoredRecord};
 use std::alloc::{AllocError, Global};
+use store_model::MOST_DATABASES;
 
 /// The number of the catalog.
 const CATALOG: u32 = 0;
