@@ -1,4 +1,4 @@
-use Rattle.std.proofs.Common.{◌∙◌, ◌≡◌, not, Bool, true, false, refl, sym, drop, ◌+◌}
+use Rattle.std.proofs.Common.{◌∙◌, true, false, sym, drop, ◌+◌}
 use Rattle.std.proofs.lemmas.List.{drop_more}
 use Rattle.std.proofs.Math.ListN.{get_or}
 use Rattle.store_model.specs.declared.kind.Kind.TheVariants.{Plain}
