@@ -1,5 +1,5 @@
 // Trees that are made of a log.
-ghost use Rattle.std.specs.Prelude.{◌≡◌, ◌==◌, ◌||◌, ℕ, [], length, option_map, find, not, Some, OnOk, IfOk, Bool, true, false, if◌then◌else◌};
+ghost use Rattle.std.specs.Prelude.{◌≡◌, ◌==◌, ◌||◌, ◌&&◌, nat_le, ℕ, [], length, option_map, find, not, Some, OnOk, IfOk, Bool, true, false, if◌then◌else◌};
 ghost use Rattle.std.specs.List.{list_any};
 ghost use Rattle.record_map.specs.Cells.{IsRising, value_at};
 ghost use Rattle.record_tree.specs.Stored.{AllStored, stored_at, HasStored, AreStoredStill};
@@ -95,6 +95,11 @@ pub trait Loads {
     /// The name of the first record whose dup is not empty, if there is one.
     fn first_with_dup(&self, db: u32) -> Option<&SortKey>
         ensures found { option_map (λ name. name.now) result ≡ option_map (λ r. r.0) (find (λ r. not (length r.0.dup == 0)) (stored self.now db)) };
+
+    /// The name of the first record that is no duplicate: its data is not empty, or its dup has more than `limit`
+    /// bytes.
+    fn first_not_dup(&self, db: u32, limit: usize) -> Option<&SortKey>
+        ensures found { option_map (λ name. name.now) result ≡ option_map (λ r. r.0) (find (λ r. not ((length r.1.value == 0) && nat_le (length r.0.dup) limit)) (stored self.now db)) };
 
     /// A database without a tree has no records.
     ghost none_stored: { (x : Self) (d : ℕ) → has_tree x d ≡ false → stored x d ≡ [] };

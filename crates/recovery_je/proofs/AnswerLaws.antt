@@ -24,7 +24,7 @@ use Rattle.log_replay.proofs.FilesLaws.{entries_scanned-are}
 use Rattle.log_replay.proofs.ListedLaws.{same_files, listed}
 use Rattle.log_trees.specs.Placed.{Placed, AreInOrder, placed_from, placed}
 use Rattle.log_trees.specs.Changes.{LoggedChange}
-use Rattle.log_trees.proofs.PlacedLaws.{placed_are_in_order}
+use Rattle.log_file.proofs.PlacedLaws.{placed_are_in_order}
 use Rattle.log_trees.proofs.Right.{read_trees_are_right}
 use Rattle.std.specs.List.Sorted.{IsStrictlyIncreasing}
 use Rattle.recovery_je.specs.declared.reading.FilesRead.{FilesRead}

@@ -15,7 +15,7 @@ use Rattle.record_map.specs.Cells.{value_at, IsRising as AreRising}
 use Rattle.record_tree.specs.Stored.{Stored, AllStored, stored_at}
 use Rattle.log_replay.specs.declared.corruption.Corruption.{Corruption}
 use Rattle.log_replay.specs.declared.corruption.Corruption.TheVariants.{Tree}
-use Rattle.log_replay.specs.Rows.{Row, Rows, IsRising, catalog_number, numbers_of, store_of, database_in, no_rows, pair_of}
+use Rattle.log_replay.specs.Rows.{Row, Rows, IsRising, catalog_number, catalog_kind, numbers_of, store_of, database_in, no_rows, pair_of}
 use Rattle.log_replay.specs.Wrong.{wrong_record}
 use Rattle.log_replay.proofs.LoadedRows.{found, same_rows}
 use Rattle.log_replay.proofs.MapRows.{rising_from_keys}
@@ -102,7 +102,7 @@ counted : (rows : Rows) (catalog : List Row) →
 counted rows [] = refl
 counted rows (r ∷ catalog) =
     sum_by-cons (λ n. length (rows n)) (catalog_number r.1) (map (λ (s : Row). catalog_number s.1) catalog)
-    ∙ ap₂ (λ a b. a + b) (sym (length-map (rows (catalog_number r.1)) pair_of)) (counted rows catalog)
+    ∙ ap₂ (λ a b. a + b) (sym (length-map (rows (catalog_number r.1)) (pair_of (catalog_kind r.1)))) (counted rows catalog)
     ∙ sym (sum_by-cons (λ (d : Database). length d.pairs) (database_in rows r) (map (database_in rows) catalog))
 
 sum_same : (f g : ℕ → ℕ) (ns : List ℕ) → ((n : ℕ) → f n ≡ g n) → sum_by f ns ≡ sum_by g ns

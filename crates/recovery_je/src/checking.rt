@@ -1,17 +1,19 @@
 // The first record that breaks a rule of environments.
-ghost use Rattle.std.specs.Prelude.{◌≡◌, ◌==◌, ℕ, List as Items, [], Some, IfOk, map, filter, not, option_map, if◌then◌else◌};
-ghost use Rattle.log_replay.specs.Rows.{catalog_number, are_plain};
-ghost use Rattle.log_replay.specs.Wrong.{is_right_behind, wrong_in_catalog as wrong_in_rows, wrong_in_plain, lesser_number as lesser_of, least_number};
+ghost use Rattle.std.specs.Prelude.{◌≡◌, ◌==◌, ℕ, List as Items, [], None, Some, IfOk, map, filter, not, option_map, if◌then◌else◌};
+ghost use Rattle.log_replay.specs.Rows.{catalog_number, are_right};
+ghost use Rattle.log_replay.specs.Wrong.{is_right_behind, wrong_in_catalog as wrong_in_rows, wrong_in, numbered_by, lesser as lesser_of};
 ghost use Rattle.record_map.specs.Cells.{IsRising};
-ghost use Rattle.recovery_je.specs.Checking.{values_of, wrong_lsn_in, wrong_lsn_under, lsn_of as lsn_of_name};
+ghost use Rattle.recovery_je.specs.Checking.{values_of, numbered_of, as_found, wrong_among, wrong_lsn_in, wrong_lsn_under, lsn_of as lsn_of_name};
+ghost use Rattle.recovery_je.specs.declared.numbered.Numbered.{Numbered as Database};
 
+use crate::numbered::Numbered;
 use je_lsn::Lsn;
 use je_order::{Name, Word, copy_of};
-use log_replay::number_of;
+use log_replay::{kind_of, number_of};
 use record_map::SortKey;
 use record_tree::{Loads, StoredRecord};
 use std::alloc::{AllocError, Global};
-use store_model::MOST_DATABASES;
+use store_model::{DUP_LIMIT, Kind, MOST_DATABASES};
 
 /// The number of the catalog.
 const CATALOG: u32 = 0;
@@ -53,31 +55,62 @@ fn numbers_in(alloc: Global, records: &[StoredRecord]) -> Result<Vec<u32>, Alloc
     Ok(numbers)
 }
 
-// The lesser of a number and another one, if there is one.
-fn lesser(number: u32, other: Option<u32>) -> u32
-    ensures { Some result ≡ lesser_of number other }
+// The numbers and the kinds in the catalog's records, in order.
+fn numbered_in(alloc: Global, records: &[StoredRecord]) -> Result<Vec<Numbered>, AllocError>
+    ensures { IfOk result (λ databases. databases.items ≡ map numbered_of (values_of records.now)) }
 {
-    match other {
-        Some(other) => number.min(other),
-        None => number,
+    let mut databases = Vec::new(alloc);
+    for record in records {
+        databases.push(Numbered {
+            number: number_of(record.value.as_slice()),
+            kind: kind_of(record.value.as_slice()),
+        })?;
+    }
+    Ok(databases)
+}
+
+// The first of a database and another one, if there is one, with the lesser number.
+fn lesser(found: Option<Numbered>, other: Numbered) -> Numbered
+    ensures none { found ≡ None → result ≡ other }
+    ensures some { (d : Database) → found ≡ Some d → Some (as_found result) ≡ lesser_of (as_found d) (Some (as_found other)) }
+{
+    match found {
+        Some(found) => {
+            if found.number <= other.number {
+                found
+            } else {
+                other
+            }
+        }
+        None => other,
     }
 }
 
-// Whether a database has a record that is wrong in a plain one.
-fn is_wrong<T: Loads>(trees: &T, db: u32) -> bool
-    ensures { result ≡ not (are_plain (values_of (T.stored trees.now db))) }
+// The name of the first record of a database that is wrong in one of its kind.
+fn first_wrong<T: Loads>(trees: &T, database: Numbered) -> Option<&SortKey>
+    ensures { option_map (λ name. name.now) result ≡ wrong_in database.kind (values_of (T.stored trees.now database.number)) }
 {
-    trees.first_with_dup(db).is_some()
+    match database.kind {
+        Kind::Plain => trees.first_with_dup(database.number),
+        Kind::Dup => trees.first_not_dup(database.number, DUP_LIMIT),
+    }
 }
 
-// The least of these databases that has a record that is wrong in a plain one.
-fn least_wrong<T: Loads>(trees: &T, numbers: &[u32]) -> Option<u32>
-    ensures { result ≡ least_number (filter (λ n. not (are_plain (values_of (T.stored trees.now n)))) numbers.now) }
+// Whether a database has a record that is wrong in one of its kind.
+fn is_wrong<T: Loads>(trees: &T, database: Numbered) -> bool
+    ensures { result ≡ not (are_right database.kind (values_of (T.stored trees.now database.number))) }
+{
+    first_wrong(trees, database).is_some()
+}
+
+// The least of these databases that has a record that is wrong in one of its kind.
+fn least_wrong<T: Loads>(trees: &T, databases: &[Numbered]) -> Option<Numbered>
+    ensures { option_map as_found result ≡ wrong_among (T.stored trees.now) (map as_found databases.now) }
 {
     let mut found = None;
-    for number in numbers {
-        if is_wrong(trees, *number) {
-            found = Some(lesser(*number, found));
+    for database in databases {
+        if is_wrong(trees, *database) {
+            found = Some(lesser(found, *database));
         }
     }
     found
@@ -103,24 +136,36 @@ fn lsn_in_catalog<T: Loads>(alloc: Global, trees: &T, name: Name) -> Result<Lsn,
     Ok(at)
 }
 
-// The LSN of the first record of a database that is wrong in a plain one.
-fn wrong_in_db<T: Loads>(trees: &T, db: u32) -> Option<Lsn>
-    ensures { result ≡ option_map (λ x. lsn_of_name (T.stored trees.now) db x) (wrong_in_plain (values_of (T.stored trees.now db))) }
+// The LSN of the first record of a database that is wrong in one of its kind.
+fn wrong_in_db<T: Loads>(trees: &T, database: Numbered) -> Option<Lsn>
+    ensures { result ≡ option_map (λ x. lsn_of_name (T.stored trees.now) database.number x) (wrong_in database.kind (values_of (T.stored trees.now database.number))) }
 {
-    match trees.first_with_dup(db) {
-        Some(name) => Some(lsn_of(trees, db, name)),
+    match first_wrong(trees, database) {
+        Some(name) => Some(lsn_of(trees, database.number, name)),
         None => None,
     }
 }
 
-// The LSN of the first wrong record of the databases of these numbers.
-fn wrong_under<T: Loads>(trees: &T, numbers: &[u32]) -> Option<Lsn>
-    ensures { result ≡ wrong_lsn_under (T.stored trees.now) numbers.now }
+// The LSN of the first wrong record of these databases.
+fn wrong_under<T: Loads>(trees: &T, databases: &[Numbered]) -> Option<Lsn>
+    ensures { result ≡ wrong_lsn_under (T.stored trees.now) (map as_found databases.now) }
 {
-    match least_wrong(trees, numbers) {
-        Some(db) => wrong_in_db(trees, db),
+    match least_wrong(trees, databases) {
+        Some(database) => wrong_in_db(trees, database),
         None => None,
     }
+}
+
+// The LSN of the first wrong record of the databases that the catalog's records name.
+fn wrong_in_databases<T: Loads>(
+    alloc: Global,
+    trees: &T,
+    records: &[StoredRecord],
+) -> Result<Option<Lsn>, AllocError>
+    ensures { IfOk result (λ wrong. wrong ≡ wrong_lsn_under (T.stored trees.now) (map numbered_by (values_of records.now))) }
+{
+    let databases = numbered_in(alloc, records)?;
+    Ok(wrong_under(trees, &databases))
 }
 
 /// The LSN of the first record that breaks a rule of environments, if one does.
@@ -131,10 +176,7 @@ pub(crate) fn wrong_lsn<T: Loads>(alloc: Global, trees: &T) -> Result<Option<Lsn
     let records = trees.records(alloc, CATALOG)?;
     match wrong_in_catalog(alloc, &records)? {
         Some(name) => Ok(Some(lsn_in_catalog(alloc, trees, name)?)),
-        None => {
-            let numbers = numbers_in(alloc, &records)?;
-            Ok(wrong_under(trees, &numbers))
-        }
+        None => wrong_in_databases(alloc, trees, &records),
     }
 }
 

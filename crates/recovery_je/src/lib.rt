@@ -10,6 +10,7 @@ mod finishing;
 mod gaps;
 mod images;
 mod lookup;
+mod numbered;
 mod numbers;
 pub mod opening_store;
 mod placed_entry;

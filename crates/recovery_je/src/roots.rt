@@ -20,7 +20,8 @@ pub(crate) struct WalkNumbers {
     pub(crate) db: u32,
 }
 
-/// Reads the trees of a checkpoint's roots.
+/// Reads the trees of a checkpoint's roots. Reading the trees of a checkpoint is not there yet: where the
+/// checkpoint has roots, the answer is `Memory`, and the environment is not opened.
 pub(crate) fn read_roots<T: Loads>(
     _alloc: Global,
     _files: &[FileNo],
