@@ -10,7 +10,7 @@ use Rattle.engine.proofs.WriteLaws.{first_fits, rest_fits, tried_all}
 use Rattle.engine.proofs.logging.append_all.Goals as goal
 
 pub append_reserved-appended-requires-clause-fits : goal.append_reserved-appended-requires-clause-fits
-append_reserved-appended-requires-clause-fits g c κs within =
+append_reserved-appended-requires-clause-fits g c =
     let log = c.loop-entry.log in
     first_fits (file_max_of log) (end_of log) (into_iter_items c.loop-entry.entry-iterator) (into_iter_items c.next.new.self) c.in-Some.entry c.in-Some.ensures.steps.0 c.loop-entry.invariant.fits
 

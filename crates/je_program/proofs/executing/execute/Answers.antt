@@ -18,7 +18,7 @@ use Rattle.je_program.proofs.RunLaws.{caused_answered, caused_synced, caused_uns
 use Rattle.je_program.proofs.executing.execute.Goals as goal
 
 pub step-requires-clause-call : goal.step-requires-clause-call
-step-requires-clause-call g c κs within = line_is_auto c.args.call c.requires.has_line
+step-requires-clause-call g c = line_is_auto c.args.call c.requires.has_line
 
 pub returns-in-Err-clause-runs : goal.returns-in-Err-clause-runs
 returns-in-Err-clause-runs g c = λ most first st running.

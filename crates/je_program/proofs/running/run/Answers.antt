@@ -38,10 +38,10 @@ loop-given-preserved g c =
     }
 
 pub execute_next-requires-clause-running : goal.execute_next-requires-clause-running
-execute_next-requires-clause-running g c κs within =
+execute_next-requires-clause-running g c =
     let start = c.requires.start in
     (start.0, end_file c.args.engine, start.1, c.loop-given.invariant.runs start.0 start.1 start.2)
 
 pub execute_next-requires-clause-line : goal.execute_next-requires-clause-line
-execute_next-requires-clause-line g c κs within =
+execute_next-requires-clause-line g c =
     (first_line c.in-Some.given (into_iter_items c.next.new.self) (into_iter_items c.loop-given.given-iterator) c.in-Some.ensures.steps.0 c.loop-given.invariant.lines).0

@@ -10,7 +10,7 @@ use Rattle.engine.proofs.WriteLaws.{all_bound, end_some, sizes_end}
 use Rattle.engine.proofs.engine.Engine.log.Goals as goal
 
 pub write_rows-requires-clause-entries : goal.write_rows-requires-clause-entries
-write_rows-requires-clause-entries g c κs within =
+write_rows-requires-clause-entries g c =
     let txn = c.args.self.now.kept.last_txn + 1 in
     subst (λ (l : List Entry). AllByRecursion MayFollow l) (sym (c.in_ok-entries.ensures ∙ ap (entries_planned txn) c.as_slice.ensures)) (may_from txn c.args.planned.rows c.requires.entries)
 

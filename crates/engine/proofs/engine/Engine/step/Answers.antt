@@ -25,12 +25,12 @@ plan-requires-clause-can g c =
     can_plan c.requires.here.0 g.D.Disk.observable (now (g.D.Disk.history (disk_of log))) log kept here.alone_at here.here c.in_default.is c.if-self-ge-LAST_TXN.false
 
 pub log-requires-clause-works : goal.log-requires-clause-works
-log-requires-clause-works g c κs within =
+log-requires-clause-works g c =
     let here = c.requires.here.2 in
     (here.here.valid (sym here.here.fault ∙ c.in_default.is)).at_end
 
 pub log-requires-clause-last : goal.log-requires-clause-last
-log-requires-clause-last g c κs within =
+log-requires-clause-last g c =
     let kept = c.args.self.now.kept in
     let here = c.requires.here.2 in
     let p = here.alone_at in
@@ -38,7 +38,7 @@ log-requires-clause-last g c κs within =
     planned_sets kept p c.args.session c.args.call.now c.in-Logs.planned c.requires.call planned
 
 pub log-requires-clause-entries : goal.log-requires-clause-entries
-log-requires-clause-entries g c κs within =
+log-requires-clause-entries g c =
     let kept = c.args.self.now.kept in
     let here = c.requires.here.2 in
     let p = here.alone_at in
