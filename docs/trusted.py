@@ -184,6 +184,8 @@ def contracts_of(crate, file, is_public_name):
 def end_of_contract(lines, n, indent):
     """The line behind a function's contract: where its body begins, or the method of a trait ends."""
     for at in range(n, len(lines)):
+        if lines[at].lstrip().startswith("//"):
+            continue
         begins_body = lines[at] == indent + "{" or lines[at].endswith(" {") and (at == n or lines[at].startswith(indent + ")"))
         if begins_body or lines[at].endswith(";"):
             return at + 1
