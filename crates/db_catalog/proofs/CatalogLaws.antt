@@ -4,19 +4,16 @@ use Rattle.std.specs.Prelude.{IfSome}
 use Rattle.std.specs.Int.{w32, to_be_bytes}
 use Rattle.std.proofs.lemmas.Bool.{and_parts, and_from, eqb-true, leb-true, le-leb, ltb-true, lt-ltb}
 use Rattle.std.proofs.lemmas.List.{append-nil, nil_from_length}
+use Rattle.je_order.specs.Options.{◌>>=◌}
+use Rattle.je_order.proofs.Options.{bind_some}
 use Rattle.je_bytes.specs.Reading.{AreBytes, byte_in, number_in}
 use Rattle.je_bytes.proofs.Fields.{Takes, four_bytes, number_in-takes, number_in-again}
 use Rattle.db_catalog.specs.declared.db_record.DbRecord.{DbRecord}
 use Rattle.db_catalog.specs.declared.db_kind.DbKind.{DbKind}
 use Rattle.db_catalog.specs.declared.db_kind.DbKind.TheVariants.{Plain, Dup, SliceIndex, FieldIndex}
-use Rattle.db_catalog.specs.Catalog.{IsSlice, IsKind, IsRecord, kind_bytes, record_bytes, ◌>>=◌, is_slice, ended, slice_in, field_in, kind_in, db_record_in}
+use Rattle.db_catalog.specs.Catalog.{IsSlice, IsKind, IsRecord, kind_bytes, record_bytes, is_slice, ended, slice_in, field_in, kind_in, db_record_in}
 
 -- ---- steps of reading
-
--- the value of a step that did not fail
-bind_some : {A B : Type 0} (o : Option A) (f : A → Option B) (y : B) → (o >>= f) ≡ Some y → (x : A) × (o ≡ Some x) × (f x ≡ Some y)
-bind_some (Some x) f y e = (x, refl, e)
-bind_some None f y e = absurd cc
 
 -- a step on a value
 bind_is : {A B : Type 0} (o : Option A) (f : A → Option B) (x : A) → o ≡ Some x → (o >>= f) ≡ f x

@@ -1,6 +1,7 @@
 -- The data of a catalog record (this project's own format).
 use Rattle.std.specs.Prelude.{ℕ, ◌≤◌, ◌<◌, ◌^◌, ◌++◌, ◌∷◌, [], ◌==◌, ◌&&◌, nat_le, nat_lt, Bool, List, length, Option, None, Some, if◌then◌else◌}
 use Rattle.std.specs.Int.{w32, to_be_bytes}
+use Rattle.je_order.specs.Options.{◌>>=◌}
 use Rattle.je_bytes.specs.Reading.{byte_in, number_in}
 use Rattle.db_catalog.specs.declared.db_record.DbRecord.{DbRecord}
 use Rattle.db_catalog.specs.declared.db_kind.DbKind.{DbKind}
@@ -36,12 +37,6 @@ abbrev pub record_bytes : DbRecord → List ℕ
 record_bytes r = to_be_bytes w32 r.number ++ kind_bytes r.kind
 
 -- ---- as it is read
-
--- one field, and then what is read after it
-infixl 10 ◌>>=◌
-abbrev pub ◌>>=◌ : {A B : Type 0} → Option A → (A → Option B) → Option B
-(Some x) >>= f = f x
-None >>= f = None
 
 -- whether a slice is within its limits
 abbrev pub is_slice : ℕ → ℕ → Bool

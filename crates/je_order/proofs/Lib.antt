@@ -6,3 +6,5 @@ pub mod Orderings
 pub mod TxnIds
 -- What a result says that is an error, and one that is said in other words.
 pub mod Results
+-- What a step that did not fail gave.
+pub mod Options

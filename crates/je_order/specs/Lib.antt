@@ -3,3 +3,4 @@ pub mod Edges
 pub mod Words
 pub mod Counts
 pub mod Transactions
+pub mod Options

@@ -1,6 +1,8 @@
 -- A run goes on by one line of its script.
 use Rattle.std.proofs.Common.{◌≡◌, ℕ, ◌≤◌, ◌<◌, ◌+◌, ◌||◌, Bool, true, false, List, [], ◌∷◌, ◌++◌, Option, Some, None, Ok, refl, ap, sym, ◌∙◌, subst, ⊎_elim, inl, inr, append_assoc, arith}
 use Rattle.std.proofs.lemmas.List.Folds.{list_any-append}
+use Rattle.std.specs.List.{AllByRecursion}
+use Rattle.je_order.proofs.Lists.{all_append}
 use Rattle.je_lsn.specs.Naming.{last_file}
 use Rattle.je_order.specs.Counts.{HasRisen}
 use Rattle.je_disk.specs.States.{State}
@@ -23,7 +25,7 @@ use Rattle.engine.specs.declared.engine.Engine.{Engine}
 use Rattle.engine.specs.Limits.{AreBounded, IsBounded, most_logged}
 use Rattle.engine.specs.Steps.{IsNumbered}
 use Rattle.engine.specs.Whole.{EndsSync, GoesOn, IsAt, end_file}
-use Rattle.je_program.specs.Run.{IsRunning, IsCaused, all_logged}
+use Rattle.je_program.specs.Run.{IsCallOrSync, IsRunning, IsCaused, all_logged}
 use Rattle.engine.proofs.Counts.{rose_earlier, rose_later}
 use Rattle.je_program.proofs.FaultLaws.{valid_after}
 
@@ -152,8 +154,8 @@ module _ {D : Type 0} where
       (running : IsRunning most first observable before old journal st) →
       IsAt most observable after new (after_events (after_events st journal) events) → AnswersAsModel (after_events st journal) others events →
       AreBounded (first + all_logged st journal) (after_events st journal) events others → end_file new ≤ end_file old + all_logged (after_events st journal) events →
-      AreSyncedAtOnce events → IsRunning most first observable after new (journal ++ events) st
-  runs_more most first observable before after old new journal events others st running here answers bounded grows synced = record {
+      AreSyncedAtOnce events → AllByRecursion IsCallOrSync events → IsRunning most first observable after new (journal ++ events) st
+  runs_more most first observable before after old new journal events others st running here answers bounded grows synced only = record {
     here = subst (λ (s : Standing). IsAt most observable after new s) (sym (after_events-append st journal events)) here;
     limits = running.limits ++ others;
     answers = answers-append st running.limits others journal events running.answers answers;
@@ -161,6 +163,7 @@ module _ {D : Type 0} where
     near = subst (λ (n : ℕ). end_file new ≤ first + n) (sym (all_logged-append st journal events))
         (near_more (end_file old) (end_file new) first (all_logged st journal) (all_logged (after_events st journal) events) running.near grows);
     synced = synced-append journal events running.synced synced;
+    only = all_append IsCallOrSync journal events running.only only;
   }
 
   -- no event more: a call found no memory
@@ -174,6 +177,7 @@ module _ {D : Type 0} where
     bounded = running.bounded;
     near = (let near : end_file old ≤ first + all_logged st journal = running.near in omega (arith, near, grows));
     synced = running.synced;
+    only = running.only;
   }
 
   -- a call that was not logged
@@ -185,7 +189,7 @@ module _ {D : Type 0} where
       runs_more most first observable before after old new journal (Called session line call answer [] ∷ []) (goes.0 ∷ []) st running goes.3 (goes.2, tt)
       (bounded_later (end_file old) (first + all_logged st journal) (changes_by (after_events st journal) (Called session line call answer [])) goes.0 running.near goes.1, tt)
       (logs_once (end_file old) (end_file new) (most_logged (changes_by (after_events st journal) (Called session line call answer []))) grows)
-      (not_waiting session line call answer plain)
+      (not_waiting session line call answer plain) (tt, tt)
 
   -- a call that was logged, and a sync that could not begin
   pub runs_unsynced : (most first : ℕ) (observable : Bool) (before middle after : State) (old mid new : Engine D) (journal : List Event) (session line : ℕ) (call : Call) (answer : Answer) (st : Standing) →
@@ -205,7 +209,7 @@ module _ {D : Type 0} where
       (goes.2, (subst (λ (f : Option Fault). IsSyncBegun f DiskFault) (sym valid) (inr refl), tt))
       (bounded_later (end_file old) start changes goes.0 running.near goes.1, (inl refl, tt))
       (logs_twice (end_file old) (end_file mid) (end_file new) (most_logged changes) grows same)
-      (([], inr (inr refl)), (tt, tt)) in
+      (([], inr (inr refl)), (tt, tt)) (tt, (tt, tt)) in
       let joined : journal ++ events ≡ (journal ++ event ∷ []) ++ SyncBegin DiskFault ∷ [] = sym (append_assoc journal (event ∷ []) (SyncBegin DiskFault ∷ [])) in
       subst (λ (l : List Event). IsRunning most first observable after new l st) joined all
   runs_unsynced most first observable before middle after old mid new journal session line call answer st running goes logged grows same begins = cc
@@ -233,7 +237,7 @@ module _ {D : Type 0} where
       )
       (bounded_later (end_file old) start changes goes.0 running.near goes.1, (inl refl, (inl refl, tt)))
       (logs_thrice (end_file old) (end_file mid) (end_file new) (most_logged changes) grows same)
-      (ends_synced commit st1.commits ending number ended.0, (tt, (tt, tt))) in
+      (ends_synced commit st1.commits ending number ended.0, (tt, (tt, tt))) (tt, (tt, (tt, tt))) in
       let joined : journal ++ events ≡ ((journal ++ event ∷ []) ++ SyncBegin Done ∷ []) ++ SyncEnd ending ∷ [] =
       sym (append_assoc journal (event ∷ SyncBegin Done ∷ []) (SyncEnd ending ∷ []))
       ∙ ap (λ (l : List Event). l ++ SyncEnd ending ∷ []) (sym (append_assoc journal (event ∷ []) (SyncBegin Done ∷ []))) in
@@ -244,7 +248,7 @@ module _ {D : Type 0} where
   pub runs_none : (most : ℕ) (observable : Bool) (state : State) (engine : Engine D) (st : Standing) → IsAt most observable state engine st →
       IsRunning most (end_file engine) observable state engine [] st
   runs_none most observable state engine st here =
-      record { here = here; limits = []; answers = tt; bounded = tt; near = (let e : end_file engine ≤ end_file engine + 0 = omega arith in e); synced = tt }
+      record { here = here; limits = []; answers = tt; bounded = tt; near = (let e : end_file engine ≤ end_file engine + 0 = omega arith in e); synced = tt; only = tt }
 
 pub caused_none : (faults : ℕ) → IsCaused faults faults []
 caused_none faults = record { never_falls = omega arith; fault = λ h. cc }

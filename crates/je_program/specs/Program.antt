@@ -18,6 +18,7 @@ use Rattle.je_program.specs.declared.reading.TheConstants.{MOST_INPUT}
 use Rattle.je_program.specs.declared.cause.Cause.{Cause}
 use Rattle.je_program.specs.declared.cause.Cause.TheVariants.{Done, Usage, BadScript, Disk, Unreadable, Memory, Input, InputTooLong, LogFull, IdsEnded}
 use Rattle.std.specs.Fmt.{digits}
+use Rattle.std.specs.List.{AllByRecursion}
 use Rattle.je_lsn.specs.Naming.{name_of}
 use Rattle.log_replay.specs.declared.corruption.Corruption.{Corruption}
 use Rattle.log_replay.specs.declared.corruption.Corruption.TheVariants.{Damaged, Missing, Tree, VersionUnknown}
@@ -28,7 +29,7 @@ use Rattle.engine.specs.Limits.{AreBounded}
 use Rattle.engine.specs.Opening.{StartsAt}
 use Rattle.engine.specs.Totals.{totals_of}
 use Rattle.je_program.specs.Crash.{IsSafeProgram}
-use Rattle.je_program.specs.Run.{cause_of_journal, final_store, of_session, AreFirstLines, status_of, unwritten_status_of}
+use Rattle.je_program.specs.Run.{IsCallOrSync, cause_of_journal, final_store, of_session, AreFirstLines, status_of, unwritten_status_of}
 
 -- the input was a script, and was read to its end
 abbrev pub ReadsPlan : Option (List ℕ) → Option (List ℕ) → RunPlan → Type 0
@@ -87,14 +88,15 @@ abbrev pub EndsBy : List Event → Cause → Type 0
 EndsBy journal cause = (cause ≡ cause_of_journal journal) ⊎ (cause ≡ Disk)
 
 -- A run from one history of the disk to another, with log files of at most so many bytes. It begins where the files at entry are opened: each event
--- of the journal answers what the model lets it from there on, within the limits of the log, and each commit's sync follows it at once. At every
--- moment the disk is safe. Where all was done, each commit is acknowledged and the files mean the final store. What is counted is how much that holds.
+-- of the journal answers what the model lets it from there on, within the limits of the log, each commit's sync follows it at once, and nothing
+-- else happens. At every moment the disk is safe. Where all was done, each commit is acknowledged and the files mean the final store. What is counted is how much that holds.
 pub record IsRunOf (file_max : ℕ) (observable : Bool) (old new : History) (opening : Store) (counted : Totals) (journal : List Event) (cause : Cause) (st : Standing) : Type 0 where
   pub starts : StartsAt observable (now old).reads opening st
   pub limits : List (Option Answer)
   pub answers : AnswersAsModel st limits journal
   pub bounded : AreBounded (end_file_in starts.held) st journal limits
   pub synced_at_once : AreSyncedAtOnce journal
+  pub only : AllByRecursion IsCallOrSync journal
   pub acknowledged : cause ≡ Done → AllAcknowledged st journal
   pub safe : observable ≡ true → IsSafeProgram old new st journal cause
   pub files : cause ≡ Done → observable ≡ true → MeanStore (now new).reads (final_store st journal)

@@ -1,11 +1,13 @@
 -- A run of a script.
-use Rattle.std.specs.Prelude.{ℕ, ◌≡◌, ◌≤◌, ◌+◌, ◌∷◌, [], ◌++◌, ◌==◌, List, Option, Some, Bool, true, false, filter, slice_index_or, if◌then◌else◌}
+use Rattle.std.specs.List.{AllByRecursion}
+use Rattle.std.specs.Prelude.{ℕ, Unit, ◌≡◌, ◌≤◌, ◌+◌, ◌∷◌, [], ◌++◌, ◌==◌, List, Option, Some, Bool, true, false, filter, slice_index_or, if◌then◌else◌}
 use Rattle.je_order.specs.Counts.{HasRisen}
 use Rattle.je_disk.specs.States.{State}
 use Rattle.store_model.specs.declared.store.Store.{Store}
 use Rattle.store_model.specs.declared.answer.Answer.{Answer}
 use Rattle.store_model.specs.declared.answer.Answer.TheVariants.{LogFull, IdsEnded}
 use Rattle.store_model.specs.declared.event.Event.{Event}
+use Rattle.store_model.specs.declared.event.Event.TheVariants.{Call, SyncBegin, SyncEnd}
 use Rattle.store_model.specs.declared.plan.ScriptLine.{ScriptLine}
 use Rattle.store_model.specs.declared.plan.ScriptLine.TheVariants.{Session, Maintenance}
 use Rattle.store_model.specs.Journal.{answer_of, is_disk_fault}
@@ -27,6 +29,13 @@ abbrev pub all_logged : Standing → List Event → ℕ
 all_logged st [] = 0
 all_logged st (event ∷ events) = most_logged (changes_by st event) + all_logged (after_event st event) events
 
+-- a call or a part of a sync: a script has no line yet for what else a journal may hold
+abbrev pub IsCallOrSync : Event → Type 0
+IsCallOrSync (Call session line call answer victims) = Unit {0}
+IsCallOrSync (SyncBegin answer) = Unit {0}
+IsCallOrSync (SyncEnd answer) = Unit {0}
+IsCallOrSync event = ⊥
+
 module _ {D : Type 0} where
   -- a run is under way whose log ended in the file `first` as it began: the engine is where the journal leaves the model, and each answer so far
   -- is the model's
@@ -37,6 +46,7 @@ module _ {D : Type 0} where
     pub bounded : AreBounded first st journal limits
     pub near : end_file engine ≤ first + all_logged st journal
     pub synced : AreSyncedAtOnce journal
+    pub only : AllByRecursion IsCallOrSync journal
 
 -- since the disk's count stood at `before` it never fell, and it rose where the journal has a disk fault
 pub record IsCaused (before after : ℕ) (journal : List Event) : Type 0 where

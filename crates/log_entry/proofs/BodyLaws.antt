@@ -14,7 +14,8 @@ use Rattle.log_entry.specs.declared.root.Root.{Root}
 use Rattle.log_entry.specs.declared.file_usage.FileUsage.{FileUsage}
 use Rattle.log_entry.specs.declared.entry.Entry.{Entry}
 use Rattle.log_entry.specs.declared.entry.Entry.TheVariants.{FileHeader, Put, Delete, Migrated, Commit, In, Bin, BinDelta, CkptStart, CkptEnd, FileSummary}
-use Rattle.log_entry.specs.Fields.{◌>>=◌, name_bytes, name_in, optional_bytes, optional_in}
+use Rattle.je_order.specs.Options.{◌>>=◌}
+use Rattle.log_entry.specs.Fields.{name_bytes, name_in, optional_bytes, optional_in}
 use Rattle.log_entry.specs.Items.{AreRising, counted_bytes, counted_in, IsChildSlot, child_before, child_slot_bytes, child_slot_in, IsRecordSlot, record_before, record_slot_bytes, record_slot_in, IsRoot, root_before, root_bytes, root_in, IsFileUsage, file_before, file_usage_bytes, file_usage_in}
 use Rattle.log_entry.specs.Body.{IsEntry, kind_of, magic, body_of, body_size_of, whole, file_header_in, put_in, delete_in, migrated_in, commit_in, internal_in, bin_in, delta_in, ckpt_start_in, ckpt_end_in, file_summary_in, entry_in}
 use Rattle.log_entry.proofs.FieldLaws.{test_held, some_is, bind_is, IsField, step, and_then, ends, last_again, four, eight, byte, a_name, an_optional, IsOptional, counted, a_child, a_record, a_root, a_usage, length_optional, length_child, length_record}

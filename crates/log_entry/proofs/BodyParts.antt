@@ -7,7 +7,8 @@ use Rattle.je_order.specs.declared.name.Name.{Name}
 use Rattle.je_bytes.specs.Reading.{byte_in, number_in}
 use Rattle.log_entry.specs.declared.child_slot.ChildSlot.{ChildSlot}
 use Rattle.log_entry.specs.declared.entry.Entry.TheVariants.{Put, Migrated, In}
-use Rattle.log_entry.specs.Fields.{◌>>=◌, name_in}
+use Rattle.je_order.specs.Options.{◌>>=◌}
+use Rattle.log_entry.specs.Fields.{name_in}
 use Rattle.log_entry.specs.Items.{counted_in, child_before, child_slot_in}
 use Rattle.log_entry.specs.Body.{alone, record_in, put_in, migrated_in, internal_in}
 use Rattle.log_entry.proofs.BodyLaws.{reads_on, whole_read, internal_again}

@@ -13,13 +13,10 @@ use Rattle.log_entry.specs.declared.child_slot.ChildSlot.{ChildSlot}
 use Rattle.log_entry.specs.declared.record_slot.RecordSlot.{RecordSlot}
 use Rattle.log_entry.specs.declared.root.Root.{Root}
 use Rattle.log_entry.specs.declared.file_usage.FileUsage.{FileUsage}
-use Rattle.log_entry.specs.Fields.{◌>>=◌, IsName, string, name_bytes, string_in, name_in, version_bytes, version_in, optional_bytes, optional_in}
+use Rattle.je_order.specs.Options.{◌>>=◌}
+use Rattle.je_order.proofs.Options.{bind_some}
+use Rattle.log_entry.specs.Fields.{IsName, string, name_bytes, string_in, name_in, version_bytes, version_in, optional_bytes, optional_in}
 use Rattle.log_entry.specs.Items.{rises, AreRising, items_in, rising_in, counted_bytes, counted_in, IsChildSlot, child_slot_bytes, child_slot_in, IsRecordSlot, record_slot_bytes, record_slot_in, IsRoot, root_bytes, root_in, IsFileUsage, file_usage_bytes, file_usage_in}
-
--- the value of a step that did not fail
-pub bind_some : {A B : Type 0} (o : Option A) (f : A → Option B) (y : B) → (o >>= f) ≡ Some y → (x : A) × (o ≡ Some x) × (f x ≡ Some y)
-bind_some (Some x) f y e = (x, refl, e)
-bind_some None f y e = absurd cc
 
 -- a test that held
 pub test_held : {A : Type 0} (b : Bool) (o : Option A) (y : A) → cond b o None ≡ Some y → (b ≡ true) × (o ≡ Some y)

@@ -5,7 +5,7 @@ use Rattle.std.specs.Prelude.{MatchOption, is_err, ◌&&◌}
 use Rattle.std.proofs.lemmas.List.{append-nil, take_more, take_all, take-append-drop}
 use Rattle.std.proofs.lemmas.Grind.{flat_map-append}
 use Rattle.std.proofs.Math.ListN.{drop_of_length-le}
-use Rattle.log_entry.specs.Fields.{◌>>=◌}
+use Rattle.je_order.specs.Options.{◌>>=◌}
 use Rattle.log_entry.specs.Items.{items_in, rises_from}
 use Rattle.log_entry.specs.Writing.{Puts}
 use Rattle.log_entry.proofs.FieldLaws.{bind_is}

@@ -6,7 +6,8 @@ use Rattle.je_bytes.specs.Reading.{byte_in, number_in}
 use Rattle.je_order.specs.declared.name.Name.{Name}
 use Rattle.log_entry.specs.declared.entry.Entry.{Entry}
 use Rattle.log_entry.specs.declared.entry.Entry.TheVariants.{FileHeader, Put, Delete, Migrated, Commit, In, Bin, BinDelta, CkptStart, CkptEnd, FileSummary}
-use Rattle.log_entry.specs.Fields.{◌>>=◌, IsName, name_bytes, name_in, optional_bytes, optional_in}
+use Rattle.je_order.specs.Options.{◌>>=◌}
+use Rattle.log_entry.specs.Fields.{IsName, name_bytes, name_in, optional_bytes, optional_in}
 use Rattle.log_entry.specs.Items.{AreRising, counted_bytes, counted_in, IsChildSlot, child_before, child_slot_bytes, child_slot_in, IsRecordSlot, record_before, record_slot_bytes, record_slot_in, IsRoot, root_before, root_bytes, root_in, IsFileUsage, file_before, file_usage_bytes, file_usage_in}
 
 -- ---- what an entry may hold

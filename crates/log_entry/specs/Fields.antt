@@ -1,14 +1,9 @@
 -- Fields of entries' bodies that are no plain numbers: as they are written, and as they are read with the bytes after them.
 use Rattle.std.specs.Prelude.{ℕ, ◌≤◌, ◌==◌, ◌&&◌, nat_le, if◌then◌else◌, List, ◌∷◌, ◌++◌, length, Option, Some, None}
 use Rattle.std.specs.Int.{w16, w64, to_be_bytes}
+use Rattle.je_order.specs.Options.{◌>>=◌}
 use Rattle.je_order.specs.declared.name.Name.{Name}
 use Rattle.je_bytes.specs.Reading.{byte_in, number_in, bytes_in}
-
--- one field, and then what is read after it
-infixl 10 ◌>>=◌
-abbrev pub ◌>>=◌ : {A B : Type 0} → Option A → (A → Option B) → Option B
-(Some x) >>= f = f x
-None >>= f = None
 
 -- ---- names
 

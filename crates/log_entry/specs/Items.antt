@@ -9,7 +9,8 @@ use Rattle.log_entry.specs.declared.child_slot.ChildSlot.{ChildSlot}
 use Rattle.log_entry.specs.declared.record_slot.RecordSlot.{RecordSlot}
 use Rattle.log_entry.specs.declared.root.Root.{Root}
 use Rattle.log_entry.specs.declared.file_usage.FileUsage.{FileUsage}
-use Rattle.log_entry.specs.Fields.{◌>>=◌, IsName, name_bytes, name_in, version_bytes, version_in}
+use Rattle.je_order.specs.Options.{◌>>=◌}
+use Rattle.log_entry.specs.Fields.{IsName, name_bytes, name_in, version_bytes, version_in}
 
 -- ---- lists
 

@@ -18,9 +18,6 @@ use std::alloc::{AllocError, Global};
 /// length.
 pub const HEAD_SIZE: u32 = 14;
 
-/// How many bytes a Commit has.
-pub const COMMIT_SIZE: u32 = HEAD_SIZE + 8;
-
 /// How many bytes the entry's encoding has, whatever its prev field.
 pub fn size(entry: &Entry) -> u32
     requires { IsEntry entry.now }
@@ -35,7 +32,7 @@ pub fn ref_size(entry: &EntryRef<'_>) -> u32
     requires { IsEntry (entry_by entry.now) }
     ensures value { result ≡ size_of (entry_by entry.now) }
 {
-    14 + ref_body_size(entry)
+    HEAD_SIZE + ref_body_size(entry)
 }
 
 // Puts at the end what stands between the checksum and the body.

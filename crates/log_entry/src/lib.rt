@@ -22,7 +22,7 @@ pub mod root;
 
 pub use child_slot::ChildSlot;
 pub use decoder::{Decoded, Torn, decode, decode_at};
-pub use encoder::{COMMIT_SIZE, HEAD_SIZE, encode, encode_onto, encode_ref_onto, ref_size, size};
+pub use encoder::{HEAD_SIZE, encode, encode_onto, encode_ref_onto, ref_size, size};
 pub use entry::Entry;
 pub use entry_ref::EntryRef;
 pub use file_usage::FileUsage;

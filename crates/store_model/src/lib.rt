@@ -2,7 +2,8 @@
 //! of: databases of both kinds, transactions, cursors and checkpoints. Its definitions say what a store
 //! is, what a call reads, answers and changes (`evaluation`), and which locks it needs. It has no code
 //! but the types and the law that stores stay right. Nothing here knows of files, trees or the lock
-//! table. It stands beside `je_model`, and takes its place once the environment does all of these calls.
+//! table. Calls, answers and events of transactions, cursors and checkpoints are here before the environment
+//! does them.
 #![tactic(auto)]
 
 pub mod act;

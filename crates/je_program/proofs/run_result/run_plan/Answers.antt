@@ -62,6 +62,7 @@ returns-in-Ok-clause-run g c = λ is_opened.
       answers = running.answers;
       bounded = subst (λ (n : ℕ). AreBounded n st journal running.limits) at.ends running.bounded;
       synced_at_once = running.synced;
+      only = running.only;
       acknowledged = λ done. done_acknowledged st journal cause done
           (ends_by journal c.run-running.result.memory_ended cause f.ensures.memory f.ensures.ends (done_is_no_memory cause done)) running.synced;
       safe = safe;

@@ -1,0 +1,8 @@
+-- Steps that may fail, one after another.
+use Rattle.std.specs.Prelude.{Option, Some, None}
+
+-- one step, and then the next on what it gave
+infixl 10 ◌>>=◌
+abbrev pub ◌>>=◌ : {A B : Type 0} → Option A → (A → Option B) → Option B
+(Some x) >>= f = f x
+None >>= f = None
