@@ -13,9 +13,9 @@ use Rattle.log_file.specs.Log.{AreFiles}
 use Rattle.log_file.specs.Scan.{scan_of}
 use Rattle.log_buffer.specs.Chance.{NoChanceMatch}
 use Rattle.log_buffer.specs.Crash.{FilesStay}
-use Rattle.log_replay.specs.Meaning.{Meaning}
-use Rattle.log_replay.specs.Reading.{reading_of}
-use Rattle.crash_meaning.specs.Recovery.{IsRecovered}
+use Rattle.log_meaning.specs.Meaning.{Meaning}
+use Rattle.log_meaning.specs.Reading.{reading_of}
+use Rattle.crash_recovery.specs.Recovery.{IsImageRecovered}
 use Rattle.engine.specs.Files.{MeanStore}
 
 -- one history goes on as the other, whatever came
@@ -25,8 +25,8 @@ Follows old new = Passes old new (λ s. Unit {0})
 -- Of a run that began where the model stood at `st`, some events are over while one may be under way. What the disk reads, and each image in which no
 -- checksum matches by chance, means the opening store changed by the first attempted commits, at least the synced ones.
 pub record IsSafe (st : Standing) (over under_way : List Event) (state : State) : Type 0 where
-  pub read : IsRecovered st.store (synced_of over) (attempts_of st (over ++ under_way)) state.reads
-  pub images : (image : Files) → IsImage state image → NoChanceMatch state.reads image → IsRecovered st.store (synced_of over) (attempts_of st (over ++ under_way)) image
+  pub read : IsImageRecovered st.store (synced_of over) (attempts_of st (over ++ under_way)) state.reads
+  pub images : (image : Files) → IsImage state image → NoChanceMatch state.reads image → IsImageRecovered st.store (synced_of over) (attempts_of st (over ++ under_way)) image
 
 -- where one of these events met a disk fault, the disk's state is from one moment to another what it was at the first
 abbrev pub IsStillAfterFault : History → ℕ → ℕ → List Event → Type 0

@@ -1,51 +1,71 @@
--- An open environment beside the model: its log, what it keeps in memory, and where the model stands.
-use Rattle.std.specs.Prelude.{ℕ, ◌≡◌, None, Bool, false, map}
+-- An open environment beside the model: its log, what it has in memory, and where the model stands.
+use Rattle.std.specs.Prelude.{ℕ, ◌≡◌, ◌<◌, ◌≤◌, [], List, None, Bool, false, true, nat_lt}
+use Rattle.std.specs.List.{AllByRecursion}
 use Rattle.je_disk.specs.States.{State}
+use Rattle.store_model.specs.declared.change.Change.{Change}
 use Rattle.store_model.specs.declared.store.Store.{Store}
+use Rattle.store_model.specs.Store.{store_after}
 use Rattle.je_answers.specs.Standing.{Standing}
 use Rattle.je_answers.specs.Alone.{Alone, alone}
-use Rattle.log_file.specs.Log.{Log, entries_of}
+use Rattle.log_file.specs.Log.{Log}
 use Rattle.log_buffer.specs.declared.buffer.LogBuffer.{LogBuffer}
+use Rattle.log_buffer.specs.declared.log_pos.LogPos.{LogPos}
 use Rattle.log_buffer.specs.Buffer.{end_of, file_max_of, has_failed}
+use Rattle.log_buffer.specs.Flip.{pos_lsn}
 use Rattle.log_buffer.specs.Log.{HasLog}
-use Rattle.log_replay.specs.Rows.{rows_in, store_of}
-use Rattle.log_replay.specs.Kept.{IsKept}
-use Rattle.log_replay.specs.Reading.{gap_in}
-use Rattle.engine.specs.declared.kept.Kept.{Kept}
-use Rattle.engine.specs.Totals.{totals_of}
+use Rattle.log_replay.specs.Rows.{Rows, data_at, numbers_of, store_of}
+use Rattle.log_trees.specs.Placed.{placed}
+use Rattle.log_meaning.specs.Stands.{Stands}
+use Rattle.log_meaning.specs.Transactions.{AreListed}
+use Rattle.crash_recovery.specs.Recovery.{RecoversLog}
+use Rattle.txn_core.specs.Totals.{totals_of}
+use Rattle.engine.specs.Contents.{Contents}
 
--- no file is missing between the first and the last
-abbrev pub IsWholeLog : Log → Type 0
-IsWholeLog log = gap_in (map (λ file. file.0) log) ≡ None
+-- a log that ends here, read again, gives these records; no change of a transaction with a later number waits in it, and no database has a later
+-- number
+pub record GivesRecords (log : Log) (end : LogPos) (c : Contents) : Type 0 where
+  pub base : ℕ
+  pub next : ℕ
+  pub is_open : ℕ → Bool
+  pub stands : Stands (placed log) base next is_open (λ d x. data_at x (c.rows d)) (λ t. nat_lt c.last_txn t) (λ t. [])
+  pub below : next < pos_lsn end
+  pub listed : AreListed is_open (λ d x. data_at x (c.rows d)) c.rows
+  pub later : (db : ℕ) → c.last_db < db → is_open db ≡ true
+  pub unused : (db : ℕ) → c.last_db < db → c.rows db ≡ []
+  pub numbers : AllByRecursion (λ n. n ≤ c.last_db) (numbers_of c.rows)
+
+-- what a crash leaves of a log means a store changed by the first of some transactions; all of them make this store
+pub record RecoversStore (log : Log) (store : Store) : Type 0 where
+  pub first : ℕ
+  pub opening : Store
+  pub base : ℕ
+  pub transactions : List (List Change)
+  pub recovers : RecoversLog first opening base transactions log
+  pub made : store_after opening transactions ≡ store
 
 module _ {D : Type 0} where
-  -- the log buffer works, and its log ends where what is kept says
-  pub record IsAtEnd (buffer : LogBuffer D) (kept : Kept) : Type 0 where
-    pub end : end_of buffer ≡ kept.end
-    pub file_max : file_max_of buffer ≡ kept.file_max
-    pub works : has_failed buffer ≡ false
-
-  -- what is kept of a valid environment: its log, with the disk's files if the disk is observable, and the log's records
-  pub record IsValid (observable : Bool) (state : State) (buffer : LogBuffer D) (kept : Kept) (store : Store) : Type 0 where
+  -- a valid environment: its buffer works and has its log, with the disk's files if the disk is observable; the log gives its records and recovers
+  -- its store
+  pub record IsValid (observable : Bool) (state : State) (buffer : LogBuffer D) (c : Contents) (store : Store) : Type 0 where
     pub log : Log
     pub has : HasLog observable state buffer log
-    pub whole : IsWholeLog log
-    pub made : store_of (rows_in kept.rows) ≡ store
-    pub records : IsKept (entries_of log) (rows_in kept.rows) kept.last_txn kept.last_db
-    pub at_end : IsAtEnd buffer kept
+    pub works : has_failed buffer ≡ false
+    pub gives : GivesRecords log (end_of buffer) c
+    pub recovers : RecoversStore log store
+    pub made : store_of c.rows ≡ store
 
   -- the environment, whose files have at most so many bytes, is where the model stands with nothing under way
-  pub record AreAlone (most : ℕ) (observable : Bool) (state : State) (buffer : LogBuffer D) (kept : Kept) (p : Alone) : Type 0 where
-    pub file_max : kept.file_max ≡ most
-    pub fault : kept.fault ≡ p.fault
-    pub last_txn : kept.last_txn ≡ p.last_txn
-    pub last_db : kept.last_db ≡ p.last_db
-    pub commits : kept.commits ≡ p.commits
-    pub totals : kept.totals ≡ totals_of p.store
-    pub valid : p.fault ≡ None → IsValid observable state buffer kept p.store
+  pub record AreAlone (most : ℕ) (observable : Bool) (state : State) (buffer : LogBuffer D) (c : Contents) (p : Alone) : Type 0 where
+    pub file_max : file_max_of buffer ≡ most
+    pub fault : c.fault ≡ p.fault
+    pub last_txn : c.last_txn ≡ p.last_txn
+    pub last_db : c.last_db ≡ p.last_db
+    pub commits : c.commits ≡ p.commits
+    pub totals : c.totals ≡ totals_of p.store
+    pub valid : p.fault ≡ None → IsValid observable state buffer c p.store
 
   -- the environment is where the model stands: nothing is under way there
-  pub record AreAt (most : ℕ) (observable : Bool) (state : State) (buffer : LogBuffer D) (kept : Kept) (st : Standing) : Type 0 where
+  pub record AreAt (most : ℕ) (observable : Bool) (state : State) (buffer : LogBuffer D) (c : Contents) (st : Standing) : Type 0 where
     pub alone_at : Alone
     pub st_is : st ≡ alone alone_at
-    pub here : AreAlone most observable state buffer kept alone_at
+    pub here : AreAlone most observable state buffer c alone_at

@@ -4,8 +4,8 @@ use Rattle.je_disk.specs.States.{Files}
 use Rattle.store_model.specs.declared.store.Store.{Store}
 use Rattle.log_file.specs.Log.{AreFiles}
 use Rattle.log_replay.specs.declared.corruption.Corruption.{Corruption}
-use Rattle.log_replay.specs.Meaning.{Meaning}
-use Rattle.log_replay.specs.Reading.{reading_of}
+use Rattle.log_meaning.specs.Meaning.{Meaning}
+use Rattle.log_meaning.specs.Reading.{reading_of}
 
 -- what the files of an environment mean
 pub record Means (files : Files) (meaning : Meaning) : Type 0 where

@@ -1,38 +1,41 @@
 -- What the parts of a run keep of its log. No clause of the top call speaks of these.
-use Rattle.std.specs.Prelude.{ℕ, ◌≡◌, ◌≤◌, [], List, Option, None, Bool, true, false}
+use Rattle.std.specs.Prelude.{ℕ, ◌≡◌, ◌≤◌, [], ◌++◌, List, Option, None, Bool, true, false}
 use Rattle.je_disk.specs.States.{Files, State, synced_crash_states}
 use Rattle.je_disk.specs.Moments.{History, now}
+use Rattle.store_model.specs.declared.change.Change.{Change}
 use Rattle.store_model.specs.declared.event.Event.{Event}
 use Rattle.store_model.specs.declared.store.Store.{Store}
 use Rattle.je_answers.specs.Standing.{Standing}
 use Rattle.je_answers.specs.After.{after_events}
 use Rattle.je_answers.specs.Journal.{attempts_of, has_answer, is_disk_fault, synced_of}
-use Rattle.log_file.specs.Log.{Log, entries_of}
+use Rattle.log_file.specs.Log.{Log}
 use Rattle.log_buffer.specs.declared.buffer.LogBuffer.{LogBuffer}
 use Rattle.log_buffer.specs.Buffer.{first_of, has_failed}
 use Rattle.log_buffer.specs.Crash.{FilesStay, Holds, KeepsRead}
 use Rattle.log_buffer.specs.Log.{HasLog}
-use Rattle.crash_meaning.specs.Reading.{HasNoGap}
-use Rattle.crash_meaning.specs.Recovery.{Recovers, commits_in}
+use Rattle.log_trees.specs.Placed.{placed}
+use Rattle.log_meaning.specs.Recovery.{commits_in}
+use Rattle.crash_recovery.specs.Recovery.{RecoversLog}
+use Rattle.engine.specs.Contents.{Contents}
 use Rattle.engine.specs.Crash.{AreSafeEvents, Follows, IsSafe}
-use Rattle.engine.specs.declared.kept.Kept.{Kept}
-use Rattle.engine.specs.Environment.{IsWholeLog}
 use Rattle.engine.specs.Opening.{HasOpenedAt}
 
--- What a run that began at `st` has kept so far of its log, which had `base` entries then: those behind them are of the transactions that its
--- journal attempted, and a crash keeps at least `least` of all, with the synced commits.
+-- What a run that began at `st` has kept so far of its log, which had `base` entries then. Those behind them are of the transactions that its
+-- journal attempted; only one that was cut short by a fault may not be among them. A crash keeps at least `least` of all, with the synced commits.
 pub record IsKept (st : Standing) (base : ℕ) (log : Log) (least : ℕ) (state : State) (journal : List Event) : Type 0 where
   pub from : base ≤ least
-  pub gap : HasNoGap log
-  pub recovers : Recovers st.store base (attempts_of st journal) (entries_of log)
-  pub synced : synced_of journal ≤ commits_in base least (entries_of log)
+  pub first : ℕ
+  pub logged : List (List Change)
+  pub cut : List (List Change)
+  pub attempts : attempts_of st journal ≡ logged ++ cut
+  pub recovers : RecoversLog first st.store base logged log
+  pub synced : synced_of journal ≤ commits_in base least (placed log)
   pub keeps : KeepsRead log [] least state
 
 module _ {D : Type 0} where
   -- the buffer has this log; a crash keeps at least so many of its entries, and more once a sync that is out has ended
   pub record IsKeeping (state : State) (buffer : LogBuffer D) (log : Log) (least : ℕ) (begun : Option ℕ) : Type 0 where
     pub has : HasLog true state buffer log
-    pub whole : IsWholeLog log
     pub holds : Holds log [] least begun (first_of buffer) state
 
   -- A run under way whose disk was safe at each moment of it, and the log that it has now. A buffer that works has met no fault, and has the log.
@@ -45,6 +48,7 @@ module _ {D : Type 0} where
     pub least : ℕ
     pub kept : IsKept st base log least (now history) journal
     pub works : (after_events st journal).fault ≡ None → IsKeeping (now history) buffer log least begun
+    pub all : (after_events st journal).fault ≡ None → kept.cut ≡ []
     pub stops : has_failed buffer ≡ false → (after_events st journal).fault ≡ None
     pub faultless : (after_events st journal).fault ≡ None → has_answer is_disk_fault journal ≡ false
     pub files : (k : ℕ) → start.moment ≤ k → k ≤ history.moment → FilesStay (now start).reads (history.state_at k).reads
@@ -54,9 +58,9 @@ module _ {D : Type 0} where
   KeepsIfWorks failed state buffer log least = failed ≡ false → IsKeeping state buffer log least None
 
   -- an environment was opened: all is stable, the disk is safe, and a crash keeps all of the log
-  pub record HasOpenedSafely (most : ℕ) (files : Files) (opening : Store) (history : History) (buffer : LogBuffer D) (kept : Kept) : Type 0 where
+  pub record HasOpenedSafely (most : ℕ) (files : Files) (opening : Store) (history : History) (buffer : LogBuffer D) (c : Contents) : Type 0 where
     pub st : Standing
-    pub opened : HasOpenedAt most true files (now history) buffer opening kept st
+    pub opened : HasOpenedAt most true files (now history) buffer opening c st
     pub stable : (now history).crash_states ≡ synced_crash_states (now history).reads
     pub log : Log
     pub guarded : IsGuardedLog st log history history buffer [] None

@@ -1,13 +1,9 @@
-pub mod Totals
 pub mod Untouched
+pub mod Limits
+pub mod Contents
 pub mod Environment
-pub mod Planning
-pub mod Plans
-pub mod Views
-pub mod Logging
 pub mod Steps
 pub mod Files
-pub mod Limits
 pub mod Opening
 pub mod Crash
 pub mod Guarded

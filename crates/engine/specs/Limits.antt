@@ -1,43 +1,53 @@
--- When the log may have no room.
-use Rattle.std.specs.Prelude.{ℕ, ◌≡◌, ◌<◌, ◌+◌, ◌*◌, ◌⊎◌, List, [], ◌∷◌, Option, None, Some, nat_lt, if◌then◌else◌, length, map}
+-- When the log may have no room, and when no number of a node may be left.
+use Rattle.std.specs.Prelude.{ℕ, ◌≡◌, ◌<◌, ◌+◌, ◌*◌, ◌⊎◌, List, [], ◌∷◌, Option, None, Some, Bool, true, false, nat_lt, if◌then◌else◌, length, map}
 use Rattle.je_lsn.specs.Naming.{last_file}
 use Rattle.store_model.specs.declared.answer.Answer.{Answer}
-use Rattle.store_model.specs.declared.answer.Answer.TheVariants.{LogFull}
+use Rattle.store_model.specs.declared.answer.Answer.TheVariants.{LogFull, IdsEnded}
 use Rattle.store_model.specs.declared.change.Change.{Change}
 use Rattle.store_model.specs.declared.event.Event.{Event}
 use Rattle.je_answers.specs.Standing.{Standing}
 use Rattle.je_answers.specs.After.{after_event}
 use Rattle.je_answers.specs.Journal.{changes_by}
-use Rattle.log_entry.specs.Encoding.{size_of}
-use Rattle.log_buffer.specs.declared.log_pos.LogPos.{LogPos}
-use Rattle.log_buffer.specs.Flip.{end_after_all}
-use Rattle.log_replay.specs.Rows.{rows_in}
-use Rattle.log_replay.specs.Logging.{transaction_entries}
-use Rattle.engine.specs.declared.kept.Kept.{Kept}
+use Rattle.record_tree.specs.declared.tree_err.TreeErr.{TreeErr}
+use Rattle.record_tree.specs.declared.tree_err.TreeErr.TheVariants.{Full}
 
--- how many entries changes are logged as at most: two each, for a renamed database, and a Commit
+-- how many changes of records changes are logged as at most: two each, for a renamed database
+abbrev pub most_changed : List Change → ℕ
+most_changed changes = length changes * 2
+
+-- how many entries they are logged as at most, with their Commit
 abbrev pub most_logged : List Change → ℕ
 most_logged [] = 0
-most_logged (change ∷ changes) = length (change ∷ changes) * 2 + 1
+most_logged (change ∷ changes) = most_changed (change ∷ changes) + 1
 
--- the limit that the log has for changes, where it ends in this file: none, or no room, where so many entries may pass the last file
-abbrev pub IsBounded : ℕ → List Change → Option Answer → Type 0
-IsBounded file changes limit = (limit ≡ None) ⊎ ((limit ≡ Some LogFull) × (last_file < file + most_logged changes))
+-- how many node numbers so many changes of records may allocate: each one for a node that is split at each of 64 levels, one for the root above
+-- them, and one for the root of a database
+abbrev pub numbers_for : ℕ → ℕ
+numbers_for changes = changes * 66
 
--- the limits of events, one after another, where the log ends in this file before them
-abbrev pub AreBounded : ℕ → Standing → List Event → List (Option Answer) → Type 0
-AreBounded file st (event ∷ events) (limit ∷ limits) =
-    IsBounded file (changes_by st event) limit × AreBounded (file + most_logged (changes_by st event)) (after_event st event) events limits
-AreBounded file st events limits = Unit {0}
+-- the greatest number of a node
+abbrev pub last_number : ℕ
+last_number = 0x7fffffffffffffff
+
+-- The limit that changes meet, where the log ends in this file and no node's number is above this one: none; or no room, where so many entries may
+-- pass the last file; or no number, where so many may pass the last one.
+abbrev pub IsBounded : ℕ → ℕ → List Change → Option Answer → Type 0
+IsBounded file node changes limit =
+    (limit ≡ None)
+    ⊎ ((limit ≡ Some LogFull) × (last_file < file + most_logged changes))
+    ⊎ ((limit ≡ Some IdsEnded) × (last_number < node + numbers_for (most_changed changes)))
+
+-- the limits of events, one after another, where the log ends in this file before them and no node's number is above this one
+abbrev pub AreBounded : ℕ → ℕ → Standing → List Event → List (Option Answer) → Type 0
+AreBounded file node st (event ∷ events) (limit ∷ limits) =
+    IsBounded file node (changes_by st event) limit
+    × AreBounded (file + most_logged (changes_by st event)) (node + numbers_for (most_changed (changes_by st event))) (after_event st event) events limits
+AreBounded file node st events limits = Unit {0}
 
 -- ---- exactly
 
--- a log that would end there has no room
-abbrev pub limit_at : LogPos → Option Answer
-limit_at end = if nat_lt last_file end.file then Some LogFull else None
-
--- the limit that an environment's log has for changes: no room, exactly where their entries and a Commit would pass the last file
-abbrev pub limit_of : Kept → List Change → Option Answer
-limit_of kept [] = None
-limit_of kept (change ∷ changes) =
-    limit_at (end_after_all kept.file_max kept.end (map size_of (transaction_entries (kept.last_txn + 1) kept.last_db (change ∷ changes) (rows_in kept.rows))))
+-- the limit that so many changes of records meet, where the trees find this one: no room; else no number, where those that they may allocate pass
+-- the last one
+abbrev pub limit_by : Option TreeErr → ℕ → ℕ → Option Answer
+limit_by (Some Full) node changes = Some LogFull
+limit_by found node changes = if nat_lt last_number (node + numbers_for changes) then Some IdsEnded else None

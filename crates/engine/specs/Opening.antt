@@ -1,50 +1,69 @@
 -- Opening an environment.
-use Rattle.std.specs.Prelude.{ℕ, ◌≡◌, ◌≤◌, ◌<◌, ◌⊎◌, ◌==◌, nat_lt, ◌∷◌, [], ◌++◌, take, Bool, true, false, Option, IsSome, None, Some, Ok, IfSome, option_map, List, if◌then◌else◌}
-use Rattle.je_disk.specs.declared.error.DiskErr.{DiskErr}
-use Rattle.je_disk.specs.declared.error.DiskErr.TheVariants.{Failed, Memory as NoMemory}
+use Rattle.std.specs.Prelude.{ℕ, ◌≡◌, ◌≤◌, ◌<◌, ◌⊎◌, ◌==◌, ◌+◌, nat_lt, ◌∷◌, [], ◌++◌, take, length, Bool, true, false, Option, IsSome, None, Some, Ok, IfSome, option_map, List, if◌then◌else◌}
+use Rattle.recovery_je.specs.declared.recover_err.RecoverErr.{RecoverErr}
+use Rattle.recovery_je.specs.declared.recover_err.RecoverErr.TheVariants.{Disk as NoDisk, Memory as NoMemory, Corrupt}
 use Rattle.je_order.specs.Counts.{HasRisen}
-use Rattle.je_disk.specs.States.{State, Files, IsEither, IsListing, AreRisingNumbers, cut, put_at, synced}
-use Rattle.je_lsn.specs.declared.file_no.FileNo.{FileNo}
+use Rattle.je_disk.specs.States.{State, Files, IsEither, cut, put_at, synced}
 use Rattle.store_model.specs.declared.store.Store.{Store}
 use Rattle.store_model.specs.Store.{database_of}
 use Rattle.je_answers.specs.Standing.{Standing}
 use Rattle.je_answers.specs.Alone.{Alone, alone}
-use Rattle.log_file.specs.Log.{Log, IsLog, AreFiles}
+use Rattle.log_file.specs.Log.{Log, IsLog, AreFiles, log_in}
 use Rattle.log_buffer.specs.declared.buffer.LogBuffer.{LogBuffer}
 use Rattle.log_buffer.specs.declared.log_pos.LogPos.{LogPos}
+use Rattle.log_buffer.specs.Buffer.{end_of}
 use Rattle.log_buffer.specs.Flip.{header_size}
 use Rattle.log_buffer.specs.Log.{EndsAt, ReadAs, ReadAsBut}
 use Rattle.log_replay.specs.declared.last_file.LastFile.{LastFile}
-use Rattle.log_replay.specs.declared.log_read.ReadLog.{ReadLog}
-use Rattle.log_replay.specs.declared.log_read.LogRead.TheVariants.{Read}
-use Rattle.log_replay.specs.declared.replayed.Replayed.{Replayed}
-use Rattle.log_replay.specs.Answer.{IsReadingOf}
-use Rattle.log_replay.specs.Reading.{reading_of}
+use Rattle.log_trees.specs.Placed.{placed}
+use Rattle.log_meaning.specs.Meaning.{Meaning}
+use Rattle.log_meaning.specs.Reading.{reading_of}
+use Rattle.recovery_je.specs.Answer.{HasFiles, IsRecoveredFrom}
+use Rattle.recovery_je.specs.declared.recovered.Recovered.{Recovered}
+use Rattle.in_tree.specs.declared.loaded_trees.LoadedTrees.{LoadedTrees}
+use Rattle.in_tree.specs.Stored.{stored_in, has_tree_in}
 use Rattle.engine.specs.declared.open_err.OpenErr.{OpenErr}
-use Rattle.engine.specs.declared.open_err.OpenErr.TheVariants.{Disk, Unreadable, Memory}
-use Rattle.engine.specs.declared.kept.Kept.{Kept}
+use Rattle.engine.specs.declared.open_err.OpenErr.TheVariants.{Disk, Unreadable, Memory, IdsEnded}
 use Rattle.je_lsn.specs.declared.file_no.TheConstants.{LAST_FILE}
+use Rattle.engine.specs.Contents.{Contents}
 use Rattle.engine.specs.Files.{HasCorruption, end_file_in}
+use Rattle.engine.specs.Limits.{last_number, numbers_for}
 use Rattle.engine.specs.Environment.{AreAt}
 
--- the error that a failed call of the disk gives
-abbrev pub error_of_disk : DiskErr → OpenErr
-error_of_disk Failed = Disk
-error_of_disk NoMemory = Memory
+-- the error that a failed recovery gives
+abbrev pub error_of_recovery : RecoverErr → OpenErr
+error_of_recovery NoDisk = Disk
+error_of_recovery NoMemory = Memory
+error_of_recovery (Corrupt corruption) = Unreadable corruption
 
--- why opening stopped: the disk failed, the files at entry cannot be opened, or there was no memory
+-- no node's number is above this one once the files are opened: each of their entries may have allocated some, and so may the catalog
+abbrev pub node_bound : List (ℕ × List ℕ) → Meaning → ℕ
+node_bound held meaning = meaning.last_node + numbers_for (length (placed (log_in held)) + 1)
+
+-- the files mean something, but their nodes' numbers may pass the last one
+pub record HasNoNumbers (files : Files) : Type 0 where
+  pub held : List (ℕ × List ℕ)
+  pub are : AreFiles files held
+  pub meaning : Meaning
+  pub reads : reading_of held ≡ Ok meaning
+  pub past : last_number < node_bound held meaning
+
+-- why opening stopped: the disk failed, the files at entry cannot be opened, no number of a node is left, or there was no memory
 abbrev pub StopsBy : Bool → Files → ℕ → ℕ → OpenErr → Type 0
 StopsBy observable files before after Disk = HasRisen before after
 StopsBy observable files before after (Unreadable corruption) = observable ≡ true → HasCorruption files corruption
+StopsBy observable files before after IdsEnded = observable ≡ true → HasNoNumbers files
 StopsBy observable files before after Memory = Unit {0}
 
+-- what was read means this
+abbrev pub meaning_read : Recovered LoadedTrees → Meaning
+meaning_read r = record { store = r.opening; last_txn = r.last_txn; last_node = r.last_node; last_db = r.last_db; checkpoint = r.checkpoint }
+
 -- the log of a disk with these files was read
-pub record WasRead (observable : Bool) (reads : Files) (read : ReadLog) : Type 0 where
-  pub files : List FileNo
-  pub rising : AreRisingNumbers files
-  pub listed : observable ≡ true → IsListing reads files
-  pub reading : IsReadingOf observable reads files (Read read)
-  pub small : IfSome read.tail (λ last. last.file.0 ≤ LAST_FILE)
+pub record WasRead (observable : Bool) (reads : Files) (r : Recovered LoadedTrees) : Type 0 where
+  pub files : HasFiles observable reads (IsRecoveredFrom (meaning_read r) (has_tree_in r.trees) (stored_in r.trees) r.databases r.records r.tail)
+  pub entries : r.entries ≡ length (placed (log_in files.held))
+  pub small : IfSome r.tail (λ last. last.file.0 ≤ LAST_FILE)
 
 -- what follows the valid prefix of the last file was cut off
 abbrev pub HasTornTailCut : Files → Files → Option LastFile → Type 0
@@ -93,27 +112,20 @@ pub record StartsAt (observable : Bool) (files : Files) (opening : Store) (st : 
   pub numbers : AreNumbers opening alone_at.last_db alone_at.numbers
   pub held : List (ℕ × List ℕ)
   pub observed : observable ≡ true → AreFiles files held
-  pub means : reading_of held ≡ Ok (record { store = opening; last_txn = alone_at.last_txn; last_db = alone_at.last_db })
+  pub meaning : Meaning
+  pub means : reading_of held ≡ Ok meaning
+  pub means_store : meaning.store ≡ opening
+  pub means_txn : meaning.last_txn ≡ alone_at.last_txn
+  pub means_db : meaning.last_db ≡ alone_at.last_db
+  pub nodes : node_bound held meaning ≤ last_number
 
 module _ {D : Type 0} where
-  -- an environment was opened: the model starts from what the files mean, and the log goes on in the last of them
-  pub record HasOpenedAt (most : ℕ) (observable : Bool) (files : Files) (state : State) (buffer : LogBuffer D) (opening : Store) (kept : Kept) (st : Standing) : Type 0 where
+  -- an environment was opened: the model starts from what the files mean, the log goes on in the last of them, and nodes' numbers behind theirs
+  pub record HasOpenedAt (most : ℕ) (observable : Bool) (files : Files) (state : State) (buffer : LogBuffer D) (opening : Store) (c : Contents) (st : Standing) : Type 0 where
     pub starts : StartsAt observable files opening st
-    pub here : AreAt most observable state buffer kept st
-    pub ends : kept.end.file ≡ end_file_in starts.held
+    pub here : AreAt most observable state buffer c st
+    pub ends : (end_of buffer).file ≡ end_file_in starts.held
+    pub nodes : c.last_node ≡ node_bound starts.held starts.meaning
 
-  abbrev pub HasOpened : ℕ → Bool → Files → State → LogBuffer D → Store → Kept → Type 0
-  HasOpened most observable files state buffer opening kept = (st : Standing) × HasOpenedAt most observable files state buffer opening kept st
-
--- what is kept of an environment that was just opened
-abbrev pub kept_at_start : Replayed → LogPos → ℕ → Kept
-kept_at_start r end file_max = record {
-  rows = r.rows;
-  totals = r.totals;
-  last_txn = r.last_txn;
-  last_db = r.last_db;
-  end = end;
-  file_max = file_max;
-  commits = 0;
-  fault = None;
-}
+  abbrev pub HasOpened : ℕ → Bool → Files → State → LogBuffer D → Store → Contents → Type 0
+  HasOpened most observable files state buffer opening c = (st : Standing) × HasOpenedAt most observable files state buffer opening c st

@@ -1,5 +1,5 @@
 -- An engine as one value. Users speak of it by these alone; what it is made of may change below them.
-use Rattle.std.specs.Prelude.{ℕ, ◌≡◌, ◌++◌, ◌∷◌, [], List, Option, None, Some, Bool, Result, Ok, Err, true, false, length}
+use Rattle.std.specs.Prelude.{ℕ, ◌≡◌, ◌++◌, ◌∷◌, [], List, Option, None, Some, Bool, Result, Ok, Err, true, false, length, map, nat_lt, ◌&&◌, ◌==◌, ◌+◌}
 use Rattle.std.specs.declared.alloc.AllocError.{AllocError}
 use Rattle.je_disk.specs.States.{Files, State, synced_crash_states}
 use Rattle.je_disk.specs.Moments.{History, now}
@@ -14,45 +14,92 @@ use Rattle.je_answers.specs.Events.{IsAnswered, IsSyncBegun, IsSyncEnded}
 use Rattle.je_answers.specs.After.{after_event}
 use Rattle.je_answers.specs.Journal.{changes_by}
 use Rattle.log_file.specs.Log.{Log, entries_of}
-use Rattle.log_buffer.specs.Buffer.{disk_of as disk_below}
+use Rattle.log_replay.specs.Logging.{all_row_changes}
+use Rattle.log_replay.specs.Rows.{numbers_of}
+use Rattle.record_tree.specs.declared.tree_change.TreeChange.{TreeChange}
+use Rattle.record_tree.specs.Logged.{is_made}
+use Rattle.in_tree.specs.declared.log_trees.LogTrees.{LogTrees}
+use Rattle.in_tree.specs.Observed.{cells_of, has_tree_of, limit_in}
+use Rattle.txn_core.specs.Known.{committed, has_number, IsQuiet}
+use Rattle.txn_core.specs.Planning.{row_by}
+use Rattle.log_buffer.specs.Buffer.{disk_of as disk_below, end_of}
+use Rattle.store_model.specs.declared.change.Change.{Change}
+use Rattle.store_model.specs.Refusals.{made_by}
 use Rattle.engine.specs.declared.engine.Engine.{Engine}
 use Rattle.engine.specs.Environment.{AreAt}
 use Rattle.engine.specs.Files.{end_file_in}
 use Rattle.engine.specs.Guarded.{IsGuardedLog}
-use Rattle.engine.specs.Limits.{IsBounded}
-use Rattle.engine.specs.Opening.{StartsAt}
-use Rattle.engine.specs.Steps.{LeavesRoom}
+use Rattle.engine.specs.Contents.{Contents}
+use Rattle.engine.specs.Limits.{IsBounded, limit_by}
+use Rattle.engine.specs.Opening.{StartsAt, node_bound}
+use Rattle.engine.specs.declared.kept.Kept.{Kept}
 
 module _ {D : Type 0} where
   -- the disk below
   abbrev pub disk_of : Engine D → D
-  disk_of engine = disk_below engine.log
+  disk_of engine = disk_below engine.trees.log
+
+  -- what it has in memory
+  abbrev pub contents : LogTrees D → Kept → Contents
+  contents trees kept = record {
+    rows = committed (cells_of trees);
+    totals = kept.totals;
+    last_txn = kept.last_txn;
+    last_db = kept.last_db;
+    last_node = kept.last_node;
+    commits = kept.commits;
+    fault = kept.fault;
+  }
+
+  abbrev pub contents_of : Engine D → Contents
+  contents_of engine = contents engine.trees engine.kept
+
+  -- no transaction has changed anything in the trees; the catalog and the databases that it names have trees, and no others
+  pub record AreTrees (trees : LogTrees D) : Type 0 where
+    pub quiet : IsQuiet (cells_of trees)
+    pub made : (db : ℕ) → has_tree_of trees db ≡ has_number (numbers_of (committed (cells_of trees))) db
 
   -- the engine, whose files have at most so many bytes, is where the model stands
-  abbrev pub IsAt : ℕ → Bool → State → Engine D → Standing → Type 0
-  IsAt most observable state engine st = AreAt most observable state engine.log engine.kept st
+  pub record IsAt (most : ℕ) (observable : Bool) (state : State) (engine : Engine D) (st : Standing) : Type 0 where
+    pub at : AreAt most observable state engine.trees.log (contents_of engine) st
+    pub trees : st.fault ≡ None → AreTrees engine.trees
 
   -- the numbers leave room for another step
   abbrev pub CanGoOn : Engine D → Type 0
-  CanGoOn engine = LeavesRoom engine.kept
+  CanGoOn engine = engine.kept.commits ≤ engine.kept.last_txn
 
   -- a run under way whose disk was safe at each moment of it, with this journal so far
   abbrev pub IsGuarded : ℕ → Standing → History → History → Engine D → List Event → Type 0
-  IsGuarded most st start history engine journal = (log : Log) × IsGuardedLog st log start history engine.log journal None
+  IsGuarded most st start history engine journal = (log : Log) × IsGuardedLog st log start history engine.trees.log journal None
 
   -- the same while a sync is out of all that was logged
   abbrev pub IsGuardedInSync : ℕ → Standing → History → History → Engine D → List Event → Type 0
   IsGuardedInSync most st start history engine journal =
-      (log : Log) × IsGuardedLog st log start history engine.log journal (Some (length (entries_of log)))
+      (log : Log) × IsGuardedLog st log start history engine.trees.log journal (Some (length (entries_of log)))
 
   -- the file in which the log ends
   abbrev pub end_file : Engine D → ℕ
-  end_file engine = engine.kept.end.file
+  end_file engine = (end_of engine.trees.log).file
+
+  -- a number that no node's is above
+  abbrev pub last_node : Engine D → ℕ
+  last_node engine = engine.kept.last_node
+
+  -- the limit that the engine has for changes: none where there are none; else the one that the changes of records meet that log them
+  pub record IsLimitFor (engine : Engine D) (changes : List Change) (limit : Option Answer) : Type 0 where
+    pub planned : List TreeChange
+    pub rows : map (row_by 0) planned ≡ all_row_changes 0 engine.kept.last_db changes (committed (cells_of engine.trees))
+    pub makes : (db : ℕ) → is_made db planned ≡ (nat_lt 0 (made_by changes) && (db == engine.kept.last_db + made_by changes))
+    pub is : limit ≡ limit_by (limit_in engine.trees planned 1) (last_node engine) (length planned)
+
+  abbrev pub HasLimit : Engine D → List Change → Option Answer → Type 0
+  HasLimit engine [] limit = limit ≡ None
+  HasLimit engine (change ∷ changes) limit = IsLimitFor engine (change ∷ changes) limit
 
   -- a call was answered as the model may, and the engine is where the model then stands; out of memory left it where it was
   abbrev pub GoesOn : ℕ → Bool → State → Engine D → Engine D → Standing → ℕ → ℕ → Call → Result Answer AllocError → Type 0
   GoesOn most observable state old new st session line call (Ok answer) =
-      (limit : Option Answer) × IsBounded (end_file old) (changes_by st (Called session line call answer [])) limit
+      (limit : Option Answer) × IsBounded (end_file old) (last_node old) (changes_by st (Called session line call answer [])) limit
       × IsAnswered limit st (Called session line call answer [])
       × IsAt most observable state new (after_event st (Called session line call answer []))
   GoesOn most observable state old new st session line call (Err error) = IsAt most observable state new st
@@ -81,6 +128,7 @@ module _ {D : Type 0} where
     pub starts : StartsAt observable files opening st
     pub here : IsAt most observable state engine st
     pub ends : end_file engine ≡ end_file_in starts.held
+    pub nodes : last_node engine ≡ node_bound starts.held starts.meaning
 
   abbrev pub IsOpened : ℕ → Bool → Files → State → Engine D → Store → Type 0
   IsOpened most observable files state engine opening = (st : Standing) × IsOpenedAt most observable files state engine opening st
@@ -91,5 +139,6 @@ module _ {D : Type 0} where
     pub starts : StartsAt true files opening st
     pub here : IsAt most true (now history) engine st
     pub ends : end_file engine ≡ end_file_in starts.held
+    pub nodes : last_node engine ≡ node_bound starts.held starts.meaning
     pub stable : (now history).crash_states ≡ synced_crash_states (now history).reads
     pub guarded : IsGuarded most st history history engine []

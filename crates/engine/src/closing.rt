@@ -16,15 +16,15 @@ ghost use Rattle.engine.specs.Whole.{IsAt, IsGuarded, disk_of};
 
 use crate::engine::Engine;
 use je_disk::Disk;
+use in_tree::Trees;
 use log_buffer::LogBuffer;
-use log_replay::Rows;
 
 /// A closed environment: its disk, whether closing met a fault of the disk, and the records that were
 /// kept in memory. A process that ends now need not give those back one by one.
 pub struct Closed<D> {
     pub disk: D,
     pub failed: bool,
-    pub rows: Rows,
+    pub records: Trees,
 }
 
 // Closes a log: writes it out, and syncs, unless the disk failed before. Whether the disk failed now.
@@ -60,12 +60,14 @@ impl<D: Disk> Engine<D> {
         ensures cause { result.failed ≡ true → HasRisen (D.faults (disk_of self)) (D.faults result.disk) }
         ensures never_falls { D.faults (disk_of self) ≤ D.faults result.disk }
     {
-        let Engine { log, kept } = self;
+        let Engine { trees, kept } = self;
+        drop(kept);
+        let (log, records) = trees.into_parts();
         let (disk, failed) = close_log(log);
         Closed {
             disk,
             failed,
-            rows: kept.rows,
+            records,
         }
     }
 }

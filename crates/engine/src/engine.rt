@@ -1,9 +1,10 @@
 // An open environment.
-ghost use Rattle.std.specs.Prelude.{◌≡◌, ◌≤◌, ◌<◌, ◌+◌, ◌^◌, ◌∷◌, [], ◌++◌, ℕ, None, Some, is_some, true, false, IfSome, IfOk, IsNone, OnErr, if◌then◌else◌, List, map};
+ghost use Rattle.std.specs.Prelude.{◌≡◌, ◌≤◌, ◌<◌, ◌+◌, ◌∷◌, [], ◌++◌, ℕ, List, None, Some, is_some, true, false, IfSome, IfOk, IsNone, OnErr, if◌then◌else◌, length, nat_lt, ◌||◌};
 ghost use Rattle.std.specs.List.{AllByRecursion};
 ghost use Rattle.je_order.specs.Counts.{HasRisen};
+ghost use Rattle.je_order.specs.declared.txn_id.TxnId.{TxnId as Txn};
 ghost use Rattle.je_disk.specs.Moments.{History, now};
-ghost use Rattle.store_model.specs.declared.store.TheConstants.{LAST_DATABASE, LAST_TXN};
+ghost use Rattle.store_model.specs.declared.answer.Answer.{Answer as Answered};
 ghost use Rattle.store_model.specs.declared.event.Event.{Event};
 ghost use Rattle.store_model.specs.declared.event.Event.TheVariants.{Call as Called, SyncEnd};
 ghost use Rattle.je_answers.specs.Standing.{Standing};
@@ -12,31 +13,38 @@ ghost use Rattle.je_answers.specs.Alone.{IsAutoCommitted};
 ghost use Rattle.je_answers.specs.Events.{IsAnswered};
 ghost use Rattle.je_answers.specs.Journal.{changes_of};
 ghost use Rattle.je_answers.specs.Refusals.{early_refusal};
+ghost use Rattle.log_buffer.specs.Buffer.{has_failed};
 ghost use Rattle.log_entry.specs.Body.{IsEntry};
-ghost use Rattle.engine.specs.Environment.{IsAtEnd};
-ghost use Rattle.engine.specs.Limits.{limit_of, most_logged};
-ghost use Rattle.engine.specs.Logging.{SetsLast, entries_planned};
-ghost use Rattle.engine.specs.Planning.{row_by};
-ghost use Rattle.engine.specs.Steps.{HasStepCause, IsNumbered, LeavesRoom, LogsChanges};
-ghost use Rattle.engine.specs.Totals.{totals_of};
-ghost use Rattle.engine.specs.Whole.{BeginsSafely, BeginsSync, CanGoOn, EndsSync, GoesOn, GoesOnSafely, IsAt, IsGuarded, IsGuardedInSync, disk_of, end_file};
+ghost use Rattle.record_tree.specs.Logged.{entry_for};
+ghost use Rattle.in_tree.specs.Observed.{has_tree_of, limit_in};
+ghost use Rattle.txn_core.specs.Totals.{totals_of};
+ghost use Rattle.engine.specs.Limits.{last_number, most_changed, most_logged, numbers_for};
+ghost use Rattle.engine.specs.Steps.{HasStepCause, IsNumbered, LogsChanges, txn_of};
+ghost use Rattle.engine.specs.Whole.{AreTrees, BeginsSafely, BeginsSync, CanGoOn, EndsSync, GoesOn, GoesOnSafely, HasLimit, IsAt, IsGuarded, IsGuardedInSync, contents, disk_of, end_file, last_node};
 
 use crate::kept::Kept;
-use crate::logging::{end_behind, entries_of, sizes_of, write_rows};
-use crate::planned::Planned;
-use crate::planned_changes::PlannedChanges;
-use crate::planning::plan;
+use in_tree::LogTrees;
 use je_disk::{Disk, SyncJob};
-use log_buffer::{LogBuffer, LogErr};
+use je_order::TxnId;
+use record_tree::TreeErr;
 use std::alloc::{AllocError, Global};
 use store_model::{Answer, Call, Fault, LAST_DATABASE, LAST_TXN, Totals};
+use txn_core::{Planned, PlannedChanges, commit_changes, plan};
 
-/// An open environment: its log over its disk, and what is kept of it in memory. It is made by `open`,
-/// answers calls by `step`, makes commits durable by `sync_begin` and `sync_end`, and ends by `close`.
+/// The greatest number of a node.
+pub(crate) const LAST_NODE: u64 = 0x7fff_ffff_ffff_ffff;
+
+/// How many node numbers a change of a record may allocate: one for each of 64 levels, one for a root above
+/// them, and one for the root of a database.
+pub(crate) const NUMBERS_FOR_CHANGE: u64 = 66;
+
+/// An open environment: its log over its disk with the trees of its databases, and what is kept in memory
+/// beside them. It is made by `open`, answers calls by `step`, makes commits durable by `sync_begin` and
+/// `sync_end`, and ends by `close`.
 pub struct Engine<D> {
-    // The log, over its disk.
-    pub(crate) log: LogBuffer<D>,
-    // What is kept in memory.
+    // The trees, over the log, over its disk.
+    pub(crate) trees: LogTrees<D>,
+    // What is kept beside them.
     pub(crate) kept: Kept,
 }
 
@@ -55,17 +63,20 @@ impl<D: Disk> Engine<D> {
         requires call { IsAutoCommitted call.now }
         ensures goes_on { (most : ℕ) (st : Standing) → IsAt most D.observable (now (D.history (disk_of self.old))) self.old st → GoesOn most D.observable (now (D.history (disk_of self.new))) self.old self.new st session line call.now result }
         ensures exact { (most : ℕ) (st : Standing) → IsAt most D.observable (now (D.history (disk_of self.old))) self.old st
-            → IfOk result (λ answer. IsAnswered (limit_of self.old.kept (changes_of (early_refusal st session call.now) st session call.now)) st (Called session line call.now answer [])) }
+            → IfOk result (λ answer. (limit : Option Answered) × HasLimit self.old (changes_of (early_refusal st session call.now) st session call.now) limit × IsAnswered limit st (Called session line call.now answer [])) }
         ensures numbered { (most : ℕ) (st : Standing) → IsAt most D.observable (now (D.history (disk_of self.old))) self.old st
             → IfOk result (λ answer. IsNumbered answer (after_event st (Called session line call.now answer [])).commits) }
         ensures grows { (most : ℕ) (st : Standing) → IsAt most D.observable (now (D.history (disk_of self.old))) self.old st
             → end_file self.new ≤ end_file self.old + most_logged (changes_of (early_refusal st session call.now) st session call.now) }
+        ensures allocates { (most : ℕ) (st : Standing) → IsAt most D.observable (now (D.history (disk_of self.old))) self.old st
+            → last_node self.new ≤ last_node self.old + numbers_for (most_changed (changes_of (early_refusal st session call.now) st session call.now)) }
         ensures bounds { CanGoOn self.new }
         ensures crash { D.observable ≡ true → (most : ℕ) (st : Standing) (start : History) (journal : List Event)
             → IsAt most D.observable (now (D.history (disk_of self.old))) self.old (after_events st journal)
             → IsGuarded most st start (D.history (disk_of self.old)) self.old journal
             → GoesOnSafely most st start (D.history (disk_of self.new)) self.new journal session line call.now result }
         ensures same_end { OnErr result (end_file self.new ≡ end_file self.old) }
+        ensures same_numbers { OnErr result (last_node self.new ≡ last_node self.old) }
         ensures cause { HasStepCause (D.faults (disk_of self.old)) (D.faults (disk_of self.new)) result }
     {
         if let Some(first) = self.kept.fault {
@@ -74,7 +85,7 @@ impl<D: Disk> Engine<D> {
         if LAST_TXN <= self.kept.last_txn {
             return Ok(Answer::IdsEnded);
         }
-        match plan(&self.kept, alloc, call)? {
+        match plan(&self.trees, alloc, self.kept.totals, self.kept.last_db, call)? {
             Planned::Answered(answer) => {
                 self.kept.last_txn += 1;
                 Ok(answer)
@@ -83,56 +94,80 @@ impl<D: Disk> Engine<D> {
         }
     }
 
+    // Whether the changes may lack a number of a database or of a node.
+    fn lacks_numbers(&self, planned: &PlannedChanges) -> bool
+        ensures { result ≡ (nat_lt LAST_DATABASE planned.now.last_db || nat_lt last_number (self.now.kept.last_node + numbers_for (length planned.now.changes.items))) }
+    {
+        if u64::from(LAST_DATABASE) < planned.last_db {
+            return true;
+        }
+        match (planned.changes.len() as u64).checked_mul(NUMBERS_FOR_CHANGE) {
+            Some(numbers) => LAST_NODE.saturating_sub(self.kept.last_node) < numbers,
+            None => true,
+        }
+    }
+
+    // Refuses changes that may lack numbers: no room in the log is told first.
+    fn refuse(&mut self, alloc: Global, planned: &PlannedChanges) -> Result<Answer, AllocError>
+    {
+        let txn = TxnId(self.kept.last_txn + 1);
+        match self.trees.find_limit(alloc, txn, planned.changes.as_slice(), 1)? {
+            Some(TreeErr::Full) => Ok(Answer::LogFull),
+            _ => Ok(Answer::IdsEnded),
+        }
+    }
+
     // Logs planned changes of a valid environment. Running out of memory leaves the environment as it was.
     fn log(&mut self, alloc: Global, planned: PlannedChanges) -> Result<Answer, AllocError>
-        requires bounds { LeavesRoom self.old.kept }
-        requires works { IsAtEnd self.old.log self.old.kept }
+        requires bounds { CanGoOn self.old }
+        requires works { has_failed self.old.trees.log ≡ false }
+        requires trees { AreTrees self.old.trees }
         requires numbers { self.old.kept.last_txn < LAST_TXN }
-        requires last { planned.last_db ≤ LAST_DATABASE → SetsLast (map (row_by 0) planned.rows) }
-        requires entries { AllByRecursion IsEntry (entries_planned (self.old.kept.last_txn + 1) planned.rows) }
-        ensures logs { LogsChanges D.observable D.history D.sync_out D.read_out D.read_of self.old.log self.new.log self.old.kept self.new.kept planned result }
-        ensures bounds { LeavesRoom self.new.kept }
+        requires there { AllByRecursion (λ c. has_tree_of self.old.trees c.db ≡ true) planned.changes.items }
+        requires new { AllByRecursion (λ c. IfSome c.makes (λ d. has_tree_of self.old.trees d ≡ false)) planned.changes.items }
+        requires entries { AllByRecursion (λ c. IsEntry (entry_for (txn_of (self.old.kept.last_txn + 1)) c.db c.name c.value)) planned.changes.items }
+        ensures logs { LogsChanges D.observable D.history D.sync_out D.read_out D.read_of self.old.trees.log self.new.trees.log (contents self.old.trees self.old.kept) (contents self.new.trees self.new.kept) planned (limit_in self.old.trees planned.changes.items 1) result }
+        ensures bounds { CanGoOn self.new }
         ensures cause { HasStepCause (D.faults (disk_of self.old)) (D.faults (disk_of self.new)) result }
     {
         let txn = self.kept.last_txn + 1;
+        if self.lacks_numbers(&planned) {
+            let answer = self.refuse(alloc, &planned)?;
+            self.kept.last_txn = txn;
+            return Ok(answer);
+        }
         let PlannedChanges {
-            rows,
+            changes,
             last_db,
             totals,
+            gone,
         } = planned;
-        let entries = entries_of(alloc, txn, rows.as_slice())?;
-        let sizes = sizes_of(alloc, &entries)?;
-        let Some(end) = end_behind(self.kept.end, self.kept.file_max, &sizes) else {
-            self.kept.last_txn = txn;
-            return Ok(Answer::LogFull);
-        };
-        if u64::from(LAST_DATABASE) < last_db {
-            self.kept.last_txn = txn;
-            return Ok(Answer::IdsEnded);
-        }
-        match write_rows(
-            &mut self.log,
-            &mut self.kept.rows,
+        match commit_changes(
+            &mut self.trees,
             alloc,
-            rows,
-            entries,
-            &sizes,
+            TxnId(txn),
+            changes.as_slice(),
+            gone,
         ) {
             Ok(()) => {
                 self.kept.last_txn = txn;
                 self.kept.commits += 1;
                 self.kept.totals = totals;
                 self.kept.last_db = last_db as u32;
-                self.kept.end = end;
+                self.kept.last_node += changes.len() as u64 * NUMBERS_FOR_CHANGE;
                 Ok(Answer::Logged {
                     commit: self.kept.commits,
                 })
             }
-            Err(LogErr::Memory) => Err(AllocError),
-            Err(_) => {
+            Err(TreeErr::Full) => {
+                self.kept.last_txn = txn;
+                Ok(Answer::LogFull)
+            }
+            Err(TreeErr::Fault) => {
                 self.kept.fault = Some(Fault::Disk);
                 Ok(Answer::DiskFault)
             }
+            Err(TreeErr::IdsEnded | TreeErr::Memory) => Err(AllocError),
         }
     }
 
@@ -145,12 +180,13 @@ impl<D: Disk> Engine<D> {
             → (after_events st journal).fault ≡ None → IsGuarded most st start (D.history (disk_of self.old)) self.old journal
             → BeginsSafely most st start (D.history (disk_of self.new)) self.new journal (is_some result) }
         ensures same_end { end_file self.new ≡ end_file self.old }
+        ensures same_numbers { last_node self.new ≡ last_node self.old }
         ensures out { IfSome result (λ job. D.sync_out (disk_of self.new) ≡ Some (D.Job.job_number job)) }
         ensures bounds { CanGoOn self.old → CanGoOn self.new }
         ensures never_falls { D.faults (disk_of self.old) ≤ D.faults (disk_of self.new) }
         ensures cause { (most : ℕ) (st : Standing) → IsAt most D.observable (now (D.history (disk_of self.old))) self.old st → st.fault ≡ None → IsNone result → HasRisen (D.faults (disk_of self.old)) (D.faults (disk_of self.new)) }
     {
-        match self.log.sync_begin() {
+        match self.trees.log.sync_begin() {
             Ok(job) => Some(job),
             Err(_) => {
                 self.kept.fault = Some(Fault::Disk);
@@ -170,11 +206,12 @@ impl<D: Disk> Engine<D> {
             → IsGuardedInSync most st start (D.history (disk_of self.old)) self.old journal
             → IsGuarded most st start (D.history (disk_of self.new)) self.new (journal ++ SyncEnd result ∷ []) }
         ensures same_end { end_file self.new ≡ end_file self.old }
+        ensures same_numbers { last_node self.new ≡ last_node self.old }
         ensures bounds { CanGoOn self.old → CanGoOn self.new }
         ensures never_falls { D.faults (disk_of self.old) ≤ D.faults (disk_of self.new) }
         ensures cause { (most : ℕ) (st : Standing) → IsAt most D.observable (now (D.history (disk_of self.old))) self.old st → st.fault ≡ None → result ≡ Answer.DiskFault → HasRisen (D.faults (disk_of self.old)) (D.faults (disk_of self.new)) }
     {
-        match self.log.sync_end(done) {
+        match self.trees.log.sync_end(done) {
             Ok(()) => Answer::Durable {
                 commit: self.kept.commits,
             },

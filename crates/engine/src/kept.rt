@@ -1,23 +1,17 @@
-// What an open environment keeps in memory.
-use log_buffer::LogPos;
-use log_replay::Rows;
+// What an open environment keeps in memory beside its trees.
 use store_model::{Fault, Totals};
 
-/// What an open environment keeps in memory beside its log.
+/// What an open environment keeps in memory beside its log and its trees.
 #[derive(Drop)]
 pub struct Kept {
-    /// The records of each database, the catalog's too.
-    pub rows: Rows,
     /// How many databases and records the committed store has.
     pub totals: Totals,
     /// The transaction number allocated last.
     pub last_txn: u64,
     /// The database number allocated last.
     pub last_db: u32,
-    /// Where the log ends.
-    pub end: LogPos,
-    /// The greatest size in bytes of a file that holds more than one entry behind its header.
-    pub file_max: u32,
+    /// A number that no node's number is above.
+    pub last_node: u64,
     /// How many transactions were committed since opening.
     pub commits: u64,
     /// The first fault, after which each call is Invalid.

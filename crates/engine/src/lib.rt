@@ -1,29 +1,18 @@
 //! The engine: an open environment over a disk, call by call. It opens the environment that a disk has, answers
 //! calls and logs what they change, makes commits durable by sync jobs that run outside it, and closes. It
-//! stands on `log_buffer` for the log, on `log_replay` for what the log means, and on `crash_meaning` for what a
-//! crash leaves. Upward it promises that each step is the model's, that what the disk's images mean at each
+//! stands on `in_tree` for the records and the log, on `txn_core` for what a call comes to, on `recovery_je` for
+//! opening, and on `crash_recovery` for what a crash leaves. Upward it promises that each step is the model's, that what the disk's images mean at each
 //! moment is the store changed by the first of the attempted commits, at least the synced ones, and that
 //! a fault of the disk is its only cause of failing beside memory. Users speak of an engine by the
 //! definitions of specs/Whole alone.
 #![tactic(auto)]
 
-mod catalog_plan;
-mod catalog_rows;
 mod closing;
 mod config;
 mod engine;
-mod found_record;
-mod held_edge;
 mod kept;
-mod logging;
 mod open_err;
 mod opening;
-mod planned;
-mod planned_changes;
-mod planned_row;
-mod planning;
-mod record_plan;
-mod record_rows;
 
 pub use closing::Closed;
 pub use config::Config;

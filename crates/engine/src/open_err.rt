@@ -1,7 +1,6 @@
 // Why an environment was not opened.
-use je_disk::DiskErr;
 use log_replay::Corruption;
-use std::alloc::AllocError;
+use recovery_je::RecoverErr;
 
 /// Why an environment was not opened. Its files are as they were, but for a torn tail that may have been
 /// cut off where the disk failed or there was no memory.
@@ -11,31 +10,24 @@ pub enum OpenErr {
     Disk,
     /// Out of memory.
     Memory,
+    /// No number of a node is left: those of the files, with 66 more for each of their entries, may pass the
+    /// last one.
+    IdsEnded,
     /// The files cannot be opened; this is the first corruption in the order of reading.
     Unreadable(Corruption),
 }
 
-impl From<DiskErr> for OpenErr {
+impl From<RecoverErr> for OpenErr {
     ghost use Rattle.std.specs.Prelude.{◌≡◌};
-    ghost use Rattle.engine.specs.Opening.{error_of_disk};
+    ghost use Rattle.engine.specs.Opening.{error_of_recovery};
 
-    ghost from_gives = { λ failure error. error ≡ error_of_disk failure };
+    ghost from_gives = { λ failure error. error ≡ error_of_recovery failure };
 
-    fn from(failure: DiskErr) -> OpenErr {
+    fn from(failure: RecoverErr) -> OpenErr {
         match failure {
-            DiskErr::Failed => OpenErr::Disk,
-            DiskErr::Memory => OpenErr::Memory,
+            RecoverErr::Disk => OpenErr::Disk,
+            RecoverErr::Memory => OpenErr::Memory,
+            RecoverErr::Corrupt(corruption) => OpenErr::Unreadable(corruption),
         }
-    }
-}
-
-impl From<AllocError> for OpenErr {
-    ghost use Rattle.std.specs.Prelude.{◌≡◌};
-    ghost use Rattle.engine.specs.declared.open_err.OpenErr.TheVariants.{Memory};
-
-    ghost from_gives = { λ _ error. error ≡ Memory };
-
-    fn from(_: AllocError) -> OpenErr {
-        OpenErr::Memory
     }
 }

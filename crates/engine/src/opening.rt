@@ -1,5 +1,5 @@
 // Opening an environment over a disk.
-ghost use Rattle.std.specs.Prelude.{◌≡◌, ◌≤◌, [], true, false, None, ℕ, length, IfSome, IfOk, IfErr, OnOk};
+ghost use Rattle.std.specs.Prelude.{◌≡◌, ◌≤◌, ◌+◌, [], true, false, None, Some, ℕ, length, map, nat_lt, if◌then◌else◌, IfSome, IfOk, IfErr, OnOk};
 ghost use Rattle.je_disk.specs.Causes.{HasFault};
 ghost use Rattle.je_disk.specs.Moments.{History, Passes, now};
 ghost use Rattle.je_disk.specs.States.{Files as Reads, IsEither, synced_crash_states};
@@ -9,26 +9,34 @@ ghost use Rattle.log_buffer.specs.Log.{HasLog};
 ghost use Rattle.log_file.specs.Log.{Log, entries_of};
 ghost use Rattle.engine.specs.Crash.{KeepsEntry};
 ghost use Rattle.engine.specs.Untouched.{IsLeftAlone};
-ghost use Rattle.engine.specs.Opening.{HasTornTailCut, IsSettling, StartsLog, StopsBy, WasRead, cut_off, kept_at_start, log_start_of};
+ghost use Rattle.store_model.specs.declared.totals.Totals.{Totals as Counted};
+ghost use Rattle.in_tree.specs.Observed.{cells_of, has_tree_of};
+ghost use Rattle.in_tree.specs.Stored.{stored_in, has_tree_in, committed_cell};
+ghost use Rattle.engine.specs.Limits.{last_number, numbers_for};
+ghost use Rattle.engine.specs.Opening.{HasTornTailCut, IsSettling, StartsLog, StopsBy, WasRead, cut_off, log_start_of};
 ghost use Rattle.engine.specs.Whole.{CanGoOn, IsOpened, IsOpenedSafely, disk_of};
 ghost use Rattle.je_lsn.specs.declared.file_no.TheConstants.{LAST_FILE};
 
 use crate::config::Config;
-use crate::engine::Engine;
+use crate::engine::{Engine, LAST_NODE, NUMBERS_FOR_CHANGE};
 use crate::kept::Kept;
 use crate::open_err::OpenErr;
 use je_disk::{Disk, DiskErr};
 use je_lsn::{FileNo, Lsn};
-use log_buffer::{LogBuffer, LogPos};
-use log_file::HEADER_SIZE;
-use log_replay::{LastFile, LogRead, ReadLog, Replayed, read_log};
-use std::alloc::{AllocError, Global};
-use store_model::Store;
+use in_tree::{LoadedTrees, LogTrees};
+use log_buffer::LogBuffer;
+use log_replay::LastFile;
+use recovery_je::{OpeningStore, Recovered, recover_disk};
+use std::alloc::Global;
+use store_model::Totals;
+
+/// How many slots a node has at most when one is put in.
+const FANOUT: u32 = 128;
 
 /// An open environment, and the store that it held at entry.
 pub struct Opened<D> {
     pub engine: Engine<D>,
-    pub opening: Store,
+    pub opening: OpeningStore<LoadedTrees>,
 }
 
 /// An environment that was not opened: why, and its disk back.
@@ -38,7 +46,7 @@ pub struct Stopped<D> {
 }
 
 // Mounts the disk and reads the log that it has.
-fn read_disk<D: Disk>(alloc: Global, disk: &mut D) -> Result<ReadLog, OpenErr>
+fn read_disk<D: Disk>(alloc: Global, disk: &mut D) -> Result<Recovered<LoadedTrees>, OpenErr>
     ensures same { D.observable ≡ true → now (D.history disk.new) ≡ now (D.history disk.old) }
     ensures moments { D.observable ≡ true → Passes (D.history disk.old) (D.history disk.new) (λ s. s ≡ now (D.history disk.old)) }
     ensures read { IfOk result (WasRead D.observable (now (D.history disk.old)).reads) }
@@ -46,12 +54,21 @@ fn read_disk<D: Disk>(alloc: Global, disk: &mut D) -> Result<ReadLog, OpenErr>
     ensures stops { IfErr result (λ error. StopsBy D.observable (now (D.history disk.old)).reads (D.faults disk.old) (D.faults disk.new) error) }
     ensures never_falls { D.faults disk.old ≤ D.faults disk.new }
 {
-    disk.mount()?;
-    let files = disk.list(alloc)?;
-    match read_log(alloc, disk, &files)? {
-        LogRead::Read(read) => Ok(read),
-        LogRead::Corrupt(corruption) => Err(OpenErr::Unreadable(corruption)),
+    let trees = LoadedTrees::new(alloc, FANOUT, 0);
+    Ok(recover_disk(alloc, disk, trees)?)
+}
+
+// A number that no node's number is above, once files are opened with so many entries, whose last node number is
+// this one; None where it would pass the last one.
+fn node_bound(last: u64, entries: u64) -> Option<u64>
+    ensures { result ≡ (if nat_lt last_number (last + numbers_for (entries + 1)) then None else Some (last + numbers_for (entries + 1))) }
+{
+    let numbers = entries.checked_add(1)?.checked_mul(NUMBERS_FOR_CHANGE)?;
+    let bound = last.checked_add(numbers)?;
+    if LAST_NODE < bound {
+        return None;
     }
+    Some(bound)
 }
 
 // Cuts off what follows the valid prefix of the last file.
@@ -113,53 +130,45 @@ fn begin_log<D: Disk>(
     Ok(LogBuffer::resume(alloc, disk, end, last.last, file_max))
 }
 
-// Where a log begins to grow that ends in this file.
-fn start(tail: Option<LastFile>) -> LogPos
-    ensures { result ≡ log_start_of tail }
-{
-    let Some(last) = tail else {
-        return LogPos {
-            file: 0,
-            offset: u64::from(HEADER_SIZE),
-        };
-    };
-    let offset = if last.end == 0 {
-        u64::from(HEADER_SIZE)
-    } else {
-        u64::from(last.end)
-    };
-    LogPos {
-        file: last.file.0,
-        offset,
-    }
-}
-
 // An environment that was just opened, over its log.
-fn begin<D>(log: LogBuffer<D>, read: ReadLog, file_max: u32) -> Opened<D>
-    ensures log { result.engine.log ≡ log }
-    ensures opening { result.opening ≡ read.replayed.opening }
-    ensures kept { result.engine.kept ≡ kept_at_start read.replayed (log_start_of read.tail) file_max }
+fn begin<D: Disk>(log: LogBuffer<D>, read: Recovered<LoadedTrees>, last_node: u64) -> Opened<D>
+    requires { last_node ≤ last_number }
+    ensures log { result.engine.trees.log ≡ log }
+    ensures cells { (db : ℕ) → cells_of result.engine.trees db ≡ map committed_cell (stored_in read.trees db) }
+    ensures trees { (db : ℕ) → has_tree_of result.engine.trees db ≡ has_tree_in read.trees db }
+    ensures opening { result.opening ≡ read.opening }
+    ensures totals { result.engine.kept.totals ≡ (let totals : Counted = record { databases = read.databases; records = read.records } in totals) }
+    ensures last_txn { result.engine.kept.last_txn ≡ read.last_txn }
+    ensures last_db { result.engine.kept.last_db ≡ read.last_db }
+    ensures last_node { result.engine.kept.last_node ≡ last_node }
+    ensures commits { result.engine.kept.commits ≡ 0 }
+    ensures fault { result.engine.kept.fault ≡ None }
 {
-    let end = start(read.tail);
-    let Replayed {
-        rows,
+    let Recovered {
+        trees,
         opening,
-        totals,
+        databases,
+        records,
         last_txn,
+        last_node: _,
         last_db,
-    } = read.replayed;
+        checkpoint: _,
+        entries: _,
+        tail: _,
+    } = read;
     let kept = Kept {
-        rows,
-        totals,
+        totals: Totals { databases, records },
         last_txn,
         last_db,
-        end,
-        file_max,
+        last_node,
         commits: 0,
         fault: None,
     };
     Opened {
-        engine: Engine { log, kept },
+        engine: Engine {
+            trees: LogTrees::new(log, trees),
+            kept,
+        },
         opening,
     }
 }
@@ -168,7 +177,7 @@ fn begin<D>(log: LogBuffer<D>, read: ReadLog, file_max: u32) -> Opened<D>
 fn go_on<D: Disk>(
     alloc: Global,
     disk: D,
-    read: ReadLog,
+    read: Recovered<LoadedTrees>,
     file_max: u32,
 ) -> Result<Opened<D>, Stopped<D>>
     requires none_out { D.sync_out disk ≡ None }
@@ -186,8 +195,14 @@ fn go_on<D: Disk>(
         → IfErr result (λ stopped. KeepsEntry (D.history disk) (D.history stopped.disk)) }
     ensures stopped { (reads : Reads) → IfErr result (λ stopped. StopsBy D.observable reads (D.faults disk) (D.faults stopped.disk) stopped.error) }
     ensures stopped_faults { IfErr result (λ stopped. D.faults disk ≤ D.faults stopped.disk) }
-    ensures left_alone { IfErr result (λ stopped. (old new : History) → IsLeftAlone stopped.error old new) }
+    ensures left_alone { IfErr result (λ stopped. (old : History) → Passes old (D.history disk) (λ s. s ≡ now old) → now (D.history disk) ≡ now old → IsLeftAlone stopped.error old (D.history stopped.disk)) }
 {
+    let Some(last_node) = node_bound(read.last_node, read.entries) else {
+        return Err(Stopped {
+            error: OpenErr::IdsEnded,
+            disk,
+        });
+    };
     let mut disk = disk;
     if settle(&mut disk, read.tail).is_err() {
         return Err(Stopped {
@@ -196,7 +211,7 @@ fn go_on<D: Disk>(
         });
     }
     match begin_log(alloc, disk, read.tail, file_max) {
-        Ok(log) => Ok(begin(log, read, file_max)),
+        Ok(log) => Ok(begin(log, read, last_node)),
         Err(disk) => Err(Stopped {
             error: OpenErr::Memory,
             disk,

@@ -1,0 +1,69 @@
+-- What an open environment has in memory beside its log, and how logged changes change it.
+use Rattle.std.specs.Prelude.{ℕ, ◌≡◌, ◌+◌, ◌*◌, ◌==◌, Bool, true, false, List, [], Option, None, Some, map, length, if◌then◌else◌}
+use Rattle.std.specs.List.{AllByRecursion}
+use Rattle.store_model.specs.declared.answer.Fault.{Fault}
+use Rattle.store_model.specs.declared.answer.Fault.TheVariants.{Disk}
+use Rattle.store_model.specs.declared.totals.Totals.{Totals}
+use Rattle.log_replay.specs.Rows.{Rows, rows_changed}
+use Rattle.record_tree.specs.declared.tree_change.TreeChange.{TreeChange}
+use Rattle.txn_core.specs.Known.{Known}
+use Rattle.txn_core.specs.Planning.{row_by}
+use Rattle.txn_core.specs.declared.planned_changes.PlannedChanges.{PlannedChanges}
+use Rattle.engine.specs.Limits.{numbers_for}
+
+-- the committed records of each database and how much their store holds; the transaction and the database number allocated last, and a number that
+-- no node's number is above; how many transactions were committed since opening; the first fault
+pub record Contents : Type 0 where
+  pub rows : Rows
+  pub totals : Totals
+  pub last_txn : ℕ
+  pub last_db : ℕ
+  pub last_node : ℕ
+  pub commits : ℕ
+  pub fault : Option Fault
+
+-- what plans rest on
+abbrev pub known : Contents → Known
+known c = record { rows = c.rows; totals = c.totals; last_db = c.last_db }
+
+-- whether this is the number of the database that goes
+abbrev pub is_gone : Option ℕ → ℕ → Bool
+is_gone None db = false
+is_gone (Some number) db = number == db
+
+-- the records after changes, without those of the database that goes
+abbrev pub rows_after : List TreeChange → Option ℕ → Rows → Rows
+rows_after changes gone rows db = if is_gone gone db then [] else rows_changed (map (row_by 0) changes) rows db
+
+-- a transaction number was allocated, and nothing else
+abbrev pub drawn_contents : Contents → Contents
+drawn_contents c = record c { last_txn = c.last_txn + 1 }
+
+-- changes were logged
+pub record HasLogged (old new : Contents) (planned : PlannedChanges) : Type 0 where
+  pub rows : (db : ℕ) → new.rows db ≡ rows_after planned.changes.items planned.gone old.rows db
+  pub totals : new.totals ≡ planned.totals
+  pub last_txn : new.last_txn ≡ old.last_txn + 1
+  pub last_db : new.last_db ≡ planned.last_db
+  pub last_node : new.last_node ≡ old.last_node + numbers_for (length planned.changes.items)
+  pub commits : new.commits ≡ old.commits + 1
+  pub fault : new.fault ≡ old.fault
+
+-- the disk failed: the environment is invalid, and its records count for nothing
+pub record HasFaulted (old new : Contents) : Type 0 where
+  pub totals : new.totals ≡ old.totals
+  pub last_txn : new.last_txn ≡ old.last_txn
+  pub last_db : new.last_db ≡ old.last_db
+  pub last_node : new.last_node ≡ old.last_node
+  pub commits : new.commits ≡ old.commits
+  pub fault : new.fault ≡ Some Disk
+
+-- nothing changed
+pub record IsSame (old new : Contents) : Type 0 where
+  pub rows : (db : ℕ) → new.rows db ≡ old.rows db
+  pub totals : new.totals ≡ old.totals
+  pub last_txn : new.last_txn ≡ old.last_txn
+  pub last_db : new.last_db ≡ old.last_db
+  pub last_node : new.last_node ≡ old.last_node
+  pub commits : new.commits ≡ old.commits
+  pub fault : new.fault ≡ old.fault
