@@ -24,8 +24,12 @@ pub struct LoadedTrees {
 impl Model for LoadedTrees {
     ghost use Rattle.in_tree.specs.declared.trees.Trees.{Trees as Forested};
     ghost use Rattle.in_tree.specs.Stored.{IsQuiet};
+    ghost use Rattle.in_tree.specs.contracts.trees.Trees as within;
+    ghost use Rattle.std.specs.Coded.{codes};
 
     ghost Value = { Forested };
+
+    ghost coded = { Prim.hlevel (codes, within.the_row.coded) };
 
     ghost view = { λ a. a.trees };
 

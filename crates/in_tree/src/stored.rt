@@ -1,5 +1,5 @@
 // What is committed in trees, while no transaction has changed anything.
-ghost use Rattle.std.specs.Prelude.{◌≡◌, ◌==◌, ◌≤◌, ◌&&◌, ◌++◌, not, nat_le, ℕ, [], length, find, Option, None, Some, IfSome, IfOk, option_map};
+ghost use Rattle.std.specs.Prelude.{◌≡◌, ◌==◌, ◌≤◌, ◌&&◌, ◌++◌, not, nat_le, ℕ, [], length, find, Option, None, Some, IfSome, IfOk, OnOk, option_map};
 ghost use Rattle.std.specs.BTreeMap.{keys};
 ghost use Rattle.record_map.specs.Cells.{value_at, IsRising};
 ghost use Rattle.in_tree.specs.Forest.{cells_at, is_there};

@@ -4,7 +4,9 @@ ghost use Rattle.record_map.specs.Cells.{value_at, IsRising, first_of, last_of, 
 ghost use Rattle.record_tree.specs.Logged.{IsEndOf};
 ghost use Rattle.record_tree.specs.Occupied.{AreSame, occupied_by};
 ghost use Rattle.record_tree.specs.declared.tree_err.TreeErr.{TreeErr as Reason};
+ghost use Rattle.record_tree.specs.Stored.{stored_at, HasStored, AreStoredStill};
 ghost use Rattle.in_tree.specs.Forest.{cells_seen, is_there, HasSameTrees, HasChange, with_value};
+ghost use Rattle.in_tree.specs.Stored.{stored_of, IsQuiet};
 
 use crate::{DbTree, forest, reading};
 use je_lsn::Lsn;
