@@ -1,12 +1,12 @@
 -- What is committed in trees while a log is read again, and how it changes where one cell does.
-use Rattle.std.proofs.Common.{◌≡◌, ◌==◌, ◌&&◌, ◌||◌, ◌⊎◌, ℕ, List, [], ◌∷◌, ◌++◌, Bool, true, false, cond, Option, None, Some, is_some, option_map, map, refl, ap, sym, subst, ◌∙◌, inl, inr, Less, is_eq, Box}
+use Rattle.std.proofs.Common.{◌≡◌, ◌==◌, ◌&&◌, ◌||◌, ◌⊎◌, ℕ, List, [], ◌∷◌, ◌++◌, Bool, true, false, cond, Option, None, Some, find, is_some, option_map, map, refl, ap, sym, subst, ◌∙◌, inl, inr, Less, is_eq, Box}
 use Rattle.std.specs.Global.{Global}
 use Rattle.std.specs.List.{AllByRecursion, list_any}
 use Rattle.std.specs.List.Sorted.{IsStrictlySortedBy}
 use Rattle.std.specs.Map.{keys_of, lookup}
 use Rattle.std.specs.Ordering.{nat_cmp}
 use Rattle.std.specs.BTreeMap.{get, keys, is_at}
-use Rattle.std.proofs.lemmas.Bool.{eq-eqb}
+use Rattle.std.proofs.lemmas.Bool.{eq-eqb, true≢false}
 use Rattle.std.proofs.lemmas.Option.{none-some, same_Some}
 use Rattle.je_order.specs.Edges.Edge.{First}
 use Rattle.je_order.specs.Order.{name_cmp}
@@ -72,6 +72,31 @@ stored_at_name (e ∷ cells) x up = by_name (same_or_other x e.0) (stored_at_nam
         here (stored_by e.1.version e.1.«data») equal (rest ∙ ap stored_under none) ∙ sym (ap (λ (t : Bool). stored_under (cond t (Some e.1) (value_at x cells))) equal)
     by_name (inr apart) rest =
         over (stored_by e.1.version e.1.«data») apart ∙ rest ∙ sym (ap stored_under (other_stays x e.0 (Some e.1) (value_at x cells) apart))
+
+-- the first record that passes a test, and one that is passed over
+pub first_found : (p : Name × Stored → Bool) (name : Name) (cell : Cell) (cells : List (Name × Cell)) → list_any p (with_name name (stored_by cell.version cell.«data»)) ≡ true →
+    option_map (λ (r : Name × Stored). r.0) (find p (stored_in ((name, cell) ∷ cells))) ≡ Some name
+first_found p name cell cells = by_stored (stored_by cell.version cell.«data»)
+  where
+    by_stored : (o : Option Stored) → list_any p (with_name name o) ≡ true → option_map (λ (r : Name × Stored). r.0) (find p (with_name name o ++ stored_in cells)) ≡ Some name
+    by_stored None h = absurd (true≢false (sym h))
+    by_stored (Some s) h = by_test (p (name, s)) h
+      where
+        by_test : (t : Bool) → (t || false) ≡ true → option_map (λ (r : Name × Stored). r.0) (cond t (Some (name, s)) (find p (stored_in cells))) ≡ Some name
+        by_test true h = refl
+        by_test false h = absurd (true≢false (sym h))
+
+pub passed_over : (p : Name × Stored → Bool) (name : Name) (cell : Cell) (cells : List (Name × Cell)) → list_any p (with_name name (stored_by cell.version cell.«data»)) ≡ false →
+    find p (stored_in ((name, cell) ∷ cells)) ≡ find p (stored_in cells)
+passed_over p name cell cells = by_stored (stored_by cell.version cell.«data»)
+  where
+    by_stored : (o : Option Stored) → list_any p (with_name name o) ≡ false → find p (with_name name o ++ stored_in cells) ≡ find p (stored_in cells)
+    by_stored None h = refl
+    by_stored (Some s) h = by_test (p (name, s)) h
+      where
+        by_test : (t : Bool) → (t || false) ≡ false → cond t (Some (name, s)) (find p (stored_in cells)) ≡ find p (stored_in cells)
+        by_test true h = absurd (true≢false h)
+        by_test false h = refl
 
 -- ---- what transactions see of them
 
@@ -173,6 +198,13 @@ stored_forest old new db o name s has is d x = by_number (apart_cases db d)
         ap (λ (t : Option DbTree). value_at x (stored_in (cells_of t))) (others old new db o has d apart.1)
         ∙ sym (ap (λ (t : Bool). cond (t && is_eq (name_cmp name x)) s (value_at x (stored_of old d))) apart.0)
 
+-- the same by what was written over a tree
+pub stored_put : (old new : Forest) (db : ℕ) (before after : DbTree) (name : Name) (s : Option Stored) → Some before ≡ get nat_cmp old db → Replaces old new db (Some after) →
+    ((x : Name) → value_at x (stored_in after.cells) ≡ cond (is_eq (name_cmp name x)) s (value_at x (stored_in before.cells))) → HasStored (stored_of old) (stored_of new) db name s
+stored_put old new db before after name s there has is =
+    stored_forest old new db (Some after) name s has
+    (subst (λ (o : Option DbTree). (x : Name) → value_at x (stored_in after.cells) ≡ cond (is_eq (name_cmp name x)) s (value_at x (stored_in (cells_of o)))) there is)
+
 -- no record changes where the cells of one database are as before
 pub forest_still : (old new : Forest) (db : ℕ) (o : Option DbTree) → Replaces old new db o → cells_of o ≡ cells_at old db → AreStoredStill (stored_of old) (stored_of new)
 forest_still old new db o has same d = by_number (number_cases db d)
@@ -223,3 +255,11 @@ there_by_keys forest d = by_entries forest.entries
             ap (λ (t : Bool). is_some (cond t (Some e.1) (lookup (is_at (nat_cmp d)) entries))) apart.1
             ∙ rest
             ∙ sym (ap (λ (t : Bool). t || list_any (λ n. n == d) (keys_of entries)) apart.0)
+
+-- trees stay quiet where a tree that was written over does
+pub quiet_put : (old new : Forest) (db : ℕ) (before after : DbTree) → Some before ≡ get nat_cmp old db → Replaces old new db (Some after) → (AreQuiet before.cells → AreQuiet after.cells) → IsQuiet old → IsQuiet new
+quiet_put old new db before after there has keeps quiet = forest_quiet old new db (Some after) has (keeps (subst (λ (o : Option DbTree). AreQuiet (cells_of o)) (sym there) (quiet db))) quiet
+
+-- the cells of a database that has a tree, from the first edge on
+pub cells_from_first : (forest : Forest) (db : ℕ) (tree : DbTree) → Some tree ≡ get nat_cmp forest db → from_edge First tree.cells ≡ cells_at forest db
+cells_from_first forest db tree there = from_first tree.cells ∙ ap cells_of there
