@@ -5,4 +5,5 @@ pub mod Laws
 pub mod Forest
 pub mod Limits
 pub mod Splitting
+pub mod Stored
 pub mod Whole

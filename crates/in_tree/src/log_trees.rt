@@ -10,12 +10,14 @@ ghost use Rattle.record_tree.specs.Logged.{entry_for, is_made, IsLimit, IsEndOf,
 ghost use Rattle.record_tree.specs.Occupied.{AreSame, AreWritten};
 ghost use Rattle.record_tree.specs.declared.tree_err.TreeErr.{TreeErr as Reason};
 ghost use Rattle.in_tree.specs.Forest.{cells_seen, is_there, HasSameTrees, HasOne, write_for};
+ghost use Rattle.in_tree.specs.Stored.{committed_cell};
+ghost use Rattle.in_tree.specs.Whole.{seen_in, has_tree_in, stored_within};
 ghost use Rattle.in_tree.specs.Limits.{sizes_for, commit_sizes, count_made, limit_of, end_behind, HasRoomFor};
 
 use crate::preparing::{give_back, make_all, put_cells, writes_for};
 use crate::trees::LAST_NODE;
 use crate::writing::{abort_each, commit_each, log_commit, sizes_for, write_each};
-use crate::{Trees, forest, reading};
+use crate::{LoadedTrees, Trees, forest, reading};
 use je_disk::Disk;
 use je_order::TxnId;
 use log_buffer::LogBuffer;
@@ -54,12 +56,17 @@ fn lacks_numbers(trees: &Trees, changes: &[TreeChange]) -> bool
 }
 
 impl<D: Disk> LogTrees<D> {
-    /// Trees over a log.
-    pub fn new(log: LogBuffer<D>, trees: Trees) -> LogTrees<D>
+    /// The trees that were made of a log, over that log. Each record is committed, and no transaction has changed
+    /// anything.
+    pub fn new(log: LogBuffer<D>, loaded: LoadedTrees) -> LogTrees<D>
         ensures log { result.log ≡ log }
-        ensures trees { result.trees ≡ trees }
+        ensures cells { (d : ℕ) → seen_in result.trees d ≡ map committed_cell (stored_within loaded d) }
+        ensures trees { (d : ℕ) → has_tree_in result.trees d ≡ has_tree_in loaded d }
     {
-        LogTrees { log, trees }
+        LogTrees {
+            log,
+            trees: loaded.into_trees(),
+        }
     }
 
     /// The log alone.
