@@ -4,5 +4,7 @@ pub mod Trees
 pub mod Laws
 pub mod Forest
 pub mod Limits
+pub mod Fitting
 pub mod Splitting
 pub mod Whole
+pub mod Observed
