@@ -1,12 +1,18 @@
 -- Which limit changes meet, and what the log has room for.
-use Rattle.std.specs.Prelude.{◌≡◌, ◌+◌, ◌<◌, ◌≤◌, ℕ, zero, suc, nat_lt, if◌then◌else◌, List, [], ◌∷◌, ◌++◌, map, Option, Some, None, false}
+use Rattle.std.specs.Prelude.{◌≡◌, ◌+◌, ◌≤◌, ℕ, zero, suc, nat_lt, if◌then◌else◌, List, [], ◌∷◌, ◌++◌, map, Option, Some, None, Bool, true, false}
+use Rattle.std.specs.List.{AllByRecursion}
+use Rattle.je_disk.specs.Moments.{History}
 use Rattle.je_lsn.specs.Naming.{last_file}
 use Rattle.je_order.specs.declared.txn_id.TxnId.{TxnId}
+use Rattle.log_entry.specs.Body.{IsEntry}
 use Rattle.log_entry.specs.Encoding.{size_of}
+use Rattle.log_entry.specs.declared.entry.Entry.{Entry}
 use Rattle.log_entry.specs.declared.entry.Entry.TheVariants.{Commit}
+use Rattle.log_file.specs.Scan.{may_follow}
 use Rattle.log_buffer.specs.declared.buffer.LogBuffer.{LogBuffer}
 use Rattle.log_buffer.specs.Buffer.{end_of, file_max_of, has_failed, HasRoom}
 use Rattle.log_buffer.specs.Flip.{end_after_all}
+use Rattle.log_buffer.specs.Growth.{Grew, Tried}
 use Rattle.record_tree.specs.Logged.{entry_for}
 use Rattle.record_tree.specs.declared.tree_change.TreeChange.{TreeChange}
 use Rattle.record_tree.specs.declared.tree_err.TreeErr.{TreeErr}
@@ -64,3 +70,16 @@ module _ {D : Type 0} where
     pub works : has_failed log ≡ false
     pub room : HasRoom log sizes
     pub files : end_behind log sizes ≤ last_file
+
+  -- entries that may stand in the log behind its end, and have room up to the last file
+  pub record FitsLog (log : LogBuffer D) (entries : List Entry) : Type 0 where
+    pub entries_are : AllByRecursion (λ e. IsEntry e × (may_follow e ≡ true)) entries
+    pub room : (end_after_all (file_max_of log) (end_of log) (map size_of entries)).file ≤ last_file
+
+  -- the log got these entries, which fit it
+  abbrev pub GrewFitting : Bool → (D → History) → (D → Option ℕ) → (D → Option ℕ) → (D → ℕ) → LogBuffer D → LogBuffer D → List Entry → Type 0
+  GrewFitting observable history sync_out read_out read_of old new entries = Grew observable history sync_out read_out read_of old new entries × FitsLog old entries
+
+  -- the log failed with these entries, which fit it
+  abbrev pub TriedFitting : Bool → (D → History) → (D → Option ℕ) → (D → Option ℕ) → (D → ℕ) → LogBuffer D → LogBuffer D → List Entry → Type 0
+  TriedFitting observable history sync_out read_out read_of old new entries = Tried observable history sync_out read_out read_of old new entries × FitsLog old entries

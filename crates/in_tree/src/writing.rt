@@ -10,7 +10,7 @@ ghost use Rattle.record_tree.specs.Logged.{entry_for, LogsChanges, IsFront};
 ghost use Rattle.record_tree.specs.Occupied.{AreWritten, HasChangedAll, after_commit, after_abort};
 ghost use Rattle.record_tree.specs.declared.tree_err.TreeErr.{TreeErr as Reason};
 ghost use Rattle.in_tree.specs.Forest.{cells_seen, HasSameTrees, KeepsCells, HasOne, HasChange, with_change, write_for};
-ghost use Rattle.in_tree.specs.Limits.{change_size, commit_size, commit_sizes, sizes_for, HasRoomFor};
+ghost use Rattle.in_tree.specs.Limits.{change_size, commit_size, commit_sizes, sizes_for, HasRoomFor, GrewFitting, TriedFitting};
 
 use crate::{DbTree, forest};
 use je_disk::Disk;
@@ -144,9 +144,9 @@ pub(crate) fn write_each<D: Disk>(
     requires room { (owed : ℕ) × HasRoomFor log.old (sizes_for changes.now owed) }
     requires there { AllByRecursion (λ c. HasOne trees.old c.db c.name) changes.now }
     requires writes { map (λ b. b.value) writes.items ≡ map (write_for txn) changes.now }
-    ensures grew { OnOk result ((entries : List Entry) × LogsChanges txn changes.now entries × Grew D.observable D.history D.sync_out D.read_out D.read_of log.old log.new entries) }
+    ensures grew { OnOk result ((entries : List Entry) × LogsChanges txn changes.now entries × GrewFitting D.observable D.history D.sync_out D.read_out D.read_of log.old log.new entries) }
     ensures left { (owed : ℕ) → HasRoomFor log.old (sizes_for changes.now owed) → OnOk result (HasRoomFor log.new (commit_sizes owed)) }
-    ensures tried { OnErr result ((entries : List Entry) × (front : List Entry) × LogsChanges txn changes.now entries × IsFront front entries × Tried D.observable D.history D.sync_out D.read_out D.read_of log.old log.new front) }
+    ensures tried { OnErr result ((entries : List Entry) × (front : List Entry) × LogsChanges txn changes.now entries × IsFront front entries × TriedFitting D.observable D.history D.sync_out D.read_out D.read_of log.old log.new front) }
     ensures by_fault { IfErr result (λ e. e ≡ Reason.Fault) }
     ensures cells { OnOk result (AreWritten txn changes.now (cells_seen trees.old) (cells_seen trees.new)) }
     ensures trees { HasSameTrees trees.old trees.new }

@@ -1,0 +1,28 @@
+// What a call comes to.
+ghost use Rattle.std.specs.Prelude.{ℕ, IfOk};
+ghost use Rattle.je_answers.specs.Alone.{Alone, IsAutoCommitted};
+ghost use Rattle.txn_core.specs.Known.{known_of};
+ghost use Rattle.txn_core.specs.Planning.{CanPlan, HasModel, IsPlanned};
+
+use crate::planned::Planned;
+use record_tree::Records;
+use std::alloc::{AllocError, Global};
+use store_model::{Call, Totals};
+
+/// What a call of a valid environment comes to that is a transaction of its own, from the committed records of its trees,
+/// how much they hold, and the database number allocated last. Room in the log and the last database number are not
+/// asked. The only error is out of memory.
+pub fn plan<T: Records>(
+    trees: &T,
+    alloc: Global,
+    totals: Totals,
+    last_db: u32,
+    call: &Call,
+) -> Result<Planned, AllocError>
+    requires can { CanPlan (known_of (T.cells trees.now) totals last_db) }
+    requires call { IsAutoCommitted call.now }
+    ensures { (p : Alone) (session : ℕ) → HasModel (known_of (T.cells trees.now) totals last_db) p
+        → IfOk result (IsPlanned (known_of (T.cells trees.now) totals last_db) p session call.now) }
+{
+    Err(AllocError)
+}
