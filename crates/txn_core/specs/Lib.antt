@@ -1,3 +1,4 @@
 pub mod Totals
 pub mod Known
 pub mod Planning
+pub mod Transactions
