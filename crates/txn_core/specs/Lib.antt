@@ -1,3 +1,5 @@
 pub mod Totals
 pub mod Known
 pub mod Planning
+pub mod Plans
+pub mod Views

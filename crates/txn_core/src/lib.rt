@@ -5,9 +5,17 @@
 //! that log the model's.
 #![tactic(auto)]
 
+mod catalog_plan;
+mod catalog_rows;
+mod found_record;
+mod held_edge;
 mod planned;
 mod planned_changes;
 mod planning;
+mod reading;
+mod record_plan;
+mod record_rows;
+mod walking;
 
 pub use planned::Planned;
 pub use planned_changes::PlannedChanges;
