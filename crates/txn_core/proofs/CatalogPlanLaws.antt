@@ -1,5 +1,5 @@
 -- What a call on the catalog comes to is what the model says of it.
-use Rattle.std.proofs.Common.{◌≡◌, ◌≢◌, ℕ, ◌+◌, ◌-◌, ◌<◌, ◌≤◌, ◌^◌, List, [], ◌∷◌, ◌++◌, Bool, true, false, cond, not, ◌&&◌, ◌==◌, nat_le, nat_lt, ◌||◌, Option, None, Some, map, filter, length, sum_by, option_map, is_some, refl, ap, ap₂, sym, ◌∙◌, subst, ⊎_elim, ◌⊎◌, arith, length-append, Ordering, Less, Equal, Greater, is_eq, is_lt, is_gt, Result, Ok, Err, IfOk}
+use Rattle.std.proofs.Common.{◌≡◌, ◌≢◌, ℕ, ◌+◌, ◌-◌, ◌<◌, ◌≤◌, ◌^◌, List, [], ◌∷◌, ◌++◌, Bool, true, false, cond, not, ◌&&◌, ◌==◌, nat_le, nat_lt, ◌||◌, Option, None, Some, map, filter, length, sum_by, option_map, is_some, refl, ap, ap₂, sym, ◌∙◌, subst, ⊎_elim, ◌⊎◌, arith, length-append, Ordering, Less, Equal, Greater, is_eq, is_lt, is_gt, Result, IfOk}
 use Rattle.std.specs.List.{AllByRecursion, list_all}
 use Rattle.std.specs.Int.{w32, to_be_bytes}
 use Rattle.std.proofs.lemmas.Bool.{cases_Bool, and_parts, true≢false, false≢true, eqb-true, eqb-false, leb-true, leb-false, lt-ltb}

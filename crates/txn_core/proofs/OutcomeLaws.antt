@@ -1,8 +1,7 @@
 -- What the model says a call comes to, from the records in memory.
-use Rattle.std.proofs.Common.{◌≡◌, ◌≢◌, ℕ, ◌<◌, List, [], ◌∷◌, Bool, true, false, cond, nat_lt, Option, None, Some, map, option_map, is_some, refl, ap, ap₂, sym, ◌∙◌, subst}
+use Rattle.std.proofs.Common.{◌≡◌, ℕ, ◌<◌, List, Bool, true, cond, nat_lt, Option, None, Some, map, option_map, is_some, refl, ap, ap₂, sym}
 use Rattle.std.proofs.lemmas.Bool.{lt-ltb}
 use Rattle.store_model.specs.declared.store.TheConstants.{LAST_TXN}
-use Rattle.store_model.specs.declared.store.Store.{Store}
 use Rattle.store_model.specs.declared.store.Database.{Database}
 use Rattle.store_model.specs.declared.kind.Kind.{Kind}
 use Rattle.store_model.specs.declared.call.Call.{Call}
@@ -17,7 +16,7 @@ use Rattle.store_model.specs.Evaluation.{Outcome, answers}
 use Rattle.store_model.specs.Refusals.{or_refusal, access_refusal, database_refuses}
 use Rattle.db_catalog.specs.Planning.{outcome_unless}
 use Rattle.je_answers.specs.Views.{target, target_of}
-use Rattle.je_answers.specs.Refusals.{target_refusal, late_refusal}
+use Rattle.je_answers.specs.Refusals.{target_refusal}
 use Rattle.je_answers.specs.Alone.{Alone, alone}
 use Rattle.txn_core.specs.Known.{Known}
 use Rattle.txn_core.specs.declared.planned.Planned.{Planned}

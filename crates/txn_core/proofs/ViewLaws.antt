@@ -1,12 +1,12 @@
 -- What the views of the records in memory see.
-use Rattle.std.proofs.Common.{◌≡◌, ◌≢◌, ℕ, List, [], ◌∷◌, Bool, true, false, cond, not, ◌&&◌, Option, None, Some, IfSome, map, filter, option_map, is_some, refl, ap, ap₂, sym, ◌∙◌, subst, ⊎_elim, Ordering, Less, Equal, Greater, is_eq, Bor, Result, Ok, Err, IfOk, option_copied}
+use Rattle.std.proofs.Common.{◌≡◌, ℕ, List, [], ◌∷◌, Bool, true, false, Option, None, Some, IfSome, map, filter, option_map, is_some, refl, ap, ap₂, sym, ◌∙◌, ⊎_elim, Less, is_eq, Bor, Result, IfOk, option_copied}
 use Rattle.std.specs.List.{AllByRecursion, list_all}
 use Rattle.std.specs.List.Sorted.{IsStrictlySortedBy}
-use Rattle.std.proofs.lemmas.Bool.{cases_Bool, cond-true, cond-false, and_parts}
+use Rattle.std.proofs.lemmas.Bool.{cases_Bool, cond-true, cond-false}
 use Rattle.std.proofs.lemmas.Option.{none-some, same_Some}
 use Rattle.je_order.specs.declared.name.Name.{Name}
 use Rattle.je_order.specs.Order.{name_cmp}
-use Rattle.je_order.specs.Edges.{Edge, is_below, is_between}
+use Rattle.je_order.specs.Edges.{Edge}
 use Rattle.je_order.specs.Edges.Edge.{First, End}
 use Rattle.je_order.proofs.Orderings.{equal_from_test, name_exact}
 use Rattle.je_order.proofs.Lists.{all_weaker}
@@ -14,22 +14,16 @@ use Rattle.je_order.proofs.Results.{if_ok}
 use Rattle.record_map.specs.Cells.{first_of, last_of, from_edge, below_edge}
 use Rattle.record_map.specs.declared.sort_key.SortKey.{SortKey}
 use Rattle.record_map.specs.declared.data.Data.{Data}
-use Rattle.db_catalog.specs.declared.db_record.DbRecord.{DbRecord}
-use Rattle.db_catalog.specs.Planning.{IsCatalogOf, IsRecordOf}
 use Rattle.store_model.specs.declared.kind.Kind.{Kind}
-use Rattle.store_model.specs.declared.kind.Kind.TheVariants.{Plain, Dup}
 use Rattle.store_model.specs.declared.store.Database.{Database}
-use Rattle.store_model.specs.Store.{Pair, name_of, HasRisingNames, database_of, names_of}
+use Rattle.store_model.specs.Store.{name_of, database_of, names_of}
 use Rattle.store_model.specs.Reads.{range, seen, at_name, taken_by, is_within, last_of as last_pair}
 use Rattle.store_model.specs.Reads.Way.{Lowest, Highest}
 use Rattle.store_model.specs.Evaluation.{plain_name}
-use Rattle.log_replay.specs.Rows.{Row, Rows, row_at, data_at, is_catalog_row, is_environment, are_right, IsRising, pair_of, catalog_number, database_in, store_of, number_or_0}
-use Rattle.log_replay.specs.Logging.{record_in, record_named}
+use Rattle.log_replay.specs.Rows.{Row, Rows, row_at, data_at, is_catalog_row, is_environment, are_right, IsRising, pair_of, database_in, store_of}
 use Rattle.log_replay.proofs.ListLaws.{all_from_true, filter-map, filter-none, found, none_found, map-map}
 use Rattle.log_replay.proofs.RowLaws.{each_right, name_flipped, row_of_data, no_row_of_data}
-use Rattle.log_replay.proofs.MapRows.{flips_equal}
-use Rattle.log_replay.proofs.LoggedLaws.{record-again}
-use Rattle.log_replay.proofs.StoreLaws.{environment_parts, database_of-store_of, length-databases, named-above}
+use Rattle.log_replay.proofs.StoreLaws.{environment_parts, database_of-store_of}
 use Rattle.txn_core.specs.Views.{pairs_found}
 
 -- ---- the catalog

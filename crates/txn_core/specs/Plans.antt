@@ -1,7 +1,6 @@
 -- What the parts of a plan come to, from the committed records.
 use Rattle.std.specs.Prelude.{ℕ, ◌≡◌, ◌≢◌, ◌+◌, ◌-◌, ◌<◌, ◌^◌, ◌∷◌, [], List, Option, Some, None, map, length, IsTrue}
 use Rattle.je_order.specs.Words.{is_word}
-use Rattle.store_model.specs.declared.kind.Kind.{Kind}
 use Rattle.store_model.specs.declared.call.Call.{Call}
 use Rattle.store_model.specs.declared.change.Change.{Change}
 use Rattle.store_model.specs.declared.change.Change.TheVariants.{Make, Remove, Rename, Empty}

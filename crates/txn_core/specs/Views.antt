@@ -1,5 +1,5 @@
 -- What the views of committed records see.
-use Rattle.std.specs.Prelude.{ℕ, ◌∷◌, [], List, Option, None, Some}
+use Rattle.std.specs.Prelude.{◌∷◌, [], List, Option, None, Some}
 use Rattle.je_order.specs.Edges.{Edge}
 use Rattle.je_order.specs.Edges.Edge.{First, At, Behind, End}
 use Rattle.store_model.specs.declared.kind.Kind.{Kind}

@@ -11,9 +11,9 @@ ghost use Rattle.txn_core.specs.Planning.{gone_by};
 ghost use Rattle.txn_core.specs.Plans.{catalog_planned, number_made, totals_by, IsNamed, LogsCatalog, IsCatalogPlan};
 
 use crate::catalog_rows::CatalogRows;
-use crate::reading::data_of;
 use crate::planned::Planned;
 use crate::planned_changes::PlannedChanges;
+use crate::reading::data_of;
 use crate::walking::{CATALOG, without_db};
 use db_catalog::{CatalogChange, catalog_changes, plan};
 use je_order::{Octets, Word};

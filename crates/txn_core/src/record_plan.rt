@@ -10,9 +10,9 @@ ghost use Rattle.txn_core.specs.Known.{committed, known_of};
 ghost use Rattle.txn_core.specs.Plans.{record_planned, records_with, records_by, LogsRecords, IsRecordPlan, IsFoundPlan};
 
 use crate::catalog_rows::CatalogRows;
-use crate::reading::data_of;
 use crate::planned::Planned;
 use crate::planned_changes::PlannedChanges;
+use crate::reading::data_of;
 use crate::record_rows::RecordRows;
 use cursor_je::{plan, refusal};
 use db_catalog::{FoundDb, find_db};
@@ -23,11 +23,7 @@ use std::alloc::{AllocError, Global};
 use store_model::{Answer, Call, RecordChange, Totals};
 
 // A change of a record as what is logged of it.
-fn change_of(
-    alloc: Global,
-    number: u32,
-    change: RecordChange,
-) -> Result<TreeChange, AllocError>
+fn change_of(alloc: Global, number: u32, change: RecordChange) -> Result<TreeChange, AllocError>
     ensures { IfOk result (λ planned. planned ≡ record_planned number change) }
 {
     match change {

@@ -4,9 +4,9 @@ ghost use Rattle.std.specs.List.Sorted.{IsStrictlySortedBy-prop};
 ghost use Rattle.log_replay.specs.Rows.{are_right, IsRising};
 ghost use Rattle.txn_core.specs.Known.{committed};
 
-use crate::reading;
 use crate::found_record::record_found;
 use crate::held_edge::{edge_ref, held_edge, held_name};
+use crate::reading;
 use cursor_je::{NameEdge, NameRef, RecordRef, View};
 use record_tree::Records;
 use std::alloc::{AllocError, Global};
@@ -44,10 +44,7 @@ impl<T: Records> View for RecordRows<'_, T> {
         name: NameRef<'_>,
     ) -> Result<Option<RecordRef<'_>>, AllocError> {
         let name = held_name(alloc, name)?;
-        Ok(record_found(
-            self.kind,
-            reading::record(self.trees, self.number, &name),
-        ))
+        Ok(record_found(self.kind, reading::record(self.trees, self.number, &name)))
     }
 
     fn first_from(

@@ -1,5 +1,5 @@
 use Rattle.std.proofs.Common.{◌≡◌, length}
-use Rattle.record_map.specs.Cells.{first_of, from_edge, edge_of}
+use Rattle.record_map.specs.Cells.{from_edge, edge_of}
 use Rattle.txn_core.specs.Known.{committed}
 use Rattle.txn_core.proofs.reading.next.Given as goal
 

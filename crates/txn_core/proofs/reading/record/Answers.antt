@@ -1,4 +1,4 @@
-use Rattle.std.proofs.Common.{◌∙◌, ap, sym, Some, None, is_eq}
+use Rattle.std.proofs.Common.{◌∙◌, sym, Some, None, is_eq}
 use Rattle.je_order.specs.Order.{name_cmp}
 use Rattle.record_tree.specs.Occupied.{occupied_by}
 use Rattle.txn_core.proofs.ReadingLaws.{data_first, own_value, no_value, own_name}
