@@ -58,3 +58,11 @@ pub mod UntouchedLaws
 pub mod EntryLaws
 -- An engine as one value, from its parts.
 pub mod WholeLaws
+-- What planned changes leave of an environment's records.
+pub mod PlannedRows
+-- Which databases the catalog names then.
+pub mod PlannedNumbers
+-- What calls plan.
+pub mod PlannedCalls
+-- A log that is longer by a transaction.
+pub mod TransactionGrowth
