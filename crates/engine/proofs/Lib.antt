@@ -30,6 +30,8 @@ pub mod ChangeLaws
 pub mod ShapeLaws
 -- What a call attempts to commit.
 pub mod AttemptLaws
+-- Where a call leaves the model that is to log changes.
+pub mod CallFates
 -- Entries that are appended, and records that are changed, one after another.
 pub mod WriteLaws
 -- One step of an environment, beside the model's.
@@ -40,6 +42,8 @@ pub mod SafeLaws
 pub mod GuardLaws
 -- A guarded run goes on by a sync.
 pub mod SyncLaws
+-- A guarded run goes on by a call.
+pub mod GuardedCalls
 -- A call goes on as the model does, and a guarded run by it.
 pub mod CallLaws
 -- A guarded run that was closed, and one that begins.
