@@ -36,6 +36,8 @@ pub mod CallFates
 pub mod WriteLaws
 -- One step of an environment, beside the model's.
 pub mod StepLaws
+-- Where an environment stands after a sync, and after a fault of the disk.
+pub mod SyncedStanding
 -- A run whose disk was safe so far, one event later.
 pub mod SafeLaws
 -- A guarded run goes on by one event.
@@ -46,6 +48,8 @@ pub mod SyncLaws
 pub mod GuardedCalls
 -- A call goes on as the model does, and a guarded run by it.
 pub mod CallLaws
+-- A guarded run of an engine as one value.
+pub mod GuardedEngine
 -- A guarded run that was closed, and one that begins.
 pub mod ClosedLaws
 -- The numbers of databases, by name.
