@@ -15,8 +15,8 @@ ghost use Rattle.engine.specs.Guarded.{KeepsIfWorks};
 ghost use Rattle.engine.specs.Whole.{IsAt, IsGuarded, disk_of};
 
 use crate::engine::Engine;
-use je_disk::Disk;
 use in_tree::Trees;
+use je_disk::Disk;
 use log_buffer::LogBuffer;
 
 /// The records that were kept in memory.

@@ -149,7 +149,7 @@ on_err (Err y) h = h
 
 -- ---- both
 
-module _ {D : Type 0} (observable : Bool) (history : D → History) (sync_out read_out : D → Option ℕ) (read_of : D → ℕ) where
+module _ {D : Type 0} (observable : Bool) (history : D → History) (sync_out read_out : D → Option ℕ) (read_of : D → ℕ) (faults : D → ℕ) where
   -- some changes were written, and those that are left were not
   pub record WritesLeft (txn : TxnId) (old log : LogBuffer D) (before trees : Forest) (changes left : List TreeChange) (writes : List Write) : Type 0 where
     pub entries : AllByRecursion (λ c. IsEntry (entry_for txn c.db c.name c.value)) left
@@ -157,10 +157,10 @@ module _ {D : Type 0} (observable : Bool) (history : D → History) (sync_out re
     pub writes_are : writes ≡ map (write_for txn) left
     pub some_room : (owed : ℕ) × HasRoomFor log (sizes_for left owed)
     pub room : (owed : ℕ) → HasRoomFor old (sizes_for changes owed) → HasRoomFor log (sizes_for left owed)
-    pub grew : (last : LogBuffer D) (b : List Entry) → LogsChanges txn left b → GrewFitting observable history sync_out read_out read_of log last b →
-        (a : List Entry) × LogsChanges txn changes a × GrewFitting observable history sync_out read_out read_of old last a
-    pub tried : (last : LogBuffer D) (b f : List Entry) → LogsChanges txn left b → IsFront f b → TriedFitting observable history sync_out read_out read_of log last f →
-        (a : List Entry) × (g : List Entry) × LogsChanges txn changes a × IsFront g a × TriedFitting observable history sync_out read_out read_of old last g
+    pub grew : (last : LogBuffer D) (b : List Entry) → LogsChanges txn left b → GrewFitting observable history sync_out read_out read_of faults log last b →
+        (a : List Entry) × LogsChanges txn changes a × GrewFitting observable history sync_out read_out read_of faults old last a
+    pub tried : (last : LogBuffer D) (b f : List Entry) → LogsChanges txn left b → IsFront f b → TriedFitting observable history sync_out read_out read_of faults log last f →
+        (a : List Entry) × (g : List Entry) × LogsChanges txn changes a × IsFront g a × TriedFitting observable history sync_out read_out read_of faults old last g
     pub cells : (last : AllCells) → AreWritten txn left (cells_seen trees) last → AreWritten txn changes (cells_seen before) last
     pub same : HasSameTrees before trees
 
@@ -185,19 +185,13 @@ module _ {D : Type 0} (observable : Bool) (history : D → History) (sync_out re
   writes_turn txn old log before trees changes left more ws vs so_far lefts are =
       subst (λ (l : List TreeChange). WritesLeft txn old log before trees changes l vs) lefts (subst (λ (l : List Write). WritesLeft txn old log before trees changes left l) are so_far)
 
-  -- the entry of the next change fits the log
-  fits_next : (txn : TxnId) (old log : LogBuffer D) (before trees : Forest) (changes left : List TreeChange) (c : TreeChange) (writes : List Write) → WritesLeft txn old log before trees changes (c ∷ left) writes →
-      FitsLog log (entry_for txn c.db c.name c.value ∷ [])
-  fits_next txn old log before trees changes left c writes so_far =
-      fits_one log (entry_for txn c.db c.name c.value) (change_size c) (sizes_for left so_far.some_room.0) so_far.entries.0 (change_follows txn c.db c.name c.value) (size_is txn c) so_far.some_room.1
-
   there_stays : (old new : Forest) (changes : List TreeChange) → KeepsCells old new → AllByRecursion (λ c. HasOne old c.db c.name) changes → AllByRecursion (λ c. HasOne new c.db c.name) changes
   there_stays old new [] keeps all = tt
   there_stays old new (c ∷ changes) keeps all = (keeps c.db c.name all.0, there_stays old new changes keeps all.1)
 
   pub writes_step : (txn : TxnId) (old log new : LogBuffer D) (before trees after : Forest) (changes left : List TreeChange) (c : TreeChange) (write : Write) (writes : List Write) →
       WritesLeft txn old log before trees changes (c ∷ left) (write ∷ writes) → writes ≡ map (write_for txn) left →
-      Grew observable history sync_out read_out read_of log new (entry_for txn c.db c.name c.value ∷ []) → ((sizes : List ℕ) → HasRoomFor log (change_size c ∷ sizes) → HasRoomFor new sizes) →
+      GrewFitting observable history sync_out read_out read_of faults log new (entry_for txn c.db c.name c.value ∷ []) → ((sizes : List ℕ) → HasRoomFor log (change_size c ∷ sizes) → HasRoomFor new sizes) →
       (at : ℕ) × HasChange (cells_seen trees) (cells_seen after) c.db c.name (with_change (record { txn = txn; at = at; value = c.value })) → KeepsCells trees after → HasSameTrees trees after →
       WritesLeft txn old new before after changes left writes
   writes_step txn old log new before trees after changes left c write writes so_far are grew room change kept same = record {
@@ -207,23 +201,23 @@ module _ {D : Type 0} (observable : Bool) (history : D → History) (sync_out re
     some_room = (so_far.some_room.0, room (sizes_for left so_far.some_room.0) so_far.some_room.1);
     room = λ owed for. room (sizes_for left owed) (so_far.room owed for);
     grew = λ last b logs more. so_far.grew last (entry_for txn c.db c.name c.value ∷ b) (logs_one txn c left b logs)
-        (fitting_then observable history sync_out read_out read_of log new last (entry_for txn c.db c.name c.value ∷ []) b (grew, fits_next txn old log before trees changes left c (write ∷ writes) so_far) more);
+        (fitting_then observable history sync_out read_out read_of faults log new last (entry_for txn c.db c.name c.value ∷ []) b grew more);
     tried = λ last b f logs front more. so_far.tried last (entry_for txn c.db c.name c.value ∷ b) (entry_for txn c.db c.name c.value ∷ f) (logs_one txn c left b logs)
         (front.0, ap (λ (l : List Entry). entry_for txn c.db c.name c.value ∷ l) front.1)
-        (fitting_tried observable history sync_out read_out read_of log new last (entry_for txn c.db c.name c.value ∷ []) f (grew, fits_next txn old log before trees changes left c (write ∷ writes) so_far) more);
+        (fitting_tried observable history sync_out read_out read_of faults log new last (entry_for txn c.db c.name c.value ∷ []) f grew more);
     cells = λ last written. so_far.cells last (written_step txn c left (cells_seen trees) (cells_seen after) last change.0 change.1 written);
     same = λ d. same d ∙ so_far.same d;
   }
 
   -- a change that met a fault
   pub writes_fail : (txn : TxnId) (old log new : LogBuffer D) (before trees : Forest) (changes left : List TreeChange) (c : TreeChange) (writes : List Write) →
-      WritesLeft txn old log before trees changes (c ∷ left) writes → Tried observable history sync_out read_out read_of log new (entry_for txn c.db c.name c.value ∷ []) →
-      (a : List Entry) × (g : List Entry) × LogsChanges txn changes a × IsFront g a × TriedFitting observable history sync_out read_out read_of old new g
+      WritesLeft txn old log before trees changes (c ∷ left) writes → TriedFitting observable history sync_out read_out read_of faults log new (entry_for txn c.db c.name c.value ∷ []) →
+      (a : List Entry) × (g : List Entry) × LogsChanges txn changes a × IsFront g a × TriedFitting observable history sync_out read_out read_of faults old new g
   writes_fail txn old log new before trees changes left c writes so_far tried =
       so_far.tried new (entry_for txn c.db c.name c.value ∷ entries_of txn left) (entry_for txn c.db c.name c.value ∷ []) (logs_one txn c left (entries_of txn left) (logs_all txn left))
-      (entries_of txn left, refl) (tried, fits_next txn old log before trees changes left c writes so_far)
+      (entries_of txn left, refl) tried
 
   -- all changes were written
   pub writes_end : (txn : TxnId) (old log : LogBuffer D) (before trees : Forest) (changes : List TreeChange) (writes : List Write) → WritesLeft txn old log before trees changes [] writes →
-      (a : List Entry) × LogsChanges txn changes a × GrewFitting observable history sync_out read_out read_of old log a
-  writes_end txn old log before trees changes writes so_far = so_far.grew log [] refl (fitting_none observable history sync_out read_out read_of log)
+      (a : List Entry) × LogsChanges txn changes a × GrewFitting observable history sync_out read_out read_of faults old log a
+  writes_end txn old log before trees changes writes so_far = so_far.grew log [] refl (fitting_none observable history sync_out read_out read_of faults log)

@@ -3,6 +3,7 @@ use Rattle.std.specs.Prelude.{◌≡◌, ◌+◌, ◌≤◌, ℕ, zero, suc, nat
 use Rattle.std.specs.List.{AllByRecursion}
 use Rattle.je_disk.specs.Moments.{History}
 use Rattle.je_lsn.specs.Naming.{last_file}
+use Rattle.je_order.specs.Counts.{HasRisen}
 use Rattle.je_order.specs.declared.txn_id.TxnId.{TxnId}
 use Rattle.log_entry.specs.Body.{IsEntry}
 use Rattle.log_entry.specs.Encoding.{size_of}
@@ -10,7 +11,7 @@ use Rattle.log_entry.specs.declared.entry.Entry.{Entry}
 use Rattle.log_entry.specs.declared.entry.Entry.TheVariants.{Commit}
 use Rattle.log_file.specs.Scan.{may_follow}
 use Rattle.log_buffer.specs.declared.buffer.LogBuffer.{LogBuffer}
-use Rattle.log_buffer.specs.Buffer.{end_of, file_max_of, has_failed, HasRoom}
+use Rattle.log_buffer.specs.Buffer.{disk_of, end_of, file_max_of, has_failed, HasRoom, IsUnchanged}
 use Rattle.log_buffer.specs.Flip.{end_after_all}
 use Rattle.log_buffer.specs.Growth.{Grew, Tried}
 use Rattle.record_tree.specs.Logged.{entry_for}
@@ -76,10 +77,16 @@ module _ {D : Type 0} where
     pub entries_are : AllByRecursion (λ e. IsEntry e × (may_follow e ≡ true)) entries
     pub room : (end_after_all (file_max_of log) (end_of log) (map size_of entries)).file ≤ last_file
 
-  -- the log got these entries, which fit it
-  abbrev pub GrewFitting : Bool → (D → History) → (D → Option ℕ) → (D → Option ℕ) → (D → ℕ) → LogBuffer D → LogBuffer D → List Entry → Type 0
-  GrewFitting observable history sync_out read_out read_of old new entries = Grew observable history sync_out read_out read_of old new entries × FitsLog old entries
+  -- the log got these entries, which fit it, and nothing happened where there are none; no count of the disk's faults fell
+  pub record GrewFitting (observable : Bool) (history : D → History) (sync_out read_out : D → Option ℕ) (read_of : D → ℕ) (faults : D → ℕ) (old new : LogBuffer D) (entries : List Entry) : Type 0 where
+    pub grew : Grew observable history sync_out read_out read_of old new entries
+    pub fits : FitsLog old entries
+    pub none : entries ≡ [] → IsUnchanged old new
+    pub never_falls : faults (disk_of old) ≤ faults (disk_of new)
 
-  -- the log failed with these entries, which fit it
-  abbrev pub TriedFitting : Bool → (D → History) → (D → Option ℕ) → (D → Option ℕ) → (D → ℕ) → LogBuffer D → LogBuffer D → List Entry → Type 0
-  TriedFitting observable history sync_out read_out read_of old new entries = Tried observable history sync_out read_out read_of old new entries × FitsLog old entries
+  -- the log failed with these entries, which fit it: the disk counted a fault, or the log had failed before
+  pub record TriedFitting (observable : Bool) (history : D → History) (sync_out read_out : D → Option ℕ) (read_of : D → ℕ) (faults : D → ℕ) (old new : LogBuffer D) (entries : List Entry) : Type 0 where
+    pub tried : Tried observable history sync_out read_out read_of old new entries
+    pub fits : FitsLog old entries
+    pub never_falls : faults (disk_of old) ≤ faults (disk_of new)
+    pub rose : has_failed old ≡ false → HasRisen (faults (disk_of old)) (faults (disk_of new))

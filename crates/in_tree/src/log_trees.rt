@@ -215,11 +215,11 @@ impl<D: Disk> LogTrees<D> {
         requires sizes { (owed : ℕ) × (sizes.now ≡ sizes_for changes.now owed) }
         ensures cells { OnOk result (AreWritten txn changes.now (cells_seen self.old.trees.forest) (cells_seen self.new.trees.forest)) }
         ensures trees { OnOk result ((d : ℕ) → is_there self.new.trees.forest d ≡ (is_made d changes.now || is_there self.old.trees.forest d)) }
-        ensures grew { OnOk result ((entries : List Logged) × LogsChanges txn changes.now entries × GrewFitting D.observable D.history D.sync_out D.read_out D.read_of self.old.log self.new.log entries) }
+        ensures grew { OnOk result ((entries : List Logged) × LogsChanges txn changes.now entries × GrewFitting D.observable D.history D.sync_out D.read_out D.read_of D.faults self.old.log self.new.log entries) }
         ensures left { (owed : ℕ) → sizes.now ≡ sizes_for changes.now owed → OnOk result (HasRoomFor self.new.log (commit_sizes owed)) }
-        ensures tried { IsEndOf Reason.Fault result ((entries : List Logged) × (front : List Logged) × LogsChanges txn changes.now entries × IsFront front entries × TriedFitting D.observable D.history D.sync_out D.read_out D.read_of self.old.log self.new.log front) }
+        ensures tried { IsEndOf Reason.Fault result ((entries : List Logged) × (front : List Logged) × LogsChanges txn changes.now entries × IsFront front entries × TriedFitting D.observable D.history D.sync_out D.read_out D.read_of D.faults self.old.log self.new.log front) }
         ensures no_limit { IfErr result (λ e. IsLimit e → ⊥) }
-        ensures memory { IsEndOf Reason.Memory result (AreSame (cells_seen self.old.trees.forest) (cells_seen self.new.trees.forest) × GrewFitting D.observable D.history D.sync_out D.read_out D.read_of self.old.log self.new.log []) }
+        ensures memory { IsEndOf Reason.Memory result (AreSame (cells_seen self.old.trees.forest) (cells_seen self.new.trees.forest) × GrewFitting D.observable D.history D.sync_out D.read_out D.read_of D.faults self.old.log self.new.log []) }
         ensures memory_trees { IsEndOf Reason.Memory result (HasSameTrees self.old.trees.forest self.new.trees.forest) }
     {
         let Ok(writes) = self.prepare(alloc, txn, changes, sizes) else {
@@ -240,9 +240,9 @@ impl<D: Disk> Records for LogTrees<D> {
 
     ghost has_tree = { λ x d. is_there x.trees.forest d };
 
-    ghost grew = { λ old new entries. GrewFitting D.observable D.history D.sync_out D.read_out D.read_of old.log new.log entries };
+    ghost grew = { λ old new entries. GrewFitting D.observable D.history D.sync_out D.read_out D.read_of D.faults old.log new.log entries };
 
-    ghost tried = { λ old new entries. TriedFitting D.observable D.history D.sync_out D.read_out D.read_of old.log new.log entries };
+    ghost tried = { λ old new entries. TriedFitting D.observable D.history D.sync_out D.read_out D.read_of D.faults old.log new.log entries };
 
     ghost limit = { λ x changes owed. limit_of x.log x.trees.last_node changes owed };
 
@@ -250,11 +250,11 @@ impl<D: Disk> Records for LogTrees<D> {
 
     ghost no_cells = { λ x d none. none_seen (get nat_cmp x.trees.forest d) none };
 
-    ghost grew_none = { λ x. fitting_none D.observable D.history D.sync_out D.read_out D.read_of x.log };
+    ghost grew_none = { λ x. fitting_none D.observable D.history D.sync_out D.read_out D.read_of D.faults x.log };
 
-    ghost grew_then = { λ x y z a b first rest. fitting_then D.observable D.history D.sync_out D.read_out D.read_of x.log y.log z.log a b first rest };
+    ghost grew_then = { λ x y z a b first rest. fitting_then D.observable D.history D.sync_out D.read_out D.read_of D.faults x.log y.log z.log a b first rest };
 
-    ghost tried_then = { λ x y z a b first rest. fitting_tried D.observable D.history D.sync_out D.read_out D.read_of x.log y.log z.log a b first rest };
+    ghost tried_then = { λ x y z a b first rest. fitting_tried D.observable D.history D.sync_out D.read_out D.read_of D.faults x.log y.log z.log a b first rest };
 
     fn get(&self, db: u32, name: &SortKey) -> Result<Option<&Cell>, Lacks> {
         Ok(reading::get(&self.trees.forest, db, name))

@@ -7,7 +7,6 @@ use Rattle.store_model.specs.declared.call.Call.{Call}
 use Rattle.store_model.specs.declared.call.Call.TheVariants.{List as Lists, Create, Remove, Rename, Truncate}
 use Rattle.store_model.specs.declared.change.Change.{Change}
 use Rattle.store_model.specs.declared.change.Change.TheVariants.{Remove as Removes, Empty}
-use Rattle.store_model.specs.declared.answer.Answer.{Answer}
 use Rattle.store_model.specs.declared.answer.Answer.TheVariants.{NoDatabase}
 use Rattle.store_model.specs.Store.{all_changed}
 use Rattle.store_model.specs.Evaluation.{Outcome, answers, evaluation}
@@ -75,9 +74,9 @@ pub record HasModel (known : Known) (p : Alone) : Type 0 where
   pub last_db : known.last_db ≡ p.last_db
   pub below : p.last_txn < LAST_TXN
 
--- what a call may log: its changes of the store, at least one, as the changes of trees that log them by whatever transaction, in order; each
--- makes an entry that can be encoded, in a database that is there; the numbers and the totals are those after them, and a database that is
--- made has the next number
+-- what a call may log: its changes of the store, at least one, as the changes of trees that log them by whatever transaction, in order. Each
+-- makes an entry that can be encoded, in a database that is there. The numbers and the totals are those after them. Where the last number has
+-- its width, they make the database of that number, if a number is allocated, and no other. The tree that goes is the one of the first change
 pub record IsPlannedLog (known : Known) (p : Alone) (session : ℕ) (call : Call) (planned : PlannedChanges) : Type 0 where
   pub change : Change
   pub more : List Change

@@ -6,10 +6,18 @@
 //! no record changed, unless the disk fails on the way.
 #![tactic(auto)]
 
+mod catalog_plan;
+mod catalog_rows;
+mod found_record;
+mod held_edge;
 mod planned;
 mod planned_changes;
 mod planning;
+mod reading;
+mod record_plan;
+mod record_rows;
 mod transaction;
+mod walking;
 
 pub use planned::Planned;
 pub use planned_changes::PlannedChanges;

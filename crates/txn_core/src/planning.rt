@@ -4,7 +4,9 @@ ghost use Rattle.je_answers.specs.Alone.{Alone, IsAutoCommitted};
 ghost use Rattle.txn_core.specs.Known.{known_of};
 ghost use Rattle.txn_core.specs.Planning.{CanPlan, HasModel, IsPlanned};
 
+use crate::catalog_plan::plan_catalog;
 use crate::planned::Planned;
+use crate::record_plan::plan_records;
 use record_tree::Records;
 use std::alloc::{AllocError, Global};
 use store_model::{Call, Totals};
@@ -24,5 +26,16 @@ pub fn plan<T: Records>(
     ensures { (p : Alone) (session : ℕ) → HasModel (known_of (T.cells trees.now) totals last_db) p
         → IfOk result (IsPlanned (known_of (T.cells trees.now) totals last_db) p session call.now) }
 {
-    Err(AllocError)
+    match call {
+        Call::List
+        | Call::Create { .. }
+        | Call::Remove { .. }
+        | Call::Rename { .. }
+        | Call::Truncate { .. } => plan_catalog(trees, alloc, totals, last_db, call),
+        Call::Get { db, .. } => plan_records(trees, alloc, totals, last_db, db, call),
+        Call::GetBoth { db, .. } => plan_records(trees, alloc, totals, last_db, db, call),
+        Call::Put { db, .. } => plan_records(trees, alloc, totals, last_db, db, call),
+        Call::Delete { db, .. } => plan_records(trees, alloc, totals, last_db, db, call),
+        _ => unreachable!(),
+    }
 }

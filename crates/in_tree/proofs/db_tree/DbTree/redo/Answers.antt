@@ -26,7 +26,7 @@ returns-clause-logged c = record {
   commit = c.behind-commit.result;
   last = c.over.result.1.now.last;
   cell = made_and_changed c.args.self.now.cells c.make_cell.new.cells c.set_logged.new.cells c.args.name.now (cell_or_fresh (value_at c.args.name.now c.args.self.now.cells))
-    (with_logged c.args.value c.args.at c.behind-commit.result c.over.result.1.now.last) c.in_ok-make_cell.ensures.cell c.set_logged.ensures.others;
+      (with_logged c.args.value c.args.at c.behind-commit.result c.over.result.1.now.last) c.in_ok-make_cell.ensures.cell c.set_logged.ensures.others;
 }
 
 pub returns-clause-tree : goal.returns-clause-tree
