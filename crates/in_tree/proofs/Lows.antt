@@ -1,5 +1,5 @@
 -- Lows that are put on levels.
-use Rattle.std.proofs.Common.{◌≡◌, ◌∙◌, ℕ, suc, List, IsSome, Option, Some, refl, sym, subst, arith}
+use Rattle.std.proofs.Common.{◌≡◌, ◌∙◌, ℕ, suc, List, IsSome, Some, refl, sym, subst, arith}
 use Rattle.je_order.specs.declared.name.Name.{Name}
 use Rattle.record_map.specs.Cells.{value_at}
 use Rattle.record_map.proofs.NameLaws.{same_gets}

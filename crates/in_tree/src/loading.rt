@@ -75,12 +75,7 @@ fn unlogged(number: u64) -> Node {
 }
 
 // Raises a tree until it has the level.
-fn raise_to(
-    levels: &mut Levels,
-    alloc: Global,
-    level: usize,
-    number: u64,
-) -> Result<(), AllocError>
+fn raise_to(levels: &mut Levels, alloc: Global, level: usize, number: u64) -> Result<(), AllocError>
     requires { level < 256 }
     ensures { OnOk result (level < length levels.new) }
 {

@@ -1,4 +1,3 @@
-use Rattle.std.proofs.Common.{◌≡◌}
 use Rattle.in_tree.proofs.Checked.{ok_then}
 use Rattle.in_tree.proofs.Lows.{low_put}
 use Rattle.in_tree.proofs.loading.put_low.Goals as goal

@@ -1,9 +1,8 @@
-use Rattle.std.proofs.Common.{◌≡◌, ◌∙◌, Option, Some, IsSome, option_map, refl, ap, sym, subst}
-use Rattle.record_map.specs.declared.cell.Cell.{Cell}
+use Rattle.std.proofs.Common.{Some, IsSome, option_map, refl, sym, subst}
 use Rattle.record_map.specs.Cells.{value_at}
 use Rattle.in_tree.specs.Content.{held_by}
 use Rattle.in_tree.specs.Trees.{cell_or_fresh}
-use Rattle.in_tree.specs.Forest.{seen, with_value, with_logged}
+use Rattle.in_tree.specs.Forest.{with_value, with_logged}
 use Rattle.in_tree.proofs.Records.{holds, commits, held_apart, cell_there, made_and_changed}
 use Rattle.in_tree.proofs.Seen.{change_seen, logged_seen}
 use Rattle.in_tree.proofs.db_tree.DbTree.redo.Goals as goal
@@ -26,7 +25,7 @@ returns-clause-logged c = record {
   commit = c.behind-commit.result;
   last = c.over.result.1.now.last;
   cell = made_and_changed c.args.self.now.cells c.make_cell.new.cells c.set_logged.new.cells c.args.name.now (cell_or_fresh (value_at c.args.name.now c.args.self.now.cells))
-    (with_logged c.args.value c.args.at c.behind-commit.result c.over.result.1.now.last) c.in_ok-make_cell.ensures.cell c.set_logged.ensures.others;
+      (with_logged c.args.value c.args.at c.behind-commit.result c.over.result.1.now.last) c.in_ok-make_cell.ensures.cell c.set_logged.ensures.others;
 }
 
 pub returns-clause-tree : goal.returns-clause-tree
