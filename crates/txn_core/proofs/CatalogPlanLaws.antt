@@ -38,9 +38,9 @@ use Rattle.je_answers.specs.Alone.{Alone}
 use Rattle.log_replay.specs.Rows.{Row, Rows, RowChange, catalog_number, is_catalog_row, is_environment, IsRising, pair_of, database_in, store_of, numbers_of}
 use Rattle.log_replay.specs.Logging.{record_named, number_named, kind_named, catalog_row_change, all_row_changes}
 use Rattle.log_replay.specs.Kept.{MayBeLogged}
-use Rattle.log_replay.proofs.ListLaws.{all_of_map, filter-map, found, none_found}
+use Rattle.log_replay.proofs.ListLaws.{filter-map, found, none_found}
 use Rattle.log_replay.proofs.RowLaws.{name_cmp-plain}
-use Rattle.log_replay.proofs.StoreLaws.{number_of_row, environment_parts, catalog_plain, row_named, key_of_row, database_of-store_of, database_of-numbered, database_of-absent, length-databases}
+use Rattle.log_replay.proofs.StoreLaws.{environment_parts, catalog_plain, row_named, key_of_row, database_of-store_of, database_of-numbered, database_of-absent, length-databases}
 use Rattle.log_replay.proofs.LoggedLaws.{record_for, record-again, IsSound, number-within}
 use Rattle.txn_core.specs.Known.{Known, has_number}
 use Rattle.txn_core.specs.declared.planned.Planned.{Planned}

@@ -10,6 +10,7 @@ use Rattle.db_catalog.specs.declared.catalog_change.CatalogChange.{CatalogChange
 use Rattle.db_catalog.specs.Catalog.{db_record_in, kind_bytes}
 use Rattle.db_catalog.specs.Planning.{found_in, found_db, kind_of_catalog, kind_in_catalog, logged_as, renewed}
 use Rattle.store_model.specs.declared.kind.Kind.{Kind}
+use Rattle.store_model.specs.declared.totals.Totals.{Totals}
 use Rattle.store_model.specs.declared.change.Change.{Change}
 use Rattle.store_model.specs.declared.change.Change.TheVariants.{Set, Unset, Make, Remove, Rename, Empty}
 use Rattle.store_model.specs.Evaluation.{plain_name}
@@ -20,8 +21,8 @@ use Rattle.log_replay.proofs.LoggedLaws.{IsSound}
 use Rattle.log_replay.proofs.StoreLaws.{number_of_row, environment_parts, named-right, named-above}
 use Rattle.record_tree.specs.declared.tree_change.TreeChange.{TreeChange}
 use Rattle.txn_core.specs.Known.{Known}
-use Rattle.txn_core.specs.Planning.{CanPlan}
-use Rattle.txn_core.specs.Plans.{catalog_planned}
+use Rattle.txn_core.specs.Planning.{CanPlan, gone_by}
+use Rattle.txn_core.specs.Plans.{catalog_planned, databases_by, records_without, totals_by}
 
 -- ---- the database that was found
 
@@ -106,3 +107,9 @@ sound_plan known can = record {
 pub logs_next : (makes : Option ℕ) (record_of : List ℕ → Option DbRecord) (a b : ℕ) (change : Change) (logged : List CatalogChange) (changes : List TreeChange) →
     changes ≡ map (catalog_planned makes) logged → logged ≡ logged_as record_of a change → to_be_bytes w32 a ≡ to_be_bytes w32 b → changes ≡ map (catalog_planned makes) (logged_as record_of b change)
 logs_next makes record_of a b change logged changes planned is same = planned ∙ ap (map (catalog_planned makes)) is ∙ same_logged makes record_of a b change same
+
+-- how much the store then holds
+pub totals_are : (rows : Rows) (change : Change) (totals : Totals) (databases records : ℕ) (gone : Option ℕ) → databases ≡ databases_by totals.databases change → gone ≡ gone_by rows change →
+    records ≡ records_without totals.records rows gone → record { databases = databases; records = records } ≡ totals_by totals rows change
+totals_are rows change totals databases records gone more goes less =
+    let make : ℕ → ℕ → Totals = λ d r. record { databases = d; records = r } in ap₂ make more (less ∙ ap (records_without totals.records rows) goes)

@@ -48,9 +48,9 @@ use Rattle.store_model.specs.Refusals.{made_by, or_refusal, too_long, data_limit
 use Rattle.je_answers.specs.Alone.{Alone}
 use Rattle.log_replay.specs.Rows.{Row, Rows, RowChange, row_changed, data_at, row_at, is_right_row, are_right, IsRising, pair_of, store_of, numbers_of, number_or_0}
 use Rattle.log_replay.specs.Logging.{record_named, number_named, kind_named, last_db_after}
-use Rattle.log_replay.proofs.ListLaws.{all_true, all_both, all_of_map, all_to_map, map-map, map_same}
+use Rattle.log_replay.proofs.ListLaws.{all_true, all_both, all_to_map, map-map, map_same}
 use Rattle.log_replay.proofs.RowLaws.{name_of-right, proper-right, rising_head, rising_tail, name_flipped}
-use Rattle.log_replay.proofs.StoreLaws.{environment_parts, environment_from, number_of_row, row_changed-here, database_of-numbered, database_of-absent}
+use Rattle.log_replay.proofs.StoreLaws.{environment_from, row_changed-here, database_of-numbered, database_of-absent}
 use Rattle.log_replay.proofs.NameLaws.{data-with, number-same}
 use Rattle.log_replay.proofs.LoggedLaws.{IsSound, step}
 use Rattle.log_replay.proofs.TransactionLaws.{sound-after}
