@@ -1,7 +1,13 @@
 -- Reading trees.
-use Rattle.std.proofs.Common.{◌≡◌, ℕ, ◌==◌, max, Bool, true, false, cond, List, [], ◌∷◌, ◌++◌, Option, Some, Result, Ok, Err, refl, sym, ap, subst, ◌∙◌, arith}
+use Rattle.std.proofs.Common.{◌≡◌, ℕ, ◌==◌, max, Bool, true, false, cond, List, [], ◌∷◌, ◌++◌, Option, Some, Result, Ok, Err, refl, sym, ap, subst, ◌∙◌, ap₂, arith, is_eq}
 use Rattle.std.specs.Prelude.{◌||◌, IsErrAnd}
 use Rattle.std.specs.List.{list_any}
+use Rattle.std.specs.BTreeSet.{insert_key}
+use Rattle.std.specs.Ordering.{nat_cmp, match_ordering}
+use Rattle.std.specs.declared.cmp.Ordering.{Ordering}
+use Rattle.std.specs.declared.cmp.Ordering.TheVariants.{Less, Equal, Greater}
+use Rattle.std.proofs.lemmas.Cmp.{ranked}
+use Rattle.std.proofs.lemmas.Bool.Decides.{nat_tests}
 use Rattle.je_order.specs.declared.name.Name.{Name}
 use Rattle.record_map.specs.Cells.{value_at}
 use Rattle.record_tree.specs.Stored.{Stored, AllStored, stored_at, HasStored, AreStoredStill}
@@ -19,14 +25,34 @@ use Rattle.recovery_je.specs.Redoing.{there, named_by}
 use Rattle.recovery_je.specs.Recovering.{IsFoundBy}
 use Rattle.recovery_je.specs.Walking.{IsWalking, GoesOn}
 
-any_push : (m n : ℕ) (xs : List ℕ) → list_any (λ k. k == m) (xs ++ n ∷ []) ≡ ((n == m) || list_any (λ k. k == m) xs)
-any_push m n [] = refl
-any_push m n (x ∷ xs) = ap (λ (b : Bool). (x == m) || b) (any_push m n xs) ∙ by_tests (x == m) (n == m) (list_any (λ k. k == m) xs)
+-- ---- the numbers of the nodes that were read, as a set
+
+any_insert : (m n : ℕ) (xs : List ℕ) → list_any (λ k. k == m) (insert_key nat_cmp xs n) ≡ ((n == m) || list_any (λ k. k == m) xs)
+any_insert m n [] = refl
+any_insert m n (x ∷ xs) = by_order (any_insert m n xs) (nat_cmp n x) refl
   where
     by_tests : (a b c : Bool) → (a || (b || c)) ≡ (b || (a || c))
     by_tests true true c = refl
     by_tests true false c = refl
     by_tests false b c = refl
+
+    twice : (a b : Bool) → (a || b) ≡ (a || (a || b))
+    twice true b = refl
+    twice false b = refl
+
+    by_order : list_any (λ k. k == m) (insert_key nat_cmp xs n) ≡ ((n == m) || list_any (λ k. k == m) xs) → (o : Ordering) → o ≡ nat_cmp n x → list_any (λ k. k == m) (match_ordering o (n ∷ x ∷ xs) (x ∷ xs) (x ∷ insert_key nat_cmp xs n)) ≡ ((n == m) || ((x == m) || list_any (λ k. k == m) xs))
+    by_order more Less is = refl
+    by_order more Equal is = twice (x == m) (list_any (λ k. k == m) xs) ∙ ap (λ (k : ℕ). (k == m) || ((x == m) || list_any (λ k. k == m) xs)) (sym (ranked n x Equal is))
+    by_order more Greater is = ap (λ (b : Bool). (x == m) || b) more ∙ by_tests (x == m) (n == m) (list_any (λ k. k == m) xs)
+
+same_key : (n x : ℕ) → is_eq (nat_cmp n x) ≡ (x == n)
+same_key n x = grind (arith, nat_tests)
+
+pub any_by_key : (n : ℕ) (keys : List ℕ) → list_any (λ m. is_eq (nat_cmp n m)) keys ≡ list_any (λ m. m == n) keys
+any_by_key n [] = refl
+any_by_key n (x ∷ keys) = ap₂ (λ (a b : Bool). a || b) (same_key n x) (any_by_key n keys)
+
+-- ---- nodes and records that are put
 
 most_push : {A : Type 0} (f : A → ℕ) (xs : List A) (x : A) → most f (xs ++ x ∷ []) ≡ max (most f xs) (f x)
 most_push f [] x = omega arith
@@ -35,10 +61,10 @@ most_push f (y ∷ xs) x = ap (max (f y)) (most_push f xs x) ∙ later (f y) (mo
     later : (a b c : ℕ) → max a (max b c) ≡ max (max a b) c
     later a b c = omega arith
 
-pub met_one : (before after : AllStored) (seen more : List ℕ) (node db greatest : ℕ) (n : Node) (walk : Walk) → AreStoredStill before after → more ≡ seen ++ n.number ∷ [] → greatest ≡ max node n.number →
+pub met_one : (before after : AllStored) (seen more : List ℕ) (node db greatest : ℕ) (n : Node) (walk : Walk) → AreStoredStill before after → more ≡ insert_key nat_cmp seen n.number → greatest ≡ max node n.number →
     IsWalking before seen node db walk → IsWalking after more greatest db (met n walk)
 met_one before after seen more node db greatest n walk same more_is greatest_is at = record {
-  seen_is = λ m. ap (list_any (λ k. k == m)) more_is ∙ any_push m n.number seen ∙ ap (λ (b : Bool). (n.number == m) || b) (at.seen_is m);
+  seen_is = λ m. ap (list_any (λ k. k == m)) more_is ∙ any_insert m n.number seen ∙ ap (λ (b : Bool). (n.number == m) || b) (at.seen_is m);
   node_is = greatest_is ∙ ap (λ (k : ℕ). max k n.number) at.node_is ∙ turned (most (λ (k : ℕ). k) walk.seen) n.number;
   db_is = at.db_is;
   records = λ d x. ap (value_at x) (same d) ∙ at.records d x;
