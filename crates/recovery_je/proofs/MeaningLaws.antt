@@ -156,22 +156,6 @@ redo_ends rows redo es stored kept at d x = at.records d x ∙ ap (λ (r : Redo)
 pub same_stored : (rows : List LoggedChange) (a b : AllStored) → ((d : ℕ) → b d ≡ a d) → HoldsChanges rows a → HoldsChanges rows b
 same_stored rows a b same holds d x = ap (value_at x) (same d) ∙ holds d x
 
--- ---- the roots
-
-pub no_roots : (roots : List Root) → (length roots == 0) ≡ true → roots ≡ []
-no_roots roots h = nil_from_length roots (eqb-true (length roots) 0 h)
-
-pub walked_none : (files : List ℕ) (es : List Placed) (end : Checkpoint) (stored : AllStored) → end.roots ≡ [] → ((d : ℕ) → stored d ≡ []) → (walk : Walk) × IsWalked files es end (record { node = 0; db = 0 }) stored walk
-walked_none files es end stored none empty = (
-  record { seen = []; rows = [] },
-  record {
-    read = ap (read_roots files es end.at) none;
-    node = refl;
-    db = refl;
-    records = λ d x. ap (value_at x) (empty d);
-  },
-)
-
 -- ---- the meaning
 
 abbrev meaning_with : List ℕ → List Placed → Checkpoint → Result Meaning Corruption

@@ -65,37 +65,3 @@ node_fails files es d above low high at walk P (Err x) e is found = by_error x (
     by_error (Found c) h =
         node_parts files es d above low high at walk ∙ ap (λ (s : Result Node Corruption). and_then s (λ m. read_below files es d above low high at m.slots (met m walk))) h
 
--- ---- what its slots name
-
-pub below_none : (files : List ℕ) (es : List Placed) (d above : ℕ) (low : Name) (high : Option Name) (at : ℕ) (slots : List Marked) (walk : Walk) → above ≡ 0 →
-    each (read_record files es d at) (flat_map slot_shown slots) walk ≡ read_below files es d above low high at slots walk
-below_none files es d above low high at slots walk none = ap (λ (n : ℕ). read_below files es d n low high at slots walk) (sym none)
-
-pub below_some : (files : List ℕ) (es : List Placed) (d above : ℕ) (low : Name) (high : Option Name) (at : ℕ) (slots : List Marked) (walk : Walk) → (above ≡ 0 → ⊥) →
-    each (read_child files (read_node files es d (above - 1)) at) (children low high (flat_map slot_shown slots)) walk ≡ read_below files es d above low high at slots walk
-below_some files es d zero low high at slots walk some = absurd (some refl)
-below_some files es d (suc above) low high at slots walk some = ap (λ (n : ℕ). each (read_child files (read_node files es d n) at) (children low high (flat_map slot_shown slots)) walk) (one_less above)
-  where
-    one_less : (n : ℕ) → suc n - 1 ≡ n
-    one_less n = omega arith
-
-pub goes_on_same : {B : Type 0} (a b : Result Walk Corruption) (P : Walk → Type 0) (r : Result B ReadErr) → a ≡ b → GoesOn a P r → GoesOn b P r
-goes_on_same a b P r same on = subst (λ (s : Result Walk Corruption). GoesOn s P r) same on
-
--- ---- children
-
--- the name of the slot of the child that waits does not count
-any_first : (low : Name) (high : Option Name) (x y : Name) (at : ℕ) (slots : List NamedLsn) → children low high ((x, at) ∷ slots) ≡ children low high ((y, at) ∷ slots)
-any_first low high x y at [] = refl
-any_first low high x y at (s ∷ slots) = refl
-
--- one slot more: the child that waits can be read, and that of the slot waits
-pub next_waits : (low : Name) (high : Option Name) (pending : Option ℕ) (name : Name) (at : ℕ) (slots : List NamedLsn) →
-    children_left low high pending ((name, at) ∷ slots) ≡ waiting low (Some name) pending ++ children_left (low_behind pending low name) high (Some at) slots
-next_waits low high None name at slots = any_first low high name low at slots
-next_waits low high (Some before) name at slots = refl
-
--- no slot is left
-pub last_waits : (low : Name) (high : Option Name) (pending : Option ℕ) → children_left low high pending [] ≡ waiting low high pending ++ []
-last_waits low high None = refl
-last_waits low high (Some at) = refl

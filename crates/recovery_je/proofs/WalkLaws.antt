@@ -45,13 +45,6 @@ any_insert m n (x ∷ xs) = by_order (any_insert m n xs) (nat_cmp n x) refl
     by_order more Equal is = twice (x == m) (list_any (λ k. k == m) xs) ∙ ap (λ (k : ℕ). (k == m) || ((x == m) || list_any (λ k. k == m) xs)) (sym (ranked n x Equal is))
     by_order more Greater is = ap (λ (b : Bool). (x == m) || b) more ∙ by_tests (x == m) (n == m) (list_any (λ k. k == m) xs)
 
-same_key : (n x : ℕ) → is_eq (nat_cmp n x) ≡ (x == n)
-same_key n x = grind (arith, nat_tests)
-
-pub any_by_key : (n : ℕ) (keys : List ℕ) → list_any (λ m. is_eq (nat_cmp n m)) keys ≡ list_any (λ m. m == n) keys
-any_by_key n [] = refl
-any_by_key n (x ∷ keys) = ap₂ (λ (a b : Bool). a || b) (same_key n x) (any_by_key n keys)
-
 -- ---- nodes and records that are put
 
 most_push : {A : Type 0} (f : A → ℕ) (xs : List A) (x : A) → most f (xs ++ x ∷ []) ≡ max (most f xs) (f x)
@@ -94,14 +87,6 @@ with_one before after seen node db greatest d name lsn value walk put greatest_i
 
 -- ---- readings, one after another
 
-each_append : {A : Type 0} (f : A → Walk → Result Walk Corruption) (a b : List A) (walk : Walk) → each f (a ++ b) walk ≡ and_then (each f a walk) (each f b)
-each_append f [] b walk = refl
-each_append f (x ∷ a) b walk = by_first (λ w. each_append f a b w) (f x walk)
-  where
-    by_first : ((w : Walk) → each f (a ++ b) w ≡ and_then (each f a w) (each f b)) → (r : Result Walk Corruption) → and_then r (each f (a ++ b)) ≡ and_then (and_then r (each f a)) (each f b)
-    by_first later (Ok w) = later w
-    by_first later (Err c) = refl
-
 -- a reading of one
 pub one_goes_on : {A B : Type 0} (f : A → Walk → Result Walk Corruption) (x : A) (walk : Walk) (P : Walk → Type 0) (r : Result B ReadErr) → GoesOn (f x walk) P r → GoesOn (each f (x ∷ []) walk) P r
 one_goes_on f x walk P (Ok v) is = (is.0, ap (λ (s : Result Walk Corruption). and_then s (each f [])) is.1, is.2)
@@ -115,31 +100,6 @@ pub record IsWalkingOn {A : Type 0} (f : A → Walk → Result Walk Corruption) 
   pub at : P here
   pub rest : each f left here ≡ each f all walk
 
-pub walk_more : {A : Type 0} (f : A → Walk → Result Walk Corruption) (all left xs rest : List A) (P Q : Walk → Type 0) (walk : Walk) → left ≡ xs ++ rest →
-    ((w : Walk) → P w → (v : Walk) × (each f xs w ≡ Ok v) × Q v) → IsWalkingOn f all left P walk → IsWalkingOn f all rest Q walk
-walk_more f all left xs rest P Q walk is step so_far =
-    let next = step so_far.here so_far.at in record {
-      here = next.0;
-      at = next.2;
-      rest = sym (ap (λ (s : Result Walk Corruption). and_then s (each f rest)) next.1) ∙ sym (each_append f xs rest so_far.here) ∙ ap (λ l. each f l so_far.here) (sym is) ∙ so_far.rest;
-    }
-
-pub walk_stops : {A : Type 0} (f : A → Walk → Result Walk Corruption) (all left xs rest : List A) (P : Walk → Type 0) (walk : Walk) (c : Corruption) → left ≡ xs ++ rest →
-    ((w : Walk) → P w → each f xs w ≡ Err c) → IsWalkingOn f all left P walk → each f all walk ≡ Err c
-walk_stops f all left xs rest P walk c is step so_far =
-    sym so_far.rest ∙ ap (λ l. each f l so_far.here) is ∙ each_append f xs rest so_far.here ∙ ap (λ (s : Result Walk Corruption). and_then s (each f rest)) (step so_far.here so_far.at)
-
--- an error that is handed on from one of them
-pub walk_fails : {A T : Type 0} (f : A → Walk → Result Walk Corruption) (all left xs rest : List A) (P Q : Walk → Type 0) (walk : Walk) (r : Result T ReadErr) (e : ReadErr) → left ≡ xs ++ rest →
-    IsErrAnd r (λ x. x ≡ e) → ((w : Walk) → P w → IsFoundBy e (λ c. each f xs w ≡ Err c)) → IsWalkingOn f all left P walk → GoesOn (each f all walk) Q r
-walk_fails f all left xs rest P Q walk (Ok v) e is same step so_far = absurd same
-walk_fails f all left xs rest P Q walk (Err x) e is same step so_far = by_error x (λ w p. subst (λ (y : ReadErr). IsFoundBy y (λ c. each f xs w ≡ Err c)) (sym same) (step w p))
-  where
-    by_error : (y : ReadErr) → ((w : Walk) → P w → IsFoundBy y (λ c. each f xs w ≡ Err c)) → IsFoundBy y (λ c. each f all walk ≡ Err c)
-    by_error Memory h = tt
-    by_error IdsEnded h = tt
-    by_error (Found c) h = walk_stops f all left xs rest P walk c is h so_far
-
 -- ---- one node
 
 pub stands : (files : List ℕ) (es : List Placed) (d level : ℕ) (low : Name) (high : Option Name) (at : ℕ) (seen : List ℕ) (n : Node) (b : Bool) → read_image files es d at ≡ Ok n → may_stand level low high seen n ≡ b →
@@ -147,5 +107,3 @@ pub stands : (files : List ℕ) (es : List Placed) (d level : ℕ) (low : Name) 
 stands files es d level low high at seen n b read test =
     ap (λ (r : Result Node Corruption). and_then r (node_standing level low high at seen)) read ∙ ap (λ (t : Bool). cond t (Ok n) (Err (Tree at))) test
 
-pub no_node : (files : List ℕ) (es : List Placed) (d level : ℕ) (low : Name) (high : Option Name) (at : ℕ) (seen : List ℕ) (c : Corruption) → read_image files es d at ≡ Err c → read_here files es d level low high at seen ≡ Err c
-no_node files es d level low high at seen c read = ap (λ (r : Result Node Corruption). and_then r (node_standing level low high at seen)) read
