@@ -1,20 +1,20 @@
 -- Reading the tree below an image.
-use Rattle.std.proofs.Common.{◌≡◌, ℕ, zero, suc, ◌==◌, ◌+◌, ◌-◌, Bool, true, false, cond, List, [], ◌∷◌, ◌++◌, Option, None, Some, Result, Ok, Err, refl, sym, ap, subst, ◌∙◌, arith}
-use Rattle.std.specs.Prelude.{◌&&◌, not, nat_lt, IsErrAnd}
-use Rattle.std.specs.List.{list_any, flat_map}
+use Rattle.std.proofs.Common.{◌≡◌, ℕ, zero, suc, ◌==◌, ◌+◌, Bool, cond, List, ◌∷◌, Option, None, Some, Result, Ok, Err, refl, sym, ap, subst, ◌∙◌, arith}
+use Rattle.std.specs.Prelude.{◌&&◌, not, IsErrAnd}
+use Rattle.std.specs.List.{list_any}
 use Rattle.je_order.specs.declared.name.Name.{Name}
 use Rattle.node_core.specs.declared.slot.Marked.{Marked}
 use Rattle.node_core.specs.declared.node.Node.{Node}
 use Rattle.log_replay.specs.declared.corruption.Corruption.{Corruption}
 use Rattle.log_replay.specs.declared.corruption.Corruption.TheVariants.{Tree}
 use Rattle.log_trees.specs.Placed.{Placed}
-use Rattle.log_trees.specs.Images.{NamedLsn, slot_shown}
+use Rattle.log_trees.specs.Images.{NamedLsn}
 use Rattle.log_trees.specs.Sound.{Child, children, are_within}
-use Rattle.log_trees.specs.Walk.{Walk, and_then, each, met, nowhere, read_image, node_standing, read_here, read_record, read_child, read_node}
+use Rattle.log_trees.specs.Walk.{Walk, and_then, met, read_image, node_standing, read_here, read_node}
 use Rattle.recovery_je.specs.declared.read_err.ReadErr.{ReadErr}
 use Rattle.recovery_je.specs.declared.read_err.ReadErr.TheVariants.{Memory, IdsEnded, Found}
 use Rattle.recovery_je.specs.Recovering.{IsFoundBy}
-use Rattle.recovery_je.specs.Walking.{GoesOn, HasMet, read_below, waiting, low_behind, children_left}
+use Rattle.recovery_je.specs.Walking.{GoesOn, HasMet, read_below}
 
 -- ---- a node
 
@@ -65,3 +65,9 @@ node_fails files es d above low high at walk P (Err x) e is found = by_error x (
     by_error (Found c) h =
         node_parts files es d above low high at walk ∙ ap (λ (s : Result Node Corruption). and_then s (λ m. read_below files es d above low high at m.slots (met m walk))) h
 
+-- ---- children
+
+-- the children that are left: the one that waits, if one does, and those of these slots
+abbrev pub children_left : Name → Option Name → Option ℕ → List NamedLsn → List Child
+children_left low high None slots = children low high slots
+children_left low high (Some at) slots = children low high ((low, at) ∷ slots)

@@ -1,21 +1,13 @@
 -- Reading the trees of a checkpoint's roots.
-use Rattle.std.proofs.Common.{◌≡◌, ℕ, zero, suc, ◌==◌, ◌-◌, Bool, true, false, cond, List, [], Option, None, Result, Ok, Err, refl, sym, ap, subst, ◌∙◌, arith}
-use Rattle.std.specs.Prelude.{nat_lt, IsErrAnd}
+use Rattle.std.proofs.Common.{◌≡◌, ℕ, ◌==◌, List, [], Ok, refl, ap}
 use Rattle.std.specs.List.{list_any}
-use Rattle.je_order.specs.declared.name.Name.{Name}
 use Rattle.record_map.specs.Cells.{value_at}
 use Rattle.record_tree.specs.Stored.{AllStored}
-use Rattle.node_core.specs.declared.node.Node.{Node}
-use Rattle.log_entry.specs.declared.root.Root.{Root}
-use Rattle.log_replay.specs.declared.corruption.Corruption.{Corruption}
 use Rattle.log_trees.specs.Placed.{Placed}
-use Rattle.log_trees.specs.Sound.{least_name}
-use Rattle.log_trees.specs.Walk.{Walk, and_then, nowhere, read_image, read_node, read_level, read_root, read_roots}
+use Rattle.log_trees.specs.Walk.{Walk, read_roots}
 use Rattle.log_meaning.specs.Checkpoint.{Checkpoint}
-use Rattle.recovery_je.specs.declared.read_err.ReadErr.{ReadErr}
-use Rattle.recovery_je.specs.declared.read_err.ReadErr.TheVariants.{Memory, IdsEnded, Found}
-use Rattle.recovery_je.specs.Recovering.{IsFoundBy, IsWalked}
-use Rattle.recovery_je.specs.Walking.{IsWalking, GoesOn, level_read}
+use Rattle.recovery_je.specs.Recovering.{IsWalked}
+use Rattle.recovery_je.specs.Walking.{IsWalking}
 
 -- no tree was read yet
 pub walk_begins : (stored : AllStored) (seen : List ℕ) → ((d : ℕ) → stored d ≡ []) → seen ≡ [] → IsWalking stored seen 0 0 (record { seen = []; rows = [] })

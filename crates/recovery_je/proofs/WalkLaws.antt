@@ -1,13 +1,12 @@
 -- Reading trees.
-use Rattle.std.proofs.Common.{◌≡◌, ℕ, ◌==◌, max, Bool, true, false, cond, List, [], ◌∷◌, ◌++◌, Option, Some, Result, Ok, Err, refl, sym, ap, subst, ◌∙◌, ap₂, arith, is_eq}
-use Rattle.std.specs.Prelude.{◌||◌, IsErrAnd}
+use Rattle.std.proofs.Common.{◌≡◌, ℕ, ◌==◌, max, Bool, true, false, cond, List, [], ◌∷◌, ◌++◌, Option, Some, Result, Ok, Err, refl, sym, ap, ◌∙◌, arith}
+use Rattle.std.specs.Prelude.{◌||◌}
 use Rattle.std.specs.List.{list_any}
 use Rattle.std.specs.BTreeSet.{insert_key}
 use Rattle.std.specs.Ordering.{nat_cmp, match_ordering}
 use Rattle.std.specs.declared.cmp.Ordering.{Ordering}
 use Rattle.std.specs.declared.cmp.Ordering.TheVariants.{Less, Equal, Greater}
 use Rattle.std.proofs.lemmas.Cmp.{ranked}
-use Rattle.std.proofs.lemmas.Bool.Decides.{nat_tests}
 use Rattle.je_order.specs.declared.name.Name.{Name}
 use Rattle.record_map.specs.Cells.{value_at}
 use Rattle.record_tree.specs.Stored.{Stored, AllStored, stored_at, HasStored, AreStoredStill}
@@ -22,7 +21,6 @@ use Rattle.log_trees.specs.Placed.{Placed}
 use Rattle.log_replay.specs.declared.corruption.Corruption.TheVariants.{Tree}
 use Rattle.log_meaning.specs.Meaning.{most, db_given}
 use Rattle.recovery_je.specs.Redoing.{there, named_by}
-use Rattle.recovery_je.specs.Recovering.{IsFoundBy}
 use Rattle.recovery_je.specs.Walking.{IsWalking, GoesOn}
 
 -- ---- the numbers of the nodes that were read, as a set
@@ -106,4 +104,3 @@ pub stands : (files : List ℕ) (es : List Placed) (d level : ℕ) (low : Name) 
     read_here files es d level low high at seen ≡ cond b (Ok n) (Err (Tree at))
 stands files es d level low high at seen n b read test =
     ap (λ (r : Result Node Corruption). and_then r (node_standing level low high at seen)) read ∙ ap (λ (t : Bool). cond t (Ok n) (Err (Tree at))) test
-

@@ -6,7 +6,7 @@ use Rattle.node_core.specs.declared.slot.Marked.{Marked}
 use Rattle.node_core.specs.declared.node.Node.{Node}
 use Rattle.record_tree.specs.Stored.{AllStored}
 use Rattle.log_trees.specs.Placed.{Placed}
-use Rattle.log_trees.specs.Images.{NamedLsn, slot_shown}
+use Rattle.log_trees.specs.Images.{slot_shown}
 use Rattle.log_trees.specs.Sound.{Child, children}
 use Rattle.log_trees.specs.Walk.{Walk, each, met, read_record, read_child, read_node}
 use Rattle.log_meaning.specs.Meaning.{most, db_given}
@@ -52,11 +52,6 @@ waiting low high (Some at) = record { low = low; high = high; at = at } ∷ []
 abbrev pub low_behind : Option ℕ → Name → Name → Name
 low_behind None low name = low
 low_behind (Some at) low name = name
-
--- the children that are left: the one that waits, if one does, and those of these slots
-abbrev pub children_left : Name → Option Name → Option ℕ → List NamedLsn → List Child
-children_left low high None slots = children low high slots
-children_left low high (Some at) slots = children low high ((low, at) ∷ slots)
 
 -- ---- roots
 

@@ -3,8 +3,9 @@ use Rattle.std.specs.List.{flat_map}
 use Rattle.log_trees.specs.Images.{slot_shown}
 use Rattle.log_trees.specs.Sound.{children}
 use Rattle.log_trees.specs.Walk.{Walk, read_child, read_node}
-use Rattle.recovery_je.specs.Walking.{IsWalking, children_left}
+use Rattle.recovery_je.specs.Walking.{IsWalking}
 use Rattle.recovery_je.proofs.WalkLaws.{IsWalkingOn}
+use Rattle.recovery_je.proofs.NodeWalks.{children_left}
 use Rattle.recovery_je.proofs.descending.+descending.Given as goal
 
 abbrev pub decreases-read_node : goal.decreases-read_node

@@ -1,6 +1,4 @@
-use Rattle.std.proofs.Common.{◌∙◌, sym, map, option_copied, Ok}
-use Rattle.node_core.specs.declared.node.Node.{Node}
-use Rattle.log_replay.specs.declared.corruption.Corruption.{Corruption}
+use Rattle.std.proofs.Common.{◌∙◌, sym, map, option_copied}
 use Rattle.log_trees.specs.Walk.{read_here}
 use Rattle.recovery_je.specs.Walking.{IsWalking}
 use Rattle.recovery_je.proofs.NodeWalks.{here_same, not_met}

@@ -1,9 +1,7 @@
-use Rattle.std.proofs.Common.{◌≡◌, ◌∙◌, ap, sym, subst, map, List, [], Result, Ok, Err}
+use Rattle.std.proofs.Common.{◌≡◌, ◌∙◌, ap, sym, map, List, [], Err}
 use Rattle.log_entry.specs.declared.root.Root.{Root}
-use Rattle.log_replay.specs.declared.corruption.Corruption.{Corruption}
 use Rattle.log_trees.specs.Walk.{Walk, each, read_root, read_roots}
 use Rattle.log_meaning.specs.Checkpoint.{Checkpoint}
-use Rattle.recovery_je.specs.Recovering.{IsWalked}
 use Rattle.recovery_je.proofs.MeaningLaws.{handed_on}
 use Rattle.recovery_je.proofs.RootWalks.{walk_begins, walk_ends}
 use Rattle.recovery_je.proofs.roots.read_roots.Goals as goal
