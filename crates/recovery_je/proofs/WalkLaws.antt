@@ -8,7 +8,7 @@ use Rattle.record_tree.specs.Stored.{Stored, AllStored, stored_at, HasStored, Ar
 use Rattle.node_core.specs.declared.node.Node.{Node}
 use Rattle.log_replay.specs.declared.corruption.Corruption.{Corruption}
 use Rattle.recovery_je.specs.declared.read_err.ReadErr.{ReadErr}
-use Rattle.recovery_je.specs.declared.read_err.ReadErr.TheVariants.{Memory, IdsEnded, Found}
+use Rattle.recovery_je.specs.declared.read_err.ReadErr.TheVariants.{Memory, Found}
 use Rattle.log_trees.specs.Changes.{Written, unwritten, LoggedChange, is_of, last_of}
 use Rattle.log_trees.proofs.Rooted.{last_of-append}
 use Rattle.log_trees.specs.Walk.{Walk, and_then, each, met, with_record, read_image, may_stand, node_standing, read_here}
@@ -80,7 +80,6 @@ each_append f (x ∷ a) b walk = by_first (λ w. each_append f a b w) (f x walk)
 pub one_goes_on : {A B : Type 0} (f : A → Walk → Result Walk Corruption) (x : A) (walk : Walk) (P : Walk → Type 0) (r : Result B ReadErr) → GoesOn (f x walk) P r → GoesOn (each f (x ∷ []) walk) P r
 one_goes_on f x walk P (Ok v) is = (is.0, ap (λ (s : Result Walk Corruption). and_then s (each f [])) is.1, is.2)
 one_goes_on f x walk P (Err Memory) is = tt
-one_goes_on f x walk P (Err IdsEnded) is = tt
 one_goes_on f x walk P (Err (Found c)) is = ap (λ (s : Result Walk Corruption). and_then s (each f [])) is
 
 -- some were read, and these are left
@@ -111,7 +110,6 @@ walk_fails f all left xs rest P Q walk (Err x) e is same step so_far = by_error 
   where
     by_error : (y : ReadErr) → ((w : Walk) → P w → IsFoundBy y (λ c. each f xs w ≡ Err c)) → IsFoundBy y (λ c. each f all walk ≡ Err c)
     by_error Memory h = tt
-    by_error IdsEnded h = tt
     by_error (Found c) h = walk_stops f all left xs rest P walk c is h so_far
 
 -- ---- one node
