@@ -17,7 +17,7 @@ use Rattle.je_answers.specs.After.Fate.{Succeeds, IsRefused, Faults}
 use Rattle.je_answers.specs.Journal.{changes_evaluated, changes_in, changes_of, changes_performed, changes_taken, tried}
 use Rattle.je_answers.specs.Alone.{Alone, IsAutoCommitted, alone}
 use Rattle.je_answers.proofs.Unlocked.{none_own, none_stopped}
-use Rattle.engine.specs.Planning.{outcome_alone, outcome_on, performed_outcome}
+use Rattle.txn_core.specs.Planning.{outcome_alone, outcome_on, performed_outcome}
 
 -- only a fault refuses such a call early
 never_inside : (call : Call) → IsAutoCommitted call → txn_refusal call None ≡ None

@@ -9,7 +9,7 @@ use Rattle.je_answers.specs.Standing.{Standing}
 use Rattle.je_answers.specs.After.{after_event, after_events}
 use Rattle.je_answers.specs.Journal.{answers_some, attempt_of, attempts_of, durable_by, has_answer, is_disk_fault}
 use Rattle.je_answers.proofs.Journals.{after_events-append}
-use Rattle.log_file.specs.Log.{Log, AreFiles, entries_of, files_of_log}
+use Rattle.log_file.specs.Log.{Log, AreFiles, files_of_log}
 use Rattle.log_file.proofs.FilesLaws.{are_encoded_files, logs_are_found, encoded_files}
 use Rattle.log_buffer.specs.declared.buffer.LogBuffer.{LogBuffer}
 use Rattle.log_buffer.specs.Buffer.{disk_of, first_of, has_failed, IsUnchanged}
@@ -17,7 +17,8 @@ use Rattle.log_buffer.specs.Crash.{Holds, KeepsRead, KeptThrough}
 use Rattle.log_buffer.specs.Log.{HasLog}
 use Rattle.log_buffer.proofs.BufferLog.{log_kept}
 use Rattle.log_buffer.proofs.Prefixes.{observed_prefixes}
-use Rattle.crash_meaning.specs.Recovery.{Recovers, commits_in}
+use Rattle.log_trees.specs.Placed.{placed}
+use Rattle.log_meaning.specs.Recovery.{commits_in}
 use Rattle.engine.specs.Guarded.{IsKeeping, IsGuardedLog}
 use Rattle.engine.proofs.SafeLaws.{guarded_on, attempts-push}
 
@@ -41,7 +42,6 @@ module _ {D : Type 0} where
       IsKeeping (state_of (disk_of old)) old log least begun → IsKeeping (state_of (disk_of new)) new log least begun
   keeping_unchanged state_of old new log least begun same keeping = record {
     has = subst (λ (d : D). HasLog true (state_of d) new log) (sym same.disk) (log_kept true (state_of (disk_of old)) old new log same.kept keeping.has);
-    whole = keeping.whole;
     holds = subst (λ (d : D). Holds log [] least begun (first_of new) (state_of d)) (sym same.disk)
         (subst (λ (n : ℕ). Holds log [] least begun n (state_of (disk_of old))) (sym same.kept.first) keeping.holds);
   }
@@ -57,7 +57,7 @@ module _ {D : Type 0} where
   pub guarded_same : (st : Standing) (log : Log) (start : History) (old new : History) (buffer longer : LogBuffer D) (journal : List Event) (event : Event) (before begun : Option ℕ) (least : ℕ) →
       (g : IsGuardedLog st log start old buffer journal before) → attempt_of (after_events st journal) event ≡ [] →
       KeptThrough old new log [] g.least → g.least ≤ least → KeepsRead log [] least (now new) →
-      durable_by event ≤ commits_in g.base least (entries_of log) →
+      durable_by event ≤ commits_in g.base least (placed log) →
       ((after_event (after_events st journal) event).fault ≡ None → IsKeeping (now new) longer log least begun) →
       (has_failed longer ≡ false → (after_event (after_events st journal) event).fault ≡ None) →
       ((after_event (after_events st journal) event).fault ≡ None → ((after_events st journal).fault ≡ None) × (answers_some is_disk_fault event ≡ false)) →
@@ -65,13 +65,13 @@ module _ {D : Type 0} where
       IsGuardedLog st log start new longer (journal ++ event ∷ []) begun
   guarded_same st log start old new buffer longer journal event before begun least g none through rises keeps durable works stops quiet still =
       let all : List Event = journal ++ event ∷ [] in
-      let attempts : attempts_of st all ≡ attempts_of st journal =
-      attempts-push st journal event ∙ ap (λ (l : List (List Change)). attempts_of st journal ++ l) none ∙ append-nil (attempts_of st journal) in
+      let attempts : attempts_of st all ≡ g.kept.logged ++ g.kept.cut =
+      attempts-push st journal event ∙ ap (λ (l : List (List Change)). attempts_of st journal ++ l) none ∙ append-nil (attempts_of st journal) ∙ g.kept.attempts in
       let stands : after_events st all ≡ after_event (after_events st journal) event = after_events-append st journal (event ∷ []) in
-      guarded_on st log log start old new buffer longer journal event before begun least g g.kept.gap
-      (subst (λ (t : List (List Change)). Recovers st.store g.base t (entries_of log)) (sym attempts) g.kept.recovers)
+      guarded_on st log log start old new buffer longer journal event before begun least g.kept.logged g.kept.cut g g.kept.recovers attempts
       through g.kept.synced rises keeps durable
       (λ fault. works (subst (λ (s : Standing). s.fault ≡ None) stands fault))
+      (λ fault. g.all (quiet (subst (λ (s : Standing). s.fault ≡ None) stands fault)).0)
       (λ ok. subst (λ (s : Standing). s.fault ≡ None) (sym stands) (stops ok))
       (λ fault. quiet (subst (λ (s : Standing). s.fault ≡ None) stands fault))
       still

@@ -30,18 +30,26 @@ pub mod ChangeLaws
 pub mod ShapeLaws
 -- What a call attempts to commit.
 pub mod AttemptLaws
+-- Where a call leaves the model that is to log changes.
+pub mod CallFates
 -- Entries that are appended, and records that are changed, one after another.
 pub mod WriteLaws
 -- One step of an environment, beside the model's.
 pub mod StepLaws
+-- Where an environment stands after a sync, and after a fault of the disk.
+pub mod SyncedStanding
 -- A run whose disk was safe so far, one event later.
 pub mod SafeLaws
 -- A guarded run goes on by one event.
 pub mod GuardLaws
 -- A guarded run goes on by a sync.
 pub mod SyncLaws
+-- A guarded run goes on by a call.
+pub mod GuardedCalls
 -- A call goes on as the model does, and a guarded run by it.
 pub mod CallLaws
+-- A guarded run of an engine as one value.
+pub mod GuardedEngine
 -- A guarded run that was closed, and one that begins.
 pub mod ClosedLaws
 -- The numbers of databases, by name.
@@ -60,3 +68,11 @@ pub mod UntouchedLaws
 pub mod EntryLaws
 -- An engine as one value, from its parts.
 pub mod WholeLaws
+-- What planned changes leave of an environment's records.
+pub mod PlannedRows
+-- Which databases the catalog names then.
+pub mod PlannedNumbers
+-- What calls plan.
+pub mod PlannedCalls
+-- A log that is longer by a transaction.
+pub mod TransactionGrowth

@@ -42,8 +42,9 @@ use Rattle.txn_core.specs.Known.{committed}
 use Rattle.engine.specs.declared.engine.Engine.{Engine}
 use Rattle.engine.specs.declared.kept.Kept.{Kept}
 use Rattle.engine.specs.Contents.{Contents}
+use Rattle.engine.specs.Files.{end_file_in}
 use Rattle.engine.specs.Environment.{AreAlone, GivesRecords}
-use Rattle.engine.specs.Limits.{last_number, numbers_for}
+use Rattle.engine.specs.Limits.{Reach, last_number, numbers_for}
 use Rattle.engine.specs.Opening.{AreNumbers, HasBegun, HasNoNumbers, StartsAt, WasRead, log_start_of, meaning_read, node_bound}
 use Rattle.engine.specs.Whole.{AreTrees, IsAt, IsOpened, IsOpenedAt, IsOpenedSafely, contents_of}
 use Rattle.engine.proofs.ClosedLaws.{guarded_none}
@@ -331,12 +332,15 @@ module _ {D : Type 0} where
   opened_here : (most : ℕ) (observable : Bool) (reads : Files) (state : State) (r : Recovered Trees) (w : WasRead observable reads r) (bound : ℕ) (engine : Engine D) →
       IsBeginning most observable reads state r w bound engine → IsOpenedAt most observable reads state engine r.opening (alone (start_alone r (committed (cells_of engine.trees))))
   unfolding starts_opened
-  opened_here most observable reads state r w bound engine is = record {
-    starts = starts_opened most observable reads state r w bound engine is;
-    here = at_start most observable reads state r w bound engine is;
-    ends = ap (λ (end : LogPos). end.file) is.ready.end ∙ starts_in w.held r.tail w.is.tail_is;
-    nodes = ap (λ (k : Kept). k.last_node) is.begun.kept ∙ bound_held observable reads r w bound is.bound_is;
-  }
+  opened_here most observable reads state r w bound engine is =
+      let reach : ℕ → ℕ → Reach = λ file node. record { file = file; node = node } in
+      record {
+        starts = starts_opened most observable reads state r w bound engine is;
+        here = at_start most observable reads state r w bound engine is;
+        reach =
+            ap (λ (n : ℕ). reach n engine.kept.last_node) (ap (λ (end : LogPos). end.file) is.ready.end ∙ starts_in w.held r.tail w.is.tail_is)
+            ∙ ap (reach (end_file_in w.held)) (ap (λ (k : Kept). k.last_node) is.begun.kept ∙ bound_held observable reads r w bound is.bound_is);
+      }
 
   opened : (most : ℕ) (observable : Bool) (reads : Files) (state : State) (r : Recovered Trees) (w : WasRead observable reads r) (bound : ℕ) (engine : Engine D) →
       IsBeginning most observable reads state r w bound engine → IsOpened most observable reads state engine r.opening
@@ -353,8 +357,7 @@ module _ {D : Type 0} where
         st = alone p;
         starts = here.starts;
         here = here.here;
-        ends = here.ends;
-        nodes = here.nodes;
+        reach = here.reach;
         stable = stable;
         guarded = (found_log 0 w.held, guarded_none (first_of_found 0 w.held) p (found_log 0 w.held) history engine.trees.log refl refl is.ready.has holds (opened_log true reads r w).recovers);
       }

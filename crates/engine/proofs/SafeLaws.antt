@@ -1,57 +1,44 @@
 -- A run whose disk was safe so far, one event later.
-use Rattle.std.proofs.Common.{◌≡◌, ℕ, ◌<◌, ◌≤◌, ◌||◌, Bool, max, true, false, List, [], ◌∷◌, ◌++◌, None, Option, refl, ap, sym, ◌∙◌, subst, arith, append_assoc, ◌⊎◌, inl, inr}
+use Rattle.std.proofs.Common.{◌≡◌, ℕ, ◌<◌, ◌≤◌, ◌||◌, Bool, max, true, false, List, [], ◌∷◌, ◌++◌, None, Option, length, refl, ap, sym, ◌∙◌, subst, arith, append_assoc, ◌⊎◌, inl, inr}
 use Rattle.std.proofs.lemmas.Bool.{cases_lt}
-use Rattle.std.proofs.lemmas.List.{append-nil}
-use Rattle.je_disk.specs.States.{Files, State}
-use Rattle.je_disk.specs.Images.{AreFileImages}
+use Rattle.std.proofs.lemmas.List.{append-nil, length-map}
+use Rattle.je_disk.specs.States.{State}
 use Rattle.je_disk.specs.Moments.{History, Passes, now}
 use Rattle.je_disk.proofs.MomentLaws.{passes_then, passes_weaken}
 use Rattle.store_model.specs.declared.change.Change.{Change}
 use Rattle.store_model.specs.declared.answer.Answer.{Answer}
 use Rattle.store_model.specs.declared.event.Event.{Event}
-use Rattle.store_model.specs.declared.store.Store.{Store}
 use Rattle.je_answers.specs.After.{after_event, after_events}
 use Rattle.je_answers.specs.Standing.{Standing}
 use Rattle.je_answers.specs.Journal.{answers_some, attempt_of, attempts_of, durable_by, has_answer, is_disk_fault, synced_of}
+use Rattle.log_entry.specs.declared.entry.Entry.{Entry}
 use Rattle.log_file.specs.Log.{Log, entries_of}
+use Rattle.log_file.proofs.PlacedLaws.{placed_are_entries}
 use Rattle.log_buffer.specs.declared.buffer.LogBuffer.{LogBuffer}
 use Rattle.log_buffer.specs.Buffer.{has_failed}
-use Rattle.log_buffer.specs.Chance.{NoChanceMatch}
 use Rattle.log_buffer.specs.Crash.{FilesStay, IsKeptSince, KeepsRead, KeptThrough}
-use Rattle.log_buffer.proofs.ChanceMatches.{reads_have_no_chance}
-use Rattle.log_buffer.proofs.CrashImages.{kept_is_left}
-use Rattle.log_buffer.proofs.CrashSync.{count_kept}
 use Rattle.log_buffer.proofs.Staying.{stay_then}
-use Rattle.crash_meaning.specs.Reading.{HasNoGap}
-use Rattle.crash_meaning.specs.Recovery.{Recovers, IsRecovered, commits_in}
-use Rattle.crash_meaning.proofs.RecoveryLaws.{images_recover, commits_rise}
+use Rattle.log_trees.specs.Placed.{Placed, placed}
+use Rattle.log_meaning.specs.Recovery.{commits_in}
+use Rattle.log_meaning.proofs.Leaving.{commits_rise}
+use Rattle.crash_recovery.specs.Recovery.{RecoversLog, IsStateRecovered}
+use Rattle.crash_recovery.proofs.Commits.{kept_are_within}
+use Rattle.crash_recovery.proofs.ImageStores.{states_recover, wider_is_recovered}
 use Rattle.engine.specs.Crash.{Follows, IsSafe, IsSafeEvent, AreSafeEvents, IsSafeBehind}
 use Rattle.engine.specs.Guarded.{IsKeeping, IsGuardedLog}
 
 -- ---- images
 
-recovered_less : (opening : Store) (n m : ℕ) (transactions : List (List Change)) (image : Files) → n ≤ m → IsRecovered opening m transactions image → IsRecovered opening n transactions image
-recovered_less opening n m transactions image le is = record {
-  held = is.held;
-  are = is.are;
-  meaning = is.meaning;
-  reads = is.reads;
-  count = is.count;
-  at_least = let more : m ≤ is.count = is.at_least in omega arith;
-  within = is.within;
-  store = is.store;
-}
-
--- a disk that keeps the log of these events is safe
-pub safe : (st : Standing) (base : ℕ) (log : Log) (least : ℕ) (over under_way all : List Event) (state : State) → all ≡ over ++ under_way → base ≤ least →
-    HasNoGap log → Recovers st.store base (attempts_of st all) (entries_of log) →
-    synced_of over ≤ commits_in base least (entries_of log) → KeepsRead log [] least state → IsSafe st over under_way state
-safe st base log least over under_way all state parts from gap recovers synced keeps = record { read = mean state.reads keeps.read (reads_have_no_chance state.reads); images = λ image is chance. mean image is.files chance } where
-  mean : (image : Files) → AreFileImages state.crash_states image → NoChanceMatch state.reads image → IsRecovered st.store (synced_of over) (attempts_of st (over ++ under_way)) image
-  mean image is chance = subst (λ (l : List Event). IsRecovered st.store (synced_of over) (attempts_of st l) image) parts
-      (recovered_less st.store (synced_of over) (commits_in base least (entries_of log)) (attempts_of st all) image synced
-      (images_recover st.store base least (attempts_of st all) log image gap recovers from
-      (kept_is_left log [] least state image gap.is_log keeps.keeps keeps.prefixes is chance)))
+-- a disk that keeps the log of these events is safe; one that was cut short may not be in the log
+pub safe : (st : Standing) (first base : ℕ) (log : Log) (least : ℕ) (logged cut : List (List Change)) (over under_way all : List Event) (state : State) → all ≡ over ++ under_way → base ≤ least →
+    RecoversLog first st.store base logged log → attempts_of st all ≡ logged ++ cut →
+    synced_of over ≤ commits_in base least (placed log) → KeepsRead log [] least state → IsSafe st over under_way state
+safe st first base log least logged cut over under_way all state parts from recovers attempts synced keeps =
+    let wide : IsStateRecovered st.store (synced_of over) (logged ++ cut) state =
+    wider_is_recovered st.store (commits_in base least (placed log)) (synced_of over) logged cut state (states_recover first st.store base least logged log state recovers from keeps) synced in
+    let there : IsStateRecovered st.store (synced_of over) (attempts_of st (over ++ under_way)) state =
+    subst (λ (t : List (List Change)). IsStateRecovered st.store (synced_of over) t state) (sym attempts ∙ ap (attempts_of st) parts) wide in
+    record { read = there.read; images = λ image is chance. there.images image is.files chance }
 
 -- ---- time goes on
 
@@ -154,41 +141,55 @@ none-push test (first ∷ journal) event none one = by_first (answers_some test 
   by_first true h rest = absurd cc
   by_first false h rest = rest h
 
+-- ---- entries
+
+-- a log has as many entries, whether one looks at their places or not
+pub as_many : (log : Log) → length (entries_of log) ≡ length (placed log)
+as_many log = ap (λ (l : List Entry). length l) (sym (placed_are_entries log)) ∙ length-map (placed log) (λ (p : Placed). p.1)
+
+-- a crash keeps no more entries than a log has
+pub kept_within : (log : Log) (least : ℕ) (state : State) → KeepsRead log [] least state → least ≤ length (placed log)
+kept_within log least state keeps = let low = kept_are_within log [] least state.crash_states keeps.keeps in omega (arith, low, as_many log)
+
 -- ---- a run that goes on
 
 module _ {D : Type 0} where
   -- a run with an event more, through whose moments a crash keeps as much of the log with the event, and maybe more behind them
-  pub guarded_on : (st : Standing) (log grown : Log) (start : History) (old new : History) (buffer longer : LogBuffer D) (journal : List Event) (event : Event) (before begun : Option ℕ) (least : ℕ) →
+  pub guarded_on : (st : Standing) (log grown : Log) (start : History) (old new : History) (buffer longer : LogBuffer D) (journal : List Event) (event : Event) (before begun : Option ℕ) (least : ℕ)
+      (logged cut : List (List Change)) →
       (g : IsGuardedLog st log start old buffer journal before) →
-      HasNoGap grown →
-      Recovers st.store g.base (attempts_of st (journal ++ event ∷ [])) (entries_of grown) →
+      RecoversLog g.kept.first st.store g.base logged grown →
+      attempts_of st (journal ++ event ∷ []) ≡ logged ++ cut →
       KeptThrough old new grown [] g.least →
-      synced_of journal ≤ commits_in g.base g.least (entries_of grown) →
+      synced_of journal ≤ commits_in g.base g.least (placed grown) →
       g.least ≤ least → KeepsRead grown [] least (now new) →
-      durable_by event ≤ commits_in g.base least (entries_of grown) →
+      durable_by event ≤ commits_in g.base least (placed grown) →
       ((after_events st (journal ++ event ∷ [])).fault ≡ None → IsKeeping (now new) longer grown least begun) →
+      ((after_events st (journal ++ event ∷ [])).fault ≡ None → cut ≡ []) →
       (has_failed longer ≡ false → (after_events st (journal ++ event ∷ [])).fault ≡ None) →
       ((after_events st (journal ++ event ∷ [])).fault ≡ None → ((after_events st journal).fault ≡ None) × (answers_some is_disk_fault event ≡ false)) →
       (has_answer is_disk_fault journal ≡ true → new.moment ≤ old.moment) →
       IsGuardedLog st grown start new longer (journal ++ event ∷ []) begun
-  guarded_on st log grown start old new buffer longer journal event before begun least g gap recovers through synced rises keeps durable works stops quiet still =
+  guarded_on st log grown start old new buffer longer journal event before begun least logged cut g recovers attempts through synced rises keeps durable works whole stops quiet still =
       let all : List Event = journal ++ event ∷ [] in
+      let first : ℕ = g.kept.first in
       let from : g.base ≤ g.least = g.kept.from in
       let from_now : g.base ≤ least = omega (arith, from, rises) in
-      let more = commits_rise g.base g.least least (entries_of grown) from rises (count_kept grown [] least (now new).crash_states keeps.keeps) in
-      let synced_now : synced_of all ≤ commits_in g.base least (entries_of grown) = omega (arith, synced-push journal event, synced, more, durable) in
+      let more = commits_rise g.base g.least least (placed grown) from rises (kept_within grown least (now new) keeps) in
+      let synced_now : synced_of all ≤ commits_in g.base least (placed grown) = omega (arith, synced-push journal event, synced, more, durable) in
       record {
         since = goes_on start old new (IsKeptSince grown [] g.least (now old).reads) g.since through;
         begins = g.begins;
         events = one_more st old new (IsKeptSince grown [] g.least (now old).reads) start.moment [] journal event through g.events
-            (λ k lo hi. safe st g.base grown g.least journal (event ∷ []) all (new.state_at k) refl from gap recovers synced (through.each k lo hi).kept)
-            (safe st g.base grown least all [] all (now new) (sym (append-nil all)) from_now gap recovers synced_now keeps)
+            (λ k lo hi. safe st first g.base grown g.least logged cut journal (event ∷ []) all (new.state_at k) refl from recovers attempts synced (through.each k lo hi).kept)
+            (safe st first g.base grown least logged cut all [] all (now new) (sym (append-nil all)) from_now recovers attempts synced_now keeps)
             still;
         none_before = g.none_before;
         base = g.base;
         least = least;
-        kept = record { from = from_now; gap = gap; recovers = recovers; synced = synced_now; keeps = keeps };
+        kept = record { from = from_now; first = first; logged = logged; cut = cut; attempts = attempts; recovers = recovers; synced = synced_now; keeps = keeps };
         works = works;
+        all = whole;
         stops = stops;
         faultless = λ fault. let before_it = quiet fault in none-push is_disk_fault journal event (g.faultless before_it.0) before_it.1;
         files = files_on grown g.least start old new g.since.later g.files through;

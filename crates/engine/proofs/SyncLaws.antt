@@ -1,7 +1,7 @@
 -- A guarded run goes on by a sync.
 use Rattle.std.proofs.Common.{◌≡◌, ℕ, ◌+◌, ◌<◌, ◌≤◌, ◌⊎◌, inl, inr, true, List, [], ◌∷◌, ◌++◌, Option, Some, None, length, option_to_list, refl, ap, sym, ◌∙◌, subst, arith}
 use Rattle.std.proofs.lemmas.Bool.{cases_order}
-use Rattle.std.proofs.lemmas.List.{length-append}
+use Rattle.std.proofs.lemmas.List.{append-nil, length-append}
 use Rattle.je_disk.specs.States.{State}
 use Rattle.je_disk.specs.Moments.{History, Passes, now}
 use Rattle.store_model.specs.declared.answer.Answer.TheVariants.{Done, Durable, DiskFault}
@@ -16,8 +16,8 @@ use Rattle.log_file.specs.Log.{Log, entries_of}
 use Rattle.log_buffer.specs.declared.buffer.LogBuffer.{LogBuffer}
 use Rattle.log_buffer.specs.Buffer.{has_failed}
 use Rattle.log_buffer.specs.Crash.{KeepsRead, KeptThrough}
-use Rattle.log_buffer.proofs.CrashSync.{count_kept}
 use Rattle.log_buffer.proofs.Staying.{read_through}
+use Rattle.crash_recovery.proofs.Commits.{all_are_committed, kept_are_within}
 use Rattle.engine.specs.Guarded.{IsKeeping, IsGuardedLog}
 use Rattle.engine.proofs.GuardLaws.{goes_freely, guarded_same, keeping_read}
 
@@ -67,9 +67,11 @@ module _ {D : Type 0} where
       IsGuardedLog st log start new longer (journal ++ SyncEnd (Durable commits) ∷ []) None
   ended_safely st log start commits old new buffer longer journal none count g through keeping =
       let few = commits_attempted st journal g.none_before in
-      let all = g.kept.recovers.all in
+      let all : length (attempts_of st journal) ≡ length g.kept.logged =
+      ap (λ (l : List (List Change)). length l) (g.kept.attempts ∙ ap (λ (l : List (List Change)). g.kept.logged ++ l) (g.all none) ∙ append-nil g.kept.logged) in
+      let committed = (all_are_committed g.kept.first st.store g.base g.kept.logged log g.kept.recovers).1 in
       guarded_same st log start old new buffer longer journal (SyncEnd (Durable commits)) (Some (length (entries_of log))) None (length (entries_of log)) g refl through
-      (count_kept log [] g.least (now old).crash_states g.kept.keeps.keeps) (keeping_read (now new) longer log (length (entries_of log)) None keeping) (omega (arith, few, all, count))
+      (kept_are_within log [] g.least (now old).crash_states g.kept.keeps.keeps) (keeping_read (now new) longer log (length (entries_of log)) None keeping) (omega (arith, few, all, committed, count))
       (λ fault. keeping) (λ ok. none) (λ fault. (none, refl)) (goes_freely st log start old new buffer journal (Some (length (entries_of log))) g none)
 
   -- the disk failed as it ended

@@ -1,39 +1,35 @@
 -- An engine as one value, from its parts.
 use Rattle.std.proofs.Common.{◌≡◌, ◌↔◌, ℕ, ◌∙◌, Bool, true, false, None, Result, Ok, Err, IsErrOf, refl, ap, sym, subst}
-use Rattle.je_disk.specs.States.{Files, State}
-use Rattle.je_disk.specs.Moments.{History}
-use Rattle.store_model.specs.declared.store.Store.{Store}
+use Rattle.je_disk.specs.States.{State}
 use Rattle.je_answers.specs.Standing.{Standing}
 use Rattle.log_buffer.specs.declared.buffer.LogBuffer.{LogBuffer}
 use Rattle.log_buffer.specs.declared.error.LogErr.{LogErr}
 use Rattle.log_buffer.specs.declared.error.LogErr.TheVariants.{Fault}
 use Rattle.log_buffer.specs.Buffer.{has_failed}
+use Rattle.txn_core.specs.Totals.{totals_of}
 use Rattle.engine.specs.declared.engine.Engine.{Engine}
-use Rattle.engine.specs.declared.kept.Kept.{Kept}
+use Rattle.engine.specs.Contents.{Contents}
 use Rattle.engine.specs.Environment.{AreAt, IsValid}
-use Rattle.engine.specs.Guarded.{HasOpenedSafely}
-use Rattle.engine.specs.Opening.{HasOpened}
-use Rattle.engine.specs.Totals.{totals_of}
-use Rattle.engine.specs.Whole.{IsAt, IsOpened, IsOpenedSafely}
+use Rattle.engine.specs.Whole.{IsAt}
 
 module _ {D : Type 0} where
   -- an environment that met no fault is valid
-  pub valid_at : (most : ℕ) (observable : Bool) (state : State) (buffer : LogBuffer D) (kept : Kept) (st : Standing) → AreAt most observable state buffer kept st → st.fault ≡ None →
-      IsValid observable state buffer kept st.store
-  valid_at most observable state buffer kept st here none =
-      subst (λ (s : Standing). IsValid observable state buffer kept s.store) (sym here.st_is) (here.here.valid (sym (ap (λ (s : Standing). s.fault) here.st_is) ∙ none))
+  pub valid_at : (most : ℕ) (observable : Bool) (state : State) (buffer : LogBuffer D) (c : Contents) (st : Standing) → AreAt most observable state buffer c st → st.fault ≡ None →
+      IsValid observable state buffer c st.store
+  valid_at most observable state buffer c st here none =
+      subst (λ (s : Standing). IsValid observable state buffer c s.store) (sym here.st_is) (here.here.valid (sym (ap (λ (s : Standing). s.fault) here.st_is) ∙ none))
 
   -- the totals that are kept are those of the store
-  pub totals_are : (most : ℕ) (observable : Bool) (state : State) (buffer : LogBuffer D) (kept : Kept) (st : Standing) → AreAt most observable state buffer kept st → kept.totals ≡ totals_of st.store
-  totals_are most observable state buffer kept st here = here.here.totals ∙ sym (ap (λ (s : Standing). totals_of s.store) here.st_is)
-
-  -- the log buffer of a valid engine works
-  pub works_at : (most : ℕ) (observable : Bool) (state : State) (engine : Engine D) (st : Standing) → IsAt most observable state engine st → st.fault ≡ None → has_failed engine.log ≡ false
-  works_at most observable state engine st here none = (valid_at most observable state engine.log engine.kept st here none).at_end.works
+  pub totals_are : (most : ℕ) (observable : Bool) (state : State) (buffer : LogBuffer D) (c : Contents) (st : Standing) → AreAt most observable state buffer c st → c.totals ≡ totals_of st.store
+  totals_are most observable state buffer c st here = here.here.totals ∙ sym (ap (λ (s : Standing). totals_of s.store) here.st_is)
 
   -- the commits are counted
-  pub commits_at : (most : ℕ) (observable : Bool) (state : State) (buffer : LogBuffer D) (kept : Kept) (st : Standing) → AreAt most observable state buffer kept st → kept.commits ≡ st.commits
-  commits_at most observable state buffer kept st here = here.here.commits ∙ sym (ap (λ (s : Standing). s.commits) here.st_is)
+  pub commits_at : (most : ℕ) (observable : Bool) (state : State) (buffer : LogBuffer D) (c : Contents) (st : Standing) → AreAt most observable state buffer c st → c.commits ≡ st.commits
+  commits_at most observable state buffer c st here = here.here.commits ∙ sym (ap (λ (s : Standing). s.commits) here.st_is)
+
+  -- the log buffer of a valid engine works
+  pub works_at : (most : ℕ) (observable : Bool) (state : State) (engine : Engine D) (st : Standing) → IsAt most observable state engine st → st.fault ≡ None → has_failed engine.trees.log ≡ false
+  works_at most observable state engine st here none = (valid_at most observable state engine.trees.log _ st here.at none).works
 
   -- a buffer works on after a call that met no fault
   pub still_works : {T : Type 0} (r : Result T LogErr) (x : T) (buffer : LogBuffer D) → r ≡ Ok x → (has_failed buffer ≡ true ↔ IsErrOf r Fault) → has_failed buffer ≡ false
@@ -42,19 +38,3 @@ module _ {D : Type 0} where
       by_failed : (b : Bool) → (b ≡ true ↔ IsErrOf r Fault) → b ≡ false
       by_failed true h = (let e : Ok x ≡ Err Fault = sym is ∙ h.0 refl in cc)
       by_failed false h = refl
-
-  -- what was opened
-  pub opened_as_one : (most : ℕ) (observable : Bool) (files : Files) (state : State) (engine : Engine D) (opening : Store) → HasOpened most observable files state engine.log opening engine.kept →
-      IsOpened most observable files state engine opening
-  opened_as_one most observable files state engine opening opened = (opened.0, record { starts = opened.1.starts; here = opened.1.here; ends = opened.1.ends })
-
-  pub opened_safely_as_one : (most : ℕ) (files : Files) (opening : Store) (history : History) (engine : Engine D) → HasOpenedSafely most files opening history engine.log engine.kept →
-      IsOpenedSafely most files opening history engine
-  opened_safely_as_one most files opening history engine opened = record {
-    st = opened.st;
-    starts = opened.opened.starts;
-    here = opened.opened.here;
-    ends = opened.opened.ends;
-    stable = opened.stable;
-    guarded = (opened.log, opened.guarded);
-  }

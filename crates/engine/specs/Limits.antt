@@ -1,5 +1,5 @@
 -- When the log may have no room, and when no number of a node may be left.
-use Rattle.std.specs.Prelude.{ℕ, ◌≡◌, ◌<◌, ◌+◌, ◌*◌, ◌⊎◌, List, [], ◌∷◌, Option, None, Some, Bool, true, false, nat_lt, if◌then◌else◌, length, map}
+use Rattle.std.specs.Prelude.{ℕ, ◌≡◌, ◌<◌, ◌≤◌, ◌+◌, ◌*◌, ◌⊎◌, List, [], ◌∷◌, Option, None, Some, Bool, true, false, nat_lt, if◌then◌else◌, length, map}
 use Rattle.je_lsn.specs.Naming.{last_file}
 use Rattle.store_model.specs.declared.answer.Answer.{Answer}
 use Rattle.store_model.specs.declared.answer.Answer.TheVariants.{LogFull, IdsEnded}
@@ -29,20 +29,33 @@ numbers_for changes = changes * 66
 abbrev pub last_number : ℕ
 last_number = 0x7fffffffffffffff
 
--- The limit that changes meet, where the log ends in this file and no node's number is above this one: none; or no room, where so many entries may
--- pass the last file; or no number, where so many may pass the last one.
-abbrev pub IsBounded : ℕ → ℕ → List Change → Option Answer → Type 0
-IsBounded file node changes limit =
-    (limit ≡ None)
-    ⊎ ((limit ≡ Some LogFull) × (last_file < file + most_logged changes))
-    ⊎ ((limit ≡ Some IdsEnded) × (last_number < node + numbers_for (most_changed changes)))
+-- how far a log and its trees reach: the file in which the log ends, and a number that no node's is above
+pub record Reach : Type 0 where
+  pub file : ℕ
+  pub node : ℕ
 
--- the limits of events, one after another, where the log ends in this file before them and no node's number is above this one
-abbrev pub AreBounded : ℕ → ℕ → Standing → List Event → List (Option Answer) → Type 0
-AreBounded file node st (event ∷ events) (limit ∷ limits) =
-    IsBounded file node (changes_by st event) limit
-    × AreBounded (file + most_logged (changes_by st event)) (node + numbers_for (most_changed (changes_by st event))) (after_event st event) events limits
-AreBounded file node st events limits = Unit {0}
+-- how far they may reach after changes
+abbrev pub reach_after : Reach → List Change → Reach
+reach_after reach changes = record { file = reach.file + most_logged changes; node = reach.node + numbers_for (most_changed changes) }
+
+-- one reaches no farther than another
+pub record IsWithin (reach other : Reach) : Type 0 where
+  pub file : reach.file ≤ other.file
+  pub node : reach.node ≤ other.node
+
+-- The limit that changes meet, where a log and its trees reach so far: none; or no room, where their entries may pass the last file, were each in a
+-- file of its own; or no number, where those that they may allocate pass the last one.
+abbrev pub IsBounded : Reach → List Change → Option Answer → Type 0
+IsBounded reach changes limit =
+    (limit ≡ None)
+    ⊎ ((limit ≡ Some LogFull) × (last_file < (reach_after reach changes).file))
+    ⊎ ((limit ≡ Some IdsEnded) × (last_number < (reach_after reach changes).node))
+
+-- the limits of events, one after another, where a log and its trees reach so far before them
+abbrev pub AreBounded : Reach → Standing → List Event → List (Option Answer) → Type 0
+AreBounded reach st (event ∷ events) (limit ∷ limits) =
+    IsBounded reach (changes_by st event) limit × AreBounded (reach_after reach (changes_by st event)) (after_event st event) events limits
+AreBounded reach st events limits = Unit {0}
 
 -- ---- exactly
 

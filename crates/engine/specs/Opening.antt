@@ -25,8 +25,8 @@ use Rattle.in_tree.specs.Stored.{committed_cell}
 use Rattle.in_tree.specs.Whole.{has_tree_in, stored_within}
 use Rattle.engine.specs.declared.open_err.OpenErr.{OpenErr}
 use Rattle.engine.specs.declared.open_err.OpenErr.TheVariants.{Disk, Unreadable, Memory, IdsEnded}
-use Rattle.engine.specs.Files.{HasCorruption}
-use Rattle.engine.specs.Limits.{last_number, numbers_for}
+use Rattle.engine.specs.Files.{HasCorruption, end_file_in}
+use Rattle.engine.specs.Limits.{Reach, last_number, numbers_for}
 use Rattle.engine.specs.declared.engine.Engine.{Engine}
 use Rattle.engine.specs.declared.kept.Kept.{Kept}
 
@@ -39,6 +39,10 @@ error_of_recovery (Corrupt corruption) = Unreadable corruption
 -- no node's number is above this one once the files are opened: each of their entries may have allocated some, and so may the catalog
 abbrev pub node_bound : List (ℕ × List ℕ) → Meaning → ℕ
 node_bound held meaning = meaning.last_node + numbers_for (length (placed (log_in held)) + 1)
+
+-- how far the log of files and its trees reach once they are opened
+abbrev pub reach_in : List (ℕ × List ℕ) → Meaning → Reach
+reach_in held meaning = record { file = end_file_in held; node = node_bound held meaning }
 
 -- the files mean something, but their nodes' numbers may pass the last one
 pub record HasNoNumbers (files : Files) : Type 0 where

@@ -27,11 +27,10 @@ use Rattle.store_model.specs.declared.change.Change.{Change}
 use Rattle.store_model.specs.Refusals.{made_by}
 use Rattle.engine.specs.declared.engine.Engine.{Engine}
 use Rattle.engine.specs.Environment.{AreAt}
-use Rattle.engine.specs.Files.{end_file_in}
 use Rattle.engine.specs.Guarded.{IsGuardedLog}
 use Rattle.engine.specs.Contents.{Contents}
-use Rattle.engine.specs.Limits.{IsBounded, limit_by}
-use Rattle.engine.specs.Opening.{StartsAt, node_bound}
+use Rattle.engine.specs.Limits.{IsBounded, Reach, limit_by}
+use Rattle.engine.specs.Opening.{StartsAt, reach_in}
 use Rattle.engine.specs.declared.kept.Kept.{Kept}
 
 module _ {D : Type 0} where
@@ -81,16 +80,16 @@ module _ {D : Type 0} where
   abbrev pub end_file : Engine D → ℕ
   end_file engine = (end_of engine.trees.log).file
 
-  -- a number that no node's is above
-  abbrev pub last_node : Engine D → ℕ
-  last_node engine = engine.kept.last_node
+  -- how far its log and its trees reach
+  abbrev pub reach_of : Engine D → Reach
+  reach_of engine = record { file = end_file engine; node = engine.kept.last_node }
 
   -- the limit that the engine has for changes: none where there are none; else the one that the changes of records meet that log them
   pub record IsLimitFor (engine : Engine D) (changes : List Change) (limit : Option Answer) : Type 0 where
     pub planned : List TreeChange
     pub rows : map (row_by 0) planned ≡ all_row_changes 0 engine.kept.last_db changes (committed (cells_of engine.trees))
     pub makes : (db : ℕ) → is_made db planned ≡ (nat_lt 0 (made_by changes) && (db == engine.kept.last_db + made_by changes))
-    pub is : limit ≡ limit_by (limit_in engine.trees planned 1) (last_node engine) (length planned)
+    pub is : limit ≡ limit_by (limit_in engine.trees planned 1) engine.kept.last_node (length planned)
 
   abbrev pub HasLimit : Engine D → List Change → Option Answer → Type 0
   HasLimit engine [] limit = limit ≡ None
@@ -99,7 +98,7 @@ module _ {D : Type 0} where
   -- a call was answered as the model may, and the engine is where the model then stands; out of memory left it where it was
   abbrev pub GoesOn : ℕ → Bool → State → Engine D → Engine D → Standing → ℕ → ℕ → Call → Result Answer AllocError → Type 0
   GoesOn most observable state old new st session line call (Ok answer) =
-      (limit : Option Answer) × IsBounded (end_file old) (last_node old) (changes_by st (Called session line call answer [])) limit
+      (limit : Option Answer) × IsBounded (reach_of old) (changes_by st (Called session line call answer [])) limit
       × IsAnswered limit st (Called session line call answer [])
       × IsAt most observable state new (after_event st (Called session line call answer []))
   GoesOn most observable state old new st session line call (Err error) = IsAt most observable state new st
@@ -127,8 +126,7 @@ module _ {D : Type 0} where
   pub record IsOpenedAt (most : ℕ) (observable : Bool) (files : Files) (state : State) (engine : Engine D) (opening : Store) (st : Standing) : Type 0 where
     pub starts : StartsAt observable files opening st
     pub here : IsAt most observable state engine st
-    pub ends : end_file engine ≡ end_file_in starts.held
-    pub nodes : last_node engine ≡ node_bound starts.held starts.meaning
+    pub reach : reach_of engine ≡ reach_in starts.held starts.meaning
 
   abbrev pub IsOpened : ℕ → Bool → Files → State → Engine D → Store → Type 0
   IsOpened most observable files state engine opening = (st : Standing) × IsOpenedAt most observable files state engine opening st
@@ -138,7 +136,6 @@ module _ {D : Type 0} where
     pub st : Standing
     pub starts : StartsAt true files opening st
     pub here : IsAt most true (now history) engine st
-    pub ends : end_file engine ≡ end_file_in starts.held
-    pub nodes : last_node engine ≡ node_bound starts.held starts.meaning
+    pub reach : reach_of engine ≡ reach_in starts.held starts.meaning
     pub stable : (now history).crash_states ≡ synced_crash_states (now history).reads
     pub guarded : IsGuarded most st history history engine []

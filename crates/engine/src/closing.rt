@@ -15,16 +15,19 @@ ghost use Rattle.engine.specs.Guarded.{KeepsIfWorks};
 ghost use Rattle.engine.specs.Whole.{IsAt, IsGuarded, disk_of};
 
 use crate::engine::Engine;
-use je_disk::Disk;
 use in_tree::Trees;
+use je_disk::Disk;
 use log_buffer::LogBuffer;
+
+/// The records that were kept in memory.
+pub type Records = Trees;
 
 /// A closed environment: its disk, whether closing met a fault of the disk, and the records that were
 /// kept in memory. A process that ends now need not give those back one by one.
 pub struct Closed<D> {
     pub disk: D,
     pub failed: bool,
-    pub records: Trees,
+    pub records: Records,
 }
 
 // Closes a log: writes it out, and syncs, unless the disk failed before. Whether the disk failed now.

@@ -18,9 +18,9 @@ ghost use Rattle.log_entry.specs.Body.{IsEntry};
 ghost use Rattle.record_tree.specs.Logged.{entry_for};
 ghost use Rattle.in_tree.specs.Observed.{has_tree_of, limit_in};
 ghost use Rattle.txn_core.specs.Totals.{totals_of};
-ghost use Rattle.engine.specs.Limits.{last_number, most_changed, most_logged, numbers_for};
+ghost use Rattle.engine.specs.Limits.{IsWithin, last_number, numbers_for, reach_after};
 ghost use Rattle.engine.specs.Steps.{HasStepCause, IsNumbered, LogsChanges, txn_of};
-ghost use Rattle.engine.specs.Whole.{AreTrees, BeginsSafely, BeginsSync, CanGoOn, EndsSync, GoesOn, GoesOnSafely, HasLimit, IsAt, IsGuarded, IsGuardedInSync, contents, disk_of, end_file, last_node};
+ghost use Rattle.engine.specs.Whole.{AreTrees, BeginsSafely, BeginsSync, CanGoOn, EndsSync, GoesOn, GoesOnSafely, HasLimit, IsAt, IsGuarded, IsGuardedInSync, contents, disk_of, reach_of};
 
 use crate::kept::Kept;
 use in_tree::LogTrees;
@@ -67,16 +67,13 @@ impl<D: Disk> Engine<D> {
         ensures numbered { (most : ℕ) (st : Standing) → IsAt most D.observable (now (D.history (disk_of self.old))) self.old st
             → IfOk result (λ answer. IsNumbered answer (after_event st (Called session line call.now answer [])).commits) }
         ensures grows { (most : ℕ) (st : Standing) → IsAt most D.observable (now (D.history (disk_of self.old))) self.old st
-            → end_file self.new ≤ end_file self.old + most_logged (changes_of (early_refusal st session call.now) st session call.now) }
-        ensures allocates { (most : ℕ) (st : Standing) → IsAt most D.observable (now (D.history (disk_of self.old))) self.old st
-            → last_node self.new ≤ last_node self.old + numbers_for (most_changed (changes_of (early_refusal st session call.now) st session call.now)) }
+            → IsWithin (reach_of self.new) (reach_after (reach_of self.old) (changes_of (early_refusal st session call.now) st session call.now)) }
         ensures bounds { CanGoOn self.new }
         ensures crash { D.observable ≡ true → (most : ℕ) (st : Standing) (start : History) (journal : List Event)
             → IsAt most D.observable (now (D.history (disk_of self.old))) self.old (after_events st journal)
             → IsGuarded most st start (D.history (disk_of self.old)) self.old journal
             → GoesOnSafely most st start (D.history (disk_of self.new)) self.new journal session line call.now result }
-        ensures same_end { OnErr result (end_file self.new ≡ end_file self.old) }
-        ensures same_numbers { OnErr result (last_node self.new ≡ last_node self.old) }
+        ensures same_reach { OnErr result (reach_of self.new ≡ reach_of self.old) }
         ensures cause { HasStepCause (D.faults (disk_of self.old)) (D.faults (disk_of self.new)) result }
     {
         if let Some(first) = self.kept.fault {
@@ -179,8 +176,7 @@ impl<D: Disk> Engine<D> {
         ensures crash { D.observable ≡ true → (most : ℕ) (st : Standing) (start : History) (journal : List Event)
             → (after_events st journal).fault ≡ None → IsGuarded most st start (D.history (disk_of self.old)) self.old journal
             → BeginsSafely most st start (D.history (disk_of self.new)) self.new journal (is_some result) }
-        ensures same_end { end_file self.new ≡ end_file self.old }
-        ensures same_numbers { last_node self.new ≡ last_node self.old }
+        ensures same_reach { reach_of self.new ≡ reach_of self.old }
         ensures out { IfSome result (λ job. D.sync_out (disk_of self.new) ≡ Some (D.Job.job_number job)) }
         ensures bounds { CanGoOn self.old → CanGoOn self.new }
         ensures never_falls { D.faults (disk_of self.old) ≤ D.faults (disk_of self.new) }
@@ -205,8 +201,7 @@ impl<D: Disk> Engine<D> {
             → IsAt most D.observable (now (D.history (disk_of self.old))) self.old (after_events st journal) → (after_events st journal).fault ≡ None
             → IsGuardedInSync most st start (D.history (disk_of self.old)) self.old journal
             → IsGuarded most st start (D.history (disk_of self.new)) self.new (journal ++ SyncEnd result ∷ []) }
-        ensures same_end { end_file self.new ≡ end_file self.old }
-        ensures same_numbers { last_node self.new ≡ last_node self.old }
+        ensures same_reach { reach_of self.new ≡ reach_of self.old }
         ensures bounds { CanGoOn self.old → CanGoOn self.new }
         ensures never_falls { D.faults (disk_of self.old) ≤ D.faults (disk_of self.new) }
         ensures cause { (most : ℕ) (st : Standing) → IsAt most D.observable (now (D.history (disk_of self.old))) self.old st → st.fault ≡ None → result ≡ Answer.DiskFault → HasRisen (D.faults (disk_of self.old)) (D.faults (disk_of self.new)) }

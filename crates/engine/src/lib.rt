@@ -14,8 +14,8 @@ mod kept;
 mod open_err;
 mod opening;
 
-pub use closing::Closed;
+pub use closing::{Closed, Records};
 pub use config::Config;
 pub use engine::Engine;
 pub use open_err::OpenErr;
-pub use opening::{Opened, Stopped};
+pub use opening::{Opened, Opening, Stopped, no_opening};

@@ -9,6 +9,7 @@ ghost use Rattle.log_buffer.specs.Log.{HasLog};
 ghost use Rattle.log_file.specs.Log.{Log, entries_of};
 ghost use Rattle.engine.specs.Crash.{KeepsEntry};
 ghost use Rattle.engine.specs.Untouched.{IsLeftAlone};
+ghost use Rattle.store_model.specs.Store.{no_databases};
 ghost use Rattle.engine.specs.Limits.{last_number, numbers_for};
 ghost use Rattle.engine.specs.Opening.{HasBegun, HasTornTailCut, IsSettling, StartsLog, StopsBy, WasRead, cut_off, log_start_of};
 ghost use Rattle.engine.specs.Whole.{CanGoOn, IsOpened, IsOpenedSafely, disk_of};
@@ -30,10 +31,20 @@ use store_model::Totals;
 /// How many slots a node has at most when one is put in.
 const FANOUT: u32 = 128;
 
+/// The store that an environment held when it was opened. It takes no memory.
+pub type Opening = OpeningStore<LoadedTrees>;
+
 /// An open environment, and the store that it held at entry.
 pub struct Opened<D> {
     pub engine: Engine<D>,
-    pub opening: OpeningStore<LoadedTrees>,
+    pub opening: Opening,
+}
+
+/// The store of an environment that was not opened: it has no databases.
+pub fn no_opening(alloc: Global) -> Opening
+    ensures { result ≡ no_databases }
+{
+    OpeningStore::of(&LoadedTrees::new(alloc, FANOUT, 0))
 }
 
 /// An environment that was not opened: why, and its disk back.

@@ -1,5 +1,5 @@
 -- What is taken before changes are written, and what holds when they were.
-use Rattle.std.proofs.Common.{◌≡◌, ◌≤◌, ◌<◌, ◌+◌, ◌||◌, ◌==◌, ℕ, List, [], ◌∷◌, ◌++◌, Bool, true, false, cond, nat_lt, Option, None, Some, IfSome, is_some, Result, Ok, Err, OnOk, OnErr, IfErr, refl, ap, ap₂, sym, subst, ◌∙◌, arith}
+use Rattle.std.proofs.Common.{◌≡◌, ◌≤◌, ◌+◌, ◌||◌, ◌==◌, ℕ, List, [], ◌∷◌, Bool, true, false, cond, nat_lt, Option, None, Some, IfSome, is_some, Result, Ok, Err, OnOk, OnErr, IfErr, refl, ap, ap₂, sym, subst, ◌∙◌, arith}
 use Rattle.std.specs.Ordering.{nat_cmp}
 use Rattle.std.specs.BTreeMap.{get}
 use Rattle.std.specs.List.{AllByRecursion}
@@ -10,11 +10,9 @@ use Rattle.je_order.specs.declared.txn_id.TxnId.{TxnId}
 use Rattle.log_entry.specs.declared.entry.Entry.{Entry}
 use Rattle.log_buffer.specs.declared.buffer.LogBuffer.{LogBuffer}
 use Rattle.log_buffer.specs.declared.log_pos.LogPos.{LogPos}
-use Rattle.log_buffer.specs.Buffer.{end_of, file_max_of, has_failed, HasRoom, IsUnchanged}
+use Rattle.log_buffer.specs.Buffer.{has_failed, HasRoom, IsUnchanged}
 use Rattle.log_buffer.specs.Flip.{end_after_all}
-use Rattle.log_buffer.specs.Growth.{Grew, Tried}
-use Rattle.log_buffer.proofs.GrowthLaws.{grew_none, grew_unchanged, grew_then, tried_then}
-use Rattle.record_map.specs.declared.cell.Cell.{Cell}
+use Rattle.log_buffer.proofs.GrowthLaws.{grew_none}
 use Rattle.record_map.specs.Cells.{value_at, IsRising}
 use Rattle.record_tree.specs.declared.tree_change.TreeChange.{TreeChange}
 use Rattle.record_tree.specs.declared.tree_err.TreeErr.{TreeErr}
@@ -23,7 +21,8 @@ use Rattle.record_tree.specs.Logged.{is_made, makes_db, IsLimit, IsEndOf, LogsCh
 use Rattle.record_tree.specs.Occupied.{Occupied, AllCells, AreSame, AreWritten, IsWritten, value_in, write_in}
 use Rattle.in_tree.specs.declared.db_tree.DbTree.{DbTree}
 use Rattle.in_tree.specs.Forest.{Forest, cells_of, cells_at, cells_seen, is_there, occupied, HasSameTrees}
-use Rattle.in_tree.specs.Limits.{HasRoomFor, end_behind, sizes_for, count_made, limit_of}
+use Rattle.in_tree.specs.Limits.{HasRoomFor, end_behind, sizes_for, count_made, limit_of, GrewFitting, TriedFitting}
+use Rattle.in_tree.specs.Fitting.{fits_none, fitting_unchanged, fitting_then, fitting_tried}
 use Rattle.in_tree.proofs.Seen.{none_rise}
 use Rattle.in_tree.proofs.Written.{entries_of, logs_all}
 
@@ -130,17 +129,17 @@ module _ {D : Type 0} where
     files = subst (λ (n : ℕ). n ≤ 0xfffffffe) (sym (ap₂ (λ (m : ℕ) (e : LogPos). (end_after_all m e sizes).file) same.kept.max same.kept.end)) files;
   }
 
-  module _ (observable : Bool) (history : D → History) (sync_out read_out : D → Option ℕ) (read_of : D → ℕ) where
-    pub grew_since : (txn : TxnId) (changes : List TreeChange) (old mid new : LogBuffer D) → IsUnchanged old mid → (a : List Entry) × LogsChanges txn changes a × Grew observable history sync_out read_out read_of mid new a →
-        (a : List Entry) × LogsChanges txn changes a × Grew observable history sync_out read_out read_of old new a
+  module _ (observable : Bool) (history : D → History) (sync_out read_out : D → Option ℕ) (read_of : D → ℕ) (faults : D → ℕ) where
+    pub grew_since : (txn : TxnId) (changes : List TreeChange) (old mid new : LogBuffer D) → IsUnchanged old mid → (a : List Entry) × LogsChanges txn changes a × GrewFitting observable history sync_out read_out read_of faults mid new a →
+        (a : List Entry) × LogsChanges txn changes a × GrewFitting observable history sync_out read_out read_of faults old new a
     grew_since txn changes old mid new same grew =
-        (grew.0, grew.1, grew_then observable history sync_out read_out read_of old mid new [] grew.0 (grew_unchanged observable history sync_out read_out read_of old mid same) grew.2)
+        (grew.0, grew.1, fitting_then observable history sync_out read_out read_of faults old mid new [] grew.0 (fitting_unchanged observable history sync_out read_out read_of faults old mid same) grew.2)
 
     pub tried_since : (txn : TxnId) (changes : List TreeChange) (old mid new : LogBuffer D) → IsUnchanged old mid →
-        (a : List Entry) × (f : List Entry) × LogsChanges txn changes a × IsFront f a × Tried observable history sync_out read_out read_of mid new f →
-        (a : List Entry) × (f : List Entry) × LogsChanges txn changes a × IsFront f a × Tried observable history sync_out read_out read_of old new f
+        (a : List Entry) × (f : List Entry) × LogsChanges txn changes a × IsFront f a × TriedFitting observable history sync_out read_out read_of faults mid new f →
+        (a : List Entry) × (f : List Entry) × LogsChanges txn changes a × IsFront f a × TriedFitting observable history sync_out read_out read_of faults old new f
     tried_since txn changes old mid new same tried =
-        (tried.0, tried.1, tried.2, tried.3, tried_then observable history sync_out read_out read_of old mid new [] tried.1 (grew_unchanged observable history sync_out read_out read_of old mid same) tried.4)
+        (tried.0, tried.1, tried.2, tried.3, fitting_tried observable history sync_out read_out read_of faults old mid new [] tried.1 (fitting_unchanged observable history sync_out read_out read_of faults old mid same) tried.4)
 
 -- ---- which limit is met
 
@@ -159,15 +158,15 @@ pub lower_by_test : (a b : ℕ) → nat_lt a b ≡ false → b ≤ a
 lower_by_test a b h = ltb-false a b h
 
 -- a buffer that has failed tried to log nothing
-pub tried_none : {D : Type 0} (observable : Bool) (history : D → History) (sync_out read_out : D → Option ℕ) (read_of : D → ℕ) (log : LogBuffer D) → has_failed log ≡ true → Tried observable history sync_out read_out read_of log log []
-tried_none observable history sync_out read_out read_of log failed =
+pub tried_none : {D : Type 0} (observable : Bool) (history : D → History) (sync_out read_out : D → Option ℕ) (read_of : D → ℕ) (faults : D → ℕ) (log : LogBuffer D) → has_failed log ≡ true → TriedFitting observable history sync_out read_out read_of faults log log []
+tried_none observable history sync_out read_out read_of faults log failed =
     let grew = grew_none observable history sync_out read_out read_of log in
-    record { crash = grew.crash; max = grew.max; failed = failed; jobs = grew.jobs }
+    record { tried = record { crash = grew.crash; max = grew.max; failed = failed; jobs = grew.jobs }; fits = fits_none log; never_falls = omega arith; rose = λ works. absurd cc }
 
-pub tried_before : {D : Type 0} (observable : Bool) (history : D → History) (sync_out read_out : D → Option ℕ) (read_of : D → ℕ) (txn : TxnId) (changes : List TreeChange) (log : LogBuffer D) → has_failed log ≡ true →
-    (a : List Entry) × (f : List Entry) × LogsChanges txn changes a × IsFront f a × Tried observable history sync_out read_out read_of log log f
-tried_before observable history sync_out read_out read_of txn changes log failed =
-    (entries_of txn changes, [], logs_all txn changes, (entries_of txn changes, refl), tried_none observable history sync_out read_out read_of log failed)
+pub tried_before : {D : Type 0} (observable : Bool) (history : D → History) (sync_out read_out : D → Option ℕ) (read_of : D → ℕ) (faults : D → ℕ) (txn : TxnId) (changes : List TreeChange) (log : LogBuffer D) → has_failed log ≡ true →
+    (a : List Entry) × (f : List Entry) × LogsChanges txn changes a × IsFront f a × TriedFitting observable history sync_out read_out read_of faults log log f
+tried_before observable history sync_out read_out read_of faults txn changes log failed =
+    (entries_of txn changes, [], logs_all txn changes, (entries_of txn changes, refl), tried_none observable history sync_out read_out read_of faults log failed)
 
 pub ends_with : {X P : Type 0} (r : Result X TreeErr) (reason : TreeErr) → IsEndOf reason r P → {Q : Type 0} → (P → Q) → IsEndOf reason r Q
 ends_with (Ok x) reason h f = tt

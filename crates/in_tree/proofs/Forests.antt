@@ -30,10 +30,10 @@ number_same a = sym (ap is_eq (nat_cmp_is a a Equal refl))
 abbrev pub Replaces : Forest → Forest → ℕ → Option DbTree → Type 0
 Replaces old new db o = (d : ℕ) → get nat_cmp new d ≡ cond (is_eq (nat_cmp db d)) o (get nat_cmp old d)
 
-replaced : (old new : Forest) (db : ℕ) (o : Option DbTree) → Replaces old new db o → get nat_cmp new db ≡ o
+pub replaced : (old new : Forest) (db : ℕ) (o : Option DbTree) → Replaces old new db o → get nat_cmp new db ≡ o
 replaced old new db o has = has db ∙ ap (λ (t : Bool). cond t o (get nat_cmp old db)) (number_same db)
 
-others : (old new : Forest) (db : ℕ) (o : Option DbTree) → Replaces old new db o → (d : ℕ) → is_eq (nat_cmp db d) ≡ false → get nat_cmp new d ≡ get nat_cmp old d
+pub others : (old new : Forest) (db : ℕ) (o : Option DbTree) → Replaces old new db o → (d : ℕ) → is_eq (nat_cmp db d) ≡ false → get nat_cmp new d ≡ get nat_cmp old d
 others old new db o has d apart = has d ∙ ap (λ (t : Bool). cond t o (get nat_cmp old d)) apart
 
 -- what is seen of one database is the same

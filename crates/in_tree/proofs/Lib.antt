@@ -36,3 +36,5 @@ pub mod Checked
 pub mod ReadCells
 -- A split is a copy, and an IN's image has its children's slots.
 pub mod SplitLaws
+-- What is committed in trees while a log is read again, and how it changes where one cell does.
+pub mod StoredLaws

@@ -1,5 +1,5 @@
 -- Changes are written one after the other.
-use Rattle.std.proofs.Common.{◌≡◌, ◌≤◌, ◌+◌, ◌==◌, ◌&&◌, ◌⊎◌, ℕ, List, [], ◌∷◌, ◌++◌, Bool, true, false, cond, Option, None, Some, IsSome, map, find, reverse, refl, ap, ap₂, sym, subst, ◌∙◌, inl, inr, arith, is_eq, length, Result, Ok, Err, OnErr}
+use Rattle.std.proofs.Common.{◌≡◌, ◌≤◌, ◌==◌, ◌&&◌, ℕ, List, [], ◌∷◌, Bool, true, false, cond, Option, None, Some, map, find, reverse, refl, ap, ap₂, sym, subst, ◌∙◌, arith, is_eq, length, Result, Ok, Err, OnErr}
 use Rattle.std.specs.List.{AllByRecursion}
 use Rattle.std.specs.Option.{option_or}
 use Rattle.std.proofs.lemmas.List.{reverse-append}
@@ -11,20 +11,21 @@ use Rattle.je_order.specs.declared.txn_id.TxnId.{TxnId}
 use Rattle.log_entry.specs.Body.{IsEntry}
 use Rattle.log_entry.specs.Encoding.{size_of}
 use Rattle.log_entry.specs.declared.entry.Entry.{Entry}
+use Rattle.log_file.specs.Scan.{may_follow}
 use Rattle.log_buffer.specs.declared.buffer.LogBuffer.{LogBuffer}
 use Rattle.log_buffer.specs.declared.log_pos.LogPos.{LogPos}
 use Rattle.log_buffer.specs.Buffer.{end_of, file_max_of, has_failed, HasRoom}
 use Rattle.log_buffer.specs.Flip.{placed_at, end_after, end_after_all}
 use Rattle.log_buffer.specs.Growth.{Grew, Tried}
-use Rattle.log_buffer.proofs.GrowthLaws.{grew_none, grew_then, tried_then}
 use Rattle.log_buffer.proofs.LogPositions.{all_after}
 use Rattle.record_map.specs.declared.write.Write.{Write}
 use Rattle.record_map.specs.Cells.{value_at}
 use Rattle.record_tree.specs.declared.tree_change.TreeChange.{TreeChange}
 use Rattle.record_tree.specs.Logged.{entry_for, LogsChanges, IsFront, is_change_of, last_change}
-use Rattle.record_tree.specs.Occupied.{Occupied, AllCells, AreWritten, IsWritten, value_in, write_in}
+use Rattle.record_tree.specs.Occupied.{AllCells, AreWritten, IsWritten, value_in, write_in}
 use Rattle.in_tree.specs.Forest.{Forest, cells_seen, HasSameTrees, KeepsCells, HasOne, HasChange, with_change, write_for}
-use Rattle.in_tree.specs.Limits.{change_size, commit_sizes, sizes_for, HasRoomFor, end_behind}
+use Rattle.in_tree.specs.Limits.{change_size, sizes_for, HasRoomFor, end_behind, FitsLog, GrewFitting, TriedFitting}
+use Rattle.in_tree.specs.Fitting.{fitting_none, fitting_then, fitting_tried}
 use Rattle.in_tree.proofs.Preparation.{same_test}
 
 -- ---- sizes
@@ -42,6 +43,24 @@ pub fits : {D : Type 0} (log : LogBuffer D) (size : ℕ) (sizes : List ℕ) → 
 fits log size sizes room =
     let after : (end_after (file_max_of log) (end_of log) size).file ≤ end_behind log (size ∷ sizes) = all_after (file_max_of log) (end_after (file_max_of log) (end_of log) size) sizes in
     omega (arith, after, room.files)
+
+-- the entry of a change may stand behind a header
+pub change_follows : (txn : TxnId) (db : ℕ) (name : Name) (value : Option (List ℕ)) → may_follow (entry_for txn db name value) ≡ true
+change_follows txn db name None = refl
+change_follows txn db name (Some value) = refl
+
+-- an entry for which there is room fits the log
+pub fits_one : {D : Type 0} (log : LogBuffer D) (e : Entry) (size : ℕ) (sizes : List ℕ) → IsEntry e → may_follow e ≡ true → size_of e ≡ size → HasRoomFor log (size ∷ sizes) → FitsLog log (e ∷ [])
+fits_one log e size sizes is follows same room = record {
+  entries_are = ((is, follows), tt);
+  room = subst (λ (n : ℕ). (end_after (file_max_of log) (end_of log) n).file ≤ 0xfffffffe) (sym same) (below all room.files);
+}
+  where
+    all : (end_after (file_max_of log) (end_of log) size).file ≤ end_behind log (size ∷ sizes)
+    all = all_after (file_max_of log) (end_after (file_max_of log) (end_of log) size) sizes
+
+    below : {a b c : ℕ} → a ≤ b → b ≤ c → a ≤ c
+    below first second = omega arith
 
 -- the room that is left behind an entry
 pub room_left : {D : Type 0} (old new : LogBuffer D) (size : ℕ) (sizes : List ℕ) → end_of new ≡ end_after (file_max_of old) (end_of old) size → file_max_of new ≡ file_max_of old → has_failed new ≡ has_failed old →
@@ -130,7 +149,7 @@ on_err (Err y) h = h
 
 -- ---- both
 
-module _ {D : Type 0} (observable : Bool) (history : D → History) (sync_out read_out : D → Option ℕ) (read_of : D → ℕ) where
+module _ {D : Type 0} (observable : Bool) (history : D → History) (sync_out read_out : D → Option ℕ) (read_of : D → ℕ) (faults : D → ℕ) where
   -- some changes were written, and those that are left were not
   pub record WritesLeft (txn : TxnId) (old log : LogBuffer D) (before trees : Forest) (changes left : List TreeChange) (writes : List Write) : Type 0 where
     pub entries : AllByRecursion (λ c. IsEntry (entry_for txn c.db c.name c.value)) left
@@ -138,10 +157,10 @@ module _ {D : Type 0} (observable : Bool) (history : D → History) (sync_out re
     pub writes_are : writes ≡ map (write_for txn) left
     pub some_room : (owed : ℕ) × HasRoomFor log (sizes_for left owed)
     pub room : (owed : ℕ) → HasRoomFor old (sizes_for changes owed) → HasRoomFor log (sizes_for left owed)
-    pub grew : (last : LogBuffer D) (b : List Entry) → LogsChanges txn left b → Grew observable history sync_out read_out read_of log last b →
-        (a : List Entry) × LogsChanges txn changes a × Grew observable history sync_out read_out read_of old last a
-    pub tried : (last : LogBuffer D) (b f : List Entry) → LogsChanges txn left b → IsFront f b → Tried observable history sync_out read_out read_of log last f →
-        (a : List Entry) × (g : List Entry) × LogsChanges txn changes a × IsFront g a × Tried observable history sync_out read_out read_of old last g
+    pub grew : (last : LogBuffer D) (b : List Entry) → LogsChanges txn left b → GrewFitting observable history sync_out read_out read_of faults log last b →
+        (a : List Entry) × LogsChanges txn changes a × GrewFitting observable history sync_out read_out read_of faults old last a
+    pub tried : (last : LogBuffer D) (b f : List Entry) → LogsChanges txn left b → IsFront f b → TriedFitting observable history sync_out read_out read_of faults log last f →
+        (a : List Entry) × (g : List Entry) × LogsChanges txn changes a × IsFront g a × TriedFitting observable history sync_out read_out read_of faults old last g
     pub cells : (last : AllCells) → AreWritten txn left (cells_seen trees) last → AreWritten txn changes (cells_seen before) last
     pub same : HasSameTrees before trees
 
@@ -172,7 +191,7 @@ module _ {D : Type 0} (observable : Bool) (history : D → History) (sync_out re
 
   pub writes_step : (txn : TxnId) (old log new : LogBuffer D) (before trees after : Forest) (changes left : List TreeChange) (c : TreeChange) (write : Write) (writes : List Write) →
       WritesLeft txn old log before trees changes (c ∷ left) (write ∷ writes) → writes ≡ map (write_for txn) left →
-      Grew observable history sync_out read_out read_of log new (entry_for txn c.db c.name c.value ∷ []) → ((sizes : List ℕ) → HasRoomFor log (change_size c ∷ sizes) → HasRoomFor new sizes) →
+      GrewFitting observable history sync_out read_out read_of faults log new (entry_for txn c.db c.name c.value ∷ []) → ((sizes : List ℕ) → HasRoomFor log (change_size c ∷ sizes) → HasRoomFor new sizes) →
       (at : ℕ) × HasChange (cells_seen trees) (cells_seen after) c.db c.name (with_change (record { txn = txn; at = at; value = c.value })) → KeepsCells trees after → HasSameTrees trees after →
       WritesLeft txn old new before after changes left writes
   writes_step txn old log new before trees after changes left c write writes so_far are grew room change kept same = record {
@@ -182,23 +201,23 @@ module _ {D : Type 0} (observable : Bool) (history : D → History) (sync_out re
     some_room = (so_far.some_room.0, room (sizes_for left so_far.some_room.0) so_far.some_room.1);
     room = λ owed for. room (sizes_for left owed) (so_far.room owed for);
     grew = λ last b logs more. so_far.grew last (entry_for txn c.db c.name c.value ∷ b) (logs_one txn c left b logs)
-        (grew_then observable history sync_out read_out read_of log new last (entry_for txn c.db c.name c.value ∷ []) b grew more);
+        (fitting_then observable history sync_out read_out read_of faults log new last (entry_for txn c.db c.name c.value ∷ []) b grew more);
     tried = λ last b f logs front more. so_far.tried last (entry_for txn c.db c.name c.value ∷ b) (entry_for txn c.db c.name c.value ∷ f) (logs_one txn c left b logs)
         (front.0, ap (λ (l : List Entry). entry_for txn c.db c.name c.value ∷ l) front.1)
-        (tried_then observable history sync_out read_out read_of log new last (entry_for txn c.db c.name c.value ∷ []) f grew more);
+        (fitting_tried observable history sync_out read_out read_of faults log new last (entry_for txn c.db c.name c.value ∷ []) f grew more);
     cells = λ last written. so_far.cells last (written_step txn c left (cells_seen trees) (cells_seen after) last change.0 change.1 written);
     same = λ d. same d ∙ so_far.same d;
   }
 
   -- a change that met a fault
   pub writes_fail : (txn : TxnId) (old log new : LogBuffer D) (before trees : Forest) (changes left : List TreeChange) (c : TreeChange) (writes : List Write) →
-      WritesLeft txn old log before trees changes (c ∷ left) writes → Tried observable history sync_out read_out read_of log new (entry_for txn c.db c.name c.value ∷ []) →
-      (a : List Entry) × (g : List Entry) × LogsChanges txn changes a × IsFront g a × Tried observable history sync_out read_out read_of old new g
+      WritesLeft txn old log before trees changes (c ∷ left) writes → TriedFitting observable history sync_out read_out read_of faults log new (entry_for txn c.db c.name c.value ∷ []) →
+      (a : List Entry) × (g : List Entry) × LogsChanges txn changes a × IsFront g a × TriedFitting observable history sync_out read_out read_of faults old new g
   writes_fail txn old log new before trees changes left c writes so_far tried =
       so_far.tried new (entry_for txn c.db c.name c.value ∷ entries_of txn left) (entry_for txn c.db c.name c.value ∷ []) (logs_one txn c left (entries_of txn left) (logs_all txn left))
       (entries_of txn left, refl) tried
 
   -- all changes were written
   pub writes_end : (txn : TxnId) (old log : LogBuffer D) (before trees : Forest) (changes : List TreeChange) (writes : List Write) → WritesLeft txn old log before trees changes [] writes →
-      (a : List Entry) × LogsChanges txn changes a × Grew observable history sync_out read_out read_of old log a
-  writes_end txn old log before trees changes writes so_far = so_far.grew log [] refl (grew_none observable history sync_out read_out read_of log)
+      (a : List Entry) × LogsChanges txn changes a × GrewFitting observable history sync_out read_out read_of faults old log a
+  writes_end txn old log before trees changes writes so_far = so_far.grew log [] refl (fitting_none observable history sync_out read_out read_of faults log)

@@ -4,5 +4,8 @@ pub mod Trees
 pub mod Laws
 pub mod Forest
 pub mod Limits
+pub mod Fitting
 pub mod Splitting
+pub mod Stored
 pub mod Whole
+pub mod Observed

@@ -1,12 +1,19 @@
 -- Which limit changes meet, and what the log has room for.
-use Rattle.std.specs.Prelude.{◌≡◌, ◌+◌, ◌<◌, ◌≤◌, ℕ, zero, suc, nat_lt, if◌then◌else◌, List, [], ◌∷◌, ◌++◌, map, Option, Some, None, false}
+use Rattle.std.specs.Prelude.{◌≡◌, ◌+◌, ◌≤◌, ℕ, zero, suc, nat_lt, if◌then◌else◌, List, [], ◌∷◌, ◌++◌, map, Option, Some, None, Bool, true, false}
+use Rattle.std.specs.List.{AllByRecursion}
+use Rattle.je_disk.specs.Moments.{History}
 use Rattle.je_lsn.specs.Naming.{last_file}
+use Rattle.je_order.specs.Counts.{HasRisen}
 use Rattle.je_order.specs.declared.txn_id.TxnId.{TxnId}
+use Rattle.log_entry.specs.Body.{IsEntry}
 use Rattle.log_entry.specs.Encoding.{size_of}
+use Rattle.log_entry.specs.declared.entry.Entry.{Entry}
 use Rattle.log_entry.specs.declared.entry.Entry.TheVariants.{Commit}
+use Rattle.log_file.specs.Scan.{may_follow}
 use Rattle.log_buffer.specs.declared.buffer.LogBuffer.{LogBuffer}
-use Rattle.log_buffer.specs.Buffer.{end_of, file_max_of, has_failed, HasRoom}
+use Rattle.log_buffer.specs.Buffer.{disk_of, end_of, file_max_of, has_failed, HasRoom, IsUnchanged}
 use Rattle.log_buffer.specs.Flip.{end_after_all}
+use Rattle.log_buffer.specs.Growth.{Grew, Tried}
 use Rattle.record_tree.specs.Logged.{entry_for}
 use Rattle.record_tree.specs.declared.tree_change.TreeChange.{TreeChange}
 use Rattle.record_tree.specs.declared.tree_err.TreeErr.{TreeErr}
@@ -64,3 +71,22 @@ module _ {D : Type 0} where
     pub works : has_failed log ≡ false
     pub room : HasRoom log sizes
     pub files : end_behind log sizes ≤ last_file
+
+  -- entries that may stand in the log behind its end, and have room up to the last file
+  pub record FitsLog (log : LogBuffer D) (entries : List Entry) : Type 0 where
+    pub entries_are : AllByRecursion (λ e. IsEntry e × (may_follow e ≡ true)) entries
+    pub room : (end_after_all (file_max_of log) (end_of log) (map size_of entries)).file ≤ last_file
+
+  -- the log got these entries, which fit it, and nothing happened where there are none; no count of the disk's faults fell
+  pub record GrewFitting (observable : Bool) (history : D → History) (sync_out read_out : D → Option ℕ) (read_of : D → ℕ) (faults : D → ℕ) (old new : LogBuffer D) (entries : List Entry) : Type 0 where
+    pub grew : Grew observable history sync_out read_out read_of old new entries
+    pub fits : FitsLog old entries
+    pub none : entries ≡ [] → IsUnchanged old new
+    pub never_falls : faults (disk_of old) ≤ faults (disk_of new)
+
+  -- the log failed with these entries, which fit it: the disk counted a fault, or the log had failed before
+  pub record TriedFitting (observable : Bool) (history : D → History) (sync_out read_out : D → Option ℕ) (read_of : D → ℕ) (faults : D → ℕ) (old new : LogBuffer D) (entries : List Entry) : Type 0 where
+    pub tried : Tried observable history sync_out read_out read_of old new entries
+    pub fits : FitsLog old entries
+    pub never_falls : faults (disk_of old) ≤ faults (disk_of new)
+    pub rose : has_failed old ≡ false → HasRisen (faults (disk_of old)) (faults (disk_of new))

@@ -9,6 +9,7 @@ ghost use Rattle.tree_nodes.specs.Levels.{row_of};
 ghost use Rattle.in_tree.specs.Content.{slot_for, record_slots, bin_image};
 ghost use Rattle.in_tree.specs.Trees.{IsTree, HasCell, cell_or_fresh, given_up};
 ghost use Rattle.in_tree.specs.Forest.{occupied, seen, with_change, with_logged, with_value};
+ghost use Rattle.in_tree.specs.Stored.{HasLogged, loaded_cell};
 ghost use Rattle.record_tree.specs.Occupied.{after_commit, after_abort};
 
 use je_lsn::Lsn;
@@ -56,6 +57,15 @@ fn set_logged(
             cells.set_version(name, Version::There(at), Data::new(octets), commit, last);
         }
         None => cells.set_version(name, Version::Deleted, Data::empty(), commit, last),
+    }
+}
+
+// An LSN at which a change that was logged at `at` counts as committed: behind the BIN's last image, which may be
+// behind the change and before its Commit. No image is logged before the redo is over.
+fn behind(last: &Option<Lsn>, at: Lsn) -> Lsn {
+    match last {
+        Some(image) if *image >= at => Lsn::from_u64(image.as_u64().saturating_add(1)),
+        _ => at,
     }
 }
 
@@ -186,19 +196,22 @@ impl DbTree {
         let _after = self.cells.len();
     }
 
-    /// Sets what is committed of the name: the record that was logged at `at`, or none, by the Commit at `commit`. Its
-    /// BIN is marked. Running out of memory changes nothing.
+    /// Sets what is committed of the name: the record that was logged at `at`, or none. Its BIN is marked: the
+    /// log has the change from `first` on, and the BIN's last image lacks it. Running out of memory changes nothing.
     pub fn redo(
         &mut self,
         alloc: Global,
         name: &SortKey,
         value: Option<Octets>,
+        first: Lsn,
         at: Lsn,
-        commit: Lsn,
     ) -> Result<(), AllocError>
         ensures cells { OnOk result ((x : Name) → value_at x (occupied self.new.cells) ≡ (if is_eq (name_cmp name.now x) then with_value value (value_at x (occupied self.old.cells)) else value_at x (occupied self.old.cells))) }
+        ensures logged { OnOk result (HasLogged self.old.cells self.new.cells name.now value at) }
+        ensures was_rising { IsRising self.old.cells }
+        ensures rising { IsRising self.new.cells }
         ensures err { OnErr result (self.new.cells ≡ self.old.cells) }
-        ensures tree { (es : Placed) (base : ℕ) (newest : Name → ℕ) → at ≤ newest name.now → IsTree es base newest self.old.levels self.old.cells → IsTree es base newest self.new.levels self.new.cells }
+        ensures tree { (es : Placed) (base : ℕ) (newest : Name → ℕ) → first ≤ newest name.now → IsTree es base newest self.old.levels self.old.cells → IsTree es base newest self.new.levels self.new.cells }
     {
         let _height = self.levels.height();
         let _before = self.cells.len();
@@ -206,7 +219,8 @@ impl DbTree {
         let _made = self.cells.len();
         let (_low, node) = self.levels.over(0, name);
         let last = node.last;
-        self.levels.mark(0, name, at);
+        self.levels.mark(0, name, first);
+        let commit = behind(&last, at);
         set_logged(&mut self.cells, name, value, at, commit, &last);
         Ok(())
     }

@@ -4,6 +4,8 @@ ghost use Rattle.je_order.specs.declared.name.Name.{Name};
 ghost use Rattle.record_map.specs.Cells.{value_at, IsRising, first_of, last_of, from_edge, below_edge, edge_of};
 ghost use Rattle.record_tree.specs.Occupied.{AreSame, occupied_by, after_commit, after_abort};
 ghost use Rattle.in_tree.specs.Forest.{cells_at, cells_seen, is_there, HasChange, with_change, HasSameTrees, KeepsCells, HasOne, with_value};
+ghost use Rattle.in_tree.specs.Stored.{stored_of, IsQuiet};
+ghost use Rattle.record_tree.specs.Stored.{stored_at, HasStored, AreStoredStill};
 
 use crate::DbTree;
 use je_lsn::Lsn;
@@ -92,29 +94,34 @@ pub(crate) fn make(
     ensures kept { KeepsCells trees.old trees.new }
     ensures none { (d : ℕ) → cells_at trees.old d ≡ [] → cells_at trees.new d ≡ [] }
     ensures err { OnErr result (HasSameTrees trees.old trees.new) }
+    ensures stored { AreStoredStill (stored_of trees.old) (stored_of trees.new) }
+    ensures quiet { IsQuiet trees.old → IsQuiet trees.new }
 {
     let tree = DbTree::new(alloc, number)?;
     drop(trees.insert(db, tree)?);
     Ok(())
 }
 
-// Sets what is committed of the name: the record that was logged at `at`, by the Commit at `commit`.
+// Sets what is committed of the name: the record that was logged at `at`, or none. A redo finds the change again from
+// `first` on.
 pub(crate) fn redo(
     trees: &mut BTreeMap<u32, DbTree>,
     alloc: Global,
     db: u32,
     name: &SortKey,
     value: Option<Octets>,
+    first: Lsn,
     at: Lsn,
-    commit: Lsn,
 ) -> Result<(), AllocError>
     requires { is_there trees.old db ≡ true }
     ensures cells { OnOk result (HasChange (cells_seen trees.old) (cells_seen trees.new) db name.now (with_value value)) }
+    ensures stored { OnOk result (HasStored (stored_of trees.old) (stored_of trees.new) db name.now (stored_at at value)) }
+    ensures quiet { IsQuiet trees.old → IsQuiet trees.new }
     ensures same { OnErr result (AreSame (cells_seen trees.old) (cells_seen trees.new)) }
     ensures trees { HasSameTrees trees.old trees.new }
 {
     match trees.get_mut(&db) {
-        Some(tree) => tree.redo(alloc, name, value, at, commit),
+        Some(tree) => tree.redo(alloc, name, value, first, at),
         None => unreachable!(),
     }
 }
@@ -123,6 +130,8 @@ pub(crate) fn redo(
 pub(crate) fn drop_db(trees: &mut BTreeMap<u32, DbTree>, db: u32)
     ensures cells { (d : ℕ) → cells_seen trees.new d ≡ (if d == db then [] else cells_seen trees.old d) }
     ensures trees { (d : ℕ) → is_there trees.new d ≡ (if d == db then false else is_there trees.old d) }
+    ensures stored { (d : ℕ) → stored_of trees.new d ≡ (if d == db then [] else stored_of trees.old d) }
+    ensures quiet { IsQuiet trees.old → IsQuiet trees.new }
 {
     drop(trees.remove(&db));
 }

@@ -9,17 +9,21 @@
 pub mod db_tree;
 mod forest;
 pub mod laws;
+pub mod loaded_trees;
+mod loading;
 pub mod log_node;
 pub mod log_trees;
 mod preparing;
 mod reading;
 pub mod splitting;
+mod stored;
 pub mod tree_log;
 pub mod trees;
 mod writing;
 
 pub use db_tree::DbTree;
 pub use laws::{images_show_their_nodes, trees_are_covered, trees_fit_their_log};
+pub use loaded_trees::LoadedTrees;
 pub use log_trees::LogTrees;
 pub use tree_log::TreeLog;
 pub use trees::Trees;

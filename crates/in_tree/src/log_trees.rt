@@ -5,17 +5,19 @@ ghost use Rattle.je_lsn.specs.Naming.{last_file};
 ghost use Rattle.log_entry.specs.Body.{IsEntry};
 ghost use Rattle.log_entry.specs.declared.entry.Entry.{Entry as Logged};
 ghost use Rattle.log_buffer.specs.Buffer.{has_failed, IsUnchanged};
-ghost use Rattle.log_buffer.specs.Growth.{Grew, Tried};
 ghost use Rattle.record_tree.specs.Logged.{entry_for, is_made, IsLimit, IsEndOf, LogsChanges, IsFront};
 ghost use Rattle.record_tree.specs.Occupied.{AreSame, AreWritten};
 ghost use Rattle.record_tree.specs.declared.tree_err.TreeErr.{TreeErr as Reason};
 ghost use Rattle.in_tree.specs.Forest.{cells_seen, is_there, HasSameTrees, HasOne, write_for};
-ghost use Rattle.in_tree.specs.Limits.{sizes_for, commit_sizes, count_made, limit_of, end_behind, HasRoomFor};
+ghost use Rattle.in_tree.specs.Stored.{committed_cell};
+ghost use Rattle.in_tree.specs.Whole.{seen_in, has_tree_in, stored_within};
+ghost use Rattle.in_tree.specs.Limits.{sizes_for, commit_sizes, count_made, limit_of, end_behind, HasRoomFor, GrewFitting, TriedFitting};
+ghost use Rattle.in_tree.specs.Observed.{limit_in};
 
 use crate::preparing::{give_back, make_all, put_cells, writes_for};
 use crate::trees::LAST_NODE;
 use crate::writing::{abort_each, commit_each, log_commit, sizes_for, write_each};
-use crate::{Trees, forest, reading};
+use crate::{LoadedTrees, Trees, forest, reading};
 use je_disk::Disk;
 use je_order::TxnId;
 use log_buffer::LogBuffer;
@@ -54,12 +56,17 @@ fn lacks_numbers(trees: &Trees, changes: &[TreeChange]) -> bool
 }
 
 impl<D: Disk> LogTrees<D> {
-    /// Trees over a log.
-    pub fn new(log: LogBuffer<D>, trees: Trees) -> LogTrees<D>
+    /// The trees that were made of a log, over that log. Each record is committed, and no transaction has changed
+    /// anything.
+    pub fn new(log: LogBuffer<D>, loaded: LoadedTrees) -> LogTrees<D>
         ensures log { result.log ≡ log }
-        ensures trees { result.trees ≡ trees }
+        ensures cells { (d : ℕ) → seen_in result.trees d ≡ map committed_cell (stored_within loaded d) }
+        ensures trees { (d : ℕ) → has_tree_in result.trees d ≡ has_tree_in loaded d }
     {
-        LogTrees { log, trees }
+        LogTrees {
+            log,
+            trees: loaded.into_trees(),
+        }
     }
 
     /// The log alone.
@@ -107,6 +114,31 @@ impl<D: Disk> LogTrees<D> {
             return Err(TreeErr::IdsEnded);
         }
         Ok(sizes)
+    }
+
+    /// The limit that changes of the transaction would meet, with `owed` Commits behind them, if there is one: Full or IdsEnded. Nothing
+    /// changes, and it takes no lasting memory. The one error is that memory runs out.
+    pub fn find_limit(
+        &self,
+        alloc: Global,
+        txn: TxnId,
+        changes: &[TreeChange],
+        owed: u32,
+    ) -> Result<Option<TreeErr>, AllocError>
+        requires entries { AllByRecursion (λ c. IsEntry (entry_for txn c.db c.name c.value)) changes.now }
+        requires works { has_failed self.now.log ≡ false }
+        ensures { IfOk result (λ limit. limit ≡ limit_in self.now changes.now owed) }
+    {
+        match self.check(alloc, txn, changes, owed) {
+            Ok(sizes) => {
+                drop(sizes);
+                Ok(None)
+            }
+            Err(TreeErr::Full) => Ok(Some(TreeErr::Full)),
+            Err(TreeErr::IdsEnded) => Ok(Some(TreeErr::IdsEnded)),
+            Err(TreeErr::Memory) => Err(AllocError),
+            Err(TreeErr::Fault) => unreachable!(),
+        }
     }
 
     // Makes trees, cells and room in the log. Where memory runs out, some of it is left.
@@ -183,11 +215,11 @@ impl<D: Disk> LogTrees<D> {
         requires sizes { (owed : ℕ) × (sizes.now ≡ sizes_for changes.now owed) }
         ensures cells { OnOk result (AreWritten txn changes.now (cells_seen self.old.trees.forest) (cells_seen self.new.trees.forest)) }
         ensures trees { OnOk result ((d : ℕ) → is_there self.new.trees.forest d ≡ (is_made d changes.now || is_there self.old.trees.forest d)) }
-        ensures grew { OnOk result ((entries : List Logged) × LogsChanges txn changes.now entries × Grew D.observable D.history D.sync_out D.read_out D.read_of self.old.log self.new.log entries) }
+        ensures grew { OnOk result ((entries : List Logged) × LogsChanges txn changes.now entries × GrewFitting D.observable D.history D.sync_out D.read_out D.read_of D.faults self.old.log self.new.log entries) }
         ensures left { (owed : ℕ) → sizes.now ≡ sizes_for changes.now owed → OnOk result (HasRoomFor self.new.log (commit_sizes owed)) }
-        ensures tried { IsEndOf Reason.Fault result ((entries : List Logged) × (front : List Logged) × LogsChanges txn changes.now entries × IsFront front entries × Tried D.observable D.history D.sync_out D.read_out D.read_of self.old.log self.new.log front) }
+        ensures tried { IsEndOf Reason.Fault result ((entries : List Logged) × (front : List Logged) × LogsChanges txn changes.now entries × IsFront front entries × TriedFitting D.observable D.history D.sync_out D.read_out D.read_of D.faults self.old.log self.new.log front) }
         ensures no_limit { IfErr result (λ e. IsLimit e → ⊥) }
-        ensures memory { IsEndOf Reason.Memory result (AreSame (cells_seen self.old.trees.forest) (cells_seen self.new.trees.forest) × Grew D.observable D.history D.sync_out D.read_out D.read_of self.old.log self.new.log []) }
+        ensures memory { IsEndOf Reason.Memory result (AreSame (cells_seen self.old.trees.forest) (cells_seen self.new.trees.forest) × GrewFitting D.observable D.history D.sync_out D.read_out D.read_of D.faults self.old.log self.new.log []) }
         ensures memory_trees { IsEndOf Reason.Memory result (HasSameTrees self.old.trees.forest self.new.trees.forest) }
     {
         let Ok(writes) = self.prepare(alloc, txn, changes, sizes) else {
@@ -198,20 +230,19 @@ impl<D: Disk> LogTrees<D> {
 }
 
 impl<D: Disk> Records for LogTrees<D> {
-    ghost use Rattle.log_buffer.specs.Growth.{Grew, Tried};
-    ghost use Rattle.log_buffer.proofs.GrowthLaws.{grew_none, grew_then, tried_then};
+    ghost use Rattle.in_tree.specs.Fitting.{fitting_none, fitting_then, fitting_tried};
     ghost use Rattle.std.specs.Ordering.{nat_cmp};
     ghost use Rattle.std.specs.BTreeMap.{get};
     ghost use Rattle.in_tree.specs.Forest.{cells_seen, is_there, none_seen};
-    ghost use Rattle.in_tree.specs.Limits.{limit_of, commit_sizes, HasRoomFor};
+    ghost use Rattle.in_tree.specs.Limits.{limit_of, commit_sizes, HasRoomFor, GrewFitting, TriedFitting};
 
     ghost cells = { λ x. cells_seen x.trees.forest };
 
     ghost has_tree = { λ x d. is_there x.trees.forest d };
 
-    ghost grew = { λ old new entries. Grew D.observable D.history D.sync_out D.read_out D.read_of old.log new.log entries };
+    ghost grew = { λ old new entries. GrewFitting D.observable D.history D.sync_out D.read_out D.read_of D.faults old.log new.log entries };
 
-    ghost tried = { λ old new entries. Tried D.observable D.history D.sync_out D.read_out D.read_of old.log new.log entries };
+    ghost tried = { λ old new entries. TriedFitting D.observable D.history D.sync_out D.read_out D.read_of D.faults old.log new.log entries };
 
     ghost limit = { λ x changes owed. limit_of x.log x.trees.last_node changes owed };
 
@@ -219,11 +250,11 @@ impl<D: Disk> Records for LogTrees<D> {
 
     ghost no_cells = { λ x d none. none_seen (get nat_cmp x.trees.forest d) none };
 
-    ghost grew_none = { λ x. grew_none D.observable D.history D.sync_out D.read_out D.read_of x.log };
+    ghost grew_none = { λ x. fitting_none D.observable D.history D.sync_out D.read_out D.read_of D.faults x.log };
 
-    ghost grew_then = { λ x y z a b first rest. grew_then D.observable D.history D.sync_out D.read_out D.read_of x.log y.log z.log a b first rest };
+    ghost grew_then = { λ x y z a b first rest. fitting_then D.observable D.history D.sync_out D.read_out D.read_of D.faults x.log y.log z.log a b first rest };
 
-    ghost tried_then = { λ x y z a b first rest. tried_then D.observable D.history D.sync_out D.read_out D.read_of x.log y.log z.log a b first rest };
+    ghost tried_then = { λ x y z a b first rest. fitting_tried D.observable D.history D.sync_out D.read_out D.read_of D.faults x.log y.log z.log a b first rest };
 
     fn get(&self, db: u32, name: &SortKey) -> Result<Option<&Cell>, Lacks> {
         Ok(reading::get(&self.trees.forest, db, name))

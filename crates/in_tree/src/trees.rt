@@ -4,7 +4,9 @@ ghost use Rattle.record_map.specs.Cells.{value_at, IsRising, first_of, last_of, 
 ghost use Rattle.record_tree.specs.Logged.{IsEndOf};
 ghost use Rattle.record_tree.specs.Occupied.{AreSame, occupied_by};
 ghost use Rattle.record_tree.specs.declared.tree_err.TreeErr.{TreeErr as Reason};
+ghost use Rattle.record_tree.specs.Stored.{stored_at, HasStored, AreStoredStill};
 ghost use Rattle.in_tree.specs.Forest.{cells_seen, is_there, HasSameTrees, HasChange, with_value};
+ghost use Rattle.in_tree.specs.Stored.{stored_of, IsQuiet};
 
 use crate::{DbTree, forest, reading};
 use je_lsn::Lsn;
@@ -83,6 +85,8 @@ impl Trees {
         ensures no_fault { IsEndOf Reason.Fault result ⊥ }
         ensures no_limit { IsEndOf Reason.Full result ⊥ }
         ensures err { OnErr result (HasSameTrees self.old.forest self.new.forest) }
+        ensures stored { AreStoredStill (stored_of self.old.forest) (stored_of self.new.forest) }
+        ensures quiet { IsQuiet self.old.forest → IsQuiet self.new.forest }
     {
         if self.last_node == LAST_NODE {
             return Err(TreeErr::IdsEnded);
@@ -100,26 +104,31 @@ impl Trees {
     pub fn drop_db(&mut self, db: u32)
         ensures cells { (d : ℕ) → cells_seen self.new.forest d ≡ (if d == db then [] else cells_seen self.old.forest d) }
         ensures trees { (d : ℕ) → is_there self.new.forest d ≡ (if d == db then false else is_there self.old.forest d) }
+        ensures stored { (d : ℕ) → stored_of self.new.forest d ≡ (if d == db then [] else stored_of self.old.forest d) }
+        ensures quiet { IsQuiet self.old.forest → IsQuiet self.new.forest }
     {
         forest::drop_db(&mut self.forest, db);
     }
 
     /// Sets what is committed of a name, as the log has it: the record that was logged at `at`, or none where the record was
-    /// deleted there, by the Commit at `commit`. Nothing is logged. Running out of memory changes nothing.
+    /// deleted there. A redo finds the change again from the LSN `first` on, which is `at` or before it. Nothing is
+    /// logged. Running out of memory changes nothing.
     pub fn redo(
         &mut self,
         alloc: Global,
         db: u32,
         name: &SortKey,
         value: Option<Octets>,
+        first: Lsn,
         at: Lsn,
-        commit: Lsn,
     ) -> Result<(), AllocError>
         requires { is_there self.old.forest db ≡ true }
         ensures cells { OnOk result (HasChange (cells_seen self.old.forest) (cells_seen self.new.forest) db name.now (with_value value)) }
+        ensures stored { OnOk result (HasStored (stored_of self.old.forest) (stored_of self.new.forest) db name.now (stored_at at value)) }
+        ensures quiet { IsQuiet self.old.forest → IsQuiet self.new.forest }
         ensures same { OnErr result (AreSame (cells_seen self.old.forest) (cells_seen self.new.forest)) }
         ensures trees { HasSameTrees self.old.forest self.new.forest }
     {
-        forest::redo(&mut self.forest, alloc, db, name, value, at, commit)
+        forest::redo(&mut self.forest, alloc, db, name, value, first, at)
     }
 }

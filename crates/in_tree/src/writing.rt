@@ -5,12 +5,11 @@ ghost use Rattle.log_entry.specs.Body.{IsEntry};
 ghost use Rattle.log_entry.specs.Parts.{entry_by};
 ghost use Rattle.log_entry.specs.declared.entry.Entry.{Entry};
 ghost use Rattle.log_entry.specs.declared.entry.Entry.TheVariants.{Commit as Committed};
-ghost use Rattle.log_buffer.specs.Growth.{Grew, Tried};
 ghost use Rattle.record_tree.specs.Logged.{entry_for, LogsChanges, IsFront};
 ghost use Rattle.record_tree.specs.Occupied.{AreWritten, HasChangedAll, after_commit, after_abort};
 ghost use Rattle.record_tree.specs.declared.tree_err.TreeErr.{TreeErr as Reason};
 ghost use Rattle.in_tree.specs.Forest.{cells_seen, HasSameTrees, KeepsCells, HasOne, HasChange, with_change, write_for};
-ghost use Rattle.in_tree.specs.Limits.{change_size, commit_size, commit_sizes, sizes_for, HasRoomFor};
+ghost use Rattle.in_tree.specs.Limits.{change_size, commit_size, commit_sizes, sizes_for, HasRoomFor, GrewFitting, TriedFitting};
 
 use crate::{DbTree, forest};
 use je_disk::Disk;
@@ -94,9 +93,9 @@ pub(crate) fn sizes_for(
 fn log_one<D: Disk>(log: &mut LogBuffer<D>, txn: TxnId, change: &TreeChange) -> Result<Lsn, TreeErr>
     requires entry { IsEntry (entry_for txn change.now.db change.now.name change.now.value) }
     requires room { (sizes : List ℕ) × HasRoomFor log.old (change_size change.now ∷ sizes) }
-    ensures grew { OnOk result (Grew D.observable D.history D.sync_out D.read_out D.read_of log.old log.new (entry_for txn change.now.db change.now.name change.now.value ∷ [])) }
+    ensures grew { OnOk result (GrewFitting D.observable D.history D.sync_out D.read_out D.read_of D.faults log.old log.new (entry_for txn change.now.db change.now.name change.now.value ∷ [])) }
     ensures left { (sizes : List ℕ) → HasRoomFor log.old (change_size change.now ∷ sizes) → OnOk result (HasRoomFor log.new sizes) }
-    ensures tried { OnErr result (Tried D.observable D.history D.sync_out D.read_out D.read_of log.old log.new (entry_for txn change.now.db change.now.name change.now.value ∷ [])) }
+    ensures tried { OnErr result (TriedFitting D.observable D.history D.sync_out D.read_out D.read_of D.faults log.old log.new (entry_for txn change.now.db change.now.name change.now.value ∷ [])) }
     ensures by_fault { IfErr result (λ e. e ≡ Reason.Fault) }
 {
     match log.append_reserved(&entry_of(txn, change)) {
@@ -117,9 +116,9 @@ fn write_one<D: Disk>(
     requires room { (sizes : List ℕ) × HasRoomFor log.old (change_size change.now ∷ sizes) }
     requires there { HasOne trees.old change.now.db change.now.name }
     requires write { write.value ≡ write_for txn change.now }
-    ensures grew { OnOk result (Grew D.observable D.history D.sync_out D.read_out D.read_of log.old log.new (entry_for txn change.now.db change.now.name change.now.value ∷ [])) }
+    ensures grew { OnOk result (GrewFitting D.observable D.history D.sync_out D.read_out D.read_of D.faults log.old log.new (entry_for txn change.now.db change.now.name change.now.value ∷ [])) }
     ensures left { (sizes : List ℕ) → HasRoomFor log.old (change_size change.now ∷ sizes) → OnOk result (HasRoomFor log.new sizes) }
-    ensures tried { OnErr result (Tried D.observable D.history D.sync_out D.read_out D.read_of log.old log.new (entry_for txn change.now.db change.now.name change.now.value ∷ [])) }
+    ensures tried { OnErr result (TriedFitting D.observable D.history D.sync_out D.read_out D.read_of D.faults log.old log.new (entry_for txn change.now.db change.now.name change.now.value ∷ [])) }
     ensures by_fault { IfErr result (λ e. e ≡ Reason.Fault) }
     ensures cells { OnOk result ((at : ℕ) × HasChange (cells_seen trees.old) (cells_seen trees.new) change.now.db change.now.name (with_change (record { txn = txn; at = at; value = change.now.value }))) }
     ensures kept { KeepsCells trees.old trees.new }
@@ -144,9 +143,9 @@ pub(crate) fn write_each<D: Disk>(
     requires room { (owed : ℕ) × HasRoomFor log.old (sizes_for changes.now owed) }
     requires there { AllByRecursion (λ c. HasOne trees.old c.db c.name) changes.now }
     requires writes { map (λ b. b.value) writes.items ≡ map (write_for txn) changes.now }
-    ensures grew { OnOk result ((entries : List Entry) × LogsChanges txn changes.now entries × Grew D.observable D.history D.sync_out D.read_out D.read_of log.old log.new entries) }
+    ensures grew { OnOk result ((entries : List Entry) × LogsChanges txn changes.now entries × GrewFitting D.observable D.history D.sync_out D.read_out D.read_of D.faults log.old log.new entries) }
     ensures left { (owed : ℕ) → HasRoomFor log.old (sizes_for changes.now owed) → OnOk result (HasRoomFor log.new (commit_sizes owed)) }
-    ensures tried { OnErr result ((entries : List Entry) × (front : List Entry) × LogsChanges txn changes.now entries × IsFront front entries × Tried D.observable D.history D.sync_out D.read_out D.read_of log.old log.new front) }
+    ensures tried { OnErr result ((entries : List Entry) × (front : List Entry) × LogsChanges txn changes.now entries × IsFront front entries × TriedFitting D.observable D.history D.sync_out D.read_out D.read_of D.faults log.old log.new front) }
     ensures by_fault { IfErr result (λ e. e ≡ Reason.Fault) }
     ensures cells { OnOk result (AreWritten txn changes.now (cells_seen trees.old) (cells_seen trees.new)) }
     ensures trees { HasSameTrees trees.old trees.new }
@@ -164,9 +163,9 @@ pub(crate) fn write_each<D: Disk>(
 // Logs a Commit, for which there is room.
 pub(crate) fn log_commit<D: Disk>(log: &mut LogBuffer<D>, txn: TxnId) -> Result<Lsn, TreeErr>
     requires { (sizes : List ℕ) × HasRoomFor log.old (commit_size ∷ sizes) }
-    ensures grew { OnOk result (Grew D.observable D.history D.sync_out D.read_out D.read_of log.old log.new (Committed txn ∷ [])) }
+    ensures grew { OnOk result (GrewFitting D.observable D.history D.sync_out D.read_out D.read_of D.faults log.old log.new (Committed txn ∷ [])) }
     ensures left { (sizes : List ℕ) → HasRoomFor log.old (commit_size ∷ sizes) → OnOk result (HasRoomFor log.new sizes) }
-    ensures tried { OnErr result (Tried D.observable D.history D.sync_out D.read_out D.read_of log.old log.new (Committed txn ∷ [])) }
+    ensures tried { OnErr result (TriedFitting D.observable D.history D.sync_out D.read_out D.read_of D.faults log.old log.new (Committed txn ∷ [])) }
     ensures by_fault { IfErr result (λ e. e ≡ Reason.Fault) }
 {
     let commit = Entry::Commit { txn };

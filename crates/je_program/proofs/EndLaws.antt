@@ -9,13 +9,14 @@ use Rattle.store_model.specs.Journal.{is_disk_fault}
 use Rattle.je_answers.specs.Journal.{has_answer}
 use Rattle.log_file.proofs.FilesLaws.{are_one_list}
 use Rattle.log_replay.specs.declared.corruption.Corruption.{Corruption}
-use Rattle.log_replay.specs.Meaning.{Meaning}
-use Rattle.log_replay.specs.Reading.{reading_of}
+use Rattle.log_meaning.specs.Meaning.{Meaning}
+use Rattle.log_meaning.specs.Reading.{reading_of}
 use Rattle.script_text.specs.Grammar.{plan_of}
 use Rattle.je_program.specs.declared.cause.Cause.{Cause}
 use Rattle.je_program.specs.declared.cause.Cause.TheVariants.{Done, Usage, BadScript, Disk, Unreadable, Memory, Input, InputTooLong, LogFull, IdsEnded}
 use Rattle.je_program.specs.declared.reading.TheConstants.{MOST_INPUT}
 use Rattle.engine.specs.Files.{HasCorruption, Means}
+use Rattle.engine.specs.Opening.{HasNoNumbers}
 use Rattle.je_program.specs.Program.{EndsBy, IsStopped, RunsIf}
 use Rattle.je_program.specs.Run.{cause_of_journal, cause_of_room}
 
@@ -67,11 +68,16 @@ in_room journal cause other ends =
     (λ (is : cause ≡ Disk). absurd (other is))
     ends
 
--- valid arguments, a script and files with a meaning end in a run, unless memory ran out or a count rose
+-- a program that was run ends as its journal's room says; one that was not may lack node numbers; or memory ran out or a count rose
+abbrev pub IsCompleted : Cause → Bool → List Event → ℕ → ℕ → ℕ → ℕ → Type 0
+IsCompleted cause opened journal s0 s1 d0 d1 =
+    ((opened ≡ true) × (cause ≡ cause_of_room journal)) ⊎ ((opened ≡ false) × (cause ≡ IdsEnded)) ⊎ (cause ≡ Memory) ⊎ Failing s0 s1 ⊎ HasRisen d0 d1
+
+-- valid arguments, a script and files with a meaning end so
 pub completes : (files : Files) (left : Option (List ℕ)) (s0 s1 d0 d1 : ℕ) (cause : Cause) (opened : Bool) (journal : List Event) (bytes : List ℕ) (plan : RunPlan) (meaning : Meaning) →
     left ≡ Some bytes → length bytes ≤ MOST_INPUT → plan_of bytes ≡ Ok plan → Means files meaning → (cause ≡ Usage → ⊥) → IsStopped left s0 s1 cause → RunsIf cause opened →
     ((corruption : Corruption) → cause ≡ Unreadable corruption → HasCorruption files corruption) → (opened ≡ true → cause ≢ Memory → EndsBy journal cause) → (cause ≡ Disk → HasRisen d0 d1) →
-    (cause ≡ cause_of_room journal) ⊎ (cause ≡ Memory) ⊎ Failing s0 s1 ⊎ HasRisen d0 d1
+    IsCompleted cause opened journal s0 s1 d0 d1
 completes files left s0 s1 d0 d1 cause opened journal bytes plan meaning is short plans means right stopped runs unreadable ends failed =
     by_cause cause right stopped runs unreadable ends failed
   where
@@ -80,13 +86,17 @@ completes files left s0 s1 d0 d1 cause opened journal bytes plan meaning is shor
 
     by_cause : (cause : Cause) → (cause ≡ Usage → ⊥) → IsStopped left s0 s1 cause → RunsIf cause opened →
         ((corruption : Corruption) → cause ≡ Unreadable corruption → HasCorruption files corruption) → (opened ≡ true → cause ≢ Memory → EndsBy journal cause) → (cause ≡ Disk → HasRisen d0 d1) →
-        (cause ≡ cause_of_room journal) ⊎ (cause ≡ Memory) ⊎ Failing s0 s1 ⊎ HasRisen d0 d1
-    by_cause Done right stopped runs unreadable ends failed = inl (in_room journal Done (λ e. cc) (ends runs (λ e. cc)))
-    by_cause LogFull right stopped runs unreadable ends failed = inl (in_room journal LogFull (λ e. cc) (ends runs (λ e. cc)))
-    by_cause IdsEnded right stopped runs unreadable ends failed = inl (in_room journal IdsEnded (λ e. cc) (ends runs (λ e. cc)))
-    by_cause Disk right stopped runs unreadable ends failed = inr (inr (inr (failed refl)))
-    by_cause Memory right stopped runs unreadable ends failed = inr (inl refl)
-    by_cause Input right stopped runs unreadable ends failed = inr (inr (inl stopped))
+        IsCompleted cause opened journal s0 s1 d0 d1
+    by_cause Done right stopped runs unreadable ends failed = inl (runs, in_room journal Done (λ e. cc) (ends runs (λ e. cc)))
+    by_cause LogFull right stopped runs unreadable ends failed = inl (runs, in_room journal LogFull (λ e. cc) (ends runs (λ e. cc)))
+    by_cause IdsEnded right stopped runs unreadable ends failed =
+        ⊎_elim
+        (λ (is_opened : opened ≡ true). inl (is_opened, in_room journal IdsEnded (λ e. cc) (ends is_opened (λ e. cc))))
+        (λ (none : opened ≡ false). inr (inl (none, refl)))
+        (cases_Bool opened)
+    by_cause Disk right stopped runs unreadable ends failed = inr (inr (inr (inr (failed refl))))
+    by_cause Memory right stopped runs unreadable ends failed = inr (inr (inl refl))
+    by_cause Input right stopped runs unreadable ends failed = inr (inr (inr (inl stopped)))
     by_cause Usage right stopped runs unreadable ends failed = absurd (right refl)
     by_cause (BadScript line) right stopped runs unreadable ends failed = absurd (not_bad left plan line script stopped)
     by_cause InputTooLong right stopped runs unreadable ends failed = absurd (not_long left plan script stopped)
@@ -95,9 +105,9 @@ completes files left s0 s1 d0 d1 cause opened journal bytes plan meaning is shor
 -- where the files have a corruption, the program ends by it, unless memory ran out or a count rose
 pub finds : (files : Files) (left : Option (List ℕ)) (s0 s1 d0 d1 : ℕ) (cause : Cause) (opened : Bool) (bytes : List ℕ) (plan : RunPlan) (corruption : Corruption) →
     left ≡ Some bytes → length bytes ≤ MOST_INPUT → plan_of bytes ≡ Ok plan → HasCorruption files corruption → (cause ≡ Usage → ⊥) → IsStopped left s0 s1 cause → RunsIf cause opened →
-    ((f : Corruption) → cause ≡ Unreadable f → HasCorruption files f) → (opened ≡ true → (meaning : Meaning) × Means files meaning) → (cause ≡ Disk → HasRisen d0 d1) →
+    ((f : Corruption) → cause ≡ Unreadable f → HasCorruption files f) → (opened ≡ true → (meaning : Meaning) × Means files meaning) → (cause ≡ IdsEnded → opened ≡ false → HasNoNumbers files) → (cause ≡ Disk → HasRisen d0 d1) →
     (cause ≡ Unreadable corruption) ⊎ (cause ≡ Memory) ⊎ Failing s0 s1 ⊎ HasRisen d0 d1
-finds files left s0 s1 d0 d1 cause opened bytes plan corruption is short plans has right stopped runs unreadable means failed = by_cause cause right stopped runs unreadable failed
+finds files left s0 s1 d0 d1 cause opened bytes plan corruption is short plans has right stopped runs unreadable means numbers failed = by_cause cause right stopped runs unreadable numbers failed
   where
     script : IsScript left plan
     script = record { bytes = bytes; is = is; short = short; plans = plans }
@@ -105,15 +115,20 @@ finds files left s0 s1 d0 d1 cause opened bytes plan corruption is short plans h
     closed : opened ≡ true → ⊥
     closed e = let m = means e in no_corruption_beside files corruption m.0 has m.1
 
-    by_cause : (cause : Cause) → (cause ≡ Usage → ⊥) → IsStopped left s0 s1 cause → RunsIf cause opened → ((f : Corruption) → cause ≡ Unreadable f → HasCorruption files f) → (cause ≡ Disk → HasRisen d0 d1) →
+    none_left : HasNoNumbers files → ⊥
+    none_left has_none = no_corruption_beside files corruption has_none.meaning has (record { held = has_none.held; are = has_none.are; reads = has_none.reads })
+
+    by_cause : (cause : Cause) → (cause ≡ Usage → ⊥) → IsStopped left s0 s1 cause → RunsIf cause opened → ((f : Corruption) → cause ≡ Unreadable f → HasCorruption files f) →
+        (cause ≡ IdsEnded → opened ≡ false → HasNoNumbers files) → (cause ≡ Disk → HasRisen d0 d1) →
         (cause ≡ Unreadable corruption) ⊎ (cause ≡ Memory) ⊎ Failing s0 s1 ⊎ HasRisen d0 d1
-    by_cause Done right stopped runs unreadable failed = absurd (closed runs)
-    by_cause LogFull right stopped runs unreadable failed = absurd (closed runs)
-    by_cause IdsEnded right stopped runs unreadable failed = absurd (closed runs)
-    by_cause Disk right stopped runs unreadable failed = inr (inr (inr (failed refl)))
-    by_cause Memory right stopped runs unreadable failed = inr (inl refl)
-    by_cause Input right stopped runs unreadable failed = inr (inr (inl stopped))
-    by_cause Usage right stopped runs unreadable failed = absurd (right refl)
-    by_cause (BadScript line) right stopped runs unreadable failed = absurd (not_bad left plan line script stopped)
-    by_cause InputTooLong right stopped runs unreadable failed = absurd (not_long left plan script stopped)
-    by_cause (Unreadable f) right stopped runs unreadable failed = inl (ap Unreadable (one_corruption files f corruption (unreadable f refl) has))
+    by_cause Done right stopped runs unreadable numbers failed = absurd (closed runs)
+    by_cause LogFull right stopped runs unreadable numbers failed = absurd (closed runs)
+    by_cause IdsEnded right stopped runs unreadable numbers failed =
+        absurd (⊎_elim (λ (is_opened : opened ≡ true). closed is_opened) (λ (none : opened ≡ false). none_left (numbers refl none)) (cases_Bool opened))
+    by_cause Disk right stopped runs unreadable numbers failed = inr (inr (inr (failed refl)))
+    by_cause Memory right stopped runs unreadable numbers failed = inr (inl refl)
+    by_cause Input right stopped runs unreadable numbers failed = inr (inr (inl stopped))
+    by_cause Usage right stopped runs unreadable numbers failed = absurd (right refl)
+    by_cause (BadScript line) right stopped runs unreadable numbers failed = absurd (not_bad left plan line script stopped)
+    by_cause InputTooLong right stopped runs unreadable numbers failed = absurd (not_long left plan script stopped)
+    by_cause (Unreadable f) right stopped runs unreadable numbers failed = inl (ap Unreadable (one_corruption files f corruption (unreadable f refl) has))

@@ -140,7 +140,7 @@ runs_if Done opened ran is = is
 runs_if Disk opened ran is = tt
 runs_if Memory opened ran is = tt
 runs_if LogFull opened ran is = is
-runs_if IdsEnded opened ran is = is
+runs_if IdsEnded opened ran is = tt
 runs_if cause opened ran is = absurd ran
 
 pub ran_after_reading : (cause : Cause) → IsRanCause cause → is_before_disk cause ≡ false

@@ -11,7 +11,7 @@ use Rattle.store_model.specs.declared.change.Change.{Change}
 use Rattle.store_model.specs.declared.event.Event.{Event}
 use Rattle.store_model.specs.declared.event.Event.TheVariants.{Call as Called, Resume, SyncBegin, SyncEnd}
 use Rattle.store_model.specs.declared.answer.Answer.{Answer}
-use Rattle.store_model.specs.declared.answer.Answer.TheVariants.{Done, Logged, Durable, LogFull, DiskFault, Invalid}
+use Rattle.store_model.specs.declared.answer.Answer.TheVariants.{Done, Logged, Durable, LogFull, IdsEnded, DiskFault, Invalid}
 use Rattle.store_model.specs.declared.answer.Fault.{Fault}
 use Rattle.store_model.specs.Journal.{answers_some, is_disk_fault, is_logged}
 use Rattle.store_model.specs.Refusals.{or_refusal}
@@ -22,64 +22,80 @@ use Rattle.je_answers.specs.After.{AnswersAsModel, after_event, after_events}
 use Rattle.je_answers.specs.Journal.{has_answer, AreSyncedAtOnce, IsSyncedAtOnce, IsSyncedBy, changes_by}
 use Rattle.je_answers.proofs.Journals.{after_events-append, answers-append}
 use Rattle.engine.specs.declared.engine.Engine.{Engine}
-use Rattle.engine.specs.Limits.{AreBounded, IsBounded, most_logged}
+use Rattle.engine.specs.Limits.{AreBounded, IsBounded, IsWithin, Reach, last_number, reach_after}
 use Rattle.engine.specs.Steps.{IsNumbered}
-use Rattle.engine.specs.Whole.{EndsSync, GoesOn, IsAt, end_file}
-use Rattle.je_program.specs.Run.{IsCallOrSync, IsRunning, IsCaused, all_logged}
+use Rattle.engine.specs.Whole.{EndsSync, GoesOn, IsAt, reach_of}
+use Rattle.je_program.specs.Run.{IsCallOrSync, IsRunning, IsCaused, reach_by}
 use Rattle.engine.proofs.Counts.{rose_earlier, rose_later}
 use Rattle.je_program.proofs.FaultLaws.{valid_after}
 
 -- ---- limits
 
--- a limit that comes early enough comes no earlier where the log ends later
-bounded_later : (early late : ℕ) (changes : List Change) (limit : Option Answer) → early ≤ late → IsBounded early changes limit → IsBounded late changes limit
-bounded_later early late changes limit later bounded =
+-- what reaches less far may reach less far after changes
+after_within : (reach other : Reach) (changes : List Change) → IsWithin reach other → IsWithin (reach_after reach changes) (reach_after other changes)
+after_within reach other changes within = record {
+  file = (let h : reach.file ≤ other.file = within.file in omega (arith, h));
+  node = (let h : reach.node ≤ other.node = within.node in omega (arith, h));
+}
+
+by_within : (reach other : Reach) (st : Standing) (events : List Event) → IsWithin reach other → IsWithin (reach_by reach st events) (reach_by other st events)
+by_within reach other st [] within = within
+by_within reach other st (event ∷ events) within =
+    by_within (reach_after reach (changes_by st event)) (reach_after other (changes_by st event)) (after_event st event) events (after_within reach other (changes_by st event) within)
+
+within_then : (a b c : Reach) → IsWithin a b → IsWithin b c → IsWithin a c
+within_then a b c first next = record {
+  file = (let h : a.file ≤ b.file = first.file in let k : b.file ≤ c.file = next.file in omega (arith, h, k));
+  node = (let h : a.node ≤ b.node = first.node in let k : b.node ≤ c.node = next.node in omega (arith, h, k));
+}
+
+within_itself : (a : Reach) → IsWithin a a
+within_itself a = record { file = omega arith; node = omega arith }
+
+-- nothing is reached without a change
+after_none : (reach : Reach) → IsWithin reach (reach_after reach [])
+after_none reach = record { file = omega arith; node = omega arith }
+
+-- a limit that comes where a log reaches so far comes also where it reaches farther
+bounded_later : (early late : Reach) (changes : List Change) (limit : Option Answer) → IsWithin early late → IsBounded early changes limit → IsBounded late changes limit
+bounded_later early late changes limit within bounded =
     ⊎_elim
     (λ (none : limit ≡ None). inl none)
-    (λ (full : (limit ≡ Some LogFull) × (last_file < early + most_logged changes)). inr (full.0, still last_file early late (most_logged changes) full.1 later))
+    (λ more. inr (⊎_elim
+    (λ (full : (limit ≡ Some LogFull) × (last_file < (reach_after early changes).file)). inl (full.0, below last_file (reach_after early changes).file (reach_after late changes).file full.1 after.file))
+    (λ (ended : (limit ≡ Some IdsEnded) × (last_number < (reach_after early changes).node)). inr (ended.0, below last_number (reach_after early changes).node (reach_after late changes).node ended.1 after.node))
+    more))
     bounded
   where
-    still : (last early late count : ℕ) → last < early + count → early ≤ late → last < late + count
-    still last early late count near later = omega (arith, near, later)
+    after : IsWithin (reach_after early changes) (reach_after late changes)
+    after = after_within early late changes within
+
+    below : (last near far : ℕ) → last < near → near ≤ far → last < far
+    below last near far past later = omega (arith, past, later)
 
 -- the limits of a journal, and then those of another
-bounded-append : (first : ℕ) (st : Standing) (limits others : List (Option Answer)) (before after : List Event) → AnswersAsModel st limits before → AreBounded first st before limits →
-    AreBounded (first + all_logged st before) (after_events st before) after others → AreBounded first st (before ++ after) (limits ++ others)
-bounded-append first st [] others [] after answers b o = subst (λ (n : ℕ). AreBounded n st after others) (none_more first) o where
-  none_more : (n : ℕ) → n + 0 ≡ n
-  none_more n = omega arith
-bounded-append first st (limit ∷ limits) others (event ∷ events) after answers b o = (
-  b.0,
-  bounded-append (first + most_logged (changes_by st event)) (after_event st event) limits others events after answers.1 b.1
-      (subst (λ (n : ℕ). AreBounded n (after_events (after_event st event) events) after others) (joined first (most_logged (changes_by st event)) (all_logged (after_event st event) events)) o),
-) where
-  joined : (n a b : ℕ) → n + (a + b) ≡ n + a + b
-  joined n a b = omega arith
+bounded-append : (first : Reach) (st : Standing) (limits others : List (Option Answer)) (before after : List Event) → AnswersAsModel st limits before → AreBounded first st before limits →
+    AreBounded (reach_by first st before) (after_events st before) after others → AreBounded first st (before ++ after) (limits ++ others)
+bounded-append first st [] others [] after answers b o = o
+bounded-append first st (limit ∷ limits) others (event ∷ events) after answers b o =
+    (b.0, bounded-append (reach_after first (changes_by st event)) (after_event st event) limits others events after answers.1 b.1 o)
 bounded-append first st [] others (event ∷ events) after answers b o = absurd answers
 bounded-append first st (limit ∷ limits) others [] after answers b o = absurd answers
 
-all_logged-append : (st : Standing) (before after : List Event) → all_logged st (before ++ after) ≡ all_logged st before + all_logged (after_events st before) after
-all_logged-append st [] after = none_before (all_logged st after) where
-  none_before : (n : ℕ) → n ≡ 0 + n
-  none_before n = omega arith
-all_logged-append st (event ∷ events) after =
-    ap (λ (n : ℕ). most_logged (changes_by st event) + n) (all_logged-append (after_event st event) events after)
-    ∙ joined (most_logged (changes_by st event)) (all_logged (after_event st event) events) (all_logged (after_events (after_event st event) events) after) where
-      joined : (a b c : ℕ) → a + (b + c) ≡ a + b + c
-      joined a b c = omega arith
+reach_by-append : (reach : Reach) (st : Standing) (before after : List Event) → reach_by reach st (before ++ after) ≡ reach_by (reach_by reach st before) (after_events st before) after
+reach_by-append reach st [] after = refl
+reach_by-append reach st (event ∷ events) after = reach_by-append (reach_after reach (changes_by st event)) (after_event st event) events after
 
-near_more : (old new first a b : ℕ) → old ≤ first + a → new ≤ old + b → new ≤ first + (a + b)
-near_more old new first a b near grows = omega (arith, near, grows)
+-- what a call may reach, and no farther in its sync
+unsynced_within : (old mid new : Reach) (changes : List Change) → IsWithin mid (reach_after old changes) → new ≡ mid → IsWithin new (reach_after (reach_after old changes) [])
+unsynced_within old mid new changes grows same =
+    subst (λ (r : Reach). IsWithin r (reach_after (reach_after old changes) [])) (sym same)
+    (within_then mid (reach_after old changes) (reach_after (reach_after old changes) []) grows (after_none (reach_after old changes)))
 
--- what a call logs at most, and no more in its sync
-logs_once : (old new count : ℕ) → new ≤ old + count → new ≤ old + (count + 0)
-logs_once old new count grows = omega (arith, grows)
-
-logs_twice : (old mid new count : ℕ) → mid ≤ old + count → new ≡ mid → new ≤ old + (count + (0 + 0))
-logs_twice old mid new count grows same = omega (arith, grows, same)
-
-logs_thrice : (old mid new count : ℕ) → mid ≤ old + count → new ≡ mid → new ≤ old + (count + (0 + (0 + 0)))
-logs_thrice old mid new count grows same = omega (arith, grows, same)
+synced_within : (old mid new : Reach) (changes : List Change) → IsWithin mid (reach_after old changes) → new ≡ mid → IsWithin new (reach_after (reach_after (reach_after old changes) []) [])
+synced_within old mid new changes grows same =
+    within_then new (reach_after (reach_after old changes) []) (reach_after (reach_after (reach_after old changes) []) [])
+    (unsynced_within old mid new changes grows same) (after_none (reach_after (reach_after old changes) []))
 
 -- ---- answers
 
@@ -150,51 +166,52 @@ synced-append (event ∷ events) after b a = (synced_more event events after b.0
 
 module _ {D : Type 0} where
   -- several events more
-  runs_more : (most first : ℕ) (observable : Bool) (before after : State) (old new : Engine D) (journal events : List Event) (others : List (Option Answer)) (st : Standing) →
+  runs_more : (most : ℕ) (first : Reach) (observable : Bool) (before after : State) (old new : Engine D) (journal events : List Event) (others : List (Option Answer)) (st : Standing) →
       (running : IsRunning most first observable before old journal st) →
       IsAt most observable after new (after_events (after_events st journal) events) → AnswersAsModel (after_events st journal) others events →
-      AreBounded (first + all_logged st journal) (after_events st journal) events others → end_file new ≤ end_file old + all_logged (after_events st journal) events →
+      AreBounded (reach_by first st journal) (after_events st journal) events others → IsWithin (reach_of new) (reach_by (reach_of old) (after_events st journal) events) →
       AreSyncedAtOnce events → AllByRecursion IsCallOrSync events → IsRunning most first observable after new (journal ++ events) st
   runs_more most first observable before after old new journal events others st running here answers bounded grows synced only = record {
     here = subst (λ (s : Standing). IsAt most observable after new s) (sym (after_events-append st journal events)) here;
     limits = running.limits ++ others;
     answers = answers-append st running.limits others journal events running.answers answers;
     bounded = bounded-append first st running.limits others journal events running.answers running.bounded bounded;
-    near = subst (λ (n : ℕ). end_file new ≤ first + n) (sym (all_logged-append st journal events))
-        (near_more (end_file old) (end_file new) first (all_logged st journal) (all_logged (after_events st journal) events) running.near grows);
+    near = subst (λ (r : Reach). IsWithin (reach_of new) r) (sym (reach_by-append first st journal events))
+        (within_then (reach_of new) (reach_by (reach_of old) (after_events st journal) events) (reach_by (reach_by first st journal) (after_events st journal) events) grows
+        (by_within (reach_of old) (reach_by first st journal) (after_events st journal) events running.near));
     synced = synced-append journal events running.synced synced;
     only = all_append IsCallOrSync journal events running.only only;
   }
 
   -- no event more: a call found no memory
-  pub runs_same : (most first : ℕ) (observable : Bool) (before after : State) (old new : Engine D) (journal : List Event) (st : Standing) →
-      IsRunning most first observable before old journal st → IsAt most observable after new (after_events st journal) → end_file new ≤ end_file old →
+  pub runs_same : (most : ℕ) (first : Reach) (observable : Bool) (before after : State) (old new : Engine D) (journal : List Event) (st : Standing) →
+      IsRunning most first observable before old journal st → IsAt most observable after new (after_events st journal) → reach_of new ≡ reach_of old →
       IsRunning most first observable after new journal st
   runs_same most first observable before after old new journal st running here grows = record {
     here = here;
     limits = running.limits;
     answers = running.answers;
     bounded = running.bounded;
-    near = (let near : end_file old ≤ first + all_logged st journal = running.near in omega (arith, near, grows));
+    near = subst (λ (r : Reach). IsWithin r (reach_by first st journal)) (sym grows) running.near;
     synced = running.synced;
     only = running.only;
   }
 
   -- a call that was not logged
-  pub runs_plain : (most first : ℕ) (observable : Bool) (before after : State) (old new : Engine D) (journal : List Event) (session line : ℕ) (call : Call) (answer : Answer) (st : Standing) →
+  pub runs_plain : (most : ℕ) (first : Reach) (observable : Bool) (before after : State) (old new : Engine D) (journal : List Event) (session line : ℕ) (call : Call) (answer : Answer) (st : Standing) →
       IsRunning most first observable before old journal st → GoesOn most observable after old new (after_events st journal) session line call (Ok answer) → is_logged answer ≡ false →
-      end_file new ≤ end_file old + most_logged (changes_by (after_events st journal) (Called session line call answer [])) →
+      IsWithin (reach_of new) (reach_after (reach_of old) (changes_by (after_events st journal) (Called session line call answer []))) →
       IsRunning most first observable after new (journal ++ Called session line call answer [] ∷ []) st
   runs_plain most first observable before after old new journal session line call answer st running goes plain grows =
       runs_more most first observable before after old new journal (Called session line call answer [] ∷ []) (goes.0 ∷ []) st running goes.3 (goes.2, tt)
-      (bounded_later (end_file old) (first + all_logged st journal) (changes_by (after_events st journal) (Called session line call answer [])) goes.0 running.near goes.1, tt)
-      (logs_once (end_file old) (end_file new) (most_logged (changes_by (after_events st journal) (Called session line call answer []))) grows)
+      (bounded_later (reach_of old) (reach_by first st journal) (changes_by (after_events st journal) (Called session line call answer [])) goes.0 running.near goes.1, tt)
+      grows
       (not_waiting session line call answer plain) (tt, tt)
 
   -- a call that was logged, and a sync that could not begin
-  pub runs_unsynced : (most first : ℕ) (observable : Bool) (before middle after : State) (old mid new : Engine D) (journal : List Event) (session line : ℕ) (call : Call) (answer : Answer) (st : Standing) →
+  pub runs_unsynced : (most : ℕ) (first : Reach) (observable : Bool) (before middle after : State) (old mid new : Engine D) (journal : List Event) (session line : ℕ) (call : Call) (answer : Answer) (st : Standing) →
       IsRunning most first observable before old journal st → GoesOn most observable middle old mid (after_events st journal) session line call (Ok answer) → is_logged answer ≡ true →
-      end_file mid ≤ end_file old + most_logged (changes_by (after_events st journal) (Called session line call answer [])) → end_file new ≡ end_file mid →
+      IsWithin (reach_of mid) (reach_after (reach_of old) (changes_by (after_events st journal) (Called session line call answer []))) → reach_of new ≡ reach_of mid →
       ((s : Standing) → IsAt most observable middle mid s → s.fault ≡ None → IsAt most observable after new (after_event s (SyncBegin DiskFault))) →
       IsRunning most first observable after new ((journal ++ Called session line call answer [] ∷ []) ++ SyncBegin DiskFault ∷ []) st
   runs_unsynced most first observable before middle after old mid new journal session line call (Logged commit) st running goes logged grows same begins =
@@ -202,23 +219,23 @@ module _ {D : Type 0} where
       let event : Event = Called session line call (Logged commit) [] in
       let valid : (after_event st0 event).fault ≡ None = logged_none goes.0 st0 session line call (Logged commit) refl goes.2 in
       let events : List Event = event ∷ SyncBegin DiskFault ∷ [] in
-      let start = first + all_logged st journal in
+      let start = reach_by first st journal in
       let changes = changes_by st0 event in
       let all : IsRunning most first observable after new (journal ++ events) st =
       runs_more most first observable before after old new journal events (goes.0 ∷ None ∷ []) st running (begins (after_event st0 event) goes.3 valid)
       (goes.2, (subst (λ (f : Option Fault). IsSyncBegun f DiskFault) (sym valid) (inr refl), tt))
-      (bounded_later (end_file old) start changes goes.0 running.near goes.1, (inl refl, tt))
-      (logs_twice (end_file old) (end_file mid) (end_file new) (most_logged changes) grows same)
+      (bounded_later (reach_of old) start changes goes.0 running.near goes.1, (inl refl, tt))
+      (unsynced_within (reach_of old) (reach_of mid) (reach_of new) changes grows same)
       (([], inr (inr refl)), (tt, tt)) (tt, (tt, tt)) in
       let joined : journal ++ events ≡ (journal ++ event ∷ []) ++ SyncBegin DiskFault ∷ [] = sym (append_assoc journal (event ∷ []) (SyncBegin DiskFault ∷ [])) in
       subst (λ (l : List Event). IsRunning most first observable after new l st) joined all
   runs_unsynced most first observable before middle after old mid new journal session line call answer st running goes logged grows same begins = cc
 
   -- a call that was logged, and its sync
-  pub runs_logged : (most first : ℕ) (observable : Bool) (before middle after : State) (old mid new : Engine D) (journal : List Event) (session line : ℕ) (call : Call) (answer ending : Answer) (st : Standing) →
+  pub runs_logged : (most : ℕ) (first : Reach) (observable : Bool) (before middle after : State) (old mid new : Engine D) (journal : List Event) (session line : ℕ) (call : Call) (answer ending : Answer) (st : Standing) →
       IsRunning most first observable before old journal st → GoesOn most observable middle old mid (after_events st journal) session line call (Ok answer) →
       IsNumbered answer (after_event (after_events st journal) (Called session line call answer [])).commits → is_logged answer ≡ true →
-      end_file mid ≤ end_file old + most_logged (changes_by (after_events st journal) (Called session line call answer [])) → end_file new ≡ end_file mid →
+      IsWithin (reach_of mid) (reach_after (reach_of old) (changes_by (after_events st journal) (Called session line call answer []))) → reach_of new ≡ reach_of mid →
       ((s : Standing) → IsAt most observable middle mid s → s.fault ≡ None → EndsSync most observable after new (after_event s (SyncBegin Done)) ending) →
       IsRunning most first observable after new (((journal ++ Called session line call answer [] ∷ []) ++ SyncBegin Done ∷ []) ++ SyncEnd ending ∷ []) st
   runs_logged most first observable before middle after old mid new journal session line call (Logged commit) ending st running goes number logged grows same sync =
@@ -228,15 +245,15 @@ module _ {D : Type 0} where
       let valid : st1.fault ≡ None = logged_none goes.0 st0 session line call (Logged commit) refl goes.2 in
       let ended = sync st1 goes.3 valid in
       let events : List Event = event ∷ SyncBegin Done ∷ SyncEnd ending ∷ [] in
-      let start = first + all_logged st journal in
+      let start = reach_by first st journal in
       let changes = changes_by st0 event in
       let all : IsRunning most first observable after new (journal ++ events) st =
       runs_more most first observable before after old new journal events (goes.0 ∷ None ∷ None ∷ []) st running ended.1 (
         goes.2,
         (subst (λ (f : Option Fault). IsSyncBegun f Done) (sym valid) (inl refl), (subst (λ (f : Option Fault). IsSyncEnded f (Some st1.commits) ending) (sym valid) ended.0, tt)),
       )
-      (bounded_later (end_file old) start changes goes.0 running.near goes.1, (inl refl, (inl refl, tt)))
-      (logs_thrice (end_file old) (end_file mid) (end_file new) (most_logged changes) grows same)
+      (bounded_later (reach_of old) start changes goes.0 running.near goes.1, (inl refl, (inl refl, tt)))
+      (synced_within (reach_of old) (reach_of mid) (reach_of new) changes grows same)
       (ends_synced commit st1.commits ending number ended.0, (tt, (tt, tt))) (tt, (tt, (tt, tt))) in
       let joined : journal ++ events ≡ ((journal ++ event ∷ []) ++ SyncBegin Done ∷ []) ++ SyncEnd ending ∷ [] =
       sym (append_assoc journal (event ∷ SyncBegin Done ∷ []) (SyncEnd ending ∷ []))
@@ -246,9 +263,9 @@ module _ {D : Type 0} where
 
   -- a run that begins
   pub runs_none : (most : ℕ) (observable : Bool) (state : State) (engine : Engine D) (st : Standing) → IsAt most observable state engine st →
-      IsRunning most (end_file engine) observable state engine [] st
+      IsRunning most (reach_of engine) observable state engine [] st
   runs_none most observable state engine st here =
-      record { here = here; limits = []; answers = tt; bounded = tt; near = (let e : end_file engine ≤ end_file engine + 0 = omega arith in e); synced = tt; only = tt }
+      record { here = here; limits = []; answers = tt; bounded = tt; near = within_itself (reach_of engine); synced = tt; only = tt }
 
 pub caused_none : (faults : ℕ) → IsCaused faults faults []
 caused_none faults = record { never_falls = omega arith; fault = λ h. cc }

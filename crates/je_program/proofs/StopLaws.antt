@@ -7,27 +7,30 @@ use Rattle.store_model.specs.Journal.{is_disk_fault}
 use Rattle.je_answers.specs.Journal.{has_answer}
 use Rattle.log_replay.specs.declared.corruption.Corruption.{Corruption}
 use Rattle.engine.specs.declared.open_err.OpenErr.{OpenErr}
-use Rattle.engine.specs.declared.open_err.OpenErr.TheVariants.{Disk as NoDisk, Memory as NoMemory, Unreadable as CannotRead}
+use Rattle.engine.specs.declared.open_err.OpenErr.TheVariants.{Disk as NoDisk, Memory as NoMemory, IdsEnded as NoNumbers, Unreadable as CannotRead}
 use Rattle.engine.specs.Files.{HasCorruption}
-use Rattle.engine.specs.Opening.{StopsBy}
+use Rattle.engine.specs.Opening.{HasNoNumbers, StopsBy}
 use Rattle.je_program.specs.declared.cause.Cause.{Cause}
-use Rattle.je_program.specs.declared.cause.Cause.TheVariants.{Disk, Unreadable}
+use Rattle.je_program.specs.declared.cause.Cause.TheVariants.{Disk, IdsEnded, Unreadable}
 use Rattle.je_program.specs.Program.{ClosesRun, RunsIf, cause_of_opening, is_before_disk}
 
 pub stopped_runs : (error : OpenErr) (opened : Bool) → opened ≡ false → RunsIf (cause_of_opening error) opened
 stopped_runs NoDisk opened is = tt
 stopped_runs NoMemory opened is = tt
+stopped_runs NoNumbers opened is = tt
 stopped_runs (CannotRead corruption) opened is = is
 
 pub stopped_after_reading : (error : OpenErr) → is_before_disk (cause_of_opening error) ≡ false
 stopped_after_reading NoDisk = refl
 stopped_after_reading NoMemory = refl
+stopped_after_reading NoNumbers = refl
 stopped_after_reading (CannotRead corruption) = refl
 
 pub stopped_unreadable : (observable : Bool) (files : Files) (before after : ℕ) (error : OpenErr) (corruption : Corruption) → StopsBy observable files before after error →
     cause_of_opening error ≡ Unreadable corruption → observable ≡ true → HasCorruption files corruption
 stopped_unreadable observable files before after NoDisk corruption stops is observed = cc
 stopped_unreadable observable files before after NoMemory corruption stops is observed = cc
+stopped_unreadable observable files before after NoNumbers corruption stops is observed = cc
 stopped_unreadable observable files before after (CannotRead found) corruption stops is observed =
     subst (λ (c : Corruption). HasCorruption files c) (same found corruption is) (stops observed)
   where
@@ -37,6 +40,7 @@ stopped_unreadable observable files before after (CannotRead found) corruption s
 pub stopped_failed : (observable : Bool) (files : Files) (before after : ℕ) (error : OpenErr) → StopsBy observable files before after error → cause_of_opening error ≡ Disk → HasRisen before after
 stopped_failed observable files before after NoDisk stops is = stops
 stopped_failed observable files before after NoMemory stops is = cc
+stopped_failed observable files before after NoNumbers stops is = cc
 stopped_failed observable files before after (CannotRead corruption) stops is = cc
 
 -- a program without a journal, whose disk failed only where its count rose
@@ -46,3 +50,10 @@ stopped_caused before mid after journal cause same none later failed = record {
   fault = λ h. (let e : has_answer is_disk_fault [] ≡ true = sym (ap (has_answer is_disk_fault) none) ∙ h in cc);
   failed = λ is. subst (λ (n : ℕ). HasRisen before n) (sym same) (failed is);
 }
+
+-- no number of a node was left
+pub stopped_numbers : (observable : Bool) (files : Files) (before after : ℕ) (error : OpenErr) → StopsBy observable files before after error → cause_of_opening error ≡ IdsEnded → observable ≡ true → HasNoNumbers files
+stopped_numbers observable files before after NoDisk stops is = cc
+stopped_numbers observable files before after NoMemory stops is = cc
+stopped_numbers observable files before after NoNumbers stops is = stops
+stopped_numbers observable files before after (CannotRead corruption) stops is = cc

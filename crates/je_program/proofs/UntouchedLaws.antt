@@ -2,7 +2,7 @@
 use Rattle.je_disk.specs.Moments.{History}
 use Rattle.engine.specs.Untouched.{IsLeftAlone, IsUntouched}
 use Rattle.engine.specs.declared.open_err.OpenErr.{OpenErr}
-use Rattle.engine.specs.declared.open_err.OpenErr.TheVariants.{Disk as NoDisk, Memory as NoMemory, Unreadable as CannotRead}
+use Rattle.engine.specs.declared.open_err.OpenErr.TheVariants.{Disk as NoDisk, Memory as NoMemory, IdsEnded as NoNumbers, Unreadable as CannotRead}
 use Rattle.je_program.specs.declared.cause.Cause.{Cause}
 use Rattle.je_program.specs.declared.cause.Cause.TheVariants.{Unreadable}
 use Rattle.je_program.specs.Program.{cause_of_opening}
@@ -18,6 +18,7 @@ left_alone cause old new untouched = tt
 pub stopped_alone : (error : OpenErr) (old new : History) → IsLeftAlone error old new → LeavesUnreadable (cause_of_opening error) old new
 stopped_alone NoDisk old new alone = tt
 stopped_alone NoMemory old new alone = tt
+stopped_alone NoNumbers old new alone = tt
 stopped_alone (CannotRead corruption) old new alone = alone
 
 -- a run does not end with files that cannot be opened

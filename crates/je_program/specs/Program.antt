@@ -23,11 +23,11 @@ use Rattle.je_lsn.specs.Naming.{name_of}
 use Rattle.log_replay.specs.declared.corruption.Corruption.{Corruption}
 use Rattle.log_replay.specs.declared.corruption.Corruption.TheVariants.{Damaged, Missing, Tree, VersionUnknown}
 use Rattle.engine.specs.declared.open_err.OpenErr.{OpenErr}
-use Rattle.engine.specs.declared.open_err.OpenErr.TheVariants.{Disk as NoDisk, Memory as NoMemory, Unreadable as CannotRead}
-use Rattle.engine.specs.Files.{MeanStore, end_file_in}
+use Rattle.engine.specs.declared.open_err.OpenErr.TheVariants.{Disk as NoDisk, Memory as NoMemory, IdsEnded as NoNumbers, Unreadable as CannotRead}
+use Rattle.engine.specs.Files.{MeanStore}
 use Rattle.engine.specs.Limits.{AreBounded}
-use Rattle.engine.specs.Opening.{StartsAt}
-use Rattle.engine.specs.Totals.{totals_of}
+use Rattle.engine.specs.Opening.{StartsAt, reach_in}
+use Rattle.txn_core.specs.Totals.{totals_of}
 use Rattle.je_program.specs.Crash.{IsSafeProgram}
 use Rattle.je_program.specs.Run.{IsCallOrSync, cause_of_journal, final_store, of_session, AreFirstLines, status_of, unwritten_status_of}
 
@@ -78,7 +78,7 @@ is_before_disk cause = false
 abbrev pub RunsIf : Cause → Bool → Type 0
 RunsIf Done opened = opened ≡ true
 RunsIf LogFull opened = opened ≡ true
-RunsIf IdsEnded opened = opened ≡ true
+RunsIf IdsEnded opened = Unit {0}
 RunsIf Disk opened = Unit {0}
 RunsIf Memory opened = Unit {0}
 RunsIf cause opened = opened ≡ false
@@ -94,7 +94,7 @@ pub record IsRunOf (file_max : ℕ) (observable : Bool) (old new : History) (ope
   pub starts : StartsAt observable (now old).reads opening st
   pub limits : List (Option Answer)
   pub answers : AnswersAsModel st limits journal
-  pub bounded : AreBounded (end_file_in starts.held) st journal limits
+  pub bounded : AreBounded (reach_in starts.held starts.meaning) st journal limits
   pub synced_at_once : AreSyncedAtOnce journal
   pub only : AllByRecursion IsCallOrSync journal
   pub acknowledged : cause ≡ Done → AllAcknowledged st journal
@@ -145,6 +145,7 @@ IsOutputWritten before after faults_before faults_after text cause status =
 abbrev pub cause_of_opening : OpenErr → Cause
 cause_of_opening NoDisk = Disk
 cause_of_opening NoMemory = Memory
+cause_of_opening NoNumbers = IdsEnded
 cause_of_opening (CannotRead corruption) = Unreadable corruption
 
 -- the cause of a run's end once it is closed: a fault of the disk, unless there was no memory before

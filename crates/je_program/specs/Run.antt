@@ -17,17 +17,17 @@ use Rattle.je_answers.specs.Journal.{AreSyncedAtOnce, changes_by, has_answer, li
 use Rattle.engine.specs.declared.engine.Engine.{Engine}
 use Rattle.je_program.specs.declared.cause.Cause.{Cause}
 use Rattle.je_program.specs.declared.cause.Cause.TheVariants.{Done, Usage, BadScript, Disk, Unreadable, Memory, Input, InputTooLong, LogFull as NoRoom, IdsEnded as NoNumbers}
-use Rattle.engine.specs.Limits.{AreBounded, most_logged}
-use Rattle.engine.specs.Whole.{IsAt, end_file}
+use Rattle.engine.specs.Limits.{AreBounded, IsWithin, Reach, reach_after}
+use Rattle.engine.specs.Whole.{IsAt, reach_of}
 
 -- the store that a run leaves
 abbrev pub final_store : Standing → List Event → Store
 final_store st journal = (after_events st journal).store
 
--- how many entries a journal logs at most
-abbrev pub all_logged : Standing → List Event → ℕ
-all_logged st [] = 0
-all_logged st (event ∷ events) = most_logged (changes_by st event) + all_logged (after_event st event) events
+-- how far a log and its trees may reach behind a journal
+abbrev pub reach_by : Reach → Standing → List Event → Reach
+reach_by reach st [] = reach
+reach_by reach st (event ∷ events) = reach_by (reach_after reach (changes_by st event)) (after_event st event) events
 
 -- a call or a part of a sync: a script has no line yet for what else a journal may hold
 abbrev pub IsCallOrSync : Event → Type 0
@@ -37,14 +37,14 @@ IsCallOrSync (SyncEnd answer) = Unit {0}
 IsCallOrSync event = ⊥
 
 module _ {D : Type 0} where
-  -- a run is under way whose log ended in the file `first` as it began: the engine is where the journal leaves the model, and each answer so far
+  -- a run is under way whose log and trees reached as far as `first` as it began: the engine is where the journal leaves the model, and each answer so far
   -- is the model's
-  pub record IsRunning (most first : ℕ) (observable : Bool) (state : State) (engine : Engine D) (journal : List Event) (st : Standing) : Type 0 where
+  pub record IsRunning (most : ℕ) (first : Reach) (observable : Bool) (state : State) (engine : Engine D) (journal : List Event) (st : Standing) : Type 0 where
     pub here : IsAt most observable state engine (after_events st journal)
     pub limits : List (Option Answer)
     pub answers : AnswersAsModel st limits journal
     pub bounded : AreBounded first st journal limits
-    pub near : end_file engine ≤ first + all_logged st journal
+    pub near : IsWithin (reach_of engine) (reach_by first st journal)
     pub synced : AreSyncedAtOnce journal
     pub only : AllByRecursion IsCallOrSync journal
 

@@ -3,6 +3,7 @@
 ghost use Rattle.std.specs.Prelude.{◌≡◌, ◌≤◌, ◌<◌, ◌+◌, ◌++◌, ◌∷◌, [], ℕ, true, length, vec_len, vec_capacity, OnOk, OnErr};
 ghost use Rattle.script_text.specs.Grammar.{has_line};
 ghost use Rattle.je_disk.specs.Moments.{History, now};
+ghost use Rattle.engine.specs.Limits.{Reach};
 ghost use Rattle.engine.specs.Whole.{CanGoOn, IsGuarded, disk_of};
 ghost use Rattle.store_model.specs.Journal.{is_logged};
 ghost use Rattle.store_model.specs.declared.event.Event.TheVariants.{Call as Called};
@@ -67,14 +68,14 @@ pub fn execute<D: Disk>(
     line: u32,
     call: Call,
 ) -> Result<(), AllocError>
-    requires running { (most : ℕ) × (first : ℕ) × (st : Standing) × IsRunning most first D.observable (now (D.history (disk_of engine.old))) engine.old journal.old.items st }
+    requires running { (most : ℕ) × (first : Reach) × (st : Standing) × IsRunning most first D.observable (now (D.history (disk_of engine.old))) engine.old journal.old.items st }
     requires bounds { CanGoOn engine.old }
     requires has_line { has_line call ≡ true }
-    ensures runs { (most first : ℕ) (st : Standing) → IsRunning most first D.observable (now (D.history (disk_of engine.old))) engine.old journal.old.items st
+    ensures runs { (most : ℕ) (first : Reach) (st : Standing) → IsRunning most first D.observable (now (D.history (disk_of engine.old))) engine.old journal.old.items st
         → IsRunning most first D.observable (now (D.history (disk_of engine.new))) engine.new journal.new.items st }
     ensures bounds { CanGoOn engine.new }
     ensures caused { (before : ℕ) → IsCaused before (D.faults (disk_of engine.old)) journal.old.items → IsCaused before (D.faults (disk_of engine.new)) journal.new.items }
-    ensures crash { D.observable ≡ true → (most first : ℕ) (st : Standing) (start : History) → IsRunning most first D.observable (now (D.history (disk_of engine.old))) engine.old journal.old.items st
+    ensures crash { D.observable ≡ true → (most : ℕ) (first : Reach) (st : Standing) (start : History) → IsRunning most first D.observable (now (D.history (disk_of engine.old))) engine.old journal.old.items st
         → IsGuarded most st start (D.history (disk_of engine.old)) engine.old journal.old.items
         → IsGuarded most st start (D.history (disk_of engine.new)) engine.new journal.new.items }
     ensures line { OnOk result (lines_of journal.new.items ≡ lines_of journal.old.items ++ Session session line call ∷ []) }

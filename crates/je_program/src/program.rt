@@ -7,7 +7,7 @@ ghost use Rattle.store_model.specs.Journal.{is_disk_fault};
 ghost use Rattle.store_model.specs.Store.{no_databases};
 ghost use Rattle.je_answers.specs.Standing.{Standing};
 ghost use Rattle.je_answers.specs.Journal.{has_answer};
-ghost use Rattle.log_replay.specs.Meaning.{Meaning};
+ghost use Rattle.log_meaning.specs.Meaning.{Meaning};
 ghost use Rattle.log_replay.specs.declared.corruption.Corruption.{Corruption as Wrong};
 ghost use Rattle.script_text.specs.Grammar.{plan_of};
 ghost use Rattle.je_program.specs.declared.cause.Cause.{Cause as Why};
@@ -15,6 +15,7 @@ ghost use Rattle.je_program.specs.declared.reading.TheConstants.{MOST_INPUT};
 ghost use Rattle.engine.specs.Crash.{KeepsEntry};
 ghost use Rattle.engine.specs.Untouched.{IsUntouched};
 ghost use Rattle.engine.specs.Files.{HasCorruption, Means};
+ghost use Rattle.engine.specs.Opening.{HasNoNumbers};
 ghost use Rattle.je_program.specs.Program.{EndsBy, IsGivenTo, IsOutputWritten, IsRunOf, ReadsPlan, RunsIf, is_before_disk, output_text};
 ghost use Rattle.je_program.specs.Run.{cause_of_room};
 ghost use Rattle.command_line.specs.Arguments.{file_max_in, is_taken};
@@ -22,11 +23,11 @@ ghost use Rattle.command_line.specs.Arguments.{file_max_in, is_taken};
 use crate::cause::Cause;
 use crate::output::write_output;
 use crate::run_result::{RunResult, run_unprinted};
+use engine::{Opening, Records};
 use je_disk::Disk;
 use je_io::{Sink, Source};
-use log_replay::Rows;
 use std::alloc::Global;
-use store_model::{Event, Store, Totals};
+use store_model::{Event, Totals};
 
 /// How a program ended: the status for the process; the cause behind it, which a failing output does
 /// not change; whether the environment was opened and the script run; the disk; the journal, the store
@@ -40,9 +41,9 @@ pub struct Ended<D> {
     pub opened: bool,
     pub disk: D,
     pub journal: Vec<Event>,
-    pub opening: Store,
+    pub opening: Opening,
     pub totals: Totals,
-    pub rows: Rows,
+    pub records: Option<Records>,
 }
 
 /// Runs the program: reads the script from the input, opens the environment over the disk, gives the
@@ -77,6 +78,9 @@ pub fn run_je<D: Disk, S: Source, K: Sink>(
     ensures disk_failed { result.cause ≡ Why.Disk → HasRisen (D.faults disk) (D.faults result.disk) }
     ensures unreadable { (corruption : Wrong) → result.cause ≡ Why.Unreadable corruption → D.observable ≡ true → HasCorruption (now (D.history disk)).reads corruption }
 
+    // Where no script was run, no number is left only if those of the files' nodes may pass the last one.
+    ensures ids_ended { result.cause ≡ Why.IdsEnded → result.opened ≡ false → D.observable ≡ true → HasNoNumbers (now (D.history disk)).reads }
+
     // Where the files at entry cannot be opened, the disk's state is at each moment what it was.
     ensures unreadable_untouched { (corruption : Wrong) → result.cause ≡ Why.Unreadable corruption → D.observable ≡ true → IsUntouched (D.history disk) (D.history result.disk) }
 
@@ -102,7 +106,7 @@ pub fn run_je<D: Disk, S: Source, K: Sink>(
     // rose.
     ensures complete { (bytes : List ℕ) (plan : RunPlan) (meaning : Meaning) → is_taken (map string_bytes args.now) ≡ true → S.left input.old ≡ Some bytes
         → length bytes ≤ MOST_INPUT → plan_of bytes ≡ Ok plan → D.observable ≡ true → Means (now (D.history disk)).reads meaning
-        → (result.cause ≡ cause_of_room result.journal.items) ⊎ (result.cause ≡ Why.Memory)
+        → ((result.opened ≡ true) × (result.cause ≡ cause_of_room result.journal.items)) ⊎ ((result.opened ≡ false) × (result.cause ≡ Why.IdsEnded)) ⊎ (result.cause ≡ Why.Memory)
         ⊎ Failing (S.faults input.old) (S.faults input.new) ⊎ HasRisen (D.faults disk) (D.faults result.disk) }
     ensures unreadable_found { (bytes : List ℕ) (plan : RunPlan) (corruption : Wrong) → is_taken (map string_bytes args.now) ≡ true → S.left input.old ≡ Some bytes
         → length bytes ≤ MOST_INPUT → plan_of bytes ≡ Ok plan → D.observable ≡ true → HasCorruption (now (D.history disk)).reads corruption
@@ -126,7 +130,7 @@ pub fn run_je<D: Disk, S: Source, K: Sink>(
         journal,
         opening,
         totals,
-        rows,
+        records,
     } = run_result;
     let status = write_output(&cause, opened, &journal, &totals, output);
     Ended {
@@ -137,6 +141,6 @@ pub fn run_je<D: Disk, S: Source, K: Sink>(
         journal,
         opening,
         totals,
-        rows,
+        records,
     }
 }

@@ -5,6 +5,7 @@ ghost use Rattle.store_model.specs.declared.plan.RunPlan.{RunPlan};
 ghost use Rattle.script_text.specs.Grammar.{is_line};
 ghost use Rattle.command_line.specs.Arguments.{file_max_in, is_taken};
 ghost use Rattle.je_disk.specs.Moments.{History, now};
+ghost use Rattle.engine.specs.Limits.{Reach};
 ghost use Rattle.engine.specs.Whole.{IsGuarded, disk_of};
 ghost use Rattle.log_replay.specs.declared.corruption.Corruption.{Corruption as Wrong};
 ghost use Rattle.store_model.specs.Store.{no_databases};
@@ -14,7 +15,8 @@ ghost use Rattle.je_program.specs.declared.cause.Cause.{Cause as Why};
 ghost use Rattle.engine.specs.Crash.{ImagesMean, IsSafeRun, KeepsEntry};
 ghost use Rattle.je_program.specs.Untouched.{LeavesUnreadable};
 ghost use Rattle.engine.specs.Files.{HasCorruption, MeanStore};
-ghost use Rattle.engine.specs.Totals.{totals_of};
+ghost use Rattle.engine.specs.Opening.{HasNoNumbers};
+ghost use Rattle.txn_core.specs.Totals.{totals_of};
 ghost use Rattle.je_program.specs.Program.{ClosesRun, EndsBy, IsGivenTo, IsRunOf, IsStopped, ReadsPlan, RunsIf, is_before_disk, cause_closed, cause_of_opening};
 ghost use Rattle.je_program.specs.Run.{IsCaused, AreFirstLines, IsRunning, cause_of_journal, final_store, of_session};
 
@@ -22,12 +24,11 @@ use crate::cause::Cause;
 use crate::ending::journal_cause;
 use crate::run_request::{RunRequest, read_request};
 use crate::running::{Running, run};
-use engine::{Closed, Config, Engine, OpenErr, Opened, Stopped};
+use engine::{Closed, Config, Engine, OpenErr, Opened, Opening, Records, Stopped, no_opening};
 use je_disk::Disk;
 use je_io::Source;
-use log_replay::Rows;
 use std::alloc::Global;
-use store_model::{Event, RunPlan, Store, Totals};
+use store_model::{Event, RunPlan, Totals};
 
 /// What a program came to, before its output is written: the cause of its end, whether its environment
 /// was opened and the script run, the disk, the journal, the store at entry, how much the store holds at
@@ -37,9 +38,9 @@ pub struct RunResult<D> {
     pub opened: bool,
     pub disk: D,
     pub journal: Vec<Event>,
-    pub opening: Store,
+    pub opening: Opening,
     pub totals: Totals,
-    pub rows: Rows,
+    pub records: Option<Records>,
 }
 
 /// A program that ended before its environment was opened.
@@ -55,12 +56,12 @@ pub fn unopened<D>(alloc: Global, cause: Cause, disk: D) -> RunResult<D>
         opened: false,
         disk,
         journal: Vec::new(alloc),
-        opening: Store::new(alloc),
+        opening: no_opening(alloc),
         totals: Totals {
             databases: 0,
             records: 0,
         },
-        rows: Rows::new(alloc),
+        records: None,
     }
 }
 
@@ -97,27 +98,28 @@ fn opening_cause(error: OpenErr) -> Cause
     match error {
         OpenErr::Disk => Cause::Disk,
         OpenErr::Memory => Cause::Memory,
+        OpenErr::IdsEnded => Cause::IdsEnded,
         OpenErr::Unreadable(corruption) => Cause::Unreadable(corruption),
     }
 }
 
 // Ends a run: closes its engine.
-fn finish<D: Disk>(running: Running<D>, opening: Store) -> RunResult<D>
+fn finish<D: Disk>(running: Running<D>, opening: Opening) -> RunResult<D>
     ensures opened { result.opened ≡ true }
     ensures opening { result.opening ≡ opening }
     ensures journal { result.journal.items ≡ running.journal.items }
     ensures memory { running.memory_ended ≡ true → result.cause ≡ Why.Memory }
     ensures ends { running.memory_ended ≡ false → EndsBy running.journal.items result.cause }
     ensures caused { (before : ℕ) → IsCaused before (D.faults (disk_of running.engine)) running.journal.items → ClosesRun before (D.faults result.disk) running.journal.items result.cause }
-    ensures crash { D.observable ≡ true → (most first : ℕ) (start : History) (st : Standing) → IsRunning most first D.observable (now (D.history (disk_of running.engine))) running.engine running.journal.items st
+    ensures crash { D.observable ≡ true → (most : ℕ) (first : Reach) (start : History) (st : Standing) → IsRunning most first D.observable (now (D.history (disk_of running.engine))) running.engine running.journal.items st
         → IsGuarded most st start (D.history (disk_of running.engine)) running.engine running.journal.items
         → IsSafeRun st start (D.history result.disk) running.journal.items }
-    ensures crash_end { D.observable ≡ true → (most first : ℕ) (start : History) (st : Standing) → IsRunning most first D.observable (now (D.history (disk_of running.engine))) running.engine running.journal.items st
+    ensures crash_end { D.observable ≡ true → (most : ℕ) (first : Reach) (start : History) (st : Standing) → IsRunning most first D.observable (now (D.history (disk_of running.engine))) running.engine running.journal.items st
         → IsGuarded most st start (D.history (disk_of running.engine)) running.engine running.journal.items → st.fault ≡ None → result.cause ≡ Why.Done
         → ImagesMean (now (D.history result.disk)) (final_store st running.journal.items) }
-    ensures totals { (most first : ℕ) (st : Standing) → IsRunning most first D.observable (now (D.history (disk_of running.engine))) running.engine running.journal.items st
+    ensures totals { (most : ℕ) (first : Reach) (st : Standing) → IsRunning most first D.observable (now (D.history (disk_of running.engine))) running.engine running.journal.items st
         → result.totals ≡ totals_of (final_store st running.journal.items) }
-    ensures files { (most first : ℕ) (st : Standing) → IsRunning most first D.observable (now (D.history (disk_of running.engine))) running.engine running.journal.items st
+    ensures files { (most : ℕ) (first : Reach) (st : Standing) → IsRunning most first D.observable (now (D.history (disk_of running.engine))) running.engine running.journal.items st
         → st.fault ≡ None → result.cause ≡ Why.Done → D.observable ≡ true → MeanStore (now (D.history result.disk)).reads (final_store st running.journal.items) }
 {
     let Running {
@@ -129,7 +131,11 @@ fn finish<D: Disk>(running: Running<D>, opening: Store) -> RunResult<D>
     let totals = engine.totals();
     let cause = end_cause(memory_ended, &journal);
     let closed = engine.close();
-    let Closed { disk, failed, rows } = closed;
+    let Closed {
+        disk,
+        failed,
+        records,
+    } = closed;
     let cause = closed_cause(cause, failed);
     RunResult {
         cause,
@@ -138,7 +144,7 @@ fn finish<D: Disk>(running: Running<D>, opening: Store) -> RunResult<D>
         journal,
         opening,
         totals,
-        rows,
+        records: Some(records),
     }
 }
 
@@ -152,6 +158,7 @@ pub fn run_plan<D: Disk>(alloc: Global, disk: D, file_max: u32, plan: RunPlan) -
     ensures crash_unopened { D.observable ≡ true → result.opened ≡ false → KeepsEntry (D.history disk) (D.history result.disk) }
     ensures unopened { result.opened ≡ false → (result.opening ≡ no_databases) × (result.journal.items ≡ []) }
     ensures unreadable { (corruption : Wrong) → result.cause ≡ Why.Unreadable corruption → D.observable ≡ true → HasCorruption (now (D.history disk)).reads corruption }
+    ensures ids_ended { result.cause ≡ Why.IdsEnded → result.opened ≡ false → D.observable ≡ true → HasNoNumbers (now (D.history disk)).reads }
     ensures lines { result.opened ≡ true → result.cause ≢ Why.Memory → lines_of result.journal.items ≡ plan.lines }
     ensures front { result.opened ≡ true → (session : ℕ) → AreFirstLines (of_session session (lines_of result.journal.items)) (of_session session plan.lines) }
     ensures ends { result.opened ≡ true → result.cause ≢ Why.Memory → EndsBy result.journal.items result.cause }
@@ -191,6 +198,7 @@ pub fn run_unprinted<D: Disk, S: Source>(
     ensures crash_unopened { D.observable ≡ true → result.opened ≡ false → KeepsEntry (D.history disk) (D.history result.disk) }
     ensures unopened { result.opened ≡ false → (result.opening ≡ no_databases) × (result.journal.items ≡ []) }
     ensures unreadable { (corruption : Wrong) → result.cause ≡ Why.Unreadable corruption → D.observable ≡ true → HasCorruption (now (D.history disk)).reads corruption }
+    ensures ids_ended { result.cause ≡ Why.IdsEnded → result.opened ≡ false → D.observable ≡ true → HasNoNumbers (now (D.history disk)).reads }
     ensures ends { result.opened ≡ true → result.cause ≢ Why.Memory → EndsBy result.journal.items result.cause }
     ensures caused { ClosesRun (D.faults disk) (D.faults result.disk) result.journal.items result.cause }
     ensures source { S.faults input.old ≤ S.faults input.new }

@@ -3,7 +3,8 @@ ghost use Rattle.std.specs.Prelude.{◌≡◌, ◌≤◌, ◌<◌, ◌++◌, ◌
 ghost use Rattle.std.specs.List.{list_all};
 ghost use Rattle.script_text.specs.Grammar.{has_line, is_line};
 ghost use Rattle.je_disk.specs.Moments.{History, now};
-ghost use Rattle.engine.specs.Whole.{CanGoOn, IsAt, IsGuarded, disk_of, end_file};
+ghost use Rattle.engine.specs.Limits.{Reach};
+ghost use Rattle.engine.specs.Whole.{CanGoOn, IsAt, IsGuarded, disk_of, reach_of};
 ghost use Rattle.store_model.specs.declared.plan.ScriptLine.{ScriptLine as Line};
 ghost use Rattle.store_model.specs.declared.plan.ScriptLine.TheVariants.{Session};
 ghost use Rattle.je_answers.specs.Standing.{Standing};
@@ -50,17 +51,17 @@ fn execute_line<D: Disk>(
     line: u32,
     call: Call,
 )
-    requires running { (most : ℕ) × (first : ℕ) × (st : Standing) × IsRunning most first D.observable (now (D.history (disk_of running.old.engine))) running.old.engine running.old.journal.items st }
+    requires running { (most : ℕ) × (first : Reach) × (st : Standing) × IsRunning most first D.observable (now (D.history (disk_of running.old.engine))) running.old.engine running.old.journal.items st }
     requires bounds { CanGoOn running.old.engine }
     requires sessions { length running.old.stopped ≡ 256 }
     requires has_line { has_line call ≡ true }
-    ensures runs { (most first : ℕ) (st : Standing) → IsRunning most first D.observable (now (D.history (disk_of running.old.engine))) running.old.engine running.old.journal.items st
+    ensures runs { (most : ℕ) (first : Reach) (st : Standing) → IsRunning most first D.observable (now (D.history (disk_of running.old.engine))) running.old.engine running.old.journal.items st
         → IsRunning most first D.observable (now (D.history (disk_of running.new.engine))) running.new.engine running.new.journal.items st }
     ensures bounds { CanGoOn running.new.engine }
     ensures sessions { length running.new.stopped ≡ 256 }
     ensures caused { (before : ℕ) → IsCaused before (D.faults (disk_of running.old.engine)) running.old.journal.items
         → IsCaused before (D.faults (disk_of running.new.engine)) running.new.journal.items }
-    ensures crash { D.observable ≡ true → (most first : ℕ) (st : Standing) (start : History) → IsRunning most first D.observable (now (D.history (disk_of running.old.engine))) running.old.engine running.old.journal.items st
+    ensures crash { D.observable ≡ true → (most : ℕ) (first : Reach) (st : Standing) (start : History) → IsRunning most first D.observable (now (D.history (disk_of running.old.engine))) running.old.engine running.old.journal.items st
         → IsGuarded most st start (D.history (disk_of running.old.engine)) running.old.engine running.old.journal.items
         → IsGuarded most st start (D.history (disk_of running.new.engine)) running.new.engine running.new.journal.items }
     ensures given { (lines : List Line) → HasGiven running.old.journal.items running.old.memory_ended running.old.stopped lines
@@ -89,17 +90,17 @@ fn execute_line<D: Disk>(
 
 // Gives the next line.
 fn execute_next<D: Disk>(running: &mut Running<D>, alloc: Global, given: ScriptLine)
-    requires running { (most : ℕ) × (first : ℕ) × (st : Standing) × IsRunning most first D.observable (now (D.history (disk_of running.old.engine))) running.old.engine running.old.journal.items st }
+    requires running { (most : ℕ) × (first : Reach) × (st : Standing) × IsRunning most first D.observable (now (D.history (disk_of running.old.engine))) running.old.engine running.old.journal.items st }
     requires bounds { CanGoOn running.old.engine }
     requires sessions { length running.old.stopped ≡ 256 }
     requires line { is_line given ≡ true }
-    ensures runs { (most first : ℕ) (st : Standing) → IsRunning most first D.observable (now (D.history (disk_of running.old.engine))) running.old.engine running.old.journal.items st
+    ensures runs { (most : ℕ) (first : Reach) (st : Standing) → IsRunning most first D.observable (now (D.history (disk_of running.old.engine))) running.old.engine running.old.journal.items st
         → IsRunning most first D.observable (now (D.history (disk_of running.new.engine))) running.new.engine running.new.journal.items st }
     ensures bounds { CanGoOn running.new.engine }
     ensures sessions { length running.new.stopped ≡ 256 }
     ensures caused { (before : ℕ) → IsCaused before (D.faults (disk_of running.old.engine)) running.old.journal.items
         → IsCaused before (D.faults (disk_of running.new.engine)) running.new.journal.items }
-    ensures crash { D.observable ≡ true → (most first : ℕ) (st : Standing) (start : History) → IsRunning most first D.observable (now (D.history (disk_of running.old.engine))) running.old.engine running.old.journal.items st
+    ensures crash { D.observable ≡ true → (most : ℕ) (first : Reach) (st : Standing) (start : History) → IsRunning most first D.observable (now (D.history (disk_of running.old.engine))) running.old.engine running.old.journal.items st
         → IsGuarded most st start (D.history (disk_of running.old.engine)) running.old.engine running.old.journal.items
         → IsGuarded most st start (D.history (disk_of running.new.engine)) running.new.engine running.new.journal.items }
     ensures given { (lines : List Line) → HasGiven running.old.journal.items running.old.memory_ended running.old.stopped lines
@@ -123,7 +124,7 @@ pub fn run<D: Disk>(alloc: Global, engine: Engine<D>, lines: Vec<ScriptLine>) ->
     requires bounds { CanGoOn engine }
     requires lines { list_all is_line lines.items ≡ true }
     ensures runs { (most : ℕ) (st : Standing) → IsAt most D.observable (now (D.history (disk_of engine))) engine st
-        → IsRunning most (end_file engine) D.observable (now (D.history (disk_of result.engine))) result.engine result.journal.items st }
+        → IsRunning most (reach_of engine) D.observable (now (D.history (disk_of result.engine))) result.engine result.journal.items st }
     ensures caused { IsCaused (D.faults (disk_of engine)) (D.faults (disk_of result.engine)) result.journal.items }
     ensures crash { D.observable ≡ true → (most : ℕ) (st : Standing) (start : History) → IsAt most D.observable (now (D.history (disk_of engine))) engine st
         → IsGuarded most st start (D.history (disk_of engine)) engine []

@@ -74,13 +74,13 @@ where
         journal,
         opening,
         totals: _,
-        rows,
+        records,
     } = ended;
     drop(held);
     // The process ends here, and its memory with it: nothing is given back value by value.
     forget(journal);
     forget(opening);
-    forget(rows);
+    forget(records);
     Ok(status)
 }
 

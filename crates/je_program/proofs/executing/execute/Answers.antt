@@ -27,7 +27,7 @@ returns-in-Err-clause-runs g c = λ most first st running.
     let new = c.step.new.self in
     subst (λ (l : List Event). IsRunning most first g.D.Disk.observable (state (disk_of new)) new l st) (sym c.reserve.ensures.items)
     (runs_same most first g.D.Disk.observable (state (disk_of old)) (state (disk_of new)) old new c.args.journal.now.items st running
-    (c.in-Err.ensures.goes_on most (after_events st c.args.journal.now.items) running.here) (let same = c.in-Err.ensures.same_end in omega (arith, same)))
+    (c.in-Err.ensures.goes_on most (after_events st c.args.journal.now.items) running.here) c.in-Err.ensures.same_reach)
 
 pub returns-then-not-logged-clause-runs : goal.returns-then-not-logged-clause-runs
 returns-then-not-logged-clause-runs g c = λ most first st running.
@@ -54,7 +54,7 @@ returns-in_default-clause-runs g c = λ most first st running.
     (runs_unsynced most first g.D.Disk.observable (state (disk_of old)) (state (disk_of middle)) (state (disk_of new)) old middle new
     journal c.args.session c.args.line c.args.call c.in-Ok.answer st running
     (c.in-Ok.ensures.goes_on most (after_events st journal) running.here) (sym c.waits_for_sync-logged.ensures ∙ c.if-not-logged.false)
-    (c.step.ensures.grows most (after_events st journal) running.here) c.sync_begin.ensures.same_end (λ s here none. (c.in_default.ensures.begins most s here none).1))
+    (c.step.ensures.grows most (after_events st journal) running.here) c.sync_begin.ensures.same_reach (λ s here none. (c.in_default.ensures.begins most s here none).1))
 
 pub returns-in_default-clause-caused : goal.returns-in_default-clause-caused
 returns-in_default-clause-caused g c = λ before caused.
@@ -89,7 +89,7 @@ returns-clause-runs g c = λ most first st running.
     journal c.args.session c.args.line c.args.call c.in-Ok.answer ending st running
     (c.in-Ok.ensures.goes_on most (after_events st journal) running.here) (c.in-Ok.ensures.numbered most (after_events st journal) running.here)
     (sym c.waits_for_sync-logged.ensures ∙ c.if-not-logged.false)
-    (c.step.ensures.grows most (after_events st journal) running.here) (c.sync_end-answer.ensures.same_end ∙ c.sync_begin.ensures.same_end)
+    (c.step.ensures.grows most (after_events st journal) running.here) (c.sync_end-answer.ensures.same_reach ∙ c.sync_begin.ensures.same_reach)
     (λ s here none. c.sync_end-answer.ensures.ends most (after_event s (SyncBegin Done)) (c.in-Some.ensures.begins most s here none).1 none))
 
 pub returns-clause-caused : goal.returns-clause-caused

@@ -26,8 +26,11 @@ returns-clause-unreadable_found g c = λ bytes plan corruption taken left short 
     a.result.cause a.result.opened bytes plan corruption left short plans has
     (λ usage. (let wrong = a.ensures.usage usage in cc)) a.ensures.stopped a.ensures.runs
     (λ f is. a.ensures.unreadable f is observed)
-    (λ opened. (let starts = (a.ensures.run opened).3.starts in (_, record { held = starts.held; are = starts.observed observed; reads = starts.means })))
-    a.ensures.caused.failed
+    (λ opened. (let starts = (a.ensures.run opened).3.starts in (starts.meaning, record { held = starts.held; are = starts.observed observed; reads = starts.means })))
+    (λ is none. a.ensures.ids_ended is none observed) a.ensures.caused.failed
+
+pub returns-clause-ids_ended : goal.returns-clause-ids_ended
+returns-clause-ids_ended g c = c.run_unprinted-run_result.ensures.ids_ended
 
 pub returns-clause-usage : goal.returns-clause-usage
 returns-clause-usage g c = c.run_unprinted-run_result.ensures.usage

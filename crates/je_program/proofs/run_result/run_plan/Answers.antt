@@ -1,12 +1,12 @@
-use Rattle.std.proofs.Common.{◌≡◌, ◌∙◌, ℕ, true, List, None, sym, ap, subst}
+use Rattle.std.proofs.Common.{◌≡◌, ◌∙◌, ℕ, true, true≢false, List, None, sym, ap, subst}
 use Rattle.je_disk.specs.Moments.{now}
 use Rattle.store_model.specs.declared.event.Event.{Event}
 use Rattle.store_model.specs.declared.plan.ScriptLine.{ScriptLine}
 use Rattle.store_model.specs.declared.store.Store.{Store}
 use Rattle.je_answers.specs.Journal.{lines_of}
-use Rattle.engine.specs.Whole.{disk_of, end_file}
+use Rattle.engine.specs.Whole.{disk_of, reach_of}
 use Rattle.engine.specs.Crash.{KeepsEntry}
-use Rattle.engine.specs.Limits.{AreBounded}
+use Rattle.engine.specs.Limits.{AreBounded, Reach}
 use Rattle.je_program.specs.Crash.{IsSafeProgram}
 use Rattle.je_program.specs.Program.{EndsBy, ClosesRun, IsRunOf, RunsIf, cause_of_opening, is_before_disk}
 use Rattle.je_program.specs.Run.{AreFirstLines, of_session}
@@ -14,7 +14,7 @@ use Rattle.je_program.proofs.BeginLaws.{opened_as_one, starts_valid}
 use Rattle.je_program.proofs.FinishLaws.{done_acknowledged, done_is_no_memory, ran_cause, runs_if, ran_after_reading, ran_not_unreadable, ends_by, caused_earlier}
 use Rattle.je_program.specs.declared.cause.Cause.{Cause}
 use Rattle.je_program.specs.Untouched.{LeavesUnreadable}
-use Rattle.je_program.proofs.StopLaws.{stopped_after_reading, stopped_caused, stopped_failed, stopped_runs, stopped_unreadable}
+use Rattle.je_program.proofs.StopLaws.{stopped_after_reading, stopped_caused, stopped_failed, stopped_numbers, stopped_runs, stopped_unreadable}
 use Rattle.je_program.proofs.UntouchedLaws.{ran_alone, stopped_alone}
 use Rattle.je_program.proofs.run_result.run_plan.Goals as goal
 
@@ -44,7 +44,7 @@ returns-in-Ok-clause-run g c = λ is_opened.
     let at = opened_as_one most g.D.Disk.observable (now old).reads opening start engine c.in-Ok.ensures.opened c.in-Ok.ensures.crash in
     let st = at.st in
     let running = c.run-running.ensures.runs most st at.here in
-    let first = end_file engine in
+    let first = reach_of engine in
     let valid : st.fault ≡ None = starts_valid g.D.Disk.observable (now old).reads opening st at.starts in
     let safe : g.D.Disk.observable ≡ true → IsSafeProgram old new st journal cause = λ observed.
     let begun = at.safe observed in
@@ -60,7 +60,7 @@ returns-in-Ok-clause-run g c = λ is_opened.
       starts = at.starts;
       limits = running.limits;
       answers = running.answers;
-      bounded = subst (λ (n : ℕ). AreBounded n st journal running.limits) at.ends running.bounded;
+      bounded = subst (λ (r : Reach). AreBounded r st journal running.limits) at.reach running.bounded;
       synced_at_once = running.synced;
       only = running.only;
       acknowledged = λ done. done_acknowledged st journal cause done
@@ -78,6 +78,10 @@ pub returns-in-Ok-clause-unreadable : goal.returns-in-Ok-clause-unreadable
 returns-in-Ok-clause-unreadable g c = λ corruption is observed.
     let f = c.finish in
     absurd (ran_not_unreadable f.result.cause corruption (ran_cause c.run-running.result.journal.items c.run-running.result.memory_ended f.result.cause f.ensures.memory f.ensures.ends) is)
+
+pub returns-in-Ok-clause-ids_ended : goal.returns-in-Ok-clause-ids_ended
+returns-in-Ok-clause-ids_ended g c = λ is none observed.
+    (let opened = sym c.finish.ensures.opened ∙ none in absurd (true≢false opened))
 
 pub returns-in-Ok-clause-front : goal.returns-in-Ok-clause-front
 returns-in-Ok-clause-front g c = λ opened session.
@@ -138,3 +142,9 @@ returns-in-Err-clause-caused g c =
 
 pub returns-in-Err-clause-unopened : goal.returns-in-Err-clause-unopened
 returns-in-Err-clause-unopened g c = λ opened. (c.unopened.ensures.opening, c.unopened.ensures.journal)
+
+pub returns-in-Err-clause-ids_ended : goal.returns-in-Err-clause-ids_ended
+returns-in-Err-clause-ids_ended g c = λ is none observed.
+    let faults = g.D.Disk.faults in
+    stopped_numbers g.D.Disk.observable (now (g.D.Disk.history c.args.disk)).reads (faults c.args.disk) (faults c.in-Err.field-0.disk) c.in-Err.field-0.error c.in-Err.ensures.stopped
+    (sym (c.unopened.ensures.cause ∙ c.opening_cause-cause.ensures) ∙ is) observed

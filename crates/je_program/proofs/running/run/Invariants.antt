@@ -2,7 +2,7 @@ use Rattle.std.proofs.Common.{◌≡◌, ℕ, true, length, []}
 use Rattle.std.specs.List.{list_all}
 use Rattle.std.specs.Vec.Iter.{into_iter_items}
 use Rattle.je_disk.specs.Moments.{History, now}
-use Rattle.engine.specs.Whole.{CanGoOn, IsAt, IsGuarded, disk_of, end_file}
+use Rattle.engine.specs.Whole.{CanGoOn, IsAt, IsGuarded, disk_of, reach_of}
 use Rattle.je_answers.specs.Standing.{Standing}
 use Rattle.script_text.specs.Grammar.{is_line}
 use Rattle.je_program.specs.Run.{IsRunning, IsCaused, HasGiven}
@@ -14,7 +14,7 @@ invariant-loop-given g l =
     let history = g.D.Disk.history in
     record {
       runs : (most : ℕ) (st : Standing) → IsAt most g.D.Disk.observable (now (history (disk_of l.initial.running.engine))) l.initial.running.engine st
-          → IsRunning most (end_file l.initial.running.engine) g.D.Disk.observable (now (history (disk_of l.running.engine))) l.running.engine l.running.journal.items st;
+          → IsRunning most (reach_of l.initial.running.engine) g.D.Disk.observable (now (history (disk_of l.running.engine))) l.running.engine l.running.journal.items st;
       crash : g.D.Disk.observable ≡ true → (most : ℕ) (st : Standing) (start : History) → IsAt most g.D.Disk.observable (now (history (disk_of l.initial.running.engine))) l.initial.running.engine st
           → IsGuarded most st start (history (disk_of l.initial.running.engine)) l.initial.running.engine []
           → IsGuarded most st start (history (disk_of l.running.engine)) l.running.engine l.running.journal.items;

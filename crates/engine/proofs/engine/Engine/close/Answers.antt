@@ -1,38 +1,40 @@
-use Rattle.std.proofs.Common.{ap}
+use Rattle.std.proofs.Common.{false, None, ap, sym, subst, ◌≡◌}
 use Rattle.je_disk.specs.Moments.{now}
-use Rattle.log_buffer.specs.Buffer.{file_of, offset_of, last_of}
-use Rattle.log_file.specs.Log.{Log}
-use Rattle.log_replay.specs.Rows.{rows_in}
 use Rattle.je_answers.specs.After.{after_events}
-use Rattle.engine.proofs.ClosedLaws.{closed_images, closed_safely}
-use Rattle.engine.proofs.LogStores.{files_mean, small_files}
+use Rattle.log_file.specs.Log.{Log}
+use Rattle.log_buffer.specs.declared.buffer.LogBuffer.{LogBuffer}
+use Rattle.log_buffer.specs.Buffer.{disk_of, has_failed}
+use Rattle.log_buffer.specs.Log.{HasLog}
+use Rattle.engine.specs.Guarded.{IsGuardedLog}
+use Rattle.engine.specs.Whole.{contents_of}
+use Rattle.engine.proofs.ClosedLaws.{closed_images, closed_safely, files_mean}
 use Rattle.engine.proofs.WholeLaws.{valid_at}
 use Rattle.engine.proofs.engine.Engine.close.Goals as goal
 
 pub returns-clause-crash : goal.returns-clause-crash
 returns-clause-crash g c = λ observed most st start journal is.
-    let buffer = c.args.self.log in
+    let buffer = c.into_parts-log.result.0 in
     let log : Log = is.0 in
-    let guarded = is.1 in
-    closed_safely st log start (g.D.Disk.history buffer.disk) (g.D.Disk.history c.close_log-disk.result.0) buffer journal guarded
+    let guarded = subst (λ (b : LogBuffer g.row.D.Denot). IsGuardedLog st log start (g.D.Disk.history (disk_of b)) b journal None) (sym c.into_parts-log.ensures.log) is.1 in
+    closed_safely st log start (g.D.Disk.history (disk_of buffer)) (g.D.Disk.history c.close_log-disk.result.0) buffer journal guarded
     (c.close_log-disk.ensures.crash observed log guarded.least (λ works. guarded.works (guarded.stops works)))
-    (λ failed. ap (λ d. g.D.Disk.history d) (c.close_log-disk.ensures.still failed))
+    (λ failed. ap (λ (d : g.row.D.Denot). g.D.Disk.history d) (c.close_log-disk.ensures.still failed))
 
 pub returns-clause-images : goal.returns-clause-images
 returns-clause-images g c = λ observed done most st start journal here is none.
-    let buffer = c.args.self.log in
-    let kept = c.args.self.kept in
+    let engine = c.args.self in
     let standing = after_events st journal in
-    let v = valid_at most g.D.Disk.observable (now (g.D.Disk.history buffer.disk)) buffer kept standing here none in
-    closed_images v.log (now (g.D.Disk.history c.close_log-disk.result.0)) buffer (rows_in kept.rows) kept.last_txn kept.last_db standing.store
-    (record { is_log = v.has.is_log; small = small_files v.log (file_of buffer) (offset_of buffer) (last_of buffer) v.has.is_log v.has.ends buffer.last_file; whole = v.whole })
-    v.records v.made (c.close_log-disk.ensures.kept observed v.log v.has v.at_end.works done)
+    let same = sym c.into_parts-log.ensures.log in
+    let v = valid_at most g.D.Disk.observable (now (g.D.Disk.history (disk_of engine.trees.log))) engine.trees.log (contents_of engine) standing here.at none in
+    closed_images v.log (now (g.D.Disk.history c.close_log-disk.result.0)) standing.store v.recovers
+    (c.close_log-disk.ensures.kept observed v.log (subst (λ (b : LogBuffer g.row.D.Denot). HasLog g.D.Disk.observable (now (g.D.Disk.history (disk_of b))) b v.log) same v.has)
+    (subst (λ (b : LogBuffer g.row.D.Denot). has_failed b ≡ false) same v.works) done)
 
 pub returns-clause-files : goal.returns-clause-files
 returns-clause-files g c = λ observed done most st here none.
-    let buffer = c.args.self.log in
-    let kept = c.args.self.kept in
-    let valid = valid_at most g.D.Disk.observable (now (g.D.Disk.history buffer.disk)) buffer kept st here none in
-    files_mean (now (g.D.Disk.history c.close_log-disk.result.0)).reads valid.log (file_of buffer) (offset_of buffer) (last_of buffer) (rows_in kept.rows) kept.last_txn kept.last_db
-    st.store valid.has.is_log valid.has.ends buffer.last_file valid.whole valid.records valid.made
-    (c.close_log-disk.ensures.written valid.log valid.has valid.at_end.works done observed)
+    let engine = c.args.self in
+    let same = sym c.into_parts-log.ensures.log in
+    let v = valid_at most g.D.Disk.observable (now (g.D.Disk.history (disk_of engine.trees.log))) engine.trees.log (contents_of engine) st here.at none in
+    files_mean v.log (now (g.D.Disk.history c.close_log-disk.result.0)) st.store v.recovers
+    (c.close_log-disk.ensures.kept observed v.log (subst (λ (b : LogBuffer g.row.D.Denot). HasLog g.D.Disk.observable (now (g.D.Disk.history (disk_of b))) b v.log) same v.has)
+    (subst (λ (b : LogBuffer g.row.D.Denot). has_failed b ≡ false) same v.works) done)

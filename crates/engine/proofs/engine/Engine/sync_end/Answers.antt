@@ -8,8 +8,9 @@ use Rattle.je_answers.specs.Standing.{Standing}
 use Rattle.je_answers.specs.After.{after_event}
 use Rattle.log_buffer.specs.Buffer.{disk_of}
 use Rattle.log_file.specs.Log.{Log, entries_of}
+use Rattle.engine.specs.Whole.{contents_of}
 use Rattle.engine.proofs.ObservedLaws.{as_observed, of_observed}
-use Rattle.engine.proofs.StepLaws.{faulted_at, synced_at}
+use Rattle.engine.proofs.SyncedStanding.{faulted_at, synced_at}
 use Rattle.engine.proofs.SyncLaws.{ended_safely, not_ended_safely}
 use Rattle.engine.proofs.WholeLaws.{commits_at, still_works, works_at}
 use Rattle.engine.proofs.engine.Engine.sync_end.Goals as goal
@@ -19,14 +20,18 @@ returns-in-Ok-clause-ends g c = λ most st here none.
     let state : g.row.D.Denot → State = λ d. now (g.D.Disk.history d) in
     let old = c.args.self.now in
     let new = c.sync_end.new.self in
-    let p = here.alone_at in
+    let p = here.at.alone_at in
+    let trees = here.trees none in
     let same = c.sync_end.ensures.kept in (
-      inl (ap Durable (commits_at most g.D.Disk.observable (state (disk_of old.log)) old.log old.kept st here)),
+      inl (ap Durable (commits_at most g.D.Disk.observable (state (disk_of old.trees.log)) old.trees.log (contents_of old) st here.at)),
       record {
-        alone_at = record p { begun = None };
-        st_is = ap (λ (s : Standing). after_event (record s { begun = Some s.commits }) (SyncEnd (Durable old.kept.commits))) here.st_is;
-        here = synced_at most g.D.Disk.observable (state (disk_of old.log)) (state (disk_of new)) old.log new old.kept p None here.here
-            c.in-Ok.ensures.log same.end same.max (still_works c.sync_end.result c.in-Ok.field-0 new c.in-Ok.is c.sync_end.ensures.cause.failed);
+        at = record {
+          alone_at = record p { begun = None };
+          st_is = ap (λ (s : Standing). after_event (record s { begun = Some s.commits }) (SyncEnd (Durable old.kept.commits))) here.at.st_is;
+          here = synced_at most g.D.Disk.observable (state (disk_of old.trees.log)) (state (disk_of new)) old.trees.log new (contents_of old) p None here.at.here
+              c.in-Ok.ensures.log same.end same.max (still_works c.sync_end.result c.in-Ok.field-0 new c.in-Ok.is c.sync_end.ensures.cause.failed);
+        };
+        trees = λ valid. record { quiet = trees.quiet; made = trees.made };
       },
     )
 
@@ -35,13 +40,17 @@ returns-in-Err-clause-ends g c = λ most st here none.
     let state : g.row.D.Denot → State = λ d. now (g.D.Disk.history d) in
     let old = c.args.self.now in
     let new = c.sync_end.new.self in
-    let p = here.alone_at in (
+    let p = here.at.alone_at in
+    let trees = here.trees none in (
       inr refl,
       record {
-        alone_at = record p { fault = Some Disk; begun = None };
-        st_is = ap (λ (s : Standing). after_event (record s { begun = Some s.commits }) (SyncEnd DiskFault)) here.st_is;
-        here = faulted_at most g.D.Disk.observable (state (disk_of old.log)) (state (disk_of new)) old.log new old.kept (record old.kept { fault = Some Disk }) p None here.here
-            (record { totals = refl; last_txn = refl; last_db = refl; end = refl; file_max = refl; commits = refl; fault = refl });
+        at = record {
+          alone_at = record p { fault = Some Disk; begun = None };
+          st_is = ap (λ (s : Standing). after_event (record s { begun = Some s.commits }) (SyncEnd DiskFault)) here.at.st_is;
+          here = faulted_at most g.D.Disk.observable (state (disk_of old.trees.log)) (state (disk_of new)) old.trees.log new (contents_of old) (record (contents_of old) { fault = Some Disk }) p None here.at.here
+              (record { totals = refl; last_txn = refl; last_db = refl; last_node = refl; commits = refl; fault = refl }) c.sync_end.ensures.kept.max;
+        };
+        trees = λ valid. record { quiet = trees.quiet; made = trees.made };
       },
     )
 
@@ -50,17 +59,17 @@ returns-in-Ok-clause-crash g c = λ observed most st start journal here none is.
     let log : Log = is.0 in
     let guarded = is.1 in
     let state : g.row.D.Denot → State = λ d. now (g.D.Disk.history d) in
-    let old = c.args.self.now in
+    let engine = c.args.self.now in
+    let old = engine.trees.log in
     let new = c.sync_end.new.self in
     let keeping = guarded.works none in
-    let has = as_observed g.D.Disk.observable (state (disk_of old.log)) old.log log observed keeping.has in (
+    let has = as_observed g.D.Disk.observable (state (disk_of old)) old log observed keeping.has in (
       log,
-      ended_safely st log start old.kept.commits (g.D.Disk.history (disk_of old.log)) (g.D.Disk.history (disk_of new)) old.log new journal none
-          (commits_at most g.D.Disk.observable (state (disk_of old.log)) old.log old.kept _ here) guarded
+      ended_safely st log start engine.kept.commits (g.D.Disk.history (disk_of old)) (g.D.Disk.history (disk_of new)) old new journal none
+          (commits_at most g.D.Disk.observable (state (disk_of old)) old (contents_of engine) _ here.at) guarded
           (c.sync_end.ensures.crash observed log [] guarded.least (length (entries_of log)) has keeping.holds)
           (record {
             has = of_observed g.D.Disk.observable (state (disk_of new)) new log observed (c.in-Ok.ensures.log log has);
-            whole = keeping.whole;
             holds = c.in-Ok.ensures.holds observed log [] guarded.least (length (entries_of log)) has keeping.holds;
           }),
     )
@@ -70,7 +79,7 @@ returns-in-Err-clause-crash g c = λ observed most st start journal here none is
     let log : Log = is.0 in
     let guarded = is.1 in
     let state : g.row.D.Denot → State = λ d. now (g.D.Disk.history d) in
-    let old = c.args.self.now.log in
+    let old = c.args.self.now.trees.log in
     let new = c.sync_end.new.self in
     let keeping = guarded.works none in (
       log,
@@ -81,4 +90,4 @@ returns-in-Err-clause-crash g c = λ observed most st start journal here none is
 
 pub returns-in-Err-clause-cause : goal.returns-in-Err-clause-cause
 returns-in-Err-clause-cause g c = λ most st here none is.
-    c.in-Err.ensures.cause.fault (works_at most g.D.Disk.observable (now (g.D.Disk.history (disk_of c.args.self.now.log))) c.args.self.now st here none) (ap Err c.in-Err.ensures.by_fault)
+    c.in-Err.ensures.cause.fault (works_at most g.D.Disk.observable (now (g.D.Disk.history (disk_of c.args.self.now.trees.log))) c.args.self.now st here none) (ap Err c.in-Err.ensures.by_fault)

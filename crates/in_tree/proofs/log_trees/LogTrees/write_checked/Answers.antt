@@ -6,13 +6,13 @@ use Rattle.in_tree.proofs.log_trees.LogTrees.write_checked.Goals as goal
 pub returns-clause-grew : goal.returns-clause-grew
 returns-clause-grew g c =
     ok_then c.write_each.result
-    (grew_since g.D.Disk.observable g.D.Disk.history g.D.Disk.sync_out g.D.Disk.read_out g.D.Disk.read_of c.args.txn c.args.changes.now c.args.self.now.log c.prepare.new.self.log c.write_each.new.log c.prepare.ensures.log)
+    (grew_since g.D.Disk.observable g.D.Disk.history g.D.Disk.sync_out g.D.Disk.read_out g.D.Disk.read_of g.D.Disk.faults c.args.txn c.args.changes.now c.args.self.now.log c.prepare.new.self.log c.write_each.new.log c.prepare.ensures.log)
     c.write_each.ensures.grew
 
 pub returns-clause-tried : goal.returns-clause-tried
 returns-clause-tried g c =
     ends_by c.write_each.result _
-    (tried_since g.D.Disk.observable g.D.Disk.history g.D.Disk.sync_out g.D.Disk.read_out g.D.Disk.read_of c.args.txn c.args.changes.now c.args.self.now.log c.prepare.new.self.log c.write_each.new.log c.prepare.ensures.log)
+    (tried_since g.D.Disk.observable g.D.Disk.history g.D.Disk.sync_out g.D.Disk.read_out g.D.Disk.read_of g.D.Disk.faults c.args.txn c.args.changes.now c.args.self.now.log c.prepare.new.self.log c.write_each.new.log c.prepare.ensures.log)
     c.write_each.ensures.tried
 
 pub returns-clause-cells : goal.returns-clause-cells

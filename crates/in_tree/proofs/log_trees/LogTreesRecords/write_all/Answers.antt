@@ -1,12 +1,12 @@
 use Rattle.std.proofs.Common.{◌≡◌, ◌∙◌, ◌≤◌, ◌+◌, ℕ, List, Some, refl, subst, sym}
-use Rattle.log_buffer.proofs.GrowthLaws.{grew_none}
 use Rattle.record_tree.specs.declared.tree_err.TreeErr.{TreeErr}
 use Rattle.in_tree.specs.Limits.{limit_of, end_behind, sizes_for, count_made}
+use Rattle.in_tree.specs.Fitting.{fitting_none}
 use Rattle.in_tree.proofs.Checked.{tried_before, failed_no_limit, no_limit_met, lower_by_test, ok_any, ends_any, limit_never}
 use Rattle.in_tree.proofs.log_trees.LogTreesRecords.write_all.Goals as goal
 
 pub returns-in-Err-clause-tried : goal.returns-in-Err-clause-tried
-returns-in-Err-clause-tried g c = λ is. tried_before g.D.Disk.observable g.D.Disk.history g.D.Disk.sync_out g.D.Disk.read_out g.D.Disk.read_of c.args.txn c.args.changes.now c.args.self.now.log (c.in-Err.ensures.fault is)
+returns-in-Err-clause-tried g c = λ is. tried_before g.D.Disk.observable g.D.Disk.history g.D.Disk.sync_out g.D.Disk.read_out g.D.Disk.read_of g.D.Disk.faults c.args.txn c.args.changes.now c.args.self.now.log (c.in-Err.ensures.fault is)
 
 pub returns-in-Err-clause-limited : goal.returns-in-Err-clause-limited
 returns-in-Err-clause-limited g c = c.in-Err.ensures.limited
@@ -15,7 +15,7 @@ pub returns-in-Err-clause-fault_room : goal.returns-in-Err-clause-fault_room
 returns-in-Err-clause-fault_room g c = λ is. failed_no_limit c.args.self.now.log c.args.self.now.trees.last_node c.args.changes.now c.args.owed (c.in-Err.ensures.fault is)
 
 pub returns-in-Err-clause-memory : goal.returns-in-Err-clause-memory
-returns-in-Err-clause-memory g c = λ is. ((λ d. refl), grew_none g.D.Disk.observable g.D.Disk.history g.D.Disk.sync_out g.D.Disk.read_out g.D.Disk.read_of c.args.self.now.log)
+returns-in-Err-clause-memory g c = λ is. ((λ d. refl), fitting_none g.D.Disk.observable g.D.Disk.history g.D.Disk.sync_out g.D.Disk.read_out g.D.Disk.read_of g.D.Disk.faults c.args.self.now.log)
 
 pub write_checked-requires-clause-files : goal.write_checked-requires-clause-files
 write_checked-requires-clause-files g c = subst (λ (l : List ℕ). end_behind c.args.self.now.log l ≤ 0xfffffffe) (sym (c.as_slice.ensures.value ∙ c.in-Ok.ensures.sizes)) (lower_by_test 0xfffffffe (end_behind c.args.self.now.log (sizes_for c.args.changes.now c.args.owed)) c.in-Ok.ensures.files)

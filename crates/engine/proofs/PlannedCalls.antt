@@ -1,0 +1,97 @@
+-- What calls plan to log: changes of which all but the first are of records. What they leave of the records and of the numbers of databases.
+use Rattle.std.proofs.Common.{◌≡◌, ℕ, ◌<◌, ◌^◌, ◌||◌, false, cond, List, [], ◌∷◌, Option, None, Some, ap, subst, ◌∙◌}
+use Rattle.std.specs.List.{AllByRecursion}
+use mathlib.Core.Path.{fun_ext}
+use Rattle.store_model.specs.declared.answer.Answer.{Answer}
+use Rattle.store_model.specs.declared.call.Call.{Call}
+use Rattle.store_model.specs.declared.call.Call.TheVariants.{List as Lists, Create, Remove, Rename, Truncate}
+use Rattle.store_model.specs.declared.change.Change.{Change}
+use Rattle.store_model.specs.declared.record_change.RecordChange.{RecordChange}
+use Rattle.store_model.specs.declared.record_change.RecordChange.TheVariants.{Set as SetRecord, Unset as UnsetRecord}
+use Rattle.store_model.specs.declared.store.Store.{Store}
+use Rattle.store_model.specs.declared.store.Database.{Database}
+use Rattle.store_model.specs.Store.{database_of}
+use Rattle.store_model.specs.Evaluation.{Outcome, evaluation_in}
+use Rattle.db_catalog.specs.Planning.{outcome_unless}
+use Rattle.je_answers.specs.Views.{Target, target_of, changes_on}
+use Rattle.je_answers.specs.Refusals.{late_refusal}
+use Rattle.je_answers.specs.Alone.{Alone, alone, evaluated_on}
+use Rattle.log_replay.specs.Rows.{Rows, numbers_of}
+use Rattle.log_replay.specs.Kept.{IsRecordChange}
+use Rattle.log_replay.proofs.LoggedLaws.{IsSound}
+use Rattle.record_tree.specs.Logged.{is_made}
+use Rattle.txn_core.specs.declared.planned_changes.PlannedChanges.{PlannedChanges}
+use Rattle.txn_core.specs.Known.{has_number}
+use Rattle.txn_core.specs.Planning.{outcome_on, performed_outcome, outcome_alone, IsPlannedLog}
+use Rattle.engine.specs.Contents.{Contents, known, is_gone, rows_after, HasLogged}
+use Rattle.engine.proofs.PlannedRows.{ArePlanned}
+use Rattle.engine.proofs.PlannedNumbers.{planned_numbers}
+
+-- ---- what a call comes to
+
+abbrev LaterAreRecords : List Change → Type 0
+LaterAreRecords [] = Unit {0}
+LaterAreRecords (change ∷ more) = AllByRecursion IsRecordChange more
+
+records_in : (g : Target) (changes : List RecordChange) → AllByRecursion IsRecordChange (changes_on g changes)
+records_in g [] = tt
+records_in g (SetRecord at value ∷ changes) = (tt, records_in g changes)
+records_in g (UnsetRecord at ∷ changes) = (tt, records_in g changes)
+
+later_in : (changes : List Change) → AllByRecursion IsRecordChange changes → LaterAreRecords changes
+later_in [] all = tt
+later_in (change ∷ changes) all = all.1
+
+on_target : (call : Call) (o : Option Target) → LaterAreRecords (outcome_on call o).changes
+on_target call None = tt
+on_target call (Some g) = later_in (changes_on g (evaluated_on call g).changes) (records_in g (evaluated_on call g).changes)
+
+removed : (db : List ℕ) (store : Store) (o : Option Database) → LaterAreRecords (evaluation_in (Remove db) store o).changes
+removed db store None = tt
+removed db store (Some d) = tt
+
+renamed : (db to : List ℕ) (store : Store) (o : Option Database) → LaterAreRecords (evaluation_in (Rename db to) store o).changes
+renamed db to store None = tt
+renamed db to store (Some d) = tt
+
+emptied : (db : List ℕ) (store : Store) (o : Option Database) → LaterAreRecords (evaluation_in (Truncate db) store o).changes
+emptied db store None = tt
+emptied db store (Some d) = tt
+
+performed : (p : Alone) (session : ℕ) (call : Call) → LaterAreRecords (performed_outcome p session call).changes
+performed p session Lists = tt
+performed p session (Create db kind) = tt
+performed p session (Remove db) = removed db p.store (database_of db p.store)
+performed p session (Rename db to) = renamed db to p.store (database_of db p.store)
+performed p session (Truncate db) = emptied db p.store (database_of db p.store)
+performed p session call = on_target call (target_of (alone p) session call)
+
+unless_refused : (o : Option Answer) (outcome : Outcome) → LaterAreRecords outcome.changes → LaterAreRecords (outcome_unless o outcome).changes
+unless_refused None outcome is = is
+unless_refused (Some refusal) outcome is = tt
+
+-- all changes of a call but the first are of records
+pub later_records : (p : Alone) (session : ℕ) (call : Call) (change : Change) (more : List Change) → (outcome_alone p session call).changes ≡ change ∷ more → AllByRecursion IsRecordChange more
+later_records p session call change more is =
+    subst LaterAreRecords is (unless_refused (late_refusal (alone p) session call) (performed_outcome p session call) (performed p session call))
+
+-- ---- what is planned
+
+pub are_planned : (c : Contents) (p : Alone) (session : ℕ) (call : Call) (planned : PlannedChanges) → IsSound c.rows c.last_db → (l : IsPlannedLog (known c) p session call planned) →
+    planned.last_db < 2 ^ 32 → ArePlanned c.rows c.last_db l.change l.more planned.changes.items planned.gone
+are_planned c p session call planned sound l fits = record { sound = sound; logs = l.rows 0; may = l.may fits; gone_is = l.gone_is }
+
+-- a database is the catalog or has a name behind planned changes if it is made, or was and had before, and is not the one that goes
+pub planned_databases : (c : Contents) (p : Alone) (session : ℕ) (call : Call) (planned : PlannedChanges) → IsSound c.rows c.last_db → IsPlannedLog (known c) p session call planned →
+    planned.last_db < 2 ^ 32 → (d : ℕ) → has_number (numbers_of (rows_after planned.changes.items planned.gone c.rows)) d
+    ≡ cond (is_gone planned.gone d) false (is_made d planned.changes.items || has_number (numbers_of c.rows) d)
+planned_databases c p session call planned sound l fits =
+    planned_numbers c.rows c.last_db planned.last_db l.change l.more planned.changes.items planned.gone (are_planned c p session call planned sound l fits)
+    (later_records p session call l.change l.more l.changes) l.last_db (l.made fits)
+
+-- so it is with the records that were logged
+pub logged_databases : (c new : Contents) (p : Alone) (session : ℕ) (call : Call) (planned : PlannedChanges) → IsSound c.rows c.last_db → IsPlannedLog (known c) p session call planned →
+    planned.last_db < 2 ^ 32 → HasLogged c new planned → (d : ℕ) → has_number (numbers_of new.rows) d
+    ≡ cond (is_gone planned.gone d) false (is_made d planned.changes.items || has_number (numbers_of c.rows) d)
+logged_databases c new p session call planned sound l fits logged d =
+    ap (λ (r : Rows). has_number (numbers_of r) d) (fun_ext logged.rows) ∙ planned_databases c p session call planned sound l fits d

@@ -1,0 +1,47 @@
+-- Where an environment stands after a sync, and after a fault of the disk.
+use Rattle.std.proofs.Common.{◌≡◌, ℕ, ◌∙◌, Bool, false, Option, Some, sym, subst}
+use Rattle.je_disk.specs.States.{State}
+use Rattle.store_model.specs.declared.answer.Fault.TheVariants.{Disk}
+use Rattle.je_answers.specs.Alone.{Alone}
+use Rattle.log_file.specs.Log.{Log}
+use Rattle.log_buffer.specs.declared.buffer.LogBuffer.{LogBuffer}
+use Rattle.log_buffer.specs.declared.log_pos.LogPos.{LogPos}
+use Rattle.log_buffer.specs.Buffer.{end_of, file_max_of, has_failed}
+use Rattle.log_buffer.specs.Log.{HasLog}
+use Rattle.engine.specs.Contents.{Contents, HasFaulted}
+use Rattle.engine.specs.Environment.{AreAlone, GivesRecords}
+
+module _ {D : Type 0} where
+  -- the disk failed
+  pub faulted_at : (most : ℕ) (observable : Bool) (before after : State) (buffer other : LogBuffer D) (old new : Contents) (p : Alone) (begun : Option ℕ) → AreAlone most observable before buffer old p → HasFaulted old new →
+      file_max_of other ≡ file_max_of buffer → AreAlone most observable after other new (record p { fault = Some Disk; begun = begun })
+  faulted_at most observable before after buffer other old new p begun at has max = record {
+    file_max = max ∙ at.file_max;
+    fault = has.fault;
+    last_txn = has.last_txn ∙ at.last_txn;
+    last_db = has.last_db ∙ at.last_db;
+    commits = has.commits ∙ at.commits;
+    totals = has.totals ∙ at.totals;
+    valid = λ none. absurd cc;
+  }
+
+  -- a sync began or ended: the log is the same
+  pub synced_at : (most : ℕ) (observable : Bool) (before after : State) (buffer other : LogBuffer D) (c : Contents) (p : Alone) (begun : Option ℕ) → AreAlone most observable before buffer c p →
+      ((log : Log) → HasLog observable before buffer log → HasLog observable after other log) → end_of other ≡ end_of buffer → file_max_of other ≡ file_max_of buffer → has_failed other ≡ false →
+      AreAlone most observable after other c (record p { begun = begun })
+  synced_at most observable before after buffer other c p begun at logs end max works = record {
+    file_max = max ∙ at.file_max;
+    fault = at.fault;
+    last_txn = at.last_txn;
+    last_db = at.last_db;
+    commits = at.commits;
+    totals = at.totals;
+    valid = λ none. let v = at.valid none in record {
+      log = v.log;
+      has = logs v.log v.has;
+      works = works;
+      gives = subst (λ (e : LogPos). GivesRecords v.log e c) (sym end) v.gives;
+      recovers = v.recovers;
+      made = v.made;
+    };
+  }

@@ -1,0 +1,265 @@
+-- What is committed in trees while a log is read again, and how it changes where one cell does.
+use Rattle.std.proofs.Common.{◌≡◌, ◌==◌, ◌&&◌, ◌||◌, ◌⊎◌, ℕ, List, [], ◌∷◌, ◌++◌, Bool, true, false, cond, Option, None, Some, find, is_some, option_map, map, refl, ap, sym, subst, ◌∙◌, inl, inr, Less, is_eq, Box}
+use Rattle.std.specs.Global.{Global}
+use Rattle.std.specs.List.{AllByRecursion, list_any}
+use Rattle.std.specs.List.Sorted.{IsStrictlySortedBy}
+use Rattle.std.specs.Map.{keys_of, lookup}
+use Rattle.std.specs.Ordering.{nat_cmp}
+use Rattle.std.specs.BTreeMap.{get, keys, is_at}
+use Rattle.std.proofs.lemmas.Bool.{eq-eqb, true≢false}
+use Rattle.std.proofs.lemmas.Option.{none-some, same_Some}
+use Rattle.je_order.specs.Edges.Edge.{First}
+use Rattle.je_order.specs.Order.{name_cmp}
+use Rattle.je_order.specs.declared.name.Name.{Name}
+use Rattle.node_core.specs.declared.slot.Version.{Version}
+use Rattle.node_core.specs.declared.slot.Version.TheVariants.{There, Deleted, Unset}
+use Rattle.record_map.specs.declared.cell.Cell.{Cell}
+use Rattle.record_map.specs.declared.write.Write.{Write}
+use Rattle.record_map.specs.Cells.{value_at, IsRising, from_edge}
+use Rattle.record_map.proofs.NameLaws.{same_or_other, name_same, other_stays, same_gets}
+use Rattle.record_tree.specs.Occupied.{Occupied, is_occupied, committed_value}
+use Rattle.record_tree.specs.Stored.{Stored, stored_at, HasStored, AreStoredStill}
+use Rattle.in_tree.specs.declared.db_tree.DbTree.{DbTree}
+use Rattle.in_tree.specs.Trees.{HasCell, cell_or_fresh}
+use Rattle.in_tree.specs.Forest.{Forest, cells_of, cells_at, is_there, cells_seen, occupied, with_logged}
+use Rattle.in_tree.specs.Stored.{stored_by, stored_under, with_name, stored_in, stored_of, committed_cell, AreQuiet, IsQuiet, HasLogged}
+use Rattle.in_tree.proofs.Contents.{none_behind}
+use Rattle.in_tree.proofs.Forests.{number_cases, number_same, Replaces, replaced, others}
+
+-- ---- the records of cells
+
+-- each cell is behind the first edge
+pub from_first : (cells : List (Name × Cell)) → from_edge First cells ≡ cells
+from_first [] = refl
+from_first (e ∷ cells) = ap (λ (l : List (Name × Cell)). e ∷ l) (from_first cells)
+
+less_stored : (x : Name) (cells : List (Name × Cell)) → AllByRecursion (λ y. name_cmp x y ≡ Less) (keys_of cells) → AllByRecursion (λ y. name_cmp x y ≡ Less) (keys_of (stored_in cells))
+less_stored x [] all = tt
+less_stored x (e ∷ cells) all = by_stored (stored_by e.1.version e.1.«data») (less_stored x cells all.1)
+  where
+    by_stored : (o : Option Stored) → AllByRecursion (λ y. name_cmp x y ≡ Less) (keys_of (stored_in cells)) → AllByRecursion (λ y. name_cmp x y ≡ Less) (keys_of (with_name e.0 o ++ stored_in cells))
+    by_stored None rest = rest
+    by_stored (Some s) rest = (all.0, rest)
+
+-- names with a record rise
+pub stored_rises : (cells : List (Name × Cell)) → IsRising cells → IsRising (stored_in cells)
+unfolding IsStrictlySortedBy
+stored_rises [] up = tt
+stored_rises (e ∷ cells) up = by_stored (stored_by e.1.version e.1.«data») (stored_rises cells up.1)
+  where
+    by_stored : (o : Option Stored) → IsStrictlySortedBy name_cmp (keys_of (stored_in cells)) → IsStrictlySortedBy name_cmp (keys_of (with_name e.0 o ++ stored_in cells))
+    by_stored None rest = rest
+    by_stored (Some s) rest = (less_stored e.0 cells up.0, rest)
+
+-- what is committed of a name
+pub stored_at_name : (cells : List (Name × Cell)) (x : Name) → IsRising cells → value_at x (stored_in cells) ≡ stored_under (value_at x cells)
+unfolding IsStrictlySortedBy
+stored_at_name [] x up = refl
+stored_at_name (e ∷ cells) x up = by_name (same_or_other x e.0) (stored_at_name cells x up.1)
+  where
+    over : (o : Option Stored) → is_eq (name_cmp x e.0) ≡ false → value_at x (with_name e.0 o ++ stored_in cells) ≡ value_at x (stored_in cells)
+    over None apart = refl
+    over (Some s) apart = other_stays x e.0 (Some s) (value_at x (stored_in cells)) apart
+
+    here : (o : Option Stored) → is_eq (name_cmp x e.0) ≡ true → value_at x (stored_in cells) ≡ None → value_at x (with_name e.0 o ++ stored_in cells) ≡ o
+    here None equal none = none
+    here (Some s) equal none = ap (λ (t : Bool). cond t (Some s) (value_at x (stored_in cells))) equal
+
+    by_name : (x ≡ e.0) ⊎ (is_eq (name_cmp x e.0) ≡ false) → value_at x (stored_in cells) ≡ stored_under (value_at x cells) → value_at x (stored_in (e ∷ cells)) ≡ stored_under (value_at x (e ∷ cells))
+    by_name (inl same) rest =
+        let equal : is_eq (name_cmp x e.0) ≡ true = subst (λ (y : Name). is_eq (name_cmp x y) ≡ true) same (ap is_eq (name_same x)) in
+        let none : value_at x cells ≡ None = subst (λ (y : Name). value_at y cells ≡ None) (sym same) (none_behind e.0 cells up.0) in
+        here (stored_by e.1.version e.1.«data») equal (rest ∙ ap stored_under none) ∙ sym (ap (λ (t : Bool). stored_under (cond t (Some e.1) (value_at x cells))) equal)
+    by_name (inr apart) rest =
+        over (stored_by e.1.version e.1.«data») apart ∙ rest ∙ sym (ap stored_under (other_stays x e.0 (Some e.1) (value_at x cells) apart))
+
+-- the first record that passes a test, and one that is passed over
+pub first_found : (p : Name × Stored → Bool) (name : Name) (cell : Cell) (cells : List (Name × Cell)) → list_any p (with_name name (stored_by cell.version cell.«data»)) ≡ true →
+    option_map (λ (r : Name × Stored). r.0) (find p (stored_in ((name, cell) ∷ cells))) ≡ Some name
+first_found p name cell cells = by_stored (stored_by cell.version cell.«data»)
+  where
+    by_stored : (o : Option Stored) → list_any p (with_name name o) ≡ true → option_map (λ (r : Name × Stored). r.0) (find p (with_name name o ++ stored_in cells)) ≡ Some name
+    by_stored None h = absurd (true≢false (sym h))
+    by_stored (Some s) h = by_test (p (name, s)) h
+      where
+        by_test : (t : Bool) → (t || false) ≡ true → option_map (λ (r : Name × Stored). r.0) (cond t (Some (name, s)) (find p (stored_in cells))) ≡ Some name
+        by_test true h = refl
+        by_test false h = absurd (true≢false (sym h))
+
+pub passed_over : (p : Name × Stored → Bool) (name : Name) (cell : Cell) (cells : List (Name × Cell)) → list_any p (with_name name (stored_by cell.version cell.«data»)) ≡ false →
+    find p (stored_in ((name, cell) ∷ cells)) ≡ find p (stored_in cells)
+passed_over p name cell cells = by_stored (stored_by cell.version cell.«data»)
+  where
+    by_stored : (o : Option Stored) → list_any p (with_name name o) ≡ false → find p (with_name name o ++ stored_in cells) ≡ find p (stored_in cells)
+    by_stored None h = refl
+    by_stored (Some s) h = by_test (p (name, s)) h
+      where
+        by_test : (t : Bool) → (t || false) ≡ false → cond t (Some (name, s)) (find p (stored_in cells)) ≡ find p (stored_in cells)
+        by_test true h = absurd (true≢false h)
+        by_test false h = refl
+
+-- ---- what transactions see of them
+
+abbrev IsSeen : Name → List ℕ → List (Name × Cell) → Version → Option (Box Write Global) → Type 0
+IsSeen name value cells version write =
+    cond (is_occupied (record { value = committed_value version value; write = option_map (λ (b : Box Write Global). b.value) write }))
+    ((name, record { value = committed_value version value; write = option_map (λ (b : Box Write Global). b.value) write }) ∷ occupied cells) (occupied cells)
+    ≡ map committed_cell (with_name name (stored_by version value) ++ stored_in cells)
+
+seen_without_write : (name : Name) (value : List ℕ) (cells : List (Name × Cell)) (version : Version) → occupied cells ≡ map committed_cell (stored_in cells) → IsSeen name value cells version None
+seen_without_write name value cells (There lsn) rest = ap (λ (l : List (Name × Occupied)). (name, record { value = Some value; write = None }) ∷ l) rest
+seen_without_write name value cells Deleted rest = rest
+seen_without_write name value cells Unset rest = rest
+
+-- of cells without a change their records are seen
+pub quiet_seen : (cells : List (Name × Cell)) → IsRising cells → ((x : Name) (cell : Cell) → value_at x cells ≡ Some cell → cell.write ≡ None) → occupied cells ≡ map committed_cell (stored_in cells)
+unfolding IsStrictlySortedBy
+quiet_seen [] up quiet = refl
+quiet_seen (e ∷ cells) up quiet =
+    subst (IsSeen e.0 e.1.«data» cells e.1.version) (sym (quiet e.0 e.1 (same_gets e.0 (Some e.1) (value_at e.0 cells))))
+    (seen_without_write e.0 e.1.«data» cells e.1.version (quiet_seen cells up.1 (λ x cell found. quiet x cell (behind x cell found (same_or_other x e.0)))))
+  where
+    behind : (x : Name) (cell : Cell) → value_at x cells ≡ Some cell → (x ≡ e.0) ⊎ (is_eq (name_cmp x e.0) ≡ false) → value_at x (e ∷ cells) ≡ Some cell
+    behind x cell found (inl same) = absurd (none-some cell (sym (subst (λ (y : Name). value_at y cells ≡ None) (sym same) (none_behind e.0 cells up.0)) ∙ found))
+    behind x cell found (inr apart) = other_stays x e.0 (Some e.1) (value_at x cells) apart ∙ found
+
+-- ---- a cell changes
+
+pub stored_change : (old new : List (Name × Cell)) (name : Name) (cell : Cell) → IsRising old → IsRising new → HasCell old new name cell →
+    (x : Name) → value_at x (stored_in new) ≡ cond (is_eq (name_cmp name x)) (stored_by cell.version cell.«data») (value_at x (stored_in old))
+stored_change old new name cell up_old up_new has x = stored_at_name new x up_new ∙ ap stored_under (has x) ∙ by_test (is_eq (name_cmp name x))
+  where
+    by_test : (t : Bool) → stored_under (cond t (Some cell) (value_at x old)) ≡ cond t (stored_by cell.version cell.«data») (value_at x (stored_in old))
+    by_test true = refl
+    by_test false = sym (stored_at_name old x up_old)
+
+pub quiet_change : (old new : List (Name × Cell)) (name : Name) (cell : Cell) → AreQuiet old → IsRising new → HasCell old new name cell → cell.write ≡ None → AreQuiet new
+quiet_change old new name cell quiet up_new has none = record { rising = up_new; quiet = λ x c found. by_test x c (is_eq (name_cmp name x)) (sym (has x) ∙ found) }
+  where
+    by_test : (x : Name) (c : Cell) (t : Bool) → cond t (Some cell) (value_at x old) ≡ Some c → c.write ≡ None
+    by_test x c true is = subst (λ (k : Cell). k.write ≡ None) (same_Some cell c is) none
+    by_test x c false is = quiet.quiet x c is
+
+-- ---- what was committed of a name
+
+logged_is : (value : Option (List ℕ)) (lsn commit : ℕ) (last : Option ℕ) (cell : Cell) → stored_by (with_logged value lsn commit last cell).version (with_logged value lsn commit last cell).«data» ≡ stored_at lsn value
+logged_is None lsn commit last cell = refl
+logged_is (Some value) lsn commit last cell = refl
+
+logged_write : (value : Option (List ℕ)) (lsn commit : ℕ) (last : Option ℕ) (cell : Cell) → (with_logged value lsn commit last cell).write ≡ cell.write
+logged_write None lsn commit last cell = refl
+logged_write (Some value) lsn commit last cell = refl
+
+quiet_or_fresh : (old : List (Name × Cell)) (name : Name) → AreQuiet old → (cell_or_fresh (value_at name old)).write ≡ None
+quiet_or_fresh old name quiet = by_cell (value_at name old) refl
+  where
+    by_cell : (o : Option Cell) → value_at name old ≡ o → (cell_or_fresh o).write ≡ None
+    by_cell None is = refl
+    by_cell (Some cell) is = quiet.quiet name cell is
+
+pub logged_change : (old new : List (Name × Cell)) (name : Name) (value : Option (List ℕ)) (lsn : ℕ) → IsRising old → IsRising new → HasLogged old new name value lsn →
+    (x : Name) → value_at x (stored_in new) ≡ cond (is_eq (name_cmp name x)) (stored_at lsn value) (value_at x (stored_in old))
+logged_change old new name value lsn up_old up_new logged x =
+    let before : Cell = cell_or_fresh (value_at name old) in
+    stored_change old new name (with_logged value lsn logged.commit logged.last before) up_old up_new logged.cell x
+    ∙ ap (λ (s : Option Stored). cond (is_eq (name_cmp name x)) s (value_at x (stored_in old))) (logged_is value lsn logged.commit logged.last before)
+
+pub logged_quiet : (old new : List (Name × Cell)) (name : Name) (value : Option (List ℕ)) (lsn : ℕ) → IsRising new → HasLogged old new name value lsn → AreQuiet old → AreQuiet new
+logged_quiet old new name value lsn up_new logged quiet =
+    let before : Cell = cell_or_fresh (value_at name old) in
+    quiet_change old new name (with_logged value lsn logged.commit logged.last before) quiet up_new logged.cell (logged_write value lsn logged.commit logged.last before ∙ quiet_or_fresh old name quiet)
+
+-- ---- the trees of all databases
+
+pub none_quiet : AreQuiet []
+unfolding IsStrictlySortedBy
+none_quiet = record { rising = tt; quiet = λ x cell found. absurd (none-some cell found) }
+
+apart_cases : (db d : ℕ) → (db ≡ d) ⊎ ((db == d ≡ false) × (is_eq (nat_cmp db d) ≡ false))
+apart_cases db d = by_number (number_cases db d) (number_cases d db)
+  where
+    by_number : (db ≡ d) ⊎ ((d == db ≡ false) × (is_eq (nat_cmp db d) ≡ false)) → (d ≡ db) ⊎ ((db == d ≡ false) × (is_eq (nat_cmp d db) ≡ false)) → (db ≡ d) ⊎ ((db == d ≡ false) × (is_eq (nat_cmp db d) ≡ false))
+    by_number (inl same) back = inl same
+    by_number (inr apart) (inl same) = inl (sym same)
+    by_number (inr apart) (inr back) = inr (back.0, apart.1)
+
+-- one name of one database has another record, or none
+pub stored_forest : (old new : Forest) (db : ℕ) (o : Option DbTree) (name : Name) (s : Option Stored) → Replaces old new db o →
+    ((x : Name) → value_at x (stored_in (cells_of o)) ≡ cond (is_eq (name_cmp name x)) s (value_at x (stored_of old db))) → HasStored (stored_of old) (stored_of new) db name s
+stored_forest old new db o name s has is d x = by_number (apart_cases db d)
+  where
+    by_number : (db ≡ d) ⊎ ((db == d ≡ false) × (is_eq (nat_cmp db d) ≡ false)) → value_at x (stored_of new d) ≡ cond (db == d && is_eq (name_cmp name x)) s (value_at x (stored_of old d))
+    by_number (inl same) =
+        subst (λ (e : ℕ). value_at x (stored_of new e) ≡ cond (db == e && is_eq (name_cmp name x)) s (value_at x (stored_of old e))) same
+        (ap (λ (t : Option DbTree). value_at x (stored_in (cells_of t))) (replaced old new db o has)
+        ∙ is x
+        ∙ sym (ap (λ (t : Bool). cond (t && is_eq (name_cmp name x)) s (value_at x (stored_of old db))) (eq-eqb db db refl)))
+    by_number (inr apart) =
+        ap (λ (t : Option DbTree). value_at x (stored_in (cells_of t))) (others old new db o has d apart.1)
+        ∙ sym (ap (λ (t : Bool). cond (t && is_eq (name_cmp name x)) s (value_at x (stored_of old d))) apart.0)
+
+-- the same by what was written over a tree
+pub stored_put : (old new : Forest) (db : ℕ) (before after : DbTree) (name : Name) (s : Option Stored) → Some before ≡ get nat_cmp old db → Replaces old new db (Some after) →
+    ((x : Name) → value_at x (stored_in after.cells) ≡ cond (is_eq (name_cmp name x)) s (value_at x (stored_in before.cells))) → HasStored (stored_of old) (stored_of new) db name s
+stored_put old new db before after name s there has is =
+    stored_forest old new db (Some after) name s has
+    (subst (λ (o : Option DbTree). (x : Name) → value_at x (stored_in after.cells) ≡ cond (is_eq (name_cmp name x)) s (value_at x (stored_in (cells_of o)))) there is)
+
+-- no record changes where the cells of one database are as before
+pub forest_still : (old new : Forest) (db : ℕ) (o : Option DbTree) → Replaces old new db o → cells_of o ≡ cells_at old db → AreStoredStill (stored_of old) (stored_of new)
+forest_still old new db o has same d = by_number (number_cases db d)
+  where
+    by_number : (db ≡ d) ⊎ ((d == db ≡ false) × (is_eq (nat_cmp db d) ≡ false)) → stored_of new d ≡ stored_of old d
+    by_number (inl is) = subst (λ (e : ℕ). stored_of new e ≡ stored_of old e) is (ap (λ (t : Option DbTree). stored_in (cells_of t)) (replaced old new db o has) ∙ ap stored_in same)
+    by_number (inr apart) = ap (λ (t : Option DbTree). stored_in (cells_of t)) (others old new db o has d apart.1)
+
+-- the records of a database go with its tree
+pub stored_without : (old new : Forest) (db : ℕ) → Replaces old new db None → (d : ℕ) → stored_of new d ≡ cond (d == db) [] (stored_of old d)
+stored_without old new db has d = by_number (number_cases db d)
+  where
+    by_number : (db ≡ d) ⊎ ((d == db ≡ false) × (is_eq (nat_cmp db d) ≡ false)) → stored_of new d ≡ cond (d == db) [] (stored_of old d)
+    by_number (inl is) =
+        subst (λ (e : ℕ). stored_of new e ≡ cond (e == db) [] (stored_of old e)) is
+        (ap (λ (t : Option DbTree). stored_in (cells_of t)) (replaced old new db None has) ∙ sym (ap (λ (t : Bool). cond t [] (stored_of old db)) (eq-eqb db db refl)))
+    by_number (inr apart) = ap (λ (t : Option DbTree). stored_in (cells_of t)) (others old new db None has d apart.1) ∙ sym (ap (λ (t : Bool). cond t [] (stored_of old d)) apart.0)
+
+-- trees stay quiet where the new cells of one database are
+pub forest_quiet : (old new : Forest) (db : ℕ) (o : Option DbTree) → Replaces old new db o → AreQuiet (cells_of o) → IsQuiet old → IsQuiet new
+forest_quiet old new db o has now quiet d = by_number (number_cases db d)
+  where
+    by_number : (db ≡ d) ⊎ ((d == db ≡ false) × (is_eq (nat_cmp db d) ≡ false)) → AreQuiet (cells_at new d)
+    by_number (inl is) = subst (λ (e : ℕ). AreQuiet (cells_at new e)) is (subst (λ (t : Option DbTree). AreQuiet (cells_of t)) (sym (replaced old new db o has)) now)
+    by_number (inr apart) = subst (λ (t : Option DbTree). AreQuiet (cells_of t)) (sym (others old new db o has d apart.1)) (quiet d)
+
+-- each database's records are what is seen of it
+pub forest_seen : (forest : Forest) → IsQuiet forest → (d : ℕ) → cells_seen forest d ≡ map committed_cell (stored_of forest d)
+forest_seen forest quiet d = quiet_seen (cells_at forest d) (quiet d).rising (quiet d).quiet
+
+pub forest_rises : (forest : Forest) → IsQuiet forest → (d : ℕ) → IsRising (stored_of forest d)
+forest_rises forest quiet d = stored_rises (cells_at forest d) (quiet d).rising
+
+-- the databases with a tree are those whose numbers are keys
+pub there_by_keys : (forest : Forest) (d : ℕ) → is_there forest d ≡ list_any (λ n. n == d) (keys forest)
+there_by_keys forest d = by_entries forest.entries
+  where
+    by_entries : (entries : List (ℕ × DbTree)) → is_some (lookup (is_at (nat_cmp d)) entries) ≡ list_any (λ n. n == d) (keys_of entries)
+    by_entries [] = refl
+    by_entries (e ∷ entries) = by_number (number_cases d e.0) (by_entries entries)
+      where
+        by_number : (d ≡ e.0) ⊎ ((e.0 == d ≡ false) × (is_eq (nat_cmp d e.0) ≡ false)) → is_some (lookup (is_at (nat_cmp d)) entries) ≡ list_any (λ n. n == d) (keys_of entries) →
+            is_some (lookup (is_at (nat_cmp d)) (e ∷ entries)) ≡ list_any (λ n. n == d) (keys_of (e ∷ entries))
+        by_number (inl same) rest =
+            ap (λ (t : Bool). is_some (cond t (Some e.1) (lookup (is_at (nat_cmp d)) entries))) (subst (λ (k : ℕ). is_eq (nat_cmp d k) ≡ true) same (number_same d))
+            ∙ sym (ap (λ (t : Bool). t || list_any (λ n. n == d) (keys_of entries)) (eq-eqb e.0 d (sym same)))
+        by_number (inr apart) rest =
+            ap (λ (t : Bool). is_some (cond t (Some e.1) (lookup (is_at (nat_cmp d)) entries))) apart.1
+            ∙ rest
+            ∙ sym (ap (λ (t : Bool). t || list_any (λ n. n == d) (keys_of entries)) apart.0)
+
+-- trees stay quiet where a tree that was written over does
+pub quiet_put : (old new : Forest) (db : ℕ) (before after : DbTree) → Some before ≡ get nat_cmp old db → Replaces old new db (Some after) → (AreQuiet before.cells → AreQuiet after.cells) → IsQuiet old → IsQuiet new
+quiet_put old new db before after there has keeps quiet = forest_quiet old new db (Some after) has (keeps (subst (λ (o : Option DbTree). AreQuiet (cells_of o)) (sym there) (quiet db))) quiet
+
+-- the cells of a database that has a tree, from the first edge on
+pub cells_from_first : (forest : Forest) (db : ℕ) (tree : DbTree) → Some tree ≡ get nat_cmp forest db → from_edge First tree.cells ≡ cells_at forest db
+cells_from_first forest db tree there = from_first tree.cells ∙ ap cells_of there

@@ -1,0 +1,183 @@
+// The trees of an environment while its log is read again.
+ghost use Rattle.std.specs.Prelude.{◌≡◌, ◌≤◌, ℕ, [], false, map, OnOk};
+ghost use Rattle.record_tree.specs.Stored.{AreStoredStill};
+ghost use Rattle.in_tree.specs.Stored.{committed_cell};
+ghost use Rattle.in_tree.specs.Whole.{has_tree_in, seen_in, stored_within};
+
+use crate::trees::LAST_NODE;
+use crate::{Trees, forest, loading, stored};
+use je_lsn::Lsn;
+use je_order::{Name, Octets, copy_of};
+use node_core::Node;
+use record_map::SortKey;
+use record_tree::{LoadErr, Loads, StoredRecord, TreeErr};
+use std::alloc::{AllocError, Global};
+use std::marker::Model;
+
+/// The trees of an environment while its log is read again, seen as these trees: no transaction has changed anything, so
+/// each record in them is committed.
+#[derive(Drop)]
+pub struct LoadedTrees {
+    pub(crate) trees: Trees,
+}
+
+impl Model for LoadedTrees {
+    ghost use Rattle.in_tree.specs.declared.trees.Trees.{Trees as Forested};
+    ghost use Rattle.in_tree.specs.Stored.{IsQuiet};
+    ghost use Rattle.in_tree.specs.contracts.trees.Trees as within;
+    ghost use Rattle.std.specs.Coded.{codes};
+
+    ghost Value = { Forested };
+
+    ghost coded = { Prim.hlevel (codes, within.the_row.coded) };
+
+    ghost view = { λ a. a.trees };
+
+    ghost invariant = { λ a. IsQuiet a.trees.forest };
+}
+
+impl LoadedTrees {
+    /// No trees, of nodes of at most `fanout` slots. The numbers of nodes go on behind `last_node`. It takes no
+    /// memory.
+    pub fn new(alloc: Global, fanout: u32, last_node: u64) -> LoadedTrees
+        requires numbers { last_node ≤ 0x7fffffffffffffff }
+        requires least { 4 ≤ fanout }
+        requires most { fanout ≤ 128 }
+        ensures none { (d : ℕ) → has_tree_in result d ≡ false }
+        ensures stored { (d : ℕ) → stored_within result d ≡ [] }
+    {
+        LoadedTrees {
+            trees: Trees::new(alloc, fanout, last_node),
+        }
+    }
+
+    // The trees themselves, in which each record is as transactions see it.
+    pub(crate) fn into_trees(self) -> Trees
+        ensures trees { result ≡ self }
+        ensures seen { (d : ℕ) → seen_in result d ≡ map committed_cell (stored_within self d) }
+    {
+        let LoadedTrees { trees } = self;
+        trees
+    }
+
+    // Takes a node's number as allocated. IdsEnded where it is above the last one.
+    fn take_number(&mut self, number: u64) -> Result<(), LoadErr>
+        ensures { self.new.forest ≡ self.old.forest }
+    {
+        if number > LAST_NODE {
+            return Err(LoadErr::IdsEnded);
+        }
+        self.trees.last_node = self.trees.last_node.max(number);
+        Ok(())
+    }
+
+    // Makes a tree for the database, if it has none, whose root has the number.
+    fn ensure_tree(&mut self, alloc: Global, db: u32, number: u64) -> Result<(), LoadErr>
+        ensures { AreStoredStill (stored_within self.old) (stored_within self.new) }
+    {
+        if loading::has_tree(&self.trees.forest, db) {
+            return Ok(());
+        }
+        forest::make(&mut self.trees.forest, alloc, db, number)?;
+        Ok(())
+    }
+}
+
+impl Loads for LoadedTrees {
+    ghost use Rattle.std.specs.Ordering.{nat_cmp};
+    ghost use Rattle.std.specs.BTreeMap.{get};
+    ghost use Rattle.in_tree.specs.Forest.{is_there};
+    ghost use Rattle.in_tree.specs.Stored.{stored_of, none_stored};
+
+    ghost stored = { λ x. stored_of x.forest };
+
+    ghost has_tree = { λ x d. is_there x.forest d };
+
+    ghost none_stored = { λ x d none. none_stored (get nat_cmp x.forest d) none };
+
+    fn begin_redo(&mut self, last_node: u64, _from: Lsn) {
+        self.trees.last_node = self.trees.last_node.max(last_node).min(LAST_NODE);
+    }
+
+    fn is_made(&self, db: u32) -> bool {
+        loading::has_tree(&self.trees.forest, db)
+    }
+
+    fn databases(&self, alloc: Global) -> Result<Vec<u32>, AllocError> {
+        stored::databases(&self.trees.forest, alloc)
+    }
+
+    fn make(&mut self, alloc: Global, db: u32) -> Result<(), LoadErr> {
+        match self.trees.make(alloc, db) {
+            Ok(()) => Ok(()),
+            Err(TreeErr::IdsEnded) => Err(LoadErr::IdsEnded),
+            Err(_) => Err(LoadErr::Memory),
+        }
+    }
+
+    fn load_node(
+        &mut self,
+        alloc: Global,
+        node: &Node,
+        _low: &Name,
+        _at: Lsn,
+    ) -> Result<(), LoadErr> {
+        self.take_number(node.number)?;
+        self.ensure_tree(alloc, node.db, node.number)
+    }
+
+    fn load(
+        &mut self,
+        alloc: Global,
+        db: u32,
+        name: &Name,
+        at: Lsn,
+        value: &[u8],
+    ) -> Result<(), LoadErr> {
+        let copy = copy_of(name)?;
+        let name = SortKey::new(alloc, copy)?;
+        if !loading::has_tree(&self.trees.forest, db) {
+            self.make(alloc, db)?;
+        }
+        loading::load(&mut self.trees.forest, alloc, db, name, at, value)?;
+        Ok(())
+    }
+
+    fn drop_db(&mut self, db: u32) {
+        self.trees.drop_db(db);
+    }
+
+    fn redo(
+        &mut self,
+        alloc: Global,
+        db: u32,
+        name: Name,
+        first: Lsn,
+        at: Lsn,
+        value: Option<Octets>,
+    ) -> Result<(), LoadErr> {
+        let name = SortKey::new(alloc, name)?;
+        self.trees.redo(alloc, db, &name, value, first, at)?;
+        Ok(())
+    }
+
+    fn count(&self, db: u32) -> usize {
+        stored::count(&self.trees.forest, db)
+    }
+
+    fn get(&self, db: u32, name: &SortKey) -> Option<(Lsn, &[u8])> {
+        stored::get(&self.trees.forest, db, name)
+    }
+
+    fn records(&self, alloc: Global, db: u32) -> Result<Vec<StoredRecord>, AllocError> {
+        stored::records(&self.trees.forest, alloc, db)
+    }
+
+    fn first_with_dup(&self, db: u32) -> Option<&SortKey> {
+        stored::first_with_dup(&self.trees.forest, db)
+    }
+
+    fn first_not_dup(&self, db: u32, limit: usize) -> Option<&SortKey> {
+        stored::first_not_dup(&self.trees.forest, db, limit)
+    }
+}

@@ -1,0 +1,85 @@
+-- What the parts of a plan come to.
+use Rattle.std.proofs.Common.{◌≡◌, ◌≢◌, ℕ, ◌+◌, ◌<◌, ◌≤◌, ◌^◌, List, [], ◌∷◌, ◌++◌, true, Option, None, Some, map, length, slice_index_or, option_map, refl, ap, ap₂, sym, ◌∙◌, arith}
+use Rattle.std.specs.Int.{w32, to_be_bytes}
+use Rattle.std.proofs.lemmas.Option.{none-some, same_Some}
+use Rattle.db_catalog.specs.declared.db_kind.DbKind.{DbKind}
+use Rattle.db_catalog.specs.declared.db_kind.DbKind.TheVariants.{Plain as PlainRecord, Dup as DupRecord, SliceIndex, FieldIndex}
+use Rattle.db_catalog.specs.declared.db_record.DbRecord.{DbRecord}
+use Rattle.db_catalog.specs.declared.found_db.FoundDb.{FoundDb}
+use Rattle.db_catalog.specs.Catalog.{db_record_in, kind_bytes}
+use Rattle.db_catalog.specs.Planning.{found_in, found_db, kind_of_catalog, kind_in_catalog, logged_as, renewed}
+use Rattle.store_model.specs.declared.kind.Kind.{Kind}
+use Rattle.store_model.specs.declared.change.Change.{Change}
+use Rattle.store_model.specs.declared.change.Change.TheVariants.{Set, Unset, Make, Remove, Rename, Empty}
+use Rattle.store_model.specs.Evaluation.{plain_name}
+use Rattle.log_replay.specs.Rows.{Row, Rows, row_at, is_environment, are_right, number_or_0, kind_or_plain, database_number, database_kind}
+use Rattle.log_replay.specs.Logging.{record_in, record_named, number_named, kind_named}
+use Rattle.log_replay.proofs.StoreLaws.{environment_parts, named-right, named-above}
+use Rattle.record_tree.specs.declared.tree_change.TreeChange.{TreeChange}
+use Rattle.txn_core.specs.Plans.{catalog_planned}
+
+-- ---- the database that was found
+
+found_by : (number : ℕ) (kind : DbKind) (found : FoundDb) → found_db number (kind_of_catalog kind) ≡ Some found →
+    (found.number ≡ database_number kind number) × (found.kind ≡ database_kind kind)
+found_by number PlainRecord found h = let same = same_Some _ found h in (sym (ap (λ (f : FoundDb). f.number) same), sym (ap (λ (f : FoundDb). f.kind) same))
+found_by number DupRecord found h = let same = same_Some _ found h in (sym (ap (λ (f : FoundDb). f.number) same), sym (ap (λ (f : FoundDb). f.kind) same))
+found_by number (SliceIndex primary offset len) found h = absurd (none-some found h)
+found_by number (FieldIndex primary field separator) found h = absurd (none-some found h)
+
+found_parts : (o : Option DbRecord) (found : FoundDb) → found_in o ≡ Some found → (found.number ≡ number_or_0 o) × (found.kind ≡ kind_or_plain o)
+found_parts None found h = absurd (none-some found h)
+found_parts (Some r) found h = found_by r.number r.kind found h
+
+-- a database that was found has the number and the kind that its name has, and right records
+pub record IsFound (rows : Rows) (db : List ℕ) (found : FoundDb) : Type 0 where
+  pub number : found.number ≡ number_named rows db
+  pub kind : found.kind ≡ kind_named rows db
+  pub some : number_named rows db ≢ 0
+  pub right : are_right found.kind (rows found.number) ≡ true
+
+pub found_right : (rows : Rows) (db : List ℕ) (found : FoundDb) → is_environment rows ≡ true → found_in (record_named rows db) ≡ Some found → IsFound rows db found
+found_right rows db found env h = by_row (row_at (plain_name db) (rows 0)) refl
+  where
+    record_by : Option Row → Option DbRecord
+    record_by o = record_in (option_map (λ (r : Row). r.1) o)
+
+    by_row : (o : Option Row) → row_at (plain_name db) (rows 0) ≡ o → IsFound rows db found
+    by_row None e = absurd (none-some found (sym (ap (λ (o : Option Row). found_in (record_in (option_map (λ (r : Row). r.1) o))) e) ∙ h))
+    by_row (Some row) e =
+        let is : record_named rows db ≡ db_record_in row.1 = ap (λ (o : Option Row). record_in (option_map (λ (r : Row). r.1) o)) e in
+        let parts = found_parts (record_named rows db) found h in
+        record {
+          number = parts.0;
+          kind = parts.1;
+          some = λ none. named-above rows db row (environment_parts rows env) e (sym (ap number_or_0 is) ∙ none);
+          right = ap₂ (λ (k : Kind) (n : ℕ). are_right k (rows n)) (parts.1 ∙ ap kind_or_plain is) (parts.0 ∙ ap number_or_0 is) ∙ named-right rows db row (environment_parts rows env) e;
+        }
+
+-- ---- the number of a database that is made
+
+-- behind the last number the bytes begin anew
+pub bytes_anew : (last : ℕ) → last < 2 ^ 32 → 2 ^ 32 ≤ last + 1 → to_be_bytes w32 0 ≡ to_be_bytes w32 (last + 1)
+bytes_anew last low high = let is : 2 ^ 32 ≡ last + 1 = omega arith in ap (to_be_bytes w32) is
+
+-- only a number's bytes are logged
+pub same_logged : (makes : Option ℕ) (record_of : List ℕ → Option DbRecord) (a b : ℕ) (change : Change) → to_be_bytes w32 a ≡ to_be_bytes w32 b →
+    map (catalog_planned makes) (logged_as record_of a change) ≡ map (catalog_planned makes) (logged_as record_of b change)
+same_logged makes record_of a b (Set db at value) h = refl
+same_logged makes record_of a b (Unset db at) h = refl
+same_logged makes record_of a b (Make db kind) h =
+    let make : List ℕ → List TreeChange = λ bytes. record { db = 0; name = plain_name db; value = Some (bytes ++ kind_bytes (kind_in_catalog kind)); makes = makes } ∷ [] in ap make h
+same_logged makes record_of a b (Remove db) h = refl
+same_logged makes record_of a b (Rename db to) h = refl
+same_logged makes record_of a b (Empty db) h = by_record (record_of db)
+  where
+    by_record : (o : Option DbRecord) → map (catalog_planned makes) (renewed db a o) ≡ map (catalog_planned makes) (renewed db b o)
+    by_record None = refl
+    by_record (Some r) = let make : List ℕ → List TreeChange = λ bytes. record { db = 0; name = plain_name db; value = Some (bytes ++ kind_bytes r.kind); makes = makes } ∷ [] in ap make h
+
+-- ---- the first change
+
+-- a list of at least one change begins with the one at its front
+pub first_is : (changes : List Change) (change : Change) → 1 ≤ length changes → change ≡ slice_index_or changes 0 change → (more : List Change) × (changes ≡ change ∷ more)
+first_is [] change some is = absurd (omega (arith, some))
+first_is (c ∷ more) change some is = (more, ap (λ (x : Change). x ∷ more) (sym is))

@@ -1,0 +1,55 @@
+use Rattle.std.proofs.Common.{rules, [], ◌∷◌, ◌++◌, ◌∙◌, ◌≡◌, subst, List}
+use Rattle.log_entry.specs.declared.entry.Entry.{Entry}
+use Rattle.log_entry.specs.declared.entry.Entry.TheVariants.{Commit}
+use Rattle.record_tree.specs.declared.tree_name.TreeName.{TreeName}
+use Rattle.record_tree.specs.declared.tree_err.TreeErr.{TreeErr as Reason}
+use Rattle.record_tree.specs.Logged.{LogsTransaction, IsFront}
+use Rattle.txn_core.specs.Transactions.{IsCommittedAmong}
+use Rattle.txn_core.proofs.Committing.{values_then, quiet_then, logs_commit, tried_with, front_behind, ok_then, ends_by}
+use Rattle.txn_core.proofs.transaction.commit_changes.Goals as goal
+
+pub returns-in_err-write_all-clause-tried : goal.returns-in_err-write_all-clause-tried
+returns-in_err-write_all-clause-tried g c =
+    let tried : c.in_err-write_all.field-0.0 ≡ Reason.Fault → (entries : List Entry) × (front : List Entry) × LogsTransaction c.args.txn c.args.changes.now entries × IsFront front entries × g.T.Records.tried c.args.trees.now c.write_all.new.self front
+    = (λ is. tried_with g.T.Records.tried c.args.trees.now c.write_all.new.self c.args.txn c.args.changes.now (c.in_err-write_all.ensures.tried is)) in
+    search rules
+
+pub returns-clause-values : goal.returns-clause-values
+returns-clause-values g c =
+    ok_then c.commit_names.result
+    (λ (committed : IsCommittedAmong c.as_slice.result.now c.args.gone (g.T.Records.cells c.write_all.new.self) (g.T.Records.cells c.commit_names.new.trees)).
+    values_then c.args.txn c.args.changes.now c.args.gone (g.T.Records.cells c.args.trees.now) (g.T.Records.cells c.write_all.new.self) (g.T.Records.cells c.commit_names.new.trees) c.requires.quiet c.in_ok-write_all.ensures.cells
+    (subst (λ (names : List TreeName). IsCommittedAmong names c.args.gone (g.T.Records.cells c.write_all.new.self) (g.T.Records.cells c.commit_names.new.trees)) (c.as_slice.ensures.value ∙ c.in-Ok.ensures) committed))
+    c.commit_names.ensures.cells
+
+pub returns-clause-quiet : goal.returns-clause-quiet
+returns-clause-quiet g c =
+    ok_then c.commit_names.result
+    (λ (committed : IsCommittedAmong c.as_slice.result.now c.args.gone (g.T.Records.cells c.write_all.new.self) (g.T.Records.cells c.commit_names.new.trees)).
+    quiet_then c.args.txn c.args.changes.now c.args.gone (g.T.Records.cells c.args.trees.now) (g.T.Records.cells c.write_all.new.self) (g.T.Records.cells c.commit_names.new.trees) c.requires.quiet c.in_ok-write_all.ensures.cells
+    (subst (λ (names : List TreeName). IsCommittedAmong names c.args.gone (g.T.Records.cells c.write_all.new.self) (g.T.Records.cells c.commit_names.new.trees)) (c.as_slice.ensures.value ∙ c.in-Ok.ensures) committed))
+    c.commit_names.ensures.cells
+
+pub returns-clause-grew : goal.returns-clause-grew
+returns-clause-grew g c =
+    let wrote = c.in_ok-write_all.ensures.grew in
+    ok_then c.commit_names.result
+    (λ (grew : g.T.Records.grew c.write_all.new.self c.commit_names.new.trees (Commit c.args.txn ∷ [])). (
+      wrote.0 ++ Commit c.args.txn ∷ [],
+      logs_commit c.args.txn c.args.changes.now wrote.0 wrote.1,
+      g.met.T.Records.grew_then c.args.trees.now c.write_all.new.self c.commit_names.new.trees wrote.0 (Commit c.args.txn ∷ []) wrote.2 grew,
+    ))
+    c.commit_names.ensures.grew
+
+pub returns-clause-tried : goal.returns-clause-tried
+returns-clause-tried g c =
+    let wrote = c.in_ok-write_all.ensures.grew in
+    ends_by c.commit_names.result Reason.Fault
+    (λ (tried : (front : List Entry) × IsFront front (Commit c.args.txn ∷ []) × g.T.Records.tried c.write_all.new.self c.commit_names.new.trees front). (
+      wrote.0 ++ Commit c.args.txn ∷ [],
+      wrote.0 ++ tried.0,
+      logs_commit c.args.txn c.args.changes.now wrote.0 wrote.1,
+      front_behind wrote.0 tried.0 (Commit c.args.txn ∷ []) tried.1,
+      g.met.T.Records.tried_then c.args.trees.now c.write_all.new.self c.commit_names.new.trees wrote.0 tried.0 wrote.2 tried.2,
+    ))
+    c.commit_names.ensures.tried

@@ -1,0 +1,6 @@
+pub mod Totals
+pub mod Known
+pub mod Planning
+pub mod Plans
+pub mod Views
+pub mod Transactions

@@ -1,0 +1,242 @@
+// What a call on the catalog comes to.
+ghost use Rattle.std.specs.Prelude.{◌≡◌, ◌+◌, ◌-◌, ◌<◌, ◌^◌, ◌∷◌, true, ℕ, [], map, Some, None, IfOk, length};
+ghost use Rattle.std.specs.Int.{w32, to_be_bytes};
+ghost use Rattle.store_model.specs.Refusals.{made_by};
+ghost use Rattle.store_model.specs.Evaluation.{plain_name as name_of_key};
+ghost use Rattle.log_replay.specs.Rows.{is_environment, store_of};
+ghost use Rattle.log_replay.specs.Logging.{record_named, number_named};
+ghost use Rattle.db_catalog.specs.Planning.{is_catalog_call, outcome_of};
+ghost use Rattle.txn_core.specs.Known.{committed, known_of};
+ghost use Rattle.txn_core.specs.Planning.{gone_by};
+ghost use Rattle.txn_core.specs.Plans.{catalog_planned, number_made, totals_by, IsNamed, LogsCatalog, IsCatalogPlan};
+
+use crate::catalog_rows::CatalogRows;
+use crate::planned::Planned;
+use crate::planned_changes::PlannedChanges;
+use crate::reading::data_of;
+use crate::walking::{CATALOG, without_db};
+use db_catalog::{CatalogChange, catalog_changes, plan};
+use je_order::{Octets, Word};
+use log_replay::number_of;
+use record_map::SortKey;
+use record_tree::{Records, TreeChange};
+use std::alloc::{AllocError, Global};
+use store_model::{Call, Change, Totals};
+
+// The name of a database's record.
+fn plain_name(alloc: Global, db: &Word) -> Result<SortKey, AllocError>
+    ensures { IfOk result (λ name. name ≡ name_of_key db.now) }
+{
+    SortKey::plain(alloc, db.as_slice())
+}
+
+// A change of the catalog's records as what is logged of it. One that sets a record makes the database of the number.
+fn change_of(
+    alloc: Global,
+    makes: Option<u32>,
+    change: &CatalogChange,
+) -> Result<TreeChange, AllocError>
+    ensures { IfOk result (λ planned. planned ≡ catalog_planned makes change.now) }
+{
+    match change {
+        CatalogChange::Put { db, row } => {
+            let name = plain_name(alloc, db)?;
+            let value = Some(Octets::from_vec(row.to_bytes(alloc)?));
+            Ok(TreeChange {
+                db: CATALOG,
+                name,
+                value,
+                makes,
+            })
+        }
+        CatalogChange::Delete { db } => {
+            let name = plain_name(alloc, db)?;
+            Ok(TreeChange {
+                db: CATALOG,
+                name,
+                value: None,
+                makes: None,
+            })
+        }
+    }
+}
+
+fn changes_of(
+    alloc: Global,
+    makes: Option<u32>,
+    logged: &[CatalogChange],
+) -> Result<Vec<TreeChange>, AllocError>
+    ensures { IfOk result (λ changes. changes.items ≡ map (catalog_planned makes) logged.now) }
+{
+    let mut changes = Vec::new(alloc);
+    'logged: for change in logged {
+        changes.push(change_of(alloc, makes, change)?)?;
+    }
+    Ok(changes)
+}
+
+// The number of the database of that name, 0 where there is none.
+fn number_under<T: Records>(trees: &T, alloc: Global, db: &Word) -> Result<u32, AllocError>
+    ensures { IfOk result (λ number. number ≡ number_named (committed (T.cells trees.now)) db.now) }
+{
+    let name = plain_name(alloc, db)?;
+    match data_of(trees, CATALOG, &name) {
+        Some(held) => Ok(number_of(held)),
+        None => Ok(0),
+    }
+}
+
+// So many records without those of the database of that name.
+fn records_without<T: Records>(
+    trees: &T,
+    alloc: Global,
+    records: u64,
+    db: &Word,
+) -> Result<u64, AllocError>
+    ensures { IfOk result (λ left. left ≡ records - length (committed (T.cells trees.now) (number_named (committed (T.cells trees.now)) db.now))) }
+{
+    let number = number_under(trees, alloc, db)?;
+    Ok(without_db(trees, number, records))
+}
+
+// How much the store holds after a change of the catalog; out of memory where that is no number.
+fn totals_after<T: Records>(
+    trees: &T,
+    alloc: Global,
+    totals: Totals,
+    change: &Change,
+) -> Result<Totals, AllocError>
+    ensures { IfOk result (λ after. after ≡ totals_by totals (committed (T.cells trees.now)) change.now) }
+{
+    let mut after = totals;
+    match change {
+        Change::Make { .. } => {
+            after.databases = after.databases.checked_add(1).ok_or(AllocError)?;
+        }
+        Change::Remove { db } => {
+            after.databases = after.databases.saturating_sub(1);
+            after.records = records_without(trees, alloc, after.records, db)?;
+        }
+        Change::Empty { db } => {
+            after.records = records_without(trees, alloc, after.records, db)?;
+        }
+        _ => {}
+    }
+    Ok(after)
+}
+
+// The number of the database whose tree goes with a change.
+fn gone_with<T: Records>(
+    trees: &T,
+    alloc: Global,
+    change: &Change,
+) -> Result<Option<u32>, AllocError>
+    ensures { IfOk result (λ gone. gone ≡ gone_by (committed (T.cells trees.now)) change.now) }
+{
+    match change {
+        Change::Remove { db } | Change::Empty { db } => {
+            Ok(Some(number_under(trees, alloc, db)?))
+        }
+        _ => Ok(None),
+    }
+}
+
+// The database number allocated last after a change, which may be past the last one.
+fn last_db_after(last_db: u32, change: &Change) -> u64
+    ensures { result ≡ last_db + made_by (change.now ∷ []) }
+{
+    match change {
+        Change::Make { .. } | Change::Empty { .. } => last_db as u64 + 1,
+        _ => last_db as u64,
+    }
+}
+
+// The next number, which a record of the catalog has in four bytes: behind the last one its bytes begin
+// anew, and the change that has it is not logged.
+fn next_number(last_db: u32) -> u32
+    ensures { to_be_bytes w32 result ≡ to_be_bytes w32 (last_db + 1) }
+{
+    match last_db.checked_add(1) {
+        Some(number) => number,
+        None => 0,
+    }
+}
+
+// The number of the database that a change makes, where it is a number.
+fn number_made_by(last_db: u32, change: &Change) -> Option<u32>
+    ensures { last_db + made_by (change.now ∷ []) < 2 ^ 32 → result ≡ number_made (last_db + 1) change.now }
+{
+    match change {
+        Change::Make { .. } | Change::Empty { .. } => last_db.checked_add(1),
+        _ => None,
+    }
+}
+
+// The name that a change gives a database is one, as each `Word` is.
+fn see_name(change: &Change)
+    ensures { IsNamed change.now }
+{
+    match change {
+        Change::Make { db, .. } => {
+            let _ = db.as_slice();
+        }
+        Change::Rename { to, .. } => {
+            let _ = to.as_slice();
+        }
+        _ => {}
+    }
+}
+
+fn log_catalog<T: Records>(
+    catalog: &CatalogRows<'_, T>,
+    alloc: Global,
+    totals: Totals,
+    last_db: u32,
+    change: &Change,
+) -> Result<PlannedChanges, AllocError>
+    ensures { IfOk result (LogsCatalog (known_of (T.cells catalog.now.trees.now) totals last_db) change.now) }
+{
+    see_name(change);
+    let totals = totals_after(catalog.trees, alloc, totals, change)?;
+    let gone = gone_with(catalog.trees, alloc, change)?;
+    let number = next_number(last_db);
+    let makes = number_made_by(last_db, change);
+    let logged = catalog_changes(alloc, catalog, number, change)?;
+    let changes = changes_of(alloc, makes, logged.as_slice())?;
+    drop(logged);
+    Ok(PlannedChanges {
+        changes,
+        last_db: last_db_after(last_db, change),
+        totals,
+        gone,
+    })
+}
+
+/// What a call on the catalog comes to.
+pub fn plan_catalog<T: Records>(
+    trees: &T,
+    alloc: Global,
+    totals: Totals,
+    last_db: u32,
+    call: &Call,
+) -> Result<Planned, AllocError>
+    requires environment { is_environment (committed (T.cells trees.now)) ≡ true }
+    requires count { totals.databases ≡ length (committed (T.cells trees.now) 0) }
+    requires call { is_catalog_call call.now ≡ true }
+    ensures { IfOk result (IsCatalogPlan (known_of (T.cells trees.now) totals last_db) (outcome_of call.now (store_of (committed (T.cells trees.now))))) }
+{
+    let catalog = CatalogRows {
+        trees,
+        databases: totals.databases,
+    };
+    let planned = plan(alloc, &catalog, call)?;
+    let answer = planned.answer;
+    let changes = planned.changes;
+    match changes.as_slice() {
+        [] => Ok(Planned::Answered(answer)),
+        [change, ..] => {
+            drop(answer);
+            Ok(Planned::Logs(log_catalog(&catalog, alloc, totals, last_db, change)?))
+        }
+    }
+}

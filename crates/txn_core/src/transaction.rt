@@ -1,0 +1,95 @@
+// Changes that are one transaction.
+ghost use Rattle.std.specs.Prelude.{◌≡◌, ℕ, suc, List, [], ◌∷◌, true, false, IfErr, IfOk, IfSome, OnOk, OnErr, if◌then◌else◌};
+ghost use Rattle.std.specs.List.{AllByRecursion};
+ghost use Rattle.log_entry.specs.Body.{IsEntry};
+ghost use Rattle.log_entry.specs.declared.entry.Entry.{Entry};
+ghost use Rattle.log_entry.specs.declared.entry.Entry.TheVariants.{Commit};
+ghost use Rattle.record_tree.specs.Logged.{entry_for, IsLimit, IsEndOf, IsFront, LogsTransaction};
+ghost use Rattle.record_tree.specs.Occupied.{AreSame};
+ghost use Rattle.record_tree.specs.declared.tree_err.TreeErr.{TreeErr as Reason};
+ghost use Rattle.txn_core.specs.Known.{IsQuiet};
+ghost use Rattle.txn_core.specs.Transactions.{is_gone, changed_names, IsCommittedAmong, HasCommitted, HasTreesAfter};
+
+use je_order::TxnId;
+use record_tree::{Records, TreeChange, TreeErr, TreeName};
+use std::alloc::{AllocError, Global};
+
+// The names that the changes change.
+fn changed_names(alloc: Global, changes: &[TreeChange]) -> Result<Vec<TreeName>, AllocError>
+    ensures { IfOk result (λ names. names.items ≡ changed_names changes.now) }
+{
+    let mut names = Vec::new(alloc);
+    for change in changes {
+        names.push(TreeName {
+            db: change.db,
+            name: change.name.copy(alloc)?,
+        })?;
+    }
+    Ok(names)
+}
+
+// Drops the tree of the database that goes, if one does.
+fn drop_gone<T: Records>(trees: &mut T, gone: Option<u32>)
+    ensures cells { (d : ℕ) → T.cells trees.new d ≡ (if is_gone d gone then [] else T.cells trees.old d) }
+    ensures trees { (d : ℕ) → T.has_tree trees.new d ≡ (if is_gone d gone then false else T.has_tree trees.old d) }
+    ensures grew { T.grew trees.old trees.new [] }
+{
+    match gone {
+        Some(db) => trees.drop_db(db),
+        None => {}
+    }
+}
+
+// Commits the changes of these names, which are those of the transaction, and drops the tree that goes.
+fn commit_names<T: Records>(
+    trees: &mut T,
+    txn: TxnId,
+    names: &[TreeName],
+    gone: Option<u32>,
+) -> Result<(), TreeErr>
+    requires { (owed : ℕ) × T.has_room trees.old (suc owed) }
+    ensures cells { OnOk result (IsCommittedAmong names.now gone (T.cells trees.old) (T.cells trees.new)) }
+    ensures trees { OnOk result ((d : ℕ) → T.has_tree trees.new d ≡ (if is_gone d gone then false else T.has_tree trees.old d)) }
+    ensures grew { OnOk result (T.grew trees.old trees.new (Commit txn ∷ [])) }
+    ensures by_fault { IfErr result (λ e. e ≡ Reason.Fault) }
+    ensures tried { OnErr result ((front : List Entry) × IsFront front (Commit txn ∷ []) × T.tried trees.old trees.new front) }
+{
+    trees.commit(txn, names)?;
+    drop_gone(trees, gone);
+    Ok(())
+}
+
+/// Makes changes as one transaction: writes them, logs its Commit, and then drops the tree of the database `gone` with its
+/// records. Before the call no name has a change of an active transaction, and after it none has.
+///
+/// Full and IdsEnded: the log, or the numbers of nodes, have no room for the changes and a Commit; nothing changed. Memory: no
+/// record changed, and the log got nothing. Fault: the disk failed; the log may have a front of the transaction, and what the
+/// trees have is not said.
+pub fn commit_changes<T: Records>(
+    trees: &mut T,
+    alloc: Global,
+    txn: TxnId,
+    changes: &[TreeChange],
+    gone: Option<u32>,
+) -> Result<(), TreeErr>
+    requires quiet { IsQuiet (T.cells trees.old) }
+    requires trees { AllByRecursion (λ c. T.has_tree trees.old c.db ≡ true) changes.now }
+    requires new { AllByRecursion (λ c. IfSome c.makes (λ d. T.has_tree trees.old d ≡ false)) changes.now }
+    requires entries { AllByRecursion (λ c. IsEntry (entry_for txn c.db c.name c.value)) changes.now }
+    ensures values { OnOk result (HasCommitted changes.now gone (T.cells trees.old) (T.cells trees.new)) }
+    ensures quiet { OnOk result (IsQuiet (T.cells trees.new)) }
+    ensures trees { OnOk result (HasTreesAfter changes.now gone (T.has_tree trees.old) (T.has_tree trees.new)) }
+    ensures grew { OnOk result ((entries : List Entry) × LogsTransaction txn changes.now entries × T.grew trees.old trees.new entries) }
+    ensures tried { IsEndOf Reason.Fault result ((entries : List Entry) × (front : List Entry) × LogsTransaction txn changes.now entries × IsFront front entries × T.tried trees.old trees.new front) }
+    ensures limited { IfErr result (λ e. IsLimit e → T.limit trees.old changes.now 1 ≡ Some e) }
+    ensures room { OnOk result (T.limit trees.old changes.now 1 ≡ None) }
+    ensures fault_room { IsEndOf Reason.Fault result (T.limit trees.old changes.now 1 ≡ None) }
+    ensures same { IfErr result (λ e. IsLimit e → trees.new ≡ trees.old) }
+    ensures memory { IsEndOf Reason.Memory result (AreSame (T.cells trees.old) (T.cells trees.new) × T.grew trees.old trees.new [] × ((d : ℕ) → T.has_tree trees.new d ≡ T.has_tree trees.old d)) }
+{
+    let Ok(names) = changed_names(alloc, changes) else {
+        return Err(TreeErr::Memory);
+    };
+    trees.write_all(alloc, txn, changes, 1)?;
+    commit_names(trees, txn, names.as_slice(), gone)
+}

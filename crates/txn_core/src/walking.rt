@@ -1,0 +1,49 @@
+// Walks over the committed records of one database.
+ghost use Rattle.std.specs.Prelude.{◌≡◌, ◌-◌, true, ℕ, List as Items, IfOk, map, length};
+ghost use Rattle.std.specs.List.{list_all};
+ghost use Rattle.log_replay.specs.Rows.{is_catalog_row};
+ghost use Rattle.txn_core.specs.Known.{committed};
+
+use crate::reading::next;
+use je_order::{List, Word};
+use record_map::{EdgeRef, SortKey};
+use record_tree::Records;
+use std::alloc::{AllocError, Global};
+
+/// The number of the catalog, whose records are the other databases' names, numbers and kinds.
+pub const CATALOG: u32 = 0;
+
+// The name of the database that a record of a right catalog names.
+fn word_in(alloc: Global, name: &SortKey) -> Result<Word, AllocError>
+    requires { (held : Items ℕ) × (is_catalog_row (name.now, held) ≡ true) }
+    ensures { IfOk result (λ word. word ≡ name.now.key) }
+{
+    Word::from_slice(alloc, name.key())
+}
+
+/// The names of the databases that the catalog has, where it is right, in order.
+pub fn names<T: Records>(trees: &T, alloc: Global) -> Result<List<Word>, AllocError>
+    requires { list_all is_catalog_row (committed (T.cells trees.now) 0) ≡ true }
+    ensures { IfOk result (λ names. names ≡ map (λ r. r.0.key) (committed (T.cells trees.now) 0)) }
+{
+    let mut names = Vec::new(alloc);
+    let mut from = EdgeRef::First;
+    'catalog: while let Some((name, _data)) = next(trees, CATALOG, from) {
+        names.push(word_in(alloc, name)?)?;
+        from = EdgeRef::Behind(name);
+    }
+    Ok(List::from_vec(names))
+}
+
+/// So many records without those of the database of that number; none, where it has more. It goes over them.
+pub fn without_db<T: Records>(trees: &T, db: u32, records: u64) -> u64
+    ensures { result ≡ records - length (committed (T.cells trees.now) db) }
+{
+    let mut left = records;
+    let mut from = EdgeRef::First;
+    'records: while let Some((name, _data)) = next(trees, db, from) {
+        left = left.saturating_sub(1);
+        from = EdgeRef::Behind(name);
+    }
+    left
+}
