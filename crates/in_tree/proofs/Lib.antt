@@ -38,3 +38,5 @@ pub mod ReadCells
 pub mod SplitLaws
 -- What is committed in trees while a log is read again, and how it changes where one cell does.
 pub mod StoredLaws
+-- Lows that are put on levels.
+pub mod Lows

@@ -48,11 +48,11 @@ pub record AreQuiet (cells : List (Name × Cell)) : Type 0 where
 abbrev pub IsQuiet : Forest → Type 0
 IsQuiet forest = (d : ℕ) → AreQuiet (cells_at forest d)
 
--- the cell of a record that was logged at an LSN, and which the last image of its BIN shows
+-- the cell of a record that was logged at an LSN; the last image of its BIN shows that
 abbrev pub loaded_cell : ℕ → List ℕ → Cell
 loaded_cell lsn value = record { version = There lsn; shown = There lsn; touched = lsn; «data» = value; write = None }
 
--- cells with one that has what was committed of its name at an LSN
+-- one cell changed: what is committed of its name is what was logged at an LSN, the record's data or none
 pub record HasLogged (old new : List (Name × Cell)) (name : Name) (value : Option (List ℕ)) (lsn : ℕ) : Type 0 where
   pub commit : ℕ
   pub last : Option ℕ

@@ -3,7 +3,8 @@
 //! image shows what its children's do, and a BIN's what is committed, but for names that the node is marked for. Upward it
 //! promises that each step of a tree and its log keeps this, and that what the images of a checkpoint
 //! lack is behind its redo LSN. Over a log buffer the trees of all databases (`LogTrees`) are the records that transactions read and
-//! change: a change takes all its memory first, is logged, and is then set in its cell.
+//! change: a change takes all its memory first, is logged, and is then set in its cell. While a log is read again they are
+//! `LoadedTrees`: nodes come with their images and stand on their levels, each record is committed, and `LogTrees` go on with them.
 #![tactic(auto)]
 
 pub mod db_tree;

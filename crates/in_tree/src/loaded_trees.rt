@@ -70,17 +70,6 @@ impl LoadedTrees {
         self.trees.last_node = self.trees.last_node.max(number);
         Ok(())
     }
-
-    // Makes a tree for the database, if it has none, whose root has the number.
-    fn ensure_tree(&mut self, alloc: Global, db: u32, number: u64) -> Result<(), LoadErr>
-        ensures { AreStoredStill (stored_within self.old) (stored_within self.new) }
-    {
-        if loading::has_tree(&self.trees.forest, db) {
-            return Ok(());
-        }
-        forest::make(&mut self.trees.forest, alloc, db, number)?;
-        Ok(())
-    }
 }
 
 impl Loads for LoadedTrees {
@@ -119,11 +108,12 @@ impl Loads for LoadedTrees {
         &mut self,
         alloc: Global,
         node: &Node,
-        _low: &Name,
-        _at: Lsn,
+        low: &Name,
+        at: Lsn,
     ) -> Result<(), LoadErr> {
         self.take_number(node.number)?;
-        self.ensure_tree(alloc, node.db, node.number)
+        loading::load_node(&mut self.trees.forest, alloc, node, low, at)?;
+        Ok(())
     }
 
     fn load(

@@ -92,7 +92,7 @@ fn is_not_dup(name: &SortKey, cell: &Cell, limit: usize) -> bool
 }
 
 // The name of the first record whose dup is not empty.
-fn first_dup<'a>(cells: Range<'a, SortKey, Cell>) -> Option<&'a SortKey>
+fn find_dup<'a>(cells: Range<'a, SortKey, Cell>) -> Option<&'a SortKey>
     ensures { option_map (λ name. name.now) result ≡ option_map (λ r. r.0) (find (λ r. not (length r.0.dup == 0)) (stored_in cells.entry)) }
 {
     for (name, cell) in cells {
@@ -104,7 +104,7 @@ fn first_dup<'a>(cells: Range<'a, SortKey, Cell>) -> Option<&'a SortKey>
 }
 
 // The name of the first record that is no duplicate.
-fn first_plain<'a>(cells: Range<'a, SortKey, Cell>, limit: usize) -> Option<&'a SortKey>
+fn find_not_dup<'a>(cells: Range<'a, SortKey, Cell>, limit: usize) -> Option<&'a SortKey>
     ensures { option_map (λ name. name.now) result ≡ option_map (λ r. r.0) (find (λ r. not ((length r.1.value == 0) && nat_le (length r.0.dup) limit)) (stored_in cells.entry)) }
 {
     for (name, cell) in cells {
@@ -189,7 +189,7 @@ pub(crate) fn first_with_dup<'a>(trees: &'a BTreeMap<u32, DbTree>, db: u32) -> O
     ensures { option_map (λ name. name.now) result ≡ option_map (λ r. r.0) (find (λ r. not (length r.0.dup == 0)) (stored_of trees.entry.now db)) }
 {
     match cells_of(trees, db) {
-        Some((cells, _limit)) => first_dup(cells),
+        Some((cells, _limit)) => find_dup(cells),
         None => None,
     }
 }
@@ -203,7 +203,7 @@ pub(crate) fn first_not_dup<'a>(
     ensures { option_map (λ name. name.now) result ≡ option_map (λ r. r.0) (find (λ r. not ((length r.1.value == 0) && nat_le (length r.0.dup) limit)) (stored_of trees.entry.now db)) }
 {
     match cells_of(trees, db) {
-        Some((cells, _limit)) => first_plain(cells, limit),
+        Some((cells, _limit)) => find_not_dup(cells, limit),
         None => None,
     }
 }
