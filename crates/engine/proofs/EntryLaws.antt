@@ -1,5 +1,5 @@
 -- What a crash leaves of an environment while it is opened.
-use Rattle.std.proofs.Common.{◌≡◌, ◌≢◌, ℕ, ◌<◌, ◌≤◌, ◌^◌, ◌==◌, nat_lt, cond, Bool, true, false, List, [], ◌∷◌, ◌++◌, Option, Some, None, IfSome, Result, Ok, Err, option_map, refl, ap, sym, ◌∙◌, subst, ◌⊎◌, inl, inr, arith, length, take, drop}
+use Rattle.std.proofs.Common.{◌≡◌, ◌≢◌, ℕ, ◌<◌, ◌≤◌, ◌^◌, ◌==◌, nat_lt, cond, Bool, true, false, List, [], ◌∷◌, ◌++◌, Option, Some, None, Ok, option_map, refl, ap, sym, ◌∙◌, subst, ◌⊎◌, inl, inr, arith, length, take, drop}
 use Rattle.std.specs.Prelude.{unwrap_or}
 use Rattle.std.specs.List.{AllByRecursion}
 use Rattle.std.specs.List.Sorted.{IsStrictlyIncreasing}
@@ -8,7 +8,7 @@ use Rattle.std.proofs.lemmas.Bool.{cases_lt, cases_order, eqb-true}
 use Rattle.std.proofs.lemmas.Bool.Decides.{nat_tests}
 use Rattle.std.proofs.lemmas.List.{append-nil, length-take-le, take-append-drop, take_all}
 use Rattle.je_bytes.specs.Reading.{AreBytes}
-use Rattle.je_disk.specs.States.{Files, IsEither, CrashState, State, cut, cut_by, put_at, put_file, shortened, synced, synced_crash_state, synced_crash_states}
+use Rattle.je_disk.specs.States.{Files, IsEither, CrashState, State, cut, cut_by, put_at, put_file, shortened, synced, synced_crash_state}
 use Rattle.je_disk.specs.Images.{IsFileImage}
 use Rattle.je_disk.specs.Moments.{History, Passes, now}
 use Rattle.je_disk.proofs.MomentLaws.{passes_none, passes_then, passes_weaken}
@@ -25,29 +25,27 @@ use Rattle.log_file.proofs.FileScanLaws.{are_encoded_back}
 use Rattle.log_buffer.specs.Chance.{HasPrefix, IsKeptByCut, LastIsKept}
 use Rattle.log_buffer.specs.Crash.{KeepsLog, HoldsPrefix, HoldPrefixes, entries_at}
 use Rattle.log_buffer.proofs.CrashOpen.{cuts_keep}
-use Rattle.log_buffer.proofs.CrashImages.{kept_is_left}
 use Rattle.log_buffer.proofs.Prefixes.{cut_prefixes, empty_prefix}
-use Rattle.log_replay.specs.declared.corruption.Corruption.{Corruption}
 use Rattle.log_replay.specs.declared.last_file.LastFile.{LastFile}
-use Rattle.log_replay.specs.declared.log_read.ReadLog.{ReadLog}
-use Rattle.log_replay.specs.Answer.{IsLogOf}
-use Rattle.log_replay.specs.Kept.{IsKept}
-use Rattle.log_replay.specs.Meaning.{Meaning}
-use Rattle.log_replay.specs.Reading.{corruption_at, corruption_in, gap_in, reading_of}
-use Rattle.log_replay.specs.Rows.{rows_in}
 use Rattle.log_replay.specs.UnderWay.{IsLastOf, IsTailOf}
-use Rattle.log_replay.proofs.LogLaws.{kept_opened}
-use Rattle.crash_meaning.specs.Reading.{HasNoGap}
-use Rattle.crash_meaning.specs.Recovery.{Recovers, commits_in}
-use Rattle.crash_meaning.proofs.RecoveryLaws.{images_recover, logs_recover}
 use Rattle.je_lsn.specs.declared.file_no.TheConstants.{LAST_FILE}
 use Rattle.engine.specs.Crash.{ImagesMean, IsTailCut, KeepsEntry, NothingPending, ReadAsAtEntry}
-use Rattle.engine.specs.Opening.{HasTornTailCut, IsSettling, StartsLog, WasRead, cut_off, log_start_of}
 use Rattle.engine.proofs.SyncLaws.{passes_now}
-use Rattle.engine.proofs.ClosedLaws.{all_recovered}
 use Rattle.engine.proofs.FileLaws.{front_reads, headless, log_is, lookup-last}
-use Rattle.engine.proofs.LogStores.{small_files}
-use Rattle.engine.proofs.OpeningLaws.{File, all_last, are_files, below_last, entries_from, first_log, full_front, log_from, no_corruption, none_is, numbers, or_parts, rising_of, settled_last, settled_other, starts_log, whole_from}
+use Rattle.log_replay.specs.Reading.{corruption_at, corruption_in}
+use Rattle.store_model.specs.Store.{store_after}
+use Rattle.log_trees.specs.Placed.{placed}
+use Rattle.log_meaning.specs.Meaning.{Meaning}
+use Rattle.log_meaning.specs.Reading.{reading_of}
+use Rattle.log_meaning.specs.Recovery.{commits_in}
+use Rattle.crash_recovery.specs.Opening.{IsOpenedLog, first_of_found, found_log}
+use Rattle.crash_recovery.specs.Recovery.{IsImageRecovered, RecoversLog}
+use Rattle.crash_recovery.proofs.Commits.{all_are_committed}
+use Rattle.crash_recovery.proofs.FoundLogs.{found_logs_recover}
+use Rattle.crash_recovery.proofs.ImageStores.{kept_images_recover}
+use Rattle.engine.specs.Files.{MeanStore}
+use Rattle.engine.specs.Opening.{HasTornTailCut, IsSettling, cut_off, log_start_of}
+use Rattle.engine.proofs.OpeningLaws.{AreLogFiles, File, all_last, are_files, below_last, found_ends, found_last, found_named, found_none, full_front, none_is, numbers, or_parts, settled_last, settled_other, small_tail}
 
 -- ---- the rest that is cut off
 
@@ -259,29 +257,29 @@ kept_now_none s x pending none is = (kept_by [] 0 [] x pending (λ g other. same
     same (inr is) g = ap (λ (y : State). y.reads g) is
 
 -- the last file of a log that was read
-rest_read : (reads : Files) (r : ReadLog) (w : WasRead true reads r) (last : LastFile) → r.tail ≡ Some last → IsTailOf w.reading.held (Some last) → HasRest reads last (log_in w.reading.held)
-rest_read reads r w last e tail =
-    let held : List File = w.reading.held in
-    let low : last.file.0 ≤ LAST_FILE = subst (λ (o : Option LastFile). IfSome o (λ l. l.file.0 ≤ LAST_FILE)) e w.small in
-    rest_last reads held last w.reading.answer.bytes (rising_of true reads r w) (omega (arith, low)) (no_corruption held _ w.reading.answer.meaning).0 tail (w.reading.listed refl (w.listed refl))
+rest_read : (reads : Files) (held : List File) (last : LastFile) → AreLogFiles held (Some last) → AreFiles reads held → HasRest reads last (log_in held)
+rest_read reads held last files observed =
+    let low : last.file.0 ≤ LAST_FILE = small_tail held (Some last) files in
+    rest_last reads held last files.bytes files.rising (omega (arith, low)) files.none files.last observed
 
 -- the log that was read, at each moment at which it is settled: where nothing was pending before, or nothing is now
-kept_settling : (s x : State) (r : ReadLog) (w : WasRead true s.reads r) → NothingPending s ⊎ NothingPending x → IsSettling r.tail s x →
-    KeepsLog (log_from r.tail w.reading.held) [] (length (entries_of (log_from r.tail w.reading.held))) x.crash_states
-kept_settling s x r w pending is = by_tail r.tail refl w.reading.answer.tail pending is
+kept_settling : (s x : State) (held : List File) (tail : Option LastFile) → AreLogFiles held tail → AreFiles s.reads held → NothingPending s ⊎ NothingPending x → IsSettling tail s x →
+    KeepsLog (found_log 0 held) [] (length (entries_of (found_log 0 held))) x.crash_states
+kept_settling s x held None files observed pending is =
+    subst (λ (l : Log). KeepsLog l [] (length (entries_of l)) x.crash_states) (sym (found_none held files.last)) (by_pending pending)
   where
-    held : List File
-    held = w.reading.held
+    none : (g : ℕ) → s.reads g ≡ None
+    none g = sym (observed.each g) ∙ ap (λ (h : List File). lookup (λ n. n == g) h) files.last
 
-    observed : AreFiles s.reads held
-    observed = w.reading.listed refl (w.listed refl)
-
-    by_tail : (tail : Option LastFile) → r.tail ≡ tail → IsTailOf held tail → NothingPending s ⊎ NothingPending x → IsSettling tail s x →
-        KeepsLog (log_from tail held) [] (length (entries_of (log_from tail held))) x.crash_states
-    by_tail None e empty (inl before) is = kept_none s x before (λ g. sym (observed.each g) ∙ ap (λ (h : List File). lookup (λ n. n == g) h) empty) is
-    by_tail None e empty (inr here) is = kept_now_none s x here (λ g. sym (observed.each g) ∙ ap (λ (h : List File). lookup (λ n. n == g) h) empty) is
-    by_tail (Some last) e tail (inl before) is = kept_last last (log_in held) s x before (rest_read s.reads r w last e tail) is
-    by_tail (Some last) e tail (inr here) is = kept_now_last last (log_in held) s x here (rest_read s.reads r w last e tail) is
+    by_pending : NothingPending s ⊎ NothingPending x → KeepsLog ((0, []) ∷ []) [] 0 x.crash_states
+    by_pending (inl before) = kept_none s x before none is
+    by_pending (inr here) = kept_now_none s x here none is
+kept_settling s x held (Some last) files observed pending is =
+    subst (λ (l : Log). KeepsLog l [] (length (entries_of l)) x.crash_states) (sym (found_last held last files.last)) (by_pending pending)
+  where
+    by_pending : NothingPending s ⊎ NothingPending x → KeepsLog (log_in held) [] (length (entries_of (log_in held))) x.crash_states
+    by_pending (inl before) = kept_last last (log_in held) s x before (rest_read s.reads held last files observed) is
+    by_pending (inr here) = kept_now_last last (log_in held) s x here (rest_read s.reads held last files observed) is
 
 -- ---- what its files read as
 
@@ -311,36 +309,25 @@ prefixes_in (file ∷ held) f all = by_file (file.0 == f) refl (prefixes_in held
     by_file false other rest = rest
 
 -- the log that was read, at each moment at which it is settled
-prefixes_settling : (s x : State) (r : ReadLog) (w : WasRead true s.reads r) → IsSettling r.tail s x → HoldPrefixes (log_from r.tail w.reading.held) x.reads
-prefixes_settling s x r w is = by_tail r.tail refl w.reading.answer.tail is
+by_states : (tail : Option LastFile) (log : Log) (s x : State) → HoldPrefixes log s.reads → HoldPrefixes log (cut_off tail s).reads → IsSettling tail s x → HoldPrefixes log x.reads
+by_states tail log s x before behind (inl (inl same)) = subst (λ (y : State). HoldPrefixes log y.reads) (sym same) before
+by_states tail log s x before behind (inl (inr same)) = subst (λ (y : State). HoldPrefixes log y.reads) (sym same) behind
+by_states tail log s x before behind (inr same) = subst (λ (y : State). HoldPrefixes log y.reads) (sym same) behind
+
+prefixes_settling : (s x : State) (held : List File) (tail : Option LastFile) → AreLogFiles held tail → AreFiles s.reads held → IsSettling tail s x → HoldPrefixes (found_log 0 held) x.reads
+prefixes_settling s x held None files observed is =
+    let first : HoldPrefixes ((0, []) ∷ []) s.reads =
+    λ f. subst (λ (o : Option (List ℕ)). HoldsPrefix f (entries_at ((0, []) ∷ []) f) (unwrap_or o [])) (ap (λ (h : List File). lookup (λ n. n == f) h) (sym files.last) ∙ observed.each f) (empty_prefix f (entries_at ((0, []) ∷ []) f)) in
+    subst (λ (l : Log). HoldPrefixes l x.reads) (sym (found_none held files.last)) (by_states None ((0, []) ∷ []) s x first first is)
+prefixes_settling s x held (Some last) files observed is =
+    subst (λ (l : Log). HoldPrefixes l x.reads) (sym (found_last held last files.last)) (by_states (Some last) (log_in held) s x entry (by_test (nat_lt last.end last.len)) is)
   where
-    held : List File
-    held = w.reading.held
-
-    observed : AreFiles s.reads held
-    observed = w.reading.listed refl (w.listed refl)
-
-    none : corruption_in held ≡ None
-    none = (no_corruption held _ w.reading.answer.meaning).0
-
     entry : HoldPrefixes (log_in held) s.reads
-    entry f = subst (λ (o : Option (List ℕ)). HoldsPrefix f (entries_at (log_in held) f) (unwrap_or o [])) (observed.each f) (prefixes_in held f (all_runs held none))
+    entry f = subst (λ (o : Option (List ℕ)). HoldsPrefix f (entries_at (log_in held) f) (unwrap_or o [])) (observed.each f) (prefixes_in held f (all_runs held files.none))
 
-    by_states : (tail : Option LastFile) (log : Log) → HoldPrefixes log s.reads → HoldPrefixes log (cut_off tail s).reads → IsSettling tail s x → HoldPrefixes log x.reads
-    by_states tail log before behind (inl (inl same)) = subst (λ (y : State). HoldPrefixes log y.reads) (sym same) before
-    by_states tail log before behind (inl (inr same)) = subst (λ (y : State). HoldPrefixes log y.reads) (sym same) behind
-    by_states tail log before behind (inr same) = subst (λ (y : State). HoldPrefixes log y.reads) (sym same) behind
-
-    by_tail : (tail : Option LastFile) → r.tail ≡ tail → IsTailOf held tail → IsSettling tail s x → HoldPrefixes (log_from tail held) x.reads
-    by_tail None e empty settling =
-        let first : HoldPrefixes ((0, []) ∷ []) s.reads =
-        λ f. subst (λ (o : Option (List ℕ)). HoldsPrefix f (entries_at ((0, []) ∷ []) f) (unwrap_or o [])) (ap (λ (h : List File). lookup (λ n. n == f) h) (sym empty) ∙ observed.each f) (empty_prefix f (entries_at ((0, []) ∷ []) f)) in
-        by_states None ((0, []) ∷ []) first first settling
-    by_tail (Some last) e tail settling = by_states (Some last) (log_in held) entry (by_test (nat_lt last.end last.len)) settling
-      where
-        by_test : (b : Bool) → HoldPrefixes (log_in held) (cond b (cut last.file.0 last.end s) s).reads
-        by_test true = cut_prefixes (log_in held) last.file.0 last.end s entry
-        by_test false = entry
+    by_test : (b : Bool) → HoldPrefixes (log_in held) (cond b (cut last.file.0 last.end s) s).reads
+    by_test true = cut_prefixes (log_in held) last.file.0 last.end s entry
+    by_test false = entry
 
 lookup_above : (front : List File) (f g : ℕ) (bytes : List ℕ) → AllByRecursion (λ (file : File). file.0 < f) front → f < g → lookup (λ n. n == g) (front ++ (f, bytes) ∷ []) ≡ None
 lookup_above [] f g bytes below above = ap (λ (b : Bool). cond b (Some bytes) None) (let t : (f == g) ≡ false = grind (arith, nat_tests) in t)
@@ -363,110 +350,73 @@ tail_cut reads held last observed is = record {
   there = sym (observed.each last.file.0) ∙ ap (λ (h : List File). lookup (λ n. n == last.file.0) h) is.parts ∙ lookup-last is.before last.file.0 is.bytes (none_is is.before (last.file.0, is.bytes) below)
 
 -- at each moment at which it is settled, the files read as at entry, but for a torn tail
-read_settling : (s x : State) (r : ReadLog) (w : WasRead true s.reads r) → IsSettling r.tail s x → ReadAsAtEntry s.reads x.reads
-read_settling s x r w is f = by_tail r.tail w.reading.answer.tail is
+reads_by : (tail : Option LastFile) (s x : State) (f : ℕ) → (((cut_off tail s).reads f ≡ s.reads f) ⊎ IsTailCut s.reads f ((cut_off tail s).reads f)) → IsSettling tail s x →
+    (x.reads f ≡ s.reads f) ⊎ IsTailCut s.reads f (x.reads f)
+reads_by tail s x f behind (inl (inl same)) = inl (ap (λ (y : State). y.reads f) same)
+reads_by tail s x f behind (inl (inr same)) = subst (λ (y : State). (y.reads f ≡ s.reads f) ⊎ IsTailCut s.reads f (y.reads f)) (sym same) behind
+reads_by tail s x f behind (inr same) = subst (λ (y : State). (y.reads f ≡ s.reads f) ⊎ IsTailCut s.reads f (y.reads f)) (sym same) behind
+
+read_settling : (s x : State) (held : List File) (tail : Option LastFile) → IsTailOf held tail → AreFiles s.reads held → IsSettling tail s x → ReadAsAtEntry s.reads x.reads
+read_settling s x held None tail observed is f = reads_by None s x f (inl refl) is
+read_settling s x held (Some last) tail observed is f =
+    reads_by (Some last) s x f (subst (λ (o : Option (List ℕ)). (o ≡ s.reads f) ⊎ IsTailCut s.reads f o) (sym (settles (Some last) s f)) (by_test (nat_lt last.end last.len))) is
   where
-    held : List File
-    held = w.reading.held
+    by_file : (b : Bool) → (f == last.file.0) ≡ b → (cond b (option_map (take last.end) (s.reads last.file.0)) (s.reads f) ≡ s.reads f) ⊎ IsTailCut s.reads f (cond b (option_map (take last.end) (s.reads last.file.0)) (s.reads f))
+    by_file true same = inr (subst (λ (n : ℕ). IsTailCut s.reads n (option_map (take last.end) (s.reads last.file.0))) (sym (eqb-true _ _ same)) (tail_cut s.reads held last observed tail))
+    by_file false other = inl refl
 
-    observed : AreFiles s.reads held
-    observed = w.reading.listed refl (w.listed refl)
-
-    by_states : (tail : Option LastFile) → (((cut_off tail s).reads f ≡ s.reads f) ⊎ IsTailCut s.reads f ((cut_off tail s).reads f)) → IsSettling tail s x → (x.reads f ≡ s.reads f) ⊎ IsTailCut s.reads f (x.reads f)
-    by_states tail behind (inl (inl same)) = inl (ap (λ (y : State). y.reads f) same)
-    by_states tail behind (inl (inr same)) = subst (λ (y : State). (y.reads f ≡ s.reads f) ⊎ IsTailCut s.reads f (y.reads f)) (sym same) behind
-    by_states tail behind (inr same) = subst (λ (y : State). (y.reads f ≡ s.reads f) ⊎ IsTailCut s.reads f (y.reads f)) (sym same) behind
-
-    by_tail : (tail : Option LastFile) → IsTailOf held tail → IsSettling tail s x → (x.reads f ≡ s.reads f) ⊎ IsTailCut s.reads f (x.reads f)
-    by_tail None empty settling = by_states None (inl refl) settling
-    by_tail (Some last) tail settling =
-        by_states (Some last) (subst (λ (o : Option (List ℕ)). (o ≡ s.reads f) ⊎ IsTailCut s.reads f o) (sym (settles (Some last) s f)) (by_test (nat_lt last.end last.len))) settling
-      where
-        by_file : (b : Bool) → (f == last.file.0) ≡ b → (cond b (option_map (take last.end) (s.reads last.file.0)) (s.reads f) ≡ s.reads f) ⊎ IsTailCut s.reads f (cond b (option_map (take last.end) (s.reads last.file.0)) (s.reads f))
-        by_file true same = inr (subst (λ (n : ℕ). IsTailCut s.reads n (option_map (take last.end) (s.reads last.file.0))) (sym (eqb-true _ _ same)) (tail_cut s.reads held last observed tail))
-        by_file false other = inl refl
-
-        by_test : (b : Bool) → (cond b (put_at s.reads last.file.0 (option_map (take last.end) (s.reads last.file.0)) f) (s.reads f) ≡ s.reads f)
-            ⊎ IsTailCut s.reads f (cond b (put_at s.reads last.file.0 (option_map (take last.end) (s.reads last.file.0)) f) (s.reads f))
-        by_test true = by_file (f == last.file.0) refl
-        by_test false = inl refl
+    by_test : (b : Bool) → (cond b (put_at s.reads last.file.0 (option_map (take last.end) (s.reads last.file.0)) f) (s.reads f) ≡ s.reads f)
+        ⊎ IsTailCut s.reads f (cond b (put_at s.reads last.file.0 (option_map (take last.end) (s.reads last.file.0)) f) (s.reads f))
+    by_test true = by_file (f == last.file.0) refl
+    by_test false = inl refl
 
 -- ---- what its images mean
 
--- a log that was read has no gap
-read_whole : (reads : Files) (r : ReadLog) (w : WasRead true reads r) → HasNoGap (log_from r.tail w.reading.held)
-read_whole reads r w = by_tail r.tail refl w.reading.answer.tail
-  where
-    held : List File
-    held = w.reading.held
+-- an image that means a store changed by no transactions means the store
+unchanged : (store : Store) (least : ℕ) (image : Files) → IsImageRecovered store least [] image → MeanStore image store
+unchanged store least image is = (
+  is.recovered.meaning,
+  record { held = is.held; are = is.are; reads = is.recovered.reads },
+  is.recovered.store ∙ ap (store_after store) (take_all is.recovered.count [] (omega arith)),
+)
 
-    none : (corruption_in held ≡ None) × (gap_in (numbers held) ≡ None)
-    none = no_corruption held _ w.reading.answer.meaning
-
-    by_tail : (tail : Option LastFile) → r.tail ≡ tail → IsTailOf held tail → HasNoGap (log_from tail held)
-    by_tail None e tail = record { is_log = first_log; small = (omega arith, tt); whole = refl }
-    by_tail (Some last) e tail =
-        let low : last.file.0 ≤ LAST_FILE = subst (λ (o : Option LastFile). IfSome o (λ l. l.file.0 ≤ LAST_FILE)) e w.small in
-        let state : State = record { reads = reads; crash_states = synced_crash_states reads; job = None } in
-        let starts : StartsLog true (cut_off r.tail state).reads r.tail (log_from r.tail held) = starts_log true reads (cut_off r.tail state).reads r w (λ t. settles r.tail state) in
-        let last_starts : StartsLog true (cut_off r.tail state).reads (Some last) (log_from (Some last) held) =
-        subst (λ (o : Option LastFile). StartsLog true (cut_off r.tail state).reads o (log_from o held)) e starts in
-        record {
-          is_log = last_starts.0;
-          small = small_files (log_in held) last.file.0 (log_start_of (Some last)).offset last.last last_starts.0 last_starts.1 low;
-          whole = whole_from held (Some last) none.1;
-        }
-
--- images of a disk that keeps a whole log mean the store of its records
-images_mean : (log : Log) (store : Store) (s : State) → HasNoGap log → Recovers store (length (entries_of log)) [] (entries_of log) → KeepsLog log [] (length (entries_of log)) s.crash_states → HoldPrefixes log s.reads → ImagesMean s store
-images_mean log store s gap recovers keeps prefixes = λ image is chance.
+-- images of a disk that keeps a whole log mean the store that it recovers
+images_mean : (first : ℕ) (store : Store) (base : ℕ) (log : Log) (s : State) → RecoversLog first store base [] log → KeepsLog log [] (length (entries_of log)) s.crash_states → HoldPrefixes log s.reads →
+    ImagesMean s store
+images_mean first store base log s recovers keeps prefixes = λ image is chance.
     let all : ℕ = length (entries_of log) in
-    all_recovered store store (commits_in all all (entries_of log)) image [] (omega arith) refl
-    (images_recover store all all [] log image gap recovers (omega arith) (kept_is_left log [] all s image gap.is_log keeps prefixes is.files chance))
+    unchanged store (commits_in base all (placed log)) image
+    (kept_images_recover first store base all [] log s recovers (all_are_committed first store base [] log recovers).0 keeps prefixes image is.files chance)
 
-read_means : (s x : State) (r : ReadLog) (w : WasRead true s.reads r) → NothingPending s ⊎ NothingPending x → IsSettling r.tail s x → ImagesMean x r.replayed.opening
-read_means s x r w pending is =
-    let log : Log = log_from r.tail w.reading.held in
-    let answer : IsLogOf w.reading.held r = w.reading.answer in
-    let kept : IsKept (entries_of log) (rows_in r.replayed.rows) r.replayed.last_txn r.replayed.last_db =
-    subst (λ (es : List Entry). IsKept es (rows_in r.replayed.rows) r.replayed.last_txn r.replayed.last_db) (sym (entries_from w.reading.held r.tail answer.tail))
-    (kept_opened (entries_of (log_in w.reading.held)) r.replayed answer.replay) in
-    images_mean log r.replayed.opening x (read_whole s.reads r w)
-    (subst (λ (store : Store). Recovers store (length (entries_of log)) [] (entries_of log)) answer.replay.store (logs_recover (entries_of log) (rows_in r.replayed.rows) r.replayed.last_txn r.replayed.last_db kept))
-    (kept_settling s x r w pending is) (prefixes_settling s x r w is)
-
-store_of_meaning : (held : List File) (a b : Meaning) → reading_of held ≡ Ok a → reading_of held ≡ Ok b → a.store ≡ b.store
-store_of_meaning held a b first second = ap (store_in a.store) (sym first ∙ second)
-  where
-    store_in : Store → Result Meaning Corruption → Store
-    store_in other (Ok meaning) = meaning.store
-    store_in other (Err corruption) = other
+-- files that were read mean their store while their log is settled
+read_means : (s x : State) (held : List File) (tail : Option LastFile) (meaning : Meaning) → AreLogFiles held tail → AreFiles s.reads held → reading_of held ≡ Ok meaning → NothingPending s ⊎ NothingPending x →
+    IsSettling tail s x → ImagesMean x meaning.store
+read_means s x held tail meaning files observed reads pending is =
+    let ends = found_ends held tail files in
+    let found : IsOpenedLog 0 held (log_start_of tail) meaning = found_logs_recover 0 held (log_start_of tail) ends.0 meaning (found_named held tail files) ends.1 reads in
+    images_mean (first_of_found 0 held) meaning.store (length (placed (found_log 0 held))) (found_log 0 held) x found.recovers (kept_settling s x held tail files observed pending is)
+    (prefixes_settling s x held tail files observed is)
 
 -- ---- moments
 
 -- a log that was read is settled
-pub entry_settled : (old new : History) (reads : Files) (r : ReadLog) → WasRead true reads r → (now old).reads ≡ reads → Passes old new (IsSettling r.tail (now old)) → KeepsEntry old new
-entry_settled old new reads r read same passes = record {
-  since = passes_weaken old new (IsSettling r.tail (now old)) (λ (s : State). Unit {0}) (λ s p. tt) passes;
-  reads = λ k lo hi. read_settling (now old) (new.state_at k) r w (by_order k lo hi (cases_order k old.moment));
-  images = λ pending held meaning are is k lo hi. at_state held meaning are is (new.state_at k) (inl pending) (by_order k lo hi (cases_order k old.moment));
-  at_end = λ pending held meaning are is. at_state held meaning are is (now new) (inr pending) (passes_now old new (IsSettling r.tail (now old)) passes (inl (inl refl)));
+pub entry_settled : (old new : History) (reads : Files) (held : List File) (tail : Option LastFile) → AreLogFiles held tail → AreFiles reads held → (now old).reads ≡ reads →
+    Passes old new (IsSettling tail (now old)) → KeepsEntry old new
+entry_settled old new reads held tail files observed same passes = record {
+  since = passes_weaken old new (IsSettling tail (now old)) (λ (s : State). Unit {0}) (λ s p. tt) passes;
+  reads = λ k lo hi. read_settling (now old) (new.state_at k) held tail files.last at_entry (by_order k lo hi (cases_order k old.moment));
+  images = λ pending other meaning are is k lo hi. at_state other meaning are is (new.state_at k) (inl pending) (by_order k lo hi (cases_order k old.moment));
+  at_end = λ pending other meaning are is. at_state other meaning are is (now new) (inr pending) (passes_now old new (IsSettling tail (now old)) passes (inl (inl refl)));
 } where
-  w : WasRead true (now old).reads r
-  w = subst (λ (f : Files). WasRead true f r) (sym same) read
+  at_entry : AreFiles (now old).reads held
+  at_entry = subst (λ (f : Files). AreFiles f held) (sym same) observed
 
-  one_list : (held : List File) → AreFiles (now old).reads held → w.reading.held ≡ held
-  one_list held are = are_one_list (now old).reads w.reading.held held (w.reading.listed refl (w.listed refl)) are
+  at_state : (other : List File) (meaning : Meaning) → AreFiles (now old).reads other → reading_of other ≡ Ok meaning → (x : State) → NothingPending (now old) ⊎ NothingPending x →
+      IsSettling tail (now old) x → ImagesMean x meaning.store
+  at_state other meaning are is x pending settling =
+      read_means (now old) x held tail meaning files at_entry (subst (λ (h : List File). reading_of h ≡ Ok meaning) (sym (are_one_list (now old).reads held other at_entry are)) is) pending settling
 
-  at_state : (held : List File) (meaning : Meaning) → AreFiles (now old).reads held → reading_of held ≡ Ok meaning → (x : State) → NothingPending (now old) ⊎ NothingPending x →
-      IsSettling r.tail (now old) x → ImagesMean x meaning.store
-  at_state held meaning are is x pending settling =
-      subst (λ (store : Store). ImagesMean x store)
-      (store_of_meaning held (record { store = r.replayed.opening; last_txn = r.replayed.last_txn; last_db = r.replayed.last_db }) meaning
-      (subst (λ (h : List File). reading_of h ≡ Ok (record { store = r.replayed.opening; last_txn = r.replayed.last_txn; last_db = r.replayed.last_db })) (one_list held are) w.reading.answer.meaning) is)
-      (read_means (now old) x r w pending settling)
-
-  by_order : (k : ℕ) → old.moment ≤ k → k ≤ new.moment → (k ≡ old.moment) ⊎ ((k < old.moment) ⊎ (old.moment < k)) → IsSettling r.tail (now old) (new.state_at k)
+  by_order : (k : ℕ) → old.moment ≤ k → k ≤ new.moment → (k ≡ old.moment) ⊎ ((k < old.moment) ⊎ (old.moment < k)) → IsSettling tail (now old) (new.state_at k)
   by_order k lo hi (inl at) = inl (inl (ap (λ n. new.state_at n) at ∙ passes.keeps old.moment (omega arith)))
   by_order k lo hi (inr (inl before)) = absurd (omega (arith, lo, before))
   by_order k lo hi (inr (inr behind)) = passes.each k behind hi

@@ -56,9 +56,11 @@ pub mod ClosedLaws
 pub mod NumberLaws
 -- The log of files that were read, once the rest of the last one is cut off.
 pub mod FileLaws
--- Opening an environment: the log that is gone on from, and where the model starts.
+-- Opening an environment: the files that were read, and the log that is gone on from.
 pub mod OpeningLaws
--- An environment that was opened is a guarded run that begins.
+-- The records of an environment that was recovered.
+pub mod RecoveredLaws
+-- An environment that was opened: where the model starts, and a guarded run that begins.
 pub mod OpenedLaws
 -- A disk that was left as it was.
 pub mod UntouchedLaws

@@ -1,4 +1,4 @@
--- Opening an environment: the log that is gone on from, and where the model starts.
+-- Opening an environment: the files that were read, and the log that is gone on from.
 use Rattle.std.proofs.Common.{◌≡◌, ◌≢◌, ℕ, ◌+◌, ◌*◌, ◌/◌, ◌%◌, ◌<◌, ◌≤◌, ◌^◌, ◌==◌, ◌&&◌, nat_lt, cond, Bool, true, false, List, [], ◌∷◌, ◌++◌, Option, Some, None, IfSome, IfErr, Result, Ok, Err, option_map, refl, ap, sym, ◌∙◌, subst, ⊎_elim, arith, map, length, take, nat_cmp}
 use Rattle.std.specs.List.{AllByRecursion}
 use Rattle.std.specs.List.Sorted.{IsStrictlyIncreasing, IsStrictlySortedBy}
@@ -10,51 +10,37 @@ use Rattle.std.proofs.lemmas.List.{take_all}
 use Rattle.std.proofs.lemmas.Map.Keys.{IsStrictlyIncreasing-from_sorted, sorted_from_strictly_increasing}
 use Rattle.je_bytes.specs.Reading.{AreBytes}
 use Rattle.je_disk.specs.Moments.{History, Passes, now}
-use Rattle.je_disk.specs.States.{Files, State, IsListing, content, put_at}
+use Rattle.je_disk.specs.States.{Files, State, content, put_at}
 use Rattle.je_disk.proofs.MomentLaws.{passes_then, passes_weaken}
-use Rattle.je_lsn.specs.declared.file_no.FileNo.{FileNo}
-use Rattle.store_model.specs.declared.store.Store.{Store}
-use Rattle.store_model.specs.declared.totals.Totals.{Totals}
-use Rattle.je_answers.specs.Alone.{Alone, alone}
 use Rattle.log_entry.specs.declared.entry.Entry.{Entry}
 use Rattle.log_entry.specs.Prefix.{last_from}
 use Rattle.je_lsn.specs.Naming.{last_file}
+use Rattle.je_lsn.specs.declared.file_no.TheConstants.{LAST_FILE}
 use Rattle.log_file.specs.declared.valid_prefix.ValidPrefix.{ValidPrefix}
 use Rattle.log_file.specs.declared.file_scan.FileScan.{FileScan}
 use Rattle.log_file.specs.declared.file_scan.FileScan.TheVariants.{Prefix, VersionUnknown as OtherVersion, Damaged as NoHeader}
 use Rattle.log_file.specs.Laws.{AreEncodedBack}
-use Rattle.log_file.specs.Log.{Log, IsLog, AreFiles, entries_scanned, entries_of, files_of_log, log_in}
+use Rattle.log_file.specs.Log.{Log, IsLog, AreFiles, entries_scanned, files_of_log, log_in}
 use Rattle.log_file.specs.Scan.{scan_of, sizes_of}
 use Rattle.log_file.proofs.FileScanLaws.{are_encoded_back}
-use Rattle.log_buffer.specs.declared.buffer.LogBuffer.{LogBuffer}
-use Rattle.log_buffer.specs.Buffer.{end_of, file_max_of, has_failed}
 use Rattle.log_buffer.specs.Flip.{header_size}
-use Rattle.log_buffer.specs.Log.{EndsAt, HasLog}
+use Rattle.log_buffer.specs.Log.{EndsAt}
 use Rattle.log_replay.specs.declared.corruption.Corruption.{Corruption}
-use Rattle.log_replay.specs.declared.corruption.Corruption.TheVariants.{Damaged, Missing, Tree, VersionUnknown}
+use Rattle.log_replay.specs.declared.corruption.Corruption.TheVariants.{Damaged}
 use Rattle.log_replay.specs.declared.last_file.LastFile.{LastFile}
-use Rattle.log_replay.specs.declared.log_read.ReadLog.{ReadLog}
-use Rattle.log_replay.specs.declared.log_read.LogRead.{LogRead}
-use Rattle.log_replay.specs.declared.log_read.LogRead.TheVariants.{Read}
-use Rattle.log_replay.specs.Answer.{IsCorruptionOf, IsLogOf, IsReadingOf}
-use Rattle.log_replay.specs.Meaning.{Meaning}
-use Rattle.log_replay.specs.Reading.{files_read, corruption_at, corruption_behind, corruption_in, gap_in, lsn_at, reading_by, reading_of}
-use Rattle.log_replay.specs.Rows.{rows_in}
-use Rattle.log_replay.specs.Logging.{number_named}
+use Rattle.log_replay.specs.Reading.{corruption_at, corruption_behind, corruption_in, lsn_at}
 use Rattle.log_replay.specs.UnderWay.{IsLastOf, IsTailOf}
 use Rattle.log_replay.specs.Wrong.{or_else}
-use Rattle.log_replay.specs.Kept.{IsKept}
-use Rattle.log_replay.proofs.LogLaws.{kept_opened}
+use Rattle.log_meaning.specs.Meaning.{Meaning}
+use Rattle.log_meaning.specs.Reading.{reading_of, unless}
+use Rattle.crash_recovery.specs.Opening.{found_log}
+use Rattle.crash_recovery.specs.Reading.{IsNamedLog}
 use Rattle.engine.specs.declared.open_err.OpenErr.{OpenErr}
-use Rattle.engine.specs.declared.open_err.OpenErr.TheVariants.{Disk, Unreadable, Memory}
-use Rattle.engine.specs.declared.kept.Kept.{Kept}
-use Rattle.je_lsn.specs.declared.file_no.TheConstants.{LAST_FILE}
-use Rattle.engine.specs.Environment.{AreAlone, IsWholeLog}
+use Rattle.engine.specs.declared.open_err.OpenErr.TheVariants.{Disk, Unreadable, Memory, IdsEnded}
 use Rattle.engine.specs.Files.{end_file_in}
-use Rattle.engine.specs.Opening.{AreNumbers, HasOpened, HasOpenedAt, StartsAt, HasTornTailCut, StartsLog, StopsBy, WasRead, kept_at_start, log_start_of}
-use Rattle.engine.proofs.NumberLaws.{kept_numbers}
+use Rattle.engine.specs.Opening.{HasTornTailCut, StartsLog, StopsBy, log_start_of}
 use Rattle.engine.proofs.Counts.{rose_earlier}
-use Rattle.engine.proofs.FileLaws.{AreFull, IsFile, IsFull, NoneIs, front_reads, headless, is_log, log_is, lookup-last, numbers_of-log_in, reads_as}
+use Rattle.engine.proofs.FileLaws.{AreFull, IsFile, IsFull, NoneIs, front_reads, headless, is_log, log_is, lookup-last, reads_as}
 
 -- a file that was read: its number and its bytes
 abbrev pub File : Type 0
@@ -69,19 +55,13 @@ pub or_parts : {A : Type 0} (a b : Option A) → or_else a b ≡ None → (a ≡
 or_parts None b h = (refl, h)
 or_parts (Some x) b h = cc
 
-map_none : {A B : Type 0} (f : A → B) (o : Option A) → option_map f o ≡ None → o ≡ None
-map_none f None h = refl
-map_none f (Some x) h = cc
-
--- files that mean something have no corruption, and none is missing
-no_corruption_by : (log : Log) (o : Option Corruption) (m : Meaning) → reading_by log o ≡ Ok m → o ≡ None
-no_corruption_by log None m h = refl
-no_corruption_by log (Some corruption) m h = cc
-
-pub no_corruption : (held : List File) (m : Meaning) → reading_of held ≡ Ok m → (corruption_in held ≡ None) × (gap_in (numbers held) ≡ None)
-no_corruption held m h =
-    let parts = or_parts (corruption_in held) _ (no_corruption_by (log_in held) _ m h) in
-    (parts.0, map_none _ (gap_in (numbers held)) parts.1)
+-- files that mean something have no corruption
+pub no_corruption : (held : List File) (m : Meaning) → reading_of held ≡ Ok m → corruption_in held ≡ None
+no_corruption held m h = by_corruption (corruption_in held) _ h
+  where
+    by_corruption : (o : Option Corruption) (r : Result Meaning Corruption) → unless o r ≡ Ok m → o ≡ None
+    by_corruption None r is = refl
+    by_corruption (Some corruption) r is = cc
 
 -- a file without a corruption that is not the last is full
 full_by : (file : File) (found : FileScan) (last : Bool) → scan_of file.0 file.1 ≡ found → last ≡ false → corruption_at last file.0 (length file.1) found ≡ None → IsFull file
@@ -138,12 +118,59 @@ are_files [] last bytes below small = (record { bytes = bytes.0; number = small 
 are_files (file ∷ front) last bytes below small =
     (record { bytes = bytes.0; number = (let first = below.0 in omega (arith, first, small)) }, are_files front last bytes.1 below.1 small)
 
--- ---- the log
+pub all_last : {A : Type 0} (P : A → Type 0) (xs : List A) (x : A) → AllByRecursion P (xs ++ x ∷ []) → P x
+all_last P [] x all = all.0
+all_last P (y ∷ xs) x all = all_last P xs x all.1
 
--- the log that a disk's files hold from which the program goes on: a new one where there is no file
-abbrev pub log_from : Option LastFile → List File → Log
-log_from None held = (0, []) ∷ []
-log_from (Some last) held = log_in held
+-- ---- files that were read
+
+-- files that were read as a log: bytes, under rising numbers and with no corruption; the last of them is this one
+pub record AreLogFiles (held : List File) (tail : Option LastFile) : Type 0 where
+  pub bytes : AllByRecursion (λ (file : File). AreBytes file.1) held
+  pub rising : IsStrictlyIncreasing (numbers held)
+  pub none : corruption_in held ≡ None
+  pub last : IsTailOf held tail
+
+small_by : (last : Bool) (f len : ℕ) (found : FileScan) → corruption_at last f len found ≡ None → f ≤ LAST_FILE
+small_by last f len (OtherVersion version) none = cc
+small_by last f len NoHeader none = cc
+small_by last f len (Prefix run) none = by_test (nat_lt last_file f) refl none
+  where
+    by_test : (b : Bool) → nat_lt last_file f ≡ b → cond b (Some (Damaged (lsn_at f 0))) (corruption_behind last f len run.end) ≡ None → f ≤ LAST_FILE
+    by_test true test h = cc
+    by_test false test h = grind (arith, nat_tests)
+
+-- each has a log file's number
+all_small : (held : List File) → corruption_in held ≡ None → AllByRecursion (λ (file : File). file.0 ≤ LAST_FILE) held
+all_small [] none = tt
+all_small (file ∷ held) none =
+    let parts = or_parts (corruption_at (length held == 0) file.0 (length file.1) (scan_of file.0 file.1)) (corruption_in held) none in
+    (small_by (length held == 0) file.0 (length file.1) (scan_of file.0 file.1) parts.0, all_small held parts.1)
+
+small_in_log : (held : List File) → AllByRecursion (λ (file : File). file.0 ≤ LAST_FILE) held → AllByRecursion (λ (file : ℕ × List Entry). file.0 ≤ last_file) (log_in held)
+small_in_log [] all = tt
+small_in_log (file ∷ held) all = (all.0, small_in_log held all.1)
+
+pub small_tail : (held : List File) (tail : Option LastFile) → AreLogFiles held tail → IfSome tail (λ last. last.file.0 ≤ LAST_FILE)
+small_tail held None files = tt
+small_tail held (Some last) files =
+    all_last (λ (file : File). file.0 ≤ LAST_FILE) files.last.before (last.file.0, files.last.bytes)
+    (subst (λ (h : List File). AllByRecursion (λ (file : File). file.0 ≤ LAST_FILE) h) files.last.parts (all_small held files.none))
+
+-- ---- the log that is gone on from
+
+-- where there is a last file, it is the log in the files
+pub found_last : (held : List File) (last : LastFile) → IsLastOf held last → found_log 0 held ≡ log_in held
+found_last [] last is = by_parts is.before is.parts
+  where
+    by_parts : (before : List File) → [] ≡ before ++ (last.file.0, is.bytes) ∷ [] → found_log 0 [] ≡ log_in []
+    by_parts [] h = cc
+    by_parts (file ∷ before) h = cc
+found_last (file ∷ held) last is = refl
+
+-- where there is none, it is begun
+pub found_none : (held : List File) → held ≡ [] → found_log 0 held ≡ (0, []) ∷ []
+found_none held empty = ap (λ (h : List File). found_log 0 h) empty
 
 -- the settled last file
 pub settled_last : (before after : Files) (last : LastFile) (bytes : List ℕ) → HasTornTailCut before after (Some last) → before last.file.0 ≡ Some bytes → last.len ≡ length bytes → last.end ≤ length bytes →
@@ -209,10 +236,6 @@ ends_at front bytes last run is are found = record {
       let encoded = are_encoded_back last.file.0 bytes run are found some in
       sym offset ∙ ap (λ (r : ValidPrefix). r.last) encoded.prefix_is
 
-pub all_last : {A : Type 0} (P : A → Type 0) (xs : List A) (x : A) → AllByRecursion P (xs ++ x ∷ []) → P x
-all_last P [] x all = all.0
-all_last P (y ∷ xs) x all = all_last P xs x all.1
-
 -- the log that is gone on from, where there is a last file
 starts_parts : (observable : Bool) (reads after : Files) (front : List File) (bytes : List ℕ) (last : LastFile) (run : ValidPrefix) → run ≡ record { entries = run.entries; last = last.last; end = last.end } →
     AllByRecursion (λ (file : File). AreBytes file.1) (front ++ (last.file.0, bytes) ∷ []) → IsStrictlyIncreasing (numbers (front ++ (last.file.0, bytes) ∷ [])) → last.file.0 < 2 ^ 32 →
@@ -262,34 +285,21 @@ starts_last observable reads after held last all rising small none is observed s
 
 -- a disk without files
 starts_none : (observable : Bool) (reads after : Files) (held : List File) → held ≡ [] → (observable ≡ true → AreFiles reads held) → (observable ≡ true → HasTornTailCut reads after None) →
-    StartsLog observable after None ((0, []) ∷ [])
+    StartsLog observable after None (found_log 0 held)
 starts_none observable reads after held empty observed settled = (
-  refl,
+  found_none held empty,
   λ t.
       let none : (g : ℕ) → after g ≡ None = λ g. settled t g ∙ sym ((observed t).each g) ∙ ap (λ (h : List File). lookup (λ n. n == g) h) empty in
       (ap (λ (o : Option (List ℕ)). content (λ _. o) 0) (none 0), λ g other. none g),
 )
 
--- the files that were read, as the answer to the reading has them
-abbrev pub held_of : (observable : Bool) (reads : Files) (r : ReadLog) → WasRead observable reads r → List File
-held_of observable reads r w = w.reading.held
-
-pub rising_of : (observable : Bool) (reads : Files) (r : ReadLog) (w : WasRead observable reads r) → IsStrictlyIncreasing (numbers w.reading.held)
-rising_of observable reads r w = subst (λ ns. IsStrictlyIncreasing ns) (sym w.reading.numbers) w.rising
-
--- the log that is gone on from
-pub starts_log : (observable : Bool) (reads after : Files) (r : ReadLog) (w : WasRead observable reads r) → (observable ≡ true → HasTornTailCut reads after r.tail) →
-    StartsLog observable after r.tail (log_from r.tail w.reading.held)
-starts_log observable reads after r w settled = by_tail r.tail refl w.reading.answer.tail settled
-  where
-    none : (corruption_in w.reading.held ≡ None) × (gap_in (numbers w.reading.held) ≡ None)
-    none = no_corruption w.reading.held _ w.reading.answer.meaning
-
-    by_tail : (tail : Option LastFile) → r.tail ≡ tail → IsTailOf w.reading.held tail → (observable ≡ true → HasTornTailCut reads after tail) → StartsLog observable after tail (log_from tail w.reading.held)
-    by_tail None e is settles = starts_none observable reads after w.reading.held is (λ t. w.reading.listed t (w.listed t)) settles
-    by_tail (Some last) e is settles =
-        let low : last.file.0 ≤ LAST_FILE = subst (λ (o : Option LastFile). IfSome o (λ l. l.file.0 ≤ LAST_FILE)) e w.small in
-        starts_last observable reads after w.reading.held last w.reading.answer.bytes (rising_of observable reads r w) (omega (arith, low)) none.0 is (λ t. w.reading.listed t (w.listed t)) settles
+pub starts_log : (observable : Bool) (reads after : Files) (held : List File) (tail : Option LastFile) → AreLogFiles held tail → (observable ≡ true → AreFiles reads held) →
+    (observable ≡ true → HasTornTailCut reads after tail) → StartsLog observable after tail (found_log 0 held)
+starts_log observable reads after held None files observed settled = starts_none observable reads after held files.last observed settled
+starts_log observable reads after held (Some last) files observed settled =
+    let low : last.file.0 ≤ LAST_FILE = small_tail held (Some last) files in
+    subst (λ (l : Log). StartsLog observable after (Some last) l) (sym (found_last held last files.last))
+    (starts_last observable reads after held last files.bytes files.rising (omega (arith, low)) files.none files.last observed settled)
 
 -- the log of a disk without files
 pub first_log : IsLog ((0, []) ∷ [])
@@ -298,6 +308,40 @@ first_log = record {
   rising = IsStrictlyIncreasing-from_sorted (0 ∷ []) (tt, tt);
   each = ((omega arith, record { entries = tt; follow = tt; ends = omega arith }), tt);
 }
+
+-- where the log ends that is gone on from
+pub found_ends : (held : List File) (tail : Option LastFile) → AreLogFiles held tail → (last : ℕ) × EndsAt (found_log 0 held) (log_start_of tail).file (log_start_of tail).offset last
+found_ends held None files =
+    (0, subst (λ (l : Log). EndsAt l 0 header_size 0) (sym (found_none held files.last)) (record { before = []; entries = []; log_is = refl; offset_is = refl; last_is = refl }))
+found_ends held (Some last) files = (
+  last.last,
+  subst (λ (l : Log). EndsAt l last.file.0 (log_start_of (Some last)).offset last.last) (sym (found_last held last files.last))
+      (subst (λ (h : List File). EndsAt (log_in h) last.file.0 (log_start_of (Some last)).offset last.last) (sym files.last.parts)
+      (ends_at files.last.before files.last.bytes last (record { entries = entries_scanned (scan_of last.file.0 files.last.bytes); last = last.last; end = last.end }) refl
+      (all_last (λ (file : File). AreBytes file.1) files.last.before (last.file.0, files.last.bytes) (subst (λ (h : List File). AllByRecursion (λ (file : File). AreBytes file.1) h) files.last.parts files.bytes))
+      files.last.found)),
+)
+
+-- each of its numbers names a file
+pub found_named : (held : List File) (tail : Option LastFile) → AreLogFiles held tail → IsNamedLog (found_log 0 held)
+found_named held None files = subst IsNamedLog (sym (found_none held files.last)) (record { is_log = first_log; small = (omega arith, tt) })
+found_named held (Some last) files =
+    let starts = starts_log false (λ g. None) (λ g. None) held (Some last) files (λ t. cc) (λ t. cc) in
+    record {
+      is_log = starts.0;
+      small = subst (λ (l : Log). AllByRecursion (λ (file : ℕ × List Entry). file.0 ≤ last_file) l) (sym (found_last held last files.last)) (small_in_log held (all_small held files.none));
+    }
+
+-- the file in which the log of files ends, of which the last one is this
+end_file-last : (front : List File) (file : File) → end_file_in (front ++ file ∷ []) ≡ file.0
+end_file-last [] file = refl
+end_file-last (a ∷ []) file = refl
+end_file-last (a ∷ b ∷ front) file = end_file-last (b ∷ front) file
+
+-- the log goes on there
+pub starts_in : (held : List File) (tail : Option LastFile) → IsTailOf held tail → (log_start_of tail).file ≡ end_file_in held
+starts_in held None is = sym (ap end_file_in is)
+starts_in held (Some last) is = sym (ap end_file_in is.parts ∙ end_file-last is.before (last.file.0, is.bytes))
 
 pub some_end : (end : ℕ) → (end ≡ 0 → ⊥) → 0 < end
 some_end end some = ⊎_elim (λ (e : 0 < end). e) (λ (e : end ≤ 0). absurd (some (omega arith))) (cases_lt 0 end)
@@ -312,49 +356,6 @@ resumes_at log last at is small some ends =
     subst (λ (f : ℕ). EndsAt log f (at % 2 ^ 32) last.last) (sym file)
     (subst (λ (o : ℕ). EndsAt log last.file.0 o last.last) (cond-false (last.end == 0) header_size last.end no ∙ sym offset) ends)
 
--- ---- what was read
-
--- where the disk reads the same
-pub reading_along : (observable : Bool) (a b : Files) (files : List FileNo) (read : LogRead) → (observable ≡ true → a ≡ b) → IsReadingOf observable a files read → IsReadingOf observable b files read
-reading_along observable a b files read same is = record {
-  held = is.held;
-  numbers = is.numbers;
-  observed = λ t. is.observed t ∙ ap (λ (f : Files). files_read f files) (same t);
-  listed = λ t listing. subst (λ (f : Files). AreFiles f is.held) (same t) (is.listed t (subst (λ (f : Files). IsListing f files) (sym (same t)) listing));
-  answer = is.answer;
-}
-
--- a corruption on an observable disk
-pub corruption_observed : (observable : Bool) (held : List File) (corruption : Corruption) → IsCorruptionOf observable held corruption → observable ≡ true → reading_of held ≡ Err corruption
-corruption_observed observable held (Tree lsn) is t = is.1 ∙ ap (λ (n : ℕ). Err (Tree n)) (is.2 t)
-corruption_observed observable held (Damaged lsn) is t = is
-corruption_observed observable held (Missing lsn) is t = is
-corruption_observed observable held (VersionUnknown file version) is t = is
-
-last_corruption : (before : List File) (last : File) → corruption_in (before ++ last ∷ []) ≡ None → corruption_at true last.0 (length last.1) (scan_of last.0 last.1) ≡ None
-last_corruption [] last none = (or_parts (corruption_at true last.0 (length last.1) (scan_of last.0 last.1)) None none).0
-last_corruption (file ∷ before) last none =
-    last_corruption before last (or_parts (corruption_at (length (before ++ last ∷ []) == 0) file.0 (length file.1) (scan_of file.0 file.1)) (corruption_in (before ++ last ∷ [])) none).1
-
-small_by : (f len : ℕ) (found : FileScan) (run : ValidPrefix) → found ≡ Prefix run → corruption_at true f len found ≡ None → f ≤ LAST_FILE
-small_by f len found run is none = by_test (nat_lt last_file f) refl (subst (λ (x : FileScan). corruption_at true f len x ≡ None) is none)
-  where
-    by_test : (b : Bool) → nat_lt last_file f ≡ b → cond b (Some (Damaged (lsn_at f 0))) (corruption_behind true f len run.end) ≡ None → f ≤ LAST_FILE
-    by_test true test none = cc
-    by_test false test none = grind (arith, nat_tests)
-
-small_tail : (held : List File) (tail : Option LastFile) → IsTailOf held tail → corruption_in held ≡ None → IfSome tail (λ last. last.file.0 ≤ LAST_FILE)
-small_tail held None is none = tt
-small_tail held (Some last) is none =
-    small_by last.file.0 (length is.bytes) (scan_of last.file.0 is.bytes) _ is.found
-    (last_corruption is.before (last.file.0, is.bytes) (subst (λ (h : List File). corruption_in h ≡ None) is.parts none))
-
--- the last file of a log that was read has a log file's number
-pub read_small : (observable : Bool) (reads : Files) (files : List FileNo) (r : ReadLog) → IsReadingOf observable reads files (Read r) → IfSome r.tail (λ last. last.file.0 ≤ LAST_FILE)
-read_small observable reads files r is =
-    let answer : IsLogOf is.held r = is.answer in
-    small_tail is.held r.tail answer.tail (no_corruption is.held _ answer.meaning).0
-
 -- ---- why opening stopped
 
 pub if_err_both : {T E : Type 0} (r : Result T E) (P Q R : E → Type 0) → ((e : E) → P e → Q e → R e) → IfErr r P → IfErr r Q → IfErr r R
@@ -364,115 +365,8 @@ if_err_both (Err e) P Q R both p q = both e p q
 pub stops_earlier : (observable : Bool) (files : Files) (before mid after : ℕ) (error : OpenErr) → before ≤ mid → mid ≤ after → StopsBy observable files mid after error → StopsBy observable files before after error
 stops_earlier observable files before mid after Disk earlier later stops = rose_earlier before mid after earlier stops later
 stops_earlier observable files before mid after (Unreadable corruption) earlier later stops = stops
+stops_earlier observable files before mid after IdsEnded earlier later stops = stops
 stops_earlier observable files before mid after Memory earlier later stops = tt
-
--- ---- where the model starts
-
--- the file in which the log of files ends, of which the last one is this
-end_file-last : (front : List File) (file : File) → end_file_in (front ++ file ∷ []) ≡ file.0
-end_file-last [] file = refl
-end_file-last (a ∷ []) file = refl
-end_file-last (a ∷ b ∷ front) file = end_file-last (b ∷ front) file
-
--- the log goes on there
-starts_in : (held : List File) (tail : Option LastFile) → IsTailOf held tail → (log_start_of tail).file ≡ end_file_in held
-starts_in held None is = sym (ap end_file_in is)
-starts_in held (Some last) is = sym (ap end_file_in is.parts ∙ end_file-last is.before (last.file.0, is.bytes))
-
--- no file is missing in the log that is gone on from
-pub whole_from : (held : List File) (tail : Option LastFile) → gap_in (numbers held) ≡ None → IsWholeLog (log_from tail held)
-whole_from held None none = refl
-whole_from held (Some last) none = ap gap_in (numbers_of-log_in held) ∙ none
-
--- its entries are those of the files
-pub entries_from : (held : List File) (tail : Option LastFile) → IsTailOf held tail → entries_of (log_from tail held) ≡ entries_of (log_in held)
-entries_from held None is = ap (λ (h : List File). entries_of (log_in h)) (sym is)
-entries_from held (Some last) is = refl
-
--- where an environment starts
-abbrev pub start_alone : ReadLog → Alone
-start_alone r = record {
-  store = r.replayed.opening;
-  numbers = number_named (rows_in r.replayed.rows);
-  last_txn = r.replayed.last_txn;
-  last_db = r.replayed.last_db;
-  commits = 0;
-  begun = None;
-  fault = None;
-  in_checkpoint = false;
-}
-
-module _ {D : Type 0} where
-  -- an environment that was opened is where the model starts
-  pub alone_opened : (most : ℕ) (observable : Bool) (reads : Files) (state : State) (buffer : LogBuffer D) (r : ReadLog) (w : WasRead observable reads r) →
-      HasLog observable state buffer (log_from r.tail w.reading.held) → end_of buffer ≡ log_start_of r.tail → file_max_of buffer ≡ most → has_failed buffer ≡ false →
-      AreAlone most observable state buffer (kept_at_start r.replayed (log_start_of r.tail) most) (start_alone r)
-  alone_opened most observable reads state buffer r w has end max works =
-      let held = w.reading.held in
-      let answer : IsLogOf held r = w.reading.answer in
-      let none = no_corruption held _ answer.meaning in
-      let make : ℕ → ℕ → Totals = λ d n. record { databases = d; records = n } in
-      record {
-        file_max = refl;
-        fault = refl;
-        last_txn = refl;
-        last_db = refl;
-        commits = refl;
-        totals = ap (λ d. make d r.replayed.totals.records) answer.replay.databases ∙ ap (λ n. make (length r.replayed.opening.databases) n) answer.replay.records;
-        valid = λ again. record {
-          log = log_from r.tail held;
-          has = has;
-          whole = whole_from held r.tail none.1;
-          made = answer.replay.store;
-          records = subst (λ (es : List Entry). IsKept es (rows_in r.replayed.rows) r.replayed.last_txn r.replayed.last_db) (sym (entries_from held r.tail answer.tail))
-              (kept_opened (entries_of (log_in held)) r.replayed answer.replay);
-          at_end = record { end = end; file_max = max; works = works };
-        };
-      }
-
--- its model starts from what the files mean
-pub starts_opened : (observable : Bool) (reads : Files) (r : ReadLog) → WasRead observable reads r → StartsAt observable reads r.replayed.opening (alone (start_alone r))
-starts_opened observable reads r w =
-    let held = w.reading.held in
-    let answer : IsLogOf held r = w.reading.answer in
-    let records : IsKept (entries_of (log_in held)) (rows_in r.replayed.rows) r.replayed.last_txn r.replayed.last_db = kept_opened (entries_of (log_in held)) r.replayed answer.replay in
-    record {
-      alone_at = start_alone r;
-      st_is = refl;
-      store = refl;
-      commits = refl;
-      begun = refl;
-      fault = refl;
-      checkpoint = refl;
-      numbers = subst (λ (s : Store). AreNumbers s r.replayed.last_db (number_named (rows_in r.replayed.rows))) answer.replay.store
-          (kept_numbers (rows_in r.replayed.rows) r.replayed.last_db records.environment (records.rising 0) records.numbers);
-      held = held;
-      observed = λ t. w.reading.listed t (w.listed t);
-      means = answer.meaning;
-    }
-
-module _ {D : Type 0} where
-  pub opened_here : (most : ℕ) (observable : Bool) (reads : Files) (state : State) (buffer : LogBuffer D) (r : ReadLog) (w : WasRead observable reads r) →
-      HasLog observable state buffer (log_from r.tail w.reading.held) → end_of buffer ≡ log_start_of r.tail → file_max_of buffer ≡ most → has_failed buffer ≡ false →
-      HasOpenedAt most observable reads state buffer r.replayed.opening (kept_at_start r.replayed (log_start_of r.tail) most) (alone (start_alone r))
-  unfolding starts_opened
-  opened_here most observable reads state buffer r w has end max works = record {
-    starts = starts_opened observable reads r w;
-    here = record { alone_at = start_alone r; st_is = refl; here = alone_opened most observable reads state buffer r w has end max works };
-    ends = starts_in w.reading.held r.tail w.reading.answer.tail;
-  }
-
-  pub opened_at : (most : ℕ) (observable : Bool) (reads : Files) (state : State) (buffer : LogBuffer D) (r : ReadLog) (w : WasRead observable reads r) →
-      HasLog observable state buffer (log_from r.tail w.reading.held) → end_of buffer ≡ log_start_of r.tail → file_max_of buffer ≡ most → has_failed buffer ≡ false →
-      HasOpened most observable reads state buffer r.replayed.opening (kept_at_start r.replayed (log_start_of r.tail) most)
-  opened_at most observable reads state buffer r w has end max works = (alone (start_alone r), opened_here most observable reads state buffer r w has end max works)
-
-  -- what was opened, under equal names
-  pub opened_along : (most : ℕ) (observable : Bool) (files : Files) (a b : State) (buffer other : LogBuffer D) (o p : Store) (k l : Kept) → a ≡ b → buffer ≡ other → o ≡ p → k ≡ l →
-      HasOpened most observable files a buffer o k → HasOpened most observable files b other p l
-  opened_along most observable files a b buffer other o p k l state log store kept h =
-      subst (λ (x : Kept). HasOpened most observable files b other p x) kept (subst (λ (x : Store). HasOpened most observable files b other x k) store
-      (subst (λ (x : LogBuffer D). HasOpened most observable files b x o k) log (subst (λ (x : State). HasOpened most observable files x buffer o k) state h)))
 
 -- a call that passes nothing new goes on from a state that is still the one at entry
 pub passes_on : (entry middle new : History) → now middle ≡ now entry → Passes entry middle (λ s. s ≡ now entry) → Passes middle new (λ s. s ≡ now middle)

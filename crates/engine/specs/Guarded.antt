@@ -1,10 +1,9 @@
 -- What the parts of a run keep of its log. No clause of the top call speaks of these.
 use Rattle.std.specs.Prelude.{ℕ, ◌≡◌, ◌≤◌, [], ◌++◌, List, Option, None, Bool, true, false}
-use Rattle.je_disk.specs.States.{Files, State, synced_crash_states}
+use Rattle.je_disk.specs.States.{State}
 use Rattle.je_disk.specs.Moments.{History, now}
 use Rattle.store_model.specs.declared.change.Change.{Change}
 use Rattle.store_model.specs.declared.event.Event.{Event}
-use Rattle.store_model.specs.declared.store.Store.{Store}
 use Rattle.je_answers.specs.Standing.{Standing}
 use Rattle.je_answers.specs.After.{after_events}
 use Rattle.je_answers.specs.Journal.{attempts_of, has_answer, is_disk_fault, synced_of}
@@ -16,9 +15,7 @@ use Rattle.log_buffer.specs.Log.{HasLog}
 use Rattle.log_trees.specs.Placed.{placed}
 use Rattle.log_meaning.specs.Recovery.{commits_in}
 use Rattle.crash_recovery.specs.Recovery.{RecoversLog}
-use Rattle.engine.specs.Contents.{Contents}
 use Rattle.engine.specs.Crash.{AreSafeEvents, Follows, IsSafe}
-use Rattle.engine.specs.Opening.{HasOpenedAt}
 
 -- What a run that began at `st` has kept so far of its log, which had `base` entries then. Those behind them are of the transactions that its
 -- journal attempted; only one that was cut short by a fault may not be among them. A crash keeps at least `least` of all, with the synced commits.
@@ -56,11 +53,3 @@ module _ {D : Type 0} where
   -- a buffer that works has this log, and a crash keeps at least so many of its entries
   abbrev pub KeepsIfWorks : Bool → State → LogBuffer D → Log → ℕ → Type 0
   KeepsIfWorks failed state buffer log least = failed ≡ false → IsKeeping state buffer log least None
-
-  -- an environment was opened: all is stable, the disk is safe, and a crash keeps all of the log
-  pub record HasOpenedSafely (most : ℕ) (files : Files) (opening : Store) (history : History) (buffer : LogBuffer D) (c : Contents) : Type 0 where
-    pub st : Standing
-    pub opened : HasOpenedAt most true files (now history) buffer opening c st
-    pub stable : (now history).crash_states ≡ synced_crash_states (now history).reads
-    pub log : Log
-    pub guarded : IsGuardedLog st log history history buffer [] None

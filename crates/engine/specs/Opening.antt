@@ -1,5 +1,5 @@
 -- Opening an environment.
-use Rattle.std.specs.Prelude.{ℕ, ◌≡◌, ◌≤◌, ◌<◌, ◌⊎◌, ◌==◌, ◌+◌, nat_lt, ◌∷◌, [], ◌++◌, take, length, Bool, true, false, Option, IsSome, None, Some, Ok, IfSome, option_map, List, if◌then◌else◌}
+use Rattle.std.specs.Prelude.{ℕ, ◌≡◌, ◌≤◌, ◌<◌, ◌⊎◌, ◌==◌, ◌+◌, nat_lt, ◌∷◌, [], ◌++◌, take, length, map, Bool, true, false, Option, IsSome, None, Some, Ok, option_map, List, if◌then◌else◌}
 use Rattle.recovery_je.specs.declared.recover_err.RecoverErr.{RecoverErr}
 use Rattle.recovery_je.specs.declared.recover_err.RecoverErr.TheVariants.{Disk as NoDisk, Memory as NoMemory, Corrupt}
 use Rattle.je_order.specs.Counts.{HasRisen}
@@ -11,7 +11,6 @@ use Rattle.je_answers.specs.Alone.{Alone, alone}
 use Rattle.log_file.specs.Log.{Log, IsLog, AreFiles, log_in}
 use Rattle.log_buffer.specs.declared.buffer.LogBuffer.{LogBuffer}
 use Rattle.log_buffer.specs.declared.log_pos.LogPos.{LogPos}
-use Rattle.log_buffer.specs.Buffer.{end_of}
 use Rattle.log_buffer.specs.Flip.{header_size}
 use Rattle.log_buffer.specs.Log.{EndsAt, ReadAs, ReadAsBut}
 use Rattle.log_replay.specs.declared.last_file.LastFile.{LastFile}
@@ -20,15 +19,16 @@ use Rattle.log_meaning.specs.Meaning.{Meaning}
 use Rattle.log_meaning.specs.Reading.{reading_of}
 use Rattle.recovery_je.specs.Answer.{HasFiles, IsRecoveredFrom}
 use Rattle.recovery_je.specs.declared.recovered.Recovered.{Recovered}
-use Rattle.in_tree.specs.declared.loaded_trees.LoadedTrees.{LoadedTrees}
-use Rattle.in_tree.specs.Stored.{stored_in, has_tree_in}
+use Rattle.in_tree.specs.declared.trees.Trees.{Trees}
+use Rattle.in_tree.specs.Observed.{cells_of, has_tree_of}
+use Rattle.in_tree.specs.Stored.{committed_cell}
+use Rattle.in_tree.specs.Whole.{has_tree_in, stored_within}
 use Rattle.engine.specs.declared.open_err.OpenErr.{OpenErr}
 use Rattle.engine.specs.declared.open_err.OpenErr.TheVariants.{Disk, Unreadable, Memory, IdsEnded}
-use Rattle.je_lsn.specs.declared.file_no.TheConstants.{LAST_FILE}
-use Rattle.engine.specs.Contents.{Contents}
 use Rattle.engine.specs.Files.{HasCorruption, end_file_in}
 use Rattle.engine.specs.Limits.{Reach, last_number, numbers_for}
-use Rattle.engine.specs.Environment.{AreAt}
+use Rattle.engine.specs.declared.engine.Engine.{Engine}
+use Rattle.engine.specs.declared.kept.Kept.{Kept}
 
 -- the error that a failed recovery gives
 abbrev pub error_of_recovery : RecoverErr → OpenErr
@@ -60,14 +60,12 @@ StopsBy observable files before after IdsEnded = observable ≡ true → HasNoNu
 StopsBy observable files before after Memory = Unit {0}
 
 -- what was read means this
-abbrev pub meaning_read : Recovered LoadedTrees → Meaning
+abbrev pub meaning_read : Recovered Trees → Meaning
 meaning_read r = record { store = r.opening; last_txn = r.last_txn; last_node = r.last_node; last_db = r.last_db; checkpoint = r.checkpoint }
 
 -- the log of a disk with these files was read
-pub record WasRead (observable : Bool) (reads : Files) (r : Recovered LoadedTrees) : Type 0 where
-  pub files : HasFiles observable reads (IsRecoveredFrom (meaning_read r) (has_tree_in r.trees) (stored_in r.trees) r.databases r.records r.tail)
-  pub entries : r.entries ≡ length (placed (log_in files.held))
-  pub small : IfSome r.tail (λ last. last.file.0 ≤ LAST_FILE)
+abbrev pub WasRead : Bool → Files → Recovered Trees → Type 0
+WasRead observable reads r = HasFiles observable reads (IsRecoveredFrom (meaning_read r) (has_tree_in r.trees) (stored_within r.trees) r.databases r.records r.entries r.tail)
 
 -- what follows the valid prefix of the last file was cut off
 abbrev pub HasTornTailCut : Files → Files → Option LastFile → Type 0
@@ -123,13 +121,13 @@ pub record StartsAt (observable : Bool) (files : Files) (opening : Store) (st : 
   pub means_db : meaning.last_db ≡ alone_at.last_db
   pub nodes : node_bound held meaning ≤ last_number
 
-module _ {D : Type 0} where
-  -- an environment was opened: the model starts from what the files mean, the log goes on in the last of them, and nodes' numbers behind theirs
-  pub record HasOpenedAt (most : ℕ) (observable : Bool) (files : Files) (state : State) (buffer : LogBuffer D) (opening : Store) (c : Contents) (st : Standing) : Type 0 where
-    pub starts : StartsAt observable files opening st
-    pub here : AreAt most observable state buffer c st
-    pub ends : (end_of buffer).file ≡ end_file_in starts.held
-    pub nodes : c.last_node ≡ node_bound starts.held starts.meaning
+-- what an environment keeps beside its trees as it begins, where no node's number is above this one
+abbrev pub kept_at_start : Recovered Trees → ℕ → Kept
+kept_at_start r last_node = record { totals = record { databases = r.databases; records = r.records }; last_txn = r.last_txn; last_db = r.last_db; last_node = last_node; commits = 0; fault = None }
 
-  abbrev pub HasOpened : ℕ → Bool → Files → State → LogBuffer D → Store → Contents → Type 0
-  HasOpened most observable files state buffer opening c = (st : Standing) × HasOpenedAt most observable files state buffer opening c st
+-- an environment begins over its log, with what was read
+pub record HasBegun {D : Type 0} (log : LogBuffer D) (r : Recovered Trees) (last_node : ℕ) (engine : Engine D) : Type 0 where
+  pub log_is : engine.trees.log ≡ log
+  pub cells : (db : ℕ) → cells_of engine.trees db ≡ map committed_cell (stored_within r.trees db)
+  pub trees : (db : ℕ) → has_tree_of engine.trees db ≡ has_tree_in r.trees db
+  pub kept : engine.kept ≡ kept_at_start r last_node

@@ -9,12 +9,9 @@ ghost use Rattle.log_buffer.specs.Log.{HasLog};
 ghost use Rattle.log_file.specs.Log.{Log, entries_of};
 ghost use Rattle.engine.specs.Crash.{KeepsEntry};
 ghost use Rattle.engine.specs.Untouched.{IsLeftAlone};
-ghost use Rattle.store_model.specs.declared.totals.Totals.{Totals as Counted};
 ghost use Rattle.store_model.specs.Store.{no_databases};
-ghost use Rattle.in_tree.specs.Observed.{cells_of, has_tree_of};
-ghost use Rattle.in_tree.specs.Stored.{stored_in, has_tree_in, committed_cell};
 ghost use Rattle.engine.specs.Limits.{last_number, numbers_for};
-ghost use Rattle.engine.specs.Opening.{HasTornTailCut, IsSettling, StartsLog, StopsBy, WasRead, cut_off, log_start_of};
+ghost use Rattle.engine.specs.Opening.{HasBegun, HasTornTailCut, IsSettling, StartsLog, StopsBy, WasRead, cut_off, log_start_of};
 ghost use Rattle.engine.specs.Whole.{CanGoOn, IsOpened, IsOpenedSafely, disk_of};
 ghost use Rattle.je_lsn.specs.declared.file_no.TheConstants.{LAST_FILE};
 
@@ -22,9 +19,9 @@ use crate::config::Config;
 use crate::engine::{Engine, LAST_NODE, NUMBERS_FOR_CHANGE};
 use crate::kept::Kept;
 use crate::open_err::OpenErr;
+use in_tree::{LoadedTrees, LogTrees};
 use je_disk::{Disk, DiskErr};
 use je_lsn::{FileNo, Lsn};
-use in_tree::{LoadedTrees, LogTrees};
 use log_buffer::LogBuffer;
 use log_replay::LastFile;
 use recovery_je::{OpeningStore, Recovered, recover_disk};
@@ -143,17 +140,8 @@ fn begin_log<D: Disk>(
 
 // An environment that was just opened, over its log.
 fn begin<D: Disk>(log: LogBuffer<D>, read: Recovered<LoadedTrees>, last_node: u64) -> Opened<D>
-    requires { last_node ≤ last_number }
-    ensures log { result.engine.trees.log ≡ log }
-    ensures cells { (db : ℕ) → cells_of result.engine.trees db ≡ map committed_cell (stored_in read.trees db) }
-    ensures trees { (db : ℕ) → has_tree_of result.engine.trees db ≡ has_tree_in read.trees db }
+    ensures begun { HasBegun log read last_node result.engine }
     ensures opening { result.opening ≡ read.opening }
-    ensures totals { result.engine.kept.totals ≡ (let totals : Counted = record { databases = read.databases; records = read.records } in totals) }
-    ensures last_txn { result.engine.kept.last_txn ≡ read.last_txn }
-    ensures last_db { result.engine.kept.last_db ≡ read.last_db }
-    ensures last_node { result.engine.kept.last_node ≡ last_node }
-    ensures commits { result.engine.kept.commits ≡ 0 }
-    ensures fault { result.engine.kept.fault ≡ None }
 {
     let Recovered {
         trees,
@@ -204,7 +192,7 @@ fn go_on<D: Disk>(
     ensures faults { IfOk result (λ opened. D.faults disk ≤ D.faults (disk_of opened.engine)) }
     ensures stopped_entry { D.observable ≡ true → (reads : Reads) → WasRead D.observable reads read → (now (D.history disk)).reads ≡ reads
         → IfErr result (λ stopped. KeepsEntry (D.history disk) (D.history stopped.disk)) }
-    ensures stopped { (reads : Reads) → IfErr result (λ stopped. StopsBy D.observable reads (D.faults disk) (D.faults stopped.disk) stopped.error) }
+    ensures stopped { (reads : Reads) → WasRead D.observable reads read → IfErr result (λ stopped. StopsBy D.observable reads (D.faults disk) (D.faults stopped.disk) stopped.error) }
     ensures stopped_faults { IfErr result (λ stopped. D.faults disk ≤ D.faults stopped.disk) }
     ensures left_alone { IfErr result (λ stopped. (old : History) → Passes old (D.history disk) (λ s. s ≡ now old) → now (D.history disk) ≡ now old → IsLeftAlone stopped.error old (D.history stopped.disk)) }
 {

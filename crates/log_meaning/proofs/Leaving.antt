@@ -35,7 +35,7 @@ environment_with catalog rows =
     list_all is_catalog_row catalog && are_distinct (map (λ r. catalog_number r.1) catalog) && list_all (λ r. are_right (catalog_kind r.1) (rows_of_row rows r)) catalog
     && nat_le (length catalog) MOST_DATABASES
 
-same_environment : (a b : Rows) → a 0 ≡ b 0 → AllByRecursion (λ n. a n ≡ b n) (numbers_of b) → is_environment a ≡ is_environment b
+pub same_environment : (a b : Rows) → a 0 ≡ b 0 → AllByRecursion (λ n. a n ≡ b n) (numbers_of b) → is_environment a ≡ is_environment b
 same_environment a b zero_same each =
     ap (λ (catalog : List Row). environment_with catalog a) zero_same
     ∙ ap (λ (t : Bool). list_all is_catalog_row (b 0) && are_distinct (numbers_of b) && t && nat_le (length (b 0)) MOST_DATABASES)
@@ -43,7 +43,7 @@ same_environment a b zero_same each =
     (all_weaker (λ (r : Row). a (catalog_number r.1) ≡ b (catalog_number r.1)) (λ r. are_right (catalog_kind r.1) (rows_of_row a r) ≡ are_right (catalog_kind r.1) (rows_of_row b r))
     (λ r h. ap (are_right (catalog_kind r.1)) h) (b 0) (all_of_map (λ (r : Row). catalog_number r.1) (λ n. a n ≡ b n) (b 0) each)))
 
-same_store : (a b : Rows) → a 0 ≡ b 0 → AllByRecursion (λ n. a n ≡ b n) (numbers_of b) → store_of a ≡ store_of b
+pub same_store : (a b : Rows) → a 0 ≡ b 0 → AllByRecursion (λ n. a n ≡ b n) (numbers_of b) → store_of a ≡ store_of b
 same_store a b zero_same each =
     let make : List Database → Store = λ l. record { databases = l } in
     ap (λ (catalog : List Row). make (map (database_in a) catalog)) zero_same

@@ -4,8 +4,6 @@ use std::alloc::AllocError;
 /// Why a tree was not changed while a log is read again. Nothing is known of the trees then.
 #[derive(Clone, Copy, Debug, PartialEq, Eq)]
 pub enum LoadErr {
-    /// A node's number or level would pass the last one.
-    IdsEnded,
     /// Out of memory.
     Memory,
 }

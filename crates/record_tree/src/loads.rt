@@ -13,7 +13,8 @@ use std::alloc::{AllocError, Global};
 
 /// The trees of an environment in memory, while they are made of a log. No transaction is active, so
 /// each record is committed. A contract sees the records alone; what nodes are made of them is the
-/// implementation's.
+/// implementation's. Node numbers are not refused here: where none is left, nodes are made with the last
+/// one, and whoever reads the log refuses it by the numbers that its entries may have allocated.
 pub trait Loads {
     /// The records of each database, with the LSNs at which they were logged.
     ghost stored: { Self → AllStored };

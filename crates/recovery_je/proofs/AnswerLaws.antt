@@ -1,5 +1,5 @@
 -- What reading the files of an environment answers.
-use Rattle.std.proofs.Common.{◌≡◌, ◌≤◌, ◌+◌, ℕ, Bool, true, List, [], ◌∷◌, Option, None, Result, Ok, Err, map, refl, sym, ap, ap₂, subst, arith, ◌∙◌, ◌<◌, ◌^◌}
+use Rattle.std.proofs.Common.{◌≡◌, ◌≤◌, ◌+◌, ℕ, Bool, true, List, [], ◌∷◌, Option, None, Result, Ok, Err, map, length, refl, sym, ap, ap₂, subst, arith, ◌∙◌, ◌<◌, ◌^◌}
 use Rattle.std.specs.Prelude.{IsErrAnd, IfOk, IfErr, OnOk}
 use Rattle.std.proofs.lemmas.List.{append-nil}
 use Rattle.std.specs.List.{AllByRecursion}
@@ -35,9 +35,9 @@ use Rattle.log_meaning.specs.Meaning.{Meaning}
 use Rattle.log_meaning.specs.Reading.{unless, meaning_in, reading_of}
 use Rattle.record_tree.specs.Stored.{AllStored}
 use Rattle.recovery_je.specs.declared.read_err.ReadErr.{ReadErr}
-use Rattle.recovery_je.specs.declared.read_err.ReadErr.TheVariants.{Memory as ReadMemory, IdsEnded as ReadIdsEnded, Found}
+use Rattle.recovery_je.specs.declared.read_err.ReadErr.TheVariants.{Memory as ReadMemory, Found}
 use Rattle.recovery_je.specs.declared.recover_err.RecoverErr.{RecoverErr}
-use Rattle.recovery_je.specs.declared.recover_err.RecoverErr.TheVariants.{Disk, Memory, IdsEnded, Corrupt}
+use Rattle.recovery_je.specs.declared.recover_err.RecoverErr.TheVariants.{Disk, Memory, Corrupt}
 use Rattle.recovery_je.specs.Files.{IsReading, AreRead, AreSound}
 use Rattle.recovery_je.specs.Recovering.{HasTrees, IsMeant, IsFoundBy}
 use Rattle.recovery_je.specs.Answer.{read_error, IsCorruptBy, HasCauseOf, IsReadingOf, HasFiles, IsRecoveredFrom}
@@ -107,20 +107,23 @@ by_entries observable reads files es tail all =
     ap (λ (o : Option Corruption). unless o (meaning_in (map (λ file. file.0) all.held) (placed (log_in all.held)))) none
     ∙ ap₂ meaning_in are_of.numbers (sym all.entries_are)
 
-pub recovered : (observable : Bool) (reads : Files) (files : List FileNo) (es : List Placed) (tail : Option LastFile) (meaning : Meaning) (has : ℕ → Bool) (stored : AllStored) (databases records : ℕ) →
-    AreRisingNumbers files → IsReading observable reads files [] es tail → IsMeant (map (λ f. f.0) files) es meaning has stored databases records →
-    IsReadingOf observable reads files (IsRecoveredFrom meaning has stored databases records tail)
-recovered observable reads files es tail meaning has stored databases records rising all meant =
+pub recovered : (observable : Bool) (reads : Files) (files : List FileNo) (es : List Placed) (tail : Option LastFile) (meaning : Meaning) (has : ℕ → Bool) (stored : AllStored) (databases records entries : ℕ) →
+    AreRisingNumbers files → IsReading observable reads files [] es tail → entries ≡ length es → IsMeant (map (λ f. f.0) files) es meaning has stored databases records →
+    IsReadingOf observable reads files (IsRecoveredFrom meaning has stored databases records entries tail)
+recovered observable reads files es tail meaning has stored databases records entries rising all count meant =
     let c = last_checkpoint es in
-    let entries : AllByRecursion (λ (p : Placed). IsEntry p.1) es = subst (AllByRecursion (λ (p : Placed). IsEntry p.1)) (sym all.entries_are) (all_entries all.held all.bytes) in
-    let right = read_trees_are_right (map (λ f. f.0) files) es c.at c.roots meant.walk entries meant.walked in
+    let each : AllByRecursion (λ (p : Placed). IsEntry p.1) es = subst (AllByRecursion (λ (p : Placed). IsEntry p.1)) (sym all.entries_are) (all_entries all.held all.bytes) in
+    let right = read_trees_are_right (map (λ f. f.0) files) es c.at c.roots meant.walk each meant.walked in
+    let are_of : AreOf observable reads files all.held = subst (λ (l : List FileNo). AreOf observable reads l all.held) (sym (all.parts ∙ append-nil all.done)) all.are_of in
     let trees : HasTrees (restarted es) has stored = subst (λ (rows : List LoggedChange). HasTrees (behind rows (redone c.redo es)) has stored) right.rows meant.trees in
-    all_read observable reads files es tail (IsRecoveredFrom meaning has stored databases records tail) rising all (record {
+    all_read observable reads files es tail (IsRecoveredFrom meaning has stored databases records entries tail) rising all (record {
       bytes = all.bytes;
+      rising = subst IsStrictlyIncreasing (sym are_of.numbers) rising;
       meaning_is = by_entries observable reads files es tail all ∙ meant.meaning_is;
       trees = subst (λ (l : List Placed). HasTrees (restarted l) has stored) all.entries_are trees;
       databases_are = meant.databases_are;
       records_are = meant.records_are;
+      entries_are = count ∙ ap (λ (l : List Placed). length l) all.entries_are;
       tail_is = all.last;
     })
 
@@ -138,7 +141,6 @@ corrupt_on P Q (Err x) e is holds more = subst (λ (y : RecoverErr). IsCorruptBy
   where
     by_error : (y : ReadErr) → IsFoundBy y P → IsCorruptBy (read_error y) Q
     by_error ReadMemory h = tt
-    by_error ReadIdsEnded h = tt
     by_error (Found c) h = more c h
 
 -- ---- all files of a disk
@@ -162,7 +164,6 @@ corrupt_weaker P Q (Err e) weaker holds = by_error e holds
     by_error : (y : RecoverErr) → IsCorruptBy y P → IsCorruptBy y Q
     by_error Disk h = tt
     by_error Memory h = tt
-    by_error IdsEnded h = tt
     by_error (Corrupt c) h = weaker c h
 
 pub on_ok_to : {T E : Type 0} {P Q : Type 0} (r : Result T E) → (P → Q) → P → OnOk r Q

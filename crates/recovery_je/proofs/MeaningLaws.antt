@@ -35,7 +35,7 @@ use Rattle.recovery_je.specs.Redoing.{waits, there, IsRedoAt}
 use Rattle.recovery_je.specs.Checking.{values_of, values_in, lsn_of, wrong_lsn_in}
 use Rattle.recovery_je.specs.Finishing.{is_kept, IsFinished}
 use Rattle.recovery_je.specs.declared.read_err.ReadErr.{ReadErr}
-use Rattle.recovery_je.specs.declared.read_err.ReadErr.TheVariants.{Memory, IdsEnded, Found}
+use Rattle.recovery_je.specs.declared.read_err.ReadErr.TheVariants.{Memory, Found}
 use Rattle.recovery_je.specs.declared.roots.WalkNumbers.{WalkNumbers}
 use Rattle.recovery_je.specs.Recovering.{HoldsChanges, HoldsRedo, HasTrees, IsSettled, IsWrong, IsWalked, IsMeant, IsFoundBy}
 
@@ -70,12 +70,20 @@ keys_same (r ∷ records) = ap (λ (l : List Name). r.0 ∷ l) (keys_same record
 values_rise : (records : List (Name × Stored)) → AreRising records → IsRising (values_of records)
 values_rise records up = rising_from_keys (values_of records) (subst (IsStrictlySortedBy name_cmp) (sym (keys_same records)) up)
 
+-- records of a database that are those of a redo, name by name, are the redo's
+rows_at : (redo : Redo) (d : ℕ) (records : List (Name × Stored)) → ((x : Name) → value_at x records ≡ there (record_at redo d x)) → AreRising records → values_of records ≡ rows_of redo d
+rows_at redo d records holds up =
+    same_rows (values_of records) (rows_of redo d) (values_rise records up) (rising-after redo.done no_rows (λ e. rising-nil) d)
+    (λ x. found_value records x ∙ ap (λ (o : Option Stored). option_map (λ (s : Stored). s.value) o) (holds x) ∙ there_value (record_at redo d x)
+    ∙ sym (found-after redo.done no_rows unwritten d x refl))
+
 -- the records of trees that hold a redo are the redo's
 pub rows_are : (redo : Redo) (stored : AllStored) → HoldsRedo redo stored → ((d : ℕ) → AreRising (stored d)) → values_in stored ≡ rows_of redo
-rows_are redo stored holds up = fun_ext (λ d.
-    same_rows (values_of (stored d)) (rows_of redo d) (values_rise (stored d) (up d)) (rising-after redo.done no_rows (λ e. rising-nil) d)
-    (λ x. found_value (stored d) x ∙ ap (λ (o : Option Stored). option_map (λ (s : Stored). s.value) o) (holds d x) ∙ there_value (record_at redo d x)
-    ∙ sym (found-after redo.done no_rows unwritten d x refl)))
+rows_are redo stored holds up = fun_ext (λ d. rows_at redo d (stored d) (holds d) (up d))
+
+-- and so are those of an environment's trees
+pub rows_in_trees : (redo : Redo) (has : ℕ → Bool) (stored : AllStored) (d : ℕ) → HasTrees redo has stored → is_kept (numbers_of (rows_of redo)) d ≡ true → values_of (stored d) ≡ rows_of redo d
+rows_in_trees redo has stored d trees kept = rows_at redo d (stored d) (λ x. trees.records d x kept) (trees.rising d)
 
 -- and so is the LSN of the first wrong one
 abbrev wrong_by : (ℕ → Name → ℕ) → Rows → Option ℕ
@@ -211,5 +219,4 @@ handed_on P Q (Err x) e is found more = by_error x (subst (λ (y : ReadErr). IsF
   where
     by_error : (y : ReadErr) → IsFoundBy y P → IsFoundBy y Q
     by_error Memory h = tt
-    by_error IdsEnded h = tt
     by_error (Found c) h = more c h

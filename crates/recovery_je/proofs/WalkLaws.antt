@@ -13,7 +13,7 @@ use Rattle.record_tree.specs.Stored.{Stored, AllStored, stored_at, HasStored, Ar
 use Rattle.node_core.specs.declared.node.Node.{Node}
 use Rattle.log_replay.specs.declared.corruption.Corruption.{Corruption}
 use Rattle.recovery_je.specs.declared.read_err.ReadErr.{ReadErr}
-use Rattle.recovery_je.specs.declared.read_err.ReadErr.TheVariants.{Memory, IdsEnded, Found}
+use Rattle.recovery_je.specs.declared.read_err.ReadErr.TheVariants.{Memory, Found}
 use Rattle.log_trees.specs.Changes.{Written, unwritten, LoggedChange, is_of, last_of}
 use Rattle.log_trees.proofs.Rooted.{last_of-append}
 use Rattle.log_trees.specs.Walk.{Walk, and_then, each, met, with_record, read_image, may_stand, node_standing, read_here}
@@ -89,7 +89,6 @@ with_one before after seen node db greatest d name lsn value walk put greatest_i
 pub one_goes_on : {A B : Type 0} (f : A → Walk → Result Walk Corruption) (x : A) (walk : Walk) (P : Walk → Type 0) (r : Result B ReadErr) → GoesOn (f x walk) P r → GoesOn (each f (x ∷ []) walk) P r
 one_goes_on f x walk P (Ok v) is = (is.0, ap (λ (s : Result Walk Corruption). and_then s (each f [])) is.1, is.2)
 one_goes_on f x walk P (Err Memory) is = tt
-one_goes_on f x walk P (Err IdsEnded) is = tt
 one_goes_on f x walk P (Err (Found c)) is = ap (λ (s : Result Walk Corruption). and_then s (each f [])) is
 
 -- some were read, and these are left

@@ -1,6 +1,7 @@
 -- What reading the files of an environment answers.
 use Rattle.std.specs.Prelude.{◌≡◌, ◌≤◌, ℕ, Bool, true, List, Option, Result, Ok, IsErrOf, length, map}
 use Rattle.std.specs.List.{AllByRecursion}
+use Rattle.std.specs.List.Sorted.{IsStrictlyIncreasing}
 use Rattle.je_bytes.specs.Reading.{AreBytes}
 use Rattle.je_disk.specs.declared.error.DiskErr.{DiskErr}
 use Rattle.je_disk.specs.declared.error.DiskErr.TheVariants.{Failed, Memory as OutOfMemory}
@@ -19,9 +20,9 @@ use Rattle.log_meaning.specs.Meaning.{Meaning}
 use Rattle.log_meaning.specs.Reading.{reading_of}
 use Rattle.record_tree.specs.Stored.{AllStored}
 use Rattle.recovery_je.specs.declared.read_err.ReadErr.{ReadErr}
-use Rattle.recovery_je.specs.declared.read_err.ReadErr.TheVariants.{Memory as ReadMemory, IdsEnded as ReadIdsEnded, Found}
+use Rattle.recovery_je.specs.declared.read_err.ReadErr.TheVariants.{Memory as ReadMemory, Found}
 use Rattle.recovery_je.specs.declared.recover_err.RecoverErr.{RecoverErr}
-use Rattle.recovery_je.specs.declared.recover_err.RecoverErr.TheVariants.{Disk, Memory, IdsEnded, Corrupt}
+use Rattle.recovery_je.specs.declared.recover_err.RecoverErr.TheVariants.{Disk, Memory, Corrupt}
 use Rattle.recovery_je.specs.Recovering.{HasTrees}
 
 -- ---- errors
@@ -34,7 +35,6 @@ disk_error OutOfMemory = Memory
 -- the error where a log was not read
 abbrev pub read_error : ReadErr → RecoverErr
 read_error ReadMemory = Memory
-read_error ReadIdsEnded = IdsEnded
 read_error (Found corruption) = Corrupt corruption
 
 -- an error that is not the disk's
@@ -69,11 +69,13 @@ pub record HasFiles (observable : Bool) (reads : Files) (P : List (ℕ × List �
   pub are : observable ≡ true → AreFiles reads held
   pub is : P held
 
--- files mean this, and the environment has these trees
-pub record IsRecoveredFrom (meaning : Meaning) (has : ℕ → Bool) (stored : AllStored) (databases records : ℕ) (tail : Option LastFile) (held : List (ℕ × List ℕ)) : Type 0 where
+-- files with so many entries mean this, and the environment has these trees
+pub record IsRecoveredFrom (meaning : Meaning) (has : ℕ → Bool) (stored : AllStored) (databases records entries : ℕ) (tail : Option LastFile) (held : List (ℕ × List ℕ)) : Type 0 where
   pub bytes : AllByRecursion (λ file. AreBytes file.1) held
+  pub rising : IsStrictlyIncreasing (map (λ file. file.0) held)
   pub meaning_is : reading_of held ≡ Ok meaning
   pub trees : HasTrees (restarted (placed (log_in held))) has stored
   pub databases_are : databases ≡ length meaning.store.databases
   pub records_are : records ≡ record_count meaning.store
+  pub entries_are : entries ≡ length (placed (log_in held))
   pub tail_is : IsTailOf held tail

@@ -25,7 +25,7 @@ impl<T: Loads> Model for OpeningStore<T> {
 
 impl<T: Loads> OpeningStore<T> {
     /// The store that these trees hold. It takes no memory.
-    pub(crate) fn of(trees: &T) -> OpeningStore<T>
+    pub fn of(trees: &T) -> OpeningStore<T>
         ensures { result ≡ store_of (values_in (T.stored trees.now)) }
     {
         OpeningStore {

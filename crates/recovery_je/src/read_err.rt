@@ -3,11 +3,10 @@ use log_replay::Corruption;
 use record_tree::LoadErr;
 use std::alloc::AllocError;
 
-/// Why a log was not read: out of memory, no node number is left, or the first corruption.
+/// Why a log was not read: out of memory, or the first corruption.
 #[derive(Clone, Copy)]
 pub(crate) enum ReadErr {
     Memory,
-    IdsEnded,
     Found(Corruption),
 }
 
@@ -30,7 +29,6 @@ impl From<LoadErr> for ReadErr {
     fn from(failure: LoadErr) -> ReadErr {
         match failure {
             LoadErr::Memory => ReadErr::Memory,
-            LoadErr::IdsEnded => ReadErr::IdsEnded,
         }
     }
 }

@@ -10,8 +10,6 @@ pub enum RecoverErr {
     Disk,
     /// Out of memory.
     Memory,
-    /// A node's number or level would pass the last one.
-    IdsEnded,
     /// The first corruption in the order of reading.
     Corrupt(Corruption),
 }
@@ -39,7 +37,6 @@ impl From<ReadErr> for RecoverErr {
     fn from(failure: ReadErr) -> RecoverErr {
         match failure {
             ReadErr::Memory => RecoverErr::Memory,
-            ReadErr::IdsEnded => RecoverErr::IdsEnded,
             ReadErr::Found(corruption) => RecoverErr::Corrupt(corruption),
         }
     }

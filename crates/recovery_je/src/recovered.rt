@@ -22,6 +22,8 @@ pub struct Recovered<T: Loads> {
     pub last_db: u32,
     /// The number of the last checkpoint that ended, 0 where none did.
     pub checkpoint: u64,
+    /// How many entries the log has.
+    pub entries: u64,
     /// The last file; None where there is no file.
     pub tail: Option<LastFile>,
 }

@@ -1,12 +1,12 @@
-use Rattle.std.proofs.Common.{◌≤◌, ap}
+use Rattle.std.proofs.Common.{◌≡◌, ◌≤◌, ap}
 use Rattle.je_disk.specs.Moments.{now}
 use Rattle.engine.specs.Opening.{StopsBy}
-use Rattle.engine.proofs.OpeningLaws.{if_err_both, stops_earlier}
+use Rattle.engine.proofs.OpeningLaws.{if_err_both, small_tail, stops_earlier}
 use Rattle.log_buffer.specs.Buffer.{disk_of}
 use Rattle.engine.specs.Crash.{KeepsEntry}
 use Rattle.engine.proofs.EntryLaws.{entry_later, entry_still}
-use Rattle.engine.proofs.OpenedLaws.{if_ok_map, if_err_map}
-use Rattle.je_disk.specs.Moments.{History}
+use Rattle.engine.proofs.OpenedLaws.{files_read, if_ok_map, if_err_map}
+use Rattle.je_disk.specs.Moments.{History, Passes}
 use Rattle.engine.specs.Untouched.{IsLeftAlone}
 use Rattle.engine.proofs.UntouchedLaws.{left_alone}
 use Rattle.engine.proofs.engine.Engine.open.Goals as goal
@@ -14,7 +14,9 @@ use Rattle.engine.proofs.engine.Engine.open.Goals as goal
 pub returns-in-Ok-clause-left_alone : goal.returns-in-Ok-clause-left_alone
 returns-in-Ok-clause-left_alone g c = λ observed.
     let history = g.D.Disk.history in
-    if_err_map c.go_on.result (λ s. (old new : History) → IsLeftAlone s.error old new) (λ s. IsLeftAlone s.error (history c.args.disk) (history s.disk)) (λ s alone. alone (history c.args.disk) (history s.disk)) c.go_on.ensures.left_alone
+    let mounted = history c.read_disk.new.disk in
+    if_err_map c.go_on.result (λ s. (old : History) → Passes old mounted (λ x. x ≡ now old) → now mounted ≡ now old → IsLeftAlone s.error old (history s.disk)) (λ s. IsLeftAlone s.error (history c.args.disk) (history s.disk))
+    (λ s alone. alone (history c.args.disk) (c.read_disk.ensures.moments observed) (c.read_disk.ensures.same observed)) c.go_on.ensures.left_alone
 
 pub returns-in-Err-clause-left_alone : goal.returns-in-Err-clause-left_alone
 returns-in-Err-clause-left_alone g c = λ observed.
@@ -25,8 +27,8 @@ returns-in-Ok-clause-entry g c = λ observed.
     let history = g.D.Disk.history in
     let mounted = history c.read_disk.new.disk in
     let later = c.go_on.ensures.entry observed (now (history c.args.disk)).reads (c.in-Ok.ensures.read) (ap (λ s. s.reads) (c.read_disk.ensures.same observed)) in
-    if_ok_map c.go_on.result (λ o. KeepsEntry mounted (history (disk_of o.engine.log))) (λ o. KeepsEntry (history c.args.disk) (history (disk_of o.engine.log)))
-    (λ o is. entry_later (history c.args.disk) mounted (history (disk_of o.engine.log)) (c.read_disk.ensures.moments observed) (c.read_disk.ensures.same observed) is) later
+    if_ok_map c.go_on.result (λ o. KeepsEntry mounted (history (disk_of o.engine.trees.log))) (λ o. KeepsEntry (history c.args.disk) (history (disk_of o.engine.trees.log)))
+    (λ o is. entry_later (history c.args.disk) mounted (history (disk_of o.engine.trees.log)) (c.read_disk.ensures.moments observed) (c.read_disk.ensures.same observed) is) later
 
 pub returns-in-Ok-clause-stopped_entry : goal.returns-in-Ok-clause-stopped_entry
 returns-in-Ok-clause-stopped_entry g c = λ observed.
@@ -48,7 +50,7 @@ returns-in-Ok-clause-stopped g c =
     if_err_both c.go_on.result (λ s. StopsBy g.D.Disk.observable reads (faults mounted) (faults s.disk) s.error) (λ s. faults mounted ≤ faults s.disk)
     (λ s. StopsBy g.D.Disk.observable reads (faults c.args.disk) (faults s.disk) s.error)
     (λ s stops later. stops_earlier g.D.Disk.observable reads (faults c.args.disk) (faults mounted) (faults s.disk) s.error c.read_disk.ensures.never_falls later stops)
-    (c.go_on.ensures.stopped reads) c.go_on.ensures.stopped_faults
+    (c.go_on.ensures.stopped reads c.in-Ok.ensures.read) c.go_on.ensures.stopped_faults
 
 pub returns-in-Ok-clause-opened : goal.returns-in-Ok-clause-opened
 returns-in-Ok-clause-opened g c = c.go_on.ensures.opened (now (g.D.Disk.history c.args.disk)).reads c.in-Ok.ensures.read (λ observed. ap (λ s. s.reads) (c.read_disk.ensures.same observed))
@@ -64,3 +66,8 @@ returns-in-Err-clause-stopped g c = c.in-Err.ensures.stops
 
 pub returns-in-Err-clause-stopped_faults : goal.returns-in-Err-clause-stopped_faults
 returns-in-Err-clause-stopped_faults g c = c.read_disk.ensures.never_falls
+
+pub go_on-requires-clause-small : goal.go_on-requires-clause-small
+go_on-requires-clause-small g c =
+    let w = c.in-Ok.ensures.read in
+    small_tail w.held c.in-Ok.read.tail (files_read g.D.Disk.observable (now (g.D.Disk.history c.args.disk)).reads c.in-Ok.read w)
