@@ -12,7 +12,7 @@ use Rattle.log_trees.specs.Images.{NamedLsn}
 use Rattle.log_trees.specs.Sound.{Child, children, are_within}
 use Rattle.log_trees.specs.Walk.{Walk, and_then, met, read_image, node_standing, read_here, read_node}
 use Rattle.recovery_je.specs.declared.read_err.ReadErr.{ReadErr}
-use Rattle.recovery_je.specs.declared.read_err.ReadErr.TheVariants.{Memory, IdsEnded, Found}
+use Rattle.recovery_je.specs.declared.read_err.ReadErr.TheVariants.{Memory, Found}
 use Rattle.recovery_je.specs.Recovering.{IsFoundBy}
 use Rattle.recovery_je.specs.Walking.{GoesOn, HasMet, read_below}
 
@@ -34,7 +34,6 @@ not_met spec same walk P (Err x) e is found equal = by_error x (subst (λ (y : R
   where
     by_error : (y : ReadErr) → IsFoundBy y (λ c. spec ≡ Err c) → IsFoundBy y (λ c. same ≡ Err c)
     by_error Memory h = tt
-    by_error IdsEnded h = tt
     by_error (Found c) h = equal ∙ h
 
 -- a tree is its node, and what its slots name
@@ -61,7 +60,6 @@ node_fails files es d above low high at walk P (Err x) e is found = by_error x (
   where
     by_error : (y : ReadErr) → IsFoundBy y (λ c. read_here files es d (above + 1) low high at walk.seen ≡ Err c) → IsFoundBy y (λ c. read_node files es d above low high at walk ≡ Err c)
     by_error Memory h = tt
-    by_error IdsEnded h = tt
     by_error (Found c) h =
         node_parts files es d above low high at walk ∙ ap (λ (s : Result Node Corruption). and_then s (λ m. read_below files es d above low high at m.slots (met m walk))) h
 
