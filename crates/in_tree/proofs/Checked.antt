@@ -38,6 +38,14 @@ none_there forest d none = by_tree (get nat_cmp forest d) none
 pub rises_none : (forest : Forest) (d : ℕ) → None ≡ get nat_cmp forest d → IsRising (cells_seen forest d)
 rises_none forest d none = subst (λ (o : Option DbTree). IsRising (occupied (cells_of o))) none none_rise
 
+-- names rise where a database went
+pub dropped_rise : (old new : AllCells) (db : ℕ) → ((d : ℕ) → new d ≡ cond (d == db) [] (old d)) → ((d : ℕ) → IsRising (old d)) → (d : ℕ) → IsRising (new d)
+dropped_rise old new db has up d = subst IsRising (sym (has d)) (by_test (d == db))
+  where
+    by_test : (t : Bool) → IsRising (cond t [] (old d))
+    by_test true = none_rise
+    by_test false = up d
+
 pub all_none : (forest : Forest) (changes : List TreeChange) → AllByRecursion (λ c. IfSome c.makes (λ d. is_there forest d ≡ false)) changes →
     AllByRecursion (λ c. IfSome c.makes (λ d. cells_at forest d ≡ [])) changes
 all_none forest [] all = tt

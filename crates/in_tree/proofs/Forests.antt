@@ -6,8 +6,9 @@ use Rattle.std.specs.BTreeMap.{get}
 use Rattle.std.proofs.lemmas.Bool.{cases_order, ne_eqb, eq-eqb}
 use Rattle.je_order.specs.Order.{name_cmp}
 use Rattle.je_order.specs.declared.name.Name.{Name}
-use Rattle.record_map.specs.Cells.{value_at}
-use Rattle.record_tree.specs.Occupied.{Occupied, AreSame}
+use Rattle.record_map.specs.declared.cell.Cell.{Cell}
+use Rattle.record_map.specs.Cells.{value_at, IsRising}
+use Rattle.record_tree.specs.Occupied.{Occupied, AllCells, AreSame}
 use Rattle.in_tree.specs.declared.db_tree.DbTree.{DbTree}
 use Rattle.in_tree.specs.Forest.{Forest, cells_of, cells_at, cells_seen, is_there, occupied, HasChange, HasSameTrees, KeepsCells}
 
@@ -87,6 +88,16 @@ forest_kept old new db o has kept d x there = by_number (number_cases db d)
         subst (λ (e : ℕ). IsSome (value_at x (cells_at new e))) is
         (subst (λ (t : Option DbTree). IsSome (value_at x (cells_of t))) (sym (replaced old new db o has)) (kept x (subst (λ (e : ℕ). IsSome (value_at x (cells_at old e))) (sym is) there)))
     by_number (inr apart) = subst (λ (t : Option DbTree). IsSome (value_at x (cells_of t))) (sym (others old new db o has d apart.1)) there
+
+-- names rise in one database, and in the others as before
+pub forest_rises : (old new : Forest) (db : ℕ) (o : Option DbTree) → Replaces old new db o → IsRising (occupied (cells_of o)) → (d : ℕ) → IsRising (cells_seen old d) → IsRising (cells_seen new d)
+forest_rises old new db o has up d rises = by_number (number_cases db d)
+  where
+    by_number : (db ≡ d) ⊎ ((d == db ≡ false) × (is_eq (nat_cmp db d) ≡ false)) → IsRising (cells_seen new d)
+    by_number (inl is) =
+        subst (λ (e : ℕ). IsRising (cells_seen new e)) is
+        (subst (λ (t : Option DbTree). IsRising (occupied (cells_of t))) (sym (replaced old new db o has)) up)
+    by_number (inr apart) = subst (λ (t : Option DbTree). IsRising (occupied (cells_of t))) (sym (others old new db o has d apart.1)) rises
 
 -- what is seen where the tree of a database goes
 pub forest_without : (old new : Forest) (db : ℕ) → Replaces old new db None → (d : ℕ) → cells_seen new d ≡ cond (d == db) [] (cells_seen old d)

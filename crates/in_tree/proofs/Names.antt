@@ -3,7 +3,7 @@ use Rattle.std.proofs.Common.{◌≡◌, ◌==◌, ◌&&◌, ◌||◌, ℕ, List
 use Rattle.je_order.specs.Order.{name_cmp}
 use Rattle.je_order.specs.declared.name.Name.{Name}
 use Rattle.record_map.specs.declared.write.Write.{Write}
-use Rattle.record_map.specs.Cells.{value_at}
+use Rattle.record_map.specs.Cells.{value_at, IsRising}
 use Rattle.record_tree.specs.declared.tree_name.TreeName.{TreeName}
 use Rattle.record_tree.specs.Occupied.{Occupied, AllCells, HasChangedAll, is_among, after_commit, after_abort, if_occupied}
 use Rattle.in_tree.specs.Forest.{Forest, cells_seen, HasSameTrees, HasChange}
@@ -38,6 +38,7 @@ abort_once (Some o) = by_value o.value
 pub record NamesLeft (before trees : Forest) (names left : List TreeName) (change : Option Occupied → Option Occupied) : Type 0 where
   pub cells : (last : AllCells) → HasChangedAll (cells_seen trees) last left change → HasChangedAll (cells_seen before) last names change
   pub same : HasSameTrees before trees
+  pub rising : (d : ℕ) → IsRising (cells_seen before d) → IsRising (cells_seen trees d)
 
 by_tests : (change : Option Occupied → Option Occupied) → IsOnce change → (hit among : Bool) (o : Option Occupied) →
     cond among (change (cond hit (change o) o)) (cond hit (change o) o) ≡ cond (hit || among) (change o) o
@@ -46,10 +47,12 @@ by_tests change once true false o = refl
 by_tests change once false among o = refl
 
 pub names_step : (before trees after : Forest) (names left : List TreeName) (e : TreeName) (change : Option Occupied → Option Occupied) → IsOnce change →
-    NamesLeft before trees names (e ∷ left) change → HasChange (cells_seen trees) (cells_seen after) e.db e.name change → HasSameTrees trees after → NamesLeft before after names left change
-names_step before trees after names left e change once so_far has same = record {
+    NamesLeft before trees names (e ∷ left) change → HasChange (cells_seen trees) (cells_seen after) e.db e.name change → HasSameTrees trees after →
+    ((d : ℕ) → IsRising (cells_seen trees d) → IsRising (cells_seen after d)) → NamesLeft before after names left change
+names_step before trees after names left e change once so_far has same rising = record {
   cells = λ last changed. so_far.cells last (λ d x. step last changed d x);
   same = λ d. same d ∙ so_far.same d;
+  rising = λ d up. rising d (so_far.rising d up);
 }
   where
     step : (last : AllCells) → HasChangedAll (cells_seen after) last left change → (d : ℕ) (x : Name) →
@@ -62,4 +65,4 @@ names_step before trees after names left e change once so_far has same = record 
         ∙ by_tests change once (e.db == d && is_eq (name_cmp e.name x)) (is_among d x left) (value_at x (cells_seen trees d))
 
 pub names_begin : (trees : Forest) (names : List TreeName) (change : Option Occupied → Option Occupied) → NamesLeft trees trees names names change
-names_begin trees names change = record { cells = λ last changed. changed; same = λ d. refl }
+names_begin trees names change = record { cells = λ last changed. changed; same = λ d. refl; rising = λ d up. up }

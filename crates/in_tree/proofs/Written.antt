@@ -19,7 +19,7 @@ use Rattle.log_buffer.specs.Flip.{placed_at, end_after, end_after_all}
 use Rattle.log_buffer.specs.Growth.{Grew, Tried}
 use Rattle.log_buffer.proofs.LogPositions.{all_after}
 use Rattle.record_map.specs.declared.write.Write.{Write}
-use Rattle.record_map.specs.Cells.{value_at}
+use Rattle.record_map.specs.Cells.{value_at, IsRising}
 use Rattle.record_tree.specs.declared.tree_change.TreeChange.{TreeChange}
 use Rattle.record_tree.specs.Logged.{entry_for, LogsChanges, IsFront, is_change_of, last_change}
 use Rattle.record_tree.specs.Occupied.{AllCells, AreWritten, IsWritten, value_in, write_in}
@@ -163,6 +163,7 @@ module _ {D : Type 0} (observable : Bool) (history : D → History) (sync_out re
         (a : List Entry) × (g : List Entry) × LogsChanges txn changes a × IsFront g a × TriedFitting observable history sync_out read_out read_of faults old last g
     pub cells : (last : AllCells) → AreWritten txn left (cells_seen trees) last → AreWritten txn changes (cells_seen before) last
     pub same : HasSameTrees before trees
+    pub rising : (d : ℕ) → IsRising (cells_seen before d) → IsRising (cells_seen trees d)
 
   pub writes_begin : (txn : TxnId) (log : LogBuffer D) (trees : Forest) (changes : List TreeChange) (writes : List Write) → AllByRecursion (λ c. IsEntry (entry_for txn c.db c.name c.value)) changes →
       AllByRecursion (λ c. HasOne trees c.db c.name) changes → writes ≡ map (write_for txn) changes → (owed : ℕ) × HasRoomFor log (sizes_for changes owed) →
@@ -177,6 +178,7 @@ module _ {D : Type 0} (observable : Bool) (history : D → History) (sync_out re
     tried = λ last b f logs front tried. (b, f, logs, front, tried);
     cells = λ last written. written;
     same = λ d. refl;
+    rising = λ d up. up;
   }
 
   -- before one change more
@@ -193,8 +195,8 @@ module _ {D : Type 0} (observable : Bool) (history : D → History) (sync_out re
       WritesLeft txn old log before trees changes (c ∷ left) (write ∷ writes) → writes ≡ map (write_for txn) left →
       GrewFitting observable history sync_out read_out read_of faults log new (entry_for txn c.db c.name c.value ∷ []) → ((sizes : List ℕ) → HasRoomFor log (change_size c ∷ sizes) → HasRoomFor new sizes) →
       (at : ℕ) × HasChange (cells_seen trees) (cells_seen after) c.db c.name (with_change (record { txn = txn; at = at; value = c.value })) → KeepsCells trees after → HasSameTrees trees after →
-      WritesLeft txn old new before after changes left writes
-  writes_step txn old log new before trees after changes left c write writes so_far are grew room change kept same = record {
+      ((d : ℕ) → IsRising (cells_seen trees d) → IsRising (cells_seen after d)) → WritesLeft txn old new before after changes left writes
+  writes_step txn old log new before trees after changes left c write writes so_far are grew room change kept same rising = record {
     entries = so_far.entries.1;
     there = there_stays trees after left kept so_far.there.1;
     writes_are = are;
@@ -207,6 +209,7 @@ module _ {D : Type 0} (observable : Bool) (history : D → History) (sync_out re
         (fitting_tried observable history sync_out read_out read_of faults log new last (entry_for txn c.db c.name c.value ∷ []) f grew more);
     cells = λ last written. so_far.cells last (written_step txn c left (cells_seen trees) (cells_seen after) last change.0 change.1 written);
     same = λ d. same d ∙ so_far.same d;
+    rising = λ d up. rising d (so_far.rising d up);
   }
 
   -- a change that met a fault

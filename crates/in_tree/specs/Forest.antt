@@ -2,13 +2,15 @@
 use Rattle.std.specs.Prelude.{◌≡◌, ◌==◌, ◌&&◌, ℕ, Bool, false, refl, List, [], Option, Some, None, IsSome, is_some, map, filter, if◌then◌else◌}
 use Rattle.std.specs.Ordering.{is_eq, nat_cmp}
 use Rattle.std.specs.BTreeMap.{BTreeMap, get}
+use Rattle.std.proofs.lemmas.Map.Keys.{IsStrictlySortedBy-prop}
+use mathlib.Core.HLevel.{Π_prop}
 use Rattle.je_order.specs.Order.{name_cmp}
 use Rattle.je_order.specs.declared.name.Name.{Name}
 use Rattle.je_order.specs.declared.txn_id.TxnId.{TxnId}
 use Rattle.node_core.specs.declared.slot.Version.TheVariants.{There, Deleted}
 use Rattle.record_map.specs.declared.cell.Cell.{Cell}
 use Rattle.record_map.specs.declared.write.Write.{Write}
-use Rattle.record_map.specs.Cells.{value_at, with_version}
+use Rattle.record_map.specs.Cells.{value_at, with_version, IsRising}
 use Rattle.record_tree.specs.Occupied.{Occupied, AllCells, occupied_by, is_occupied, if_occupied, value_in, write_in}
 use Rattle.record_tree.specs.declared.tree_change.TreeChange.{TreeChange}
 use Rattle.in_tree.specs.declared.db_tree.DbTree.{DbTree}
@@ -39,6 +41,13 @@ occupied cells = filter (λ e. is_occupied e.1) (map (λ e. (e.0, occupied_by e.
 
 abbrev pub cells_seen : Forest → AllCells
 cells_seen forest d = occupied (cells_at forest d)
+
+-- the occupied names of each database are in order, of which there is one proof
+abbrev pub AreOrdered : Forest → Type 0
+AreOrdered forest = (d : ℕ) → IsRising (cells_seen forest d)
+
+pub ordered_once : (forest : Forest) → IsProp (AreOrdered forest)
+ordered_once forest = Π_prop (λ d. IsStrictlySortedBy-prop name_cmp _)
 
 -- one name of one database changed
 abbrev pub HasChange : AllCells → AllCells → ℕ → Name → (Option Occupied → Option Occupied) → Type 0

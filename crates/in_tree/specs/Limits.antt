@@ -14,7 +14,7 @@ use Rattle.log_buffer.specs.declared.buffer.LogBuffer.{LogBuffer}
 use Rattle.log_buffer.specs.Buffer.{disk_of, end_of, file_max_of, has_failed, HasRoom, IsUnchanged}
 use Rattle.log_buffer.specs.Flip.{end_after_all}
 use Rattle.log_buffer.specs.Growth.{Grew, Tried}
-use Rattle.record_tree.specs.Logged.{entry_for}
+use Rattle.record_tree.specs.Logged.{entry_for, IsImage}
 use Rattle.record_tree.specs.declared.tree_change.TreeChange.{TreeChange}
 use Rattle.record_tree.specs.declared.tree_err.TreeErr.{TreeErr}
 use Rattle.record_tree.specs.declared.tree_err.TreeErr.TheVariants.{Full, IdsEnded}
@@ -39,6 +39,10 @@ commit_sizes (suc n) = commit_size ∷ commit_sizes n
 -- the sizes of the entries of changes, and of the Commits that are owed behind them
 abbrev pub sizes_for : List TreeChange → ℕ → List ℕ
 sizes_for changes owed = map change_size changes ++ commit_sizes owed
+
+-- entries that are no images of nodes
+abbrev pub ArePlain : List Entry → Type 0
+ArePlain entries = AllByRecursion (λ e. IsImage e → ⊥) entries
 
 -- how many databases changes make
 abbrev pub one_made : Option ℕ → ℕ
@@ -77,10 +81,11 @@ module _ {D : Type 0} where
     pub entries_are : AllByRecursion (λ e. IsEntry e × (may_follow e ≡ true)) entries
     pub room : (end_after_all (file_max_of log) (end_of log) (map size_of entries)).file ≤ last_file
 
-  -- the log got these entries, which fit it, and nothing happened where there are none; no count of the disk's faults fell
+  -- the log got these entries, which fit it and are no images of nodes, and nothing happened where there are none; no count of the disk's faults fell
   pub record GrewFitting (observable : Bool) (history : D → History) (sync_out read_out : D → Option ℕ) (read_of : D → ℕ) (faults : D → ℕ) (old new : LogBuffer D) (entries : List Entry) : Type 0 where
     pub grew : Grew observable history sync_out read_out read_of old new entries
     pub fits : FitsLog old entries
+    pub plain : ArePlain entries
     pub none : entries ≡ [] → IsUnchanged old new
     pub never_falls : faults (disk_of old) ≤ faults (disk_of new)
 

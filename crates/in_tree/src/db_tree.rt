@@ -179,6 +179,7 @@ impl DbTree {
         requires { IsSome (value_at name.now self.old.cells) }
         ensures cells { (x : Name) → value_at x (occupied self.new.cells) ≡ (if is_eq (name_cmp name.now x) then with_change write.value (value_at x (occupied self.old.cells)) else value_at x (occupied self.old.cells)) }
         ensures kept { (x : Name) → IsSome (value_at x self.old.cells) → IsSome (value_at x self.new.cells) }
+        ensures rising { IsRising (occupied self.new.cells) }
     {
         let _len = self.cells.len();
         self.cells.set_write(name, Some(write));
@@ -186,7 +187,8 @@ impl DbTree {
 
     // Commits the name's change, by the Commit at `at`.
     pub(crate) fn commit_write(&mut self, name: &SortKey, at: Lsn)
-        ensures { (x : Name) → value_at x (occupied self.new.cells) ≡ (if is_eq (name_cmp name.now x) then after_commit (value_at x (occupied self.old.cells)) else value_at x (occupied self.old.cells)) }
+        ensures cells { (x : Name) → value_at x (occupied self.new.cells) ≡ (if is_eq (name_cmp name.now x) then after_commit (value_at x (occupied self.old.cells)) else value_at x (occupied self.old.cells)) }
+        ensures rising { IsRising (occupied self.new.cells) }
     {
         let _before = self.cells.len();
         match self.written_at(name, at) {
@@ -277,6 +279,7 @@ impl DbTree {
         ensures cells { (x : Name) → value_at x self.new.cells ≡ (if is_eq (name_cmp name.now x) then given_up (value_at name.now self.old.cells) else value_at x self.old.cells) }
         ensures tree { (es : Placed) (base : ℕ) (newest : Name → ℕ) → IsTree es base newest self.old.levels self.old.cells → IsTree es base newest self.new.levels self.new.cells }
         ensures levels { self.new.levels ≡ self.old.levels }
+        ensures rising { IsRising (occupied self.new.cells) }
     {
         let _before = self.cells.len();
         give_up(&mut self.cells, name);

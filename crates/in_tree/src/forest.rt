@@ -54,6 +54,7 @@ pub(crate) fn set_write(
     ensures cells { HasChange (cells_seen trees.old) (cells_seen trees.new) db name.now (with_change write.value) }
     ensures kept { KeepsCells trees.old trees.new }
     ensures trees { HasSameTrees trees.old trees.new }
+    ensures rising { (d : ℕ) → IsRising (cells_seen trees.old d) → IsRising (cells_seen trees.new d) }
 {
     match trees.get_mut(&db) {
         Some(tree) => tree.put_write(name, write),
@@ -65,6 +66,7 @@ pub(crate) fn set_write(
 pub(crate) fn commit(trees: &mut BTreeMap<u32, DbTree>, db: u32, name: &SortKey, at: Lsn)
     ensures cells { HasChange (cells_seen trees.old) (cells_seen trees.new) db name.now after_commit }
     ensures trees { HasSameTrees trees.old trees.new }
+    ensures rising { (d : ℕ) → IsRising (cells_seen trees.old d) → IsRising (cells_seen trees.new d) }
 {
     if let Some(tree) = trees.get_mut(&db) {
         tree.commit_write(name, at);
@@ -75,6 +77,7 @@ pub(crate) fn commit(trees: &mut BTreeMap<u32, DbTree>, db: u32, name: &SortKey,
 pub(crate) fn abort(trees: &mut BTreeMap<u32, DbTree>, db: u32, name: &SortKey)
     ensures cells { HasChange (cells_seen trees.old) (cells_seen trees.new) db name.now after_abort }
     ensures trees { HasSameTrees trees.old trees.new }
+    ensures rising { (d : ℕ) → IsRising (cells_seen trees.old d) → IsRising (cells_seen trees.new d) }
 {
     if let Some(tree) = trees.get_mut(&db) {
         tree.abort(name);

@@ -14,6 +14,7 @@ pub mod loaded_trees;
 mod loading;
 pub mod log_node;
 pub mod log_trees;
+pub mod observed;
 mod preparing;
 mod reading;
 pub mod splitting;

@@ -1,5 +1,6 @@
 // The trees of an environment while its log is read again.
 ghost use Rattle.std.specs.Prelude.{◌≡◌, ◌≤◌, ℕ, [], false, map, OnOk};
+ghost use Rattle.record_map.specs.Cells.{IsRising};
 ghost use Rattle.record_tree.specs.Stored.{AreStoredStill};
 ghost use Rattle.in_tree.specs.Stored.{committed_cell};
 ghost use Rattle.in_tree.specs.Whole.{has_tree_in, seen_in, stored_within};
@@ -55,6 +56,7 @@ impl LoadedTrees {
     pub(crate) fn into_trees(self) -> Trees
         ensures trees { result ≡ self }
         ensures seen { (d : ℕ) → seen_in result d ≡ map committed_cell (stored_within self d) }
+        ensures rising { (d : ℕ) → IsRising (seen_in result d) }
     {
         let LoadedTrees { trees } = self;
         trees

@@ -8,11 +8,10 @@ ghost use Rattle.log_buffer.specs.Buffer.{has_failed, IsUnchanged};
 ghost use Rattle.record_tree.specs.Logged.{entry_for, is_made, IsLimit, IsEndOf, LogsChanges, IsFront};
 ghost use Rattle.record_tree.specs.Occupied.{AreSame, AreWritten};
 ghost use Rattle.record_tree.specs.declared.tree_err.TreeErr.{TreeErr as Reason};
-ghost use Rattle.in_tree.specs.Forest.{cells_seen, is_there, HasSameTrees, HasOne, write_for};
+ghost use Rattle.in_tree.specs.Forest.{AreOrdered, cells_seen, is_there, ordered_once, HasSameTrees, HasOne, write_for};
 ghost use Rattle.in_tree.specs.Stored.{committed_cell};
 ghost use Rattle.in_tree.specs.Whole.{seen_in, has_tree_in, stored_within};
 ghost use Rattle.in_tree.specs.Limits.{sizes_for, commit_sizes, count_made, limit_of, end_behind, HasRoomFor, GrewFitting, TriedFitting};
-ghost use Rattle.in_tree.specs.Observed.{limit_in};
 
 use crate::preparing::{give_back, make_all, put_cells, writes_for};
 use crate::trees::LAST_NODE;
@@ -31,6 +30,7 @@ pub struct LogTrees<D> {
     pub log: LogBuffer<D>,
     /// The trees.
     pub(crate) trees: Trees,
+    ghost ordered: { AreOrdered trees.forest } by { ordered_once trees.forest },
 }
 
 // How many databases the changes make.
@@ -78,15 +78,6 @@ impl<D: Disk> LogTrees<D> {
         (log, trees)
     }
 
-    /// The log alone.
-    pub fn into_log(self) -> LogBuffer<D>
-        ensures { result ≡ self.log }
-    {
-        let LogTrees { log, trees } = self;
-        drop(trees);
-        log
-    }
-
     // Whether entries of these sizes pass the last file.
     fn passes(&self, sizes: &[u32]) -> bool
         ensures { result ≡ nat_lt last_file (end_behind self.now.log sizes.now) }
@@ -123,31 +114,6 @@ impl<D: Disk> LogTrees<D> {
             return Err(TreeErr::IdsEnded);
         }
         Ok(sizes)
-    }
-
-    /// The limit that changes of the transaction would meet, with `owed` Commits behind them, if there is one: Full or IdsEnded. Nothing
-    /// changes, and it takes no lasting memory. The one error is that memory runs out.
-    pub fn find_limit(
-        &self,
-        alloc: Global,
-        txn: TxnId,
-        changes: &[TreeChange],
-        owed: u32,
-    ) -> Result<Option<TreeErr>, AllocError>
-        requires entries { AllByRecursion (λ c. IsEntry (entry_for txn c.db c.name c.value)) changes.now }
-        requires works { has_failed self.now.log ≡ false }
-        ensures { IfOk result (λ limit. limit ≡ limit_in self.now changes.now owed) }
-    {
-        match self.check(alloc, txn, changes, owed) {
-            Ok(sizes) => {
-                drop(sizes);
-                Ok(None)
-            }
-            Err(TreeErr::Full) => Ok(Some(TreeErr::Full)),
-            Err(TreeErr::IdsEnded) => Ok(Some(TreeErr::IdsEnded)),
-            Err(TreeErr::Memory) => Err(AllocError),
-            Err(TreeErr::Fault) => unreachable!(),
-        }
     }
 
     // Makes trees, cells and room in the log. Where memory runs out, some of it is left.

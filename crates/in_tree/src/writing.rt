@@ -5,6 +5,7 @@ ghost use Rattle.log_entry.specs.Body.{IsEntry};
 ghost use Rattle.log_entry.specs.Parts.{entry_by};
 ghost use Rattle.log_entry.specs.declared.entry.Entry.{Entry};
 ghost use Rattle.log_entry.specs.declared.entry.Entry.TheVariants.{Commit as Committed};
+ghost use Rattle.record_map.specs.Cells.{IsRising};
 ghost use Rattle.record_tree.specs.Logged.{entry_for, LogsChanges, IsFront};
 ghost use Rattle.record_tree.specs.Occupied.{AreWritten, HasChangedAll, after_commit, after_abort};
 ghost use Rattle.record_tree.specs.declared.tree_err.TreeErr.{TreeErr as Reason};
@@ -123,6 +124,7 @@ fn write_one<D: Disk>(
     ensures cells { OnOk result ((at : ℕ) × HasChange (cells_seen trees.old) (cells_seen trees.new) change.now.db change.now.name (with_change (record { txn = txn; at = at; value = change.now.value }))) }
     ensures kept { KeepsCells trees.old trees.new }
     ensures trees { HasSameTrees trees.old trees.new }
+    ensures rising { (d : ℕ) → IsRising (cells_seen trees.old d) → IsRising (cells_seen trees.new d) }
 {
     let at = log_one(log, txn, change)?;
     let mut write = write;
@@ -149,6 +151,7 @@ pub(crate) fn write_each<D: Disk>(
     ensures by_fault { IfErr result (λ e. e ≡ Reason.Fault) }
     ensures cells { OnOk result (AreWritten txn changes.now (cells_seen trees.old) (cells_seen trees.new)) }
     ensures trees { HasSameTrees trees.old trees.new }
+    ensures rising { (d : ℕ) → IsRising (cells_seen trees.old d) → IsRising (cells_seen trees.new d) }
 {
     let mut writes = writes.into_iter();
     for change in changes {
@@ -179,6 +182,7 @@ pub(crate) fn log_commit<D: Disk>(log: &mut LogBuffer<D>, txn: TxnId) -> Result<
 pub(crate) fn commit_each(trees: &mut BTreeMap<u32, DbTree>, names: &[TreeName], at: Lsn)
     ensures cells { HasChangedAll (cells_seen trees.old) (cells_seen trees.new) names.now after_commit }
     ensures trees { HasSameTrees trees.old trees.new }
+    ensures rising { (d : ℕ) → IsRising (cells_seen trees.old d) → IsRising (cells_seen trees.new d) }
 {
     for name in names {
         forest::commit(trees, name.db, &name.name, at);
@@ -189,6 +193,7 @@ pub(crate) fn commit_each(trees: &mut BTreeMap<u32, DbTree>, names: &[TreeName],
 pub(crate) fn abort_each(trees: &mut BTreeMap<u32, DbTree>, names: &[TreeName])
     ensures cells { HasChangedAll (cells_seen trees.old) (cells_seen trees.new) names.now after_abort }
     ensures trees { HasSameTrees trees.old trees.new }
+    ensures rising { (d : ℕ) → IsRising (cells_seen trees.old d) → IsRising (cells_seen trees.new d) }
 {
     for name in names {
         forest::abort(trees, name.db, &name.name);

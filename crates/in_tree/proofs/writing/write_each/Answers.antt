@@ -76,7 +76,7 @@ loop-change-preserved g c =
     writes_step g.D.Disk.observable g.D.Disk.history g.D.Disk.sync_out g.D.Disk.read_out g.D.Disk.read_of g.D.Disk.faults c.args.txn c.args.log.now c.loop-change.log c.write_one.new.log c.args.trees.now c.loop-change.trees c.write_one.new.trees changes (drop (i + 1) changes) c.change-item.result
     c.in-Some.write.value (map value_of c.next.new.self.rest.items) turn
     (rests_same c.in-Some.write.value (write_for c.args.txn c.change-item.result) (map value_of c.next.new.self.rest.items) (map (write_for c.args.txn) (drop (i + 1) changes)) turn.writes_are)
-    done.grew done.left done.cells c.write_one.ensures.kept c.write_one.ensures.trees
+    done.grew done.left done.cells c.write_one.ensures.kept c.write_one.ensures.trees c.write_one.ensures.rising
 
 pub returns-clause-grew : goal.returns-clause-grew
 returns-clause-grew g c =
@@ -104,3 +104,9 @@ returns-clause-cells g c =
 
 pub returns-clause-trees : goal.returns-clause-trees
 returns-clause-trees g c = c.loop-change.invariant.same
+
+pub returns-clause-rising : goal.returns-clause-rising
+returns-clause-rising g c = c.loop-change.invariant.rising
+
+pub returns-in_err-write_one-in-Some-clause-rising : goal.returns-in_err-write_one-in-Some-clause-rising
+returns-in_err-write_one-in-Some-clause-rising g c = λ d up. c.write_one.ensures.rising d (c.loop-change.invariant.rising d up)

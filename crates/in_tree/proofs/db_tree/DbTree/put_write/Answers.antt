@@ -2,7 +2,7 @@ use Rattle.std.proofs.Common.{◌≡◌, ◌∙◌, Option, Some, IsSome, option
 use Rattle.record_map.specs.declared.cell.Cell.{Cell}
 use Rattle.record_map.specs.Cells.{value_at, with_write}
 use Rattle.in_tree.specs.Forest.{seen, with_change}
-use Rattle.in_tree.proofs.Seen.{change_seen, write_seen_at, kept_put, some_mapped}
+use Rattle.in_tree.proofs.Seen.{change_seen, write_seen_at, kept_put, some_mapped, occupied_rises}
 use Rattle.in_tree.proofs.db_tree.DbTree.put_write.Goals as goal
 
 pub returns-clause-cells : goal.returns-clause-cells
@@ -16,3 +16,6 @@ returns-clause-kept c =
     let old = c.args.self.now.cells in
     kept_put old c.set_write.new.self c.args.name.now (option_map (with_write (Some c.args.write)) (value_at c.args.name.now old)) c.set_write.ensures.others
     (some_mapped (with_write (Some c.args.write)) (value_at c.args.name.now old) c.requires)
+
+pub returns-clause-rising : goal.returns-clause-rising
+returns-clause-rising c = occupied_rises c.set_write.new.self c.set_write.ensures.rising
