@@ -10,7 +10,7 @@ use je_lsn::Lsn;
 use je_order::{Name, Octets, copy_of};
 use node_core::Node;
 use record_map::SortKey;
-use record_tree::{LoadErr, Loads, StoredRecord, TreeErr};
+use record_tree::{LoadErr, Loads, StoredRecord};
 use std::alloc::{AllocError, Global};
 use std::marker::Model;
 
@@ -60,15 +60,11 @@ impl LoadedTrees {
         trees
     }
 
-    // Takes a node's number as allocated. IdsEnded where it is above the last one.
-    fn take_number(&mut self, number: u64) -> Result<(), LoadErr>
+    // Takes a node's number as allocated, up to the last one.
+    fn take_number(&mut self, number: u64)
         ensures { self.new.forest ≡ self.old.forest }
     {
-        if number > LAST_NODE {
-            return Err(LoadErr::IdsEnded);
-        }
-        self.trees.last_node = self.trees.last_node.max(number);
-        Ok(())
+        self.trees.last_node = self.trees.last_node.max(number).min(LAST_NODE);
     }
 }
 
@@ -85,7 +81,7 @@ impl Loads for LoadedTrees {
     ghost none_stored = { λ x d none. none_stored (get nat_cmp x.forest d) none };
 
     fn begin_redo(&mut self, last_node: u64, _from: Lsn) {
-        self.trees.last_node = self.trees.last_node.max(last_node).min(LAST_NODE);
+        self.take_number(last_node);
     }
 
     fn is_made(&self, db: u32) -> bool {
@@ -97,11 +93,10 @@ impl Loads for LoadedTrees {
     }
 
     fn make(&mut self, alloc: Global, db: u32) -> Result<(), LoadErr> {
-        match self.trees.make(alloc, db) {
-            Ok(()) => Ok(()),
-            Err(TreeErr::IdsEnded) => Err(LoadErr::IdsEnded),
-            Err(_) => Err(LoadErr::Memory),
-        }
+        let number = self.trees.last_node.saturating_add(1).min(LAST_NODE);
+        forest::make(&mut self.trees.forest, alloc, db, number)?;
+        self.take_number(number);
+        Ok(())
     }
 
     fn load_node(
@@ -111,7 +106,7 @@ impl Loads for LoadedTrees {
         low: &Name,
         at: Lsn,
     ) -> Result<(), LoadErr> {
-        self.take_number(node.number)?;
+        self.take_number(node.number);
         loading::load_node(&mut self.trees.forest, alloc, node, low, at)?;
         Ok(())
     }
