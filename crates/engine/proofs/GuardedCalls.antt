@@ -45,8 +45,7 @@ use Rattle.engine.proofs.GuardLaws.{goes_freely, guarded_quiet, keeping_read, ke
 use Rattle.engine.proofs.ObservedLaws.{as_observed, of_observed}
 use Rattle.engine.proofs.SafeLaws.{attempts-push, guarded_on}
 use Rattle.engine.proofs.SyncLaws.{passes_now}
-use Rattle.engine.proofs.PlannedCalls.{are_planned}
-use Rattle.engine.proofs.TransactionGrowth.{MayGrow, recovers_on, recovers_tried, sound_of}
+use Rattle.engine.proofs.TransactionGrowth.{MayGrow, may_grow, recovers_on, recovers_tried}
 
 -- the event of a call's answer
 abbrev pub call_event : ℕ → ℕ → Call → Answer → Event
@@ -177,23 +176,17 @@ module _ {D : Type 0} where
       (λ fault. (before, (works (sym (ap (λ (s : Standing). s.fault) then_) ∙ fault)).1))
       (goes_freely st log start old new buffer journal None g before)
 
-  module _ (observable : Bool) (history : D → History) (sync_out read_out : D → Option ℕ) (read_of : D → ℕ) where
-    -- the guarded log gives the records, and planned changes may be logged behind it
-    may_grow : (most : ℕ) (buffer : LogBuffer D) (log : Log) (c : Contents) (p : Alone) (session : ℕ) (call : Call) (planned : PlannedChanges) → observable ≡ true →
-        AreAlone most observable (now (history (disk_of buffer))) buffer c p → p.fault ≡ None → (plan : IsPlannedLog (known c) p session call planned) → planned.last_db ≤ LAST_DATABASE →
-        HasLog true (now (history (disk_of buffer))) buffer log → MayGrow observable history sync_out read_out read_of buffer log c plan.change plan.more planned
-    may_grow most buffer log c p session call planned observed at none plan low has =
-        let state : State = now (history (disk_of buffer)) in
-        let v = at.valid none in
-        let same : v.log ≡ log = one_log state buffer v.log log (of_observed observable state buffer v.log observed v.has) has in
-        let gives : GivesRecords log (end_of buffer) c = subst (λ (l : Log). GivesRecords l (end_of buffer) c) same v.gives in
-        record {
-          has = as_observed observable state buffer log observed has;
-          gives = gives;
-          are = are_planned c p session call planned (sound_of log (end_of buffer) c gives) plan (omega (arith, low));
-          last_db = plan.last_db;
-        }
+  -- the guarded log gives the records, and planned changes may be logged behind it
+  growing : (most : ℕ) (observable : Bool) (state : State) (buffer : LogBuffer D) (log : Log) (c : Contents) (p : Alone) (session : ℕ) (call : Call) (planned : PlannedChanges) → observable ≡ true →
+      AreAlone most observable state buffer c p → p.fault ≡ None → (plan : IsPlannedLog (known c) p session call planned) → planned.last_db ≤ LAST_DATABASE → HasLog true state buffer log →
+      MayGrow observable state buffer log c plan.change plan.more planned
+  growing most observable state buffer log c p session call planned observed at none plan low has =
+      let v = at.valid none in
+      let same : v.log ≡ log = one_log state buffer v.log log (of_observed observable state buffer v.log observed v.has) has in
+      may_grow observable state buffer log c p session call planned (as_observed observable state buffer log observed has)
+      (subst (λ (l : Log). GivesRecords l (end_of buffer) c) same v.gives) plan (omega (arith, low))
 
+  module _ (observable : Bool) (history : D → History) (sync_out read_out : D → Option ℕ) (read_of : D → ℕ) where
     -- the disk failed while a transaction was appended
     guarded_fault : (st : Standing) (log : Log) (start : History) (buffer other : LogBuffer D) (journal : List Event) (p : Alone) (event : Event) (changes : List Change) (front : List Entry) (logged cut : List (List Change)) →
         observable ≡ true → (g : IsGuardedLog st log start (history (disk_of buffer)) buffer journal None) → IsKeeping (now (history (disk_of buffer))) buffer log g.least None →
@@ -227,7 +220,7 @@ module _ {D : Type 0} where
         let appended = logs.4 in
         let entries : List Entry = appended.entries in
         let grew = appended.grew in
-        let may = may_grow most buffer log old p session call planned observed at none plan logs.2 keeping.has in
+        let may = growing most observable (now (history (disk_of buffer))) buffer log old p session call planned observed at none plan logs.2 keeping.has in
         let recovers = recovers_on observable history sync_out read_out read_of buffer other log old plan.change plan.more planned may appended g.kept.first st.store g.base g.kept.logged g.kept.recovers in
         let kept : IsKeeping (now (history (disk_of other))) other (longer buffer entries log) g.least None = record {
           has = of_observed observable (now (history (disk_of other))) other (longer buffer entries log) observed (grew.log log has);
@@ -242,7 +235,7 @@ module _ {D : Type 0} where
               (λ fault. (kept, refl)) (λ fault. refl) (λ ok. none),
         )
     guarded_logs most st log start buffer other old new journal p session line call planned found (Ok DiskFault) observed stands at none is plan logs g =
-        let may = may_grow most buffer log old p session call planned observed at none plan logs.1 keeping.has in (
+        let may = growing most observable (now (history (disk_of buffer))) buffer log old p session call planned observed at none plan logs.1 keeping.has in (
           longer buffer front log,
           by_recovered (recovers_tried observable history sync_out read_out read_of buffer other log old plan.change plan.more planned may logs.3 g.kept.first st.store g.base g.kept.logged g.kept.recovers),
         )

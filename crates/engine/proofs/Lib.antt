@@ -76,3 +76,5 @@ pub mod PlannedNumbers
 pub mod PlannedCalls
 -- A log that is longer by a transaction.
 pub mod TransactionGrowth
+-- The records that trees have once changes are committed.
+pub mod CommittedRows

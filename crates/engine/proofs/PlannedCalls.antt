@@ -1,6 +1,8 @@
 -- What calls plan to log: changes of which all but the first are of records. What they leave of the records and of the numbers of databases.
-use Rattle.std.proofs.Common.{◌≡◌, ℕ, ◌<◌, ◌^◌, ◌||◌, false, cond, List, [], ◌∷◌, Option, None, Some, ap, subst, ◌∙◌}
-use Rattle.std.specs.List.{AllByRecursion}
+use Rattle.std.proofs.Common.{◌≡◌, ℕ, ◌<◌, ◌≤◌, ◌^◌, ◌==◌, ◌||◌, nat_lt, arith, map, refl, sym, Bool, true, false, cond, List, [], ◌∷◌, Option, None, Some, ap, subst, ◌∙◌}
+use Rattle.std.specs.Prelude.{IfSome}
+use Rattle.std.specs.List.{AllByRecursion, list_any}
+use Rattle.std.proofs.lemmas.Bool.{and_parts, eq-eqb, eqb-true, ltb-true, ne_eqb, or_from, or_left, or_right}
 use mathlib.Core.Path.{fun_ext}
 use Rattle.store_model.specs.declared.answer.Answer.{Answer}
 use Rattle.store_model.specs.declared.call.Call.{Call}
@@ -16,14 +18,17 @@ use Rattle.db_catalog.specs.Planning.{outcome_unless}
 use Rattle.je_answers.specs.Views.{Target, target_of, changes_on}
 use Rattle.je_answers.specs.Refusals.{late_refusal}
 use Rattle.je_answers.specs.Alone.{Alone, alone, evaluated_on}
-use Rattle.log_replay.specs.Rows.{Rows, numbers_of}
+use Rattle.log_replay.specs.Rows.{Row, Rows, catalog_number, numbers_of}
 use Rattle.log_replay.specs.Kept.{IsRecordChange}
+use Rattle.log_replay.proofs.StoreLaws.{number_of_row}
 use Rattle.log_replay.proofs.LoggedLaws.{IsSound}
-use Rattle.record_tree.specs.Logged.{is_made}
+use Rattle.record_tree.specs.declared.tree_change.TreeChange.{TreeChange}
+use Rattle.record_tree.specs.Logged.{is_made, makes_db}
 use Rattle.txn_core.specs.declared.planned_changes.PlannedChanges.{PlannedChanges}
 use Rattle.txn_core.specs.Known.{has_number}
 use Rattle.txn_core.specs.Planning.{outcome_on, performed_outcome, outcome_alone, IsPlannedLog}
-use Rattle.engine.specs.Contents.{Contents, known, is_gone, rows_after, HasLogged}
+use Rattle.txn_core.specs.Transactions.{is_gone, HasTreesAfter}
+use Rattle.engine.specs.Contents.{Contents, known, rows_after, HasLogged}
 use Rattle.engine.proofs.PlannedRows.{ArePlanned}
 use Rattle.engine.proofs.PlannedNumbers.{planned_numbers}
 
@@ -84,7 +89,7 @@ are_planned c p session call planned sound l fits = record { sound = sound; logs
 -- a database is the catalog or has a name behind planned changes if it is made, or was and had before, and is not the one that goes
 pub planned_databases : (c : Contents) (p : Alone) (session : ℕ) (call : Call) (planned : PlannedChanges) → IsSound c.rows c.last_db → IsPlannedLog (known c) p session call planned →
     planned.last_db < 2 ^ 32 → (d : ℕ) → has_number (numbers_of (rows_after planned.changes.items planned.gone c.rows)) d
-    ≡ cond (is_gone planned.gone d) false (is_made d planned.changes.items || has_number (numbers_of c.rows) d)
+    ≡ cond (is_gone d planned.gone) false (is_made d planned.changes.items || has_number (numbers_of c.rows) d)
 planned_databases c p session call planned sound l fits =
     planned_numbers c.rows c.last_db planned.last_db l.change l.more planned.changes.items planned.gone (are_planned c p session call planned sound l fits)
     (later_records p session call l.change l.more l.changes) l.last_db (l.made fits)
@@ -92,6 +97,47 @@ planned_databases c p session call planned sound l fits =
 -- so it is with the records that were logged
 pub logged_databases : (c new : Contents) (p : Alone) (session : ℕ) (call : Call) (planned : PlannedChanges) → IsSound c.rows c.last_db → IsPlannedLog (known c) p session call planned →
     planned.last_db < 2 ^ 32 → HasLogged c new planned → (d : ℕ) → has_number (numbers_of new.rows) d
-    ≡ cond (is_gone planned.gone d) false (is_made d planned.changes.items || has_number (numbers_of c.rows) d)
+    ≡ cond (is_gone d planned.gone) false (is_made d planned.changes.items || has_number (numbers_of c.rows) d)
 logged_databases c new p session call planned sound l fits logged d =
     ap (λ (r : Rows). has_number (numbers_of r) d) (fun_ext logged.rows) ∙ planned_databases c p session call planned sound l fits d
+
+-- ---- trees
+
+-- where each database that has a name has a tree, and no other one, so it is behind the changes
+pub trees_logged : (c new : Contents) (p : Alone) (session : ℕ) (call : Call) (planned : PlannedChanges) (old_trees new_trees : ℕ → Bool) → IsSound c.rows c.last_db →
+    IsPlannedLog (known c) p session call planned → planned.last_db < 2 ^ 32 → HasLogged c new planned → ((d : ℕ) → old_trees d ≡ has_number (numbers_of c.rows) d) →
+    HasTreesAfter planned.changes.items planned.gone old_trees new_trees → (d : ℕ) → new_trees d ≡ has_number (numbers_of new.rows) d
+trees_logged c new p session call planned old_trees new_trees sound l fits logged old after d =
+    after d
+    ∙ ap (λ (b : Bool). cond (is_gone d planned.gone) false (is_made d planned.changes.items || b)) (old d)
+    ∙ sym (logged_databases c new p session call planned sound l fits logged d)
+
+none_named : (last_db d : ℕ) (rows : List Row) → last_db < d → AllByRecursion (λ (r : Row). catalog_number r.1 ≤ last_db) rows → list_any (λ n. n == d) (map number_of_row rows) ≡ false
+none_named last_db d [] above all = refl
+none_named last_db d (r ∷ rows) above all =
+    or_from (catalog_number r.1 == d) (list_any (λ n. n == d) (map number_of_row rows)) (ne_eqb (catalog_number r.1) d (λ e. let low : catalog_number r.1 ≤ last_db = all.0 in absurd (omega (arith, e, low, above))))
+    (none_named last_db d rows above all.1)
+
+-- a number that was not allocated is in no catalog
+pub later_is_new : (rows : Rows) (last_db d : ℕ) → IsSound rows last_db → last_db < d → has_number (numbers_of rows) d ≡ false
+later_is_new rows last_db d sound above =
+    or_from (d == 0) (list_any (λ n. n == d) (numbers_of rows)) (ne_eqb d 0 (λ e. absurd (omega (arith, e, above)))) (none_named last_db d (rows 0) above sound.numbers)
+
+each_makes : (P : ℕ → Type 0) (changes : List TreeChange) → ((d : ℕ) → is_made d changes ≡ true → P d) → AllByRecursion (λ e. IfSome e.makes P) changes
+each_makes P [] made = tt
+each_makes P (c ∷ changes) made = (by_makes c.makes refl, each_makes P changes (λ d is. made d (or_right (makes_db d c.makes) (is_made d changes) is)))
+  where
+    by_makes : (o : Option ℕ) → c.makes ≡ o → IfSome o P
+    by_makes None is = tt
+    by_makes (Some d) is = made d (or_left (makes_db d c.makes) (is_made d changes) (ap (makes_db d) is ∙ eq-eqb d d refl))
+
+-- each database that planned changes make is a new one
+pub made_are_new : (c : Contents) (p : Alone) (session : ℕ) (call : Call) (planned : PlannedChanges) → IsSound c.rows c.last_db → IsPlannedLog (known c) p session call planned →
+    planned.last_db < 2 ^ 32 → AllByRecursion (λ e. IfSome e.makes (λ d. has_number (numbers_of c.rows) d ≡ false)) planned.changes.items
+made_are_new c p session call planned sound l fits =
+    each_makes (λ d. has_number (numbers_of c.rows) d ≡ false) planned.changes.items
+    (λ d is.
+    let parts = and_parts (nat_lt c.last_db planned.last_db) (d == planned.last_db) (sym (l.made fits d) ∙ is) in
+    let above = ltb-true c.last_db planned.last_db parts.0 in
+    let at = eqb-true d planned.last_db parts.1 in
+    later_is_new c.rows c.last_db d sound (omega (arith, above, at)))

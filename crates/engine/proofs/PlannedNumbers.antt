@@ -21,7 +21,8 @@ use Rattle.record_tree.specs.declared.tree_change.TreeChange.{TreeChange}
 use Rattle.record_tree.specs.Logged.{is_made}
 use Rattle.txn_core.specs.Known.{has_number}
 use Rattle.txn_core.specs.Planning.{gone_by}
-use Rattle.engine.specs.Contents.{is_gone, rows_after}
+use Rattle.engine.specs.Contents.{rows_after}
+use Rattle.txn_core.specs.Transactions.{is_gone}
 use Rattle.engine.proofs.PlannedRows.{ArePlanned, each_named, apart_named, planned_rows}
 
 -- ---- numbers and names
@@ -66,8 +67,8 @@ with_there name n numbers other differ = cond-false (is_same_bytes other name) n
 
 -- which numbers there are after a change: one that was there before, or the one that is allocated; and one of those that were there goes
 record NumbersChange (last_db now : ℕ) (gone : Option ℕ) (old new : List ℕ → ℕ) : Type 0 where
-  forth : (name : List ℕ) → new name ≢ 0 → (is_gone gone (new name) ≡ false) × (((last_db < now) × (new name ≡ now)) ⊎ ((other : List ℕ) × (old other ≡ new name)))
-  back : (name : List ℕ) → old name ≢ 0 → is_gone gone (old name) ≡ false → (other : List ℕ) × (new other ≡ old name)
+  forth : (name : List ℕ) → new name ≢ 0 → (is_gone (new name) gone ≡ false) × (((last_db < now) × (new name ≡ now)) ⊎ ((other : List ℕ) × (old other ≡ new name)))
+  back : (name : List ℕ) → old name ≢ 0 → is_gone (old name) gone ≡ false → (other : List ℕ) × (new other ≡ old name)
   made : last_db < now → (name : List ℕ) × (new name ≡ now)
 
 -- where no number changes
@@ -99,13 +100,13 @@ number_replaced rows last_db now next db sound there which = record {
       (λ (same : is_same_bytes name db ≡ true). here name has (with_here db next (number_named rows) name same) which)
       (λ (differ : is_same_bytes name db ≡ false).
       let is : with_number db next (number_named rows) name ≡ number_named rows name = with_there db next (number_named rows) name differ in (
-        ap (λ (n : ℕ). number_named rows db == n) is ∙ ne_eqb (number_named rows db) (number_named rows name) (apart name differ),
+        ap (λ (n : ℕ). n == number_named rows db) is ∙ ne_eqb (number_named rows name) (number_named rows db) (apart name differ),
         inr (name, sym is),
       ))
       (cases_Bool (is_same_bytes name db));
   back = λ name has stays.
       ⊎_elim
-      (λ (same : is_same_bytes name db ≡ true). absurd (true≢false (sym (eq-eqb (number_named rows db) (number_named rows name) (ap (number_named rows) (sym (same_is name db same)))) ∙ stays)))
+      (λ (same : is_same_bytes name db ≡ true). absurd (true≢false (sym (eq-eqb (number_named rows name) (number_named rows db) (ap (number_named rows) (same_is name db same))) ∙ stays)))
       (λ (differ : is_same_bytes name db ≡ false). (name, with_there db next (number_named rows) name differ))
       (cases_Bool (is_same_bytes name db));
   made = λ lt.
@@ -114,18 +115,18 @@ number_replaced rows last_db now next db sound there which = record {
       (λ (later : (next ≡ now) × (now ≡ last_db + 1)). (db, with_here db next (number_named rows) db (same_itself db) ∙ later.0))
       which;
 } where
-  apart : (name : List ℕ) → is_same_bytes name db ≡ false → number_named rows db ≢ number_named rows name
-  apart name differ same = true≢false (sym (apart_named rows last_db db name sound there (sym same)) ∙ differ)
+  apart : (name : List ℕ) → is_same_bytes name db ≡ false → number_named rows name ≢ number_named rows db
+  apart name differ same = true≢false (sym (apart_named rows last_db db name sound there same) ∙ differ)
 
   here : (name : List ℕ) → with_number db next (number_named rows) name ≢ 0 → with_number db next (number_named rows) name ≡ next →
       ((next ≡ 0) × (now ≡ last_db)) ⊎ ((next ≡ now) × (now ≡ last_db + 1)) →
-      (is_gone (Some (number_named rows db)) (with_number db next (number_named rows) name) ≡ false)
+      (is_gone (with_number db next (number_named rows) name) (Some (number_named rows db)) ≡ false)
       × (((last_db < now) × (with_number db next (number_named rows) name ≡ now)) ⊎ ((other : List ℕ) × (number_named rows other ≡ with_number db next (number_named rows) name)))
   here name has is (inl none) = absurd (has (is ∙ none.0))
   here name has is (inr later) =
       let low = number-within rows last_db db sound there in
       let at : now ≡ last_db + 1 = later.1 in (
-        ap (λ (n : ℕ). number_named rows db == n) (is ∙ later.0) ∙ ne_eqb (number_named rows db) now (λ e. absurd (omega (arith, e, low, at))),
+        ap (λ (n : ℕ). n == number_named rows db) (is ∙ later.0) ∙ ne_eqb now (number_named rows db) (λ e. absurd (omega (arith, e, low, at))),
         inl (omega (arith, at), is ∙ later.0),
       )
 
@@ -202,19 +203,19 @@ both_ways false true forth back = back refl
 both_ways false false forth back = refl
 
 -- the catalog's numbers after a change, by a test
-numbers_told : (rows after : Rows) (last_db now : ℕ) (gone : Option ℕ) (d : ℕ) (makes : Bool) → IsEnvironment rows → IsRising (rows 0) → IsEnvironment after → IsRising (after 0) → is_gone gone 0 ≡ false →
+numbers_told : (rows after : Rows) (last_db now : ℕ) (gone : Option ℕ) (d : ℕ) (makes : Bool) → IsEnvironment rows → IsRising (rows 0) → IsEnvironment after → IsRising (after 0) → is_gone 0 gone ≡ false →
     NumbersChange last_db now gone (number_named rows) (number_named after) → makes ≡ (nat_lt last_db now && (d == now)) →
-    has_number (numbers_of after) d ≡ cond (is_gone gone d) false (makes || has_number (numbers_of rows) d)
+    has_number (numbers_of after) d ≡ cond (is_gone d gone) false (makes || has_number (numbers_of rows) d)
 numbers_told rows after last_db now gone d makes env up env_after up_after stays change makes_is = by_zero (cases_eq d 0)
   where
     made_or_there : Bool
     made_or_there = makes || has_number (numbers_of rows) d
 
-    forth : d ≢ 0 → has_number (numbers_of after) d ≡ true → cond (is_gone gone d) false (makes || has_number (numbers_of rows) d) ≡ true
+    forth : d ≢ 0 → has_number (numbers_of after) d ≡ true → cond (is_gone d gone) false (makes || has_number (numbers_of rows) d) ≡ true
     forth above has =
         let named = named_by after d env_after up_after above has in
         let found = change.forth named.0 (λ e. above (sym named.1 ∙ e)) in
-        cond-false (is_gone gone d) false (makes || has_number (numbers_of rows) d) (ap (is_gone gone) (sym named.1) ∙ found.0)
+        cond-false (is_gone d gone) false (makes || has_number (numbers_of rows) d) (ap (λ (m : ℕ). is_gone m gone) (sym named.1) ∙ found.0)
         ∙ ⊎_elim
         (λ (next : (last_db < now) × (number_named after named.0 ≡ now)).
         or_left makes (has_number (numbers_of rows) d) (makes_is ∙ and_from (nat_lt last_db now) (d == now) (lt-ltb last_db now next.0) (eq-eqb d now (sym named.1 ∙ next.1))))
@@ -222,11 +223,11 @@ numbers_told rows after last_db now gone d makes env up env_after up_after stays
         or_right makes (has_number (numbers_of rows) d) (named_is rows there.0 d above (there.1 ∙ named.1)))
         found.1
 
-    back : d ≢ 0 → cond (is_gone gone d) false (makes || has_number (numbers_of rows) d) ≡ true → has_number (numbers_of after) d ≡ true
+    back : d ≢ 0 → cond (is_gone d gone) false (makes || has_number (numbers_of rows) d) ≡ true → has_number (numbers_of after) d ≡ true
     back above has =
         ⊎_elim
-        (λ (goes : is_gone gone d ≡ true). absurd (true≢false (sym has ∙ cond-true (is_gone gone d) false (makes || has_number (numbers_of rows) d) goes)))
-        (λ (here : is_gone gone d ≡ false).
+        (λ (goes : is_gone d gone ≡ true). absurd (true≢false (sym has ∙ cond-true (is_gone d gone) false (makes || has_number (numbers_of rows) d) goes)))
+        (λ (here : is_gone d gone ≡ false).
         ⊎_elim
         (λ (made : makes ≡ true).
         let parts = and_parts (nat_lt last_db now) (d == now) (sym makes_is ∙ made) in
@@ -234,22 +235,22 @@ numbers_told rows after last_db now gone d makes env up env_after up_after stays
         named_is after named.0 d above (named.1 ∙ sym (eqb-true d now parts.1)))
         (λ (there : has_number (numbers_of rows) d ≡ true).
         let old = named_by rows d env up above there in
-        let named = change.back old.0 (λ e. above (sym old.1 ∙ e)) (ap (is_gone gone) old.1 ∙ here) in
+        let named = change.back old.0 (λ e. above (sym old.1 ∙ e)) (ap (λ (m : ℕ). is_gone m gone) old.1 ∙ here) in
         named_is after named.0 d above (named.1 ∙ old.1))
-        (or_cases makes (has_number (numbers_of rows) d) (sym (cond-false (is_gone gone d) false (makes || has_number (numbers_of rows) d) here) ∙ has)))
-        (cases_Bool (is_gone gone d))
+        (or_cases makes (has_number (numbers_of rows) d) (sym (cond-false (is_gone d gone) false (makes || has_number (numbers_of rows) d) here) ∙ has)))
+        (cases_Bool (is_gone d gone))
 
-    by_zero : (d ≡ 0) ⊎ (d ≢ 0) → has_number (numbers_of after) d ≡ cond (is_gone gone d) false (makes || has_number (numbers_of rows) d)
+    by_zero : (d ≡ 0) ⊎ (d ≢ 0) → has_number (numbers_of after) d ≡ cond (is_gone d gone) false (makes || has_number (numbers_of rows) d)
     by_zero (inl is) =
         or_left (d == 0) (list_any (λ n. n == d) (numbers_of after)) (eq-eqb d 0 is)
-        ∙ sym (cond-false (is_gone gone d) false (makes || has_number (numbers_of rows) d) (ap (is_gone gone) is ∙ stays)
+        ∙ sym (cond-false (is_gone d gone) false (makes || has_number (numbers_of rows) d) (ap (λ (m : ℕ). is_gone m gone) is ∙ stays)
         ∙ or_right makes (has_number (numbers_of rows) d) (or_left (d == 0) (list_any (λ n. n == d) (numbers_of rows)) (eq-eqb d 0 is)))
     by_zero (inr above) = both_ways _ _ (forth above) (back above)
 
 -- a database has a tree after planned changes if it is made or had one, but for the one that goes. All changes but the first are of records
 pub planned_numbers : (rows : Rows) (last_db now : ℕ) (change : Change) (more : List Change) (planned : List TreeChange) (gone : Option ℕ) → ArePlanned rows last_db change more planned gone →
     AllByRecursion IsRecordChange more → now ≡ last_db + made_by (change ∷ more) → ((d : ℕ) → is_made d planned ≡ (nat_lt last_db now && (d == now))) →
-    (d : ℕ) → has_number (numbers_of (rows_after planned gone rows)) d ≡ cond (is_gone gone d) false (is_made d planned || has_number (numbers_of rows) d)
+    (d : ℕ) → has_number (numbers_of (rows_after planned gone rows)) d ≡ cond (is_gone d gone) false (is_made d planned || has_number (numbers_of rows) d)
 planned_numbers rows last_db now change more planned gone are records now_is made d =
     let leaves = planned_rows rows last_db change more planned gone are in
     let one : NumbersChange last_db now gone (number_named rows) (numbered change last_db (number_named rows)) =

@@ -22,18 +22,19 @@ use Rattle.log_replay.specs.Rows.{Row, Rows, RowChange, rows_with, row_changed, 
 use Rattle.log_replay.specs.Logging.{record_in, number_named, all_row_changes}
 use Rattle.log_replay.specs.Kept.{MayBeLogged, AllMayBeLogged, with_number, numbered, all_numbered}
 use Rattle.log_replay.proofs.ListLaws.{all_both, all_of_map, all_to_map, found, map_same}
-use Rattle.log_replay.proofs.LoadedRows.{found as sought}
+use Rattle.log_replay.proofs.LoadedRows.{found as sought, same_rows}
 use Rattle.log_replay.proofs.MapRows.{lookup_is_data}
 use Rattle.log_replay.proofs.NameLaws.{found-with}
 use Rattle.log_replay.proofs.RowLaws.{plain_name-key, rising-nil, rising_head, rising_tail}
-use Rattle.log_replay.proofs.StoreLaws.{IsEnvironment, IsCase, number_of_row, is_right_under, catalog_plain, catalog_numbers, catalog_cases, key_of_row, row_named, same_database}
+use Rattle.log_replay.proofs.StoreLaws.{IsEnvironment, IsCase, number_of_row, is_right_under, catalog_plain, catalog_numbers, catalog_cases, key_of_row, row_named, same_database, rising-row_changed}
 use Rattle.log_replay.proofs.LoggedLaws.{IsSound, number-within}
 use Rattle.log_replay.proofs.TransactionLaws.{IsLeft, left}
 use Rattle.log_trees.proofs.Bounds.{eq_turned}
 use Rattle.record_tree.specs.declared.tree_change.TreeChange.{TreeChange}
 use Rattle.record_tree.specs.Logged.{is_change_of, last_change, value_changed}
 use Rattle.txn_core.specs.Planning.{row_by, gone_by}
-use Rattle.engine.specs.Contents.{is_gone, rows_after}
+use Rattle.engine.specs.Contents.{rows_after}
+use Rattle.txn_core.specs.Transactions.{is_gone}
 
 -- ---- the data of a name
 
@@ -228,32 +229,32 @@ pub record LeavesRows (rows after : Rows) (last_db : ℕ) (changes : List Change
   pub sound : IsSound after (last_db + made_by changes)
   pub store : store_of after ≡ all_changed changes (store_of rows)
   pub numbers : number_named after ≡ all_numbered changes last_db (number_named rows)
-  pub data_is : (d : ℕ) (x : Name) → is_gone gone d ≡ false → data_at x (after d) ≡ value_changed (last_change d x planned) (data_at x (rows d))
+  pub data_is : (d : ℕ) (x : Name) → is_gone d gone ≡ false → data_at x (after d) ≡ value_changed (last_change d x planned) (data_at x (rows d))
   -- of the database that goes, which is not the catalog, nothing is left, and the catalog does not name it
-  pub none : (d : ℕ) → is_gone gone d ≡ true → after d ≡ []
-  pub zero_stays : is_gone gone 0 ≡ false
-  pub unnamed : AllByRecursion (λ n. is_gone gone n ≡ false) (numbers_of after)
-  pub within : (d : ℕ) → is_gone gone d ≡ true → d ≤ last_db
+  pub none : (d : ℕ) → is_gone d gone ≡ true → after d ≡ []
+  pub zero_stays : is_gone 0 gone ≡ false
+  pub unnamed : AllByRecursion (λ n. is_gone n gone ≡ false) (numbers_of after)
+  pub within : (d : ℕ) → is_gone d gone ≡ true → d ≤ last_db
   -- each number that it has was there before, or is a later one
   pub named : (test : ℕ → Bool) → ((d : ℕ) → last_db < d → test d ≡ true) → AllByRecursion (λ n. test n ≡ true) (numbers_of rows) → AllByRecursion (λ n. test n ≡ true) (numbers_of after)
 
-zero-stays : (gone : Option ℕ) (last_db : ℕ) (numbers : List ℕ → ℕ) → IsGoneFrom last_db gone numbers → is_gone gone 0 ≡ false
+zero-stays : (gone : Option ℕ) (last_db : ℕ) (numbers : List ℕ → ℕ) → IsGoneFrom last_db gone numbers → is_gone 0 gone ≡ false
 zero-stays None last_db numbers is = refl
-zero-stays (Some number) last_db numbers is = ne_eqb number 0 is.above
+zero-stays (Some number) last_db numbers is = ne_eqb 0 number (λ e. is.above (sym e))
 
-gone-within : (gone : Option ℕ) (last_db : ℕ) (numbers : List ℕ → ℕ) → IsGoneFrom last_db gone numbers → (d : ℕ) → is_gone gone d ≡ true → d ≤ last_db
+gone-within : (gone : Option ℕ) (last_db : ℕ) (numbers : List ℕ → ℕ) → IsGoneFrom last_db gone numbers → (d : ℕ) → is_gone d gone ≡ true → d ≤ last_db
 gone-within None last_db numbers is d goes = absurd (true≢false (sym goes))
-gone-within (Some number) last_db numbers is d goes = subst (λ n. n ≤ last_db) (eqb-true number d goes) is.within
+gone-within (Some number) last_db numbers is d goes = subst (λ n. n ≤ last_db) (sym (eqb-true d number goes)) is.within
 
-name-stays : (gone : Option ℕ) (last_db : ℕ) (numbers : List ℕ → ℕ) → IsGoneFrom last_db gone numbers → (name : List ℕ) → is_gone gone (numbers name) ≡ false
+name-stays : (gone : Option ℕ) (last_db : ℕ) (numbers : List ℕ → ℕ) → IsGoneFrom last_db gone numbers → (name : List ℕ) → is_gone (numbers name) gone ≡ false
 name-stays None last_db numbers is name = refl
-name-stays (Some number) last_db numbers is name = ne_eqb number (numbers name) (λ e. is.none name (sym e))
+name-stays (Some number) last_db numbers is name = ne_eqb (numbers name) number (is.none name)
 
 named-stay : (gone : Option ℕ) (last_db : ℕ) (rows : Rows) → IsEnvironment rows → IsRising (rows 0) → IsGoneFrom last_db gone (number_named rows) →
-    AllByRecursion (λ (r : Row). is_gone gone (catalog_number r.1) ≡ false) (rows 0)
+    AllByRecursion (λ (r : Row). is_gone (catalog_number r.1) gone ≡ false) (rows 0)
 named-stay gone last_db rows env up is =
-    all_weaker (λ (r : Row). number_named rows r.0.key ≡ catalog_number r.1) (λ r. is_gone gone (catalog_number r.1) ≡ false)
-    (λ r named. ap (is_gone gone) (sym named) ∙ name-stays gone last_db (number_named rows) is r.0.key) (rows 0) (each_named rows env up)
+    all_weaker (λ (r : Row). number_named rows r.0.key ≡ catalog_number r.1) (λ r. is_gone (catalog_number r.1) gone ≡ false)
+    (λ r named. ap (λ (m : ℕ). is_gone m gone) (sym named) ∙ name-stays gone last_db (number_named rows) is r.0.key) (rows 0) (each_named rows env up)
 
 -- the numbers of names are those of the catalog's records, and 0
 abbrev IsNoneOr : (ℕ → Bool) → ℕ → Type 0
@@ -277,21 +278,21 @@ without : (rows all : Rows) (last_db : ℕ) (changes : List Change) (planned : L
     IsLeft changes last_db rows all → IsGoneFrom last_db gone (number_named all) → LeavesRows rows (rows_after planned gone rows) last_db changes planned gone
 without rows all last_db changes planned gone all_is is_left is =
     let after : Rows = rows_after planned gone rows in
-    let same : (d : ℕ) → is_gone gone d ≡ false → after d ≡ all d =
-    λ d stays. cond-false (is_gone gone d) [] (rows_changed (map (row_by 0) planned) rows d) stays ∙ ap (λ (r : Rows). r d) (sym all_is) in
-    let none : (d : ℕ) → is_gone gone d ≡ true → after d ≡ [] = λ d goes. cond-true (is_gone gone d) [] (rows_changed (map (row_by 0) planned) rows d) goes in
-    let stays : is_gone gone 0 ≡ false = zero-stays gone last_db (number_named all) is in
+    let same : (d : ℕ) → is_gone d gone ≡ false → after d ≡ all d =
+    λ d stays. cond-false (is_gone d gone) [] (rows_changed (map (row_by 0) planned) rows d) stays ∙ ap (λ (r : Rows). r d) (sym all_is) in
+    let none : (d : ℕ) → is_gone d gone ≡ true → after d ≡ [] = λ d goes. cond-true (is_gone d gone) [] (rows_changed (map (row_by 0) planned) rows d) goes in
+    let stays : is_gone 0 gone ≡ false = zero-stays gone last_db (number_named all) is in
     let numbers_in : List Row → List ℕ → ℕ = λ l name. number_or_0 (record_in (data_at (plain_name name) l)) in
     let named = named-stay gone last_db all is_left.sound.environment (is_left.sound.rising 0) is in
-    let drops : Drops (is_gone gone) all after = record { same = same; none = none; zero_stays = stays; named = named } in
+    let drops : Drops (λ (m : ℕ). is_gone m gone) all after = record { same = same; none = none; zero_stays = stays; named = named } in
     record {
-      sound = drops-sound (is_gone gone) all after (last_db + made_by changes) drops is_left.sound;
-      store = drops-store (is_gone gone) all after drops ∙ is_left.store;
+      sound = drops-sound (λ (m : ℕ). is_gone m gone) all after (last_db + made_by changes) drops is_left.sound;
+      store = drops-store (λ (m : ℕ). is_gone m gone) all after drops ∙ is_left.store;
       numbers = ap numbers_in (same 0 stays) ∙ is_left.numbers;
       data_is = λ d x here. ap (data_at x) (same d here ∙ ap (λ (r : Rows). r d) all_is) ∙ data-after planned rows d x;
       none = none;
       zero_stays = stays;
-      unnamed = subst (λ (l : List Row). AllByRecursion (λ n. is_gone gone n ≡ false) (map number_of_row l)) (sym (same 0 stays)) (all_to_map number_of_row (λ n. is_gone gone n ≡ false) (all 0) named);
+      unnamed = subst (λ (l : List Row). AllByRecursion (λ n. is_gone n gone ≡ false) (map number_of_row l)) (sym (same 0 stays)) (all_to_map number_of_row (λ n. is_gone n gone ≡ false) (all 0) named);
       within = gone-within gone last_db (number_named all) is;
       named = λ test later old. subst (λ (l : List Row). AllByRecursion (λ n. test n ≡ true) (map number_of_row l)) (sym (same 0 stays))
           (catalog-passes test all is_left.sound.environment (is_left.sound.rising 0)
@@ -309,3 +310,25 @@ planned_rows rows last_db change more planned gone are =
     (subst (IsGoneFrom last_db gone) (sym is_left.numbers)
     (gone-after gone change more last_db (number_named rows)
     (subst (λ (o : Option ℕ). IsGoneFrom last_db o (numbered change last_db (number_named rows))) (sym are.gone_is) (gone-first change rows last_db are.sound are.may.0))))
+
+-- ---- records that have the data that changes leave, name by name
+
+rising-after : (changes : List RowChange) (rows : Rows) → ((d : ℕ) → IsRising (rows d)) → (d : ℕ) → IsRising (rows_changed changes rows d)
+rising-after [] rows up d = up d
+rising-after (c ∷ changes) rows up d = rising-after changes (row_changed c rows) (λ e. rising-row_changed c rows e (up e)) d
+
+-- are the records that the changes leave
+pub rows_by_name : (planned : List TreeChange) (gone : Option ℕ) (old new : Rows) → ((d : ℕ) → IsRising (old d)) → ((d : ℕ) → IsRising (new d)) →
+    ((d : ℕ) (x : Name) → data_at x (new d) ≡ cond (is_gone d gone) None (value_changed (last_change d x planned) (data_at x (old d)))) → (d : ℕ) → new d ≡ rows_after planned gone old d
+rows_by_name planned gone old new up_old up_new by_name d =
+    same_rows (new d) (rows_after planned gone old d) (up_new d) rising (λ q. lookup_is_data q (new d) ∙ by_name d q ∙ sym (found_after q) ∙ sym (lookup_is_data q (rows_after planned gone old d)))
+  where
+    rising : IsRising (rows_after planned gone old d)
+    rising = cond_both (is_gone d gone) [] (rows_changed (map (row_by 0) planned) old d) IsRising (λ _. rising-nil) (λ _. rising-after (map (row_by 0) planned) old up_old d)
+
+    found_after : (q : Name) → data_at q (rows_after planned gone old d) ≡ cond (is_gone d gone) None (value_changed (last_change d q planned) (data_at q (old d)))
+    found_after q = by_test (is_gone d gone)
+      where
+        by_test : (b : Bool) → data_at q (cond b [] (rows_changed (map (row_by 0) planned) old d)) ≡ cond b None (value_changed (last_change d q planned) (data_at q (old d)))
+        by_test true = refl
+        by_test false = data-after planned old d q

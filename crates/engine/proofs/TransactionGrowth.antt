@@ -44,8 +44,10 @@ use Rattle.crash_recovery.specs.Appending.{HaveRoom}
 use Rattle.crash_recovery.proofs.RisingLsns.{appended_rise}
 use Rattle.crash_recovery.proofs.LongerLogs.{longer_is_named, longer_recovers}
 use Rattle.txn_core.specs.declared.planned_changes.PlannedChanges.{PlannedChanges}
-use Rattle.txn_core.specs.Planning.{IsPlannedLog}
-use Rattle.engine.specs.Contents.{Contents, known, HasLogged, IsSame, drawn_contents, is_gone, rows_after}
+use Rattle.txn_core.specs.Totals.{totals_of}
+use Rattle.txn_core.specs.Planning.{CanPlan, IsPlannedLog}
+use Rattle.engine.specs.Contents.{Contents, known, HasLogged, IsSame, drawn_contents, rows_after}
+use Rattle.txn_core.specs.Transactions.{is_gone}
 use Rattle.engine.specs.Environment.{GivesRecords, RecoversStore, IsValid}
 use Rattle.engine.specs.Steps.{HasAppended, HasTried, txn_of}
 use Rattle.engine.proofs.PlannedRows.{ArePlanned, LeavesRows, planned_rows}
@@ -63,6 +65,16 @@ sound_of log end c gives = record {
   rising = gives.listed.rising;
   unused = gives.unused;
   numbers = all_of_map number_of_row (λ n. n ≤ c.last_db) (c.rows 0) gives.numbers;
+}
+
+-- a call may be planned on them
+pub can_plan : (log : Log) (end : LogPos) (c : Contents) → GivesRecords log end c → c.totals ≡ totals_of (store_of c.rows) → CanPlan (known c)
+can_plan log end c gives totals = record {
+  environment = gives.listed.environment;
+  rising = gives.listed.rising;
+  unused = gives.unused;
+  numbers = gives.numbers;
+  totals = totals;
 }
 
 -- a later transaction is later than the last one but one
@@ -107,22 +119,22 @@ gives_same log end new_end old new ends same gives =
 
 -- the catalog, its databases and later numbers, but for the database that goes
 abbrev pub open_after : Option ℕ → Flags → Flags
-open_after gone is_open d = if is_gone gone d then false else is_open d
+open_after gone is_open d = if is_gone d gone then false else is_open d
 
-open_parts : (gone : Option ℕ) (is_open : Flags) (d : ℕ) → open_after gone is_open d ≡ true → (is_gone gone d ≡ false) × (is_open d ≡ true)
-open_parts gone is_open d open_ = by_test (is_gone gone d) open_
+open_parts : (gone : Option ℕ) (is_open : Flags) (d : ℕ) → open_after gone is_open d ≡ true → (is_gone d gone ≡ false) × (is_open d ≡ true)
+open_parts gone is_open d open_ = by_test (is_gone d gone) open_
   where
     by_test : (b : Bool) → cond b false (is_open d) ≡ true → (b ≡ false) × (is_open d ≡ true)
     by_test true is = absurd (true≢false (sym is))
     by_test false is = (refl, is)
 
-open_from : (gone : Option ℕ) (is_open : Flags) (d : ℕ) → is_gone gone d ≡ false → is_open d ≡ true → open_after gone is_open d ≡ true
-open_from gone is_open d stays open_ = cond-false (is_gone gone d) false (is_open d) stays ∙ open_
+open_from : (gone : Option ℕ) (is_open : Flags) (d : ℕ) → is_gone d gone ≡ false → is_open d ≡ true → open_after gone is_open d ≡ true
+open_from gone is_open d stays open_ = cond-false (is_gone d gone) false (is_open d) stays ∙ open_
 
 -- a database with a later number stays
-later-stays : (gone : Option ℕ) (last_db d : ℕ) → ((e : ℕ) → is_gone gone e ≡ true → e ≤ last_db) → last_db < d → is_gone gone d ≡ false
+later-stays : (gone : Option ℕ) (last_db d : ℕ) → ((e : ℕ) → is_gone e gone ≡ true → e ≤ last_db) → last_db < d → is_gone d gone ≡ false
 later-stays gone last_db d within above =
-    ⊎_elim (λ (goes : is_gone gone d ≡ true). let low = within d goes in absurd (omega (arith, low, above))) (λ (stays : is_gone gone d ≡ false). stays) (cases_Bool (is_gone gone d))
+    ⊎_elim (λ (goes : is_gone d gone ≡ true). let low = within d goes in absurd (omega (arith, low, above))) (λ (stays : is_gone d gone ≡ false). stays) (cases_Bool (is_gone d gone))
 
 -- records that changes leave are listed
 listed-after : (rows after : Rows) (last_db : ℕ) (changes : List Change) (planned : List TreeChange) (gone : Option ℕ) (is_open : Flags) → LeavesRows rows after last_db changes planned gone →
@@ -131,7 +143,7 @@ listed-after rows after last_db changes planned gone is_open leaves later listed
   rising = leaves.sound.rising;
   data_is = λ d x open_. refl;
   catalog = open_from gone is_open 0 leaves.zero_stays listed.catalog;
-  named = all_both (λ n. is_gone gone n ≡ false) (λ n. is_open n ≡ true) (λ n. open_after gone is_open n ≡ true) (λ n stays open_. open_from gone is_open n stays open_) (numbers_of after)
+  named = all_both (λ n. is_gone n gone ≡ false) (λ n. is_open n ≡ true) (λ n. open_after gone is_open n ≡ true) (λ n stays open_. open_from gone is_open n stays open_) (numbers_of after)
       leaves.unnamed (leaves.named is_open later listed.named);
   environment = environment_from after leaves.sound.environment;
 }

@@ -1,6 +1,5 @@
 -- What an open environment has in memory beside its log, and how logged changes change it.
-use Rattle.std.specs.Prelude.{ℕ, ◌≡◌, ◌+◌, ◌*◌, ◌==◌, Bool, true, false, List, [], Option, None, Some, map, length, if◌then◌else◌}
-use Rattle.std.specs.List.{AllByRecursion}
+use Rattle.std.specs.Prelude.{ℕ, ◌≡◌, ◌+◌, List, [], Option, Some, map, length, if◌then◌else◌}
 use Rattle.store_model.specs.declared.answer.Fault.{Fault}
 use Rattle.store_model.specs.declared.answer.Fault.TheVariants.{Disk}
 use Rattle.store_model.specs.declared.totals.Totals.{Totals}
@@ -8,6 +7,7 @@ use Rattle.log_replay.specs.Rows.{Rows, rows_changed}
 use Rattle.record_tree.specs.declared.tree_change.TreeChange.{TreeChange}
 use Rattle.txn_core.specs.Known.{Known}
 use Rattle.txn_core.specs.Planning.{row_by}
+use Rattle.txn_core.specs.Transactions.{is_gone}
 use Rattle.txn_core.specs.declared.planned_changes.PlannedChanges.{PlannedChanges}
 use Rattle.engine.specs.Limits.{numbers_for}
 
@@ -26,14 +26,9 @@ pub record Contents : Type 0 where
 abbrev pub known : Contents → Known
 known c = record { rows = c.rows; totals = c.totals; last_db = c.last_db }
 
--- whether this is the number of the database that goes
-abbrev pub is_gone : Option ℕ → ℕ → Bool
-is_gone None db = false
-is_gone (Some number) db = number == db
-
 -- the records after changes, without those of the database that goes
 abbrev pub rows_after : List TreeChange → Option ℕ → Rows → Rows
-rows_after changes gone rows db = if is_gone gone db then [] else rows_changed (map (row_by 0) changes) rows db
+rows_after changes gone rows db = if is_gone db gone then [] else rows_changed (map (row_by 0) changes) rows db
 
 -- a transaction number was allocated, and nothing else
 abbrev pub drawn_contents : Contents → Contents

@@ -69,6 +69,15 @@ impl<D: Disk> LogTrees<D> {
         }
     }
 
+    /// The log, and the trees.
+    pub fn into_parts(self) -> (LogBuffer<D>, Trees)
+        ensures log { result.0 ≡ self.log }
+        ensures trees { result.1 ≡ self.trees }
+    {
+        let LogTrees { log, trees } = self;
+        (log, trees)
+    }
+
     /// The log alone.
     pub fn into_log(self) -> LogBuffer<D>
         ensures { result ≡ self.log }

@@ -1,7 +1,5 @@
 -- What the maps of std do to a database's records, as the definitions on lists say it.
 pub mod MapRows
--- The changes that wait for a commit, while entries come.
-pub mod PendingChanges
 -- What holds of each element of a list, and what tests find.
 pub mod ListLaws
 -- The records of one database: names and their order, what a name finds, and what a change leaves.
@@ -24,10 +22,6 @@ pub mod LoggedLaws
 pub mod TransactionLaws
 -- How many records and databases a change of the store leaves.
 pub mod CountLaws
--- Several changes of records, one after another.
-pub mod RowChanges
--- The databases that a catalog names are those that the records make.
-pub mod OpeningStore
 -- A list that a loop makes of another one, item by item.
 pub mod ListMapping
 -- Moments that pass while a disk's state stays the same.
@@ -38,10 +32,6 @@ pub mod GapLaws
 pub mod FilesLaws
 -- The files of a listing, with the bytes that a disk reads.
 pub mod ListedLaws
--- A reading of files that is under way, and what it comes to.
-pub mod ReadingLaws
--- The second replay, in which each put has its LSN for its data.
-pub mod PlacingLaws
 -- A log whose files are there whole is read again.
 pub mod AgainLaws
 -- Records that go in many at a time.

@@ -1,5 +1,5 @@
 -- What a log means, and what one more transaction in it leaves.
-use Rattle.std.proofs.Common.{◌≡◌, ℕ, ◌<◌, ◌≤◌, max, List, [], ◌∷◌, true, false, cond, not, ◌==◌, Option, None, Some, filter, refl, ap, sym, ◌∙◌, subst, ⊎_elim, arith, Ok}
+use Rattle.std.proofs.Common.{◌≡◌, ℕ, ◌<◌, ◌≤◌, max, List, [], ◌∷◌, true, false, cond, not, ◌==◌, Option, None, Some, filter, ap, sym, ◌∙◌, ⊎_elim, arith, Ok}
 use Rattle.std.specs.List.{AllByRecursion}
 use Rattle.std.proofs.lemmas.Bool.{cases_Bool, cond_both, cond-true, cond-false, eqb-true, eq-eqb}
 use Rattle.je_order.specs.declared.name.Name.{Name}
@@ -8,17 +8,14 @@ use Rattle.std.specs.Ordering.{is_eq, is_lt, is_gt}
 use Rattle.log_entry.specs.declared.entry.Entry.{Entry}
 use Rattle.log_entry.specs.declared.entry.Entry.TheVariants.{Put, Delete, Commit}
 use Rattle.log_file.specs.Log.{Log, entries_of}
-use Rattle.log_replay.specs.declared.replayed.Replayed.{Replayed}
-use Rattle.log_replay.specs.Rows.{Row, Rows, RowChange, rows_in, row_changed, rows_changed, rows_with, catalog_number, store_of}
+use Rattle.log_replay.specs.Rows.{Row, Rows, RowChange, row_changed, rows_changed, rows_with, catalog_number, store_of}
 use Rattle.log_replay.specs.Replay.{Replay, nothing_replayed, changes_of, replayed_entry, replayed, txn_in, db_in, greatest}
-use Rattle.log_replay.specs.Meaning.{Meaning, meaning_of}
+use Rattle.log_replay.specs.Meaning.{meaning_of}
 use Rattle.log_replay.specs.Reading.{validated, validated_by}
-use Rattle.log_replay.specs.Answer.{IsReplayed}
 use Rattle.log_replay.specs.Kept.{IsOfBefore, IsKept}
-use Rattle.log_replay.proofs.ListLaws.{all_to_map}
 use Rattle.je_order.proofs.Lists.{all_weaker, all_append, all_kept}
-use Rattle.log_replay.proofs.StoreLaws.{number_of_row, store_of-same, is_environment-same, row_changed-there}
-use Rattle.log_replay.proofs.WrongLaws.{none_is_environment, environment_is_none}
+use Rattle.log_replay.proofs.StoreLaws.{store_of-same, is_environment-same, row_changed-there}
+use Rattle.log_replay.proofs.WrongLaws.{environment_is_none}
 
 -- ---- a replay stays within the numbers of its entries
 
@@ -120,28 +117,6 @@ at_most_greatest number (entry ∷ entries) =
     )
 
 -- ---- what is kept of a log
-
--- once its entries were replayed
-pub kept_opened : (entries : List Entry) (found : Replayed) → IsReplayed entries found → IsKept entries (rows_in found.rows) found.last_txn found.last_db
-kept_opened entries found is =
-    let replay : Replay = replayed entries nothing_replayed in
-    let rows : Rows = rows_in found.rows in
-    let last_txn : greatest txn_in entries ≡ found.last_txn = ap (λ (m : Meaning). m.last_txn) is.meaning in
-    let last_db : greatest db_in entries ≡ found.last_db = ap (λ (m : Meaning). m.last_db) is.meaning in
-    let within : IsReplayWithin (greatest txn_in entries) (greatest db_in entries) replay =
-    within-replayed (greatest txn_in entries) (greatest db_in entries) entries nothing_replayed (at_most_greatest txn_in entries) (at_most_greatest db_in entries)
-    (record { pending = tt; rows = record { unused = λ db h. refl; numbers = tt } }) in
-    subst (λ (t : ℕ). IsKept entries rows t found.last_db) last_txn
-    (subst (λ (d : ℕ). IsKept entries rows (greatest txn_in entries) d) last_db (record {
-      same = λ db. sym (is.rows db);
-      environment = is_environment-same rows replay.rows is.rows ∙ none_is_environment replay.rows is.none;
-      rising = is.rising;
-      pending = all_weaker (IsWithin (greatest txn_in entries) (greatest db_in entries)) (IsOfBefore (greatest txn_in entries) (greatest db_in entries))
-          (λ c h. record { txn = h.txn; db = h.db }) replay.pending within.pending;
-      unused = λ db above. is.rows db ∙ within.rows.unused db above;
-      numbers = all_to_map number_of_row (λ n. n ≤ greatest db_in entries) (rows 0)
-          (subst (λ l. AllByRecursion (λ (r : Row). catalog_number r.1 ≤ greatest db_in entries) l) (sym (is.rows 0)) within.rows.numbers);
-    }))
 
 -- a log that is kept has a meaning
 pub kept_validated : (log : Log) (rows : Rows) (last_txn last_db : ℕ) → IsKept (entries_of log) rows last_txn last_db → validated log ≡ Ok (meaning_of (entries_of log))

@@ -1,5 +1,5 @@
 -- What plans read of the records of an environment: the catalog's records are those of its databases, and the names of pairs rise.
-use Rattle.std.proofs.Common.{◌≡◌, ℕ, List, [], ◌∷◌, true, Option, None, Some, map, option_map, refl, ap, ap₂, sym, ◌∙◌, subst, Less}
+use Rattle.std.proofs.Common.{◌≡◌, List, [], ◌∷◌, true, Option, None, Some, map, option_map, refl, ap, sym, ◌∙◌, subst, Less}
 use Rattle.std.specs.List.{AllByRecursion}
 use Rattle.std.specs.List.Sorted.{IsStrictlySortedBy}
 use Rattle.je_order.specs.declared.name.Name.{Name}

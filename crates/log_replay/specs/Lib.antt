@@ -3,11 +3,7 @@ pub mod Replay
 pub mod Meaning
 pub mod Logging
 pub mod Kept
-pub mod Pending
-pub mod Loading
-pub mod Opening
 pub mod Wrong
 pub mod Reading
 pub mod UnderWay
-pub mod Answer
 pub mod Laws

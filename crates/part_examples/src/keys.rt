@@ -1,7 +1,7 @@
 // Names sorted by the heads of their keys.
 use crate::rows::first_wrong;
 use je_order::{Name, Octets};
-use log_replay::SortKey;
+use record_map::SortKey;
 use std::alloc::{AllocError, Global};
 use std::cmp::Ordering;
 

@@ -44,7 +44,7 @@ mod nodes;
 #[cfg(test)]
 mod record_ids;
 #[cfg(test)]
-mod replays;
+mod recoveries;
 #[cfg(test)]
 mod reports;
 #[cfg(test)]

@@ -20,3 +20,7 @@ pub mod LookupLaws
 pub mod FileGaps
 -- Reading trees.
 pub mod WalkLaws
+-- Reading the tree below an image.
+pub mod NodeWalks
+-- Reading the trees of a checkpoint's roots.
+pub mod RootWalks

@@ -1,9 +1,8 @@
 -- Records in trees are those of a redo.
-use Rattle.std.proofs.Common.{◌≡◌, ℕ, ◌==◌, ◌+◌, Bool, true, false, cond, List, [], ◌∷◌, Option, None, Some, Result, Ok, Err, max, map, length, sum_by, option_map, unwrap_or, is_eq, refl, sym, ap, ap₂, subst, ◌∙◌}
+use Rattle.std.proofs.Common.{◌≡◌, ℕ, ◌+◌, Bool, true, false, cond, List, [], ◌∷◌, Option, None, Some, Result, Ok, Err, max, map, length, sum_by, option_map, unwrap_or, is_eq, refl, sym, ap, ap₂, subst, ◌∙◌}
 use mathlib.Core.Path.{fun_ext}
 use Rattle.std.proofs.lemmas.List.Sums.{sum_by-cons}
-use Rattle.std.proofs.lemmas.List.{append-nil, length-map, nil_from_length}
-use Rattle.std.proofs.lemmas.Bool.{eqb-true}
+use Rattle.std.proofs.lemmas.List.{append-nil, length-map}
 use Rattle.std.specs.Map.{keys_of}
 use Rattle.std.specs.List.Sorted.{IsStrictlySortedBy}
 use Rattle.je_order.specs.Order.{name_cmp}
@@ -163,22 +162,6 @@ redo_ends rows redo es stored kept at d x = at.records d x ∙ ap (λ (r : Redo)
 
 pub same_stored : (rows : List LoggedChange) (a b : AllStored) → ((d : ℕ) → b d ≡ a d) → HoldsChanges rows a → HoldsChanges rows b
 same_stored rows a b same holds d x = ap (value_at x) (same d) ∙ holds d x
-
--- ---- the roots
-
-pub no_roots : (roots : List Root) → (length roots == 0) ≡ true → roots ≡ []
-no_roots roots h = nil_from_length roots (eqb-true (length roots) 0 h)
-
-pub walked_none : (files : List ℕ) (es : List Placed) (end : Checkpoint) (stored : AllStored) → end.roots ≡ [] → ((d : ℕ) → stored d ≡ []) → (walk : Walk) × IsWalked files es end (record { node = 0; db = 0 }) stored walk
-walked_none files es end stored none empty = (
-  record { seen = []; rows = [] },
-  record {
-    read = ap (read_roots files es end.at) none;
-    node = refl;
-    db = refl;
-    records = λ d x. ap (value_at x) (empty d);
-  },
-)
 
 -- ---- the meaning
 

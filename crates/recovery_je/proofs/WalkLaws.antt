@@ -1,7 +1,12 @@
 -- Reading trees.
-use Rattle.std.proofs.Common.{◌≡◌, ℕ, ◌==◌, max, Bool, true, false, cond, List, [], ◌∷◌, ◌++◌, Option, Some, Result, Ok, Err, refl, sym, ap, subst, ◌∙◌, arith}
-use Rattle.std.specs.Prelude.{◌||◌, IsErrAnd}
+use Rattle.std.proofs.Common.{◌≡◌, ℕ, ◌==◌, max, Bool, true, false, cond, List, [], ◌∷◌, ◌++◌, Option, Some, Result, Ok, Err, refl, sym, ap, ◌∙◌, arith}
+use Rattle.std.specs.Prelude.{◌||◌}
 use Rattle.std.specs.List.{list_any}
+use Rattle.std.specs.BTreeSet.{insert_key}
+use Rattle.std.specs.Ordering.{nat_cmp, match_ordering}
+use Rattle.std.specs.declared.cmp.Ordering.{Ordering}
+use Rattle.std.specs.declared.cmp.Ordering.TheVariants.{Less, Equal, Greater}
+use Rattle.std.proofs.lemmas.Cmp.{ranked}
 use Rattle.je_order.specs.declared.name.Name.{Name}
 use Rattle.record_map.specs.Cells.{value_at}
 use Rattle.record_tree.specs.Stored.{Stored, AllStored, stored_at, HasStored, AreStoredStill}
@@ -16,17 +21,29 @@ use Rattle.log_trees.specs.Placed.{Placed}
 use Rattle.log_replay.specs.declared.corruption.Corruption.TheVariants.{Tree}
 use Rattle.log_meaning.specs.Meaning.{most, db_given}
 use Rattle.recovery_je.specs.Redoing.{there, named_by}
-use Rattle.recovery_je.specs.Recovering.{IsFoundBy}
 use Rattle.recovery_je.specs.Walking.{IsWalking, GoesOn}
 
-any_push : (m n : ℕ) (xs : List ℕ) → list_any (λ k. k == m) (xs ++ n ∷ []) ≡ ((n == m) || list_any (λ k. k == m) xs)
-any_push m n [] = refl
-any_push m n (x ∷ xs) = ap (λ (b : Bool). (x == m) || b) (any_push m n xs) ∙ by_tests (x == m) (n == m) (list_any (λ k. k == m) xs)
+-- ---- the numbers of the nodes that were read, as a set
+
+any_insert : (m n : ℕ) (xs : List ℕ) → list_any (λ k. k == m) (insert_key nat_cmp xs n) ≡ ((n == m) || list_any (λ k. k == m) xs)
+any_insert m n [] = refl
+any_insert m n (x ∷ xs) = by_order (any_insert m n xs) (nat_cmp n x) refl
   where
     by_tests : (a b c : Bool) → (a || (b || c)) ≡ (b || (a || c))
     by_tests true true c = refl
     by_tests true false c = refl
     by_tests false b c = refl
+
+    twice : (a b : Bool) → (a || b) ≡ (a || (a || b))
+    twice true b = refl
+    twice false b = refl
+
+    by_order : list_any (λ k. k == m) (insert_key nat_cmp xs n) ≡ ((n == m) || list_any (λ k. k == m) xs) → (o : Ordering) → o ≡ nat_cmp n x → list_any (λ k. k == m) (match_ordering o (n ∷ x ∷ xs) (x ∷ xs) (x ∷ insert_key nat_cmp xs n)) ≡ ((n == m) || ((x == m) || list_any (λ k. k == m) xs))
+    by_order more Less is = refl
+    by_order more Equal is = twice (x == m) (list_any (λ k. k == m) xs) ∙ ap (λ (k : ℕ). (k == m) || ((x == m) || list_any (λ k. k == m) xs)) (sym (ranked n x Equal is))
+    by_order more Greater is = ap (λ (b : Bool). (x == m) || b) more ∙ by_tests (x == m) (n == m) (list_any (λ k. k == m) xs)
+
+-- ---- nodes and records that are put
 
 most_push : {A : Type 0} (f : A → ℕ) (xs : List A) (x : A) → most f (xs ++ x ∷ []) ≡ max (most f xs) (f x)
 most_push f [] x = omega arith
@@ -35,10 +52,10 @@ most_push f (y ∷ xs) x = ap (max (f y)) (most_push f xs x) ∙ later (f y) (mo
     later : (a b c : ℕ) → max a (max b c) ≡ max (max a b) c
     later a b c = omega arith
 
-pub met_one : (before after : AllStored) (seen more : List ℕ) (node db greatest : ℕ) (n : Node) (walk : Walk) → AreStoredStill before after → more ≡ seen ++ n.number ∷ [] → greatest ≡ max node n.number →
+pub met_one : (before after : AllStored) (seen more : List ℕ) (node db greatest : ℕ) (n : Node) (walk : Walk) → AreStoredStill before after → more ≡ insert_key nat_cmp seen n.number → greatest ≡ max node n.number →
     IsWalking before seen node db walk → IsWalking after more greatest db (met n walk)
 met_one before after seen more node db greatest n walk same more_is greatest_is at = record {
-  seen_is = λ m. ap (list_any (λ k. k == m)) more_is ∙ any_push m n.number seen ∙ ap (λ (b : Bool). (n.number == m) || b) (at.seen_is m);
+  seen_is = λ m. ap (list_any (λ k. k == m)) more_is ∙ any_insert m n.number seen ∙ ap (λ (b : Bool). (n.number == m) || b) (at.seen_is m);
   node_is = greatest_is ∙ ap (λ (k : ℕ). max k n.number) at.node_is ∙ turned (most (λ (k : ℕ). k) walk.seen) n.number;
   db_is = at.db_is;
   records = λ d x. ap (value_at x) (same d) ∙ at.records d x;
@@ -68,14 +85,6 @@ with_one before after seen node db greatest d name lsn value walk put greatest_i
 
 -- ---- readings, one after another
 
-each_append : {A : Type 0} (f : A → Walk → Result Walk Corruption) (a b : List A) (walk : Walk) → each f (a ++ b) walk ≡ and_then (each f a walk) (each f b)
-each_append f [] b walk = refl
-each_append f (x ∷ a) b walk = by_first (λ w. each_append f a b w) (f x walk)
-  where
-    by_first : ((w : Walk) → each f (a ++ b) w ≡ and_then (each f a w) (each f b)) → (r : Result Walk Corruption) → and_then r (each f (a ++ b)) ≡ and_then (and_then r (each f a)) (each f b)
-    by_first later (Ok w) = later w
-    by_first later (Err c) = refl
-
 -- a reading of one
 pub one_goes_on : {A B : Type 0} (f : A → Walk → Result Walk Corruption) (x : A) (walk : Walk) (P : Walk → Type 0) (r : Result B ReadErr) → GoesOn (f x walk) P r → GoesOn (each f (x ∷ []) walk) P r
 one_goes_on f x walk P (Ok v) is = (is.0, ap (λ (s : Result Walk Corruption). and_then s (each f [])) is.1, is.2)
@@ -88,36 +97,9 @@ pub record IsWalkingOn {A : Type 0} (f : A → Walk → Result Walk Corruption) 
   pub at : P here
   pub rest : each f left here ≡ each f all walk
 
-pub walk_more : {A : Type 0} (f : A → Walk → Result Walk Corruption) (all left xs rest : List A) (P Q : Walk → Type 0) (walk : Walk) → left ≡ xs ++ rest →
-    ((w : Walk) → P w → (v : Walk) × (each f xs w ≡ Ok v) × Q v) → IsWalkingOn f all left P walk → IsWalkingOn f all rest Q walk
-walk_more f all left xs rest P Q walk is step so_far =
-    let next = step so_far.here so_far.at in record {
-      here = next.0;
-      at = next.2;
-      rest = sym (ap (λ (s : Result Walk Corruption). and_then s (each f rest)) next.1) ∙ sym (each_append f xs rest so_far.here) ∙ ap (λ l. each f l so_far.here) (sym is) ∙ so_far.rest;
-    }
-
-pub walk_stops : {A : Type 0} (f : A → Walk → Result Walk Corruption) (all left xs rest : List A) (P : Walk → Type 0) (walk : Walk) (c : Corruption) → left ≡ xs ++ rest →
-    ((w : Walk) → P w → each f xs w ≡ Err c) → IsWalkingOn f all left P walk → each f all walk ≡ Err c
-walk_stops f all left xs rest P walk c is step so_far =
-    sym so_far.rest ∙ ap (λ l. each f l so_far.here) is ∙ each_append f xs rest so_far.here ∙ ap (λ (s : Result Walk Corruption). and_then s (each f rest)) (step so_far.here so_far.at)
-
--- an error that is handed on from one of them
-pub walk_fails : {A T : Type 0} (f : A → Walk → Result Walk Corruption) (all left xs rest : List A) (P Q : Walk → Type 0) (walk : Walk) (r : Result T ReadErr) (e : ReadErr) → left ≡ xs ++ rest →
-    IsErrAnd r (λ x. x ≡ e) → ((w : Walk) → P w → IsFoundBy e (λ c. each f xs w ≡ Err c)) → IsWalkingOn f all left P walk → GoesOn (each f all walk) Q r
-walk_fails f all left xs rest P Q walk (Ok v) e is same step so_far = absurd same
-walk_fails f all left xs rest P Q walk (Err x) e is same step so_far = by_error x (λ w p. subst (λ (y : ReadErr). IsFoundBy y (λ c. each f xs w ≡ Err c)) (sym same) (step w p))
-  where
-    by_error : (y : ReadErr) → ((w : Walk) → P w → IsFoundBy y (λ c. each f xs w ≡ Err c)) → IsFoundBy y (λ c. each f all walk ≡ Err c)
-    by_error Memory h = tt
-    by_error (Found c) h = walk_stops f all left xs rest P walk c is h so_far
-
 -- ---- one node
 
 pub stands : (files : List ℕ) (es : List Placed) (d level : ℕ) (low : Name) (high : Option Name) (at : ℕ) (seen : List ℕ) (n : Node) (b : Bool) → read_image files es d at ≡ Ok n → may_stand level low high seen n ≡ b →
     read_here files es d level low high at seen ≡ cond b (Ok n) (Err (Tree at))
 stands files es d level low high at seen n b read test =
     ap (λ (r : Result Node Corruption). and_then r (node_standing level low high at seen)) read ∙ ap (λ (t : Bool). cond t (Ok n) (Err (Tree at))) test
-
-pub no_node : (files : List ℕ) (es : List Placed) (d level : ℕ) (low : Name) (high : Option Name) (at : ℕ) (seen : List ℕ) (c : Corruption) → read_image files es d at ≡ Err c → read_here files es d level low high at seen ≡ Err c
-no_node files es d level low high at seen c read = ap (λ (r : Result Node Corruption). and_then r (node_standing level low high at seen)) read

@@ -1,8 +1,14 @@
 -- Reading trees.
-use Rattle.std.specs.Prelude.{◌≡◌, ◌==◌, ℕ, List, Result, Ok, Err}
-use Rattle.std.specs.List.{list_any}
+use Rattle.std.specs.Prelude.{◌≡◌, ◌==◌, ℕ, zero, suc, List, [], ◌∷◌, Option, None, Some, Result, Ok, Err}
+use Rattle.std.specs.List.{list_any, flat_map}
+use Rattle.je_order.specs.declared.name.Name.{Name}
+use Rattle.node_core.specs.declared.slot.Marked.{Marked}
+use Rattle.node_core.specs.declared.node.Node.{Node}
 use Rattle.record_tree.specs.Stored.{AllStored}
-use Rattle.log_trees.specs.Walk.{Walk}
+use Rattle.log_trees.specs.Placed.{Placed}
+use Rattle.log_trees.specs.Images.{slot_shown}
+use Rattle.log_trees.specs.Sound.{Child, children}
+use Rattle.log_trees.specs.Walk.{Walk, each, met, read_record, read_child, read_node}
 use Rattle.log_meaning.specs.Meaning.{most, db_given}
 use Rattle.log_replay.specs.declared.corruption.Corruption.{Corruption}
 use Rattle.recovery_je.specs.declared.read_err.ReadErr.{ReadErr}
@@ -24,3 +30,32 @@ pub record IsWalking (stored : AllStored) (seen : List ℕ) (node db : ℕ) (wal
 abbrev pub GoesOn : {A : Type 0} → Result Walk Corruption → (Walk → Type 0) → Result A ReadErr → Type 0
 GoesOn spec P (Ok x) = (walk : Walk) × (spec ≡ Ok walk) × P walk
 GoesOn spec P (Err e) = IsFoundBy e (λ corruption. spec ≡ Err corruption)
+
+-- a node was read and put, or its reading fails as the definition does
+abbrev pub HasMet : Result Node Corruption → Walk → (Walk → Type 0) → Result Node ReadErr → Type 0
+HasMet spec walk P (Ok n) = (spec ≡ Ok n) × P (met n walk)
+HasMet spec walk P (Err e) = IsFoundBy e (λ corruption. spec ≡ Err corruption)
+
+-- ---- what stands below a node
+
+-- the records of a BIN's slots, or the trees of the children that an IN's slots name
+abbrev pub read_below : List ℕ → List Placed → ℕ → ℕ → Name → Option Name → ℕ → List Marked → Walk → Result Walk Corruption
+read_below files es d zero low high at slots = each (read_record files es d at) (flat_map slot_shown slots)
+read_below files es d (suc above) low high at slots = each (read_child files (read_node files es d above) at) (children low high (flat_map slot_shown slots))
+
+-- a child is read when the next one's name is known: the one that waits, if one does, with these bounds
+abbrev pub waiting : Name → Option Name → Option ℕ → List Child
+waiting low high None = []
+waiting low high (Some at) = record { low = low; high = high; at = at } ∷ []
+
+-- the lower bound of the next child behind the one that waits: its name, or the node's where it is the first
+abbrev pub low_behind : Option ℕ → Name → Name → Name
+low_behind None low name = low
+low_behind (Some at) low name = name
+
+-- ---- roots
+
+-- the level of a node that was read
+abbrev pub level_read : Result Node Corruption → Result ℕ Corruption
+level_read (Ok n) = Ok n.level
+level_read (Err corruption) = Err corruption

@@ -6,6 +6,7 @@
 
 mod checking;
 mod checkpoint_end;
+mod descending;
 mod finishing;
 mod gaps;
 mod images;

@@ -18,7 +18,7 @@ use crate::numbers::Numbers;
 use crate::placed_entry::PlacedEntry;
 use crate::read_err::ReadErr;
 use crate::redoing::{Redoing, ensure_tree, take_all};
-use crate::roots::{WalkNumbers, read_roots};
+use crate::roots::{Walked, read_roots};
 use crate::settling::{Settled, settle};
 use crate::waiting::Waiting;
 use je_lsn::{FileNo, Lsn};
@@ -97,25 +97,28 @@ fn redo_corruption(files: &[FileNo], end: &Option<CheckpointEnd>) -> Option<Corr
 }
 
 // Reads the trees of the roots, and tells the first corruption up to the redo.
-fn read_trees<T: Loads>(
+fn read_trees<T: Loads + Drop>(
     alloc: Global,
     files: &[FileNo],
     entries: &[PlacedEntry],
     end: &CheckpointEnd,
     corruption: Option<Corruption>,
-    trees: &mut T,
-) -> Result<WalkNumbers, ReadErr>
-    requires empty { (d : ℕ) → T.has_tree trees.old d ≡ false }
+    trees: T,
+) -> Result<Walked<T>, ReadErr>
+    requires empty { (d : ℕ) → T.has_tree trees d ≡ false }
     requires order { AreInOrder entries.now }
     requires entries { AllByRecursion (λ p. IsEntry p.1) entries.now }
-    ensures read { IfOk result (λ numbers. (walk : Walk) × IsWalked (map (λ f. f.0) files.now) entries.now end.now numbers (T.stored trees.new) walk) }
-    ensures right { IfOk result (λ numbers. corruption ≡ None) }
+    ensures read { IfOk result (λ walked. (walk : Walk) × IsWalked (map (λ f. f.0) files.now) entries.now end.now walked.numbers (T.stored walked.trees) walk) }
+    ensures right { IfOk result (λ walked. corruption ≡ None) }
     ensures found { IfErr result (λ e. IsFoundBy e (λ c. and_then (read_roots_of (map (λ f. f.0) files.now) entries.now end.now.at end.now.roots) (λ walk. unless corruption (Ok walk)) ≡ Err c)) }
 {
-    let numbers = read_roots(alloc, files, entries, end, trees)?;
+    let walked = read_roots(alloc, files, entries, end, trees)?;
     match corruption {
-        Some(corruption) => Err(ReadErr::Found(corruption)),
-        None => Ok(numbers),
+        Some(corruption) => {
+            drop(walked);
+            Err(ReadErr::Found(corruption))
+        }
+        None => Ok(walked),
     }
 }
 
@@ -136,11 +139,14 @@ pub(crate) fn recover_entries<T: Loads + Drop>(
     let end = last_end(alloc, &entries)?;
     let corruption = redo_corruption(files, &end);
     let end = or_none(alloc, end);
-    let mut trees = trees;
-    let walked = read_trees(alloc, files, &entries, &end, corruption, &mut trees)?;
+    let walked = read_trees(alloc, files, &entries, &end, corruption, trees)?;
+    let Walked {
+        trees,
+        numbers: in_trees,
+    } = walked;
     let numbers = Numbers::of(&entries, end.redo);
     let from = redo_begin(files, end.redo);
-    let last_node = end.last_node.max(walked.node.max(numbers.node));
+    let last_node = end.last_node.max(in_trees.node.max(numbers.node));
     let trees = redo_entries(alloc, trees, last_node, from, end.redo, entries)?;
     let settled = settle(alloc, trees)?;
     let roots_db = greatest_db(end.roots.as_slice());
@@ -148,7 +154,7 @@ pub(crate) fn recover_entries<T: Loads + Drop>(
         settled,
         last_txn: end.last_txn.max(numbers.txn),
         last_node,
-        last_db: end.last_db.max(roots_db.max(walked.db.max(numbers.db))),
+        last_db: end.last_db.max(roots_db.max(in_trees.db.max(numbers.db))),
         checkpoint: end.number,
     })
 }

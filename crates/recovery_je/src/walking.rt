@@ -22,29 +22,30 @@ use log_replay::Corruption;
 use node_core::{Marked, Node, Slot, Version};
 use record_tree::{LoadErr, Loads};
 use std::alloc::Global;
+use std::collections::BTreeSet;
 
 /// A reading of trees under way: the trees, the numbers of the nodes that were read, and the greatest
 /// numbers of a node and of a database in a catalog record.
 #[derive(Drop)]
 pub(crate) struct Walking<T> {
     pub(crate) trees: T,
-    pub(crate) seen: Vec<u64>,
+    pub(crate) seen: BTreeSet<u64>,
     pub(crate) node: u64,
     pub(crate) db: u32,
 }
 
-// Puts a node that was read.
-fn meet<T: Loads>(
+/// Puts a node that was read.
+pub(crate) fn meet<T: Loads>(
     walking: &mut Walking<T>,
     alloc: Global,
     node: &Node,
     low: &Name,
     at: Lsn,
 ) -> Result<(), LoadErr>
-    ensures { (walk : Walk) → IsWalking (T.stored walking.old.trees) walking.old.seen.items walking.old.node walking.old.db walk → OnOk result (IsWalking (T.stored walking.new.trees) walking.new.seen.items walking.new.node walking.new.db (met node.now walk)) }
+    ensures { (walk : Walk) → IsWalking (T.stored walking.old.trees) walking.old.seen.keys walking.old.node walking.old.db walk → OnOk result (IsWalking (T.stored walking.new.trees) walking.new.seen.keys walking.new.node walking.new.db (met node.now walk)) }
 {
     walking.trees.load_node(alloc, node, low, at)?;
-    if walking.seen.push(node.number).is_err() {
+    if walking.seen.insert(node.number).is_err() {
         return Err(LoadErr::Memory);
     }
     walking.node = walking.node.max(node.number);
@@ -60,7 +61,7 @@ fn put_record<T: Loads>(
     lsn: Lsn,
     value: &Octets,
 ) -> Result<(), LoadErr>
-    ensures { (walk : Walk) → IsWalking (T.stored walking.old.trees) walking.old.seen.items walking.old.node walking.old.db walk → OnOk result (IsWalking (T.stored walking.new.trees) walking.new.seen.items walking.new.node walking.new.db (with_record d (name.now, lsn) value.now walk)) }
+    ensures { (walk : Walk) → IsWalking (T.stored walking.old.trees) walking.old.seen.keys walking.old.node walking.old.db walk → OnOk result (IsWalking (T.stored walking.new.trees) walking.new.seen.keys walking.new.node walking.new.db (with_record d (name.now, lsn) value.now walk)) }
 {
     walking.trees.load(alloc, d, name, lsn, value.as_slice())?;
     walking.db = walking.db.max(number_in(d, value));
@@ -105,7 +106,7 @@ fn read_record<T: Loads>(
     lsn: Lsn,
 ) -> Result<(), ReadErr>
     requires order { AreInOrder entries.now }
-    ensures { (walk : Walk) → IsWalking (T.stored walking.old.trees) walking.old.seen.items walking.old.node walking.old.db walk → GoesOn (record_at (map (λ f. f.0) files.now) entries.now d at (name.now, lsn) walk) (IsWalking (T.stored walking.new.trees) walking.new.seen.items walking.new.node walking.new.db) result }
+    ensures { (walk : Walk) → IsWalking (T.stored walking.old.trees) walking.old.seen.keys walking.old.node walking.old.db walk → GoesOn (record_at (map (λ f. f.0) files.now) entries.now d at (name.now, lsn) walk) (IsWalking (T.stored walking.new.trees) walking.new.seen.keys walking.new.node walking.new.db) result }
 {
     if lsn.as_u64() >= at.as_u64() {
         return Err(ReadErr::Found(nowhere(files, lsn)));
@@ -131,7 +132,7 @@ fn read_slot<T: Loads>(
     slot: &Slot,
 ) -> Result<(), ReadErr>
     requires order { AreInOrder entries.now }
-    ensures { (walk : Walk) → IsWalking (T.stored walking.old.trees) walking.old.seen.items walking.old.node walking.old.db walk → GoesOn (each (record_at (map (λ f. f.0) files.now) entries.now d at) (named slot.now.name (lsn_in slot.now.version)) walk) (IsWalking (T.stored walking.new.trees) walking.new.seen.items walking.new.node walking.new.db) result }
+    ensures { (walk : Walk) → IsWalking (T.stored walking.old.trees) walking.old.seen.keys walking.old.node walking.old.db walk → GoesOn (each (record_at (map (λ f. f.0) files.now) entries.now d at) (named slot.now.name (lsn_in slot.now.version)) walk) (IsWalking (T.stored walking.new.trees) walking.new.seen.keys walking.new.node walking.new.db) result }
 {
     match slot.version {
         Version::There(lsn) => {
@@ -141,8 +142,8 @@ fn read_slot<T: Loads>(
     }
 }
 
-// Reads the records that the slots of the image at an LSN name.
-fn read_slots<T: Loads>(
+/// Reads the records that the slots of the image at an LSN name.
+pub(crate) fn read_slots<T: Loads>(
     walking: &mut Walking<T>,
     alloc: Global,
     files: &[FileNo],
@@ -152,7 +153,7 @@ fn read_slots<T: Loads>(
     slots: &[Marked],
 ) -> Result<(), ReadErr>
     requires order { AreInOrder entries.now }
-    ensures { (walk : Walk) → IsWalking (T.stored walking.old.trees) walking.old.seen.items walking.old.node walking.old.db walk → GoesOn (each (record_at (map (λ f. f.0) files.now) entries.now d at) (flat_map slot_shown slots.now) walk) (IsWalking (T.stored walking.new.trees) walking.new.seen.items walking.new.node walking.new.db) result }
+    ensures { (walk : Walk) → IsWalking (T.stored walking.old.trees) walking.old.seen.keys walking.old.node walking.old.db walk → GoesOn (each (record_at (map (λ f. f.0) files.now) entries.now d at) (flat_map slot_shown slots.now) walk) (IsWalking (T.stored walking.new.trees) walking.new.seen.keys walking.new.node walking.new.db) result }
 {
     for marked in slots {
         read_slot(walking, alloc, files, entries, d, at, &marked.slot)?;
@@ -186,16 +187,16 @@ fn are_within(low: &Name, high: Option<&Name>, slots: &[Marked]) -> bool
 }
 
 // Whether a node may stand at a level, within bounds, and behind nodes of these numbers.
-fn may_stand(node: &Node, level: u8, low: &Name, high: Option<&Name>, seen: &[u64]) -> bool
-    ensures { result ≡ node_may_stand level low.now (option_copied high.entry) seen.now node.now }
+fn may_stand(node: &Node, level: u8, low: &Name, high: Option<&Name>, seen: &BTreeSet<u64>) -> bool
+    ensures { result ≡ node_may_stand level low.now (option_copied high.entry) seen.now.keys node.now }
 {
     node.level == level
         && !seen.contains(&node.number)
         && are_within(low, high, node.slots.as_slice())
 }
 
-// The node that the image at an LSN shows, if it may stand there, behind nodes of these numbers.
-fn read_here(
+/// The node that the image at an LSN shows, if it may stand there, behind nodes of these numbers.
+pub(crate) fn read_here(
     alloc: Global,
     files: &[FileNo],
     entries: &[PlacedEntry],
@@ -204,11 +205,11 @@ fn read_here(
     low: &Name,
     high: Option<&Name>,
     at: Lsn,
-    seen: &[u64],
+    seen: &BTreeSet<u64>,
 ) -> Result<Node, ReadErr>
     requires order { AreInOrder entries.now }
     requires entries { AllByRecursion (λ p. IsEntry p.1) entries.now }
-    ensures { Answers (node_here (map (λ f. f.0) files.now) entries.now d level low.now (option_copied high.entry) at seen.now) result }
+    ensures { Answers (node_here (map (λ f. f.0) files.now) entries.now d level low.now (option_copied high.entry) at seen.now.keys) result }
 {
     let node = read_image(alloc, files, entries, d, at)?;
     if may_stand(&node, level, low, high, seen) {

@@ -38,9 +38,9 @@ use Rattle.je_answers.specs.Alone.{Alone}
 use Rattle.log_replay.specs.Rows.{Row, Rows, RowChange, catalog_number, is_catalog_row, is_environment, IsRising, pair_of, database_in, store_of, numbers_of}
 use Rattle.log_replay.specs.Logging.{record_named, number_named, kind_named, catalog_row_change, all_row_changes}
 use Rattle.log_replay.specs.Kept.{MayBeLogged}
-use Rattle.log_replay.proofs.ListLaws.{all_of_map, filter-map, found, none_found}
+use Rattle.log_replay.proofs.ListLaws.{filter-map, found, none_found}
 use Rattle.log_replay.proofs.RowLaws.{name_cmp-plain}
-use Rattle.log_replay.proofs.StoreLaws.{number_of_row, environment_parts, catalog_plain, row_named, key_of_row, database_of-store_of, database_of-numbered, database_of-absent, length-databases}
+use Rattle.log_replay.proofs.StoreLaws.{environment_parts, catalog_plain, row_named, key_of_row, database_of-store_of, database_of-numbered, database_of-absent, length-databases}
 use Rattle.log_replay.proofs.LoggedLaws.{record_for, record-again, IsSound, number-within}
 use Rattle.txn_core.specs.Known.{Known, has_number}
 use Rattle.txn_core.specs.declared.planned.Planned.{Planned}
@@ -51,6 +51,7 @@ use Rattle.txn_core.specs.Totals.{totals_of}
 use Rattle.txn_core.specs.Planning.{outcome_alone, row_by, CanPlan, HasModel, IsPlannedLog, IsPlanned}
 use Rattle.txn_core.specs.Plans.{catalog_planned, totals_by, IsNamed, number_made, LogsCatalog, IsCatalogPlan}
 use Rattle.txn_core.proofs.ViewLaws.{one_found}
+use Rattle.txn_core.proofs.PlanParts.{sound_plan}
 use Rattle.txn_core.proofs.NumberLaws.{or_false, same_either, not_below}
 
 -- ---- the outcome
@@ -438,15 +439,6 @@ catalog_totals rows (Empty db) env up can =
 
 -- ---- what is planned
 
--- what is known is right
-known_sound : (known : Known) → CanPlan known → IsSound known.rows known.last_db
-known_sound known can = record {
-  environment = environment_parts known.rows can.environment;
-  rising = can.rising;
-  unused = can.unused;
-  numbers = all_of_map number_of_row (λ n. n ≤ known.last_db) (known.rows 0) can.numbers;
-}
-
 -- what the catalog says is what the model says
 outcome_known : (known : Known) (p : Alone) (session : ℕ) (call : Call) → CanPlan known → HasModel known p → is_catalog_call call ≡ true →
     outcome_alone p session call ≡ outcome_of call (store_of known.rows)
@@ -464,7 +456,7 @@ catalog_logged known p session call planned change can has is may log =
       rows = λ txn. ap (map (row_by txn)) log.rows ∙ catalog_rows log.makes txn known.last_db rows change may;
       entries = λ txn low. subst (λ (l : List TreeChange). AllByRecursion (CanBeEncoded txn) l) (sym log.rows)
           (catalog_entries log.makes txn known.last_db rows change can.environment may log.named low);
-      may = λ low. (catalog_may rows known.last_db change (known_sound known can) may log.named (subst (λ n. n < 2 ^ 32) log.last_db low), tt);
+      may = λ low. (catalog_may rows known.last_db change (sound_plan known can) may log.named (subst (λ n. n < 2 ^ 32) log.last_db low), tt);
       last_db = log.last_db;
       totals = log.totals ∙ ap (λ (t : Totals). totals_by t rows change) can.totals ∙ catalog_totals rows change can.environment (can.rising 0) may
           ∙ ap (λ (s : Store). totals_of (changed change s)) has.store;

@@ -6,17 +6,23 @@ use Rattle.db_catalog.specs.declared.db_kind.DbKind.{DbKind}
 use Rattle.db_catalog.specs.declared.db_kind.DbKind.TheVariants.{Plain as PlainRecord, Dup as DupRecord, SliceIndex, FieldIndex}
 use Rattle.db_catalog.specs.declared.db_record.DbRecord.{DbRecord}
 use Rattle.db_catalog.specs.declared.found_db.FoundDb.{FoundDb}
+use Rattle.db_catalog.specs.declared.catalog_change.CatalogChange.{CatalogChange}
 use Rattle.db_catalog.specs.Catalog.{db_record_in, kind_bytes}
 use Rattle.db_catalog.specs.Planning.{found_in, found_db, kind_of_catalog, kind_in_catalog, logged_as, renewed}
 use Rattle.store_model.specs.declared.kind.Kind.{Kind}
+use Rattle.store_model.specs.declared.totals.Totals.{Totals}
 use Rattle.store_model.specs.declared.change.Change.{Change}
 use Rattle.store_model.specs.declared.change.Change.TheVariants.{Set, Unset, Make, Remove, Rename, Empty}
 use Rattle.store_model.specs.Evaluation.{plain_name}
 use Rattle.log_replay.specs.Rows.{Row, Rows, row_at, is_environment, are_right, number_or_0, kind_or_plain, database_number, database_kind}
 use Rattle.log_replay.specs.Logging.{record_in, record_named, number_named, kind_named}
-use Rattle.log_replay.proofs.StoreLaws.{environment_parts, named-right, named-above}
+use Rattle.log_replay.proofs.ListLaws.{all_of_map}
+use Rattle.log_replay.proofs.LoggedLaws.{IsSound}
+use Rattle.log_replay.proofs.StoreLaws.{number_of_row, environment_parts, named-right, named-above}
 use Rattle.record_tree.specs.declared.tree_change.TreeChange.{TreeChange}
-use Rattle.txn_core.specs.Plans.{catalog_planned}
+use Rattle.txn_core.specs.Known.{Known}
+use Rattle.txn_core.specs.Planning.{CanPlan, gone_by}
+use Rattle.txn_core.specs.Plans.{catalog_planned, databases_by, records_without, totals_by}
 
 -- ---- the database that was found
 
@@ -63,7 +69,7 @@ pub bytes_anew : (last : ℕ) → last < 2 ^ 32 → 2 ^ 32 ≤ last + 1 → to_b
 bytes_anew last low high = let is : 2 ^ 32 ≡ last + 1 = omega arith in ap (to_be_bytes w32) is
 
 -- only a number's bytes are logged
-pub same_logged : (makes : Option ℕ) (record_of : List ℕ → Option DbRecord) (a b : ℕ) (change : Change) → to_be_bytes w32 a ≡ to_be_bytes w32 b →
+same_logged : (makes : Option ℕ) (record_of : List ℕ → Option DbRecord) (a b : ℕ) (change : Change) → to_be_bytes w32 a ≡ to_be_bytes w32 b →
     map (catalog_planned makes) (logged_as record_of a change) ≡ map (catalog_planned makes) (logged_as record_of b change)
 same_logged makes record_of a b (Set db at value) h = refl
 same_logged makes record_of a b (Unset db at) h = refl
@@ -83,3 +89,27 @@ same_logged makes record_of a b (Empty db) h = by_record (record_of db)
 pub first_is : (changes : List Change) (change : Change) → 1 ≤ length changes → change ≡ slice_index_or changes 0 change → (more : List Change) × (changes ≡ change ∷ more)
 first_is [] change some is = absurd (omega (arith, some))
 first_is (c ∷ more) change some is = (more, ap (λ (x : Change). x ∷ more) (sym is))
+
+-- ---- what a plan rests on
+
+-- what a plan needs is sound
+pub sound_plan : (known : Known) → CanPlan known → IsSound known.rows known.last_db
+sound_plan known can = record {
+  environment = environment_parts known.rows can.environment;
+  rising = can.rising;
+  unused = can.unused;
+  numbers = all_of_map number_of_row (λ n. n ≤ known.last_db) (known.rows 0) can.numbers;
+}
+
+-- ---- what is logged of the catalog
+
+-- the changes are those of the next number, of which only the bytes count
+pub logs_next : (makes : Option ℕ) (record_of : List ℕ → Option DbRecord) (a b : ℕ) (change : Change) (logged : List CatalogChange) (changes : List TreeChange) →
+    changes ≡ map (catalog_planned makes) logged → logged ≡ logged_as record_of a change → to_be_bytes w32 a ≡ to_be_bytes w32 b → changes ≡ map (catalog_planned makes) (logged_as record_of b change)
+logs_next makes record_of a b change logged changes planned is same = planned ∙ ap (map (catalog_planned makes)) is ∙ same_logged makes record_of a b change same
+
+-- how much the store then holds
+pub totals_are : (rows : Rows) (change : Change) (totals : Totals) (databases records : ℕ) (gone : Option ℕ) → databases ≡ databases_by totals.databases change → gone ≡ gone_by rows change →
+    records ≡ records_without totals.records rows gone → record { databases = databases; records = records } ≡ totals_by totals rows change
+totals_are rows change totals databases records gone more goes less =
+    let make : ℕ → ℕ → Totals = λ d r. record { databases = d; records = r } in ap₂ make more (less ∙ ap (records_without totals.records rows) goes)

@@ -4,6 +4,7 @@ use Rattle.std.specs.List.{AllByRecursion, list_all}
 use Rattle.std.specs.List.Sorted.{IsStrictlySortedBy}
 use Rattle.std.specs.Map.{keys_of}
 use Rattle.std.specs.Ordering.{is_gt, is_ge, ordering_reverse}
+use Rattle.std.proofs.lemmas.List.{append-nil, length-append}
 use Rattle.std.proofs.lemmas.Option.{none-some, same_Some}
 use Rattle.je_order.specs.Order.{name_cmp}
 use Rattle.je_order.specs.declared.name.Name.{Name}
@@ -12,6 +13,7 @@ use Rattle.je_order.specs.Edges.Edge.{First, At, Behind, End}
 use Rattle.cursor_je.proofs.EdgeLaws.{stays_above}
 use Rattle.record_map.specs.Held.{names_are_ordered}
 use Rattle.record_map.specs.Cells.{value_at, IsRising, first_of, last_of, from_edge, below_edge}
+use Rattle.record_map.proofs.EdgeLaws.{last_is}
 use Rattle.record_map.proofs.NameLaws.{same_or_other, name_same, name_exact, other_stays, same_gets}
 use Rattle.record_tree.specs.Occupied.{Occupied, value_in}
 use Rattle.log_replay.specs.Rows.{Row, data_at}
@@ -22,9 +24,6 @@ use Rattle.txn_core.specs.Known.{with_row, committed_rows}
 
 flipped : (a b : Name) → name_cmp a b ≡ Less → name_cmp b a ≡ Greater
 flipped a b h = names_are_ordered.antisymm b a ∙ ap ordering_reverse h
-
-flipped_back : (a b : Name) → name_cmp a b ≡ Greater → name_cmp b a ≡ Less
-flipped_back a b h = names_are_ordered.antisymm b a ∙ ap ordering_reverse h
 
 below_all : (q y : Name) (names : List Name) → name_cmp q y ≡ Less → AllByRecursion (λ z. name_cmp y z ≡ Less) names → AllByRecursion (λ z. name_cmp q z ≡ Less) names
 below_all q y [] less all = tt
@@ -49,7 +48,7 @@ behind_itself n = ap is_ge (name_same n)
 at_itself : (n : Name) → is_below (At n) n ≡ false
 at_itself n = ap is_gt (name_same n)
 
--- what is below a name that is itself behind another one
+-- a name behind another one is not below the edge behind that
 not_behind : (n : Name) (e : Name) → name_cmp n e ≡ Less → is_below (Behind n) e ≡ false
 not_behind n e less = ap is_ge less
 
@@ -146,14 +145,10 @@ step_below {V} edge e (f ∷ l) up is = by_test (is_below edge f.0) refl (λ las
     by_test true below rest = down_taken edge f l below ∙ by_rest (below_edge edge l) refl rest (is ∙ ap last_of (down_taken edge f l below))
     by_test false above rest = absurd (none-some e (sym (is ∙ ap last_of (down_dropped edge f l above ∙ none_below edge f.0 l above up.0))))
 
-length_more : {X : Type 0} (a : List X) (x : X) → length (a ++ x ∷ []) ≡ length a + 1
-length_more [] x = refl
-length_more (y ∷ a) x = let more = length_more a x in omega (arith, more)
-
 pub fewer_below : {V : Type 0} (edge : Edge) (e : Name × V) (l : List (Name × V)) → IsRising l → Some e ≡ last_of (below_edge edge l) → length (below_edge (At e.0) l) < length (below_edge edge l)
 fewer_below edge e l up is =
     let all = ap length (step_below edge e l up is) in
-    let more = length_more (below_edge (At e.0) l) e in
+    let more = length-append (below_edge (At e.0) l) (e ∷ []) in
     omega (arith, all, more)
 
 -- ---- the cell of a name
@@ -298,17 +293,7 @@ passed_from edge e cells up is none =
     ∙ ap (λ (v : Option (List ℕ)). with_row e.0 v (committed_rows (from_edge (Behind e.0) cells))) none
     ∙ ap committed_rows (sym (step_from edge e cells up is)) ∙ sym (committed_from edge cells)
 
--- and so for the last one below an edge
-last_is : {A : Type 0} (front : List A) (x : A) → last_of (front ++ x ∷ []) ≡ Some x
-last_is [] x = refl
-last_is (y ∷ []) x = refl
-last_is (y ∷ z ∷ front) x = last_is (z ∷ front) x
-
-append_none : {X : Type 0} (a : List X) → a ++ [] ≡ a
-append_none [] = refl
-append_none {X} (x ∷ a) = ap (λ (l : List X). x ∷ l) (append_none a)
-
--- the records below an edge: those below the last cell, and the record of its data
+-- and so for the last one below an edge: the records are those below the last cell, and the record of its data
 below_parts : (edge : Edge) (e : Name × Occupied) (cells : List (Name × Occupied)) → IsRising cells → Some e ≡ last_of (below_edge edge cells) →
     below_edge edge (committed_rows cells) ≡ below_edge (At e.0) (committed_rows cells) ++ with_row e.0 e.1.value []
 below_parts edge e cells up is =
@@ -327,7 +312,7 @@ pub passed_below : (edge : Edge) (e : Name × Occupied) (cells : List (Name × O
 passed_below edge e cells up is none =
     sym (below_parts edge e cells up is
     ∙ ap (λ (v : Option (List ℕ)). below_edge (At e.0) (committed_rows cells) ++ with_row e.0 v []) (sym none)
-    ∙ append_none (below_edge (At e.0) (committed_rows cells)))
+    ∙ append-nil (below_edge (At e.0) (committed_rows cells)))
 
 -- the data of a name, from the first cell at it
 pub data_first : (name : Name) (o : Option (Name × Occupied)) (cells : List (Name × Occupied)) → IsRising cells → o ≡ first_of (from_edge (At name) cells) → value_in (at_name name o) ≡ data_at name (committed_rows cells)

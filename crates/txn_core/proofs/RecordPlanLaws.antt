@@ -48,9 +48,9 @@ use Rattle.store_model.specs.Refusals.{made_by, or_refusal, too_long, data_limit
 use Rattle.je_answers.specs.Alone.{Alone}
 use Rattle.log_replay.specs.Rows.{Row, Rows, RowChange, row_changed, data_at, row_at, is_right_row, are_right, IsRising, pair_of, store_of, numbers_of, number_or_0}
 use Rattle.log_replay.specs.Logging.{record_named, number_named, kind_named, last_db_after}
-use Rattle.log_replay.proofs.ListLaws.{all_true, all_both, all_of_map, all_to_map, map-map, map_same}
+use Rattle.log_replay.proofs.ListLaws.{all_true, all_both, all_to_map, map-map, map_same}
 use Rattle.log_replay.proofs.RowLaws.{name_of-right, proper-right, rising_head, rising_tail, name_flipped}
-use Rattle.log_replay.proofs.StoreLaws.{environment_parts, environment_from, number_of_row, row_changed-here, database_of-numbered, database_of-absent}
+use Rattle.log_replay.proofs.StoreLaws.{environment_from, row_changed-here, database_of-numbered, database_of-absent}
 use Rattle.log_replay.proofs.NameLaws.{data-with, number-same}
 use Rattle.log_replay.proofs.LoggedLaws.{IsSound, step}
 use Rattle.log_replay.proofs.TransactionLaws.{sound-after}
@@ -66,7 +66,7 @@ use Rattle.txn_core.specs.Plans.{record_planned, records_with, records_by, LogsR
 use Rattle.txn_core.proofs.OutcomeLaws.{outcome_by, outcome_get, outcome_get_both, outcome_put, outcome_delete, answered_is}
 use Rattle.txn_core.proofs.NumberLaws.{number_there, not_under}
 use Rattle.txn_core.proofs.ViewLaws.{searched}
-use Rattle.txn_core.proofs.PlanParts.{IsFound, found_right}
+use Rattle.txn_core.proofs.PlanParts.{IsFound, found_right, sound_plan}
 use Rattle.txn_core.proofs.RecordLaws.{IsRightChange, records_rows, records_may, catalog_left, kind_left}
 
 -- ---- the records that a delete takes
@@ -329,15 +329,6 @@ delete_good last_db rows db kind number key ts sound is has same low taken =
     }
 
 -- ---- what a call comes to
-
--- what a plan needs is sound
-sound_plan : (known : Known) → CanPlan known → IsSound known.rows known.last_db
-sound_plan known can = record {
-  environment = environment_parts known.rows can.environment;
-  rising = can.rising;
-  unused = can.unused;
-  numbers = all_of_map number_of_row (λ n. n ≤ known.last_db) (known.rows 0) can.numbers;
-}
 
 -- no database number is allocated
 made_none : (db : List ℕ) (cs : List RecordChange) → made_by (map (λ c. change_in db c) cs) ≡ 0

@@ -18,7 +18,7 @@ use Rattle.db_catalog.specs.declared.catalog_change.CatalogChange.TheVariants.{P
 use Rattle.db_catalog.specs.Catalog.{record_bytes}
 use Rattle.db_catalog.specs.Planning.{logged_as}
 use Rattle.log_replay.specs.Rows.{Row, Rows, data_at, pair_of}
-use Rattle.log_replay.specs.Logging.{record_named, number_named}
+use Rattle.log_replay.specs.Logging.{record_named}
 use Rattle.record_tree.specs.declared.tree_change.TreeChange.{TreeChange}
 use Rattle.txn_core.specs.declared.planned.Planned.{Planned}
 use Rattle.txn_core.specs.declared.planned.Planned.TheVariants.{Answered, Logs}
@@ -76,12 +76,19 @@ number_made number (Make db kind) = Some number
 number_made number (Empty db) = Some number
 number_made number change = None
 
--- how much the store holds after a change of the catalog
+-- how many databases there are after a change of the catalog, how many records without those of a database that goes, and how much the store
+-- then holds
+abbrev pub databases_by : ℕ → Change → ℕ
+databases_by databases (Make db kind) = databases + 1
+databases_by databases (Remove db) = databases - 1
+databases_by databases change = databases
+
+abbrev pub records_without : ℕ → Rows → Option ℕ → ℕ
+records_without records rows None = records
+records_without records rows (Some number) = records - length (rows number)
+
 abbrev pub totals_by : Totals → Rows → Change → Totals
-totals_by totals rows (Make db kind) = record { databases = totals.databases + 1; records = totals.records }
-totals_by totals rows (Remove db) = record { databases = totals.databases - 1; records = totals.records - length (rows (number_named rows db)) }
-totals_by totals rows (Empty db) = record { databases = totals.databases; records = totals.records - length (rows (number_named rows db)) }
-totals_by totals rows change = totals
+totals_by totals rows change = record { databases = databases_by totals.databases change; records = records_without totals.records rows (gone_by rows change) }
 
 -- the name that a change gives a database is one
 abbrev pub IsNamed : Change → Type 0

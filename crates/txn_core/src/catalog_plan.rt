@@ -8,7 +8,7 @@ ghost use Rattle.log_replay.specs.Logging.{record_named, number_named};
 ghost use Rattle.db_catalog.specs.Planning.{is_catalog_call, outcome_of};
 ghost use Rattle.txn_core.specs.Known.{committed, known_of};
 ghost use Rattle.txn_core.specs.Planning.{gone_by};
-ghost use Rattle.txn_core.specs.Plans.{catalog_planned, number_made, totals_by, IsNamed, LogsCatalog, IsCatalogPlan};
+ghost use Rattle.txn_core.specs.Plans.{catalog_planned, databases_by, number_made, records_without, IsNamed, LogsCatalog, IsCatalogPlan};
 
 use crate::catalog_rows::CatalogRows;
 use crate::planned::Planned;
@@ -86,43 +86,25 @@ fn number_under<T: Records>(trees: &T, alloc: Global, db: &Word) -> Result<u32, 
     }
 }
 
-// So many records without those of the database of that name.
-fn records_without<T: Records>(
-    trees: &T,
-    alloc: Global,
-    records: u64,
-    db: &Word,
-) -> Result<u64, AllocError>
-    ensures { IfOk result (λ left. left ≡ records - length (committed (T.cells trees.now) (number_named (committed (T.cells trees.now)) db.now))) }
+// How many databases there are after a change; out of memory where that is no number.
+fn databases_after(databases: u64, change: &Change) -> Result<u64, AllocError>
+    ensures { IfOk result (λ after. after ≡ databases_by databases change.now) }
 {
-    let number = number_under(trees, alloc, db)?;
-    Ok(without_db(trees, number, records))
+    match change {
+        Change::Make { .. } => databases.checked_add(1).ok_or(AllocError),
+        Change::Remove { .. } => Ok(databases.saturating_sub(1)),
+        _ => Ok(databases),
+    }
 }
 
-// How much the store holds after a change of the catalog; out of memory where that is no number.
-fn totals_after<T: Records>(
-    trees: &T,
-    alloc: Global,
-    totals: Totals,
-    change: &Change,
-) -> Result<Totals, AllocError>
-    ensures { IfOk result (λ after. after ≡ totals_by totals (committed (T.cells trees.now)) change.now) }
+// So many records without those of the database that goes.
+fn records_left<T: Records>(trees: &T, records: u64, gone: Option<u32>) -> u64
+    ensures { result ≡ records_without records (committed (T.cells trees.now)) gone }
 {
-    let mut after = totals;
-    match change {
-        Change::Make { .. } => {
-            after.databases = after.databases.checked_add(1).ok_or(AllocError)?;
-        }
-        Change::Remove { db } => {
-            after.databases = after.databases.saturating_sub(1);
-            after.records = records_without(trees, alloc, after.records, db)?;
-        }
-        Change::Empty { db } => {
-            after.records = records_without(trees, alloc, after.records, db)?;
-        }
-        _ => {}
+    match gone {
+        Some(number) => without_db(trees, number, records),
+        None => records,
     }
-    Ok(after)
 }
 
 // The number of the database whose tree goes with a change.
@@ -197,8 +179,9 @@ fn log_catalog<T: Records>(
     ensures { IfOk result (LogsCatalog (known_of (T.cells catalog.now.trees.now) totals last_db) change.now) }
 {
     see_name(change);
-    let totals = totals_after(catalog.trees, alloc, totals, change)?;
+    let databases = databases_after(totals.databases, change)?;
     let gone = gone_with(catalog.trees, alloc, change)?;
+    let records = records_left(catalog.trees, totals.records, gone);
     let number = next_number(last_db);
     let makes = number_made_by(last_db, change);
     let logged = catalog_changes(alloc, catalog, number, change)?;
@@ -207,7 +190,7 @@ fn log_catalog<T: Records>(
     Ok(PlannedChanges {
         changes,
         last_db: last_db_after(last_db, change),
-        totals,
+        totals: Totals { databases, records },
         gone,
     })
 }

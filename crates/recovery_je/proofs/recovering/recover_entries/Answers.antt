@@ -19,9 +19,9 @@ returns-in_err-settled-clause-found g c =
     let at : e ≡ last_checkpoint es = c.end.view_is ∙ c.or_none-end.ensures ∙ ap (λ (o : Option Checkpoint). unwrap_or o no_checkpoint) found_end in
     let right = c.redo_corruption-corruption.ensures ∙ ap (redo_corruption files) found_end in
     let walk = c.in_ok-walked.ensures.read.0 in
-    let before = g.T.Loads.stored c.read_trees.new.trees in
-    let walked = subst (λ (k : Checkpoint). IsWalked files es k c.in_ok-walked.walked before walk) (sym c.end.view_is)
-    (subst (λ (l : List Placed). IsWalked files l c.or_none-end.result c.in_ok-walked.walked before walk) c.deref-2.ensures.value c.in_ok-walked.ensures.read.1) in
+    let before = g.T.Loads.stored c.in_ok-walked.walked.trees in
+    let walked = subst (λ (k : Checkpoint). IsWalked files es k c.in_ok-walked.walked.numbers before walk) (sym c.end.view_is)
+    (subst (λ (l : List Placed). IsWalked files l c.or_none-end.result c.in_ok-walked.walked.numbers before walk) c.deref-2.ensures.value c.in_ok-walked.ensures.read.1) in
     let redo = behind walk.rows (redone e.redo es) in
     handed_on (IsWrong redo) (λ f. meaning_in files es ≡ Err f) c.from_residual-in_err-settled.result c.in_err-settled.field-0.0 c.from_residual-in_err-settled.ensures.1
     (c.in_err-settled.ensures.found redo (c.in_ok-trees.ensures walk.rows walked.records))
@@ -36,17 +36,17 @@ returns-clause-meant g c =
     let at : e ≡ last_checkpoint es = c.end.view_is ∙ c.or_none-end.ensures ∙ ap (λ (o : Option Checkpoint). unwrap_or o no_checkpoint) found_end in
     let right = c.redo_corruption-corruption.ensures ∙ ap (redo_corruption files) found_end in
     let walk = c.in_ok-walked.ensures.read.0 in
-    let before = g.T.Loads.stored c.read_trees.new.trees in
-    let walked = subst (λ (k : Checkpoint). IsWalked files es k c.in_ok-walked.walked before walk) (sym c.end.view_is)
-    (subst (λ (l : List Placed). IsWalked files l c.or_none-end.result c.in_ok-walked.walked before walk) c.deref-2.ensures.value c.in_ok-walked.ensures.read.1) in
+    let before = g.T.Loads.stored c.in_ok-walked.walked.trees in
+    let walked = subst (λ (k : Checkpoint). IsWalked files es k c.in_ok-walked.walked.numbers before walk) (sym c.end.view_is)
+    (subst (λ (l : List Placed). IsWalked files l c.or_none-end.result c.in_ok-walked.walked.numbers before walk) c.deref-2.ensures.value c.in_ok-walked.ensures.read.1) in
     let redo = behind walk.rows (redone e.redo es) in
-    meant files es e c.redo_corruption-corruption.result c.in_ok-walked.walked before (g.T.Loads.stored c.in_ok-settled.settled.trees) (g.T.Loads.has_tree c.in_ok-settled.settled.trees) c.in_ok-settled.settled.opening
+    meant files es e c.redo_corruption-corruption.result c.in_ok-walked.walked.numbers before (g.T.Loads.stored c.in_ok-settled.settled.trees) (g.T.Loads.has_tree c.in_ok-settled.settled.trees) c.in_ok-settled.settled.opening
     c.in_ok-settled.settled.databases c.in_ok-settled.settled.records c.max-2.result c.max-last_node.result c.max-5.result walk at right c.in_ok-walked.ensures.right walked
     (c.in_ok-settled.ensures.settled redo (c.in_ok-trees.ensures walk.rows walked.records))
     (c.max-2.ensures ∙ ap (λ (n : ℕ). max e.last_txn n) (c.of-numbers.ensures.txn ∙ ap (λ (l : List Placed). most (λ (p : Placed). txn_in p.1) (from e.redo l)) c.deref-3.ensures.value))
-    (c.max-last_node.ensures ∙ ap (λ (n : ℕ). max e.last_node n) (c.max.ensures ∙ ap (λ (n : ℕ). max c.in_ok-walked.walked.node n)
+    (c.max-last_node.ensures ∙ ap (λ (n : ℕ). max e.last_node n) (c.max.ensures ∙ ap (λ (n : ℕ). max c.in_ok-walked.walked.numbers.node n)
     (c.of-numbers.ensures.node ∙ ap (λ (l : List Placed). most (λ (p : Placed). node_number p.1) (from e.redo l)) c.deref-3.ensures.value)))
     (c.max-5.ensures ∙ ap (λ (n : ℕ). max e.last_db n) (c.max-4.ensures
     ∙ ap (λ (n : ℕ). max n c.max-3.result) (c.greatest_db-roots_db.ensures ∙ ap (most (λ (r : Root). r.db)) c.as_slice.ensures)
-    ∙ ap (λ (n : ℕ). max (most (λ (r : Root). r.db) e.roots) n) (c.max-3.ensures ∙ ap (λ (n : ℕ). max c.in_ok-walked.walked.db n)
+    ∙ ap (λ (n : ℕ). max (most (λ (r : Root). r.db) e.roots) n) (c.max-3.ensures ∙ ap (λ (n : ℕ). max c.in_ok-walked.walked.numbers.db n)
     (c.of-numbers.ensures.db ∙ ap (λ (l : List Placed). most (λ (p : Placed). db_number p.1) (from e.redo l)) c.deref-3.ensures.value))))

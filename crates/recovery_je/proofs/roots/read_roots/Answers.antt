@@ -1,10 +1,30 @@
-use Rattle.std.proofs.Common.{◌∙◌, ap, sym, map}
+use Rattle.std.proofs.Common.{◌≡◌, ◌∙◌, ap, sym, map, List, [], Err}
+use Rattle.log_entry.specs.declared.root.Root.{Root}
+use Rattle.log_trees.specs.Walk.{Walk, each, read_root, read_roots}
 use Rattle.log_meaning.specs.Checkpoint.{Checkpoint}
-use Rattle.recovery_je.proofs.MeaningLaws.{no_roots, walked_none}
+use Rattle.recovery_je.proofs.MeaningLaws.{handed_on}
+use Rattle.recovery_je.proofs.RootWalks.{walk_begins, walk_ends}
 use Rattle.recovery_je.proofs.roots.read_roots.Goals as goal
 
-pub returns-then-is_empty-clause-read : goal.returns-then-is_empty-clause-read
-returns-then-is_empty-clause-read g c =
-    walked_none (map (λ f. f.0) c.args._files.now) c.args._entries.now c.args.end.now (g.T.Loads.stored c.args._trees.now)
-    (sym (ap (λ (e : Checkpoint). e.roots) c.end.view_is) ∙ no_roots c.end.inside.roots (sym c.is_empty.ensures ∙ c.if-is_empty.true))
-    (λ d. g.met.T.Loads.none_stored c.args._trees.now d (c.requires.empty d))
+pub returns-in_err-read_each-clause-found : goal.returns-in_err-read_each-clause-found
+returns-in_err-read_each-clause-found g c =
+    let files = map (λ f. f.0) c.args.files.now in
+    let es = c.args.entries.now in
+    let none : Walk = record { seen = []; rows = [] } in
+    let same : each (read_root files es c.end.inside.at) c.as_slice.result.now none ≡ read_roots files es c.args.end.now.at c.args.end.now.roots =
+    ap (λ (l : List Root). read_roots files es c.end.inside.at l) c.as_slice.ensures ∙ ap (λ (k : Checkpoint). read_roots files es k.at k.roots) c.end.view_is in
+    let begins = walk_begins (g.T.Loads.stored c.args.trees) c.new.result.keys (λ d. g.met.T.Loads.none_stored c.args.trees d (c.requires.empty d)) c.new.ensures.empty in
+    handed_on (λ f. each (read_root files es c.end.inside.at) c.as_slice.result.now none ≡ Err f) (λ f. read_roots files es c.args.end.now.at c.args.end.now.roots ≡ Err f) c.from_residual.result
+    c.in_err-read_each.field-0.0 c.from_residual.ensures.1 (c.in_err-read_each.ensures none begins) (λ f is. sym same ∙ is)
+
+pub returns-clause-read : goal.returns-clause-read
+returns-clause-read g c =
+    let files = map (λ f. f.0) c.args.files.now in
+    let es = c.args.entries.now in
+    let none : Walk = record { seen = []; rows = [] } in
+    let same : each (read_root files es c.end.inside.at) c.as_slice.result.now none ≡ read_roots files es c.args.end.now.at c.args.end.now.roots =
+    ap (λ (l : List Root). read_roots files es c.end.inside.at l) c.as_slice.ensures ∙ ap (λ (k : Checkpoint). read_roots files es k.at k.roots) c.end.view_is in
+    let begins = walk_begins (g.T.Loads.stored c.args.trees) c.new.result.keys (λ d. g.met.T.Loads.none_stored c.args.trees d (c.requires.empty d)) c.new.ensures.empty in
+    let done = c.in_ok-read_each.ensures none begins in
+    let after = c.read_each.new.walking in
+    walk_ends files es c.args.end.now (g.T.Loads.stored after.trees) after.seen.keys after.node after.db (done.0, sym same ∙ done.1, done.2)

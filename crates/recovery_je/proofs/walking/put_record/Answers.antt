@@ -7,6 +7,6 @@ pub returns : goal.returns
 returns g c walk at =
     let before = g.T.Loads.stored c.args.walking.now.trees in
     let after = g.T.Loads.stored c.load.new.self in
-    with_one before after c.args.walking.now.seen.items c.args.walking.now.node c.args.walking.now.db c.max-walking.result c.args.d c.args.name.now c.args.lsn c.args.value.now walk
+    with_one before after c.args.walking.now.seen.keys c.args.walking.now.node c.args.walking.now.db c.max-walking.result c.args.d c.args.name.now c.args.lsn c.args.value.now walk
     (subst (λ (v : List ℕ). HasStored before after c.args.d c.args.name.now (stored_at c.args.lsn (Some v))) c.as_slice.ensures c.in_ok-load.ensures)
     (c.max-walking.ensures ∙ ap (max c.args.walking.now.db) c.number_in.ensures) at

@@ -1,5 +1,0 @@
-use Rattle.std.proofs.Common.{rules}
-use Rattle.log_replay.proofs.reading.corruption_of_prefix.Goals as goal
-
-pub returns : goal.returns
-returns c = search rules

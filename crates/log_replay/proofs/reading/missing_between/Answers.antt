@@ -1,5 +1,0 @@
-use Rattle.std.proofs.Common.{rules}
-use Rattle.log_replay.proofs.reading.missing_between.Goals as goal
-
-pub returns-else-after-before : goal.returns-else-after-before
-returns-else-after-before c = search rules

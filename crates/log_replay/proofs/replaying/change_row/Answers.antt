@@ -1,7 +1,0 @@
-use Rattle.log_replay.proofs.replaying.change_row.Goals as goal
-
-pub returns-in-Some : goal.returns-in-Some
-returns-in-Some c = rw c.in-Some.is c.put.ensures
-
-pub returns-in-None : goal.returns-in-None
-returns-in-None c = rw c.in-None.is c.unset.ensures

@@ -1,0 +1,207 @@
+// Reading the tree below an image: a node, and then what its slots name, from the left.
+ghost use Rattle.std.specs.Prelude.{◌≡◌, ◌<◌, ℕ, map, option_copied};
+ghost use Rattle.std.specs.List.{AllByRecursion, flat_map};
+ghost use Rattle.log_entry.specs.Body.{IsEntry};
+ghost use Rattle.log_trees.specs.Placed.{AreInOrder};
+ghost use Rattle.log_trees.specs.Images.{slot_shown};
+ghost use Rattle.log_trees.specs.Sound.{children};
+ghost use Rattle.log_trees.specs.Walk.{Walk, each, read_here as node_here, read_child, read_node as node_at};
+ghost use Rattle.recovery_je.specs.Walking.{IsWalking, GoesOn, HasMet, read_below as below_node, waiting as child_waiting, low_behind as low_of_next};
+
+use crate::images::nowhere;
+use crate::placed_entry::PlacedEntry;
+use crate::read_err::ReadErr;
+use crate::walking::{Walking, meet, read_here, read_slots};
+use je_lsn::{FileNo, Lsn};
+use je_order::Name;
+use node_core::{Marked, Node, Version};
+use record_tree::Loads;
+use std::alloc::Global;
+
+// Reads the node that the image at an LSN shows, and puts it.
+fn take_node<T: Loads>(
+    walking: &mut Walking<T>,
+    alloc: Global,
+    files: &[FileNo],
+    entries: &[PlacedEntry],
+    d: u32,
+    level: u8,
+    low: &Name,
+    high: Option<&Name>,
+    at: Lsn,
+) -> Result<Node, ReadErr>
+    requires order { AreInOrder entries.now }
+    requires entries { AllByRecursion (λ p. IsEntry p.1) entries.now }
+    ensures { (walk : Walk) → IsWalking (T.stored walking.old.trees) walking.old.seen.keys walking.old.node walking.old.db walk → HasMet (node_here (map (λ f. f.0) files.now) entries.now d level low.now (option_copied high.entry) at walk.seen) walk (IsWalking (T.stored walking.new.trees) walking.new.seen.keys walking.new.node walking.new.db) result }
+{
+    let node = read_here(
+        alloc,
+        files,
+        entries,
+        d,
+        level,
+        low,
+        high,
+        at,
+        &walking.seen,
+    )?;
+    meet(walking, alloc, &node, low, at)?;
+    Ok(node)
+}
+
+/// Reads the tree below an image that stands `above` levels above its BINs, and whose names lie within
+/// these bounds.
+#[cycle(descending)]
+pub(crate) fn read_node<T: Loads>(
+    walking: &mut Walking<T>,
+    alloc: Global,
+    files: &[FileNo],
+    entries: &[PlacedEntry],
+    d: u32,
+    above: u8,
+    low: &Name,
+    high: Option<&Name>,
+    at: Lsn,
+) -> Result<(), ReadErr>
+    requires level { above < 255 }
+    requires order { AreInOrder entries.now }
+    requires entries { AllByRecursion (λ p. IsEntry p.1) entries.now }
+    ensures { (walk : Walk) → IsWalking (T.stored walking.old.trees) walking.old.seen.keys walking.old.node walking.old.db walk → GoesOn (node_at (map (λ f. f.0) files.now) entries.now d above low.now (option_copied high.entry) at walk) (IsWalking (T.stored walking.new.trees) walking.new.seen.keys walking.new.node walking.new.db) result }
+{
+    let node = take_node(walking, alloc, files, entries, d, above + 1, low, high, at)?;
+    let done = read_below(
+        walking,
+        alloc,
+        files,
+        entries,
+        d,
+        above,
+        low,
+        high,
+        at,
+        node.slots.as_slice(),
+    );
+    drop(node);
+    done
+}
+
+// Reads what the slots of a node name that stands `above` levels above the BINs.
+#[cycle(descending)]
+fn read_below<T: Loads>(
+    walking: &mut Walking<T>,
+    alloc: Global,
+    files: &[FileNo],
+    entries: &[PlacedEntry],
+    d: u32,
+    above: u8,
+    low: &Name,
+    high: Option<&Name>,
+    at: Lsn,
+    slots: &[Marked],
+) -> Result<(), ReadErr>
+    requires level { above < 255 }
+    requires order { AreInOrder entries.now }
+    requires entries { AllByRecursion (λ p. IsEntry p.1) entries.now }
+    ensures { (walk : Walk) → IsWalking (T.stored walking.old.trees) walking.old.seen.keys walking.old.node walking.old.db walk → GoesOn (below_node (map (λ f. f.0) files.now) entries.now d above low.now (option_copied high.entry) at slots.now walk) (IsWalking (T.stored walking.new.trees) walking.new.seen.keys walking.new.node walking.new.db) result }
+{
+    if above == 0 {
+        return read_slots(walking, alloc, files, entries, d, at, slots);
+    }
+    read_children(
+        walking,
+        alloc,
+        files,
+        entries,
+        d,
+        above - 1,
+        low,
+        high,
+        at,
+        slots,
+    )
+}
+
+// The lower bound of the child behind the one that waits.
+fn low_behind<'a>(pending: Option<&Lsn>, low: &'a Name, name: &'a Name) -> &'a Name
+    ensures { result.now ≡ low_of_next (option_copied pending.entry) low.now name.now }
+{
+    match pending {
+        Some(_) => name,
+        None => low,
+    }
+}
+
+// Reads the trees of an IN's children, `above` levels above the BINs. A child waits until the name behind
+// it is known, which is its upper bound.
+#[cycle(descending)]
+fn read_children<'a, T: Loads>(
+    walking: &mut Walking<T>,
+    alloc: Global,
+    files: &[FileNo],
+    entries: &[PlacedEntry],
+    d: u32,
+    above: u8,
+    low: &'a Name,
+    high: Option<&Name>,
+    at: Lsn,
+    slots: &'a [Marked],
+) -> Result<(), ReadErr>
+    requires level { above < 255 }
+    requires order { AreInOrder entries.now }
+    requires entries { AllByRecursion (λ p. IsEntry p.1) entries.now }
+    ensures { (walk : Walk) → IsWalking (T.stored walking.old.trees) walking.old.seen.keys walking.old.node walking.old.db walk → GoesOn (each (read_child (map (λ f. f.0) files.now) (node_at (map (λ f. f.0) files.now) entries.now d above) at) (children low.now (option_copied high.entry) (flat_map slot_shown slots.now)) walk) (IsWalking (T.stored walking.new.trees) walking.new.seen.keys walking.new.node walking.new.db) result }
+{
+    let mut low = low;
+    let mut pending = None;
+    for marked in slots {
+        let Version::There(child) = &marked.slot.version else {
+            continue;
+        };
+        let name = &marked.slot.name;
+        read_pending(
+            walking,
+            alloc,
+            files,
+            entries,
+            d,
+            above,
+            low,
+            Some(name),
+            at,
+            pending,
+        )?;
+        low = low_behind(pending, low, name);
+        pending = Some(child);
+    }
+    read_pending(
+        walking, alloc, files, entries, d, above, low, high, at, pending,
+    )
+}
+
+// Reads the tree of the child that waits, if one does.
+#[cycle(descending)]
+fn read_pending<T: Loads>(
+    walking: &mut Walking<T>,
+    alloc: Global,
+    files: &[FileNo],
+    entries: &[PlacedEntry],
+    d: u32,
+    above: u8,
+    low: &Name,
+    high: Option<&Name>,
+    at: Lsn,
+    pending: Option<&Lsn>,
+) -> Result<(), ReadErr>
+    requires level { above < 255 }
+    requires order { AreInOrder entries.now }
+    requires entries { AllByRecursion (λ p. IsEntry p.1) entries.now }
+    ensures { (walk : Walk) → IsWalking (T.stored walking.old.trees) walking.old.seen.keys walking.old.node walking.old.db walk → GoesOn (each (read_child (map (λ f. f.0) files.now) (node_at (map (λ f. f.0) files.now) entries.now d above) at) (child_waiting low.now (option_copied high.entry) (option_copied pending.entry)) walk) (IsWalking (T.stored walking.new.trees) walking.new.seen.keys walking.new.node walking.new.db) result }
+{
+    let Some(child) = pending else {
+        return Ok(());
+    };
+    if child.as_u64() >= at.as_u64() {
+        return Err(ReadErr::Found(nowhere(files, *child)));
+    }
+    read_node(walking, alloc, files, entries, d, above, low, high, *child)
+}
