@@ -123,7 +123,7 @@ pub fn run_with<S: Source>(
         journal,
         opening: _,
         totals: _,
-        rows: _,
+        records: _,
     } = run_je(alloc, &args, disk, input, &mut output);
     let ran = Ran {
         status,
