@@ -39,6 +39,7 @@ use Rattle.in_tree.specs.declared.trees.Trees.{Trees}
 use Rattle.in_tree.specs.Observed.{cells_of}
 use Rattle.in_tree.specs.Whole.{has_tree_in, stored_within}
 use Rattle.txn_core.specs.Known.{committed}
+use Rattle.txn_core.proofs.RecordPlanLaws.{all_found}
 use Rattle.engine.specs.declared.engine.Engine.{Engine}
 use Rattle.engine.specs.declared.kept.Kept.{Kept}
 use Rattle.engine.specs.Contents.{Contents}
@@ -50,7 +51,7 @@ use Rattle.engine.specs.Whole.{AreTrees, IsAt, IsOpened, IsOpenedAt, IsOpenedSaf
 use Rattle.engine.proofs.ClosedLaws.{guarded_none}
 use Rattle.engine.proofs.NumberLaws.{kept_numbers}
 use Rattle.engine.proofs.OpeningLaws.{AreLogFiles, File, found_ends, found_named, no_corruption, starts_in}
-use Rattle.engine.proofs.RecoveredLaws.{AreRecovered, among_within, are_quiet, are_recovered, each_among, each_found, or_true, recovered_environment, recovered_rising, recovered_store, same_numbers, trees_made}
+use Rattle.engine.proofs.RecoveredLaws.{AreRecovered, among_within, are_quiet, are_recovered, each_among, or_true, recovered_environment, recovered_rising, recovered_store, same_numbers, trees_made}
 
 -- a file that is begun adds no entry
 pub entries_begun : (before : Log) (f : ℕ) → entries_of (before ++ (f, []) ∷ []) ≡ entries_of before
@@ -85,7 +86,7 @@ numbers_within first es base meaning opened begun =
     all_to_map (λ (r : Row). catalog_number r.1) (λ n. n ≤ meaning.last_db) (rows_of (restarted es) 0)
     (all_weaker (λ (r : Row). data_at r.0 (rows_of (restarted es) 0) ≡ Some r.1) (λ r. catalog_number r.1 ≤ meaning.last_db)
     (λ r found. subst (λ (o : Option (List ℕ)). IfSome o (λ bytes. catalog_number bytes ≤ meaning.last_db)) (sym (begun.listed.data_is 0 r.0 refl) ∙ found) (opened.last_job.named r.0))
-    (rows_of (restarted es) 0) (each_found (rows_of (restarted es) 0) (begun.listed.rising 0)))
+    (rows_of (restarted es) 0) (all_found (rows_of (restarted es) 0) (begun.listed.rising 0)))
 
 -- a log that was found gives the records of the environment that was recovered from it
 pub gives_records : (log : Log) (end : LogPos) (first : ℕ) (meaning : Meaning) (c : Contents) → IsOpenedWith first (placed log) meaning → IsBegun first (placed log) (pos_lsn end - 1) meaning →

@@ -1,19 +1,16 @@
 -- The records of an environment that was recovered.
-use Rattle.std.proofs.Common.{◌≡◌, ℕ, ◌≤◌, ◌==◌, cond, Bool, true, false, List, [], ◌∷◌, Some, None, option_map, map, is_eq, refl, ap, sym, ◌∙◌, subst}
+use Rattle.std.proofs.Common.{◌≡◌, ℕ, ◌≤◌, ◌==◌, cond, Bool, true, false, List, [], ◌∷◌, Some, None, map, is_eq, refl, ap, sym, ◌∙◌, subst}
 use Rattle.std.specs.Prelude.{◌||◌}
 use Rattle.std.specs.List.{AllByRecursion, list_any}
-use Rattle.std.specs.declared.cmp.Ordering.TheVariants.{Less}
-use Rattle.std.proofs.lemmas.Bool.{cond-false, cond-true, eq-eqb, eqb-true}
+use Rattle.std.proofs.lemmas.Bool.{eq-eqb, eqb-true}
 use Rattle.je_order.specs.Order.{name_cmp}
 use Rattle.je_order.specs.declared.name.Name.{Name}
 use Rattle.je_order.proofs.Lists.{all_weaker}
 use Rattle.record_map.specs.Cells.{value_at}
-use Rattle.record_map.proofs.NameLaws.{name_same}
 use Rattle.record_tree.specs.Occupied.{AllCells, Occupied, write_in}
 use Rattle.record_tree.specs.Stored.{AllStored, Stored}
-use Rattle.log_replay.specs.Rows.{IsRising, Row, Rows, catalog_number, data_at, is_environment, numbers_of, row_at, store_of}
-use Rattle.log_replay.proofs.ListLaws.{all_both}
-use Rattle.log_replay.proofs.RowLaws.{rising-nil, rising_head, rising_tail}
+use Rattle.log_replay.specs.Rows.{IsRising, Row, Rows, catalog_number, is_environment, numbers_of, store_of}
+use Rattle.log_replay.proofs.RowLaws.{rising-nil}
 use Rattle.log_meaning.specs.Meaning.{rows_of}
 use Rattle.log_meaning.specs.Redo.{Redo}
 use Rattle.log_meaning.proofs.Leaving.{same_environment, same_store}
@@ -46,18 +43,6 @@ among_within bound (n ∷ ns) d all h = by_test (n == d) refl (λ rest. among_wi
     by_test : (b : Bool) → (n == d) ≡ b → (list_any (λ n. n == d) ns ≡ true → d ≤ bound) → (b || list_any (λ n. n == d) ns) ≡ true → d ≤ bound
     by_test true same later here = subst (λ k. k ≤ bound) (eqb-true n d same) all.0
     by_test false other later rest = later rest
-
--- ---- rows that rise
-
--- each row is found under its name
-pub each_found : (rows : List Row) → IsRising rows → AllByRecursion (λ (r : Row). data_at r.0 rows ≡ Some r.1) rows
-each_found [] up = tt
-each_found (r ∷ rows) up = (
-  ap (option_map (λ (x : Row). x.1)) (cond-true (is_eq (name_cmp r.0 r.0)) (Some r) (row_at r.0 rows) (ap is_eq (name_same r.0))),
-  all_both (λ (y : Row). name_cmp r.0 y.0 ≡ Less) (λ y. data_at y.0 rows ≡ Some y.1) (λ y. data_at y.0 (r ∷ rows) ≡ Some y.1)
-      (λ y less e. ap (option_map (λ (x : Row). x.1)) (cond-false (is_eq (name_cmp r.0 y.0)) (Some r) (row_at y.0 rows) (ap is_eq less)) ∙ e)
-      rows (rising_head r rows up) (each_found rows (rising_tail r rows up)),
-)
 
 -- ---- the records that trees have
 

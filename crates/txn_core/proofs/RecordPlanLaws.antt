@@ -72,7 +72,7 @@ use Rattle.txn_core.proofs.RecordLaws.{IsRightChange, records_rows, records_may,
 -- ---- the records that a delete takes
 
 -- names that rise find their own data
-all_found : (rows : List Row) → IsRising rows → AllByRecursion (λ r. data_at r.0 rows ≡ Some r.1) rows
+pub all_found : (rows : List Row) → IsRising rows → AllByRecursion (λ r. data_at r.0 rows ≡ Some r.1) rows
 all_found [] up = tt
 all_found (r ∷ rows) up = (
   ap (option_map (λ (x : Row). x.1)) (cond-true (is_eq (name_cmp r.0 r.0)) (Some r) (row_at r.0 rows) (ap is_eq (name_same r.0))),
