@@ -50,7 +50,8 @@ fn take_node<T: Loads>(
 }
 
 /// Reads the tree below an image that stands `above` levels above its BINs, and whose names lie within
-/// these bounds.
+/// these bounds: the node, and then what its slots name, from the left. Images have at most 64 levels, so
+/// the calls within calls are that few. After an error nothing is known of what was put last.
 #[cycle(descending)]
 pub(crate) fn read_node<T: Loads>(
     walking: &mut Walking<T>,
