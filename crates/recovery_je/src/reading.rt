@@ -116,9 +116,7 @@ fn read_file<D: Disk>(
 fn push_entry(placed: &mut Vec<PlacedEntry>, at: Lsn, entry: Entry) -> Result<(), AllocError>
     ensures { OnOk result (placed.new.items ≡ placed.old.items ++ (at, entry) ∷ []) }
 {
-    if placed.push(PlacedEntry { at, entry }).is_err() {
-        return Err(AllocError);
-    }
+    placed.push(PlacedEntry { at, entry })?;
     Ok(())
 }
 
