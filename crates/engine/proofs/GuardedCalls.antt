@@ -181,7 +181,7 @@ module _ {D : Type 0} where
     -- the guarded log gives the records, and planned changes may be logged behind it
     may_grow : (most : ℕ) (buffer : LogBuffer D) (log : Log) (c : Contents) (p : Alone) (session : ℕ) (call : Call) (planned : PlannedChanges) → observable ≡ true →
         AreAlone most observable (now (history (disk_of buffer))) buffer c p → p.fault ≡ None → (plan : IsPlannedLog (known c) p session call planned) → planned.last_db ≤ LAST_DATABASE →
-        HasLog true (now (history (disk_of buffer))) buffer log → MayGrow observable history sync_out read_out read_of buffer log c plan.change plan.more planned
+        HasLog true (now (history (disk_of buffer))) buffer log → MayGrow observable (now (history (disk_of buffer))) buffer log c plan.change plan.more planned
     may_grow most buffer log c p session call planned observed at none plan low has =
         let state : State = now (history (disk_of buffer)) in
         let v = at.valid none in

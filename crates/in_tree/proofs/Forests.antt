@@ -1,14 +1,13 @@
 -- How the trees of all databases change where that of one does.
-use Rattle.std.proofs.Common.{◌≡◌, ◌==◌, ◌&&◌, ◌⊎◌, ℕ, List, [], Bool, true, false, cond, Option, None, Some, IsSome, is_some, refl, ap, sym, subst, ◌∙◌, inl, inr, Ordering, Less, Equal, Greater, is_eq, arith}
+use Rattle.std.proofs.Common.{◌≡◌, ◌==◌, ◌&&◌, ◌⊎◌, ℕ, [], Bool, true, false, cond, Option, None, IsSome, is_some, refl, ap, sym, subst, ◌∙◌, inl, inr, Less, Equal, Greater, is_eq, arith}
 use Rattle.std.specs.Ordering.{nat_cmp}
 use Rattle.std.specs.Cmp.{nat_cmp_is}
 use Rattle.std.specs.BTreeMap.{get}
-use Rattle.std.proofs.lemmas.Bool.{cases_order, ne_eqb, eq-eqb, true≢false}
+use Rattle.std.proofs.lemmas.Bool.{cases_order, ne_eqb, eq-eqb}
 use Rattle.je_order.specs.Order.{name_cmp}
 use Rattle.je_order.specs.declared.name.Name.{Name}
-use Rattle.record_map.specs.declared.cell.Cell.{Cell}
 use Rattle.record_map.specs.Cells.{value_at, IsRising}
-use Rattle.record_tree.specs.Occupied.{Occupied, AllCells, AreSame}
+use Rattle.record_tree.specs.Occupied.{Occupied, AreSame}
 use Rattle.in_tree.specs.declared.db_tree.DbTree.{DbTree}
 use Rattle.in_tree.specs.Forest.{Forest, cells_of, cells_at, cells_seen, is_there, occupied, HasChange, HasSameTrees, KeepsCells}
 

@@ -1,4 +1,4 @@
-use Rattle.std.proofs.Common.{◌≡◌, ◌==◌, ◌&&◌, not, nat_le, length, find}
+use Rattle.std.proofs.Common.{◌≡◌, ◌==◌, not, length, find}
 use Rattle.in_tree.specs.Stored.{stored_in}
 use Rattle.in_tree.proofs.stored.first_dup.Given as goal
 

@@ -1,9 +1,8 @@
-use Rattle.std.proofs.Common.{◌≡◌, ◌∙◌, Option, Some, IsSome, option_map, refl, ap, sym, subst}
-use Rattle.record_map.specs.declared.cell.Cell.{Cell}
+use Rattle.std.proofs.Common.{Some, IsSome, option_map, refl, sym, subst}
 use Rattle.record_map.specs.Cells.{value_at}
 use Rattle.in_tree.specs.Content.{held_by}
 use Rattle.in_tree.specs.Trees.{cell_or_fresh}
-use Rattle.in_tree.specs.Forest.{seen, with_value, with_logged}
+use Rattle.in_tree.specs.Forest.{with_value, with_logged}
 use Rattle.in_tree.proofs.Records.{holds, commits, held_apart, cell_there, made_and_changed}
 use Rattle.in_tree.proofs.Seen.{change_seen, logged_seen}
 use Rattle.in_tree.proofs.db_tree.DbTree.redo.Goals as goal
