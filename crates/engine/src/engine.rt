@@ -104,8 +104,11 @@ impl<D: Disk> Engine<D> {
         if u64::from(LAST_DATABASE) < planned.last_db {
             return true;
         }
-        match (planned.changes.len() as u64).checked_mul(NUMBERS_FOR_CHANGE) {
-            Some(numbers) => LAST_NODE.saturating_sub(self.kept.last_node) < numbers,
+        let Some(numbers) = (planned.changes.len() as u64).checked_mul(NUMBERS_FOR_CHANGE) else {
+            return true;
+        };
+        match self.kept.last_node.checked_add(numbers) {
+            Some(last) => LAST_NODE < last,
             None => true,
         }
     }

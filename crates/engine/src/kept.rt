@@ -1,6 +1,4 @@
 // What an open environment keeps in memory beside its trees.
-ghost use Rattle.std.specs.Prelude.{◌≤◌};
-
 use store_model::{Fault, Totals};
 
 /// What an open environment keeps in memory beside its log and its trees.
@@ -18,5 +16,4 @@ pub struct Kept {
     pub commits: u64,
     /// The first fault, after which each call is Invalid.
     pub fault: Option<Fault>,
-    ghost nodes: { last_node ≤ 0x7fffffffffffffff },
 }
