@@ -50,7 +50,7 @@ last_change-cons d x c cs v =
     ∙ ap (λ (o : Option TreeChange). value_changed o v) (find-append (is_change_of d x) (reverse cs) (c ∷ []))
     ∙ changed_by (last_change d x cs) (is_change_of d x c) c v
 
-eqb-turned : (a b : ℕ) (t : Bool) → (a == b) ≡ t → (b == a) ≡ t
+pub eqb-turned : (a b : ℕ) (t : Bool) → (a == b) ≡ t → (b == a) ≡ t
 eqb-turned a b true h = eq-eqb b a (sym (eqb-true a b h))
 eqb-turned a b false h = ne_eqb b a (λ e. eqb-false a b h (sym e))
 
@@ -73,7 +73,7 @@ sought-after (c ∷ cs) rows d x =
     by_tests true false db name = found-with c.name c.value x (rows d) ∙ cond-false (is_eq (name_cmp x c.name)) c.value (sought (rows d) x) name
     by_tests false e db name = refl
 
-data-after : (planned : List TreeChange) (rows : Rows) (d : ℕ) (x : Name) →
+pub data-after : (planned : List TreeChange) (rows : Rows) (d : ℕ) (x : Name) →
     data_at x (rows_changed (map (row_by 0) planned) rows d) ≡ value_changed (last_change d x planned) (data_at x (rows d))
 data-after planned rows d x =
     sym (lookup_is_data x (rows_changed (map (row_by 0) planned) rows d))

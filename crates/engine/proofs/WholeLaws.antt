@@ -1,16 +1,16 @@
 -- An engine as one value, from its parts.
-use Rattle.std.proofs.Common.{◌≡◌, ◌↔◌, ℕ, ◌∙◌, Bool, true, false, None, Result, Ok, Err, IsErrOf, refl, ap, sym, subst}
+use Rattle.std.proofs.Common.{◌≡◌, ◌↔◌, ℕ, ◌∙◌, Bool, true, false, cond, None, Result, Ok, Err, IsErrOf, refl, ap, sym, subst}
 use Rattle.je_disk.specs.States.{State}
 use Rattle.je_answers.specs.Standing.{Standing}
 use Rattle.log_buffer.specs.declared.buffer.LogBuffer.{LogBuffer}
 use Rattle.log_buffer.specs.declared.error.LogErr.{LogErr}
 use Rattle.log_buffer.specs.declared.error.LogErr.TheVariants.{Fault}
-use Rattle.log_buffer.specs.Buffer.{has_failed}
+use Rattle.log_buffer.specs.Buffer.{end_of, has_failed}
 use Rattle.txn_core.specs.Totals.{totals_of}
 use Rattle.engine.specs.declared.engine.Engine.{Engine}
 use Rattle.engine.specs.Contents.{Contents}
 use Rattle.engine.specs.Environment.{AreAt, IsValid}
-use Rattle.engine.specs.Whole.{IsAt}
+use Rattle.engine.specs.Whole.{IsAt, reach_of}
 
 module _ {D : Type 0} where
   -- an environment that met no fault is valid
@@ -38,3 +38,7 @@ module _ {D : Type 0} where
       by_failed : (b : Bool) → (b ≡ true ↔ IsErrOf r Fault) → b ≡ false
       by_failed true h = (let e : Ok x ≡ Err Fault = sym is ∙ h.0 refl in cc)
       by_failed false h = refl
+
+  -- where the log works, the engine reaches the file in which it ends
+  pub reach_is : (engine : Engine D) → has_failed engine.trees.log ≡ false → reach_of engine ≡ record { file = (end_of engine.trees.log).file; node = engine.kept.last_node }
+  reach_is engine works = ap (λ (b : Bool). record { file = cond b 0 (end_of engine.trees.log).file; node = engine.kept.last_node }) works

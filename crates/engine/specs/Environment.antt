@@ -13,7 +13,7 @@ use Rattle.log_buffer.specs.declared.log_pos.LogPos.{LogPos}
 use Rattle.log_buffer.specs.Buffer.{end_of, file_max_of, has_failed}
 use Rattle.log_buffer.specs.Flip.{pos_lsn}
 use Rattle.log_buffer.specs.Log.{HasLog}
-use Rattle.log_replay.specs.Rows.{Rows, data_at, numbers_of, store_of}
+use Rattle.log_replay.specs.Rows.{data_at, numbers_of, store_of}
 use Rattle.log_trees.specs.Placed.{placed}
 use Rattle.log_meaning.specs.Stands.{Stands}
 use Rattle.log_meaning.specs.Transactions.{AreListed}

@@ -1,5 +1,5 @@
 -- When the log may have no room, and when no number of a node may be left.
-use Rattle.std.specs.Prelude.{ℕ, ◌≡◌, ◌<◌, ◌≤◌, ◌+◌, ◌*◌, ◌⊎◌, List, [], ◌∷◌, Option, None, Some, Bool, true, false, nat_lt, if◌then◌else◌, length, map}
+use Rattle.std.specs.Prelude.{ℕ, ◌≡◌, ◌<◌, ◌≤◌, ◌+◌, ◌*◌, ◌⊎◌, List, [], ◌∷◌, Option, None, Some, nat_lt, if◌then◌else◌, length}
 use Rattle.je_lsn.specs.Naming.{last_file}
 use Rattle.store_model.specs.declared.answer.Answer.{Answer}
 use Rattle.store_model.specs.declared.answer.Answer.TheVariants.{LogFull, IdsEnded}

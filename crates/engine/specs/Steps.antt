@@ -1,5 +1,5 @@
 -- What one step of an environment does, beside the model.
-use Rattle.std.specs.Prelude.{ℕ, ◌≡◌, ◌≤◌, ◌<◌, ◌+◌, ◌⊎◌, List, [], ◌∷◌, Option, None, Some, Bool, Result, Ok, Err, IfOk, true, false, map, length}
+use Rattle.std.specs.Prelude.{ℕ, ◌≡◌, ◌≤◌, ◌<◌, ◌+◌, ◌⊎◌, List, Option, None, Some, Bool, Result, Ok, Err, IfOk, length}
 use Rattle.std.specs.declared.alloc.AllocError.{AllocError}
 use Rattle.je_order.specs.Counts.{HasRisen}
 use Rattle.je_order.specs.declared.txn_id.TxnId.{TxnId}
@@ -13,6 +13,7 @@ use Rattle.store_model.specs.declared.answer.Answer.{Answer}
 use Rattle.store_model.specs.declared.answer.Answer.TheVariants.{Logged, LogFull, IdsEnded, DiskFault}
 use Rattle.record_tree.specs.declared.tree_change.TreeChange.{TreeChange}
 use Rattle.record_tree.specs.declared.tree_err.TreeErr.{TreeErr}
+use Rattle.record_tree.specs.declared.tree_err.TreeErr.TheVariants.{Full}
 use Rattle.record_tree.specs.Logged.{LogsTransaction, IsFront}
 use Rattle.in_tree.specs.Limits.{FitsLog}
 use Rattle.txn_core.specs.declared.planned_changes.PlannedChanges.{PlannedChanges}
@@ -23,13 +24,19 @@ use Rattle.engine.specs.Limits.{limit_by}
 abbrev pub txn_of : ℕ → TxnId
 txn_of number = record { 0 = number }
 
+-- what changes are answered that may lack numbers, where the trees find this limit
+abbrev pub refusal_by : Option TreeErr → Answer
+refusal_by (Some Full) = LogFull
+refusal_by found = IdsEnded
+
 module _ {D : Type 0} (observable : Bool) (history : D → History) (sync_out read_out : D → Option ℕ) (read_of : D → ℕ) where
-  -- a transaction with these changes went into the log
+  -- a transaction with these changes went into the log, as an entry for each, and its Commit
   pub record HasAppended (buffer longer : LogBuffer D) (txn : TxnId) (changes : List TreeChange) : Type 0 where
     pub entries : List Entry
     pub logs : LogsTransaction txn changes entries
     pub grew : Grew observable history sync_out read_out read_of buffer longer entries
     pub fits : FitsLog buffer entries
+    pub few : length entries ≡ length changes + 1
 
   -- or the disk failed while its first entries were appended
   pub record HasTried (buffer longer : LogBuffer D) (txn : TxnId) (changes : List TreeChange) : Type 0 where

@@ -1,10 +1,10 @@
 -- An engine as one value. Users speak of it by these alone; what it is made of may change below them.
-use Rattle.std.specs.Prelude.{ℕ, ◌≡◌, ◌≤◌, ◌++◌, ◌∷◌, [], List, Option, None, Some, Bool, Result, Ok, Err, true, false, length, map, nat_lt, ◌&&◌, ◌==◌, ◌+◌}
+use Rattle.std.specs.Prelude.{ℕ, ◌≡◌, ◌≤◌, ◌++◌, ◌∷◌, [], List, Option, None, Some, Bool, Result, Ok, Err, true, false, length, map, if◌then◌else◌}
 use Rattle.std.specs.declared.alloc.AllocError.{AllocError}
 use Rattle.je_disk.specs.States.{Files, State, synced_crash_states}
 use Rattle.je_disk.specs.Moments.{History, now}
 use Rattle.store_model.specs.declared.answer.Answer.{Answer}
-use Rattle.store_model.specs.declared.answer.Answer.TheVariants.{Done, DiskFault}
+use Rattle.store_model.specs.declared.answer.Answer.TheVariants.{Done, DiskFault, Logged}
 use Rattle.store_model.specs.declared.call.Call.{Call}
 use Rattle.store_model.specs.declared.event.Event.{Event}
 use Rattle.store_model.specs.declared.event.Event.TheVariants.{Call as Called, SyncBegin, SyncEnd}
@@ -17,14 +17,14 @@ use Rattle.log_file.specs.Log.{Log, entries_of}
 use Rattle.log_replay.specs.Logging.{all_row_changes}
 use Rattle.log_replay.specs.Rows.{numbers_of}
 use Rattle.record_tree.specs.declared.tree_change.TreeChange.{TreeChange}
-use Rattle.record_tree.specs.Logged.{is_made}
 use Rattle.in_tree.specs.declared.log_trees.LogTrees.{LogTrees}
 use Rattle.in_tree.specs.Observed.{cells_of, has_tree_of, limit_in}
 use Rattle.txn_core.specs.Known.{committed, has_number, IsQuiet}
 use Rattle.txn_core.specs.Planning.{row_by}
-use Rattle.log_buffer.specs.Buffer.{disk_of as disk_below, end_of}
+use Rattle.txn_core.specs.Transactions.{HasTreesAfter}
+use Rattle.txn_core.specs.declared.planned_changes.PlannedChanges.{PlannedChanges}
+use Rattle.log_buffer.specs.Buffer.{disk_of as disk_below, end_of, has_failed}
 use Rattle.store_model.specs.declared.change.Change.{Change}
-use Rattle.store_model.specs.Refusals.{made_by}
 use Rattle.engine.specs.declared.engine.Engine.{Engine}
 use Rattle.engine.specs.Environment.{AreAt}
 use Rattle.engine.specs.Guarded.{IsGuardedLog}
@@ -58,6 +58,15 @@ module _ {D : Type 0} where
     pub quiet : IsQuiet (cells_of trees)
     pub made : (db : ℕ) → has_tree_of trees db ≡ has_number (numbers_of (committed (cells_of trees))) db
 
+  -- What logging changes leaves of the trees: those that the changes make, without the one that goes. Where the disk failed it is not said; else
+  -- they are as before.
+  abbrev pub LeavesTrees : LogTrees D → LogTrees D → PlannedChanges → Result Answer AllocError → Type 0
+  LeavesTrees old new planned (Ok (Logged commit)) =
+      IsQuiet (cells_of new) × HasTreesAfter planned.changes.items planned.gone (has_tree_of old) (has_tree_of new)
+  LeavesTrees old new planned (Ok DiskFault) = Unit {0}
+  LeavesTrees old new planned (Ok answer) = AreTrees new
+  LeavesTrees old new planned (Err error) = AreTrees new
+
   -- the engine, whose files have at most so many bytes, is where the model stands
   pub record IsAt (most : ℕ) (observable : Bool) (state : State) (engine : Engine D) (st : Standing) : Type 0 where
     pub at : AreAt most observable state engine.trees.log (contents_of engine) st
@@ -76,9 +85,9 @@ module _ {D : Type 0} where
   IsGuardedInSync most st start history engine journal =
       (log : Log) × IsGuardedLog st log start history engine.trees.log journal (Some (length (entries_of log)))
 
-  -- the file in which the log ends
+  -- the file in which the log ends; a log that failed grows no more, and reaches none
   abbrev pub end_file : Engine D → ℕ
-  end_file engine = (end_of engine.trees.log).file
+  end_file engine = if has_failed engine.trees.log then 0 else (end_of engine.trees.log).file
 
   -- how far its log and its trees reach
   abbrev pub reach_of : Engine D → Reach
@@ -88,7 +97,6 @@ module _ {D : Type 0} where
   pub record IsLimitFor (engine : Engine D) (changes : List Change) (limit : Option Answer) : Type 0 where
     pub planned : List TreeChange
     pub rows : map (row_by 0) planned ≡ all_row_changes 0 engine.kept.last_db changes (committed (cells_of engine.trees))
-    pub makes : (db : ℕ) → is_made db planned ≡ (nat_lt 0 (made_by changes) && (db == engine.kept.last_db + made_by changes))
     pub is : limit ≡ limit_by (limit_in engine.trees planned 1) engine.kept.last_node (length planned)
 
   abbrev pub HasLimit : Engine D → List Change → Option Answer → Type 0

@@ -1,5 +1,5 @@
 // An open environment.
-ghost use Rattle.std.specs.Prelude.{◌≡◌, ◌≤◌, ◌<◌, ◌+◌, ◌∷◌, [], ◌++◌, ℕ, List, None, Some, is_some, true, false, IfSome, IfOk, IsNone, OnErr, if◌then◌else◌, length, nat_lt, ◌||◌};
+ghost use Rattle.std.specs.Prelude.{◌≡◌, ◌≤◌, ◌<◌, ◌+◌, ◌∷◌, [], ◌++◌, ℕ, List, Option, None, Some, is_some, true, false, IfSome, IfOk, IsNone, OnErr, if◌then◌else◌, length, nat_lt, ◌||◌};
 ghost use Rattle.std.specs.List.{AllByRecursion};
 ghost use Rattle.je_order.specs.Counts.{HasRisen};
 ghost use Rattle.je_order.specs.declared.txn_id.TxnId.{TxnId as Txn};
@@ -19,8 +19,8 @@ ghost use Rattle.record_tree.specs.Logged.{entry_for};
 ghost use Rattle.in_tree.specs.Observed.{has_tree_of, limit_in};
 ghost use Rattle.txn_core.specs.Totals.{totals_of};
 ghost use Rattle.engine.specs.Limits.{IsWithin, last_number, numbers_for, reach_after};
-ghost use Rattle.engine.specs.Steps.{HasStepCause, IsNumbered, LogsChanges, txn_of};
-ghost use Rattle.engine.specs.Whole.{AreTrees, BeginsSafely, BeginsSync, CanGoOn, EndsSync, GoesOn, GoesOnSafely, HasLimit, IsAt, IsGuarded, IsGuardedInSync, contents, disk_of, reach_of};
+ghost use Rattle.engine.specs.Steps.{HasStepCause, IsNumbered, LogsChanges, refusal_by, txn_of};
+ghost use Rattle.engine.specs.Whole.{AreTrees, BeginsSafely, BeginsSync, CanGoOn, EndsSync, GoesOn, GoesOnSafely, HasLimit, IsAt, IsGuarded, IsGuardedInSync, LeavesTrees, contents, disk_of, reach_of};
 
 use crate::kept::Kept;
 use in_tree::LogTrees;
@@ -82,7 +82,13 @@ impl<D: Disk> Engine<D> {
         if LAST_TXN <= self.kept.last_txn {
             return Ok(Answer::IdsEnded);
         }
-        match plan(&self.trees, alloc, self.kept.totals, self.kept.last_db, call)? {
+        match plan(
+            &self.trees,
+            alloc,
+            self.kept.totals,
+            self.kept.last_db,
+            call,
+        )? {
             Planned::Answered(answer) => {
                 self.kept.last_txn += 1;
                 Ok(answer)
@@ -98,17 +104,27 @@ impl<D: Disk> Engine<D> {
         if u64::from(LAST_DATABASE) < planned.last_db {
             return true;
         }
-        match (planned.changes.len() as u64).checked_mul(NUMBERS_FOR_CHANGE) {
-            Some(numbers) => LAST_NODE.saturating_sub(self.kept.last_node) < numbers,
+        let Some(numbers) = (planned.changes.len() as u64).checked_mul(NUMBERS_FOR_CHANGE) else {
+            return true;
+        };
+        match self.kept.last_node.checked_add(numbers) {
+            Some(last) => LAST_NODE < last,
             None => true,
         }
     }
 
-    // Refuses changes that may lack numbers: no room in the log is told first.
-    fn refuse(&mut self, alloc: Global, planned: &PlannedChanges) -> Result<Answer, AllocError>
+    // What changes are answered that may lack numbers: no room in the log is told first.
+    fn refuse(&self, alloc: Global, planned: &PlannedChanges) -> Result<Answer, AllocError>
+        requires works { has_failed self.now.trees.log ≡ false }
+        requires numbers { self.now.kept.last_txn < LAST_TXN }
+        requires entries { AllByRecursion (λ c. IsEntry (entry_for (txn_of (self.now.kept.last_txn + 1)) c.db c.name c.value)) planned.now.changes.items }
+        ensures { IfOk result (λ answer. answer ≡ refusal_by (limit_in self.now.trees planned.now.changes.items 1)) }
     {
         let txn = TxnId(self.kept.last_txn + 1);
-        match self.trees.find_limit(alloc, txn, planned.changes.as_slice(), 1)? {
+        match self
+            .trees
+            .find_limit(alloc, txn, planned.changes.as_slice(), 1)?
+        {
             Some(TreeErr::Full) => Ok(Answer::LogFull),
             _ => Ok(Answer::IdsEnded),
         }
@@ -121,8 +137,9 @@ impl<D: Disk> Engine<D> {
         requires trees { AreTrees self.old.trees }
         requires numbers { self.old.kept.last_txn < LAST_TXN }
         requires there { AllByRecursion (λ c. has_tree_of self.old.trees c.db ≡ true) planned.changes.items }
-        requires new { AllByRecursion (λ c. IfSome c.makes (λ d. has_tree_of self.old.trees d ≡ false)) planned.changes.items }
+        requires new { planned.last_db ≤ LAST_DATABASE → AllByRecursion (λ c. IfSome c.makes (λ d. has_tree_of self.old.trees d ≡ false)) planned.changes.items }
         requires entries { AllByRecursion (λ c. IsEntry (entry_for (txn_of (self.old.kept.last_txn + 1)) c.db c.name c.value)) planned.changes.items }
+        ensures trees { LeavesTrees self.old.trees self.new.trees planned result }
         ensures logs { LogsChanges D.observable D.history D.sync_out D.read_out D.read_of self.old.trees.log self.new.trees.log (contents self.old.trees self.old.kept) (contents self.new.trees self.new.kept) planned (limit_in self.old.trees planned.changes.items 1) result }
         ensures bounds { CanGoOn self.new }
         ensures cause { HasStepCause (D.faults (disk_of self.old)) (D.faults (disk_of self.new)) result }
@@ -133,20 +150,16 @@ impl<D: Disk> Engine<D> {
             self.kept.last_txn = txn;
             return Ok(answer);
         }
+        self.trees.are_ordered();
         let PlannedChanges {
             changes,
             last_db,
             totals,
             gone,
         } = planned;
-        match commit_changes(
-            &mut self.trees,
-            alloc,
-            TxnId(txn),
-            changes.as_slice(),
-            gone,
-        ) {
+        match commit_changes(&mut self.trees, alloc, TxnId(txn), changes.as_slice(), gone) {
             Ok(()) => {
+                self.trees.are_ordered();
                 self.kept.last_txn = txn;
                 self.kept.commits += 1;
                 self.kept.totals = totals;
@@ -164,7 +177,8 @@ impl<D: Disk> Engine<D> {
                 self.kept.fault = Some(Fault::Disk);
                 Ok(Answer::DiskFault)
             }
-            Err(TreeErr::IdsEnded | TreeErr::Memory) => Err(AllocError),
+            Err(TreeErr::IdsEnded) => Err(AllocError),
+            Err(TreeErr::Memory) => Err(AllocError),
         }
     }
 
@@ -176,7 +190,7 @@ impl<D: Disk> Engine<D> {
         ensures crash { D.observable ≡ true → (most : ℕ) (st : Standing) (start : History) (journal : List Event)
             → (after_events st journal).fault ≡ None → IsGuarded most st start (D.history (disk_of self.old)) self.old journal
             → BeginsSafely most st start (D.history (disk_of self.new)) self.new journal (is_some result) }
-        ensures same_reach { reach_of self.new ≡ reach_of self.old }
+        ensures within { IsWithin (reach_of self.new) (reach_of self.old) }
         ensures out { IfSome result (λ job. D.sync_out (disk_of self.new) ≡ Some (D.Job.job_number job)) }
         ensures bounds { CanGoOn self.old → CanGoOn self.new }
         ensures never_falls { D.faults (disk_of self.old) ≤ D.faults (disk_of self.new) }
@@ -201,7 +215,7 @@ impl<D: Disk> Engine<D> {
             → IsAt most D.observable (now (D.history (disk_of self.old))) self.old (after_events st journal) → (after_events st journal).fault ≡ None
             → IsGuardedInSync most st start (D.history (disk_of self.old)) self.old journal
             → IsGuarded most st start (D.history (disk_of self.new)) self.new (journal ++ SyncEnd result ∷ []) }
-        ensures same_reach { reach_of self.new ≡ reach_of self.old }
+        ensures within { IsWithin (reach_of self.new) (reach_of self.old) }
         ensures bounds { CanGoOn self.old → CanGoOn self.new }
         ensures never_falls { D.faults (disk_of self.old) ≤ D.faults (disk_of self.new) }
         ensures cause { (most : ℕ) (st : Standing) → IsAt most D.observable (now (D.history (disk_of self.old))) self.old st → st.fault ≡ None → result ≡ Answer.DiskFault → HasRisen (D.faults (disk_of self.old)) (D.faults (disk_of self.new)) }

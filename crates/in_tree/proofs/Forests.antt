@@ -6,9 +6,8 @@ use Rattle.std.specs.BTreeMap.{get}
 use Rattle.std.proofs.lemmas.Bool.{cases_order, ne_eqb, eq-eqb}
 use Rattle.je_order.specs.Order.{name_cmp}
 use Rattle.je_order.specs.declared.name.Name.{Name}
-use Rattle.record_map.specs.declared.cell.Cell.{Cell}
 use Rattle.record_map.specs.Cells.{value_at, IsRising}
-use Rattle.record_tree.specs.Occupied.{Occupied, AllCells, AreSame}
+use Rattle.record_tree.specs.Occupied.{Occupied, AreSame}
 use Rattle.in_tree.specs.declared.db_tree.DbTree.{DbTree}
 use Rattle.in_tree.specs.Forest.{Forest, cells_of, cells_at, cells_seen, is_there, occupied, HasChange, HasSameTrees, KeepsCells}
 

@@ -1,5 +1,5 @@
 -- Changes of several names, one after the other.
-use Rattle.std.proofs.Common.{◌≡◌, ◌==◌, ◌&&◌, ◌||◌, ℕ, List, [], ◌∷◌, Bool, true, false, cond, Option, None, Some, refl, ap, ap₂, sym, ◌∙◌, is_eq}
+use Rattle.std.proofs.Common.{◌≡◌, ◌==◌, ◌&&◌, ◌||◌, ℕ, List, ◌∷◌, Bool, true, false, cond, Option, None, Some, refl, ap, ◌∙◌, is_eq}
 use Rattle.je_order.specs.Order.{name_cmp}
 use Rattle.je_order.specs.declared.name.Name.{Name}
 use Rattle.record_map.specs.declared.write.Write.{Write}

@@ -1,11 +1,9 @@
 -- What is taken before changes are logged, change by change.
-use Rattle.std.proofs.Common.{◌≡◌, ◌≤◌, ◌+◌, ◌==◌, ◌||◌, ◌⊎◌, ℕ, List, [], ◌∷◌, Bool, true, false, cond, Option, None, Some, IsSome, IfSome, is_some, refl, ap, ap₂, sym, subst, ◌∙◌, inl, inr, arith, drop, length, get_or, ◌<◌}
+use Rattle.std.proofs.Common.{◌≡◌, ◌≤◌, ◌+◌, ◌==◌, ◌||◌, ◌⊎◌, ℕ, List, [], ◌∷◌, Bool, true, false, cond, Option, None, Some, IfSome, refl, ap, sym, subst, ◌∙◌, inl, inr, arith, drop, length, get_or, ◌<◌}
 use Rattle.std.specs.Ordering.{is_eq, nat_cmp}
-use Rattle.std.specs.List.{AllByRecursion, list_any}
+use Rattle.std.specs.List.{AllByRecursion}
 use Rattle.std.proofs.lemmas.Bool.{eq-eqb, ne_eqb, true≢false}
-use Rattle.std.proofs.lemmas.List.{drop_more, drop_all}
-use Rattle.je_order.specs.declared.name.Name.{Name}
-use Rattle.record_map.specs.Cells.{value_at}
+use Rattle.std.proofs.lemmas.List.{drop_more}
 use Rattle.record_tree.specs.declared.tree_change.TreeChange.{TreeChange}
 use Rattle.record_tree.specs.Logged.{is_made, makes_db}
 use Rattle.record_tree.specs.Occupied.{AreSame}

@@ -1,9 +1,9 @@
 -- What reads find among the cells.
-use Rattle.std.proofs.Common.{◌≡◌, ◌≤◌, ◌<◌, ◌+◌, ℕ, List, [], ◌∷◌, ◌++◌, Bool, true, false, cond, Option, None, Some, filter, length, refl, ap, ap₂, sym, subst, ◌∙◌, arith, option_map}
+use Rattle.std.proofs.Common.{◌≡◌, ◌≤◌, ◌+◌, ℕ, List, [], ◌∷◌, ◌++◌, Bool, true, false, cond, None, Some, filter, length, refl, ap, sym, ◌∙◌, arith}
 use Rattle.std.proofs.lemmas.List.{length-append}
 use Rattle.je_order.specs.declared.name.Name.{Name}
 use Rattle.record_map.specs.declared.cell.Cell.{Cell}
-use Rattle.record_map.specs.Cells.{value_at, IsRising, first_of, last_of}
+use Rattle.record_map.specs.Cells.{value_at, IsRising, last_of}
 use Rattle.record_map.proofs.EdgeLaws.{last_is}
 use Rattle.record_tree.specs.Occupied.{Occupied, occupied_by, is_occupied}
 use Rattle.in_tree.specs.Forest.{occupied, seen}

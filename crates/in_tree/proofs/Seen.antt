@@ -1,5 +1,5 @@
 -- What transactions see of cells.
-use Rattle.std.proofs.Common.{◌≡◌, ◌⊎◌, ℕ, List, [], ◌∷◌, Bool, true, false, cond, Option, None, Some, IsSome, filter, map, option_map, is_some, refl, ap, ap₂, sym, subst, ◌∙◌, inl, inr, Ordering, Less, Equal, Greater, is_eq, Box}
+use Rattle.std.proofs.Common.{◌≡◌, ◌⊎◌, ℕ, List, [], ◌∷◌, Bool, true, false, cond, Option, None, Some, IsSome, option_map, is_some, refl, ap, ap₂, sym, subst, ◌∙◌, inl, inr, Ordering, Less, Equal, Greater, is_eq, Box}
 use Rattle.std.specs.Global.{Global}
 use Rattle.std.specs.List.{AllByRecursion}
 use Rattle.std.specs.List.Sorted.{IsStrictlySortedBy}
@@ -15,7 +15,7 @@ use Rattle.node_core.specs.Changes.{is_committed}
 use Rattle.record_map.specs.Held.{names_are_ordered}
 use Rattle.record_map.specs.declared.cell.Cell.{Cell}
 use Rattle.record_map.specs.declared.write.Write.{Write}
-use Rattle.record_map.specs.Cells.{value_at, IsRising, committed, with_committed, with_write, fresh, first_of, committed_by}
+use Rattle.record_map.specs.Cells.{value_at, IsRising, committed, with_committed, with_write, committed_by}
 use Rattle.record_map.proofs.NameLaws.{same_or_other, name_same, name_exact, other_stays, same_gets}
 use Rattle.record_tree.specs.Occupied.{Occupied, occupied_by, is_occupied, if_occupied, after_commit, after_abort, value_in, write_in, committed_value}
 use Rattle.in_tree.specs.Trees.{HasCell, cell_or_fresh, given_up}

@@ -1,10 +1,8 @@
 -- A split is a copy, and an IN's image has its children's slots.
 use Rattle.std.proofs.Common.{◌≡◌, ◌++◌, ◌-◌, ◌∷◌, [], ℕ, suc, List, Option, None, Some, map, refl, ap, ap₂, sym, subst, ◌∙◌, arith, ◌⊎◌, inl, inr, IsSome, false, is_eq}
-use Rattle.std.specs.List.{flat_map}
 use Rattle.je_order.specs.declared.name.Name.{Name}
 use Rattle.je_order.specs.Edges.Edge.{At}
 use Rattle.log_entry.specs.declared.child_slot.ChildSlot.{ChildSlot}
-use Rattle.log_entry.specs.declared.entry.Entry.{Entry}
 use Rattle.log_entry.specs.declared.entry.Entry.TheVariants.{In}
 use Rattle.node_core.specs.declared.slot.Slot.{Slot}
 use Rattle.std.proofs.lemmas.Bool.{cases_order}

@@ -16,7 +16,6 @@ use Rattle.log_buffer.specs.declared.buffer.LogBuffer.{LogBuffer}
 use Rattle.log_buffer.specs.declared.log_pos.LogPos.{LogPos}
 use Rattle.log_buffer.specs.Buffer.{end_of, file_max_of, has_failed, HasRoom}
 use Rattle.log_buffer.specs.Flip.{placed_at, end_after, end_after_all}
-use Rattle.log_buffer.specs.Growth.{Grew, Tried}
 use Rattle.log_buffer.proofs.LogPositions.{all_after}
 use Rattle.record_map.specs.declared.write.Write.{Write}
 use Rattle.record_map.specs.Cells.{value_at, IsRising}

@@ -1,4 +1,4 @@
-use Rattle.std.proofs.Common.{List, drop, ◌+◌, subst, ap, sym, arith}
+use Rattle.std.proofs.Common.{List, drop, ◌+◌, subst, sym}
 use Rattle.std.proofs.lemmas.List.{drop_all}
 use Rattle.std.specs.List.{AllByRecursion}
 use Rattle.record_tree.specs.declared.tree_change.TreeChange.{TreeChange}

@@ -1,4 +1,3 @@
-use Rattle.std.proofs.Common.{rules}
 use Rattle.in_tree.proofs.Sizes.{commits_step}
 use Rattle.in_tree.proofs.writing.sizes_for.Goals as goal
 

@@ -1,8 +1,7 @@
-use Rattle.std.proofs.Common.{◌≡◌, ◌+◌, ◌∷◌, ◌∙◌, [], List, drop, map, ap, sym, subst, refl, Box}
+use Rattle.std.proofs.Common.{◌+◌, ◌∷◌, ◌∙◌, [], drop, map, ap, sym, refl, Box}
 use Rattle.std.proofs.lemmas.List.{drop_all}
 use Rattle.std.specs.Global.{Global}
 use Rattle.record_map.specs.declared.write.Write.{Write}
-use Rattle.record_tree.specs.declared.tree_change.TreeChange.{TreeChange}
 use Rattle.in_tree.specs.Forest.{write_for, cells_seen}
 use Rattle.in_tree.proofs.Preparation.{next_left}
 use Rattle.in_tree.proofs.Written.{writes_begin, writes_turn, writes_step, writes_fail, writes_end, heads_same, rests_same, not_empty, on_err, nothing_written}

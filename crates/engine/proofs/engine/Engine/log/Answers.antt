@@ -1,32 +1,45 @@
-use Rattle.std.proofs.Common.{◌≤◌, ◌<◌, ◌^◌, ◌+◌, ℕ, List, map, ◌∙◌, ap, sym, subst, arith}
+use Rattle.std.proofs.Common.{◌≡◌, ◌∙◌, ◌+◌, refl, sym, subst, ap, length, nat_lt, IfSome, false, List, None}
 use Rattle.std.specs.List.{AllByRecursion}
-use Rattle.log_entry.specs.declared.entry.Entry.{Entry}
-use Rattle.log_entry.specs.Encoding.{size_of}
-use Rattle.log_buffer.specs.declared.log_pos.LogPos.{LogPos}
-use Rattle.engine.specs.Logging.{entries_planned}
-use Rattle.engine.proofs.GrownLaws.{MayFollow}
-use Rattle.engine.proofs.StepLaws.{may_from}
-use Rattle.engine.proofs.WriteLaws.{all_bound, end_some, sizes_end}
+use Rattle.record_tree.specs.declared.tree_change.TreeChange.{TreeChange}
+use Rattle.in_tree.specs.Observed.{has_tree_of, limit_in}
+use Rattle.store_model.specs.declared.store.TheConstants.{LAST_DATABASE}
+use Rattle.engine.specs.Limits.{last_number, numbers_for}
+use Rattle.engine.specs.Steps.{txn_of}
+use Rattle.engine.proofs.LogLaws.{appended_all, neither, no_limit, rows_logged, within_last}
 use Rattle.engine.proofs.engine.Engine.log.Goals as goal
 
-pub write_rows-requires-clause-entries : goal.write_rows-requires-clause-entries
-write_rows-requires-clause-entries g c =
-    let txn = c.args.self.now.kept.last_txn + 1 in
-    subst (λ (l : List Entry). AllByRecursion MayFollow l) (sym (c.in_ok-entries.ensures ∙ ap (entries_planned txn) c.as_slice.ensures)) (may_from txn c.args.planned.rows c.requires.entries)
+pub commit_changes-requires-clause-new : goal.commit_changes-requires-clause-new
+commit_changes-requires-clause-new g c =
+    let planned = c.args.planned in
+    let kept = c.args.self.now.kept in
+    let trees = c.args.self.now.trees in
+    let left = neither (nat_lt LAST_DATABASE planned.last_db) (nat_lt last_number (kept.last_node + numbers_for (length planned.changes.items))) (sym c.lacks_numbers.ensures ∙ c.if-lacks_numbers.false) in
+    subst (λ (cs : List TreeChange). AllByRecursion (λ x. IfSome x.makes (λ d. has_tree_of trees d ≡ false)) cs) (sym c.as_slice.ensures.value) (c.requires.new (within_last planned.last_db left.0))
 
-pub returns-in-Ok-clause-bounds : goal.returns-in-Ok-clause-bounds
-returns-in-Ok-clause-bounds g c =
-    let old = c.args.self.now in
-    let txn = old.kept.last_txn + 1 in
-    let found = end_some _ c.in-Some.end c.end_behind.result c.in-Some.is c.end_behind.ensures in
-    let is = found.0 ∙ sizes_end old.kept c.args.planned.rows c.in_ok-entries.entries.items c.deref-2.result.now (c.in_ok-entries.ensures ∙ ap (entries_planned txn) c.as_slice.ensures) (c.deref-2.ensures.value ∙ c.in_ok-sizes.ensures ∙ ap (λ l. map size_of l) c.deref.ensures.value) in
-    let few = c.requires.bounds.commits in
-    let low = c.if-from-last_db.false in
-    let most = c.from.ensures in
-    record {
-      file = let end = ap (λ (p : LogPos). p.file) found.0 in let room = found.1 in omega (arith, end, room);
-      offset = subst (λ (p : LogPos). p.offset < 2 ^ 32) (sym is)
-          (all_bound old.kept.file_max old.kept.end (entries_planned txn c.args.planned.rows) (subst (λ (m : ℕ). m ≤ 2 ^ 30) c.requires.works.file_max old.log.max) c.requires.entries c.requires.bounds.offset);
-      commits = omega (arith, few);
-      last_db = omega (arith, low, most);
-    }
+pub returns-in-Ok-clause-logs : goal.returns-in-Ok-clause-logs
+returns-in-Ok-clause-logs g c =
+    let D = g.D.Disk in
+    let planned = c.args.planned in
+    let kept = c.args.self.now.kept in
+    let old = c.args.self.now.trees in
+    let new = c.commit_changes.new.trees in
+    let count = length planned.changes.items in
+    let left = neither (nat_lt LAST_DATABASE planned.last_db) (nat_lt last_number (kept.last_node + numbers_for count)) (sym c.lacks_numbers.ensures ∙ c.if-lacks_numbers.false) in
+    let slice = c.as_slice.result.now in
+    let same : slice ≡ planned.changes.items = c.as_slice.ensures.value in
+    let len = c.len.ensures ∙ planned.changes.ok.0 in
+    let node : kept.last_node + numbers_for c.len.result ≡ kept.last_node + numbers_for count = ap (λ n. kept.last_node + numbers_for n) len in (
+      refl,
+      record {
+        rows = rows_logged old new planned slice same c.in-Ok.ensures.values c.are_ordered.ensures c.are_ordered-in-Ok.ensures;
+        totals = refl;
+        last_txn = refl;
+        last_db = refl;
+        last_node = node;
+        commits = refl;
+        fault = refl;
+      },
+      within_last planned.last_db left.0,
+      no_limit _ kept.last_node count (subst (λ (cs : List TreeChange). limit_in old cs 1 ≡ None) same c.in-Ok.ensures.room) left.1,
+      appended_all D.observable D.history D.sync_out D.read_out D.read_of D.faults old new (txn_of (kept.last_txn + 1)) planned slice same c.in-Ok.ensures.grew,
+    )

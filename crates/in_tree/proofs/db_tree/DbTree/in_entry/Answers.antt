@@ -1,4 +1,4 @@
-use Rattle.std.proofs.Common.{◌≡◌, ◌+◌, ◌-◌, ◌<◌, ℕ, suc, subst, arith, option_copied}
+use Rattle.std.proofs.Common.{option_copied}
 use Rattle.tree_nodes.specs.Levels.{row_of}
 use Rattle.in_tree.proofs.Contents.{above_if_some}
 use Rattle.in_tree.proofs.SplitLaws.{image_is, below_is}

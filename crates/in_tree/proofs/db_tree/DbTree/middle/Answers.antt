@@ -1,4 +1,3 @@
-use Rattle.std.proofs.Common.{◌≡◌, ◌∙◌, ◌-◌, ◌/◌, ℕ, List, Option, ap, ap₂, option_copied, length}
 use Rattle.tree_nodes.specs.Levels.{row_of}
 use Rattle.in_tree.proofs.Contents.{above_if_some}
 use Rattle.in_tree.proofs.db_tree.DbTree.middle.Goals as goal

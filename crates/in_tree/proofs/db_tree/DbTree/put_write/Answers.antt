@@ -1,7 +1,6 @@
-use Rattle.std.proofs.Common.{◌≡◌, ◌∙◌, Option, Some, IsSome, option_map, refl, ap, sym, subst}
-use Rattle.record_map.specs.declared.cell.Cell.{Cell}
+use Rattle.std.proofs.Common.{Some, option_map}
 use Rattle.record_map.specs.Cells.{value_at, with_write}
-use Rattle.in_tree.specs.Forest.{seen, with_change}
+use Rattle.in_tree.specs.Forest.{with_change}
 use Rattle.in_tree.proofs.Seen.{change_seen, write_seen_at, kept_put, some_mapped, occupied_rises}
 use Rattle.in_tree.proofs.db_tree.DbTree.put_write.Goals as goal
 

@@ -1,4 +1,4 @@
-use Rattle.in_tree.proofs.Checked.{all_none, all_have, room_made}
+use Rattle.in_tree.proofs.Checked.{all_none, all_have}
 use Rattle.in_tree.proofs.log_trees.LogTrees.take_room.Goals as goal
 
 pub make_all-requires-clause-none : goal.make_all-requires-clause-none

@@ -1,4 +1,3 @@
-use Rattle.std.proofs.Common.{◌∙◌, subst, ap, sym}
 use Rattle.in_tree.specs.Forest.{cells_seen}
 use Rattle.in_tree.proofs.Checked.{ok_then, ends_by, ends_never, no_limit, written_since, grew_since, tried_since}
 use Rattle.in_tree.proofs.log_trees.LogTrees.write_checked.Goals as goal

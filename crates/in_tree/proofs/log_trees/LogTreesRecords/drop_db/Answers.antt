@@ -1,4 +1,3 @@
-use Rattle.std.proofs.Common.{ℕ}
 use Rattle.in_tree.proofs.Checked.{dropped_rise}
 use Rattle.in_tree.specs.Forest.{cells_seen}
 use Rattle.in_tree.proofs.log_trees.LogTreesRecords.drop_db.Goals as goal

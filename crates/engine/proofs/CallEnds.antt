@@ -1,4 +1,4 @@
--- What a call of a valid environment comes to is what the model answers, and how it ends.
+-- How a call ends where no other is under way, by what it comes to.
 use Rattle.std.proofs.Common.{◌≡◌, ℕ, ◌+◌, ◌<◌, ◌≤◌, List, [], ◌∷◌, Bool, true, false, cond, nat_lt, Option, None, Some, map, option_map, is_some, refl, ap, sym, ◌∙◌, subst, arith, inl, inr}
 use Rattle.std.proofs.lemmas.Bool.{ltb-true, ltb-false, true≢false}
 use Rattle.std.proofs.lemmas.Option.{none-some}
@@ -23,10 +23,15 @@ use Rattle.je_answers.specs.Refusals.{there_refusal, name_refusal, target_refusa
 use Rattle.je_answers.specs.After.{fate_of}
 use Rattle.je_answers.specs.Events.{database_limit, catalog_limit, IsDone, IsLogged, auto_active}
 use Rattle.je_answers.specs.Alone.{Alone, alone, evaluated_on, IsDoneOn, IsPerformedAlone, IsEvaluatedAlone, IsAnsweredAlone, drawn_alone, faulted_alone, committed_alone, fate_alone, changes_alone, target_alone, performed_alone, evaluated_alone, after_alone, IsAutoCommitted}
-use Rattle.engine.specs.declared.kept.Kept.{Kept}
-use Rattle.engine.specs.declared.planned.Planned.TheVariants.{Answered}
-use Rattle.engine.specs.declared.planned_changes.PlannedChanges.{PlannedChanges}
-use Rattle.engine.specs.Planning.{outcome_on, performed_outcome, HasModel, IsPlannedLog, IsPlanned, EndsAlone}
+use Rattle.txn_core.specs.declared.planned.Planned.TheVariants.{Answered}
+use Rattle.txn_core.specs.declared.planned_changes.PlannedChanges.{PlannedChanges}
+use Rattle.txn_core.specs.Known.{Known}
+use Rattle.txn_core.specs.Planning.{outcome_on, performed_outcome, HasModel, IsPlannedLog, IsPlanned}
+
+-- under that limit of the log a call may answer this, and leaves the environment there
+pub record EndsAlone (limit : Option Answer) (p : Alone) (session : ℕ) (call : Call) (answer : Answer) (after : Alone) : Type 0 where
+  pub answers : IsAnsweredAlone p.fault limit p session call answer
+  pub leaves : after_alone p.fault call p session answer ≡ after
 
 -- a list with an item is not empty
 abbrev has_item : {X : Type 0} → List X → Bool
@@ -147,7 +152,13 @@ refused_or_answered None call limit p session answer is late e = performed_answe
 record LogsAlone (call : Call) (p : Alone) (session : ℕ) (changes : List Change) : Type 0 where
   logged : (answer : Answer) → p.last_db ≤ LAST_DATABASE → IsLogged (database_limit p.last_db changes) (Logged (p.commits + 1)) answer → IsPerformedAlone call None p session answer
   full : IsPerformedAlone call (Some LogFull) p session LogFull
+  ended : IsPerformedAlone call (Some IdsEnded) p session IdsEnded
   leaves : (answer : Answer) → performed_alone call p session answer ≡ fate_alone (fate_of answer) changes p
+
+-- where no number of a node is left for changes of the catalog
+numbers_ended : (b : Bool) (due : Answer) → IsLogged (or_refusal (cond b (Some IdsEnded) None) (Some IdsEnded)) due IdsEnded
+numbers_ended true due = refl
+numbers_ended false due = refl
 
 catalog_logs : (call : Call) (o : Outcome) (p : Alone) (session : ℕ) (changes : List Change) → o.changes ≡ changes → (answer : Answer) → p.last_db ≤ LAST_DATABASE →
     IsLogged (database_limit p.last_db changes) (Logged (p.commits + 1)) answer → IsLogged (catalog_limit None (alone p) o.changes) (Logged (p.commits + 1)) answer
@@ -166,12 +177,14 @@ record_logs : (g : Target) (cs : List RecordChange) (p : Alone) (session : ℕ) 
     ((answer : Answer) → p.last_db ≤ LAST_DATABASE → IsLogged (database_limit p.last_db (change ∷ more)) (Logged (p.commits + 1)) answer →
     IsDone cs None (alone p) (auto_active (alone p) session) (evaluated_on call g) answer)
     × IsDone cs (Some LogFull) (alone p) (auto_active (alone p) session) (evaluated_on call g) LogFull
+    × IsDone cs (Some IdsEnded) (alone p) (auto_active (alone p) session) (evaluated_on call g) IdsEnded
     × ((answer : Answer) → changes_alone cs g p answer ≡ fate_alone (fate_of answer) (change ∷ more) p)
 record_logs g [] p session call change more is = absurd (cons-nil change more (sym is))
 record_logs g (c ∷ cs) p session call change more is = (
   λ answer low h. subst (λ (l : Option Answer). IsLogged l (Logged (p.commits + 1)) answer)
       (ap (database_limit p.last_db) (sym is) ∙ within (p.last_db + made_by (change_in g.database.name c ∷ map (λ c. change_in g.database.name c) cs))
       (let none = records_make_none g.database.name (c ∷ cs) in omega (arith, low, none))) h,
+  refl,
   refl,
   λ answer. ap (λ (l : List Change). fate_alone (fate_of answer) l p) is,
 )
@@ -181,6 +194,7 @@ on_logged : (number : ℕ) (o : Option Database) (d : Database) (p : Alone) (ses
     ((answer : Answer) → p.last_db ≤ LAST_DATABASE → IsLogged (database_limit p.last_db (change ∷ more)) (Logged (p.commits + 1)) answer →
     IsDoneOn (option_map (target number None) o) None p session call answer)
     × IsDoneOn (option_map (target number None) o) (Some LogFull) p session call LogFull
+    × IsDoneOn (option_map (target number None) o) (Some IdsEnded) p session call IdsEnded
     × ((answer : Answer) → target_alone (option_map (target number None) o) call p answer ≡ fate_alone (fate_of answer) (change ∷ more) p)
 on_logged number None d p session call change more there is = absurd (none-some d there)
 on_logged number (Some x) d p session call change more there is =
@@ -194,6 +208,7 @@ performed_logs (Create db kind) p session change more is late e =
     record {
       logged = λ answer low h. catalog_logs (Create db kind) o p session (change ∷ more) e answer low h;
       full = refl;
+      ended = numbers_ended (nat_lt LAST_DATABASE (p.last_db + made_by o.changes)) (Logged (p.commits + 1));
       leaves = λ answer. ap (λ (l : List Change). fate_alone (fate_of answer) l p) e;
     }
 performed_logs (Remove db) p session change more is late e =
@@ -201,6 +216,7 @@ performed_logs (Remove db) p session change more is late e =
     record {
       logged = λ answer low h. catalog_logs (Remove db) o p session (change ∷ more) e answer low h;
       full = refl;
+      ended = numbers_ended (nat_lt LAST_DATABASE (p.last_db + made_by o.changes)) (Logged (p.commits + 1));
       leaves = λ answer. ap (λ (l : List Change). fate_alone (fate_of answer) l p) e;
     }
 performed_logs (Rename db to) p session change more is late e =
@@ -208,6 +224,7 @@ performed_logs (Rename db to) p session change more is late e =
     record {
       logged = λ answer low h. catalog_logs (Rename db to) o p session (change ∷ more) e answer low h;
       full = refl;
+      ended = numbers_ended (nat_lt LAST_DATABASE (p.last_db + made_by o.changes)) (Logged (p.commits + 1));
       leaves = λ answer. ap (λ (l : List Change). fate_alone (fate_of answer) l p) e;
     }
 performed_logs (Truncate db) p session change more is late e =
@@ -215,24 +232,25 @@ performed_logs (Truncate db) p session change more is late e =
     record {
       logged = λ answer low h. catalog_logs (Truncate db) o p session (change ∷ more) e answer low h;
       full = refl;
+      ended = numbers_ended (nat_lt LAST_DATABASE (p.last_db + made_by o.changes)) (Logged (p.commits + 1));
       leaves = λ answer. ap (λ (l : List Change). fate_alone (fate_of answer) l p) e;
     }
 performed_logs (Get db key rmw) p session change more is late e =
     let there = is_there _ _ (database_of db p.store) late in
     let on = on_logged (p.numbers db) (database_of db p.store) there.0 p session (Get db key rmw) change more there.1 e in
-    record { logged = on.0; full = on.1; leaves = on.2 }
+    record { logged = on.0; full = on.1; ended = on.2; leaves = on.3 }
 performed_logs (GetBoth db key value rmw) p session change more is late e =
     let there = is_there _ _ (database_of db p.store) late in
     let on = on_logged (p.numbers db) (database_of db p.store) there.0 p session (GetBoth db key value rmw) change more there.1 e in
-    record { logged = on.0; full = on.1; leaves = on.2 }
+    record { logged = on.0; full = on.1; ended = on.2; leaves = on.3 }
 performed_logs (Put db key value mode) p session change more is late e =
     let there = is_there _ _ (database_of db p.store) late in
     let on = on_logged (p.numbers db) (database_of db p.store) there.0 p session (Put db key value mode) change more there.1 e in
-    record { logged = on.0; full = on.1; leaves = on.2 }
+    record { logged = on.0; full = on.1; ended = on.2; leaves = on.3 }
 performed_logs (Delete db key) p session change more is late e =
     let there = is_there _ _ (database_of db p.store) late in
     let on = on_logged (p.numbers db) (database_of db p.store) there.0 p session (Delete db key) change more there.1 e in
-    record { logged = on.0; full = on.1; leaves = on.2 }
+    record { logged = on.0; full = on.1; ended = on.2; leaves = on.3 }
 performed_logs call p session change more is late e = absurd is
 
 -- a call that changes something was not refused
@@ -253,67 +271,74 @@ alone_ends fault late limit p session call answer after none some may leaves = r
 -- ---- how a call ends
 
 -- an answer that changes nothing
-pub answered_ends : (limit : Option Answer) (kept : Kept) (p : Alone) (session : ℕ) (call : Call) (answer : Answer) → p.fault ≡ None → IsAutoCommitted call →
-    IsPlanned kept p session call (Answered answer) → EndsAlone limit p session call answer (drawn_alone p)
-answered_ends limit kept p session call answer none is e =
+pub answered_ends : (limit : Option Answer) (known : Known) (p : Alone) (session : ℕ) (call : Call) (answer : Answer) → p.fault ≡ None → IsAutoCommitted call →
+    IsPlanned known p session call (Answered answer) → EndsAlone limit p session call answer (drawn_alone p)
+answered_ends limit known p session call answer none is e =
     let ends = refused_or_answered (late_refusal (alone p) session call) call limit p session answer is refl e in
     record {
       answers = subst (λ (f : Option Fault). IsAnsweredAlone f limit p session call answer) (sym none) ends.0;
       leaves = ap (λ (f : Option Fault). after_alone f call p session answer) none ∙ ends.1;
     }
 
-logs_alone : (kept : Kept) (p : Alone) (session : ℕ) (call : Call) (planned : PlannedChanges) → IsAutoCommitted call → (log : IsPlannedLog kept p session call planned) →
+logs_alone : (known : Known) (p : Alone) (session : ℕ) (call : Call) (planned : PlannedChanges) → IsAutoCommitted call → (log : IsPlannedLog known p session call planned) →
     (late_refusal (alone p) session call ≡ None) × LogsAlone call p session (log.change ∷ log.more)
-logs_alone kept p session call planned is log =
+logs_alone known p session call planned is log =
     let some = not_refused (late_refusal (alone p) session call) (performed_outcome p session call) log.change log.more log.changes in
     (some.0, performed_logs call p session log.change log.more is some.0 some.1)
 
 -- the log has no room
-pub full_ends : (kept : Kept) (p : Alone) (session : ℕ) (call : Call) (planned : PlannedChanges) → p.fault ≡ None → IsAutoCommitted call →
-    IsPlannedLog kept p session call planned → EndsAlone (Some LogFull) p session call LogFull (drawn_alone p)
-full_ends kept p session call planned none is log =
-    let logs = logs_alone kept p session call planned is log in
+pub full_ends : (known : Known) (p : Alone) (session : ℕ) (call : Call) (planned : PlannedChanges) → p.fault ≡ None → IsAutoCommitted call →
+    IsPlannedLog known p session call planned → EndsAlone (Some LogFull) p session call LogFull (drawn_alone p)
+full_ends known p session call planned none is log =
+    let logs = logs_alone known p session call planned is log in
     alone_ends p.fault None (Some LogFull) p session call LogFull (drawn_alone p) none logs.0 logs.1.full (logs.1.leaves LogFull)
 
+-- no number of a node is left
+pub ended_ends : (known : Known) (p : Alone) (session : ℕ) (call : Call) (planned : PlannedChanges) → p.fault ≡ None → IsAutoCommitted call →
+    IsPlannedLog known p session call planned → EndsAlone (Some IdsEnded) p session call IdsEnded (drawn_alone p)
+ended_ends known p session call planned none is log =
+    let logs = logs_alone known p session call planned is log in
+    alone_ends p.fault None (Some IdsEnded) p session call IdsEnded (drawn_alone p) none logs.0 logs.1.ended (logs.1.leaves IdsEnded)
+
 -- where the log has room: an answer that the numbers let through
-some_end : (kept : Kept) (p : Alone) (session : ℕ) (call : Call) (planned : PlannedChanges) (answer : Answer) (after : Alone) → p.fault ≡ None → IsAutoCommitted call →
-    (log : IsPlannedLog kept p session call planned) → p.last_db ≤ LAST_DATABASE → IsLogged (database_limit p.last_db (log.change ∷ log.more)) (Logged (p.commits + 1)) answer →
+some_end : (known : Known) (p : Alone) (session : ℕ) (call : Call) (planned : PlannedChanges) (answer : Answer) (after : Alone) → p.fault ≡ None → IsAutoCommitted call →
+    (log : IsPlannedLog known p session call planned) → p.last_db ≤ LAST_DATABASE → IsLogged (database_limit p.last_db (log.change ∷ log.more)) (Logged (p.commits + 1)) answer →
     fate_alone (fate_of answer) (log.change ∷ log.more) p ≡ after → EndsAlone None p session call answer after
-some_end kept p session call planned answer after none is log low may leaves =
-    let logs = logs_alone kept p session call planned is log in
+some_end known p session call planned answer after none is log low may leaves =
+    let logs = logs_alone known p session call planned is log in
     alone_ends p.fault None None p session call answer after none logs.0 (logs.1.logged answer low may) (logs.1.leaves answer ∙ leaves)
 
 -- the last number of a database after the changes, as the model has it
-last_is : (kept : Kept) (p : Alone) (session : ℕ) (call : Call) (planned : PlannedChanges) → HasModel kept p → (log : IsPlannedLog kept p session call planned) →
+last_is : (known : Known) (p : Alone) (session : ℕ) (call : Call) (planned : PlannedChanges) → HasModel known p → (log : IsPlannedLog known p session call planned) →
     p.last_db + made_by (log.change ∷ log.more) ≡ planned.last_db
-last_is kept p session call planned has log = ap (λ n. n + made_by (log.change ∷ log.more)) (sym has.last_db) ∙ sym log.last_db
+last_is known p session call planned has log = ap (λ n. n + made_by (log.change ∷ log.more)) (sym has.last_db) ∙ sym log.last_db
 
 -- the changes are logged
-pub logged_ends : (kept : Kept) (p : Alone) (session : ℕ) (call : Call) (planned : PlannedChanges) → p.fault ≡ None → IsAutoCommitted call → HasModel kept p →
-    (log : IsPlannedLog kept p session call planned) → planned.last_db ≤ LAST_DATABASE →
+pub logged_ends : (known : Known) (p : Alone) (session : ℕ) (call : Call) (planned : PlannedChanges) → p.fault ≡ None → IsAutoCommitted call → HasModel known p →
+    (log : IsPlannedLog known p session call planned) → planned.last_db ≤ LAST_DATABASE →
     EndsAlone None p session call (Logged (p.commits + 1)) (committed_alone (log.change ∷ log.more) (drawn_alone p))
-logged_ends kept p session call planned none is has log low =
-    let last = last_is kept p session call planned has log in
-    some_end kept p session call planned (Logged (p.commits + 1)) (committed_alone (log.change ∷ log.more) (drawn_alone p)) none is log (omega (arith, last, low))
+logged_ends known p session call planned none is has log low =
+    let last = last_is known p session call planned has log in
+    some_end known p session call planned (Logged (p.commits + 1)) (committed_alone (log.change ∷ log.more) (drawn_alone p)) none is log (omega (arith, last, low))
     (subst (λ (l : Option Answer). IsLogged l (Logged (p.commits + 1)) (Logged (p.commits + 1)))
     (sym (within (p.last_db + made_by (log.change ∷ log.more)) (omega (arith, last, low)))) (inl refl)) refl
 
 -- the disk fails
-pub fault_ends : (kept : Kept) (p : Alone) (session : ℕ) (call : Call) (planned : PlannedChanges) → p.fault ≡ None → IsAutoCommitted call → HasModel kept p →
-    IsPlannedLog kept p session call planned → planned.last_db ≤ LAST_DATABASE → EndsAlone None p session call DiskFault (faulted_alone p)
-fault_ends kept p session call planned none is has log low =
-    let last = last_is kept p session call planned has log in
-    some_end kept p session call planned DiskFault (faulted_alone p) none is log (omega (arith, last, low))
+pub fault_ends : (known : Known) (p : Alone) (session : ℕ) (call : Call) (planned : PlannedChanges) → p.fault ≡ None → IsAutoCommitted call → HasModel known p →
+    IsPlannedLog known p session call planned → planned.last_db ≤ LAST_DATABASE → EndsAlone None p session call DiskFault (faulted_alone p)
+fault_ends known p session call planned none is has log low =
+    let last = last_is known p session call planned has log in
+    some_end known p session call planned DiskFault (faulted_alone p) none is log (omega (arith, last, low))
     (subst (λ (l : Option Answer). IsLogged l (Logged (p.commits + 1)) DiskFault)
     (sym (within (p.last_db + made_by (log.change ∷ log.more)) (omega (arith, last, low)))) (inr refl)) refl
 
 -- no number is left for a database
-pub ids_ends : (kept : Kept) (p : Alone) (session : ℕ) (call : Call) (planned : PlannedChanges) → p.fault ≡ None → IsAutoCommitted call → HasModel kept p →
-    IsPlannedLog kept p session call planned → kept.last_db ≤ LAST_DATABASE → LAST_DATABASE < planned.last_db → EndsAlone None p session call IdsEnded (drawn_alone p)
-ids_ends kept p session call planned none is has log low over =
-    let last = last_is kept p session call planned has log in
+pub ids_ends : (known : Known) (p : Alone) (session : ℕ) (call : Call) (planned : PlannedChanges) → p.fault ≡ None → IsAutoCommitted call → HasModel known p →
+    IsPlannedLog known p session call planned → known.last_db ≤ LAST_DATABASE → LAST_DATABASE < planned.last_db → EndsAlone None p session call IdsEnded (drawn_alone p)
+ids_ends known p session call planned none is has log low over =
+    let last = last_is known p session call planned has log in
     let last_db = has.last_db in
-    some_end kept p session call planned IdsEnded (drawn_alone p) none is log (omega (arith, last_db, low))
+    some_end known p session call planned IdsEnded (drawn_alone p) none is log (omega (arith, last_db, low))
     (subst (λ (l : Option Answer). IsLogged l (Logged (p.commits + 1)) IdsEnded)
     (sym (past (p.last_db + made_by (log.change ∷ log.more)) (omega (arith, last, over)))) refl) refl
 

@@ -1,0 +1,102 @@
+-- What logging planned changes needs, and what it comes to.
+use Rattle.std.proofs.Common.{◌≡◌, ◌==◌, ◌||◌, ℕ, ◌+◌, ◌<◌, ◌≤◌, nat_lt, Bool, true, false, cond, List, [], ◌∷◌, Option, None, Some, IfSome, refl, ap, sym, subst, ◌∙◌, arith}
+use Rattle.std.specs.List.{AllByRecursion, list_any}
+use Rattle.std.proofs.lemmas.Bool.{true≢false, eqb-true, eq-eqb, ne_eqb, ltb-true, ltb-false, and_parts, or_left, or_right}
+use Rattle.je_disk.specs.Moments.{History}
+use Rattle.je_order.specs.declared.txn_id.TxnId.{TxnId}
+use Rattle.je_order.proofs.Lists.{all_weaker}
+use Rattle.store_model.specs.declared.answer.Answer.TheVariants.{IdsEnded}
+use Rattle.store_model.specs.declared.call.Call.{Call}
+use Rattle.store_model.specs.declared.store.TheConstants.{LAST_DATABASE}
+use Rattle.je_answers.specs.Alone.{Alone}
+use Rattle.log_entry.specs.declared.entry.Entry.{Entry}
+use Rattle.record_map.specs.Cells.{IsRising}
+use Rattle.log_replay.specs.Rows.{numbers_of}
+use Rattle.record_tree.specs.declared.tree_change.TreeChange.{TreeChange}
+use Rattle.record_tree.specs.declared.tree_err.TreeErr.{TreeErr}
+use Rattle.record_tree.specs.Logged.{LogsTransaction, is_made, makes_db}
+use Rattle.in_tree.specs.declared.log_trees.LogTrees.{LogTrees}
+use Rattle.in_tree.specs.Limits.{GrewFitting}
+use Rattle.in_tree.specs.Observed.{cells_of, has_tree_of}
+use Rattle.txn_core.specs.declared.planned_changes.PlannedChanges.{PlannedChanges}
+use Rattle.txn_core.specs.Known.{committed, has_number}
+use Rattle.txn_core.specs.Planning.{IsPlannedLog}
+use Rattle.txn_core.specs.Transactions.{HasCommitted}
+use Rattle.engine.specs.declared.kept.Kept.{Kept}
+use Rattle.engine.specs.Contents.{known, rows_after}
+use Rattle.engine.specs.Limits.{last_number, limit_by, numbers_for}
+use Rattle.engine.specs.Steps.{HasAppended}
+use Rattle.engine.specs.Whole.{AreTrees, contents}
+use Rattle.engine.proofs.CommittedRows.{committed_after, transaction_count}
+
+-- ---- no limit
+
+-- where neither is so
+pub neither : (a b : Bool) → (a || b) ≡ false → (a ≡ false) × (b ≡ false)
+neither true b h = absurd (true≢false h)
+neither false b h = (refl, h)
+
+pub within_last : (last : ℕ) → nat_lt LAST_DATABASE last ≡ false → last ≤ LAST_DATABASE
+within_last last h = let low = ltb-false LAST_DATABASE last h in omega (arith, low)
+
+-- where the trees find no limit and numbers are left, there is none
+pub no_limit : (found : Option TreeErr) (node count : ℕ) → found ≡ None → nat_lt last_number (node + numbers_for count) ≡ false → limit_by found node count ≡ None
+no_limit found node count none left =
+    ap (λ (f : Option TreeErr). limit_by f node count) none ∙ ap (λ (b : Bool). cond b (Some IdsEnded) None) left
+
+-- ---- databases
+
+by_makes : (Q : ℕ → Type 0) (o : Option ℕ) → ((d : ℕ) → makes_db d o ≡ true → Q d) → IfSome o Q
+by_makes Q None h = tt
+by_makes Q (Some d) h = h d (eq-eqb d d refl)
+
+-- what holds of each database that changes make
+each_made : (Q : ℕ → Type 0) (changes : List TreeChange) → ((d : ℕ) → is_made d changes ≡ true → Q d) → AllByRecursion (λ c. IfSome c.makes Q) changes
+each_made Q [] h = tt
+each_made Q (c ∷ changes) h = (
+  by_makes Q c.makes (λ d made. h d (or_left (makes_db d c.makes) (is_made d changes) made)),
+  each_made Q changes (λ d made. h d (or_right (makes_db d c.makes) (is_made d changes) made)),
+)
+
+none_of : (numbers : List ℕ) (last d : ℕ) → AllByRecursion (λ n. n ≤ last) numbers → last < d → list_any (λ n. n == d) numbers ≡ false
+none_of [] last d all above = refl
+none_of (n ∷ numbers) last d all above =
+    ap (λ (b : Bool). b || list_any (λ m. m == d) numbers) (ne_eqb n d (λ e. (let low = all.0 in absurd (omega (arith, e, low, above))))) ∙ none_of numbers last d all.1 above
+
+-- a number above the last one is that of no database
+none_above : (numbers : List ℕ) (last d : ℕ) → AllByRecursion (λ n. n ≤ last) numbers → last < d → has_number numbers d ≡ false
+none_above numbers last d all above =
+    ap (λ (b : Bool). b || list_any (λ n. n == d) numbers) (ne_eqb d 0 (λ e. absurd (omega (arith, e, above)))) ∙ none_of numbers last d all above
+
+module _ {D : Type 0} where
+  -- each change is of a database that has a tree
+  pub trees_there : (trees : LogTrees D) (kept : Kept) (p : Alone) (session : ℕ) (call : Call) (planned : PlannedChanges) → AreTrees trees → IsPlannedLog (known (contents trees kept)) p session call planned →
+      AllByRecursion (λ c. has_tree_of trees c.db ≡ true) planned.changes.items
+  trees_there trees kept p session call planned are log =
+      all_weaker (λ (c : TreeChange). has_number (numbers_of (committed (cells_of trees))) c.db ≡ true) (λ c. has_tree_of trees c.db ≡ true) (λ c there. are.made c.db ∙ there) planned.changes.items log.there
+
+  -- a database that changes make has none yet
+  pub trees_new : (trees : LogTrees D) (kept : Kept) (p : Alone) (session : ℕ) (call : Call) (planned : PlannedChanges) → AreTrees trees → AllByRecursion (λ n. n ≤ kept.last_db) (numbers_of (committed (cells_of trees))) →
+      IsPlannedLog (known (contents trees kept)) p session call planned → planned.last_db ≤ LAST_DATABASE → AllByRecursion (λ c. IfSome c.makes (λ d. has_tree_of trees d ≡ false)) planned.changes.items
+  trees_new trees kept p session call planned are below log low =
+      each_made (λ d. has_tree_of trees d ≡ false) planned.changes.items
+      (λ d made.
+      let parts = and_parts (nat_lt kept.last_db planned.last_db) (d == planned.last_db) (sym (log.made (omega (arith, low)) d) ∙ made) in
+      let later = ltb-true kept.last_db planned.last_db parts.0 in
+      let is : d ≡ planned.last_db = eqb-true d planned.last_db parts.1 in
+      are.made d ∙ none_above (numbers_of (committed (cells_of trees))) kept.last_db d below (omega (arith, later, is)))
+
+  -- ---- what was logged
+
+  pub rows_logged : (old new : LogTrees D) (planned : PlannedChanges) (changes : List TreeChange) → changes ≡ planned.changes.items → HasCommitted changes planned.gone (cells_of old) (cells_of new) →
+      ((d : ℕ) → IsRising (cells_of old d)) → ((d : ℕ) → IsRising (cells_of new d)) → (d : ℕ) → committed (cells_of new) d ≡ rows_after planned.changes.items planned.gone (committed (cells_of old)) d
+  rows_logged old new planned changes same has up_old up_new =
+      committed_after planned.changes.items planned.gone (cells_of old) (cells_of new) (subst (λ (cs : List TreeChange). HasCommitted cs planned.gone (cells_of old) (cells_of new)) same has) up_old up_new
+
+  module _ (observable : Bool) (history : D → History) (sync_out read_out : D → Option ℕ) (read_of : D → ℕ) (faults : D → ℕ) where
+    pub appended_all : (old new : LogTrees D) (txn : TxnId) (planned : PlannedChanges) (changes : List TreeChange) → changes ≡ planned.changes.items →
+        (entries : List Entry) × LogsTransaction txn changes entries × GrewFitting observable history sync_out read_out read_of faults old.log new.log entries →
+        HasAppended observable history sync_out read_out read_of old.log new.log txn planned.changes.items
+    appended_all old new txn planned changes same grew =
+        let logs : LogsTransaction txn planned.changes.items grew.0 = subst (λ (cs : List TreeChange). LogsTransaction txn cs grew.0) same grew.1 in
+        record { entries = grew.0; logs = logs; grew = grew.2.grew; fits = grew.2.fits; few = transaction_count txn planned.changes.items grew.0 logs grew.2.plain }
