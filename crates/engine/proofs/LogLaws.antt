@@ -91,7 +91,7 @@ module _ {D : Type 0} where
   pub rows_logged : (old new : LogTrees D) (planned : PlannedChanges) (changes : List TreeChange) → changes ≡ planned.changes.items → HasCommitted changes planned.gone (cells_of old) (cells_of new) →
       ((d : ℕ) → IsRising (cells_of old d)) → ((d : ℕ) → IsRising (cells_of new d)) → (d : ℕ) → committed (cells_of new) d ≡ rows_after planned.changes.items planned.gone (committed (cells_of old)) d
   rows_logged old new planned changes same has up_old up_new =
-      committed_after planned.changes.items planned.gone (cells_of old) (cells_of new) (subst (λ (cs : List TreeChange). HasCommitted cs planned.gone (cells_of old) (cells_of new)) same has) up_old up_new
+      committed_after planned.changes.items planned.gone (cells_of old) (cells_of new) up_old up_new (subst (λ (cs : List TreeChange). HasCommitted cs planned.gone (cells_of old) (cells_of new)) same has)
 
   module _ (observable : Bool) (history : D → History) (sync_out read_out : D → Option ℕ) (read_of : D → ℕ) (faults : D → ℕ) where
     pub appended_all : (old new : LogTrees D) (txn : TxnId) (planned : PlannedChanges) (changes : List TreeChange) → changes ≡ planned.changes.items →

@@ -48,6 +48,7 @@ use Rattle.engine.specs.Environment.{AreAlone, GivesRecords}
 use Rattle.engine.specs.Limits.{Reach, last_number, numbers_for}
 use Rattle.engine.specs.Opening.{AreNumbers, HasBegun, HasNoNumbers, StartsAt, WasRead, log_start_of, meaning_read, node_bound}
 use Rattle.engine.specs.Whole.{AreTrees, IsAt, IsOpened, IsOpenedAt, IsOpenedSafely, contents_of}
+use Rattle.engine.proofs.WholeLaws.{reach_is}
 use Rattle.engine.proofs.ClosedLaws.{guarded_none}
 use Rattle.engine.proofs.NumberLaws.{kept_numbers}
 use Rattle.engine.proofs.OpeningLaws.{AreLogFiles, File, found_ends, found_named, no_corruption, starts_in}
@@ -339,7 +340,8 @@ module _ {D : Type 0} where
         starts = starts_opened most observable reads state r w bound engine is;
         here = at_start most observable reads state r w bound engine is;
         reach =
-            ap (λ (n : ℕ). reach n engine.kept.last_node) (ap (λ (end : LogPos). end.file) is.ready.end ∙ starts_in w.held r.tail w.is.tail_is)
+            reach_is engine is.ready.works
+            ∙ ap (λ (n : ℕ). reach n engine.kept.last_node) (ap (λ (end : LogPos). end.file) is.ready.end ∙ starts_in w.held r.tail w.is.tail_is)
             ∙ ap (reach (end_file_in w.held)) (ap (λ (k : Kept). k.last_node) is.begun.kept ∙ bound_held observable reads r w bound is.bound_is);
       }
 

@@ -15,7 +15,7 @@ pub returns-clause-crash : goal.returns-clause-crash
 returns-clause-crash g c = λ observed most st start journal is.
     let buffer = c.into_parts-log.result.0 in
     let log : Log = is.0 in
-    let guarded = subst (λ (b : LogBuffer g.row.D.Denot). IsGuardedLog st log start (g.D.Disk.history (disk_of b)) b journal None) (sym c.into_parts-log.ensures) is.1 in
+    let guarded = subst (λ (b : LogBuffer g.row.D.Denot). IsGuardedLog st log start (g.D.Disk.history (disk_of b)) b journal None) (sym c.into_parts-log.ensures.log) is.1 in
     closed_safely st log start (g.D.Disk.history (disk_of buffer)) (g.D.Disk.history c.close_log-disk.result.0) buffer journal guarded
     (c.close_log-disk.ensures.crash observed log guarded.least (λ works. guarded.works (guarded.stops works)))
     (λ failed. ap (λ (d : g.row.D.Denot). g.D.Disk.history d) (c.close_log-disk.ensures.still failed))
@@ -24,7 +24,7 @@ pub returns-clause-images : goal.returns-clause-images
 returns-clause-images g c = λ observed done most st start journal here is none.
     let engine = c.args.self in
     let standing = after_events st journal in
-    let same = sym c.into_parts-log.ensures in
+    let same = sym c.into_parts-log.ensures.log in
     let v = valid_at most g.D.Disk.observable (now (g.D.Disk.history (disk_of engine.trees.log))) engine.trees.log (contents_of engine) standing here.at none in
     closed_images v.log (now (g.D.Disk.history c.close_log-disk.result.0)) standing.store v.recovers
     (c.close_log-disk.ensures.kept observed v.log (subst (λ (b : LogBuffer g.row.D.Denot). HasLog g.D.Disk.observable (now (g.D.Disk.history (disk_of b))) b v.log) same v.has)
@@ -33,7 +33,7 @@ returns-clause-images g c = λ observed done most st start journal here is none.
 pub returns-clause-files : goal.returns-clause-files
 returns-clause-files g c = λ observed done most st here none.
     let engine = c.args.self in
-    let same = sym c.into_parts-log.ensures in
+    let same = sym c.into_parts-log.ensures.log in
     let v = valid_at most g.D.Disk.observable (now (g.D.Disk.history (disk_of engine.trees.log))) engine.trees.log (contents_of engine) st here.at none in
     files_mean v.log (now (g.D.Disk.history c.close_log-disk.result.0)) st.store v.recovers
     (c.close_log-disk.ensures.kept observed v.log (subst (λ (b : LogBuffer g.row.D.Denot). HasLog g.D.Disk.observable (now (g.D.Disk.history (disk_of b))) b v.log) same v.has)
