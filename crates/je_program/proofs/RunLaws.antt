@@ -43,7 +43,7 @@ by_within reach other st [] within = within
 by_within reach other st (event ∷ events) within =
     by_within (reach_after reach (changes_by st event)) (reach_after other (changes_by st event)) (after_event st event) events (after_within reach other (changes_by st event) within)
 
-within_then : (a b c : Reach) → IsWithin a b → IsWithin b c → IsWithin a c
+pub within_then : (a b c : Reach) → IsWithin a b → IsWithin b c → IsWithin a c
 within_then a b c first next = record {
   file = (let h : a.file ≤ b.file = first.file in let k : b.file ≤ c.file = next.file in omega (arith, h, k));
   node = (let h : a.node ≤ b.node = first.node in let k : b.node ≤ c.node = next.node in omega (arith, h, k));
@@ -87,15 +87,14 @@ reach_by-append reach st [] after = refl
 reach_by-append reach st (event ∷ events) after = reach_by-append (reach_after reach (changes_by st event)) (after_event st event) events after
 
 -- what a call may reach, and no farther in its sync
-unsynced_within : (old mid new : Reach) (changes : List Change) → IsWithin mid (reach_after old changes) → new ≡ mid → IsWithin new (reach_after (reach_after old changes) [])
-unsynced_within old mid new changes grows same =
-    subst (λ (r : Reach). IsWithin r (reach_after (reach_after old changes) [])) (sym same)
-    (within_then mid (reach_after old changes) (reach_after (reach_after old changes) []) grows (after_none (reach_after old changes)))
+unsynced_within : (old mid new : Reach) (changes : List Change) → IsWithin mid (reach_after old changes) → IsWithin new mid → IsWithin new (reach_after (reach_after old changes) [])
+unsynced_within old mid new changes grows within =
+    within_then new (reach_after old changes) (reach_after (reach_after old changes) []) (within_then new mid (reach_after old changes) within grows) (after_none (reach_after old changes))
 
-synced_within : (old mid new : Reach) (changes : List Change) → IsWithin mid (reach_after old changes) → new ≡ mid → IsWithin new (reach_after (reach_after (reach_after old changes) []) [])
-synced_within old mid new changes grows same =
+synced_within : (old mid new : Reach) (changes : List Change) → IsWithin mid (reach_after old changes) → IsWithin new mid → IsWithin new (reach_after (reach_after (reach_after old changes) []) [])
+synced_within old mid new changes grows within =
     within_then new (reach_after (reach_after old changes) []) (reach_after (reach_after (reach_after old changes) []) [])
-    (unsynced_within old mid new changes grows same) (after_none (reach_after (reach_after old changes) []))
+    (unsynced_within old mid new changes grows within) (after_none (reach_after (reach_after old changes) []))
 
 -- ---- answers
 
@@ -211,7 +210,7 @@ module _ {D : Type 0} where
   -- a call that was logged, and a sync that could not begin
   pub runs_unsynced : (most : ℕ) (first : Reach) (observable : Bool) (before middle after : State) (old mid new : Engine D) (journal : List Event) (session line : ℕ) (call : Call) (answer : Answer) (st : Standing) →
       IsRunning most first observable before old journal st → GoesOn most observable middle old mid (after_events st journal) session line call (Ok answer) → is_logged answer ≡ true →
-      IsWithin (reach_of mid) (reach_after (reach_of old) (changes_by (after_events st journal) (Called session line call answer []))) → reach_of new ≡ reach_of mid →
+      IsWithin (reach_of mid) (reach_after (reach_of old) (changes_by (after_events st journal) (Called session line call answer []))) → IsWithin (reach_of new) (reach_of mid) →
       ((s : Standing) → IsAt most observable middle mid s → s.fault ≡ None → IsAt most observable after new (after_event s (SyncBegin DiskFault))) →
       IsRunning most first observable after new ((journal ++ Called session line call answer [] ∷ []) ++ SyncBegin DiskFault ∷ []) st
   runs_unsynced most first observable before middle after old mid new journal session line call (Logged commit) st running goes logged grows same begins =
@@ -235,7 +234,7 @@ module _ {D : Type 0} where
   pub runs_logged : (most : ℕ) (first : Reach) (observable : Bool) (before middle after : State) (old mid new : Engine D) (journal : List Event) (session line : ℕ) (call : Call) (answer ending : Answer) (st : Standing) →
       IsRunning most first observable before old journal st → GoesOn most observable middle old mid (after_events st journal) session line call (Ok answer) →
       IsNumbered answer (after_event (after_events st journal) (Called session line call answer [])).commits → is_logged answer ≡ true →
-      IsWithin (reach_of mid) (reach_after (reach_of old) (changes_by (after_events st journal) (Called session line call answer []))) → reach_of new ≡ reach_of mid →
+      IsWithin (reach_of mid) (reach_after (reach_of old) (changes_by (after_events st journal) (Called session line call answer []))) → IsWithin (reach_of new) (reach_of mid) →
       ((s : Standing) → IsAt most observable middle mid s → s.fault ≡ None → EndsSync most observable after new (after_event s (SyncBegin Done)) ending) →
       IsRunning most first observable after new (((journal ++ Called session line call answer [] ∷ []) ++ SyncBegin Done ∷ []) ++ SyncEnd ending ∷ []) st
   runs_logged most first observable before middle after old mid new journal session line call (Logged commit) ending st running goes number logged grows same sync =

@@ -1,6 +1,6 @@
 -- A run of a script.
 use Rattle.std.specs.List.{AllByRecursion}
-use Rattle.std.specs.Prelude.{ℕ, Unit, ◌≡◌, ◌≤◌, ◌+◌, ◌∷◌, [], ◌++◌, ◌==◌, List, Option, Some, Bool, true, false, filter, slice_index_or, if◌then◌else◌}
+use Rattle.std.specs.Prelude.{ℕ, ◌≡◌, ◌≤◌, ◌+◌, ◌∷◌, [], ◌++◌, ◌==◌, List, Option, Some, Bool, true, false, filter, slice_index_or, if◌then◌else◌}
 use Rattle.je_order.specs.Counts.{HasRisen}
 use Rattle.je_disk.specs.States.{State}
 use Rattle.store_model.specs.declared.store.Store.{Store}

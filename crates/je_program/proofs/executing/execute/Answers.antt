@@ -1,7 +1,7 @@
 use Rattle.std.proofs.Common.{◌≡◌, List, [], ◌∷◌, ◌++◌, None, arith, sym, ◌∙◌, ap, subst, refl}
 use Rattle.je_disk.specs.Moments.{now}
 use Rattle.je_disk.specs.States.{State}
-use Rattle.engine.specs.Whole.{IsAt, IsGuarded, disk_of}
+use Rattle.engine.specs.Whole.{IsAt, IsGuarded, disk_of, reach_of}
 use Rattle.store_model.specs.declared.event.Event.{Event}
 use Rattle.store_model.specs.declared.event.Event.TheVariants.{Call as Called, SyncBegin, SyncEnd}
 use Rattle.store_model.specs.declared.answer.Answer.TheVariants.{Done, DiskFault}
@@ -14,7 +14,7 @@ use Rattle.je_answers.proofs.Journals.{after_events-append}
 use Rattle.std.proofs.lemmas.List.{append-nil}
 use Rattle.je_program.specs.Run.{IsCaused, IsRunning}
 use Rattle.je_program.proofs.GivenLaws.{line_is_auto, lines_of-append}
-use Rattle.je_program.proofs.RunLaws.{caused_answered, caused_synced, caused_unsynced, logged_none, runs_logged, runs_plain, runs_same, runs_unsynced}
+use Rattle.je_program.proofs.RunLaws.{caused_answered, caused_synced, caused_unsynced, logged_none, runs_logged, runs_plain, runs_same, runs_unsynced, within_then}
 use Rattle.je_program.proofs.executing.execute.Goals as goal
 
 pub step-requires-clause-call : goal.step-requires-clause-call
@@ -54,7 +54,7 @@ returns-in_default-clause-runs g c = λ most first st running.
     (runs_unsynced most first g.D.Disk.observable (state (disk_of old)) (state (disk_of middle)) (state (disk_of new)) old middle new
     journal c.args.session c.args.line c.args.call c.in-Ok.answer st running
     (c.in-Ok.ensures.goes_on most (after_events st journal) running.here) (sym c.waits_for_sync-logged.ensures ∙ c.if-not-logged.false)
-    (c.step.ensures.grows most (after_events st journal) running.here) c.sync_begin.ensures.same_reach (λ s here none. (c.in_default.ensures.begins most s here none).1))
+    (c.step.ensures.grows most (after_events st journal) running.here) c.sync_begin.ensures.within (λ s here none. (c.in_default.ensures.begins most s here none).1))
 
 pub returns-in_default-clause-caused : goal.returns-in_default-clause-caused
 returns-in_default-clause-caused g c = λ before caused.
@@ -89,7 +89,7 @@ returns-clause-runs g c = λ most first st running.
     journal c.args.session c.args.line c.args.call c.in-Ok.answer ending st running
     (c.in-Ok.ensures.goes_on most (after_events st journal) running.here) (c.in-Ok.ensures.numbered most (after_events st journal) running.here)
     (sym c.waits_for_sync-logged.ensures ∙ c.if-not-logged.false)
-    (c.step.ensures.grows most (after_events st journal) running.here) (c.sync_end-answer.ensures.same_reach ∙ c.sync_begin.ensures.same_reach)
+    (c.step.ensures.grows most (after_events st journal) running.here) (within_then (reach_of new) (reach_of c.sync_begin.new.self) (reach_of middle) c.sync_end-answer.ensures.within c.sync_begin.ensures.within)
     (λ s here none. c.sync_end-answer.ensures.ends most (after_event s (SyncBegin Done)) (c.in-Some.ensures.begins most s here none).1 none))
 
 pub returns-clause-caused : goal.returns-clause-caused
