@@ -25,9 +25,10 @@ TOP_CALL = "run_je"  # the call whose contract is the store's theorem
 QUESTIONS = [
     ("Store and answers", "je_order order_laws record_map store_model record_eval store_eval je_answers db_catalog"),
     ("Text", "je_io command_line script_text"),
-    ("The disk and crashes", "je_disk mem_disk dir_disk crash_meaning"),
-    ("The log's bytes", "je_bytes je_lsn log_entry log_file log_buffer log_replay"),
-    ("The run", "engine je_program"),
+    ("The disk and crashes", "je_disk mem_disk dir_disk"),
+    ("The log's bytes", "je_bytes je_lsn log_entry log_file log_buffer log_replay log_trees log_meaning"),
+    ("Trees and records", "node_core record_tree node_log tree_nodes in_tree"),
+    ("The run", "recovery_je crash_recovery txn_core engine je_program"),
     ("Parts that the program does not use", ""),
 ]
 
@@ -118,7 +119,7 @@ def is_outer(lines, n, match):
     if not match[1]:
         return True
     above = next((line for line in reversed(lines[:n]) if line.strip() and len(line) - len(line.lstrip()) < len(match[1])), "")
-    return above.startswith("module ")
+    return above.lstrip().startswith("module ")
 
 
 def comment_above(lines, n):
