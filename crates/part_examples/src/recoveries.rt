@@ -58,7 +58,7 @@ fn recovers_what_is_committed(rt: HostRuntime) {
     let alloc = rt.alloc();
     let files = [first().as_slice(), second().as_slice()];
     let Ok(whole) = recovered(alloc, &files) else {
-        panic!();
+        panic!(rt; "the log was not recovered");
     };
     assert!(rt; is_whole(&whole, alloc) == Ok(true));
     drop(whole);
@@ -67,7 +67,7 @@ fn recovers_what_is_committed(rt: HostRuntime) {
 #[test]
 fn leaves_out_what_is_not_committed(rt: HostRuntime) {
     let Ok(part) = recovered(rt.alloc(), &[&first()[..116]]) else {
-        panic!();
+        panic!(rt; "the log was not recovered");
     };
     assert!(rt; (part.databases, part.records, part.last_txn) == (1, 0, 2));
     drop(part);
@@ -76,7 +76,7 @@ fn leaves_out_what_is_not_committed(rt: HostRuntime) {
 #[test]
 fn begins_with_nothing(rt: HostRuntime) {
     let Ok(new) = recovered(rt.alloc(), &[]) else {
-        panic!();
+        panic!(rt; "the log was not recovered");
     };
     assert!(rt; (new.databases, new.records, new.last_txn, new.last_db) == (0, 0, 0, 0));
     drop(new);
