@@ -24,6 +24,7 @@ use Rattle.in_tree.proofs.Order.{less_up, same_up, less_not_up, up_trans}
 use Rattle.in_tree.proofs.Over.{there_is, over_once, over_low, over_more, over_first, over_only, found_behind, first_is, first_or_rest}
 use Rattle.in_tree.proofs.Contents.{within, between_before, passed_found, passed_is}
 use Rattle.in_tree.proofs.Logging.{child_is_over}
+use Rattle.in_tree.proofs.Within.{over_within}
 
 keys_passed : {V : Type 0} (p : Name → Bool) (row : List (Name × V)) → keys_of (filter (λ e. p e.0) row) ≡ filter p (keys_of row)
 keys_passed p [] = refl
@@ -119,13 +120,13 @@ child_found (e ∷ row) x low c up there below images over =
 
 -- so it is among the nodes that pass a test, as do a low up to the name and the node over it
 among_passed : (p : Name → Bool) (row : NodeRow) (x low : Name) (c : Name × Node) → IsStrictlySortedBy name_cmp (keys_of row) → p low ≡ true → IsSome (value_at low row) → IsUpTo low x →
-    p c.0 ≡ true → HaveImages row → IsOver row x c → child_over x (child_slots (filter (λ e. p e.0) row)) ≡ c.1.last
+    p c.0 ≡ true → ((f : Name × Node) → p f.0 ≡ true → value_at f.0 row ≡ Some f.1 → (lsn : ℕ) × (f.1.last ≡ Some lsn)) → IsOver row x c → child_over x (child_slots (filter (λ e. p e.0) row)) ≡ c.1.last
 among_passed p row x low c up low_passes there below c_passes images over =
     child_found (filter (λ (e : Name × Node). p e.0) row) x low c
     (subst (IsStrictlySortedBy name_cmp) (sym (keys_passed p row)) (IsStrictlySortedBy-filter name_cmp p (keys_of row) up))
     (subst IsSome (sym (passed_found p row low low_passes)) there)
     below
-    (λ f is. images f (sym (passed_found p row f.0 (passed_true p row f.0 (there_is (filter (λ (e : Name × Node). p e.0) row) f.0 f.1 is))) ∙ is))
+    (λ f is. let passes = passed_true p row f.0 (there_is (filter (λ (e : Name × Node). p e.0) row) f.0 f.1 is) in images f passes (sym (passed_found p row f.0 passes) ∙ is))
     (record {
       there = passed_found p row c.0 c_passes ∙ over.there;
       below = over.below;
@@ -152,10 +153,10 @@ ins_show es rows held db number of_level level at low n are there imaged is = re
         ∙ among_passed (is_between (At low) upto) (row_of rows level) x low c (are.rising level)
         (between_before low x low upto (same_up low low refl) over.below x_passes) low_there over.below
         (between_before low x c.0 upto low_up lower.below x_passes)
-        (λ f at_f. let image = imaged f.0 f (over_low (row_of rows level) f.0 f.1 at_f) in (image.0, image.1))
+        (λ f passes at_f. let image = imaged f.0 f (over_within (row_of rows (suc level)) f.0 low n (are.rising (suc level)) there passes) (over_low (row_of rows level) f.0 f.1 at_f) in (image.0, image.1))
         lower
 
     reads : (x : Name) → IsOver (row_of rows (suc level)) x (low, n) → (c : Name × Node) × IsOver (row_of rows level) x c → IsRead es (suc level) at x
     reads x over child =
-        let image = imaged x child.0 child.1 in
+        let image = imaged x child.0 over child.1 in
         (image.0, found x over child.0 child.1 ∙ image.1, image.2)

@@ -12,6 +12,8 @@ pub mod Logging
 pub mod Covering
 -- Images that are made of a node's content show it.
 pub mod Contents
+-- A node is over the names from its low on and below the low behind it.
+pub mod Within
 -- The image of an IN that is made of its children shows what their images show.
 pub mod Children
 -- Changes of a tree's records keep that it fits its log.
@@ -40,3 +42,19 @@ pub mod SplitLaws
 pub mod StoredLaws
 -- Lows that are put on levels.
 pub mod Lows
+-- Which nodes are split, by what is read of them.
+pub mod SplitPlans
+-- Trees whose nodes are split.
+pub mod GrowLaws
+-- A root that is marked is put above the top.
+pub mod RootLaws
+-- How long images are.
+pub mod ImageSizes
+-- The images of nodes that were split.
+pub mod HalvesLaws
+-- The LSNs of children in their IN's image.
+pub mod FillLaws
+-- Splits are taken back.
+pub mod BackLaws
+-- How many images and nodes a name's slot needs.
+pub mod FewSplits

@@ -1,5 +1,5 @@
 -- Logging a node keeps that a tree fits its log.
-use Rattle.std.proofs.Common.{◌≡◌, ◌≤◌, ◌++◌, ◌∷◌, [], ◌==◌, ℕ, suc, List, Bool, true, false, cond, Option, None, Some, length, refl, ap, ap₂, sym, subst, ◌∙◌, arith, eq-eqb}
+use Rattle.std.proofs.Common.{◌≡◌, ◌≤◌, ◌++◌, ◌∷◌, [], ◌==◌, ℕ, zero, suc, List, Bool, true, false, cond, Option, None, Some, length, refl, ap, ap₂, sym, subst, ◌∙◌, arith, eq-eqb}
 use Rattle.std.proofs.lemmas.Option.{none-some, same_Some}
 use Rattle.std.proofs.lemmas.List.{get_or_past}
 use Rattle.je_order.specs.declared.name.Name.{Name}
@@ -11,7 +11,7 @@ use Rattle.tree_nodes.specs.Nodes.{NodeRow, IsOver, earlier, logged}
 use Rattle.tree_nodes.specs.Levels.{row_of, AreParts, HasPutAt, HasMarkedAt}
 use Rattle.in_tree.specs.Images.{Placed, entry_at, IsRead}
 use Rattle.in_tree.specs.Content.{held_by, bin_image, in_image}
-use Rattle.in_tree.specs.Trees.{IsTreeOf, IsTree, IsHandedOn}
+use Rattle.in_tree.specs.Trees.{IsTreeOf, IsTree, IsImageOf, IsHandedOn}
 use Rattle.in_tree.proofs.Longer.{longer}
 use Rattle.in_tree.specs.Splitting.{ImagedBelow, IsInImage}
 use Rattle.in_tree.proofs.Contents.{bins_show}
@@ -58,7 +58,7 @@ bin_logged es base newest old handed new cells low n at db number entry up fresh
 -- an IN is logged: the log gets its image, its mark is handed on, and the image is its last one
 abbrev pub LogsIn : ℕ → ℕ → Type 0
 LogsIn level k = (es : Placed) (base : ℕ) (newest : Name → ℕ) (old handed new : List NodeRow) (held : Name → Option ℕ) (low : Name) (n : Node) (at : ℕ) (entry : Entry) →
-    entry_at es at ≡ None → ImagedBelow old k → IsInImage old level k low entry → AreParts handed → row_of handed level ≡ row_of old level → row_of handed k ≡ row_of old k → value_at low (row_of handed level) ≡ Some n →
+    entry_at es at ≡ None → ImagedBelow old level k low → IsInImage old level k low entry → AreParts handed → row_of handed level ≡ row_of old level → row_of handed k ≡ row_of old k → value_at low (row_of handed level) ≡ Some n →
     IsHandedOn handed level low n → HasPutAt handed new level low (logged at n) →
     ((es : Placed) (base : ℕ) (newest : Name → ℕ) (held : Name → Option ℕ) → IsTreeOf es base newest old held → IsTreeOf es base newest handed held) →
     IsTreeOf es base newest old held → IsTreeOf (es ++ (at, entry) ∷ []) base newest new held
@@ -66,8 +66,8 @@ LogsIn level k = (es : Placed) (base : ℕ) (newest : Name → ℕ) (old handed 
 in_logged_above : (k : ℕ) → LogsIn (suc k) k
 in_logged_above k es base newest old handed new held low n at entry fresh_ imaged is are same below there hand put kept tree =
     let longer_tree = kept (es ++ (at, entry) ∷ []) base newest held (longer es ((at, entry) ∷ []) base newest newest old held (λ x. omega arith) tree) in
-    let with_image : (x : Name) (c : Name × Node) → IsOver (row_of handed k) x c → (lsn : ℕ) × (c.1.last ≡ Some lsn) × IsRead (es ++ (at, entry) ∷ []) k lsn x =
-    λ x c over. let image = imaged x c (subst (λ (row : NodeRow). IsOver row x c) below over) in (image.0, image.1, longer_tree.reads k x c image.0 over image.1) in
+    let with_image : (x : Name) (c : Name × Node) → IsOver (row_of handed (suc k)) x (low, n) → IsOver (row_of handed k) x c → (lsn : ℕ) × (c.1.last ≡ Some lsn) × IsRead (es ++ (at, entry) ∷ []) k lsn x =
+    λ x c upper over. let image = imaged x (low, n) c refl (subst (λ (row : NodeRow). IsOver row x (low, n)) same upper) (subst (λ (row : NodeRow). IsOver row x c) below over) in (image.0, image.1, longer_tree.reads k x c image.0 over image.1) in
     is_logged (es ++ (at, entry) ∷ []) base newest handed new held (suc k) low n (logged at n) at are there put refl
     (ins_show (es ++ (at, entry) ∷ []) handed held is.0 is.1 is.2 k at low n are there with_image
     (entry_is_last es at entry fresh_ ∙ ap Some (is.3 ∙ ap₂ (λ (row under : NodeRow). in_image is.0 is.1 is.2 low row under) (sym same) (sym below))))
@@ -79,3 +79,21 @@ in_logged level k is = subst (λ (l : ℕ). LogsIn l k) (sym is) (in_logged_abov
 -- a level is not the one two above it
 pub not_above : (level k : ℕ) → level ≡ suc k → k ≡ suc level → ⊥
 not_above level k is above = absurd (omega (arith, is, above))
+
+-- an image of a node is one where the mark was handed on
+pub image_handed : (es : Placed) (old handed : List NodeRow) (held : Name → Option ℕ) (level : ℕ) (e : Name × Node) (at : ℕ) → row_of handed level ≡ row_of old level →
+    ((k : ℕ) → (k ≡ suc level → ⊥) → row_of handed k ≡ row_of old k) → IsImageOf es old held level e at → IsImageOf es handed held level e at
+image_handed es old handed held zero e at same others image = record {
+  reads = λ x over. image.reads x (subst (λ (row : NodeRow). IsOver row x e) same over);
+  shows = λ x over. image.shows x (subst (λ (row : NodeRow). IsOver row x e) same over);
+}
+image_handed es old handed held (suc k) e at same others image = record {
+  reads = λ x over. image.reads x (subst (λ (row : NodeRow). IsOver row x e) same over);
+  shows = λ x over c lower. image.shows x (subst (λ (row : NodeRow). IsOver row x e) same over) c (subst (λ (row : NodeRow). IsOver row x c) (others k (λ (h : k ≡ suc (suc k)). absurd (omega (arith, h)))) lower);
+}
+
+pub image_noted : (es : Placed) (base : ℕ) (newest : Name → ℕ) (old handed new : List NodeRow) (held : Name → Option ℕ) (level : ℕ) (low : Name) (n : Node) (at : ℕ) → AreParts handed →
+    row_of handed level ≡ row_of old level → ((k : ℕ) → (k ≡ suc level → ⊥) → row_of handed k ≡ row_of old k) → value_at low (row_of old level) ≡ Some n → IsHandedOn handed level low n →
+    HasPutAt handed new level low (logged at n) → IsImageOf es old held level (low, n) at → IsTreeOf es base newest handed held → IsTreeOf es base newest new held
+image_noted es base newest old handed new held level low n at are same others there hand put image tree =
+    is_logged es base newest handed new held level low n (logged at n) at are (ap (value_at low) same ∙ there) put refl (image_handed es old handed held level (low, n) at same others image) hand tree

@@ -11,7 +11,7 @@ use Rattle.record_map.specs.Cells.{value_at, with_write}
 use Rattle.record_map.proofs.NameLaws.{same_or_other, name_same, other_stays, same_gets}
 use Rattle.tree_nodes.specs.declared.node.Node.{Node}
 use Rattle.tree_nodes.specs.Nodes.{NodeRow, IsUpTo, IsOver, earlier, marked}
-use Rattle.tree_nodes.specs.Levels.{row_of, HasMarkedAt}
+use Rattle.tree_nodes.specs.Levels.{row_of, HasMarkedAt, HasPutAt}
 use Rattle.in_tree.specs.Images.{Placed}
 use Rattle.in_tree.specs.Content.{held_by, lsn_of, lsn_under}
 use Rattle.in_tree.specs.Trees.{IsTreeOf, IsBehind, IsMark, IsTree, HasCell, cell_or_fresh, given_up}
@@ -35,6 +35,13 @@ pub marks : (es : Placed) (base : ℕ) (newest : Name → ℕ) (old new : List N
     HasMarkedAt old new level x from → IsTreeOf es base newest old held → IsTreeOf es base newest new held
 marks es base newest old new held level x from m tree =
     marked_or_split es base newest old new held level m.e.0 m.e.0 m.e.1 (marked from m.e.1) (over_low (row_of old level) m.e.0 m.e.1 m.over.there) m.put (is_mark m.e.1 from) tree
+
+-- a node waits to be logged
+pub waits : (es : Placed) (base : ℕ) (newest : Name → ℕ) (old new : List NodeRow) (held : Name → Option ℕ) (level : ℕ) (low : Name) (m n : Node) (from : ℕ) → value_at low (row_of old level) ≡ Some m →
+    HasPutAt old new level low n → n.last ≡ m.last → n.from ≡ Some (earlier m.from from) → IsTreeOf es base newest old held → IsTreeOf es base newest new held
+waits es base newest old new held level low m n from there put last is tree =
+    marked_or_split es base newest old new held level low low m n (over_low (row_of old level) low m there) put
+    (record { last = last; from = λ f own. (earlier m.from from, is, earlier_up m.from f from own) }) tree
 
 -- the node over a name after it was marked
 pub over_marked : (old new : List NodeRow) (level : ℕ) (x : Name) (from : ℕ) (e : Name × Node) → (m : HasMarkedAt old new level x from) → IsOver (row_of new level) x e → e.1 ≡ marked from m.e.1

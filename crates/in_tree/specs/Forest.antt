@@ -75,6 +75,10 @@ HasSameTrees old new = (d : ℕ) → is_there new d ≡ is_there old d
 abbrev pub KeepsCells : Forest → Forest → Type 0
 KeepsCells old new = (d : ℕ) (x : Name) → IsSome (value_at x (cells_at old d)) → IsSome (value_at x (cells_at new d))
 
+-- no cell changed
+abbrev pub HasSameCells : Forest → Forest → Type 0
+HasSameCells old new = (d : ℕ) → cells_at new d ≡ cells_at old d
+
 -- a name has a cell
 abbrev pub HasOne : Forest → ℕ → Name → Type 0
 HasOne forest db name = IsSome (value_at name (cells_at forest db))

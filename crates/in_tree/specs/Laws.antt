@@ -1,5 +1,5 @@
 -- What holds of every tree of a log, step by step.
-use Rattle.std.specs.Prelude.{◌≡◌, ◌≤◌, ◌⊎◌, ◌++◌, ℕ, suc, List, Option, Some, length}
+use Rattle.std.specs.Prelude.{◌≡◌, ◌≤◌, ◌⊎◌, ◌++◌, ◌*◌, ◌+◌, ℕ, suc, List, Option, Some, length}
 use Rattle.je_order.specs.declared.name.Name.{Name}
 use Rattle.record_map.specs.declared.cell.Cell.{Cell}
 use Rattle.record_map.specs.Cells.{value_at, IsRising}
@@ -9,6 +9,7 @@ use Rattle.tree_nodes.specs.Levels.{row_of, AreParts, HasPutAt, HasRaised}
 use Rattle.in_tree.specs.Images.{Placed, entry_at, shown, shows, IsRead}
 use Rattle.in_tree.specs.Content.{held_by, bin_image, in_image}
 use Rattle.in_tree.specs.Splitting.{AreSameByName}
+use Rattle.in_tree.specs.Splits.{Shape, image_sizes, nodes_made}
 use Rattle.in_tree.specs.Trees.{IsTreeOf, IsBehind, IsMark, IsImageOf, IsHandedOn}
 
 -- a longer log is a log of the tree, whatever it got
@@ -52,13 +53,21 @@ abbrev pub BinImagesShowCells : Type 0
 BinImagesShowCells = (es : Placed) (rows : List NodeRow) (cells : List (Name × Cell)) (db number at : ℕ) (low : Name) (n : Node) →
     IsRising cells → entry_at es at ≡ Some (bin_image db number low (row_of rows 0) cells) → IsImageOf es rows (held_by cells) 0 (low, n) at
 
--- the image of an IN that is made of its children has the IN's content, where each child has an image
+-- the image of an IN that is made of its children has the IN's content, where each of them has an image
 abbrev pub InImagesShowChildren : Type 0
 InImagesShowChildren = (es : Placed) (rows : List NodeRow) (held : Name → Option ℕ) (db number of_level level at : ℕ) (low : Name) (n : Node) →
     AreParts rows → value_at low (row_of rows (suc level)) ≡ Some n →
-    ((x : Name) (c : Name × Node) → IsOver (row_of rows level) x c → (lsn : ℕ) × (c.1.last ≡ Some lsn) × IsRead es level lsn x) →
+    ((x : Name) (c : Name × Node) → IsOver (row_of rows (suc level)) x (low, n) → IsOver (row_of rows level) x c → (lsn : ℕ) × (c.1.last ≡ Some lsn) × IsRead es level lsn x) →
     entry_at es at ≡ Some (in_image db number of_level low (row_of rows (suc level)) (row_of rows level)) → IsImageOf es rows held (suc level) (low, n) at
 
 -- nodes count by their lows alone
 abbrev pub TreesAreByName : Type 0
 TreesAreByName = (es : Placed) (base : ℕ) (newest : Name → ℕ) (old new : List NodeRow) (held : Name → Option ℕ) → AreSameByName old new → IsTreeOf es base newest old held → IsTreeOf es base newest new held
+
+-- a name's slot needs at most two images for each level of its tree, and one for a new root
+abbrev pub ImagesAreFew : Type 0
+ImagesAreFew = (fanout : ℕ) (x : Name) (shape : Shape) → length (image_sizes fanout x shape) ≤ 2 * length shape.lows + 1
+
+-- it makes at most one node for each level, and a root
+abbrev pub NodesAreFew : Type 0
+NodesAreFew = (fanout : ℕ) (x : Name) (shape : Shape) → nodes_made fanout x shape ≤ length shape.lows + 1

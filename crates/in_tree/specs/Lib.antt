@@ -7,5 +7,8 @@ pub mod Limits
 pub mod Fitting
 pub mod Splitting
 pub mod Stored
+pub mod Splits
+pub mod Halves
+pub mod Shapes
 pub mod Whole
 pub mod Observed

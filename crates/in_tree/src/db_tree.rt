@@ -1,11 +1,14 @@
 // The tree of one database.
-ghost use Rattle.std.specs.Prelude.{◌≡◌, ◌≤◌, ◌++◌, ℕ, true, [], Option, None, Some, IsSome, IfOk, OnOk, OnErr, option_map, if◌then◌else◌};
+ghost use Rattle.std.specs.Prelude.{◌≡◌, ◌≤◌, ◌++◌, ◌∷◌, ℕ, true, [], Option, None, Some, IsSome, IfOk, OnOk, OnErr, option_map, if◌then◌else◌};
 ghost use Rattle.std.specs.Ordering.{is_eq};
 ghost use Rattle.je_order.specs.Order.{name_cmp};
 ghost use Rattle.je_order.specs.declared.name.Name.{Name};
-ghost use Rattle.record_map.specs.Cells.{value_at, with_write, committed, IsRising};
+ghost use Rattle.std.specs.BTreeMap.{insert_entry};
+ghost use Rattle.record_map.specs.Cells.{value_at, fresh, with_write, committed, IsRising};
 ghost use Rattle.in_tree.specs.Images.{Placed};
+ghost use Rattle.tree_nodes.specs.Nodes.{least};
 ghost use Rattle.tree_nodes.specs.Levels.{row_of};
+ghost use Rattle.tree_nodes.specs.Lows.{lows_of};
 ghost use Rattle.in_tree.specs.Content.{slot_for, record_slots, bin_image};
 ghost use Rattle.in_tree.specs.Trees.{IsTree, HasCell, cell_or_fresh, given_up};
 ghost use Rattle.in_tree.specs.Forest.{occupied, seen, with_change, with_logged, with_value};
@@ -31,6 +34,7 @@ pub struct DbTree {
 // Makes a cell for the name where it has none.
 fn make_cell(cells: &mut Cells, alloc: Global, name: &SortKey) -> Result<(), AllocError>
     ensures cell { OnOk result (HasCell cells.old cells.new name.now (cell_or_fresh (value_at name.now cells.old))) }
+    ensures list { OnOk result (value_at name.now cells.old ≡ None → cells.new ≡ insert_entry name_cmp cells.old name.now fresh) }
     ensures err { OnErr result (cells.new ≡ cells.old) }
 {
     match cells.get(name) {
@@ -119,7 +123,7 @@ fn push_slot(
 }
 
 // The slots of cells in their BIN's image.
-fn record_slots(
+pub(crate) fn record_slots(
     alloc: Global,
     cells: Range<'_, SortKey, Cell>,
 ) -> Result<List<RecordSlot>, AllocError>
@@ -137,6 +141,7 @@ impl DbTree {
     pub fn new(alloc: Global, number: u64) -> Result<DbTree, AllocError>
         ensures tree { IfOk result (λ tree. (es : Placed) (base : ℕ) (newest : Name → ℕ) → IsTree es base newest tree.levels tree.cells) }
         ensures cells { IfOk result (λ tree. tree.cells ≡ []) }
+        ensures lows { IfOk result (λ tree. lows_of tree.levels ≡ (least ∷ []) ∷ []) }
     {
         let root = Node {
             number,
@@ -157,6 +162,10 @@ impl DbTree {
         ensures there { OnOk result (IsSome (value_at name.now self.new.cells)) }
         ensures same { occupied self.new.cells ≡ occupied self.old.cells }
         ensures kept { (x : Name) → IsSome (value_at x self.old.cells) → IsSome (value_at x self.new.cells) }
+        ensures list { OnOk result (value_at name.now self.old.cells ≡ None → self.new.cells ≡ insert_entry name_cmp self.old.cells name.now fresh) }
+        ensures err { OnErr result (self.new.cells ≡ self.old.cells) }
+        ensures tree { OnOk result ((es : Placed) (base : ℕ) (newest : Name → ℕ) → IsTree es base newest self.old.levels self.old.cells → IsTree es base newest self.new.levels self.new.cells) }
+        ensures levels { self.new.levels ≡ self.old.levels }
     {
         let _before = self.cells.len();
         make_cell(&mut self.cells, alloc, name)?;

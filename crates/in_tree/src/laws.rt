@@ -1,5 +1,5 @@
 // What holds of every tree of a log.
-ghost use Rattle.in_tree.specs.Laws.{TreesStayInLongerLogs, TreesAreSplitAndMarked, TreesAreCommitted, TreesAreLogged, TreesAreRaised, TreesAreByName, TreesAreCovered, BinImagesShowCells, InImagesShowChildren};
+ghost use Rattle.in_tree.specs.Laws.{TreesStayInLongerLogs, TreesAreSplitAndMarked, TreesAreCommitted, TreesAreLogged, TreesAreRaised, TreesAreByName, TreesAreCovered, BinImagesShowCells, InImagesShowChildren, ImagesAreFew, NodesAreFew};
 
 /// Each step of a tree and its log keeps that the tree fits the log: the log gets an entry of any kind; a
 /// node is marked, or split by a copy of it that takes part of its names; records are committed whose BINs are marked; a
@@ -24,4 +24,11 @@ pub fn trees_are_covered()
 pub fn images_show_their_nodes()
     ensures bins { BinImagesShowCells }
     ensures ins { InImagesShowChildren }
+{}
+
+/// A name's slot needs at most two images for each level of its tree and one for a new root, and makes at most one node for each level
+/// and a root. A tree has at most 64 levels, so a change logs at most 129 images.
+pub fn splits_are_few()
+    ensures images { ImagesAreFew }
+    ensures nodes { NodesAreFew }
 {}

@@ -5,9 +5,10 @@ ghost use Rattle.log_entry.specs.Body.{IsEntry};
 ghost use Rattle.record_map.specs.Cells.{value_at, IsRising};
 ghost use Rattle.tree_nodes.specs.Levels.{row_of, AreParts};
 ghost use Rattle.in_tree.specs.Images.{Placed};
-ghost use Rattle.in_tree.specs.Content.{bin_image};
+ghost use Rattle.in_tree.specs.Content.{bin_image, held_by};
 ghost use Rattle.in_tree.specs.Splitting.{ImagedBelow, IsInImage};
-ghost use Rattle.in_tree.specs.Trees.{IsTreeOf, IsTree, IsHandedOn};
+ghost use Rattle.tree_nodes.specs.declared.node.Node.{Node as Kept};
+ghost use Rattle.in_tree.specs.Trees.{IsTreeOf, IsTree, IsImageOf, IsHandedOn};
 
 use crate::{DbTree, TreeLog};
 use je_lsn::Lsn;
@@ -86,7 +87,7 @@ impl DbTree {
         requires level { level < length self.old.levels }
         requires there { IsSome (value_at low.now (row_of self.old.levels level)) }
         requires entry { IsEntry entry.now }
-        requires image { (k : ℕ) × (level ≡ suc k) × ImagedBelow self.old.levels k × IsInImage self.old.levels level k low.now entry.now }
+        requires image { (k : ℕ) × (level ≡ suc k) × ImagedBelow self.old.levels level k low.now × IsInImage self.old.levels level k low.now entry.now }
         ensures tree { IfOk result (λ at. (es : Placed) (base : ℕ) (newest : Name → ℕ) → L.is_log log.old es → IsTree es base newest self.old.levels self.old.cells → IsTree (es ++ (at, entry.now) ∷ []) base newest self.new.levels self.new.cells) }
         ensures log { IfOk result (λ at. (es : Placed) → L.is_log log.old es → L.is_log log.new (es ++ (at, entry.now) ∷ [])) }
         ensures cells { self.new.cells ≡ self.old.cells }
@@ -98,5 +99,21 @@ impl DbTree {
         hand_on(&mut self.levels, level, low, &node);
         self.levels.set(level, low, node.logged(at));
         Ok(at)
+    }
+
+    // The last image of the node of a level with the low is at `at`; its mark goes to the node above it.
+    pub(crate) fn note_image(&mut self, level: usize, low: &SortKey, at: Lsn)
+        ensures cells { self.new.cells ≡ self.old.cells }
+        ensures tree { (es : Placed) (base : ℕ) (newest : Name → ℕ) → ((n : Kept) → value_at low.now (row_of self.old.levels level) ≡ Some n → IsImageOf es self.old.levels (held_by self.old.cells) level (low.now, n) at) → IsTree es base newest self.old.levels self.old.cells → IsTree es base newest self.new.levels self.new.cells }
+    {
+        if level >= self.levels.height() {
+            return;
+        }
+        let node = match self.levels.at(level, low) {
+            Some(node) => node.copy(),
+            None => return,
+        };
+        hand_on(&mut self.levels, level, low, &node);
+        self.levels.set(level, low, node.logged(at));
     }
 }

@@ -4,7 +4,8 @@ ghost use Rattle.je_order.specs.declared.name.Name.{Name};
 ghost use Rattle.record_map.specs.Cells.{value_at};
 ghost use Rattle.std.specs.Prelude.{List as Rows};
 ghost use Rattle.tree_nodes.specs.Nodes.{NodeRow, least};
-ghost use Rattle.tree_nodes.specs.Levels.{row_of, HasPutAt};
+ghost use Rattle.tree_nodes.specs.Levels.{row_of, AreParts, HasPutAt};
+ghost use Rattle.tree_nodes.specs.Lows.{lows_of, with_low};
 ghost use Rattle.tree_nodes.specs.declared.node.Node.{Node as Kept};
 ghost use Rattle.in_tree.specs.Images.{Placed};
 ghost use Rattle.in_tree.specs.Content.{child_slot_for, lsn_of, in_image};
@@ -59,7 +60,7 @@ fn children_in(alloc: Global, slots: List<Slot>) -> Result<List<ChildSlot>, Allo
 }
 
 // The name of the cell with so many before it.
-fn nth_name(
+pub(crate) fn nth_name(
     alloc: Global,
     cells: Range<'_, SortKey, Cell>,
     n: usize,
@@ -101,6 +102,7 @@ impl DbTree {
         requires free { value_at middle (row_of self.old.levels level) ≡ None }
         requires nested { (k : ℕ) → level ≡ suc k → IsSome (value_at middle (row_of self.old.levels k)) }
         ensures put { OnOk result ((node : Kept) × HasPutAt self.old.levels self.new.levels level middle node) }
+        ensures lows { OnOk result (lows_of self.new.levels ≡ with_low level middle (lows_of self.old.levels)) }
         ensures tree { (es : Placed) (base : ℕ) (newest : Name → ℕ) → IsTree es base newest self.old.levels self.old.cells → IsTree es base newest self.new.levels self.new.cells }
         ensures cells { self.new.cells ≡ self.old.cells }
         ensures err { OnErr result (self.new.levels ≡ self.old.levels) }
@@ -118,6 +120,8 @@ impl DbTree {
         requires above { value_at middle.now (row_of self.old.levels (suc level)) ≡ None }
         requires low { middle.now ≡ least → ⊥ }
         ensures back { (before : Rows NodeRow) (node : Kept) → value_at middle.now (row_of before level) ≡ None → HasPutAt before self.old.levels level middle.now node → AreSameByName before self.new.levels }
+        ensures parts { AreParts self.new.levels }
+        ensures height { length self.new.levels ≡ length self.old.levels }
         ensures cells { self.new.cells ≡ self.old.cells }
     {
         self.levels.join(level, middle);

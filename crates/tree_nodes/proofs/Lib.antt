@@ -1,4 +1,6 @@
--- A level in memory: lows with places, and nodes at places.
+-- Lows and the places of their nodes.
 pub mod Places
--- The levels of a tree keep their form where one of them changes.
+-- The levels keep their form where one of them changes.
 pub mod LevelLaws
+-- The lows of a level, by the nodes that have them.
+pub mod LowLaws

@@ -1,14 +1,18 @@
 // One level of a tree.
 ghost use Rattle.std.specs.Prelude.{◌≡◌, ◌<◌, ◌≤◌, ℕ, ◌++◌, ◌∷◌, [], length, vec_len, vec_capacity, Option, None, Some, IsSome, IfSome, IfOk, OnOk, OnErr, option_copied, option_map, map, if◌then◌else◌};
-ghost use Rattle.std.specs.List.{AllByRecursion};
-ghost use Rattle.std.specs.Map.{lookup};
+ghost use Rattle.std.specs.List.{AllByRecursion, slice_get};
+ghost use Rattle.std.specs.Prelude.{filter};
+ghost use Rattle.std.specs.Map.{keys_of, lookup};
 ghost use Rattle.std.specs.BTreeMap.{is_at};
+ghost use Rattle.std.specs.BTreeSet.{insert_key};
 ghost use Rattle.je_order.specs.Order.{name_cmp};
 ghost use Rattle.je_order.specs.Edges.Edge.{At, Behind};
 ghost use Rattle.std.specs.declared.cmp.Ordering.TheVariants.{Less};
 ghost use Rattle.tree_nodes.specs.Levels.{slot_of};
 ghost use Rattle.je_order.specs.declared.name.Name.{Name};
-ghost use Rattle.record_map.specs.Cells.{value_at, IsRising, first_of, from_edge, between_edges, upper_edge};
+ghost use Rattle.record_map.specs.Cells.{value_at, IsRising, first_of, last_of, from_edge, below_edge, between_edges, upper_edge};
+ghost use Rattle.je_order.specs.Edges.{is_between};
+ghost use Rattle.tree_nodes.specs.Lows.{low_up_to};
 ghost use Rattle.tree_nodes.specs.Nodes.{least, IsUpTo, IsOver, IsLowOver, HasMarked, low_behind, HasPut, HasTaken, marked, node_at, placed, ArePlaces};
 
 use crate::Node;
@@ -40,10 +44,12 @@ impl Model for Level {
     ghost invariant = { λ a. ArePlaces a.lows.entries a.nodes.items };
 }
 
+#[tactic(auto, using(record_map::proofs::EdgeLaws::last_is))]
 // The greatest low up to a name, and the place of its node.
 fn low_over<'a>(lows: &'a BTreeMap<SortKey, usize>, name: &SortKey) -> (&'a SortKey, usize)
     requires { IsSome (value_at least lows.now.entries) }
-    ensures { IsLowOver lows.entry.now.entries name.now (result.0.now, result.1) }
+    ensures over { IsLowOver lows.entry.now.entries name.now (result.0.now, result.1) }
+    ensures last { last_of (below_edge (Behind name.now) lows.entry.now.entries) ≡ Some (result.0.now, result.1) }
 {
     let mut below = lows.range((Bound::Unbounded, Bound::Included(name)));
     match below.next_back() {
@@ -76,6 +82,36 @@ fn lows_between<'a>(
         None => Bound::Unbounded,
     };
     lows.range((Bound::Included(low), end))
+}
+
+// How many lows there are from one on and below another one.
+fn count_lows(lows: &BTreeMap<SortKey, usize>, low: &SortKey, high: Option<&SortKey>) -> usize
+    requires { IfSome high (λ h. name_cmp low.now h.now ≡ Less) }
+    ensures { result ≡ length (between_edges (At low.now) (upper_edge (option_copied high.entry)) lows.now.entries) }
+{
+    let end = match high {
+        Some(name) => Bound::Excluded(name),
+        None => Bound::Unbounded,
+    };
+    lows.range((Bound::Included(low), end)).count()
+}
+
+// The name with so many before it.
+fn nth_name(
+    alloc: Global,
+    lows: Range<'_, SortKey, usize>,
+    n: usize,
+) -> Result<Option<SortKey>, AllocError>
+    ensures { IfOk result (λ name. name ≡ option_map (λ e. e.0) (slice_get lows.entry n)) }
+{
+    let mut left = n;
+    for (name, _place) in lows {
+        if left == 0 {
+            return Ok(Some(name.copy(alloc)?));
+        }
+        left -= 1;
+    }
+    Ok(None)
 }
 
 // The slot of an IN that a child makes.
@@ -160,6 +196,7 @@ impl Level {
     /// One node, over all names.
     pub fn with_root(alloc: Global, root: Node) -> Result<Level, AllocError>
         ensures root { IfOk result (λ level. HasPut [] level least root) }
+        ensures low { IfOk result (λ level. keys_of level ≡ least ∷ []) }
         ensures rising { IfOk result IsRising }
     {
         let mut level = Level::new(alloc);
@@ -181,7 +218,8 @@ impl Level {
     /// The node over the name, with its low.
     pub fn over(&self, name: &SortKey) -> (&SortKey, &Node)
         requires { IsSome (value_at least self.now) }
-        ensures { IsOver self.now name.now (result.0.now, result.1.now) }
+        ensures over { IsOver self.now name.now (result.0.now, result.1.now) }
+        ensures low { result.0.now ≡ low_up_to name.now (keys_of self.now) }
     {
         let Level { lows, nodes } = self;
         let (low, place) = low_over(lows, name);
@@ -197,6 +235,30 @@ impl Level {
             Some((high, _place)) => Some(high),
             None => None,
         }
+    }
+
+    /// How many nodes there are from a low on and below another one. It goes over these.
+    pub fn count_between(&self, low: &SortKey, high: Option<&SortKey>) -> usize
+        requires { IfSome high (λ h. name_cmp low.now h.now ≡ Less) }
+        ensures { result ≡ length (filter (is_between (At low.now) (upper_edge (option_copied high.entry))) (keys_of self.now)) }
+    {
+        let Level { lows, nodes: _ } = self;
+        count_lows(lows, low, high)
+    }
+
+    /// The low of the node with so many before it, of those from a low on and below another one. It goes over these.
+    pub fn nth_low(
+        &self,
+        alloc: Global,
+        low: &SortKey,
+        high: Option<&SortKey>,
+        n: usize,
+    ) -> Result<Option<SortKey>, AllocError>
+        requires { IfSome high (λ h. name_cmp low.now h.now ≡ Less) }
+        ensures { IfOk result (λ found. found ≡ slice_get (filter (is_between (At low.now) (upper_edge (option_copied high.entry))) (keys_of self.now)) n) }
+    {
+        let Level { lows, nodes: _ } = self;
+        nth_name(alloc, lows_between(lows, low, high), n)
     }
 
     /// The slots that the nodes from a low on and below another one make in the IN above.
@@ -240,6 +302,7 @@ impl Level {
     pub fn put(&mut self, low: SortKey, node: Node) -> Result<(), AllocError>
         requires { value_at low self.old ≡ None }
         ensures put { OnOk result (HasPut self.old self.new low node) }
+        ensures low { OnOk result (keys_of self.new ≡ insert_key name_cmp (keys_of self.old) low) }
         ensures err { OnErr result (self.new ≡ self.old) }
         ensures rising { IsRising self.new }
     {

@@ -5,6 +5,11 @@ ghost use Rattle.je_order.specs.Order.{name_cmp};
 ghost use Rattle.je_order.specs.Edges.Edge.{At};
 ghost use Rattle.record_map.specs.Cells.{value_at, between_edges, upper_edge};
 ghost use Rattle.tree_nodes.specs.Nodes.{least, IsOver, low_behind, HasPut};
+ghost use Rattle.std.specs.Prelude.{filter};
+ghost use Rattle.std.specs.List.{slice_get};
+ghost use Rattle.std.specs.Map.{keys_of};
+ghost use Rattle.je_order.specs.Edges.{is_between};
+ghost use Rattle.tree_nodes.specs.Lows.{lows_of, low_up_to, with_low, with_root};
 ghost use Rattle.tree_nodes.specs.Levels.{row_of, AreParts, HasPutAt, HasTakenAt, HasMarkedAt, HasRaised, slot_of};
 
 use crate::{Level, Node};
@@ -68,6 +73,7 @@ fn split_in(
     requires free { value_at middle (row_of levels.old level) ≡ None }
     requires nested { (k : ℕ) → level ≡ suc k → IsSome (value_at middle (row_of levels.old k)) }
     ensures ok { OnOk result (HasPutAt levels.old levels.new level middle node) }
+    ensures low { OnOk result (lows_of levels.new ≡ with_low level middle (lows_of levels.old)) }
     ensures err { OnErr result (levels.new ≡ levels.old) }
     ensures parts { AreParts levels.new }
 {
@@ -94,6 +100,7 @@ impl Levels {
     pub fn new(alloc: Global, root: Node) -> Result<Levels, AllocError>
         ensures height { IfOk result (λ levels. length levels ≡ 1) }
         ensures root { IfOk result (λ levels. HasPut [] (row_of levels 0) least root) }
+        ensures low { IfOk result (λ levels. lows_of levels ≡ (least ∷ []) ∷ []) }
     {
         let mut levels = Vec::new(alloc);
         levels.push(Level::with_root(alloc, root)?)?;
@@ -122,6 +129,7 @@ impl Levels {
     pub fn over(&self, level: usize, name: &SortKey) -> (&SortKey, &Node)
         requires { level < length self.now }
         ensures over { IsOver (row_of self.now level) name.now (result.0.now, result.1.now) }
+        ensures low { result.0.now ≡ low_up_to name.now (keys_of (row_of self.now level)) }
         ensures parts { AreParts self.now }
     {
         let Levels { levels } = self;
@@ -137,6 +145,36 @@ impl Levels {
         let Levels { levels } = self;
         let row: &Level = &levels[level];
         row.upper_bound(low)
+    }
+
+    /// How many nodes of a level there are from a low on and below another one. It goes over these.
+    pub fn count_between(&self, level: usize, low: &SortKey, high: Option<&SortKey>) -> usize
+        requires there { level < length self.now }
+        requires forward { IfSome high (λ h. name_cmp low.now h.now ≡ Less) }
+        ensures { result ≡ length (filter (is_between (At low.now) (upper_edge (option_copied high.entry))) (keys_of (row_of self.now level))) }
+    {
+        let Levels { levels } = self;
+        let row: &Level = &levels[level];
+        row.count_between(low, high)
+    }
+
+    /// The low of the node of a level with so many before it, of those from a low on and below another one. It
+    /// goes over these.
+    pub fn nth_low(
+        &self,
+        alloc: Global,
+        level: usize,
+        low: &SortKey,
+        high: Option<&SortKey>,
+        n: usize,
+    ) -> Result<Option<SortKey>, AllocError>
+        requires there { level < length self.now }
+        requires forward { IfSome high (λ h. name_cmp low.now h.now ≡ Less) }
+        ensures { IfOk result (λ found. found ≡ slice_get (filter (is_between (At low.now) (upper_edge (option_copied high.entry))) (keys_of (row_of self.now level))) n) }
+    {
+        let Levels { levels } = self;
+        let row: &Level = &levels[level];
+        row.nth_low(alloc, low, high, n)
     }
 
     /// The slots that the nodes of a level from a low on and below another one make in the IN above.
@@ -182,6 +220,7 @@ impl Levels {
         requires free { value_at middle (row_of self.old level) ≡ None }
         requires nested { (k : ℕ) → level ≡ suc k → IsSome (value_at middle (row_of self.old k)) }
         ensures ok { OnOk result (HasPutAt self.old self.new level middle node) }
+        ensures low { OnOk result (lows_of self.new ≡ with_low level middle (lows_of self.old)) }
         ensures err { OnErr result (self.new ≡ self.old) }
         ensures parts { AreParts self.new }
     {
@@ -203,6 +242,8 @@ impl Levels {
     /// Puts a root above the top. Running out of memory changes nothing.
     pub fn raise(&mut self, alloc: Global, root: Node) -> Result<(), AllocError>
         ensures ok { OnOk result (HasRaised self.old self.new root) }
+        ensures low { OnOk result (lows_of self.new ≡ with_root (lows_of self.old)) }
+        ensures front { OnOk result (take (length self.old) self.new ≡ self.old) }
         ensures err { OnErr result (self.new ≡ self.old) }
         ensures parts { AreParts self.new }
     {

@@ -1,8 +1,8 @@
 use Rattle.record_map.proofs.NameLaws.{up_from_back}
 use Rattle.tree_nodes.proofs.level.low_over.Goals as goal
 
-pub returns : goal.returns
-returns c =
+pub returns-clause-over : goal.returns-clause-over
+returns-clause-over c =
     let facts = c.range-below.ensures.in_range tt in
     record {
       there = (facts.3 _ _ c.in-Some.ensures.steps).1;

@@ -1,7 +1,7 @@
 use Rattle.std.proofs.Common.{Some, IsSome, refl, subst, sym}
 use Rattle.record_map.specs.Cells.{value_at}
 use Rattle.in_tree.specs.Trees.{cell_or_fresh}
-use Rattle.in_tree.proofs.Records.{cell_there}
+use Rattle.in_tree.proofs.Records.{cell_there, holds}
 use Rattle.in_tree.proofs.Seen.{same_seen, made_seen, kept_put}
 use Rattle.in_tree.proofs.db_tree.DbTree.put_cell.Goals as goal
 
@@ -17,3 +17,7 @@ returns-clause-same c =
 pub returns-clause-kept : goal.returns-clause-kept
 returns-clause-kept c =
     kept_put c.args.self.now.cells c.make_cell.new.cells c.args.name.now (Some (cell_or_fresh (value_at c.args.name.now c.args.self.now.cells))) c.in_ok-make_cell.ensures.cell refl
+
+pub returns-clause-tree : goal.returns-clause-tree
+returns-clause-tree c = λ es base newest tree.
+    holds es base newest c.args.self.now.levels c.args.self.now.cells c.make_cell.new.cells c.args.name.now (cell_or_fresh (value_at c.args.name.now c.args.self.now.cells)) c.in_ok-make_cell.ensures.cell refl tree

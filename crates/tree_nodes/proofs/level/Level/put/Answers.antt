@@ -4,6 +4,11 @@ use Rattle.je_order.specs.Order.{name_cmp}
 use Rattle.tree_nodes.specs.declared.node.Node.{Node}
 use Rattle.tree_nodes.specs.Nodes.{NodeRow, HasPut, placed, ArePlaces}
 use Rattle.tree_nodes.proofs.Places.{puts, puts_places, rising_placed, HasPlace, put_items}
+use Rattle.std.proofs.Common.{ℕ}
+use Rattle.std.specs.BTreeSet.{insert_key}
+use Rattle.std.specs.Map.{keys_of}
+use Rattle.je_order.specs.declared.name.Name.{Name}
+use Rattle.tree_nodes.proofs.LowLaws.{lows_placed, keys_inserted}
 use Rattle.tree_nodes.proofs.level.Level.put.Goals as goal
 
 pub returns-in_err-reserve-clause-rising : goal.returns-in_err-reserve-clause-rising
@@ -31,3 +36,10 @@ returns-clause-put c =
 
 pub returns-clause-rising : goal.returns-clause-rising
 returns-clause-rising c = rising_placed c.insert.new.self.entries c.push_node.new.nodes.items c.insert.ensures.ordered
+
+pub returns-clause-low : goal.returns-clause-low
+returns-clause-low c =
+    lows_placed c.insert.new.self.entries c.push_node.new.nodes.items
+    ∙ ap (λ (lows : List (Name × ℕ)). keys_of lows) c.in_ok-insert.ensures.entries
+    ∙ keys_inserted c.self.inside.lows.entries c.args.low (length c.as_slice.result.now)
+    ∙ ap (λ (names : List Name). insert_key name_cmp names c.args.low) (sym (lows_placed c.self.inside.lows.entries c.self.inside.nodes.items) ∙ ap (λ (row : NodeRow). keys_of row) c.self.view_is)
