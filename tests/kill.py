@@ -33,7 +33,7 @@ PROGRAM = os.path.join(TOP, "crates", "jedb", "out", "jedb")
 
 HEADER = 26  # the bytes of a file's header
 PUT = 30 + 8 + 32 + 22  # those of a put's entry with 8 bytes of key and 32 of data, and of its commit
-PUTS = 50_000  # in the script of a round: more than a round comes to
+PUTS = 20_000  # in the script of a round: more than a round comes to
 ROOM = 1 << 20  # the disk sets room aside behind the last file's entries up to a multiple of this
 SMALL_FILES = ("--file-max", "100000")
 

@@ -198,15 +198,15 @@ fn counts_faults(rt: HostRuntime) {
     assert_eq!(rt; wrong_step(&rt, "faults", &FAULTS), Ok(None));
 }
 
-// A device that cannot be synced stands where a log file should. What the system let go it does not tell
-// again.
+// A device that has no room and cannot be synced stands where a log file should. What the system let go it does
+// not tell again.
 static LOST: [Row; 6] = [
-    (Do(Append(8, b"x")), Ok(true), 0),
-    (SyncAround(Nothing, 1), Err(DiskErr::Failed), 1),
-    (NoJob, Ok(true), 1),
-    (Do(Remove(8)), Ok(true), 1),
-    (Do(Sync), Err(DiskErr::Failed), 2),
-    (SyncAround(Nothing, 2), Err(DiskErr::Failed), 3),
+    (Do(Append(8, b"x")), Err(DiskErr::Failed), 1),
+    (SyncAround(Nothing, 1), Err(DiskErr::Failed), 2),
+    (NoJob, Ok(true), 2),
+    (Do(Remove(8)), Ok(true), 2),
+    (Do(Sync), Err(DiskErr::Failed), 3),
+    (SyncAround(Nothing, 2), Err(DiskErr::Failed), 4),
 ];
 
 #[test]
