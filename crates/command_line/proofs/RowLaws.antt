@@ -1,5 +1,5 @@
--- Each row that a walk over the arguments of `run` makes has a value, and that of `--file-max` one in its bounds.
-use Rattle.std.proofs.Common.{◌≡◌, ◌∙◌, ◌++◌, ◌||◌, Bool, true, false, ap, refl, sym, subst, codes, List, [], ◌∷◌, Option, Some, None, is_some, cond, pos}
+-- Each row that a walk over the arguments of `run` makes has a value, and that of a number one in its bounds.
+use Rattle.std.proofs.Common.{◌≡◌, ◌∙◌, ◌++◌, ◌||◌, ℕ, Bool, true, false, ap, refl, sym, subst, codes, List, [], ◌∷◌, Option, Some, None, is_some, cond, pos}
 use Rattle.std.specs.Prelude.{find, option_map, option_and_then, slice_get, unwrap_or}
 use Rattle.std.specs.List.{AllByRecursion}
 use Rattle.std.specs.Str.{bytes_eq}
@@ -13,14 +13,18 @@ use Rattle.clap.specs.declared.builder.value_parser.Reading.TheVariants.{Without
 use Rattle.clap.specs.declared.builder.value_parser.ValueParser.TheVariants as parser
 use Rattle.clap.specs.declared.parser.matches.ValueSource.{ValueSource}
 
--- the parser of `--file-max` takes the value
-abbrev pub IsFileMax : Text → Type 0
-IsFileMax text = accepts false (parser.Signed (pos 4096) (pos 1073741824)) text ≡ true
+-- the parser of a number in these bounds takes the value
+abbrev pub IsNumber : ℕ → ℕ → Text → Type 0
+IsNumber low high text = accepts false (parser.Signed (pos low) (pos high)) text ≡ true
 
--- values of an option: there is a first one, and one of `--file-max` is in its bounds
+-- where the option is of this name, its value is read as a number in these bounds
+abbrev pub IsNumberIf : Text → ℕ → ℕ → Text → Reading → Text → Type 0
+IsNumberIf name low high id how value = bytes_eq id name ≡ true → (how ≡ WithoutMinus) × IsNumber low high value
+
+-- values of an option: there is a first one, and that of a number is in its bounds
 abbrev pub AreValues : Text → Reading → List Text → Type 0
 AreValues id how [] = ⊥
-AreValues id how (v ∷ vs) = bytes_eq id (codes "file-max") ≡ true → (how ≡ WithoutMinus) × IsFileMax v
+AreValues id how (v ∷ vs) = IsNumberIf (codes "file-max") 4096 1073741824 id how v × IsNumberIf (codes "fanout") 4 128 id how v
 
 abbrev pub IsFilled : Row → Type 0
 IsFilled r = AreValues r.id r.reading r.values
@@ -82,6 +86,24 @@ default_there a v vs rows has same = go (has_row a.id rows) refl
     go true is = is
     go false is = subst (λ values. has_row a.id (default_rows a.id (reading_by a) values rows) ≡ true) (sym has) (values_there a.id (reading_by a) _ (v ∷ vs) rows same)
 
+-- a row that is there stays
+values_stay : (id other : Text) (how : Reading) (s : ValueSource) (values : List Text) (rows : List Row) → has_row id rows ≡ true → has_row id (with_values other how s values rows) ≡ true
+values_stay id other how s values [] there = cc
+values_stay id other how s values (r ∷ rs) there = go (bytes_eq r.id other) (bytes_eq r.id id) refl there (values_stay id other how s values rs)
+  where
+    go : (b mine : Bool) → bytes_eq r.id id ≡ mine → (mine || has_row id rs) ≡ true → (has_row id rs ≡ true → has_row id (with_values other how s values rs) ≡ true)
+        → has_row id (cond b (more_values s values r ++ rs) (r ∷ with_values other how s values rs)) ≡ true
+    go true mine is there rest = ap (λ b. b || has_row id rs) is ∙ there
+    go false true is there rest = ap (λ b. b || has_row id (with_values other how s values rs)) is
+    go false false is there rest = ap (λ b. b || has_row id (with_values other how s values rs)) is ∙ rest there
+
+pub default_stays : (id : Text) (a : Rule) (v : Text) (vs : List Text) (rows : List Row) → a.defaults ≡ v ∷ vs → has_row id rows ≡ true → has_row id (with_default rows a) ≡ true
+default_stays id a v vs rows has there = go (has_row a.id rows)
+  where
+    go : (b : Bool) → has_row id (cond b rows (default_rows a.id (reading_by a) a.defaults rows)) ≡ true
+    go true = there
+    go false = subst (λ values. has_row id (default_rows a.id (reading_by a) values rows) ≡ true) (sym has) (values_stay id a.id (reading_by a) _ (v ∷ vs) rows there)
+
 pub no_default : (a : Rule) (rows : List Row) → a.defaults ≡ [] → with_default rows a ≡ rows
 no_default a rows none = go (has_row a.id rows)
   where
@@ -121,17 +143,18 @@ first_there id rows held there = go (find (λ r. bytes_eq r.id id) rows) refl th
     go None is some = cc
     go (Some r) is some = read r r.values (found_filled id rows r held is).1
 
--- the row of `--file-max` gives a value in its bounds
-pub file_max_there : (rows : List Row) → AreFilled rows → has_row (codes "file-max") rows ≡ true → (v : Text) × (one_of (codes "file-max") rows ≡ Some (without_minus v)) × IsFileMax v
-file_max_there rows held has = go (find (λ r. bytes_eq r.id (codes "file-max")) rows) refl (row_there (codes "file-max") rows has)
+-- the row of an option that is a number gives a value in its bounds
+pub number_there : (name : Text) (low high : ℕ) (rows : List Row) → ((id : Text) (how : Reading) (v : Text) (vs : List Text) → AreValues id how (v ∷ vs) → IsNumberIf name low high id how v) → AreFilled rows →
+    has_row name rows ≡ true → (v : Text) × (one_of name rows ≡ Some (without_minus v)) × IsNumber low high v
+number_there name low high rows part held has = go (find (λ r. bytes_eq r.id name) rows) refl (row_there name rows has)
   where
-    read : (r : Row) (values : List Text) (how : Reading) → bytes_eq r.id (codes "file-max") ≡ true → AreValues r.id how values
-        → (v : Text) × (option_map (read_as how) (slice_get values 0) ≡ Some (without_minus v)) × IsFileMax v
+    read : (r : Row) (values : List Text) (how : Reading) → bytes_eq r.id name ≡ true → AreValues r.id how values
+        → (v : Text) × (option_map (read_as how) (slice_get values 0) ≡ Some (without_minus v)) × IsNumber low high v
     read r [] how is are = absurd are
-    read r (v ∷ vs) how is are = (v, ap (λ h. Some (read_as h v)) (are is).0, (are is).1)
+    read r (v ∷ vs) how is are = let own = part r.id how v vs are is in (v, ap (λ h. Some (read_as h v)) own.0, own.1)
 
-    go : (o : Option Row) → find (λ r. bytes_eq r.id (codes "file-max")) rows ≡ o → is_some o ≡ true → (v : Text) × (option_and_then row_text o ≡ Some (without_minus v)) × IsFileMax v
+    go : (o : Option Row) → find (λ r. bytes_eq r.id name) rows ≡ o → is_some o ≡ true → (v : Text) × (option_and_then row_text o ≡ Some (without_minus v)) × IsNumber low high v
     go None is some = cc
     go (Some r) is some =
-        let at = found_filled (codes "file-max") rows r held is in
+        let at = found_filled name rows r held is in
         read r r.values r.reading at.0 at.1

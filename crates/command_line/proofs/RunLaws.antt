@@ -1,5 +1,5 @@
 -- Valid arguments give the options of `run` their values.
-use Rattle.std.proofs.Common.{◌≡◌, ◌∙◌, ◌&&◌, ◌||◌, ◌⊎◌, arith, Bool, true, false, not, ap, refl, sym, subst, inl, inr, ⊎_elim, codes, length, List, [], ◌∷◌, Option, Some, None, is_some, cond, true≢false}
+use Rattle.std.proofs.Common.{◌≡◌, ◌∙◌, ◌&&◌, ◌||◌, ◌⊎◌, ℕ, arith, Bool, true, false, not, ap, refl, sym, subst, inl, inr, ⊎_elim, codes, length, List, [], ◌∷◌, Option, Some, None, is_some, cond, true≢false}
 use Rattle.std.specs.Prelude.{find, fold, option_map, unwrap_or, if◌then◌else◌}
 use Rattle.std.specs.Option.{option_map_or}
 use Rattle.std.specs.Str.{bytes_eq}
@@ -16,15 +16,15 @@ use Rattle.clap.specs.Faults.{action_fault, built_fault, check_fault, defaults_f
 use Rattle.clap.specs.declared.builder.action.ArgAction.TheVariants.{Set}
 use Rattle.clap.specs.declared.error.kind.ErrorKind.{ErrorKind}
 use Rattle.clap.specs.declared.error.kind.ErrorKind.TheVariants.{DisplayHelp}
-use Rattle.command_line.specs.Arguments.{file_max_option, home_option, file_max_text_of, home_of, is_taken, jedb, run_command}
+use Rattle.command_line.specs.Arguments.{fanout_option, file_max_option, home_option, number_text_of, home_of, is_taken, jedb, run_command}
 use Rattle.command_line.proofs.WalkLaws.{UseKeeps, neither, settled_keeps, walk_keeps}
 use Rattle.command_line.proofs.StopLaws.{StopsOther, walk_other}
-use Rattle.command_line.proofs.RowLaws.{AreFilled, IsFileMax, default_filled, default_there, file_max_there, first_there, no_default, set_filled}
+use Rattle.command_line.proofs.RowLaws.{AreFilled, IsNumber, default_filled, default_stays, default_there, first_there, no_default, number_there, set_filled}
 
 -- ---- `run`, as it is built
 
 abbrev run_rules : List Rule
-run_rules = filled_from 1 (home_option ∷ file_max_option ∷ help_rule ∷ [])
+run_rules = filled_from 1 (home_option ∷ file_max_option ∷ fanout_option ∷ help_rule ∷ [])
 
 abbrev run_shape : Shape
 run_shape = record run_command.top { rules = run_rules; no_binary_name = true; disable_help_subcommand = true; is_built = true }
@@ -34,6 +34,9 @@ home_rule = filled home_option
 
 abbrev file_max_rule : Rule
 file_max_rule = filled file_max_option
+
+abbrev fanout_rule : Rule
+fanout_rule = filled fanout_option
 
 abbrev help_built : Rule
 help_built = filled help_rule
@@ -53,13 +56,19 @@ first_passes a v vs rows none =
 
 home_kept : (values : List Text) (rows : List Row) → use_fault false home_rule values rows ≡ [] → AreFilled rows → AreFilled (used home_rule values rows)
 home_kept [] rows none held = cc
-home_kept (v ∷ vs) rows none held = set_filled (codes "home") (reading_by home_rule) (v ∷ vs) rows (λ other. absurd (true≢false (sym other))) held
+home_kept (v ∷ vs) rows none held = set_filled (codes "home") (reading_by home_rule) (v ∷ vs) rows ((λ other. absurd (true≢false (sym other))), (λ other. absurd (true≢false (sym other)))) held
 
 file_max_kept : (values : List Text) (rows : List Row) → use_fault false file_max_rule values rows ≡ [] → AreFilled rows → AreFilled (used file_max_rule values rows)
 file_max_kept [] rows none held = cc
 file_max_kept (v ∷ vs) rows none held =
     let parts = neither (range_kinds 1 1 (length (v ∷ vs))) (action_fault Set false file_max_rule (v ∷ vs) rows) none in
-    set_filled (codes "file-max") (reading_by file_max_rule) (v ∷ vs) rows (λ is. (refl, first_passes file_max_rule v vs rows parts.1)) held
+    set_filled (codes "file-max") (reading_by file_max_rule) (v ∷ vs) rows ((λ is. (refl, first_passes file_max_rule v vs rows parts.1)), (λ other. absurd (true≢false (sym other)))) held
+
+fanout_kept : (values : List Text) (rows : List Row) → use_fault false fanout_rule values rows ≡ [] → AreFilled rows → AreFilled (used fanout_rule values rows)
+fanout_kept [] rows none held = cc
+fanout_kept (v ∷ vs) rows none held =
+    let parts = neither (range_kinds 1 1 (length (v ∷ vs))) (action_fault Set false fanout_rule (v ∷ vs) rows) none in
+    set_filled (codes "fanout") (reading_by fanout_rule) (v ∷ vs) rows ((λ other. absurd (true≢false (sym other))), (λ is. (refl, first_passes fanout_rule v vs rows parts.1))) held
 
 help_refused : (values : List Text) (rows : List Row) → use_fault false help_built values rows ≡ [] → ⊥
 help_refused values rows none =
@@ -67,37 +76,42 @@ help_refused values rows none =
     let bad : DisplayHelp ∷ [] ≡ [] = parts.1 in
     cc
 
-one_of_three : (test : Rule → Bool) (x y z a : Rule) → find test (x ∷ y ∷ z ∷ []) ≡ Some a → (x ≡ a) ⊎ (y ≡ a) ⊎ (z ≡ a)
-one_of_three test x y z a found = go (test x) (test y) (test z) found
+one_of_four : (test : Rule → Bool) (x y z w a : Rule) → find test (x ∷ y ∷ z ∷ w ∷ []) ≡ Some a → (x ≡ a) ⊎ (y ≡ a) ⊎ (z ≡ a) ⊎ (w ≡ a)
+one_of_four test x y z w a found = go (test x) (test y) (test z) (test w) found
   where
     same : (r : Rule) → Some r ≡ Some a → r ≡ a
     same r is = ap (λ o. unwrap_or o a) is
 
-    go : (b₁ b₂ b₃ : Bool) → cond b₁ (Some x) (cond b₂ (Some y) (cond b₃ (Some z) None)) ≡ Some a → (x ≡ a) ⊎ (y ≡ a) ⊎ (z ≡ a)
-    go true b₂ b₃ is = inl (same x is)
-    go false true b₃ is = inr (inl (same y is))
-    go false false true is = inr (inr (same z is))
-    go false false false is = cc
+    go : (b₁ b₂ b₃ b₄ : Bool) → cond b₁ (Some x) (cond b₂ (Some y) (cond b₃ (Some z) (cond b₄ (Some w) None))) ≡ Some a → (x ≡ a) ⊎ (y ≡ a) ⊎ (z ≡ a) ⊎ (w ≡ a)
+    go true b₂ b₃ b₄ is = inl (same x is)
+    go false true b₃ b₄ is = inr (inl (same y is))
+    go false false true b₄ is = inr (inr (inl (same z is)))
+    go false false false true is = inr (inr (inr (same w is)))
+    go false false false false is = cc
 
 uses_kept : UseKeeps AreFilled false run_rules
 uses_kept test a values rows found none held =
     ⊎_elim (λ is. subst Kept is (home_kept values rows) none held)
-    (⊎_elim (λ is. subst Kept is (file_max_kept values rows) none held) (λ is. subst Kept is (λ faultless filled. absurd (help_refused values rows faultless)) none held))
-    (one_of_three test home_rule file_max_rule help_built a found)
+    (⊎_elim (λ is. subst Kept is (file_max_kept values rows) none held)
+    (⊎_elim (λ is. subst Kept is (fanout_kept values rows) none held) (λ is. subst Kept is (λ faultless filled. absurd (help_refused values rows faultless)) none held)))
+    (one_of_four test home_rule file_max_rule fanout_rule help_built a found)
   where
     Kept : Rule → Type 0
     Kept r = use_fault false r values rows ≡ [] → AreFilled rows → AreFilled (used r values rows)
 
 -- ---- `run` on its arguments
 
-finished_are : (rows : List Row) → fold with_default rows run_rules ≡ with_default rows file_max_rule
-finished_are rows =
-    no_default help_built (with_default (with_default rows home_rule) file_max_rule) refl ∙ ap (λ x. with_default x file_max_rule) (no_default home_rule rows refl)
+-- rows with the defaults of the two numbers
+abbrev with_numbers : List Row → List Row
+with_numbers rows = with_default (with_default rows file_max_rule) fanout_rule
+
+finished_are : (rows : List Row) → fold with_default rows run_rules ≡ with_numbers rows
+finished_are rows = no_default help_built (with_numbers (with_default rows home_rule)) refl ∙ ap with_numbers (no_default home_rule rows refl)
 
 home_given : (rows : List Row) → check_fault run_shape rows false ≡ [] → is_given (codes "home") rows ≡ true
 home_given rows none = go (is_given (codes "home") rows) none
   where
-    go : (b : Bool) → check_kinds false false ((true && not b) || (false || (false || false))) ≡ [] → b ≡ true
+    go : (b : Bool) → check_kinds false false ((true && not b) || (false || (false || (false || false)))) ≡ [] → b ≡ true
     go true none = refl
     go false none = cc
 
@@ -105,9 +119,13 @@ given_there : (o : Option Row) → option_map_or (λ r. explicit_source r.source
 given_there None given = given
 given_there (Some r) given = refl
 
+-- an option has a number in its bounds
+abbrev pub HasNumber : Text → ℕ → ℕ → Option (Text × List Row) → Type 0
+HasNumber name low high found = (text : Text) × (number_text_of name found ≡ Some (without_minus text)) × IsNumber low high text
+
 -- the options of `run` have their values
 abbrev pub HasValues : Option (Text × List Row) → Type 0
-HasValues found = ((home : Text) × (home_of found ≡ Some home)) × ((text : Text) × (file_max_text_of found ≡ Some (without_minus text)) × IsFileMax text)
+HasValues found = ((home : Text) × (home_of found ≡ Some home)) × HasNumber (codes "file-max") 4096 1073741824 found × HasNumber (codes "fanout") 4 128 found
 
 run_has_values : (args : List Text) → level_fault run_shape [] nothing_held args false [] ≡ [] → HasValues (Some (rows_at run_shape args))
 run_has_values args none =
@@ -118,13 +136,21 @@ run_has_values args none =
     let checked = neither (defaults_fault (settled run_rules end).rows run_rules) (check_fault run_shape (finished run_rules end) false) ended.1 in
     let by_words : AreFilled end.rows = walk_keeps AreFilled run_shape uses_kept [] args (walk_from nothing_held) walked.0 tt in
     let at_end : AreFilled (settled run_rules end).rows = settled_keeps AreFilled run_shape uses_kept end.pending end.rows ended.0 by_words in
-    let are : finished run_rules end ≡ with_default (settled run_rules end).rows file_max_rule = finished_are (settled run_rules end).rows in
-    let filled_rows : AreFilled (finished run_rules end) =
-    subst AreFilled (sym are) (default_filled file_max_rule (settled run_rules end).rows (λ is. (refl, refl)) at_end) in
-    let there : has_row (codes "file-max") (finished run_rules end) ≡ true =
-    subst (λ rows. has_row (codes "file-max") rows ≡ true) (sym are) (default_there file_max_rule (codes "10000000") [] (settled run_rules end).rows refl refl) in
-    let home = given_there (find (λ r. bytes_eq r.id (codes "home")) (finished run_rules end)) (home_given (finished run_rules end) checked.1) in
-    (first_there (codes "home") (finished run_rules end) filled_rows home, file_max_there (finished run_rules end) filled_rows there)
+    let rows : List Row = (settled run_rules end).rows in
+    let sized : List Row = with_default rows file_max_rule in
+    let are : finished run_rules end ≡ with_numbers rows = finished_are rows in
+    let both : AreFilled sized = default_filled file_max_rule rows ((λ is. (refl, refl)), (λ other. absurd (true≢false (sym other)))) at_end in
+    let all : AreFilled (finished run_rules end) = subst AreFilled (sym are) (default_filled fanout_rule sized ((λ other. absurd (true≢false (sym other))), (λ is. (refl, refl))) both) in
+    let size_there : has_row (codes "file-max") (finished run_rules end) ≡ true =
+    subst (λ rs. has_row (codes "file-max") rs ≡ true) (sym are)
+    (default_stays (codes "file-max") fanout_rule (codes "128") [] sized refl (default_there file_max_rule (codes "10000000") [] rows refl refl)) in
+    let slots_there : has_row (codes "fanout") (finished run_rules end) ≡ true =
+    subst (λ rs. has_row (codes "fanout") rs ≡ true) (sym are) (default_there fanout_rule (codes "128") [] sized refl refl) in
+    let home = given_there (find (λ r. bytes_eq r.id (codes "home")) (finished run_rules end)) (home_given (finished run_rules end) checked.1) in (
+      first_there (codes "home") (finished run_rules end) all home,
+      number_there (codes "file-max") 4096 1073741824 (finished run_rules end) (λ id how v vs values. values.0) all size_there,
+      number_there (codes "fanout") 4 128 (finished run_rules end) (λ id how v vs values. values.1) all slots_there,
+    )
 
 -- ---- the whole command line
 

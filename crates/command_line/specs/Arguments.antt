@@ -10,18 +10,25 @@ use Rattle.clap.specs.declared.builder.value_parser.ValueParser.TheVariants as p
 abbrev pub home_option : Rule
 home_option = record (new_rule (codes "home")) { long = Some (codes "home"); required = true }
 
--- the option that says how many bytes a log file holds at most: one number in these bounds, and ten
--- million where it is not given
-abbrev pub file_max_option : Rule
-file_max_option = record (new_rule (codes "file-max")) {
-  long = Some (codes "file-max");
-  parser = Some (parser.Signed (pos 4096) (pos 1073741824));
-  defaults = codes "10000000" ∷ [];
+-- an option of this name that is one number in these bounds, and has a default
+abbrev pub number_option : Text → ℕ → ℕ → Text → Rule
+number_option name least most default = record (new_rule name) {
+  long = Some name;
+  parser = Some (parser.Signed (pos least) (pos most));
+  defaults = default ∷ [];
 }
 
--- `run`, which takes these two options alone
+-- the option that says how many bytes a log file holds at most: ten million where it is not given
+abbrev pub file_max_option : Rule
+file_max_option = number_option (codes "file-max") 4096 1073741824 (codes "10000000")
+
+-- the option that says how many slots a node has at most: 128 where it is not given
+abbrev pub fanout_option : Rule
+fanout_option = number_option (codes "fanout") 4 128 (codes "128")
+
+-- `run`, which takes these three options alone
 abbrev pub run_command : App
-run_command = with_rule (with_rule (new_app (codes "run")) home_option) file_max_option
+run_command = with_rule (with_rule (with_rule (new_app (codes "run")) home_option) file_max_option) fanout_option
 
 -- `jedb`, which takes one of its commands; no program's name is before the arguments
 abbrev pub jedb : App
@@ -39,18 +46,26 @@ home_of = option_and_then (λ command. first_of (codes "home") command.1)
 abbrev pub decimal_value : Text → ℕ
 decimal_value text = digits_value 10 (without_leading_plus text)
 
--- the text that is read for `--file-max`, given or by default, in what a parse finds for a command
-abbrev pub file_max_text_of : Option (Text × List Row) → Option Text
-file_max_text_of = option_and_then (λ command. one_of (codes "file-max") command.1)
+-- the text that is read for an option that is a number, given or by default, in what a parse finds for a command
+abbrev pub number_text_of : Text → Option (Text × List Row) → Option Text
+number_text_of name = option_and_then (λ command. one_of name command.1)
 
 -- the number that it spells
-abbrev pub file_max_found : Option (Text × List Row) → Option ℕ
-file_max_found found = option_map decimal_value (file_max_text_of found)
+abbrev pub number_found : Text → Option (Text × List Row) → Option ℕ
+number_found name found = option_map decimal_value (number_text_of name found)
 
 -- the folder that valid arguments name
 unfoldable pub home_in : List Text → Option Text
 home_in args = if is_taken args then home_of (subcommand_of jedb args) else None
 
+-- the number that valid arguments give an option
+unfoldable pub number_in : Text → List Text → Option ℕ
+number_in name args = if is_taken args then number_found name (subcommand_of jedb args) else None
+
 -- how many bytes a log file holds at most by valid arguments
-unfoldable pub file_max_in : List Text → Option ℕ
-file_max_in args = if is_taken args then file_max_found (subcommand_of jedb args) else None
+abbrev pub file_max_in : List Text → Option ℕ
+file_max_in = number_in (codes "file-max")
+
+-- how many slots a node has at most by valid arguments
+abbrev pub fanout_in : List Text → Option ℕ
+fanout_in = number_in (codes "fanout")

@@ -7,4 +7,6 @@ pub struct RunOptions {
     pub home: String,
     /// How many bytes a log file holds at most: 4,096 to 1,073,741,824.
     pub file_max: u32,
+    /// How many slots a node of a tree has at most: 4 to 128.
+    pub fanout: u32,
 }

@@ -1,5 +1,5 @@
 -- A call goes on as the model does.
-use Rattle.std.proofs.Common.{◌≡◌, ℕ, ◌+◌, ◌*◌, ◌<◌, ◌≤◌, Bool, true, false, cond, List, [], ◌∷◌, Option, Some, None, Result, Ok, Err, IfOk, OnErr, length, map, refl, ap, ap₂, sym, ◌∙◌, subst, arith, ◌⊎◌, inl, inr}
+use Rattle.std.proofs.Common.{◌≡◌, ◌==◌, ◌^◌, nat_lt, ℕ, ◌+◌, ◌*◌, ◌<◌, ◌≤◌, Bool, true, List, [], ◌∷◌, Option, Some, None, Result, Ok, Err, IfOk, OnErr, length, refl, ap, ap₂, sym, ◌∙◌, subst, arith, ◌⊎◌, inl, inr}
 use Rattle.std.specs.declared.alloc.AllocError.{AllocError}
 use Rattle.je_disk.specs.States.{State}
 use Rattle.je_disk.specs.Moments.{History, now}
@@ -16,11 +16,12 @@ use Rattle.je_answers.specs.Events.{IsAnswered}
 use Rattle.je_answers.specs.Journal.{changes_of}
 use Rattle.je_answers.specs.Refusals.{early_refusal}
 use Rattle.je_answers.proofs.AloneLaws.{calls-stay_alone}
-use Rattle.log_entry.specs.Encoding.{size_of}
 use Rattle.log_buffer.specs.declared.buffer.LogBuffer.{LogBuffer}
-use Rattle.log_buffer.specs.declared.log_pos.LogPos.{LogPos}
-use Rattle.log_buffer.specs.Buffer.{disk_of, end_of, file_max_of, has_failed}
+use Rattle.log_buffer.specs.Buffer.{IsUnchanged, disk_of, end_of}
 use Rattle.log_replay.proofs.LoggedLaws.{IsSound}
+use Rattle.record_tree.specs.Logged.{is_made, most_entries}
+use Rattle.store_model.specs.Refusals.{made_by}
+use Rattle.std.proofs.lemmas.Bool.{and_parts, eqb-true, ltb-true}
 use Rattle.record_tree.specs.declared.tree_err.TreeErr.{TreeErr}
 use Rattle.in_tree.specs.Observed.{cells_of, limit_in}
 use Rattle.txn_core.specs.declared.planned_changes.PlannedChanges.{PlannedChanges}
@@ -28,16 +29,16 @@ use Rattle.txn_core.specs.Known.{committed}
 use Rattle.txn_core.specs.Planning.{CanPlan, HasModel, IsPlannedLog}
 use Rattle.txn_core.specs.Totals.{totals_of}
 use Rattle.engine.specs.declared.engine.Engine.{Engine}
-use Rattle.engine.specs.Contents.{Contents, drawn_contents, known}
+use Rattle.engine.specs.Contents.{Contents, IsSame, drawn_contents, known}
 use Rattle.engine.specs.Environment.{AreAlone}
-use Rattle.engine.specs.Limits.{IsWithin, limit_by, most_changed, most_logged, reach_after}
-use Rattle.engine.specs.Steps.{HasAppended, IsNumbered, LogsChanges, txn_of}
-use Rattle.engine.specs.Whole.{AreTrees, GoesOn, HasLimit, IsAt, LeavesTrees, contents_of, reach_of}
+use Rattle.engine.specs.Limits.{IsWithin, limit_by, most_changed, reach_after}
+use Rattle.engine.specs.Steps.{IsNumbered, LogsChanges}
+use Rattle.engine.specs.Whole.{AreTrees, EndsNear, GoesOn, HasLimit, IsAt, LeavesTrees, contents_of, end_file, reach_of}
 use Rattle.engine.proofs.AttemptLaws.{alone_changes}
 use Rattle.engine.proofs.CallEnds.{EndsAlone, ended_ends, fault_ends, full_ends, ids_ends, logged_ends}
 use Rattle.engine.proofs.CommittedRows.{trees_named}
 use Rattle.engine.proofs.PlannedCalls.{logged_databases}
-use Rattle.engine.proofs.ReachLaws.{bounded, files_few, length-mapped, planned_few}
+use Rattle.engine.proofs.ReachLaws.{bounded, planned_few}
 use Rattle.engine.proofs.StepLaws.{drawn_at, logged_at, same_at}
 use Rattle.engine.proofs.SyncedStanding.{faulted_at}
 use Rattle.engine.proofs.TransactionGrowth.{sound_of}
@@ -93,14 +94,21 @@ module _ {D : Type 0} where
       HasLimit engine (changes_of (early_refusal (alone p) session call) (alone p) session call) (limit_planned engine planned)
   has_limit engine p session call planned none is log =
       subst (λ (cs : List Change). HasLimit engine cs (limit_planned engine planned)) (sym (alone_changes p session call none is ∙ log.changes))
-      (record { planned = planned.changes.items; rows = log.rows 0; is = refl })
+      (record { planned = planned.changes.items; rows = log.rows 0; makes = made_later; is = refl })
+    where
+      made_later : engine.kept.last_db + made_by (log.change ∷ log.more) < 2 ^ 32 → (d : ℕ) → is_made d planned.changes.items ≡ true → engine.kept.last_db < d
+      made_later low d made =
+          let parts = and_parts (nat_lt engine.kept.last_db planned.last_db) (d == planned.last_db) (sym (log.made (subst (λ n. n < 2 ^ 32) (sym log.last_db) low) d) ∙ made) in
+          let later = ltb-true engine.kept.last_db planned.last_db parts.0 in
+          let is : d ≡ planned.last_db = eqb-true d planned.last_db parts.1 in
+          omega (arith, later, is)
 
   module _ (observable : Bool) (history : D → History) (sync_out read_out : D → Option ℕ) (read_of : D → ℕ) where
     drawn_along : (most : ℕ) (buffer other : LogBuffer D) (old new : Contents) (p : Alone) → AreAlone most observable (now (history (disk_of buffer))) buffer old p → old.last_txn < LAST_TXN →
-        new ≡ drawn_contents old → other ≡ buffer → AreAlone most observable (now (history (disk_of other))) other new (drawn_alone p)
+        IsSame (drawn_contents old) new → IsUnchanged buffer other → AreAlone most observable (now (history (disk_of other))) other new (drawn_alone p)
     drawn_along most buffer other old new p at below drawn same =
-        subst (λ (b : LogBuffer D). AreAlone most observable (now (history (disk_of b))) b new (drawn_alone p)) (sym same)
-        (subst (λ (c : Contents). AreAlone most observable (now (history (disk_of buffer))) buffer c (drawn_alone p)) (sym drawn) (drawn_at observable history sync_out read_out read_of most (now (history (disk_of buffer))) buffer old p at below))
+        same_at observable history sync_out read_out read_of most buffer other (drawn_contents old) new (drawn_alone p)
+        (drawn_at observable history sync_out read_out read_of most (now (history (disk_of buffer))) buffer old p at below) drawn same
 
     -- changes were to be logged
     pub logs_end : (most : ℕ) (old new : Engine D) (p : Alone) (session : ℕ) (call : Call) (planned : PlannedChanges) (result : Result Answer AllocError) →
@@ -193,67 +201,39 @@ module _ {D : Type 0} where
 
 -- ---- how far it reaches
 
--- a log that works, or failed before, reaches so many files farther
-file_within : (failed_old failed_new : Bool) (old new more : ℕ) → failed_new ≡ failed_old → new ≤ old + more → cond failed_new 0 new ≤ cond failed_old 0 old + more
-file_within true true old new more same le = omega arith
-file_within false false old new more same le = le
-file_within true false old new more same le = cc
-file_within false true old new more same le = omega arith
-
--- one that failed now reaches none
-failed_within : (failed : Bool) (new most : ℕ) → failed ≡ true → cond failed 0 new ≤ most
-failed_within true new most failed = omega arith
-failed_within false new most failed = cc
-
 module _ {D : Type 0} (observable : Bool) (history : D → History) (sync_out read_out : D → Option ℕ) (read_of : D → ℕ) where
-  reach_same : (old new : Engine D) → end_of new.trees.log ≡ end_of old.trees.log → has_failed new.trees.log ≡ has_failed old.trees.log → new.kept.last_node ≡ old.kept.last_node → reach_of new ≡ reach_of old
-  reach_same old new end failed node =
-      ap₂ (λ (f : ℕ) (n : ℕ). record { file = f; node = n }) (ap₂ (λ (b : Bool) (e : LogPos). cond b 0 e.file) failed end) node
+  reach_same : (old new : Engine D) → end_file new.trees ≡ end_file old.trees → new.kept.last_node ≡ old.kept.last_node → reach_of new ≡ reach_of old
+  reach_same old new end node = ap₂ (λ (f : ℕ) (n : ℕ). record { file = f; node = n }) end node
 
-  within_none : (old new : Engine D) (changes : List Change) → end_of new.trees.log ≡ end_of old.trees.log → has_failed new.trees.log ≡ has_failed old.trees.log → new.kept.last_node ≡ old.kept.last_node →
-      IsWithin (reach_of new) (reach_after (reach_of old) changes)
-  within_none old new changes end failed node = record {
-    file = file_within (has_failed old.trees.log) (has_failed new.trees.log) (end_of old.trees.log).file (end_of new.trees.log).file (most_logged changes) failed
-        (let same = ap (λ (e : LogPos). e.file) end in omega (arith, same));
-    node = omega (arith, node);
-  }
+  within_none : (old new : Engine D) (changes : List Change) → end_file new.trees ≡ end_file old.trees → new.kept.last_node ≡ old.kept.last_node → IsWithin (reach_of new) (reach_after (reach_of old) changes)
+  within_none old new changes end node = record { file = omega (arith, end); node = omega (arith, node) }
 
   -- so far with the changes that were planned
   logged_within : (old new : Engine D) (change : Change) (more : List Change) (planned : PlannedChanges) → length planned.changes.items ≤ most_changed (change ∷ more) →
-      new.kept.last_node ≡ old.kept.last_node + length planned.changes.items * 66 →
-      HasAppended observable history sync_out read_out read_of old.trees.log new.trees.log (txn_of (old.kept.last_txn + 1)) planned.changes.items →
+      new.kept.last_node ≡ old.kept.last_node + length planned.changes.items * 66 → end_file new.trees ≤ end_file old.trees + (most_entries (length planned.changes.items) + 1) →
       IsWithin (reach_of new) (reach_after (reach_of old) (change ∷ more))
-  logged_within old new change more planned few node appended = record {
-    file = file_within (has_failed old.trees.log) (has_failed new.trees.log) (end_of old.trees.log).file (end_of new.trees.log).file (most_logged (change ∷ more)) appended.grew.failed
-        (let ends = ap (λ (e : LogPos). e.file) appended.grew.end in
-        let files = files_few (file_max_of old.trees.log) (end_of old.trees.log) (map size_of appended.entries) in
-        let mapped = length-mapped size_of appended.entries in
-        let count = appended.few in
-        omega (arith, ends, files, mapped, count, few));
-    node = omega (arith, node, few);
-  }
+  logged_within old new change more planned few node near = record { file = omega (arith, near, few); node = omega (arith, node, few) }
 
   pub logs_grow : (old new : Engine D) (p : Alone) (session : ℕ) (call : Call) (planned : PlannedChanges) (found : Option TreeErr) (result : Result Answer AllocError) →
       p.fault ≡ None → IsAutoCommitted call → IsPlannedLog (known (contents_of old)) p session call planned →
       LogsChanges observable history sync_out read_out read_of old.trees.log new.trees.log (contents_of old) (contents_of new) planned found result →
+      EndsNear old.trees new.trees (length planned.changes.items) result →
       IsWithin (reach_of new) (reach_after (reach_of old) (changes_of (early_refusal (alone p) session call) (alone p) session call))
-  logs_grow old new p session call planned found (Ok (Logged commit)) none is log logs =
+  logs_grow old new p session call planned found (Ok (Logged commit)) none is log logs near =
       subst (λ (cs : List Change). IsWithin (reach_of new) (reach_after (reach_of old) cs)) (sym (alone_changes p session call none is ∙ log.changes))
-      (logged_within old new log.change log.more planned (planned_few planned.changes.items old.kept.last_db (log.change ∷ log.more) (committed (cells_of old.trees)) (log.rows 0)) logs.1.last_node logs.4)
-  logs_grow old new p session call planned found (Ok LogFull) none is log logs =
-      within_none old new _ (ap (λ (b : LogBuffer D). end_of b) logs.2) (ap (λ (b : LogBuffer D). has_failed b) logs.2) (ap (λ (c : Contents). c.last_node) logs.1)
-  logs_grow old new p session call planned found (Ok IdsEnded) none is log logs =
-      within_none old new _ (ap (λ (b : LogBuffer D). end_of b) logs.2) (ap (λ (b : LogBuffer D). has_failed b) logs.2) (ap (λ (c : Contents). c.last_node) logs.1)
-  logs_grow old new p session call planned found (Ok DiskFault) none is log logs =
-      record { file = failed_within (has_failed new.trees.log) (end_of new.trees.log).file _ logs.3.tried.failed; node = let node = logs.0.last_node in omega (arith, node) }
-  logs_grow old new p session call planned found (Ok answer) none is log logs = absurd logs
-  logs_grow old new p session call planned found (Err error) none is log logs = within_none old new _ logs.1.kept.end logs.1.failed logs.0.last_node
+      (logged_within old new log.change log.more planned (planned_few planned.changes.items old.kept.last_db (log.change ∷ log.more) (committed (cells_of old.trees)) (log.rows 0)) logs.1.last_node near)
+  logs_grow old new p session call planned found (Ok LogFull) none is log logs near = within_none old new _ near logs.1.last_node
+  logs_grow old new p session call planned found (Ok IdsEnded) none is log logs near = within_none old new _ near logs.1.last_node
+  logs_grow old new p session call planned found (Ok DiskFault) none is log logs near = record { file = omega (arith, near); node = let node = logs.0.last_node in omega (arith, node) }
+  logs_grow old new p session call planned found (Ok answer) none is log logs near = absurd logs
+  logs_grow old new p session call planned found (Err error) none is log logs near = within_none old new _ near logs.0.last_node
 
   -- where there was no memory it reaches as far as it did
   pub logs_stay : (old new : Engine D) (planned : PlannedChanges) (found : Option TreeErr) (result : Result Answer AllocError) →
-      LogsChanges observable history sync_out read_out read_of old.trees.log new.trees.log (contents_of old) (contents_of new) planned found result → OnErr result (reach_of new ≡ reach_of old)
-  logs_stay old new planned found (Ok answer) logs = tt
-  logs_stay old new planned found (Err error) logs = reach_same old new logs.1.kept.end logs.1.failed logs.0.last_node
+      LogsChanges observable history sync_out read_out read_of old.trees.log new.trees.log (contents_of old) (contents_of new) planned found result →
+      EndsNear old.trees new.trees (length planned.changes.items) result → OnErr result (reach_of new ≡ reach_of old)
+  logs_stay old new planned found (Ok answer) logs near = tt
+  logs_stay old new planned found (Err error) logs near = reach_same old new near logs.0.last_node
 
   -- a commit has the model's number
   pub logs_numbered : (most : ℕ) (state : State) (old new : Engine D) (limit : Option Answer) (st : Standing) (p : Alone) (session line : ℕ) (call : Call) (planned : PlannedChanges) (found : Option TreeErr) (result : Result Answer AllocError) →

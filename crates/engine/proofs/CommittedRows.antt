@@ -1,18 +1,13 @@
--- The records that trees have once changes are committed in them, and the entries that log these.
-use Rattle.std.proofs.Common.{◌≡◌, ◌||◌, ℕ, suc, ◌+◌, Bool, false, cond, List, [], ◌∷◌, ◌++◌, Option, None, length, refl, ap, sym, subst, ◌∙◌, arith}
-use Rattle.std.proofs.lemmas.List.{length-append}
+-- The records that trees have once changes are committed in them.
+use Rattle.std.proofs.Common.{◌≡◌, ◌||◌, ℕ, Bool, false, cond, List, Option, None, ap, sym, subst, ◌∙◌}
 use mathlib.Core.Path.{fun_ext}
-use Rattle.je_order.specs.declared.txn_id.TxnId.{TxnId}
-use Rattle.log_entry.specs.declared.entry.Entry.{Entry}
-use Rattle.log_entry.specs.declared.entry.Entry.TheVariants.{Commit}
 use Rattle.record_map.specs.Cells.{IsRising}
 use Rattle.log_replay.specs.Rows.{Rows, numbers_of}
 use Rattle.log_replay.proofs.MapRows.{rising_from_keys}
 use Rattle.record_tree.specs.declared.tree_change.TreeChange.{TreeChange}
-use Rattle.record_tree.specs.Logged.{AreImages, LogsChanges, LogsTransaction, entry_for, is_made, last_change, value_changed}
+use Rattle.record_tree.specs.Logged.{is_made, last_change, value_changed}
 use Rattle.record_tree.specs.Occupied.{AllCells, AreSame}
 use Rattle.in_tree.specs.declared.log_trees.LogTrees.{LogTrees}
-use Rattle.in_tree.specs.Limits.{ArePlain}
 use Rattle.in_tree.specs.Observed.{cells_of, has_tree_of}
 use Rattle.txn_core.specs.Known.{committed, committed_rows, has_number, IsQuiet}
 use Rattle.txn_core.specs.Transactions.{HasCommitted, HasTreesAfter, is_gone}
@@ -54,36 +49,3 @@ module _ {D : Type 0} where
     quiet = subst IsQuiet (sym (fun_ext same)) trees.quiet;
     made = λ d. made d ∙ trees.made d ∙ sym (ap (λ (r : Rows). has_number (numbers_of r) d) (fun_ext (committed_same (cells_of old) (cells_of new) same)));
   }
-
--- ---- entries
-
--- images that are none
-no_images : (images rest : List Entry) → AreImages images → ArePlain (images ++ rest) → images ≡ []
-no_images [] rest are plain = refl
-no_images (e ∷ images) rest are plain = absurd (plain.0 are.0)
-
-tail_plain : (e : Entry) (rest : List Entry) → ArePlain (e ∷ rest) → ArePlain rest
-tail_plain e rest plain = plain.1
-
-front_plain : (front rest : List Entry) → ArePlain (front ++ rest) → ArePlain front
-front_plain [] rest plain = tt
-front_plain (e ∷ front) rest plain = (plain.0, front_plain front rest plain.1)
-
--- without images there is an entry for each change
-changes_count : (txn : TxnId) (changes : List TreeChange) (entries : List Entry) → LogsChanges txn changes entries → ArePlain entries → length entries ≡ length changes
-changes_count txn [] entries logs plain = ap (λ (l : List Entry). length l) logs
-changes_count txn (c ∷ changes) entries logs plain =
-    let images : List Entry = logs.0 in
-    let rest : List Entry = logs.1 in
-    let e : Entry = entry_for txn c.db c.name c.value in
-    let none : images ≡ [] = no_images images (e ∷ rest) logs.2 (subst ArePlain logs.3 plain) in
-    let all : entries ≡ e ∷ rest = logs.3 ∙ ap (λ (l : List Entry). l ++ e ∷ rest) none in
-    ap (λ (l : List Entry). length l) all ∙ ap suc (changes_count txn changes rest logs.4 (tail_plain e rest (subst ArePlain all plain)))
-
-pub transaction_count : (txn : TxnId) (changes : List TreeChange) (entries : List Entry) → LogsTransaction txn changes entries → ArePlain entries → length entries ≡ length changes + 1
-transaction_count txn changes entries logs plain =
-    let front : List Entry = logs.0 in
-    let count = changes_count txn changes front logs.1 (front_plain front (Commit txn ∷ []) (subst ArePlain logs.2 plain)) in
-    let all = ap (λ (l : List Entry). length l) logs.2 in
-    let long = length-append front (Commit txn ∷ []) in
-    omega (arith, count, all, long)

@@ -75,15 +75,6 @@ module _ {D : Type 0} where
       guarded_quiet st log start history buffer journal event (ap (λ (s : Standing). attempt_of s event) stands ∙ none) refl calm
       (ap (λ (s : Standing). s.fault) then_ ∙ fault ∙ sym (ap (λ (s : Standing). s.fault) stands)) g
 
-  -- the same where the buffer has another name
-  pub guarded_calm_along : (history_of : D → History) (st : Standing) (log : Log) (start : History) (buffer other : LogBuffer D) (journal : List Event) (p after : Alone) (session line : ℕ) (call : Call) (answer : Answer) →
-      other ≡ buffer → after_events st journal ≡ alone p → IsAutoCommitted call → after_alone p.fault call p session answer ≡ after → after.fault ≡ p.fault → is_disk_fault answer ≡ false →
-      attempt_of (alone p) (Called session line call answer []) ≡ [] → IsGuardedLog st log start (history_of (disk_of buffer)) buffer journal None →
-      IsGuardedLog st log start (history_of (disk_of other)) other (journal ++ Called session line call answer [] ∷ []) None
-  guarded_calm_along history_of st log start buffer other journal p after session line call answer same stands is leaves fault calm none g =
-      subst (λ (b : LogBuffer D). IsGuardedLog st log start (history_of (disk_of b)) b (journal ++ Called session line call answer [] ∷ []) None) (sym same)
-      (guarded_calm st log start (history_of (disk_of buffer)) buffer journal p after session line call answer stands is leaves fault calm none g)
-
   -- the run with another buffer over the same disk
   pub guarded_along : (history_of : D → History) (st : Standing) (log : Log) (start : History) (buffer other : LogBuffer D) (journal : List Event) → IsUnchanged buffer other →
       (g : IsGuardedLog st log start (history_of (disk_of buffer)) buffer journal None) → (after_events st journal).fault ≡ None → IsGuardedLog st log start (history_of (disk_of other)) other journal None
@@ -271,13 +262,15 @@ module _ {D : Type 0} where
             (logged_whole st log start (history (disk_of buffer)) buffer journal changes front g before keeping.has whole)
     guarded_logs most st log start buffer other old new journal p session line call planned found (Ok LogFull) observed stands at none is plan logs g = (
       log,
-      guarded_calm_along history st log start buffer other journal p (drawn_alone p) session line call LogFull logs.2 stands is (leaves_logged p session call plan.change plan.more none is plan.changes LogFull) refl refl
-          (tried_refused (changes_of (early_refusal (alone p) session call) (alone p) session call)) g,
+      guarded_calm st log start (history (disk_of other)) other journal p (drawn_alone p) session line call LogFull stands is (leaves_logged p session call plan.change plan.more none is plan.changes LogFull) refl refl
+          (tried_refused (changes_of (early_refusal (alone p) session call) (alone p) session call))
+          (guarded_along history st log start buffer other journal logs.2 g (ap (λ (s : Standing). s.fault) stands ∙ none)),
     )
     guarded_logs most st log start buffer other old new journal p session line call planned found (Ok IdsEnded) observed stands at none is plan logs g = (
       log,
-      guarded_calm_along history st log start buffer other journal p (drawn_alone p) session line call IdsEnded logs.2 stands is (leaves_logged p session call plan.change plan.more none is plan.changes IdsEnded) refl refl
-          (tried_refused (changes_of (early_refusal (alone p) session call) (alone p) session call)) g,
+      guarded_calm st log start (history (disk_of other)) other journal p (drawn_alone p) session line call IdsEnded stands is (leaves_logged p session call plan.change plan.more none is plan.changes IdsEnded) refl refl
+          (tried_refused (changes_of (early_refusal (alone p) session call) (alone p) session call))
+          (guarded_along history st log start buffer other journal logs.2 g (ap (λ (s : Standing). s.fault) stands ∙ none)),
     )
     guarded_logs most st log start buffer other old new journal p session line call planned found (Ok answer) observed stands at none is plan logs g = absurd logs
     guarded_logs most st log start buffer other old new journal p session line call planned found (Err error) observed stands at none is plan logs g =

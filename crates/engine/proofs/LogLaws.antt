@@ -1,5 +1,5 @@
 -- What logging planned changes needs, and what it comes to.
-use Rattle.std.proofs.Common.{◌≡◌, ◌==◌, ◌||◌, ℕ, ◌+◌, ◌<◌, ◌≤◌, nat_lt, Bool, true, false, cond, List, [], ◌∷◌, Option, None, Some, IfSome, refl, ap, sym, subst, ◌∙◌, arith}
+use Rattle.std.proofs.Common.{◌≡◌, ◌==◌, ◌||◌, ℕ, ◌+◌, ◌<◌, ◌≤◌, nat_lt, Bool, true, false, cond, List, [], ◌∷◌, Option, None, Some, IfSome, length, map, refl, ap, sym, subst, ◌∙◌, arith}
 use Rattle.std.specs.List.{AllByRecursion, list_any}
 use Rattle.std.proofs.lemmas.Bool.{true≢false, eqb-true, eq-eqb, ne_eqb, ltb-true, ltb-false, and_parts, or_left, or_right}
 use Rattle.je_disk.specs.Moments.{History}
@@ -14,10 +14,13 @@ use Rattle.record_map.specs.Cells.{IsRising}
 use Rattle.log_replay.specs.Rows.{numbers_of}
 use Rattle.record_tree.specs.declared.tree_change.TreeChange.{TreeChange}
 use Rattle.record_tree.specs.declared.tree_err.TreeErr.{TreeErr}
-use Rattle.record_tree.specs.Logged.{LogsTransaction, is_made, makes_db}
+use Rattle.record_tree.specs.Logged.{LogsTransaction, is_made, makes_db, most_entries}
 use Rattle.in_tree.specs.declared.log_trees.LogTrees.{LogTrees}
 use Rattle.in_tree.specs.Limits.{GrewFitting}
-use Rattle.in_tree.specs.Observed.{cells_of, has_tree_of}
+use Rattle.in_tree.specs.Observed.{cells_of, has_tree_of, waits_of}
+use Rattle.log_buffer.specs.declared.log_pos.LogPos.{LogPos}
+use Rattle.log_buffer.specs.Buffer.{end_of, file_max_of, has_failed}
+use Rattle.log_entry.specs.Encoding.{size_of}
 use Rattle.txn_core.specs.declared.planned_changes.PlannedChanges.{PlannedChanges}
 use Rattle.txn_core.specs.Known.{committed, has_number}
 use Rattle.txn_core.specs.Planning.{IsPlannedLog}
@@ -26,8 +29,9 @@ use Rattle.engine.specs.declared.kept.Kept.{Kept}
 use Rattle.engine.specs.Contents.{known, rows_after}
 use Rattle.engine.specs.Limits.{last_number, limit_by, numbers_for}
 use Rattle.engine.specs.Steps.{HasAppended}
-use Rattle.engine.specs.Whole.{AreTrees, contents}
-use Rattle.engine.proofs.CommittedRows.{committed_after, transaction_count}
+use Rattle.engine.specs.Whole.{AreTrees, contents, end_file}
+use Rattle.engine.proofs.ReachLaws.{file_within, files_few, length-mapped}
+use Rattle.engine.proofs.CommittedRows.{committed_after}
 
 -- ---- no limit
 
@@ -94,9 +98,26 @@ module _ {D : Type 0} where
       committed_after planned.changes.items planned.gone (cells_of old) (cells_of new) up_old up_new (subst (λ (cs : List TreeChange). HasCommitted cs planned.gone (cells_of old) (cells_of new)) same has)
 
   module _ (observable : Bool) (history : D → History) (sync_out read_out : D → Option ℕ) (read_of : D → ℕ) (faults : D → ℕ) where
-    pub appended_all : (old new : LogTrees D) (txn : TxnId) (planned : PlannedChanges) (changes : List TreeChange) → changes ≡ planned.changes.items →
-        (entries : List Entry) × LogsTransaction txn changes entries × GrewFitting observable history sync_out read_out read_of faults old.log new.log entries →
+    -- what a transaction logged
+    abbrev pub Logs : LogTrees D → LogTrees D → TxnId → List TreeChange → Type 0
+    Logs old new txn changes = (entries : List Entry) × LogsTransaction txn changes entries × GrewFitting observable history sync_out read_out read_of faults old.log new.log entries
+        × (length entries + waits_of new ≤ waits_of old + (most_entries (length changes) + 1))
+
+    pub appended_all : (old new : LogTrees D) (txn : TxnId) (planned : PlannedChanges) (changes : List TreeChange) → changes ≡ planned.changes.items → Logs old new txn changes →
         HasAppended observable history sync_out read_out read_of old.log new.log txn planned.changes.items
     appended_all old new txn planned changes same grew =
         let logs : LogsTransaction txn planned.changes.items grew.0 = subst (λ (cs : List TreeChange). LogsTransaction txn cs grew.0) same grew.1 in
-        record { entries = grew.0; logs = logs; grew = grew.2.grew; fits = grew.2.fits; few = transaction_count txn planned.changes.items grew.0 logs grew.2.plain }
+        record { entries = grew.0; logs = logs; grew = grew.2.grew; fits = grew.2.fits }
+
+    -- the log does not end farther than its entries may take it
+    pub near_logged : (old new : LogTrees D) (txn : TxnId) (planned : PlannedChanges) (changes : List TreeChange) → changes ≡ planned.changes.items → Logs old new txn changes →
+        end_file new ≤ end_file old + (most_entries (length planned.changes.items) + 1)
+    near_logged old new txn planned changes same grew =
+        let grown = grew.2.grew in
+        let ends = ap (λ (e : LogPos). e.file) grown.end in
+        let files = files_few (file_max_of old.log) (end_of old.log) (map size_of grew.0) in
+        let mapped = length-mapped size_of grew.0 in
+        let few = grew.3 in
+        let count = ap (λ (cs : List TreeChange). length cs) same in
+        file_within (has_failed old.log) (has_failed new.log) ((end_of old.log).file + waits_of old) ((end_of new.log).file + waits_of new) (most_entries (length planned.changes.items) + 1)
+        grown.failed (omega (arith, ends, files, mapped, few, count))

@@ -37,7 +37,7 @@ use Rattle.recovery_je.specs.Finishing.{is_kept}
 use Rattle.recovery_je.specs.declared.recovered.Recovered.{Recovered}
 use Rattle.in_tree.specs.declared.trees.Trees.{Trees}
 use Rattle.in_tree.specs.Observed.{cells_of}
-use Rattle.in_tree.specs.Whole.{has_tree_in, stored_within}
+use Rattle.in_tree.specs.Whole.{has_tree_in, stored_within, waits_within}
 use Rattle.txn_core.specs.Known.{committed}
 use Rattle.txn_core.proofs.RecordPlanLaws.{all_found}
 use Rattle.engine.specs.declared.engine.Engine.{Engine}
@@ -45,10 +45,10 @@ use Rattle.engine.specs.declared.kept.Kept.{Kept}
 use Rattle.engine.specs.Contents.{Contents}
 use Rattle.engine.specs.Files.{end_file_in}
 use Rattle.engine.specs.Environment.{AreAlone, GivesRecords}
-use Rattle.engine.specs.Limits.{Reach, last_number, numbers_for}
-use Rattle.engine.specs.Opening.{AreNumbers, HasBegun, HasNoNumbers, StartsAt, WasRead, log_start_of, meaning_read, node_bound}
-use Rattle.engine.specs.Whole.{AreTrees, IsAt, IsOpened, IsOpenedAt, IsOpenedSafely, contents_of}
-use Rattle.engine.proofs.WholeLaws.{reach_is}
+use Rattle.engine.specs.Limits.{IsWithin, last_number, numbers_for, waiting_for}
+use Rattle.engine.specs.Opening.{AreNumbers, HasBegun, HasNoNumbers, StartsAt, WasRead, log_start_of, meaning_read, node_bound, reach_in}
+use Rattle.engine.specs.Whole.{AreTrees, IsAt, IsOpened, IsOpenedAt, IsOpenedSafely, contents_of, reach_of}
+use Rattle.engine.proofs.WholeLaws.{file_is}
 use Rattle.engine.proofs.ClosedLaws.{guarded_none}
 use Rattle.engine.proofs.NumberLaws.{kept_numbers}
 use Rattle.engine.proofs.OpeningLaws.{AreLogFiles, File, found_ends, found_named, no_corruption, starts_in}
@@ -185,14 +185,15 @@ placed_found (file ∷ held) = refl
 pub record IsNodeBound (r : Recovered Trees) (bound : ℕ) : Type 0 where
   pub is : bound ≡ r.last_node + numbers_for (r.entries + 1)
   pub within : bound ≤ last_number
+  pub waits : waits_within r.trees ≤ waiting_for r.entries
 
-pub bound_found : (r : Recovered Trees) (bound : ℕ) →
+pub bound_found : (r : Recovered Trees) (bound : ℕ) → waits_within r.trees ≤ waiting_for r.entries →
     Some bound ≡ cond (nat_lt last_number (r.last_node + numbers_for (r.entries + 1))) None (Some (r.last_node + numbers_for (r.entries + 1))) → IsNodeBound r bound
-bound_found r bound h = by_test (nat_lt last_number (r.last_node + numbers_for (r.entries + 1))) refl h
+bound_found r bound waits h = by_test (nat_lt last_number (r.last_node + numbers_for (r.entries + 1))) refl h
   where
     by_test : (b : Bool) → nat_lt last_number (r.last_node + numbers_for (r.entries + 1)) ≡ b → Some bound ≡ cond b None (Some (r.last_node + numbers_for (r.entries + 1))) → IsNodeBound r bound
     by_test true test h = cc
-    by_test false test h = let is : bound ≡ r.last_node + numbers_for (r.entries + 1) = cc in record { is = is; within = grind (arith, nat_tests) }
+    by_test false test h = let is : bound ≡ r.last_node + numbers_for (r.entries + 1) = cc in record { is = is; within = grind (arith, nat_tests); waits = waits }
 
 -- it is that of the files
 bound_held : (observable : Bool) (reads : Files) (r : Recovered Trees) (w : WasRead observable reads r) (bound : ℕ) → IsNodeBound r bound → bound ≡ node_bound w.held (meaning_read r)
@@ -331,18 +332,25 @@ module _ {D : Type 0} where
     trees = λ none. trees_opened most observable reads state r w bound engine is;
   }
 
+  -- it reaches no farther than its files tell
+  reach_opened : (most : ℕ) (observable : Bool) (reads : Files) (state : State) (r : Recovered Trees) (w : WasRead observable reads r) (bound : ℕ) (engine : Engine D) →
+      IsBeginning most observable reads state r w bound engine → IsWithin (reach_of engine) (reach_in w.held (meaning_read r))
+  reach_opened most observable reads state r w bound engine is =
+      let file = file_is engine is.ready.works in
+      let end : (end_of engine.trees.log).file ≡ end_file_in w.held = ap (λ (end : LogPos). end.file) is.ready.end ∙ starts_in w.held r.tail w.is.tail_is in
+      let waits = is.begun.waits in
+      let few = subst (λ (n : ℕ). waits_within r.trees ≤ waiting_for n) w.is.entries_are is.bound_is.waits in
+      let node : engine.kept.last_node ≡ node_bound w.held (meaning_read r) = ap (λ (k : Kept). k.last_node) is.begun.kept ∙ bound_held observable reads r w bound is.bound_is in
+      record { file = omega (arith, file, end, waits, few); node = omega (arith, node) }
+
   opened_here : (most : ℕ) (observable : Bool) (reads : Files) (state : State) (r : Recovered Trees) (w : WasRead observable reads r) (bound : ℕ) (engine : Engine D) →
       IsBeginning most observable reads state r w bound engine → IsOpenedAt most observable reads state engine r.opening (alone (start_alone r (committed (cells_of engine.trees))))
   unfolding starts_opened
   opened_here most observable reads state r w bound engine is =
-      let reach : ℕ → ℕ → Reach = λ file node. record { file = file; node = node } in
       record {
         starts = starts_opened most observable reads state r w bound engine is;
         here = at_start most observable reads state r w bound engine is;
-        reach =
-            reach_is engine is.ready.works
-            ∙ ap (λ (n : ℕ). reach n engine.kept.last_node) (ap (λ (end : LogPos). end.file) is.ready.end ∙ starts_in w.held r.tail w.is.tail_is)
-            ∙ ap (reach (end_file_in w.held)) (ap (λ (k : Kept). k.last_node) is.begun.kept ∙ bound_held observable reads r w bound is.bound_is);
+        reach = reach_opened most observable reads state r w bound engine is;
       }
 
   opened : (most : ℕ) (observable : Bool) (reads : Files) (state : State) (r : Recovered Trees) (w : WasRead observable reads r) (bound : ℕ) (engine : Engine D) →
@@ -370,7 +378,7 @@ module _ {D : Type 0} where
       IsReady most observable reads state r w buffer → HasBegun buffer r bound engine → IsNodeBound r bound → IsBeginning most observable reads state r w bound engine
   begins most observable reads state r w bound buffer engine ready begun bound_is = record {
     ready = subst (λ (b : LogBuffer D). IsReady most observable reads state r w b) (sym begun.log_is) ready;
-    begun = record { log_is = refl; cells = begun.cells; trees = begun.trees; kept = begun.kept };
+    begun = record { log_is = refl; cells = begun.cells; trees = begun.trees; waits = begun.waits; kept = begun.kept };
     bound_is = bound_is;
   }
 

@@ -1,9 +1,8 @@
 -- How many changes of trees log changes of the store, how far a log and its trees reach with them, and the limit that they meet.
-use Rattle.std.proofs.Common.{◌≡◌, ℕ, suc, ◌+◌, ◌*◌, ◌≤◌, Bool, true, false, cond, nat_lt, List, [], ◌∷◌, ◌++◌, Option, Some, None, length, map, refl, ap, ap₂, sym, subst, arith, inl, inr}
+use Rattle.std.proofs.Common.{◌≡◌, ℕ, suc, ◌+◌, ◌*◌, ◌≤◌, Bool, true, false, cond, nat_lt, List, [], ◌∷◌, ◌++◌, Option, Some, None, length, map, refl, ap, ap₂, sym, subst, ◌∙◌, arith, inl, inr}
 use Rattle.std.specs.List.{AllByRecursion}
-use Rattle.std.proofs.lemmas.Bool.{ltb-true}
+use Rattle.std.proofs.lemmas.Bool.{ltb-true, true≢false}
 use Rattle.std.proofs.lemmas.List.{length-append}
-use Rattle.je_lsn.specs.Naming.{last_file}
 use Rattle.store_model.specs.declared.answer.Answer.{Answer}
 use Rattle.store_model.specs.declared.answer.Answer.TheVariants.{IdsEnded}
 use Rattle.store_model.specs.declared.change.Change.{Change}
@@ -12,21 +11,23 @@ use Rattle.db_catalog.specs.declared.db_record.DbRecord.{DbRecord}
 use Rattle.db_catalog.specs.declared.catalog_change.CatalogChange.{CatalogChange}
 use Rattle.db_catalog.specs.declared.catalog_change.CatalogChange.TheVariants.{Put, Delete}
 use Rattle.db_catalog.specs.Planning.{logged_as, moved, renewed}
-use Rattle.log_buffer.specs.declared.buffer.LogBuffer.{LogBuffer}
 use Rattle.log_buffer.specs.declared.log_pos.LogPos.{LogPos}
-use Rattle.log_buffer.specs.Buffer.{end_of, file_max_of, has_failed}
+use Rattle.log_buffer.specs.Buffer.{end_of}
 use Rattle.log_buffer.specs.Flip.{behind, end_after, end_after_all, goes_in, next_file}
 use Rattle.log_replay.specs.Rows.{Rows, RowChange, rows_changed}
 use Rattle.log_replay.specs.Logging.{all_row_changes, catalog_row_change, last_db_after, record_named, row_changes}
 use Rattle.record_tree.specs.declared.tree_change.TreeChange.{TreeChange}
-use Rattle.record_tree.specs.declared.tree_err.TreeErr.TheVariants.{Full, IdsEnded as NoNumber}
-use Rattle.in_tree.specs.Limits.{change_size, commit_sizes, count_made, end_behind, limit_of, sizes_for}
+use Rattle.record_tree.specs.declared.tree_err.TreeErr.{TreeErr}
+use Rattle.record_tree.specs.declared.tree_err.TreeErr.TheVariants.{Fault, Full, IdsEnded as NoNumber, Memory}
+use Rattle.record_tree.specs.Logged.{is_made, most_entries}
+use Rattle.in_tree.specs.declared.log_trees.LogTrees.{LogTrees}
+use Rattle.in_tree.proofs.Far.{full_is_far}
 use Rattle.txn_core.specs.Known.{committed}
-use Rattle.in_tree.specs.Observed.{cells_of}
+use Rattle.in_tree.specs.Observed.{cells_of, limit_in, waits_of}
 use Rattle.txn_core.specs.Planning.{row_by}
 use Rattle.engine.specs.declared.engine.Engine.{Engine}
 use Rattle.engine.specs.Limits.{IsBounded, last_number, limit_by, most_changed, most_logged, numbers_for}
-use Rattle.engine.specs.Whole.{HasLimit, reach_of}
+use Rattle.engine.specs.Whole.{HasLimit, end_file, reach_of}
 
 -- ---- files
 
@@ -42,6 +43,13 @@ files_few most end (size ∷ sizes) =
     let one = file_by (goes_in most end.offset size) end size in
     let rest = files_few most (end_after most end size) sizes in
     omega (arith, one, rest)
+
+-- a log that works, or failed before, reaches so many files farther
+pub file_within : (failed_old failed_new : Bool) (old new more : ℕ) → failed_new ≡ failed_old → new ≤ old + more → cond failed_new 0 new ≤ cond failed_old 0 old + more
+file_within true true old new more same le = omega arith
+file_within false false old new more same le = le
+file_within true false old new more same le = cc
+file_within false true old new more same le = omega arith
 
 pub length-mapped : {X Y : Type 0} (f : X → Y) (xs : List X) → length (map f xs) ≡ length xs
 length-mapped f [] = refl
@@ -82,13 +90,6 @@ planned_few planned last_db changes rows is =
     let few = rows_few changes last_db rows in
     omega (arith, mapped, same, few)
 
-sizes_count : (planned : List TreeChange) → length (sizes_for planned 1) ≡ length planned + 1
-sizes_count planned =
-    let all = length-append (map change_size planned) (commit_sizes 1) in
-    let mapped = length-mapped change_size planned in
-    let one : length (commit_sizes 1) ≡ 1 = refl in
-    omega (arith, all, mapped, one)
-
 -- ---- each has some
 
 catalog_txn : (c : CatalogChange) → (catalog_row_change 0 c).txn ≡ 0
@@ -121,6 +122,10 @@ all_txns (change ∷ changes) last_db rows =
 abbrev tree_change : RowChange → TreeChange
 tree_change r = record { db = r.db; name = r.name; value = r.value; makes = None }
 
+none_made : (d : ℕ) (rs : List RowChange) → is_made d (map tree_change rs) ≡ false
+none_made d [] = refl
+none_made d (r ∷ rs) = none_made d rs
+
 back_again : (rs : List RowChange) → AllByRecursion (λ r. r.txn ≡ 0) rs → map (row_by 0) (map tree_change rs) ≡ rs
 back_again [] all = refl
 back_again (r ∷ rs) all =
@@ -132,38 +137,34 @@ module _ {D : Type 0} where
   limit_there engine [] = (None, refl)
   limit_there engine (change ∷ more) =
       let rows : List RowChange = all_row_changes 0 engine.kept.last_db (change ∷ more) (committed (cells_of engine.trees)) in
-      (_, record { planned = map tree_change rows; rows = back_again rows (all_txns (change ∷ more) engine.kept.last_db (committed (cells_of engine.trees))); is = refl })
+      (_, record { planned = map tree_change rows; rows = back_again rows (all_txns (change ∷ more) engine.kept.last_db (committed (cells_of engine.trees))); makes = λ low d made. absurd (true≢false (sym made ∙ none_made d rows)); is = refl })
 
   -- ---- the limit is a bound
 
-  limit_bounded : (log : LogBuffer D) (last node : ℕ) (changes : List Change) (planned : List TreeChange) → length planned ≤ most_changed changes → most_changed changes + 1 ≤ most_logged changes →
-      IsBounded (record { file = cond (has_failed log) 0 (end_of log).file; node = node }) changes (limit_by (limit_of log last planned 1) node (length planned))
-  limit_bounded log last node changes planned few logged = by_failed (has_failed log)
+  limit_bounded : (trees : LogTrees D) (node : ℕ) (changes : List Change) (planned : List TreeChange) → length planned ≤ most_changed changes → most_entries (most_changed changes) + 1 ≤ most_logged changes →
+      IsBounded (record { file = end_file trees; node = node }) changes (limit_by (limit_in trees planned 1) node (length planned))
+  limit_bounded trees node changes planned few logged = by_found (limit_in trees planned 1) refl
     where
-      ended_by : (file : ℕ) (b : Bool) → nat_lt last_number (node + numbers_for (length planned)) ≡ b → IsBounded (record { file = file; node = node }) changes (cond b (Some IdsEnded) None)
-      ended_by file true e = let past = ltb-true last_number (node + numbers_for (length planned)) e in inr (inr (refl, omega (arith, past, few)))
-      ended_by file false e = inl refl
+      ended_by : (b : Bool) → nat_lt last_number (node + numbers_for (length planned)) ≡ b → IsBounded (record { file = end_file trees; node = node }) changes (cond b (Some IdsEnded) None)
+      ended_by true e = let past = ltb-true last_number (node + numbers_for (length planned)) e in inr (inr (refl, omega (arith, past, few)))
+      ended_by false e = inl refl
 
-      by_number : (file : ℕ) (b : Bool) → IsBounded (record { file = file; node = node }) changes (limit_by (cond b (Some NoNumber) None) node (length planned))
-      by_number file true = ended_by file (nat_lt last_number (node + numbers_for (length planned))) refl
-      by_number file false = ended_by file (nat_lt last_number (node + numbers_for (length planned))) refl
+      ended : IsBounded (record { file = end_file trees; node = node }) changes (cond (nat_lt last_number (node + numbers_for (length planned))) (Some IdsEnded) None)
+      ended = ended_by (nat_lt last_number (node + numbers_for (length planned))) refl
 
-      by_full : (t b : Bool) → nat_lt last_file (end_behind log (sizes_for planned 1)) ≡ b →
-          IsBounded (record { file = (end_of log).file; node = node }) changes (limit_by (cond b (Some Full) (cond t (Some NoNumber) None)) node (length planned))
-      by_full t true e =
-          let past = ltb-true last_file (end_behind log (sizes_for planned 1)) e in
-          let files = files_few (file_max_of log) (end_of log) (sizes_for planned 1) in
-          let count = sizes_count planned in
-          inr (inl (refl, omega (arith, past, files, count, few, logged)))
-      by_full t false e = by_number (end_of log).file t
-
-      by_failed : (b : Bool) → IsBounded (record { file = cond b 0 (end_of log).file; node = node }) changes
-          (limit_by (cond b None (cond (nat_lt last_file (end_behind log (sizes_for planned 1))) (Some Full) (cond (nat_lt 0x7fffffffffffffff (last + count_made planned)) (Some NoNumber) None))) node (length planned))
-      by_failed true = by_number 0 false
-      by_failed false = by_full (nat_lt 0x7fffffffffffffff (last + count_made planned)) (nat_lt last_file (end_behind log (sizes_for planned 1))) refl
+      by_found : (found : Option TreeErr) → limit_in trees planned 1 ≡ found → IsBounded (record { file = end_file trees; node = node }) changes (limit_by found node (length planned))
+      by_found None is = ended
+      by_found (Some Full) is =
+          let far = full_is_far trees planned 1 is in
+          let end : end_file trees ≡ (end_of trees.log).file + waits_of trees = ap (λ (b : Bool). cond b 0 ((end_of trees.log).file + waits_of trees)) far.0 in
+          let past = far.1 in
+          inr (inl (refl, omega (arith, end, past, few, logged)))
+      by_found (Some NoNumber) is = ended
+      by_found (Some Fault) is = ended
+      by_found (Some Memory) is = ended
 
   pub bounded : (engine : Engine D) (changes : List Change) (limit : Option Answer) → HasLimit engine changes limit → IsBounded (reach_of engine) changes limit
   bounded engine [] limit has = inl has
   bounded engine (change ∷ more) limit has =
       subst (IsBounded (reach_of engine) (change ∷ more)) (sym has.is)
-      (limit_bounded engine.trees.log _ engine.kept.last_node (change ∷ more) has.planned (planned_few has.planned engine.kept.last_db (change ∷ more) (committed (cells_of engine.trees)) has.rows) (omega arith))
+      (limit_bounded engine.trees engine.kept.last_node (change ∷ more) has.planned (planned_few has.planned engine.kept.last_db (change ∷ more) (committed (cells_of engine.trees)) has.rows) (omega arith))

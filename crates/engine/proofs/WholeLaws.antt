@@ -1,16 +1,17 @@
 -- An engine as one value, from its parts.
-use Rattle.std.proofs.Common.{◌≡◌, ◌↔◌, ℕ, ◌∙◌, Bool, true, false, cond, None, Result, Ok, Err, IsErrOf, refl, ap, sym, subst}
+use Rattle.std.proofs.Common.{◌≡◌, ◌↔◌, ◌+◌, ℕ, ◌∙◌, Bool, true, false, cond, None, Result, Ok, Err, IsErrOf, refl, ap, sym, subst}
 use Rattle.je_disk.specs.States.{State}
 use Rattle.je_answers.specs.Standing.{Standing}
 use Rattle.log_buffer.specs.declared.buffer.LogBuffer.{LogBuffer}
 use Rattle.log_buffer.specs.declared.error.LogErr.{LogErr}
 use Rattle.log_buffer.specs.declared.error.LogErr.TheVariants.{Fault}
 use Rattle.log_buffer.specs.Buffer.{end_of, has_failed}
+use Rattle.in_tree.specs.Observed.{waits_of}
 use Rattle.txn_core.specs.Totals.{totals_of}
 use Rattle.engine.specs.declared.engine.Engine.{Engine}
 use Rattle.engine.specs.Contents.{Contents}
 use Rattle.engine.specs.Environment.{AreAt, IsValid}
-use Rattle.engine.specs.Whole.{IsAt, reach_of}
+use Rattle.engine.specs.Whole.{IsAt, end_file}
 
 module _ {D : Type 0} where
   -- an environment that met no fault is valid
@@ -39,6 +40,6 @@ module _ {D : Type 0} where
       by_failed true h = (let e : Ok x ≡ Err Fault = sym is ∙ h.0 refl in cc)
       by_failed false h = refl
 
-  -- where the log works, the engine reaches the file in which it ends
-  pub reach_is : (engine : Engine D) → has_failed engine.trees.log ≡ false → reach_of engine ≡ record { file = (end_of engine.trees.log).file; node = engine.kept.last_node }
-  reach_is engine works = ap (λ (b : Bool). record { file = cond b 0 (end_of engine.trees.log).file; node = engine.kept.last_node }) works
+  -- where the log works, the engine reaches the file in which it ends, with those of the images that wait
+  pub file_is : (engine : Engine D) → has_failed engine.trees.log ≡ false → end_file engine.trees ≡ (end_of engine.trees.log).file + waits_of engine.trees
+  file_is engine works = ap (λ (b : Bool). cond b 0 ((end_of engine.trees.log).file + waits_of engine.trees)) works

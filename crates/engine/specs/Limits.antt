@@ -8,6 +8,7 @@ use Rattle.store_model.specs.declared.event.Event.{Event}
 use Rattle.je_answers.specs.Standing.{Standing}
 use Rattle.je_answers.specs.After.{after_event}
 use Rattle.je_answers.specs.Journal.{changes_by}
+use Rattle.record_tree.specs.Logged.{most_entries}
 use Rattle.record_tree.specs.declared.tree_err.TreeErr.{TreeErr}
 use Rattle.record_tree.specs.declared.tree_err.TreeErr.TheVariants.{Full}
 
@@ -15,21 +16,27 @@ use Rattle.record_tree.specs.declared.tree_err.TreeErr.TheVariants.{Full}
 abbrev pub most_changed : List Change → ℕ
 most_changed changes = length changes * 2
 
--- how many entries they are logged as at most, with their Commit
+-- how many entries they are logged as at most, with their Commit, besides images of nodes that waited for them
 abbrev pub most_logged : List Change → ℕ
 most_logged [] = 0
-most_logged (change ∷ changes) = most_changed (change ∷ changes) + 1
+most_logged (change ∷ changes) = most_entries (most_changed (change ∷ changes)) + 1
 
 -- how many node numbers so many changes of records may allocate: each one for a node that is split at each of 64 levels, one for the root above
 -- them, and one for the root of a database
 abbrev pub numbers_for : ℕ → ℕ
 numbers_for changes = changes * 66
 
+-- how many nodes wait at most for their images once a log of so many entries was read: for each entry two for each number that its change may
+-- allocate, and as many for the catalog
+abbrev pub waiting_for : ℕ → ℕ
+waiting_for entries = numbers_for (entries + 1) * 2
+
 -- the greatest number of a node
 abbrev pub last_number : ℕ
 last_number = 0x7fffffffffffffff
 
--- how far a log and its trees reach: the file in which the log ends, and a number that no node's is above
+-- how far a log and its trees reach: the file in which the log ends, with one more for each node that waits for its image, and a number that no
+-- node's is above
 pub record Reach : Type 0 where
   pub file : ℕ
   pub node : ℕ
@@ -43,8 +50,8 @@ pub record IsWithin (reach other : Reach) : Type 0 where
   pub file : reach.file ≤ other.file
   pub node : reach.node ≤ other.node
 
--- The limit that changes meet, where a log and its trees reach so far: none; or no room, where their entries may pass the last file, were each in a
--- file of its own; or no number, where those that they may allocate pass the last one.
+-- The limit that changes meet, where a log and its trees reach so far: none; or no room, where their entries, with the images that wait, may pass the
+-- last file, were each in a file of its own; or no number, where those that they may allocate pass the last one.
 abbrev pub IsBounded : Reach → List Change → Option Answer → Type 0
 IsBounded reach changes limit =
     (limit ≡ None)

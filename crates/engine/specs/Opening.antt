@@ -20,13 +20,13 @@ use Rattle.log_meaning.specs.Reading.{reading_of}
 use Rattle.recovery_je.specs.Answer.{HasFiles, IsRecoveredFrom}
 use Rattle.recovery_je.specs.declared.recovered.Recovered.{Recovered}
 use Rattle.in_tree.specs.declared.trees.Trees.{Trees}
-use Rattle.in_tree.specs.Observed.{cells_of, has_tree_of}
+use Rattle.in_tree.specs.Observed.{cells_of, has_tree_of, waits_of}
 use Rattle.in_tree.specs.Stored.{committed_cell}
-use Rattle.in_tree.specs.Whole.{has_tree_in, stored_within}
+use Rattle.in_tree.specs.Whole.{has_tree_in, stored_within, waits_within}
 use Rattle.engine.specs.declared.open_err.OpenErr.{OpenErr}
 use Rattle.engine.specs.declared.open_err.OpenErr.TheVariants.{Disk, Unreadable, Memory, IdsEnded}
 use Rattle.engine.specs.Files.{HasCorruption, end_file_in}
-use Rattle.engine.specs.Limits.{Reach, last_number, numbers_for}
+use Rattle.engine.specs.Limits.{Reach, last_number, numbers_for, waiting_for}
 use Rattle.engine.specs.declared.engine.Engine.{Engine}
 use Rattle.engine.specs.declared.kept.Kept.{Kept}
 
@@ -40,9 +40,9 @@ error_of_recovery (Corrupt corruption) = Unreadable corruption
 abbrev pub node_bound : List (ℕ × List ℕ) → Meaning → ℕ
 node_bound held meaning = meaning.last_node + numbers_for (length (placed (log_in held)) + 1)
 
--- how far the log of files and its trees reach once they are opened
+-- how far the log of files and its trees reach at most once they are opened
 abbrev pub reach_in : List (ℕ × List ℕ) → Meaning → Reach
-reach_in held meaning = record { file = end_file_in held; node = node_bound held meaning }
+reach_in held meaning = record { file = end_file_in held + waiting_for (length (placed (log_in held))); node = node_bound held meaning }
 
 -- the files mean something, but their nodes' numbers may pass the last one
 pub record HasNoNumbers (files : Files) : Type 0 where
@@ -130,4 +130,5 @@ pub record HasBegun {D : Type 0} (log : LogBuffer D) (r : Recovered Trees) (last
   pub log_is : engine.trees.log ≡ log
   pub cells : (db : ℕ) → cells_of engine.trees db ≡ map committed_cell (stored_within r.trees db)
   pub trees : (db : ℕ) → has_tree_of engine.trees db ≡ has_tree_in r.trees db
+  pub waits : waits_of engine.trees ≤ waits_within r.trees
   pub kept : engine.kept ≡ kept_at_start r last_node

@@ -30,13 +30,12 @@ refusal_by (Some Full) = LogFull
 refusal_by found = IdsEnded
 
 module _ {D : Type 0} (observable : Bool) (history : D → History) (sync_out read_out : D → Option ℕ) (read_of : D → ℕ) where
-  -- a transaction with these changes went into the log, as an entry for each, and its Commit
+  -- a transaction with these changes went into the log: an entry for each, behind images of nodes, and its Commit
   pub record HasAppended (buffer longer : LogBuffer D) (txn : TxnId) (changes : List TreeChange) : Type 0 where
     pub entries : List Entry
     pub logs : LogsTransaction txn changes entries
     pub grew : Grew observable history sync_out read_out read_of buffer longer entries
     pub fits : FitsLog buffer entries
-    pub few : length entries ≡ length changes + 1
 
   -- or the disk failed while its first entries were appended
   pub record HasTried (buffer longer : LogBuffer D) (txn : TxnId) (changes : List TreeChange) : Type 0 where
@@ -54,11 +53,11 @@ module _ {D : Type 0} (observable : Bool) (history : D → History) (sync_out re
       (commit ≡ old.commits + 1) × HasLogged old new planned × (planned.last_db ≤ LAST_DATABASE) × (limit_by found old.last_node (length planned.changes.items) ≡ None)
       × HasAppended buffer longer (txn_of (old.last_txn + 1)) planned.changes.items
   LogsChanges buffer longer old new planned found (Ok LogFull) =
-      (limit_by found old.last_node (length planned.changes.items) ≡ Some LogFull) × (new ≡ drawn_contents old) × (longer ≡ buffer)
+      (limit_by found old.last_node (length planned.changes.items) ≡ Some LogFull) × IsSame (drawn_contents old) new × IsUnchanged buffer longer
   LogsChanges buffer longer old new planned found (Ok IdsEnded) =
       ((limit_by found old.last_node (length planned.changes.items) ≡ Some IdsEnded)
       ⊎ ((limit_by found old.last_node (length planned.changes.items) ≡ None) × (LAST_DATABASE < planned.last_db)))
-      × (new ≡ drawn_contents old) × (longer ≡ buffer)
+      × IsSame (drawn_contents old) new × IsUnchanged buffer longer
   LogsChanges buffer longer old new planned found (Ok DiskFault) =
       HasFaulted old new × (planned.last_db ≤ LAST_DATABASE) × (limit_by found old.last_node (length planned.changes.items) ≡ None)
       × HasTried buffer longer (txn_of (old.last_txn + 1)) planned.changes.items

@@ -1,5 +1,5 @@
 -- An engine as one value. Users speak of it by these alone; what it is made of may change below them.
-use Rattle.std.specs.Prelude.{ℕ, ◌≡◌, ◌≤◌, ◌++◌, ◌∷◌, [], List, Option, None, Some, Bool, Result, Ok, Err, true, false, length, map, if◌then◌else◌}
+use Rattle.std.specs.Prelude.{ℕ, ◌≡◌, ◌≤◌, ◌<◌, ◌^◌, ◌+◌, ◌++◌, ◌∷◌, [], List, Option, None, Some, Bool, Result, Ok, Err, true, false, length, map, if◌then◌else◌}
 use Rattle.std.specs.declared.alloc.AllocError.{AllocError}
 use Rattle.je_disk.specs.States.{Files, State, synced_crash_states}
 use Rattle.je_disk.specs.Moments.{History, now}
@@ -18,18 +18,20 @@ use Rattle.log_replay.specs.Logging.{all_row_changes}
 use Rattle.log_replay.specs.Rows.{numbers_of}
 use Rattle.record_tree.specs.declared.tree_change.TreeChange.{TreeChange}
 use Rattle.in_tree.specs.declared.log_trees.LogTrees.{LogTrees}
-use Rattle.in_tree.specs.Observed.{cells_of, has_tree_of, limit_in}
+use Rattle.in_tree.specs.Observed.{cells_of, has_tree_of, limit_in, waits_of}
+use Rattle.record_tree.specs.Logged.{is_made, most_entries}
+use Rattle.store_model.specs.Refusals.{made_by}
 use Rattle.txn_core.specs.Known.{committed, has_number, IsQuiet}
 use Rattle.txn_core.specs.Planning.{row_by}
 use Rattle.txn_core.specs.Transactions.{HasTreesAfter}
 use Rattle.txn_core.specs.declared.planned_changes.PlannedChanges.{PlannedChanges}
-use Rattle.log_buffer.specs.Buffer.{disk_of as disk_below, end_of, has_failed}
+use Rattle.log_buffer.specs.Buffer.{IsUnchanged, disk_of as disk_below, end_of, has_failed}
 use Rattle.store_model.specs.declared.change.Change.{Change}
 use Rattle.engine.specs.declared.engine.Engine.{Engine}
 use Rattle.engine.specs.Environment.{AreAt}
 use Rattle.engine.specs.Guarded.{IsGuardedLog}
 use Rattle.engine.specs.Contents.{Contents}
-use Rattle.engine.specs.Limits.{IsBounded, Reach, limit_by}
+use Rattle.engine.specs.Limits.{IsBounded, IsWithin, Reach, limit_by}
 use Rattle.engine.specs.Opening.{StartsAt, reach_in}
 use Rattle.engine.specs.declared.kept.Kept.{Kept}
 
@@ -67,6 +69,13 @@ module _ {D : Type 0} where
   LeavesTrees old new planned (Ok answer) = AreTrees new
   LeavesTrees old new planned (Err error) = AreTrees new
 
+  -- trees are as they were, and so is their log
+  pub record AreLeft (old new : LogTrees D) : Type 0 where
+    pub cells : (db : ℕ) → cells_of new db ≡ cells_of old db
+    pub made : (db : ℕ) → has_tree_of new db ≡ has_tree_of old db
+    pub log : IsUnchanged old.log new.log
+    pub waits : waits_of new ≡ waits_of old
+
   -- the engine, whose files have at most so many bytes, is where the model stands
   pub record IsAt (most : ℕ) (observable : Bool) (state : State) (engine : Engine D) (st : Standing) : Type 0 where
     pub at : AreAt most observable state engine.trees.log (contents_of engine) st
@@ -85,18 +94,26 @@ module _ {D : Type 0} where
   IsGuardedInSync most st start history engine journal =
       (log : Log) × IsGuardedLog st log start history engine.trees.log journal (Some (length (entries_of log)))
 
-  -- the file in which the log ends; a log that failed grows no more, and reaches none
-  abbrev pub end_file : Engine D → ℕ
-  end_file engine = if has_failed engine.trees.log then 0 else (end_of engine.trees.log).file
+  -- the file in which a log ends, were the image of each node that waits in a file of its own; a log that failed grows no more, and reaches none
+  abbrev pub end_file : LogTrees D → ℕ
+  end_file trees = if has_failed trees.log then 0 else (end_of trees.log).file + waits_of trees
 
   -- how far its log and its trees reach
   abbrev pub reach_of : Engine D → Reach
-  reach_of engine = record { file = end_file engine; node = engine.kept.last_node }
+  reach_of engine = record { file = end_file engine.trees; node = engine.kept.last_node }
 
-  -- the limit that the engine has for changes: none where there are none; else the one that the changes of records meet that log them
+  -- logging so many changes of trees leaves the end of the log no farther than their entries may take it; where nothing was logged it is where it was
+  abbrev pub EndsNear : LogTrees D → LogTrees D → ℕ → Result Answer AllocError → Type 0
+  EndsNear old new changes (Ok (Logged commit)) = end_file new ≤ end_file old + (most_entries changes + 1)
+  EndsNear old new changes (Ok DiskFault) = end_file new ≡ 0
+  EndsNear old new changes result = end_file new ≡ end_file old
+
+  -- the limit that the engine has for changes: none where there are none; else the one that the changes of records meet that log them, and make
+  -- trees for new databases alone
   pub record IsLimitFor (engine : Engine D) (changes : List Change) (limit : Option Answer) : Type 0 where
     pub planned : List TreeChange
     pub rows : map (row_by 0) planned ≡ all_row_changes 0 engine.kept.last_db changes (committed (cells_of engine.trees))
+    pub makes : engine.kept.last_db + made_by changes < 2 ^ 32 → (d : ℕ) → is_made d planned ≡ true → engine.kept.last_db < d
     pub is : limit ≡ limit_by (limit_in engine.trees planned 1) engine.kept.last_node (length planned)
 
   abbrev pub HasLimit : Engine D → List Change → Option Answer → Type 0
@@ -134,7 +151,7 @@ module _ {D : Type 0} where
   pub record IsOpenedAt (most : ℕ) (observable : Bool) (files : Files) (state : State) (engine : Engine D) (opening : Store) (st : Standing) : Type 0 where
     pub starts : StartsAt observable files opening st
     pub here : IsAt most observable state engine st
-    pub reach : reach_of engine ≡ reach_in starts.held starts.meaning
+    pub reach : IsWithin (reach_of engine) (reach_in starts.held starts.meaning)
 
   abbrev pub IsOpened : ℕ → Bool → Files → State → Engine D → Store → Type 0
   IsOpened most observable files state engine opening = (st : Standing) × IsOpenedAt most observable files state engine opening st
@@ -144,6 +161,6 @@ module _ {D : Type 0} where
     pub st : Standing
     pub starts : StartsAt true files opening st
     pub here : IsAt most true (now history) engine st
-    pub reach : reach_of engine ≡ reach_in starts.held starts.meaning
+    pub reach : IsWithin (reach_of engine) (reach_in starts.held starts.meaning)
     pub stable : (now history).crash_states ≡ synced_crash_states (now history).reads
     pub guarded : IsGuarded most st history history engine []

@@ -20,7 +20,7 @@ ghost use Rattle.in_tree.specs.Observed.{has_tree_of, limit_in};
 ghost use Rattle.txn_core.specs.Totals.{totals_of};
 ghost use Rattle.engine.specs.Limits.{IsWithin, last_number, numbers_for, reach_after};
 ghost use Rattle.engine.specs.Steps.{HasStepCause, IsNumbered, LogsChanges, refusal_by, txn_of};
-ghost use Rattle.engine.specs.Whole.{AreTrees, BeginsSafely, BeginsSync, CanGoOn, EndsSync, GoesOn, GoesOnSafely, HasLimit, IsAt, IsGuarded, IsGuardedInSync, LeavesTrees, contents, disk_of, reach_of};
+ghost use Rattle.engine.specs.Whole.{AreLeft, AreTrees, BeginsSafely, BeginsSync, CanGoOn, EndsNear, EndsSync, GoesOn, GoesOnSafely, HasLimit, IsAt, IsGuarded, IsGuardedInSync, LeavesTrees, contents, disk_of, reach_of};
 
 use crate::kept::Kept;
 use in_tree::LogTrees;
@@ -114,11 +114,14 @@ impl<D: Disk> Engine<D> {
     }
 
     // What changes are answered that may lack numbers: no room in the log is told first.
-    fn refuse(&self, alloc: Global, planned: &PlannedChanges) -> Result<Answer, AllocError>
-        requires works { has_failed self.now.trees.log ≡ false }
-        requires numbers { self.now.kept.last_txn < LAST_TXN }
-        requires entries { AllByRecursion (λ c. IsEntry (entry_for (txn_of (self.now.kept.last_txn + 1)) c.db c.name c.value)) planned.now.changes.items }
-        ensures { IfOk result (λ answer. answer ≡ refusal_by (limit_in self.now.trees planned.now.changes.items 1)) }
+    fn refuse(&mut self, alloc: Global, planned: &PlannedChanges) -> Result<Answer, AllocError>
+        requires works { has_failed self.old.trees.log ≡ false }
+        requires trees { AllByRecursion (λ c. has_tree_of self.old.trees c.db ≡ true) planned.now.changes.items }
+        requires numbers { self.old.kept.last_txn < LAST_TXN }
+        requires entries { AllByRecursion (λ c. IsEntry (entry_for (txn_of (self.old.kept.last_txn + 1)) c.db c.name c.value)) planned.now.changes.items }
+        ensures answer { IfOk result (λ answer. answer ≡ refusal_by (limit_in self.old.trees planned.now.changes.items 1)) }
+        ensures same { AreLeft self.old.trees self.new.trees }
+        ensures kept { self.new.kept ≡ self.old.kept }
     {
         let txn = TxnId(self.kept.last_txn + 1);
         match self
@@ -140,6 +143,7 @@ impl<D: Disk> Engine<D> {
         requires new { planned.last_db ≤ LAST_DATABASE → AllByRecursion (λ c. IfSome c.makes (λ d. has_tree_of self.old.trees d ≡ false)) planned.changes.items }
         requires entries { AllByRecursion (λ c. IsEntry (entry_for (txn_of (self.old.kept.last_txn + 1)) c.db c.name c.value)) planned.changes.items }
         ensures trees { LeavesTrees self.old.trees self.new.trees planned result }
+        ensures near { EndsNear self.old.trees self.new.trees (length planned.changes.items) result }
         ensures logs { LogsChanges D.observable D.history D.sync_out D.read_out D.read_of self.old.trees.log self.new.trees.log (contents self.old.trees self.old.kept) (contents self.new.trees self.new.kept) planned (limit_in self.old.trees planned.changes.items 1) result }
         ensures bounds { CanGoOn self.new }
         ensures cause { HasStepCause (D.faults (disk_of self.old)) (D.faults (disk_of self.new)) result }

@@ -10,7 +10,8 @@ ghost use Rattle.log_file.specs.Log.{Log, entries_of};
 ghost use Rattle.engine.specs.Crash.{KeepsEntry};
 ghost use Rattle.engine.specs.Untouched.{IsLeftAlone};
 ghost use Rattle.store_model.specs.Store.{no_databases};
-ghost use Rattle.engine.specs.Limits.{last_number, numbers_for};
+ghost use Rattle.in_tree.specs.Whole.{waits_within};
+ghost use Rattle.engine.specs.Limits.{last_number, numbers_for, waiting_for};
 ghost use Rattle.engine.specs.Opening.{HasBegun, HasTornTailCut, IsSettling, StartsLog, StopsBy, WasRead, cut_off, log_start_of};
 ghost use Rattle.engine.specs.Whole.{CanGoOn, IsOpened, IsOpenedSafely, disk_of};
 ghost use Rattle.je_lsn.specs.declared.file_no.TheConstants.{LAST_FILE};
@@ -28,8 +29,8 @@ use recovery_je::{OpeningStore, Recovered, recover_disk};
 use std::alloc::Global;
 use store_model::Totals;
 
-/// How many slots a node has at most when one is put in.
-const FANOUT: u32 = 128;
+// How many slots a node of no trees would have at most.
+const ANY_FANOUT: u32 = 128;
 
 /// The store that an environment held when it was opened. It takes no memory.
 pub type Opening = OpeningStore<LoadedTrees>;
@@ -44,7 +45,7 @@ pub struct Opened<D> {
 pub fn no_opening(alloc: Global) -> Opening
     ensures { result ≡ no_databases }
 {
-    OpeningStore::of(&LoadedTrees::new(alloc, FANOUT, 0))
+    OpeningStore::of(&LoadedTrees::new(alloc, ANY_FANOUT, 0))
 }
 
 /// An environment that was not opened: why, and its disk back.
@@ -53,17 +54,38 @@ pub struct Stopped<D> {
     pub disk: D,
 }
 
-// Mounts the disk and reads the log that it has.
-fn read_disk<D: Disk>(alloc: Global, disk: &mut D) -> Result<Recovered<LoadedTrees>, OpenErr>
+// How many nodes may wait at most in trees that were made of so many entries.
+fn most_waiting(entries: u64) -> u64
+    ensures { result ≤ waiting_for entries }
+{
+    entries
+        .saturating_add(1)
+        .saturating_mul(NUMBERS_FOR_CHANGE * 2)
+}
+
+// Mounts the disk and reads the log that it has. More nodes do not wait than its entries leave; were it so, this would run out
+// of memory.
+fn read_disk<D: Disk>(
+    alloc: Global,
+    disk: &mut D,
+    fanout: u32,
+) -> Result<Recovered<LoadedTrees>, OpenErr>
+    requires least { 4 ≤ fanout }
+    requires most { fanout ≤ 128 }
     ensures same { D.observable ≡ true → now (D.history disk.new) ≡ now (D.history disk.old) }
     ensures moments { D.observable ≡ true → Passes (D.history disk.old) (D.history disk.new) (λ s. s ≡ now (D.history disk.old)) }
     ensures read { IfOk result (WasRead D.observable (now (D.history disk.old)).reads) }
+    ensures waits { IfOk result (λ read. waits_within read.trees ≤ waiting_for read.entries) }
     ensures none_out { OnOk result (D.sync_out disk.new ≡ None) }
     ensures stops { IfErr result (λ error. StopsBy D.observable (now (D.history disk.old)).reads (D.faults disk.old) (D.faults disk.new) error) }
     ensures never_falls { D.faults disk.old ≤ D.faults disk.new }
 {
-    let trees = LoadedTrees::new(alloc, FANOUT, 0);
-    Ok(recover_disk(alloc, disk, trees)?)
+    let trees = LoadedTrees::new(alloc, fanout, 0);
+    let read = recover_disk(alloc, disk, trees)?;
+    if most_waiting(read.entries) < read.trees.waits() {
+        return Err(OpenErr::Memory);
+    }
+    Ok(read)
 }
 
 // A number that no node's number is above, once files are opened with so many entries, whose last node number is
@@ -182,6 +204,7 @@ fn go_on<D: Disk>(
     requires none_out { D.sync_out disk ≡ None }
     requires small { IfSome read.tail (λ last. last.file.0 ≤ LAST_FILE) }
     requires file_max { file_max ≤ 1073741824 }
+    requires waits { waits_within read.trees ≤ waiting_for read.entries }
     ensures opened { (reads : Reads) → WasRead D.observable reads read → (D.observable ≡ true → (now (D.history disk)).reads ≡ reads)
         → IfOk result (λ opened. IsOpened file_max D.observable reads (now (D.history (disk_of opened.engine))) opened.engine opened.opening) }
     ensures crash { D.observable ≡ true → (reads : Reads) → WasRead D.observable reads read → (now (D.history disk)).reads ≡ reads
@@ -224,6 +247,8 @@ impl<D: Disk> Engine<D> {
     /// with the first sync. A log that cannot be opened is left as it is.
     pub fn open(alloc: Global, disk: D, config: &Config) -> Result<Opened<D>, Stopped<D>>
         requires file_max { config.now.file_max ≤ 1073741824 }
+        requires least { 4 ≤ config.now.fanout }
+        requires most { config.now.fanout ≤ 128 }
         ensures opened { IfOk result (λ opened. IsOpened config.now.file_max D.observable (now (D.history disk)).reads (now (D.history (disk_of opened.engine))) opened.engine opened.opening) }
         ensures crash { D.observable ≡ true → IfOk result (λ opened. IsOpenedSafely config.now.file_max (now (D.history disk)).reads opened.opening (D.history (disk_of opened.engine)) opened.engine) }
         ensures entry { D.observable ≡ true → IfOk result (λ opened. KeepsEntry (D.history disk) (D.history (disk_of opened.engine))) }
@@ -235,7 +260,7 @@ impl<D: Disk> Engine<D> {
         ensures left_alone { D.observable ≡ true → IfErr result (λ stopped. IsLeftAlone stopped.error (D.history disk) (D.history stopped.disk)) }
     {
         let mut disk = disk;
-        match read_disk(alloc, &mut disk) {
+        match read_disk(alloc, &mut disk, config.fanout) {
             Ok(read) => go_on(alloc, disk, read, config.file_max),
             Err(error) => Err(Stopped { error, disk }),
         }

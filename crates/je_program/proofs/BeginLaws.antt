@@ -5,6 +5,7 @@ use Rattle.je_disk.specs.Moments.{History, now}
 use Rattle.store_model.specs.declared.store.Store.{Store}
 use Rattle.je_answers.specs.Standing.{Standing}
 use Rattle.engine.specs.declared.engine.Engine.{Engine}
+use Rattle.engine.specs.Limits.{IsWithin}
 use Rattle.engine.specs.Opening.{StartsAt, reach_in}
 use Rattle.engine.specs.Whole.{IsAt, IsGuarded, IsOpened, IsOpenedSafely, reach_of}
 
@@ -23,7 +24,7 @@ module _ {D : Type 0} where
     pub st : Standing
     pub starts : StartsAt observable files opening st
     pub here : IsAt most observable (now history) engine st
-    pub reach : reach_of engine ≡ reach_in starts.held starts.meaning
+    pub reach : IsWithin (reach_of engine) (reach_in starts.held starts.meaning)
     pub safe : observable ≡ true → IsSafeStart most history engine st
 
   pub opened_as_one : (most : ℕ) (observable : Bool) (files : Files) (opening : Store) (history : History) (engine : Engine D) → IsOpened most observable files (now history) engine opening →

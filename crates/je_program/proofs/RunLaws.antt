@@ -73,6 +73,15 @@ bounded_later early late changes limit within bounded =
     below : (last near far : ℕ) → last < near → near ≤ far → last < far
     below last near far past later = omega (arith, past, later)
 
+-- the limits of a journal come also where a log reaches farther
+pub bounded_far : (early late : Reach) (st : Standing) (events : List Event) (limits : List (Option Answer)) → IsWithin early late → AreBounded early st events limits → AreBounded late st events limits
+bounded_far early late st [] [] within b = tt
+bounded_far early late st [] (limit ∷ limits) within b = tt
+bounded_far early late st (event ∷ events) [] within b = tt
+bounded_far early late st (event ∷ events) (limit ∷ limits) within b =
+    (bounded_later early late (changes_by st event) limit within b.0,
+    bounded_far (reach_after early (changes_by st event)) (reach_after late (changes_by st event)) (after_event st event) events limits (after_within early late (changes_by st event) within) b.1)
+
 -- the limits of a journal, and then those of another
 bounded-append : (first : Reach) (st : Standing) (limits others : List (Option Answer)) (before after : List Event) → AnswersAsModel st limits before → AreBounded first st before limits →
     AreBounded (reach_by first st before) (after_events st before) after others → AreBounded first st (before ++ after) (limits ++ others)

@@ -149,12 +149,14 @@ fn finish<D: Disk>(running: Running<D>, opening: Opening) -> RunResult<D>
 }
 
 /// Runs a plan over a disk: opens the environment, gives the lines, and closes it.
-pub fn run_plan<D: Disk>(alloc: Global, disk: D, file_max: u32, plan: RunPlan) -> RunResult<D>
-    requires file_max { file_max ≤ 2 ^ 30 }
+pub fn run_plan<D: Disk>(alloc: Global, disk: D, config: Config, plan: RunPlan) -> RunResult<D>
+    requires file_max { config.file_max ≤ 2 ^ 30 }
+    requires least { 4 ≤ config.fanout }
+    requires most { config.fanout ≤ 128 }
     requires lines { list_all is_line plan.lines ≡ true }
     ensures runs { RunsIf result.cause result.opened }
     ensures after_reading { is_before_disk result.cause ≡ false }
-    ensures run { result.opened ≡ true → (st : Standing) × IsRunOf file_max D.observable (D.history disk) (D.history result.disk) result.opening result.totals result.journal.items result.cause st }
+    ensures run { result.opened ≡ true → (st : Standing) × IsRunOf config.file_max D.observable (D.history disk) (D.history result.disk) result.opening result.totals result.journal.items result.cause st }
     ensures crash_unopened { D.observable ≡ true → result.opened ≡ false → KeepsEntry (D.history disk) (D.history result.disk) }
     ensures unopened { result.opened ≡ false → (result.opening ≡ no_databases) × (result.journal.items ≡ []) }
     ensures unreadable { (corruption : Wrong) → result.cause ≡ Why.Unreadable corruption → D.observable ≡ true → HasCorruption (now (D.history disk)).reads corruption }
@@ -165,7 +167,6 @@ pub fn run_plan<D: Disk>(alloc: Global, disk: D, file_max: u32, plan: RunPlan) -
     ensures caused { ClosesRun (D.faults disk) (D.faults result.disk) result.journal.items result.cause }
     ensures left_alone { D.observable ≡ true → LeavesUnreadable result.cause (D.history disk) (D.history result.disk) }
 {
-    let config = Config { file_max };
     match Engine::open(alloc, disk, &config) {
         Ok(opened) => {
             let Opened { engine, opening } = opened;
@@ -205,7 +206,7 @@ pub fn run_unprinted<D: Disk, S: Source>(
     ensures left_alone { D.observable ≡ true → LeavesUnreadable result.cause (D.history disk) (D.history result.disk) }
 {
     match read_request(alloc, args, input) {
-        Ok(RunRequest { file_max, plan }) => run_plan(alloc, disk, file_max, plan),
+        Ok(RunRequest { config, plan }) => run_plan(alloc, disk, config, plan),
         Err(cause) => unopened(alloc, cause, disk),
     }
 }

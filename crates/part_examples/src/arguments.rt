@@ -11,26 +11,32 @@ fn split(alloc: Global, line: &str) -> Result<Vec<String>, AllocError> {
     Ok(args)
 }
 
-// Lines whose arguments are valid, with the folder and the file length that they give.
-static RIGHT: [(&str, &str, u32); 14] = [
-    ("run --home d", "d", 10_000_000),
-    ("run --home=d", "d", 10_000_000),
-    ("run --home=", "", 10_000_000),
-    ("run --home=-d", "-d", 10_000_000),
-    ("run --home -", "-", 10_000_000),
-    ("run --home d --", "d", 10_000_000),
-    ("run --home run", "run", 10_000_000),
-    ("run --home=--file-max", "--file-max", 10_000_000),
-    ("run --home d --file-max 4096", "d", 4_096),
-    ("run --home d --file-max=8192", "d", 8_192),
-    ("run --file-max 1073741824 --home d", "d", 1_073_741_824),
-    ("run --file-max=9999999 --home=d", "d", 9_999_999),
-    ("run --home d --file-max +4096", "d", 4_096),
-    ("run --home d --file-max=004096", "d", 4_096),
+// Lines whose arguments are valid, with the folder, the file length and the number of slots that they give.
+static RIGHT: [(&str, &str, u32, u32); 20] = [
+    ("run --home d", "d", 10_000_000, 128),
+    ("run --home=d", "d", 10_000_000, 128),
+    ("run --home=", "", 10_000_000, 128),
+    ("run --home=-d", "-d", 10_000_000, 128),
+    ("run --home -", "-", 10_000_000, 128),
+    ("run --home d --", "d", 10_000_000, 128),
+    ("run --home run", "run", 10_000_000, 128),
+    ("run --home=--file-max", "--file-max", 10_000_000, 128),
+    ("run --home d --file-max 4096", "d", 4_096, 128),
+    ("run --home d --file-max=8192", "d", 8_192, 128),
+    ("run --file-max 1073741824 --home d", "d", 1_073_741_824, 128),
+    ("run --file-max=9999999 --home=d", "d", 9_999_999, 128),
+    ("run --home d --file-max +4096", "d", 4_096, 128),
+    ("run --home d --file-max=004096", "d", 4_096, 128),
+    ("run --home d --fanout 4", "d", 10_000_000, 4),
+    ("run --home d --fanout=64", "d", 10_000_000, 64),
+    ("run --fanout 128 --home d --file-max 4096", "d", 4_096, 128),
+    ("run --file-max 4096 --fanout +5 --home d", "d", 4_096, 5),
+    ("run --fanout=0005 --file-max=4096 --home=d", "d", 4_096, 5),
+    ("run --home=--fanout", "--fanout", 10_000_000, 128),
 ];
 
 // Lines whose arguments are invalid.
-static WRONG: [&str; 37] = [
+static WRONG: [&str; 44] = [
     "run",
     "run --home",
     "--home d",
@@ -68,12 +74,25 @@ static WRONG: [&str; 37] = [
     "run --home d --file-max 8192 16384",
     "run --home d --file_max 8192",
     "--file-max 8192 run --home d",
+    "run --home d --fanout",
+    "run --home d --fanout 3",
+    "run --home d --fanout 129",
+    "run --home d --fanout=-4",
+    "run --home d --fanout 4294967300",
+    "run --home d --fanout 8 --fanout 8",
+    "run --fanout 8",
 ];
 
-fn gives(alloc: Global, line: &str, home: &str, file_max: u32) -> Result<bool, AllocError> {
+fn gives(
+    alloc: Global,
+    line: &str,
+    home: &str,
+    file_max: u32,
+    fanout: u32,
+) -> Result<bool, AllocError> {
     let args = split(alloc, line)?;
     match parse(alloc, args.as_slice())? {
-        Some(options) => Ok(options.home.as_str() == home && options.file_max == file_max),
+        Some(options) => Ok(options.home.as_str() == home && options.file_max == file_max && options.fanout == fanout),
         None => Ok(false),
     }
 }
@@ -91,9 +110,9 @@ fn is_wrong(alloc: Global, line: &str) -> Result<bool, AllocError> {
 
 #[test]
 fn right_words_give_the_options(rt: HostRuntime) {
-    for &(line, home, file_max) in &RIGHT {
+    for &(line, home, file_max, fanout) in &RIGHT {
         assert!(rt;
-            gives(rt.alloc(), line, home, file_max) == Ok(true),
+            gives(rt.alloc(), line, home, file_max, fanout) == Ok(true),
             "{line}"
         );
     }

@@ -1,5 +1,5 @@
 -- What the log gets from a change of a tree.
-use Rattle.std.specs.Prelude.{◌≡◌, ◌==◌, ◌&&◌, ℕ, Bool, false, List, [], ◌∷◌, ◌++◌, Option, Some, None, Result, Ok, Err, find, reverse}
+use Rattle.std.specs.Prelude.{◌≡◌, ◌==◌, ◌&&◌, ◌*◌, ℕ, Bool, false, List, [], ◌∷◌, ◌++◌, Option, Some, None, Result, Ok, Err, find, reverse}
 use Rattle.std.specs.List.{AllByRecursion, list_any}
 use Rattle.std.specs.Ordering.{is_eq}
 use Rattle.je_order.specs.Order.{name_cmp}
@@ -34,6 +34,11 @@ LogsChanges txn (c ∷ cs) entries = (images rest : List Entry) × AreImages ima
 -- and its Commit behind them
 abbrev pub LogsTransaction : TxnId → List TreeChange → List Entry → Type 0
 LogsTransaction txn changes entries = (front : List Entry) × LogsChanges txn changes front × (entries ≡ front ++ Commit txn ∷ [])
+
+-- how many entries so many changes log at most, besides images of nodes that waited for them: for each change its own, the images of two halves on
+-- each of 64 levels, and that of a new root
+abbrev pub most_entries : ℕ → ℕ
+most_entries changes = 130 * changes
 
 -- whether a change is of a name
 abbrev pub is_change_of : ℕ → Name → TreeChange → Bool
@@ -71,3 +76,8 @@ IsLimit Full = Unit {0}
 IsLimit IdsEnded = Unit {0}
 IsLimit Fault = ⊥
 IsLimit Memory = ⊥
+
+-- a reason that leaves all as it was: any but a fault
+abbrev pub IsUndone : TreeErr → Type 0
+IsUndone Fault = ⊥
+IsUndone error = Unit {0}

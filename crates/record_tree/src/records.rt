@@ -1,5 +1,5 @@
 // The records of an environment's trees.
-ghost use Rattle.std.specs.Prelude.{◌≡◌, ◌==◌, ◌||◌, ℕ, suc, List, [], ◌∷◌, ◌++◌, Option, Some, None, Ok, Err, IfOk, OnOk, IfErr, OnErr, IfSome, IsOk, option_map, Bool, true, false, if◌then◌else◌};
+ghost use Rattle.std.specs.Prelude.{◌≡◌, ◌≤◌, ◌==◌, ◌||◌, ◌+◌, ℕ, suc, length, List, [], ◌∷◌, ◌++◌, Option, Some, None, Ok, Err, IfOk, OnOk, IfErr, OnErr, IfSome, IsOk, option_map, Bool, true, false, if◌then◌else◌};
 ghost use Rattle.je_order.specs.declared.name.Name.{Name};
 ghost use Rattle.log_entry.specs.declared.entry.Entry.{Entry};
 ghost use Rattle.log_entry.specs.declared.entry.Entry.TheVariants.{Commit};
@@ -9,7 +9,7 @@ ghost use Rattle.record_tree.specs.Occupied.{AllCells, occupied_by, write_in, Is
 ghost use Rattle.record_tree.specs.declared.tree_change.TreeChange.{TreeChange};
 ghost use Rattle.std.specs.List.{AllByRecursion};
 ghost use Rattle.log_entry.specs.Body.{IsEntry};
-ghost use Rattle.record_tree.specs.Logged.{entry_for, LogsChanges, is_made, IsFront, IsEndOf, IsLimit};
+ghost use Rattle.record_tree.specs.Logged.{entry_for, most_entries, LogsChanges, is_made, IsFront, IsEndOf, IsLimit, IsUndone};
 
 use crate::{Lacks, TreeChange, TreeErr, TreeName};
 use je_order::TxnId;
@@ -36,6 +36,9 @@ pub trait Records {
     /// The log has room for so many Commits.
     ghost has_room: { Self → ℕ → Type 0 };
 
+    /// How many nodes wait for their images: they were split while no entry could be logged.
+    ghost waits: { Self → ℕ };
+
     /// The cell of the name, where it is occupied.
     fn get(&self, db: u32, name: &SortKey) -> Result<Option<&Cell>, Lacks>
         ensures found { IfOk result (λ found. option_map (λ c. occupied_by c.now) found ≡ value_at name.now (cells self.now db)) }
@@ -56,7 +59,8 @@ pub trait Records {
 
     /// Changes names for the transaction, and logs the changes in order, each behind the images of the nodes that
     /// are split for it. Room for `owed` Commits is left, that of the transaction among them. A database that a
-    /// change makes has an empty tree then. An error but Fault leaves all as it was.
+    /// change makes has an empty tree then. An image of a node that waited for it may be among the others. An error but
+    /// Fault leaves all as it was.
     fn write_all(
         &mut self,
         alloc: Global,
@@ -70,15 +74,13 @@ pub trait Records {
         requires entries { AllByRecursion (λ c. IsEntry (entry_for txn c.db c.name c.value)) changes.now }
         ensures cells { OnOk result (AreWritten txn changes.now (cells self.old) (cells self.new)) }
         ensures trees { OnOk result ((d : ℕ) → has_tree self.new d ≡ (is_made d changes.now || has_tree self.old d)) }
-        ensures grew { OnOk result ((entries : List Entry) × LogsChanges txn changes.now entries × grew self.old self.new entries) }
+        ensures grew { OnOk result ((entries : List Entry) × LogsChanges txn changes.now entries × grew self.old self.new entries × (length entries + waits self.new ≤ waits self.old + most_entries (length changes.now))) }
         ensures left { OnOk result (has_room self.new owed) }
         ensures tried { IsEndOf Reason.Fault result ((entries : List Entry) × (front : List Entry) × LogsChanges txn changes.now entries × IsFront front entries × tried self.old self.new front) }
         ensures limited { IfErr result (λ e. IsLimit e → limit self.old changes.now owed ≡ Some e) }
         ensures room { OnOk result (limit self.old changes.now owed ≡ None) }
         ensures fault_room { IsEndOf Reason.Fault result (limit self.old changes.now owed ≡ None) }
-        ensures same { IfErr result (λ e. IsLimit e → self.new ≡ self.old) }
-        ensures memory { IsEndOf Reason.Memory result (AreSame (cells self.old) (cells self.new) × grew self.old self.new []) }
-        ensures memory_trees { IsEndOf Reason.Memory result ((d : ℕ) → has_tree self.new d ≡ has_tree self.old d) };
+        ensures same { IfErr result (λ e. IsUndone e → AreSame (cells self.old) (cells self.new) × ((d : ℕ) → has_tree self.new d ≡ has_tree self.old d) × grew self.old self.new [] × (waits self.new ≡ waits self.old)) };
 
     /// Commits the changes of these names, which are those of the transaction, and logs its Commit, for which
     /// there is room. It takes no memory, and the one error is Fault.
@@ -89,19 +91,22 @@ pub trait Records {
         ensures left { (owed : ℕ) → has_room self.old (suc owed) → OnOk result (has_room self.new owed) }
         ensures by_fault { IfErr result (λ e. e ≡ Reason.Fault) }
         ensures tried { OnErr result ((front : List Entry) × IsFront front (Commit txn ∷ []) × tried self.old self.new front) }
-        ensures trees { (d : ℕ) → has_tree self.new d ≡ has_tree self.old d };
+        ensures trees { (d : ℕ) → has_tree self.new d ≡ has_tree self.old d }
+        ensures waits { waits self.new ≡ waits self.old };
 
     /// Gives the changes of these names up. It takes no memory and logs nothing.
     fn abort(&mut self, names: &[TreeName])
         ensures cells { HasChangedAll (cells self.old) (cells self.new) names.now after_abort }
         ensures grew { grew self.old self.new [] }
-        ensures trees { (d : ℕ) → has_tree self.new d ≡ has_tree self.old d };
+        ensures trees { (d : ℕ) → has_tree self.new d ≡ has_tree self.old d }
+        ensures waits { waits self.new ≤ waits self.old };
 
     /// Takes the tree of a database out, with its records. It takes no memory and logs nothing.
     fn drop_db(&mut self, db: u32)
         ensures cells { (d : ℕ) → cells self.new d ≡ (if d == db then [] else cells self.old d) }
         ensures trees { (d : ℕ) → has_tree self.new d ≡ (if d == db then false else has_tree self.old d) }
-        ensures grew { grew self.old self.new [] };
+        ensures grew { grew self.old self.new [] }
+        ensures waits { waits self.new ≤ waits self.old };
 
     /// A database without a tree has no records.
     ghost no_cells: { (x : Self) (d : ℕ) → has_tree x d ≡ false → cells x d ≡ [] };

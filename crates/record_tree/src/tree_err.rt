@@ -9,6 +9,6 @@ pub enum TreeErr {
     Full,
     /// No node number is left. Nothing changed.
     IdsEnded,
-    /// Out of memory. No record changed, and the log got nothing.
+    /// Out of memory. Nothing changed.
     Memory,
 }

@@ -1,8 +1,8 @@
 -- The names of changes, and what they have once these are committed.
-use Rattle.std.proofs.Common.{◌≡◌, ◌||◌, ◌∙◌, ℕ, List, [], ◌∷◌, ◌++◌, Bool, true, false, cond, Option, None, Some, is_some, find, reverse, refl, ap, sym, subst, Result, Ok, Err, OnOk, OnErr}
+use Rattle.std.proofs.Common.{◌≡◌, ◌||◌, ◌∙◌, ℕ, List, [], ◌∷◌, ◌++◌, Bool, true, false, cond, Option, None, Some, is_some, find, reverse, refl, ap, sym, subst, Result, Ok, Err, OnOk, OnErr, ◌+◌, ◌≤◌, length, arith}
 use Rattle.std.specs.List.{AllByRecursion}
 use Rattle.std.specs.Option.{option_or}
-use Rattle.std.proofs.lemmas.List.{reverse-append, append_assoc}
+use Rattle.std.proofs.lemmas.List.{reverse-append, append_assoc, length-append}
 use Rattle.std.proofs.lemmas.List.Folds.{find-append}
 use Rattle.je_order.specs.declared.name.Name.{Name}
 use Rattle.je_order.specs.declared.txn_id.TxnId.{TxnId}
@@ -97,6 +97,10 @@ module _ (txn : TxnId) (changes : List TreeChange) (gone : Option ℕ) (old mid 
 
 pub logs_commit : (txn : TxnId) (changes : List TreeChange) (entries : List Entry) → LogsChanges txn changes entries → LogsTransaction txn changes (entries ++ Commit txn ∷ [])
 logs_commit txn changes entries logs = (entries, logs, refl)
+
+-- so many entries, and a Commit behind them, where fewer nodes wait at the end
+pub entries_few : (txn : TxnId) (entries : List Entry) (old mid new most : ℕ) → length entries + mid ≤ old + most → new ≤ mid → length (entries ++ Commit txn ∷ []) + new ≤ old + (most + 1)
+entries_few txn entries old mid new most few fewer = let count = length-append entries (Commit txn ∷ []) in omega (arith, few, fewer, count)
 
 -- a front of the changes' entries is one of the transaction's
 front_before : (front entries more : List Entry) → IsFront front entries → IsFront front (entries ++ more)

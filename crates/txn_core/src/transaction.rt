@@ -1,10 +1,10 @@
 // Changes that are one transaction.
-ghost use Rattle.std.specs.Prelude.{◌≡◌, ℕ, suc, List, [], ◌∷◌, true, false, IfErr, IfOk, IfSome, OnOk, OnErr, if◌then◌else◌};
+ghost use Rattle.std.specs.Prelude.{◌≡◌, ◌≤◌, ◌+◌, ℕ, suc, length, List, [], ◌∷◌, true, false, IfErr, IfOk, IfSome, OnOk, OnErr, if◌then◌else◌};
 ghost use Rattle.std.specs.List.{AllByRecursion};
 ghost use Rattle.log_entry.specs.Body.{IsEntry};
 ghost use Rattle.log_entry.specs.declared.entry.Entry.{Entry};
 ghost use Rattle.log_entry.specs.declared.entry.Entry.TheVariants.{Commit};
-ghost use Rattle.record_tree.specs.Logged.{entry_for, IsLimit, IsEndOf, IsFront, LogsTransaction};
+ghost use Rattle.record_tree.specs.Logged.{entry_for, most_entries, IsLimit, IsUndone, IsEndOf, IsFront, LogsTransaction};
 ghost use Rattle.record_tree.specs.Occupied.{AreSame};
 ghost use Rattle.record_tree.specs.declared.tree_err.TreeErr.{TreeErr as Reason};
 ghost use Rattle.txn_core.specs.Known.{IsQuiet};
@@ -33,6 +33,7 @@ fn drop_gone<T: Records>(trees: &mut T, gone: Option<u32>)
     ensures cells { (d : ℕ) → T.cells trees.new d ≡ (if is_gone d gone then [] else T.cells trees.old d) }
     ensures trees { (d : ℕ) → T.has_tree trees.new d ≡ (if is_gone d gone then false else T.has_tree trees.old d) }
     ensures grew { T.grew trees.old trees.new [] }
+    ensures waits { T.waits trees.new ≤ T.waits trees.old }
 {
     match gone {
         Some(db) => trees.drop_db(db),
@@ -51,6 +52,7 @@ fn commit_names<T: Records>(
     ensures cells { OnOk result (IsCommittedAmong names.now gone (T.cells trees.old) (T.cells trees.new)) }
     ensures trees { OnOk result ((d : ℕ) → T.has_tree trees.new d ≡ (if is_gone d gone then false else T.has_tree trees.old d)) }
     ensures grew { OnOk result (T.grew trees.old trees.new (Commit txn ∷ [])) }
+    ensures waits { T.waits trees.new ≤ T.waits trees.old }
     ensures by_fault { IfErr result (λ e. e ≡ Reason.Fault) }
     ensures tried { OnErr result ((front : List Entry) × IsFront front (Commit txn ∷ []) × T.tried trees.old trees.new front) }
 {
@@ -62,9 +64,9 @@ fn commit_names<T: Records>(
 /// Makes changes as one transaction: writes them, logs its Commit, and then drops the tree of the database `gone` with its
 /// records. Before the call no name has a change of an active transaction, and after it none has.
 ///
-/// Full and IdsEnded: the log, or the numbers of nodes, have no room for the changes and a Commit; nothing changed. Memory: no
-/// record changed, and the log got nothing. Fault: the disk failed; the log may have a front of the transaction, and what the
-/// trees have is not said.
+/// Full and IdsEnded: the log, or the numbers of nodes, have no room for the changes and a Commit. Neither these nor Memory
+/// change anything. Fault: the disk failed; the log may have a front of the transaction, and what the trees have is not
+/// said.
 pub fn commit_changes<T: Records>(
     trees: &mut T,
     alloc: Global,
@@ -79,13 +81,12 @@ pub fn commit_changes<T: Records>(
     ensures values { OnOk result (HasCommitted changes.now gone (T.cells trees.old) (T.cells trees.new)) }
     ensures quiet { OnOk result (IsQuiet (T.cells trees.new)) }
     ensures trees { OnOk result (HasTreesAfter changes.now gone (T.has_tree trees.old) (T.has_tree trees.new)) }
-    ensures grew { OnOk result ((entries : List Entry) × LogsTransaction txn changes.now entries × T.grew trees.old trees.new entries) }
+    ensures grew { OnOk result ((entries : List Entry) × LogsTransaction txn changes.now entries × T.grew trees.old trees.new entries × (length entries + T.waits trees.new ≤ T.waits trees.old + (most_entries (length changes.now) + 1))) }
     ensures tried { IsEndOf Reason.Fault result ((entries : List Entry) × (front : List Entry) × LogsTransaction txn changes.now entries × IsFront front entries × T.tried trees.old trees.new front) }
     ensures limited { IfErr result (λ e. IsLimit e → T.limit trees.old changes.now 1 ≡ Some e) }
     ensures room { OnOk result (T.limit trees.old changes.now 1 ≡ None) }
     ensures fault_room { IsEndOf Reason.Fault result (T.limit trees.old changes.now 1 ≡ None) }
-    ensures same { IfErr result (λ e. IsLimit e → trees.new ≡ trees.old) }
-    ensures memory { IsEndOf Reason.Memory result (AreSame (T.cells trees.old) (T.cells trees.new) × T.grew trees.old trees.new [] × ((d : ℕ) → T.has_tree trees.new d ≡ T.has_tree trees.old d)) }
+    ensures same { IfErr result (λ e. IsUndone e → AreSame (T.cells trees.old) (T.cells trees.new) × ((d : ℕ) → T.has_tree trees.new d ≡ T.has_tree trees.old d) × T.grew trees.old trees.new [] × (T.waits trees.new ≡ T.waits trees.old)) }
 {
     let Ok(names) = changed_names(alloc, changes) else {
         return Err(TreeErr::Memory);

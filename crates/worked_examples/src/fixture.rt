@@ -34,6 +34,27 @@ pub const RUN: [&str; 3] = ["run", "--home", "store"];
 
 pub const RUN_SMALL: [&str; 5] = ["run", "--home", "store", "--file-max", "4096"];
 
+// Those of one for nodes of at most four slots, and of one for nodes of at most 128 with log files of 65,536 bytes.
+pub const RUN_NARROW: [&str; 7] = [
+    "run",
+    "--home",
+    "store",
+    "--file-max",
+    "65536",
+    "--fanout",
+    "4",
+];
+
+pub const RUN_WIDE: [&str; 7] = [
+    "run",
+    "--home",
+    "store",
+    "--file-max",
+    "65536",
+    "--fanout",
+    "128",
+];
+
 // A file's header, which is the whole log of an empty store.
 pub const HEADER: &[u8] = b"\
 \x0c\xb3\x01\x31\

@@ -18,3 +18,5 @@ mod files;
 mod fixture;
 #[cfg(test)]
 mod reports;
+#[cfg(test)]
+mod splitting;

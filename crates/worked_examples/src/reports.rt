@@ -44,7 +44,7 @@ fn create_put_get(rt: HostRuntime) -> Result<(), Fail> {
 }
 
 // Invalid arguments and scripts outside the grammar, with the status and what is written.
-static WRONG: [(&[&str], &[u8], u8, &str); 10] = [
+static WRONG: [(&[&str], &[u8], u8, &str); 12] = [
     (&[], FIRST, 2, "fault usage\n"),
     (&["run"], FIRST, 2, "fault usage\n"),
     (&["run", "--home"], FIRST, 2, "fault usage\n"),
@@ -58,6 +58,18 @@ static WRONG: [(&[&str], &[u8], u8, &str); 10] = [
     ),
     (
         &["run", "--home", "store", "--file-max", "x"],
+        FIRST,
+        2,
+        "fault usage\n",
+    ),
+    (
+        &["run", "--home", "store", "--fanout", "3"],
+        FIRST,
+        2,
+        "fault usage\n",
+    ),
+    (
+        &["run", "--home", "store", "--fanout", "129"],
         FIRST,
         2,
         "fault usage\n",

@@ -14,8 +14,9 @@ wanting old new e = ap app_of_fields e
 
 pub returns : goal.returns
 returns c =
-    let run_is : app_of c.in_ok-run.run' ≡ run_command = c.in_ok-run.ensures.shape c.file_max.ensures.local
-    ∙ ap₂ with_rule (c.in_ok-arg.ensures.shape c.home.ensures.local ∙ ap₂ with_rule c.new.ensures.app c.home.ensures.rule) c.file_max.ensures.rule in
+    let run_is : app_of c.in_ok-run.run' ≡ run_command = c.in_ok-run.ensures.shape c.fanout.ensures.local
+    ∙ ap₂ with_rule (c.in_ok-arg-2.ensures.shape c.file_max.ensures.local
+    ∙ ap₂ with_rule (c.in_ok-arg.ensures.shape c.home.ensures.local ∙ ap₂ with_rule c.new.ensures.app c.home.ensures.rule) c.file_max.ensures.rule) c.fanout.ensures.rule in
     let top_is : app_of c.subcommand_required-jedb.result ≡ on_top (λ s. record s { no_binary_name = true; subcommand_required = true }) (new_app (codes "jedb"))
     = wanting c.no_binary_name.result c.subcommand_required-jedb.result c.subcommand_required-jedb.ensures
     ∙ ap (on_top (λ s. record s { subcommand_required = true })) (unnamed c.new-2.result c.no_binary_name.result c.no_binary_name.ensures)

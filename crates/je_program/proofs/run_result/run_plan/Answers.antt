@@ -6,12 +6,13 @@ use Rattle.store_model.specs.declared.store.Store.{Store}
 use Rattle.je_answers.specs.Journal.{lines_of}
 use Rattle.engine.specs.Whole.{disk_of, reach_of}
 use Rattle.engine.specs.Crash.{KeepsEntry}
-use Rattle.engine.specs.Limits.{AreBounded, Reach}
+use Rattle.engine.specs.Opening.{reach_in}
 use Rattle.je_program.specs.Crash.{IsSafeProgram}
 use Rattle.je_program.specs.Program.{EndsBy, ClosesRun, IsRunOf, RunsIf, cause_of_opening, is_before_disk}
 use Rattle.je_program.specs.Run.{AreFirstLines, of_session}
 use Rattle.je_program.proofs.BeginLaws.{opened_as_one, starts_valid}
 use Rattle.je_program.proofs.FinishLaws.{done_acknowledged, done_is_no_memory, ran_cause, runs_if, ran_after_reading, ran_not_unreadable, ends_by, caused_earlier}
+use Rattle.je_program.proofs.RunLaws.{bounded_far}
 use Rattle.je_program.specs.declared.cause.Cause.{Cause}
 use Rattle.je_program.specs.Untouched.{LeavesUnreadable}
 use Rattle.je_program.proofs.StopLaws.{stopped_after_reading, stopped_caused, stopped_failed, stopped_numbers, stopped_runs, stopped_unreadable}
@@ -34,7 +35,7 @@ returns-in-Ok-clause-run g c = λ is_opened.
     let history = g.D.Disk.history in
     let engine = c.in-Ok.opened.engine in
     let opening = c.in-Ok.opened.opening in
-    let most = c.args.file_max in
+    let most = c.args.config.file_max in
     let journal = c.run-running.result.journal.items in
     let cause = f.result.cause in
     let totals = f.result.totals in
@@ -60,7 +61,7 @@ returns-in-Ok-clause-run g c = λ is_opened.
       starts = at.starts;
       limits = running.limits;
       answers = running.answers;
-      bounded = subst (λ (r : Reach). AreBounded r st journal running.limits) at.reach running.bounded;
+      bounded = bounded_far first (reach_in at.starts.held at.starts.meaning) st journal running.limits at.reach running.bounded;
       synced_at_once = running.synced;
       only = running.only;
       acknowledged = λ done. done_acknowledged st journal cause done

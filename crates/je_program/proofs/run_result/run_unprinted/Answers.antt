@@ -21,7 +21,7 @@ pub returns-in-Ok-clause-runs : goal.returns-in-Ok-clause-runs
 returns-in-Ok-clause-runs g c = c.run_plan.ensures.runs
 
 pub returns-in-Ok-clause-run : goal.returns-in-Ok-clause-run
-returns-in-Ok-clause-run g c = λ opened. (let r = c.run_plan.ensures.run opened in (c.in-Ok.field-0.file_max, r.0, c.in-Ok.ensures.file_max, r.1))
+returns-in-Ok-clause-run g c = λ opened. (let r = c.run_plan.ensures.run opened in (c.in-Ok.field-0.config.file_max, r.0, c.in-Ok.ensures.file_max, r.1))
 
 pub returns-in-Ok-clause-crash_unopened : goal.returns-in-Ok-clause-crash_unopened
 returns-in-Ok-clause-crash_unopened g c = c.run_plan.ensures.crash_unopened

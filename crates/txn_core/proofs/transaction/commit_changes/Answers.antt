@@ -1,11 +1,11 @@
-use Rattle.std.proofs.Common.{rules, [], ◌∷◌, ◌++◌, ◌∙◌, ◌≡◌, subst, List}
+use Rattle.std.proofs.Common.{rules, [], ◌∷◌, ◌++◌, ◌∙◌, ◌≡◌, subst, List, length}
 use Rattle.log_entry.specs.declared.entry.Entry.{Entry}
 use Rattle.log_entry.specs.declared.entry.Entry.TheVariants.{Commit}
 use Rattle.record_tree.specs.declared.tree_name.TreeName.{TreeName}
 use Rattle.record_tree.specs.declared.tree_err.TreeErr.{TreeErr as Reason}
-use Rattle.record_tree.specs.Logged.{LogsTransaction, IsFront}
+use Rattle.record_tree.specs.Logged.{LogsTransaction, IsFront, most_entries}
 use Rattle.txn_core.specs.Transactions.{IsCommittedAmong}
-use Rattle.txn_core.proofs.Committing.{values_then, quiet_then, logs_commit, tried_with, front_behind, ok_then, ends_by}
+use Rattle.txn_core.proofs.Committing.{entries_few, values_then, quiet_then, logs_commit, tried_with, front_behind, ok_then, ends_by}
 use Rattle.txn_core.proofs.transaction.commit_changes.Goals as goal
 
 pub returns-in_err-write_all-clause-tried : goal.returns-in_err-write_all-clause-tried
@@ -38,6 +38,7 @@ returns-clause-grew g c =
       wrote.0 ++ Commit c.args.txn ∷ [],
       logs_commit c.args.txn c.args.changes.now wrote.0 wrote.1,
       g.met.T.Records.grew_then c.args.trees.now c.write_all.new.self c.commit_names.new.trees wrote.0 (Commit c.args.txn ∷ []) wrote.2 grew,
+      entries_few c.args.txn wrote.0 (g.T.Records.waits c.args.trees.now) (g.T.Records.waits c.write_all.new.self) (g.T.Records.waits c.commit_names.new.trees) (most_entries (length c.args.changes.now)) wrote.3 c.commit_names.ensures.waits,
     ))
     c.commit_names.ensures.grew
 

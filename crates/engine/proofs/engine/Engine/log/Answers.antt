@@ -5,7 +5,7 @@ use Rattle.in_tree.specs.Observed.{has_tree_of, limit_in}
 use Rattle.store_model.specs.declared.store.TheConstants.{LAST_DATABASE}
 use Rattle.engine.specs.Limits.{last_number, numbers_for}
 use Rattle.engine.specs.Steps.{txn_of}
-use Rattle.engine.proofs.LogLaws.{appended_all, neither, no_limit, rows_logged, within_last}
+use Rattle.engine.proofs.LogLaws.{appended_all, near_logged, neither, no_limit, rows_logged, within_last}
 use Rattle.engine.proofs.engine.Engine.log.Goals as goal
 
 pub commit_changes-requires-clause-new : goal.commit_changes-requires-clause-new
@@ -43,3 +43,9 @@ returns-in-Ok-clause-logs g c =
       no_limit _ kept.last_node count (subst (λ (cs : List TreeChange). limit_in old cs 1 ≡ None) same c.in-Ok.ensures.room) left.1,
       appended_all D.observable D.history D.sync_out D.read_out D.read_of D.faults old new (txn_of (kept.last_txn + 1)) planned slice same c.in-Ok.ensures.grew,
     )
+
+pub returns-in-Ok-clause-near : goal.returns-in-Ok-clause-near
+returns-in-Ok-clause-near g c =
+    let D = g.D.Disk in
+    near_logged D.observable D.history D.sync_out D.read_out D.read_of D.faults c.args.self.now.trees c.commit_changes.new.trees (txn_of (c.args.self.now.kept.last_txn + 1)) c.args.planned c.as_slice.result.now c.as_slice.ensures.value
+    c.in-Ok.ensures.grew

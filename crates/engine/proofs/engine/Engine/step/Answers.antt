@@ -313,12 +313,12 @@ returns-in-Logs-clause-grows g c = λ most st here.
     (c.in_ok-answer.ensures p c.args.session (model most g.D.Disk.observable state engine.trees.log (contents_of engine) p here.at.here none c.if-self-ge-LAST_TXN.false)) in
     subst (λ (s : Standing). IsWithin (reach_of new) (reach_after (reach_of engine) (changes_of (early_refusal s c.args.session c.args.call.now) s c.args.session c.args.call.now))) (sym here.at.st_is)
     (logs_grow g.D.Disk.observable g.D.Disk.history g.D.Disk.sync_out g.D.Disk.read_out g.D.Disk.read_of engine new p c.args.session c.args.call.now c.in-Logs.planned (limit_in engine.trees c.in-Logs.planned.changes.items 1) c.log.result
-    none c.requires.call planned c.log.ensures.logs)
+    none c.requires.call planned c.log.ensures.logs c.log.ensures.near)
 
 pub returns-in-Logs-clause-same_reach : goal.returns-in-Logs-clause-same_reach
 returns-in-Logs-clause-same_reach g c =
     let engine = c.args.self.now in
-    logs_stay g.D.Disk.observable g.D.Disk.history g.D.Disk.sync_out g.D.Disk.read_out g.D.Disk.read_of engine c.log.new.self c.in-Logs.planned (limit_in engine.trees c.in-Logs.planned.changes.items 1) c.log.result c.log.ensures.logs
+    logs_stay g.D.Disk.observable g.D.Disk.history g.D.Disk.sync_out g.D.Disk.read_out g.D.Disk.read_of engine c.log.new.self c.in-Logs.planned (limit_in engine.trees c.in-Logs.planned.changes.items 1) c.log.result c.log.ensures.logs c.log.ensures.near
 
 pub returns-in-Logs-clause-crash : goal.returns-in-Logs-clause-crash
 returns-in-Logs-clause-crash g c = λ observed most st start journal here is.
