@@ -9,10 +9,10 @@ use Rattle.lock_mode.specs.declared.lock_type.LockType.{LockType}
 use Rattle.waits_for.specs.Cycles.{is_in, closes_by}
 use Rattle.lock_table.specs.declared.lock.Lock.{Lock}
 use Rattle.lock_table.specs.declared.record_id.RecordId.{RecordId}
-use Rattle.lock_table.specs.Locks.{is_of, has_lock, held_by, is_blocking, is_blocked, waited_for, without_txn, with_lock, after_ask, after_cancel, after_release, after_give_back, WasHeld}
+use Rattle.lock_table.specs.Locks.{is_of, has_lock, held_by, is_blocking, is_blocked, waited_for, without_txn, with_lock, after_ask, after_cancel, after_read, after_release, after_give_back, WasHeld}
 use Rattle.je_order.specs.Transactions.{is_same_txn}
 use Rattle.lock_table.specs.Records.{is_record}
-use Rattle.lock_table.specs.Table.{Locks, locks_at, pending_at, is_waiting, waits_for, IsLockTable, IsSameTable}
+use Rattle.lock_table.specs.Table.{Locks, locks_at, pending_at, is_waiting, was_granted, waits_for, IsLockTable, IsSameTable}
 use Rattle.je_order.proofs.TxnIds.{same_is, same_either, same_itself}
 use Rattle.lock_table.proofs.QueueMaps.{record_is}
 use Rattle.lock_table.proofs.RecordCalls.{cancel_nothing}
@@ -20,7 +20,7 @@ use Rattle.lock_table.proofs.WholeTable.{cancel_asked}
 use Rattle.lock_table.proofs.CallSteps.{record_same}
 use Rattle.lock_mgr.specs.Deadlock.{waits, waits_with, HasNoCycle, NoDeadlock, AreVictims, others, without_waits}
 use Rattle.lock_mgr.proofs.CycleLaws.{GrowsFrom, still_none, within_none, within_cycle, none_after, on_cycle, apart_cycle, victim_waits}
-use Rattle.lock_mgr.proofs.WaitsForLaws.{Queue, waits_on, wait_parts, found_without, none_without, waits_cancel, waits_release, waits_give_back, waits_taken, waits_parts, waits_from, waits_has, waits_not, waits_none}
+use Rattle.lock_mgr.proofs.WaitsForLaws.{Queue, waits_on, wait_parts, found_without, none_without, waits_cancel, waits_release, waits_give_back, waits_read, waits_taken, waits_parts, waits_from, waits_has, waits_not, waits_none}
 
 pub some_if : {X : Type 0} (n o : Option X) (b : Bool) (r : X) → n ≡ cond b None o → n ≡ Some r → (b ≡ false) × (o ≡ Some r)
 some_if n o true r e h = absurd (cc (e, h))
@@ -62,6 +62,27 @@ free_give_back v w t at was h n s held wh l p = record { sound = s; free = still
         (λ b. let q = l k.at ∙ cond-false (is_record at k.at) (after_give_back t was (locks_at k.at v)) (locks_at k.at v) b in
         inl (waits_from v x y k.at (sym (p x) ∙ k.pending) (subst (λ (u : Queue). waits_on x y u ≡ true) q k.on)))
         (cases_Bool (is_record at k.at))
+
+-- locks of no more than READ go
+pub free_read : (v w : Locks) (t : TxnId) → NoDeadlock v → IsLockTable w → ((r : RecordId) → locks_at r w ≡ after_read t (locks_at r v)) → ((x : TxnId) → pending_at x w ≡ pending_at x v) → NoDeadlock w
+free_read v w t n s l p = record { sound = s; free = still_none (waits v) (waits w) grows n.free }
+  where
+    grows : GrowsFrom (waits v) (waits w)
+    grows x y h =
+        let k = waits_parts w x y h in
+        ⊎_elim
+        (λ o. inl (waits_from v x y k.at (sym (p x) ∙ k.pending) o))
+        (λ g. inr (waits_not w y k.at (p y ∙ n.sound.alone y k.at g.0) (ap (λ (u : Queue). has_lock y u.1) (l k.at) ∙ g.1)))
+        (waits_read x y t (held_by t (locks_at k.at v).0) (locks_at k.at v) refl (n.sound.settled k.at).owners.apart (n.sound.settled k.at).apart (subst (λ (u : Queue). waits_on x y u ≡ true) (l k.at) k.on))
+
+-- where a transaction was told to wait is forgotten
+pub free_forget : (v w : Locks) (t : TxnId) → NoDeadlock v → IsLockTable w → ((r : RecordId) → locks_at r w ≡ locks_at r v) → ((x : TxnId) → pending_at x w ≡ cond (is_same_txn t x && was_granted t v) None (pending_at x v)) → NoDeadlock w
+free_forget v w t n s l p = record {
+  sound = s;
+  free = within_none (waits v) (waits w) (λ x y h.
+      let k = waits_parts w x y h in
+      waits_from v x y k.at (some_if _ (pending_at x v) _ k.at (p x) k.pending).1 (subst (λ (q : Queue). waits_on x y q ≡ true) (l k.at) k.on)) n.free;
+}
 
 pub free_granted : (v w : Locks) (at : RecordId) (a : Lock) → NoDeadlock v → IsLockTable w → is_blocked (locks_at at v).0 a ≡ false
     → ((r : RecordId) → locks_at r w ≡ cond (is_record at r) (after_ask a (locks_at r v)) (locks_at r v)) → ((x : TxnId) → pending_at x w ≡ cond (is_same_txn a.txn x) None (pending_at x v)) → NoDeadlock w

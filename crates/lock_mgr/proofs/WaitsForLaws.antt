@@ -6,13 +6,14 @@ use Rattle.std.proofs.lemmas.List.Folds.{list_any-append}
 use Rattle.std.proofs.lemmas.Bool.{and_parts, and_from, and_right, both_ways, false_from_ne_true, true_from_ne_false, false≢true, or_parts, or_cases, or_from, or_left, or_right, cases_Bool, cond-true, cond-false}
 use Rattle.je_order.specs.declared.txn_id.TxnId.{TxnId}
 use Rattle.lock_mode.specs.declared.lock_type.LockType.{LockType}
+use Rattle.lock_mode.specs.declared.lock_type.LockType.TheVariants.{Read}
 use Rattle.lock_mode.specs.Modes.{can_be_held, conflicts_with, upgraded}
 use Rattle.lock_mode.proofs.Laws.{laws}
 use Rattle.waits_for.specs.Cycles.{is_in}
 use Rattle.je_order.specs.Transactions.{is_same_txn}
 use Rattle.lock_table.specs.declared.lock.Lock.{Lock}
 use Rattle.lock_table.specs.declared.record_id.RecordId.{RecordId}
-use Rattle.lock_table.specs.Locks.{is_of, has_lock, without_txn, held_by, is_blocking, waited_for, upgraded_by, set_by, with_lock, granted, after_cancel, after_release, after_give_back, WasHeld, AreApart}
+use Rattle.lock_table.specs.Locks.{is_of, has_lock, without_txn, held_by, is_blocking, waited_for, upgraded_by, set_by, with_lock, granted, after_cancel, after_release, after_give_back, read_given_back, WasHeld, AreApart}
 use Rattle.lock_table.specs.Table.{Locks, locks_at, pending_at}
 use Rattle.lock_table.proofs.OwnersAndWaits.{any_filter}
 use Rattle.je_order.proofs.TxnIds.{same_is, same_either}
@@ -174,6 +175,11 @@ waits_give_back x y t None h q b a e wh k = ⊎_elim
 waits_give_back x y t (Some m) h q b a e wh k = ⊎_elim
     (λ i. let p = wait_parts x y (map (set_by t m) q.0, q.1) i in inl (wait_from x y q p.0 p.1 (blocks_set p.0 y t m h wh.1 q.0 (held_each t h q.0 b e) p.2)))
     inr (waits_granted x y (map (set_by t m) q.0) q.1 a k)
+
+-- the same where a lock of no more than READ goes
+pub waits_read : (x y t : TxnId) (held : Option LockType) (q : Queue) → held_by t q.0 ≡ held → AreApart q.0 → AreApart q.1 → waits_on x y (read_given_back t held q) ≡ true → (waits_on x y q ≡ true) ⊎ (IsGranted y q.1 (read_given_back t held q).1)
+waits_read x y t (Some Read) q e b a k = waits_give_back x y t None Read q b a e tt k
+waits_read x y t held q e b a k = inl k
 
 pub waits_taken : (x y : TxnId) (v : Lock) (q : Queue) → waits_on x y (with_lock v q.0, q.1) ≡ true → (waits_on x y q ≡ true) ⊎ (is_same_txn y v.txn ≡ true)
 waits_taken x y v q h = let p = wait_parts x y (with_lock v q.0, q.1) h in ⊎_elim (λ b. inl (wait_from x y q p.0 p.1 b)) inr (blocks_lock p.0 v y q.0 p.2)

@@ -1,14 +1,15 @@
 // The lock manager.
 ghost use Rattle.std.specs.Prelude.{◌≡◌, ◌&&◌, ◌∷◌, ◌++◌, ◌<◌, ◌==◌, ◌↔◌, [], map, not, length, true, false, None, Some, if◌then◌else◌, IfOk, OnOk, OnErr};
-ghost use Rattle.std.specs.Option.{IfSome, IsSome, is_some, option_map_or};
+ghost use Rattle.std.specs.Option.{IfSome, IfNone, IsSome, is_some, option_map_or};
+ghost use Rattle.std.specs.List.{AllByRecursion};
 ghost use Rattle.je_order.specs.declared.txn_id.TxnId.{TxnId};
 ghost use Rattle.lock_mode.specs.declared.lock_type.LockType.{LockType};
 ghost use Rattle.waits_for.specs.Cycles.{is_in, is_edge, closes_by};
 ghost use Rattle.lock_table.specs.declared.record_id.RecordId.{RecordId};
-ghost use Rattle.lock_table.specs.Locks.{lock_of, held_by, blocker, is_blocked, writer_in, after_ask, after_cancel, after_release, after_give_back, WasHeld};
+ghost use Rattle.lock_table.specs.Locks.{lock_of, held_by, blocker, is_blocked, is_range, writer_in, after_ask, after_cancel, after_read, after_release, after_give_back, WasHeld};
 ghost use Rattle.je_order.specs.Transactions.{is_same_txn};
 ghost use Rattle.lock_table.specs.Records.{is_record};
-ghost use Rattle.lock_table.specs.Table.{locks_at, pending_at, is_waiting, was_granted, wait_pairs, holder_of, IsLockTable};
+ghost use Rattle.lock_table.specs.Table.{locks_at, pending_at, is_waiting, was_granted, wait_pairs, holder_of, IsToldIn, IsLockTable};
 ghost use Rattle.lock_mgr.specs.Deadlock.{waits, waits_with, NoDeadlock, AreVictims, owner_of, victims_of as victims_in, taken_back, without_waits, HasSomeVictims};
 
 use crate::Requested;
@@ -42,6 +43,7 @@ impl LockMgr {
     pub fn new(alloc: Global) -> LockMgr
         ensures locks { (r : RecordId) → locks_at r result ≡ ([], []) }
         ensures pending { (t : TxnId) → pending_at t result ≡ None }
+        ensures free { NoDeadlock result }
     {
         LockMgr {
             table: LockTable::new(alloc),
@@ -51,7 +53,7 @@ impl LockMgr {
     /// Asks for a lock. Where it conflicts with another owner it waits, or, without `wait`, is not
     /// available. A wait that closes cycles costs the greatest transaction of each its wait, one after
     /// another; these are the victims. The only error is out of memory: then no lock and no wait is
-    /// changed, and the transaction has no wait any more that was granted.
+    /// changed, and where the transaction was told to wait may be forgotten, if that wait was granted.
     pub fn request(
         &mut self,
         alloc: Global,
@@ -70,6 +72,7 @@ impl LockMgr {
         ensures told { IfOk result HasSomeVictims }
         ensures err { OnErr result ((r : RecordId) → locks_at r self.new ≡ locks_at r self.old) }
         ensures err_pending { OnErr result ((t : TxnId) → is_same_txn txn t ≡ false → pending_at t self.new ≡ pending_at t self.old) }
+        ensures err_own { OnErr result (pending_at txn self.old ≡ None → pending_at txn self.new ≡ None) }
         ensures free { NoDeadlock self.new }
     {
         request_in(&mut self.table, alloc, txn, at, asked, wait)
@@ -84,6 +87,16 @@ impl LockMgr {
         self.table.cancel(txn);
     }
 
+    /// Forgets where the transaction was told to wait, if that wait was granted: its call goes on. It takes
+    /// no memory.
+    pub fn forget(&mut self, txn: TxnId)
+        ensures locks { (r : RecordId) → locks_at r self.new ≡ locks_at r self.old }
+        ensures pending { (t : TxnId) → pending_at t self.new ≡ (if is_same_txn txn t && was_granted txn self.old then None else pending_at t self.old) }
+        ensures free { NoDeadlock self.new }
+    {
+        self.table.forget(txn);
+    }
+
     /// Makes the transaction's lock on a record what it was before, and grants the waits that it stood
     /// in the way of, as a release does. It takes no memory.
     pub fn give_back(&mut self, txn: TxnId, at: &RecordId, was: Option<LockType>)
@@ -96,6 +109,16 @@ impl LockMgr {
         self.table.give_back(txn, at, was);
     }
 
+    /// Takes each lock of the transaction that is no more than READ, and grants the waits that it stood in
+    /// the way of, as a release does. It looks at each of the transaction's records, and takes no memory.
+    pub fn give_back_reads(&mut self, txn: TxnId)
+        ensures locks { (r : RecordId) → locks_at r self.new ≡ after_read txn (locks_at r self.old) }
+        ensures pending { (t : TxnId) → pending_at t self.new ≡ pending_at t self.old }
+        ensures free { NoDeadlock self.new }
+    {
+        self.table.give_back_reads(txn);
+    }
+
     /// Takes all the transaction's locks and its wait, and grants each of these records' waits in order
     /// of arrival where it conflicts with no other owner. It takes no memory.
     pub fn release_all(&mut self, txn: TxnId)
@@ -104,6 +127,22 @@ impl LockMgr {
         ensures free { NoDeadlock self.new }
     {
         self.table.release_all(txn);
+    }
+
+    /// The least owner with which a request would conflict. It asks for nothing, and takes no memory.
+    pub fn blocker(&self, txn: TxnId, at: &RecordId, asked: LockType) -> Option<TxnId>
+        ensures owner { result ≡ blocker (lock_of txn asked) (locks_at at.now self.now).0 }
+        ensures free { NoDeadlock self.now }
+    {
+        self.table.blocker(txn, at, asked)
+    }
+
+    /// Whether an owner may have a lock of a range type: one that asked for such a lock has not ended. It
+    /// is false only where no owner has one, so that a RANGE_INSERT would conflict with none.
+    pub fn has_ranges(&self) -> bool
+        ensures { result ≡ false → (r : RecordId) → AllByRecursion (λ o. is_range o.mode ≡ false) (locks_at r self.now).0 }
+    {
+        self.table.has_ranges()
     }
 
     /// Whether a wait of the transaction was granted, and it has neither asked nor ended since.
@@ -122,7 +161,8 @@ impl LockMgr {
 
     /// The type that the transaction holds on a record.
     pub fn held(&self, txn: TxnId, at: &RecordId) -> Option<LockType>
-        ensures { result ≡ held_by txn (locks_at at.now self.now).0 }
+        ensures held { result ≡ held_by txn (locks_at at.now self.now).0 }
+        ensures free { NoDeadlock self.now }
     {
         self.table.held(txn, at)
     }
@@ -154,6 +194,15 @@ impl LockMgr {
     {
         self.table.holder_in(db)
     }
+
+    /// A transaction that was last told to wait on a record of the database, if there is one: its wait
+    /// stands, or it was granted and its call has not gone on. It looks at every wait.
+    pub fn waiter_in(&self, db: u32) -> Option<TxnId>
+        ensures told { IfSome result (λ t. IsToldIn db t self.now) }
+        ensures none { IfNone result ((t : TxnId) → IsToldIn db t self.now → ⊥) }
+    {
+        self.table.waiter_in(db)
+    }
 }
 
 // A request: its lock is granted, or it waits and no cycle is left, or it is not to wait.
@@ -176,6 +225,7 @@ fn request_in(
     ensures told { IfOk result HasSomeVictims }
     ensures err { OnErr result ((r : RecordId) → locks_at r table.new ≡ locks_at r table.old) }
     ensures err_pending { OnErr result ((t : TxnId) → is_same_txn txn t ≡ false → pending_at t table.new ≡ pending_at t table.old) }
+    ensures err_own { OnErr result (pending_at txn table.old ≡ None → pending_at txn table.new ≡ None) }
     ensures free { NoDeadlock table.new }
 {
     match table.ask(alloc, txn, at, asked)? {
@@ -204,6 +254,7 @@ fn blocked_in(
     ensures told { IfOk result HasSomeVictims }
     ensures err { OnErr result ((r : RecordId) → locks_at r table.new ≡ after_cancel txn (locks_at r table.old)) }
     ensures err_pending { OnErr result ((t : TxnId) → is_same_txn txn t ≡ false → pending_at t table.new ≡ pending_at t table.old) }
+    ensures err_own { OnErr result (pending_at txn table.new ≡ None) }
     ensures free { NoDeadlock table.new }
 {
     if !wait {

@@ -10,12 +10,18 @@ pub mod Owners
 pub mod RecordCalls
 -- A change of one record's queue, read at every record.
 pub mod QueueMaps
+-- A lock of no more than READ that goes: what it keeps of one record.
+pub mod QueueReads
 -- What each call keeps of the whole table.
 pub mod WholeTable
 -- A change of one transaction's list of records, read at every transaction and record.
 pub mod RecordLists
+-- Locks of a range type are those of transactions that asked for one: what each call keeps of it.
+pub mod RangeLocks
 -- Single steps of the calls.
 pub mod CallSteps
+-- Locks of no more than READ that go, in the map of queues.
+pub mod ReadLocks
 -- The records of one database stand between the end of the one before it and its own end.
 pub mod DatabaseRanges
 -- Walks along a list: what was found so far, and what the rest gives.

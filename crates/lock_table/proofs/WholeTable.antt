@@ -1,16 +1,18 @@
 -- What each call keeps of the whole table.
-use Rattle.std.proofs.Common.{◌≡◌, refl, Bool, true, false, cond, not, ◌&&◌, List, [], ◌∷◌, ◌++◌, Some, Option, ap, sym, ◌∙◌, subst, ◌⊎◌, ⊎_elim}
-use Rattle.std.proofs.lemmas.Bool.{cases_Bool, or_parts, both_ways, cond-true, cond-false, and_cases}
+use Rattle.std.proofs.Common.{◌≡◌, refl, Bool, true, false, cond, not, ◌&&◌, List, [], ◌∷◌, ◌++◌, Some, None, Option, ap, sym, ◌∙◌, subst, ◌⊎◌, ⊎_elim}
+use Rattle.std.proofs.lemmas.Bool.{cases_Bool, or_parts, both_ways, cond-true, cond-false, and_cases, and_parts}
 use Rattle.je_order.specs.declared.txn_id.TxnId.{TxnId}
 use Rattle.lock_mode.specs.declared.lock_type.LockType.{LockType}
 use Rattle.lock_table.specs.declared.lock.Lock.{Lock}
 use Rattle.lock_table.specs.declared.record_id.RecordId.{RecordId}
-use Rattle.lock_table.specs.Locks.{is_of, has_lock, without_txn, held_by, is_blocked, with_lock, after_ask, after_cancel, after_release, after_give_back, WasHeld, IsSettled}
+use Rattle.lock_table.specs.Locks.{is_of, has_lock, without_txn, held_by, is_blocked, with_lock, after_ask, after_cancel, after_read, after_release, after_give_back, WasHeld, IsSettled}
 use Rattle.je_order.specs.Transactions.{is_same_txn}
 use Rattle.lock_table.specs.Records.{is_record}
 use Rattle.lock_table.specs.Table.{IsOut, IsSound}
 use Rattle.je_order.proofs.TxnIds.{same_is, same_itself, same_either}
+use Rattle.std.specs.Option.{option_map_or}
 use Rattle.lock_table.proofs.QueueMaps.{record_is}
+use Rattle.lock_table.proofs.QueueReads.{settled_read, out_read, waits_read}
 use Rattle.lock_table.proofs.RecordCalls.{settled_ask, settled_cancel, settled_release, settled_give_back, out_ask, out_cancel, out_release, out_released, out_give_back, waits_ask, waits_cancel, waits_release, waits_give_back, none_of}
 
 abbrev pub Queue : Type 0
@@ -105,6 +107,29 @@ sound_give_back Q Q2 L L2 P u at was h s e wh q l = record {
 
     there : (r : RecordId) → is_record at r ≡ false → Q2 r ≡ Q r
     there r i = q r ∙ cond-false (is_record at r) (after_give_back u was (Q r)) (Q r) i
+
+-- READ locks of a transaction go
+pub sound_read : (Q Q2 : RecordId → Queue) (L : TxnId → RecordId → Bool) (P : TxnId → Option RecordId) (u : TxnId)
+    → IsSound Q L P → ((r : RecordId) → Q2 r ≡ after_read u (Q r)) → IsSound Q2 L P
+sound_read Q Q2 L P u s q = record {
+  settled = λ r. subst IsSettled (sym (q r)) (settled_read u (Q r) (s.settled r));
+  waits = λ t r h. s.waits t r (waits_read t u (Q r) (subst (λ (x : Queue). has_lock t x.1 ≡ true) (q r) h));
+  listed = λ t r h. subst (IsOut t) (sym (q r)) (out_read t u (Q r) (s.listed t r h));
+}
+
+-- where a transaction that waits no more was told to wait is forgotten
+pub sound_forget : (Q : RecordId → Queue) (L : TxnId → RecordId → Bool) (P P2 : TxnId → Option RecordId) (u : TxnId)
+    → IsSound Q L P → ((t : TxnId) → P2 t ≡ cond (is_same_txn u t && option_map_or (λ r. not (has_lock u (Q r).1)) (P u) false) None (P t)) → IsSound Q L P2
+sound_forget Q L P P2 u s p = record { settled = s.settled; waits = waits; listed = s.listed }
+  where
+    waits : (t : TxnId) (r : RecordId) → has_lock t (Q r).1 ≡ true → P2 t ≡ Some r
+    waits t r h = ⊎_elim
+        (λ e. let k = and_parts (is_same_txn u t) (option_map_or (λ r. not (has_lock u (Q r).1)) (P u) false) e in
+        let w : has_lock u (Q r).1 ≡ true = subst (λ (x : TxnId). has_lock x (Q r).1 ≡ true) (sym (same_is u t k.0)) h in
+        let n : not (has_lock u (Q r).1) ≡ true = sym (ap (λ o. option_map_or (λ r. not (has_lock u (Q r).1)) o false) (s.waits u r w)) ∙ k.1 in
+        absurd (both_ways (not (has_lock u (Q r).1)) (ap not w) n))
+        (λ e. p t ∙ (cond-false (is_same_txn u t && option_map_or (λ r. not (has_lock u (Q r).1)) (P u) false) None (P t) e ∙ s.waits t r h))
+        (cases_Bool (is_same_txn u t && option_map_or (λ r. not (has_lock u (Q r).1)) (P u) false))
 
 -- the same, where what the transaction is told is one equation
 pub sound_told : (Q Q2 : RecordId → Queue) (L L2 : TxnId → RecordId → Bool) (P P2 : TxnId → Option RecordId) (at : RecordId) (w : Lock) (told : Option RecordId)

@@ -23,6 +23,14 @@ is_write RangeRead = false
 is_write RangeWrite = true
 is_write RangeInsert = false
 
+-- a type that locks the gap before the record too
+abbrev pub is_range : LockType → Bool
+is_range Read = false
+is_range Write = false
+is_range RangeRead = true
+is_range RangeWrite = true
+is_range RangeInsert = false
+
 -- the first owner that holds a type for writing; owners never conflict, so there is one at most
 abbrev pub writer_in : List Lock → Option TxnId
 writer_in os = option_map (λ o. o.txn) (find (λ o. is_write o.mode) os)
@@ -111,6 +119,15 @@ with_type t (Some m) os = map (set_by t m) os
 -- after the transaction gave back what it asked for since it held this type
 abbrev pub after_give_back : TxnId → Option LockType → List Lock × List Lock → List Lock × List Lock
 after_give_back t was q = granted (with_type t was q.0) q.1
+
+-- a lock of no more than READ is given back
+abbrev pub read_given_back : TxnId → Option LockType → List Lock × List Lock → List Lock × List Lock
+read_given_back t (Some Read) q = after_give_back t None q
+read_given_back t held q = q
+
+-- after the transaction gave its lock back, if it held no more than READ
+abbrev pub after_read : TxnId → List Lock × List Lock → List Lock × List Lock
+after_read t q = read_given_back t (held_by t q.0) q
 
 -- what a transaction may have held before it came to hold this type: nothing, or a type from which it was upgraded
 abbrev pub WasHeld : Option LockType → LockType → Type 0

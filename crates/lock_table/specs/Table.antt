@@ -1,6 +1,6 @@
 -- The lock table as two lists: the records with their owners and waits, and where each transaction last began to wait.
 use Rattle.std.specs.Prelude.{◌≡◌, ℕ, Bool, true, false, not, List, [], ◌==◌, map}
-use Rattle.std.specs.List.{filter, flat_map}
+use Rattle.std.specs.List.{filter, flat_map, AllByRecursion}
 use Rattle.std.specs.declared.option.Option.{Option}
 use Rattle.std.specs.declared.option.Option.TheVariants.{None, Some}
 use Rattle.std.specs.Option.{option_map_or}
@@ -8,11 +8,12 @@ use Rattle.std.specs.Ordering.{nat_cmp, is_eq}
 use Rattle.std.specs.Map.{lookup}
 use Rattle.std.specs.BTreeSet.{BTreeSet, contains}
 use Rattle.je_order.specs.declared.txn_id.TxnId.{TxnId}
+use Rattle.je_order.specs.Transactions.{txn_cmp}
 use Rattle.lock_table.specs.declared.lock.Lock.{Lock}
 use Rattle.lock_table.specs.declared.asked.Asked.{Asked}
 use Rattle.lock_table.specs.declared.asked.Asked.TheVariants.{Granted, Blocked}
 use Rattle.lock_table.specs.declared.record_id.RecordId.{RecordId}
-use Rattle.lock_table.specs.Locks.{has_lock, waited_for, least, IsSettled}
+use Rattle.lock_table.specs.Locks.{is_range, has_lock, waited_for, least, IsSettled}
 use Rattle.lock_table.specs.Records.{record_cmp, queue_at}
 
 -- the value of a lock table: the records, each with its owners and, in order of arrival, its waits; and for each transaction the record on which it was last told to wait, if it has neither asked, cancelled nor ended since
@@ -52,6 +53,12 @@ wait_pairs v = flat_map (λ e. map (λ u. (e.0, u)) (waited_for e.0 (locks_at e.
 abbrev pub holder_of : ℕ → Locks → Option TxnId
 holder_of db v = least (map (λ o. o.txn) (flat_map (λ e. e.1.0) (filter (λ e. e.0.db == db) v.records)))
 
+-- the transaction was last told to wait on a record of the database
+pub record IsToldIn (db : ℕ) (t : TxnId) (v : Locks) : Type 0 where
+  pub record_ : RecordId
+  pub told : pending_at t v ≡ Some record_
+  pub there : record_.db ≡ db
+
 -- what holds of every lock table: each record's owners never conflict and none of its waits could be granted; and who waits on a record waits there alone
 pub record IsLockTable (v : Locks) : Type 0 where
   pub settled : (r : RecordId) → IsSettled (locks_at r v)
@@ -85,3 +92,16 @@ pub record IsSound (Q : RecordId → List Lock × List Lock) (L : TxnId → Reco
 -- the same of what the table keeps
 abbrev pub IsTable : List (RecordId × (List Lock × List Lock)) → List (TxnId × BTreeSet RecordId) → List (TxnId × RecordId) → Type 0
 IsTable records lists pending = IsSound (λ r. queue_at r records) (is_listed lists) (λ t. at_txn t pending)
+
+-- the transaction is in the set
+abbrev pub is_among : BTreeSet TxnId → TxnId → Bool
+is_among set t = contains txn_cmp set t
+
+-- a lock of a range type is one of these transactions'
+abbrev pub IsRangeOf : (TxnId → Bool) → Lock → Type 0
+IsRangeOf S l = is_range l.mode ≡ true → S l.txn ≡ true
+
+-- each lock and wait of a range type on a record is one of these transactions'
+pub record AreRangesOf (S : TxnId → Bool) (q : List Lock × List Lock) : Type 0 where
+  pub owners : AllByRecursion (IsRangeOf S) q.0
+  pub waits : AllByRecursion (IsRangeOf S) q.1

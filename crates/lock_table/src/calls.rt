@@ -1,18 +1,20 @@
 // The calls' work, over the three maps that a lock table keeps.
-ghost use Rattle.std.specs.Prelude.{◌≡◌, ◌&&◌, true, false, None, Some, ◌⊎◌, if◌then◌else◌, IfOk, OnOk, OnErr};
+ghost use Rattle.std.specs.Prelude.{◌≡◌, ◌&&◌, not, true, false, None, Some, ◌⊎◌, if◌then◌else◌, IfOk, OnOk, OnErr};
 ghost use Rattle.std.specs.BTreeSet.{contains as set_has};
 ghost use Rattle.std.specs.Option.{option_map_or};
 ghost use Rattle.je_order.specs.declared.txn_id.TxnId.{TxnId};
 ghost use Rattle.lock_mode.specs.declared.lock_type.LockType.{LockType};
 ghost use Rattle.lock_table.specs.declared.record_id.RecordId.{RecordId};
-ghost use Rattle.lock_table.specs.Locks.{has_lock, held_by, blocker, is_blocked, after_ask, after_cancel, after_release, after_give_back, WasHeld, IsSettled};
+ghost use Rattle.lock_table.specs.Locks.{has_lock, held_by, blocker, is_blocked, after_ask, after_cancel, after_read, after_release, after_give_back, WasHeld, IsSettled};
 ghost use Rattle.je_order.specs.Transactions.{is_same_txn};
 ghost use Rattle.lock_table.specs.Records.{record_cmp, is_record, queue_at};
 ghost use Rattle.lock_table.specs.Table.{at_txn, owner_in, is_listed, IsOut, IsSameTable, IsTable};
 
 use crate::listed::{list_at, unlist_at};
 use crate::queue::Queue;
-use crate::queues::{ask_at, cancel_at, give_back_at, owners_at, release_at, waits_at};
+use crate::queues::{
+    ask_at, cancel_at, give_back_at, owners_at, read_back_at, release_at, waits_at,
+};
 use crate::{Asked, Lock, RecordId, lists};
 use je_order::{TxnId, copy_of};
 use lock_mode::LockType;
@@ -128,6 +130,52 @@ pub(crate) fn cancel_in(
     }
     cancel_at(queues, at, txn);
     let _ = pending.remove(&txn);
+}
+
+// Forgets where the transaction was told to wait, if it waits no more. It takes no memory.
+pub(crate) fn forget_in(
+    queues: &BTreeMap<RecordId, Queue>,
+    pending: &mut BTreeMap<TxnId, RecordId>,
+    txn: TxnId,
+)
+    ensures { (t : TxnId) → at_txn t pending.new.entries ≡ (if is_same_txn txn t && option_map_or (λ r. not (has_lock txn (queue_at r queues.now.entries).1)) (at_txn txn pending.old.entries) false then None else at_txn t pending.old.entries) }
+{
+    let Some(at) = pending.get(&txn) else {
+        return;
+    };
+    if lists::is_in(waits_at(queues, at), txn) {
+        return;
+    }
+    let _ = pending.remove(&txn);
+}
+
+// The locks of a transaction that are no more than READ go. It takes no memory.
+pub(crate) fn read_back_in(
+    queues: &mut BTreeMap<RecordId, Queue>,
+    lists: &BTreeMap<TxnId, BTreeSet<RecordId>>,
+    txn: TxnId,
+)
+    requires listed { (r : RecordId) → is_listed lists.now.entries txn r ≡ false → IsOut txn (queue_at r queues.old.entries) }
+    ensures { (r : RecordId) → queue_at r queues.new.entries ≡ after_read txn (queue_at r queues.old.entries) }
+{
+    let Some(list) = lists.get(&txn) else {
+        return;
+    };
+    read_back_each(queues, list, txn);
+}
+
+// The transaction's locks on these records go, where they are no more than READ.
+fn read_back_each(
+    queues: &mut BTreeMap<RecordId, Queue>,
+    list: &BTreeSet<RecordId>,
+    txn: TxnId,
+)
+    requires listed { (r : RecordId) → set_has record_cmp list.now r ≡ false → IsOut txn (queue_at r queues.old.entries) }
+    ensures { (r : RecordId) → queue_at r queues.new.entries ≡ after_read txn (queue_at r queues.old.entries) }
+{
+    for at in list.iter() {
+        read_back_at(queues, at, txn);
+    }
 }
 
 // All locks and the wait of a transaction go. It takes no memory.

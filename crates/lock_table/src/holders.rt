@@ -1,8 +1,12 @@
-// The owners in one database.
-ghost use Rattle.std.specs.Prelude.{◌≡◌, ◌==◌, map};
+// The owners and the waits in one database.
+ghost use Rattle.std.specs.Prelude.{◌≡◌, ◌==◌, Some, map};
+ghost use Rattle.std.specs.Option.{IfSome, IfNone};
+ghost use Rattle.je_order.specs.declared.txn_id.TxnId.{TxnId};
+ghost use Rattle.lock_table.specs.declared.record_id.RecordId.{RecordId};
 ghost use Rattle.std.specs.List.{flat_map, filter};
 ghost use Rattle.lock_table.specs.Locks.{lesser, least};
 ghost use Rattle.lock_table.specs.Records.{start_bound, end_bound};
+ghost use Rattle.lock_table.specs.Table.{at_txn};
 
 use crate::lists::lesser_of;
 use crate::queue::Queue;
@@ -31,6 +35,19 @@ pub(crate) fn least_in(queues: &BTreeMap<RecordId, Queue>, db: u32) -> Option<Tx
         found = least_with(found, queue.owners());
     }
     found
+}
+
+// The first transaction that was told to wait on a record of the database.
+pub(crate) fn told_in(pending: &BTreeMap<TxnId, RecordId>, db: u32) -> Option<TxnId>
+    ensures told { IfSome result (λ t. (r : RecordId) × (at_txn t pending.now.entries ≡ Some r) × (r.db ≡ db)) }
+    ensures none { IfNone result ((t : TxnId) (r : RecordId) → at_txn t pending.now.entries ≡ Some r → r.db ≡ db → ⊥) }
+{
+    for (txn, at) in pending.iter() {
+        if at.db == db {
+            return Some(*txn);
+        }
+    }
+    None
 }
 
 // What stands before a database's first record: the end of the database before it.

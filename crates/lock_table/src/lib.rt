@@ -13,6 +13,7 @@ pub mod lists;
 pub mod lock;
 pub mod queue;
 pub mod queues;
+pub mod ranges;
 pub mod record_id;
 pub mod table;
 

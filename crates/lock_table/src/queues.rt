@@ -1,7 +1,10 @@
 // The records that are locked, each with its owners and waits.
-ghost use Rattle.std.specs.Prelude.{◌≡◌, [], if◌then◌else◌, IfOk, OnOk, OnErr};
+ghost use Rattle.std.specs.Prelude.{◌≡◌, List, [], true, false, Some, if◌then◌else◌, IfOk, OnOk, OnErr};
+ghost use Rattle.je_order.specs.declared.txn_id.TxnId.{TxnId};
+ghost use Rattle.lock_mode.specs.declared.lock_type.LockType.TheVariants.{Read};
+ghost use Rattle.lock_table.specs.declared.lock.Lock.{Lock};
 ghost use Rattle.lock_table.specs.declared.record_id.RecordId.{RecordId};
-ghost use Rattle.lock_table.specs.Locks.{after_ask, after_cancel, after_release, after_give_back};
+ghost use Rattle.lock_table.specs.Locks.{after_ask, after_cancel, after_read, read_given_back, after_release, after_give_back};
 ghost use Rattle.lock_table.specs.Records.{is_record, queue_at};
 
 use crate::queue::Queue;
@@ -107,4 +110,22 @@ pub(crate) fn give_back_at(
         return;
     }
     let _ = queues.remove(at);
+}
+
+// Whether a transaction holds a lock and no more than READ.
+fn is_read_alone(held: Option<LockType>) -> bool
+    ensures read { result ≡ true → held ≡ Some Read }
+    ensures more { result ≡ false → (t : TxnId) (q : List Lock × List Lock) → read_given_back t held q ≡ q }
+{
+    matches!(held, Some(LockType::Read))
+}
+
+// A transaction's lock on a record goes, if it is no more than READ. It takes no memory.
+pub(crate) fn read_back_at(queues: &mut BTreeMap<RecordId, Queue>, at: &RecordId, txn: TxnId)
+    ensures { (r : RecordId) → queue_at r queues.new.entries ≡ (if is_record at.now r then after_read txn (queue_at r queues.old.entries) else queue_at r queues.old.entries) }
+{
+    let held = lists::held_in(owners_at(queues, at), txn);
+    if is_read_alone(held) {
+        give_back_at(queues, at, txn, None);
+    }
 }

@@ -6,13 +6,16 @@ ghost use Rattle.je_order.specs.declared.txn_id.TxnId.{TxnId};
 ghost use Rattle.lock_mode.specs.declared.lock_type.LockType.{LockType};
 ghost use Rattle.lock_table.specs.declared.record_id.RecordId.{RecordId};
 ghost use Rattle.lock_table.specs.declared.lock.Lock.{Lock};
-ghost use Rattle.lock_table.specs.Locks.{held_by, blocker, after_ask, after_cancel, after_release, after_give_back, WasHeld, lock_of, writer_in, waited_for};
+ghost use Rattle.std.specs.Option.{IfSome, IfNone};
+ghost use Rattle.std.specs.List.{AllByRecursion};
+ghost use Rattle.lock_table.specs.Locks.{is_range, after_read, held_by, blocker, after_ask, after_cancel, after_release, after_give_back, WasHeld, lock_of, writer_in, waited_for};
 ghost use Rattle.je_order.specs.Transactions.{is_same_txn};
 ghost use Rattle.lock_table.specs.Records.{is_record, queue_at};
-ghost use Rattle.lock_table.specs.Table.{locks_at, pending_at, is_waiting, was_granted, owner_in, waits_for, wait_pairs, holder_of, IsSameTable, IsLockTable};
+ghost use Rattle.lock_table.specs.Table.{locks_at, pending_at, is_waiting, was_granted, owner_in, waits_for, wait_pairs, holder_of, IsSameTable, IsToldIn, IsLockTable};
 
-use crate::calls::{ask_in, cancel_in, give_back_in, release_in};
-use crate::holders::least_in;
+use crate::calls::{ask_in, cancel_in, forget_in, give_back_in, read_back_in, release_in};
+use crate::holders::{least_in, told_in};
+use crate::ranges::note_range;
 use crate::queue::Queue;
 use crate::queues::{owners_at, waits_at};
 use crate::{Asked, Lock, RecordId, lists};
@@ -30,16 +33,20 @@ pub struct LockTable {
     queues: BTreeMap<RecordId, Queue>,
     lists: BTreeMap<TxnId, BTreeSet<RecordId>>,
     pending: BTreeMap<TxnId, RecordId>,
+    // Those that asked for a lock of a range type since they began.
+    ranging: BTreeSet<TxnId>,
 }
 
 impl Model for LockTable {
-    ghost use Rattle.lock_table.specs.Table.{Locks, IsTable};
+    ghost use Rattle.lock_table.specs.declared.record_id.RecordId.{RecordId};
+    ghost use Rattle.lock_table.specs.Records.{queue_at};
+    ghost use Rattle.lock_table.specs.Table.{Locks, IsTable, is_among, AreRangesOf};
 
     ghost Value = { Locks };
 
     ghost view = { λ a. record { records = a.queues.entries; pending = a.pending.entries } };
 
-    ghost invariant = { λ a. IsTable a.queues.entries a.lists.entries a.pending.entries };
+    ghost invariant = { λ a. IsTable a.queues.entries a.lists.entries a.pending.entries × ((r : RecordId) → AreRangesOf (is_among a.ranging) (queue_at r a.queues.entries)) };
 }
 
 impl LockTable {
@@ -53,6 +60,7 @@ impl LockTable {
             queues: BTreeMap::new(alloc),
             lists: BTreeMap::new(alloc),
             pending: BTreeMap::new(alloc),
+            ranging: BTreeSet::new(alloc),
         }
     }
 
@@ -74,6 +82,7 @@ impl LockTable {
         ensures err { OnErr result (IsSameTable self.old self.new) }
     {
         let lock = Lock { txn, mode: asked };
+        note_range(&mut self.ranging, lock)?;
         ask_in(
             &mut self.queues,
             &mut self.lists,
@@ -93,6 +102,15 @@ impl LockTable {
         cancel_in(&mut self.queues, &mut self.pending, txn);
     }
 
+    /// Forgets where the transaction was told to wait, if that wait was granted. It takes no memory.
+    pub fn forget(&mut self, txn: TxnId)
+        ensures locks { (r : RecordId) → locks_at r self.new ≡ locks_at r self.old }
+        ensures pending { (t : TxnId) → pending_at t self.new ≡ (if is_same_txn txn t && was_granted txn self.old then None else pending_at t self.old) }
+        ensures settled { IsLockTable self.new }
+    {
+        forget_in(&self.queues, &mut self.pending, txn);
+    }
+
     /// Makes the transaction's lock on a record what it was before, and grants the waits that it stood
     /// in the way of, as a release does. It takes no memory.
     pub fn give_back(&mut self, txn: TxnId, at: &RecordId, was: Option<LockType>)
@@ -105,6 +123,16 @@ impl LockTable {
         give_back_in(&mut self.queues, &mut self.lists, txn, at, was);
     }
 
+    /// Takes each lock of the transaction that is no more than READ, and grants the waits that it stood in
+    /// the way of, as a release does. It looks at each of the transaction's records, and takes no memory.
+    pub fn give_back_reads(&mut self, txn: TxnId)
+        ensures locks { (r : RecordId) → locks_at r self.new ≡ after_read txn (locks_at r self.old) }
+        ensures pending { (t : TxnId) → pending_at t self.new ≡ pending_at t self.old }
+        ensures settled { IsLockTable self.new }
+    {
+        read_back_in(&mut self.queues, &self.lists, txn);
+    }
+
     /// Takes all the transaction's locks and its wait, and grants each of these records' waits in order
     /// of arrival where it conflicts with no other owner. It takes no memory.
     pub fn release_all(&mut self, txn: TxnId)
@@ -114,6 +142,7 @@ impl LockTable {
     {
         release_in(&mut self.queues, &mut self.lists, txn);
         let _ = self.pending.remove(&txn);
+        let _ = self.ranging.remove(&txn);
     }
 
     /// Whether a wait of the transaction was granted, and it has neither asked nor ended since.
@@ -163,6 +192,30 @@ impl LockTable {
         ensures { result ≡ holder_of db self.now }
     {
         least_in(&self.queues, db)
+    }
+
+    /// A transaction that was last told to wait on a record of the database; the least one. It looks at
+    /// every wait.
+    pub fn waiter_in(&self, db: u32) -> Option<TxnId>
+        ensures told { IfSome result (λ t. IsToldIn db t self.now) }
+        ensures none { IfNone result ((t : TxnId) → IsToldIn db t self.now → ⊥) }
+    {
+        told_in(&self.pending, db)
+    }
+
+    /// The least owner with which a request would conflict. It asks for nothing, and takes no memory.
+    pub fn blocker(&self, txn: TxnId, at: &RecordId, asked: LockType) -> Option<TxnId>
+        ensures { result ≡ blocker (lock_of txn asked) (locks_at at.now self.now).0 }
+    {
+        lists::blocker_in(owners_at(&self.queues, at), Lock { txn, mode: asked })
+    }
+
+    /// Whether an owner may have a lock of a range type: one that asked for such a lock has not ended. It
+    /// is false only where no owner has one, so that a RANGE_INSERT would conflict with none.
+    pub fn has_ranges(&self) -> bool
+        ensures { result ≡ false → (r : RecordId) → AllByRecursion (λ o. is_range o.mode ≡ false) (locks_at r self.now).0 }
+    {
+        !self.ranging.is_empty()
     }
 
     /// Those that the transaction waits for: the owners that its wait conflicts with. The only error
