@@ -117,9 +117,9 @@ impl<R: Files + AllocGlobal + Clone + Drop> DirPath<R> {
         if_there(options.open(&self.rt, path.as_str()))
     }
 
-    /// A file that is there, for reading and for writing at its end.
+    /// A file that is there, for reading and for writing.
     pub fn file(&self, f: FileNo) -> io::Result<Option<R::File>> {
-        self.open(f, OpenOptions::new().read(true).append(true))
+        self.open(f, OpenOptions::new().read(true).write(true))
     }
 
     /// A file that is there, for reading alone, with a position of its own.
@@ -127,11 +127,11 @@ impl<R: Files + AllocGlobal + Clone + Drop> DirPath<R> {
         self.open(f, OpenOptions::new().read(true))
     }
 
-    /// A new file, for reading and for writing at its end; none where the folder is not there.
+    /// A new file, for reading and for writing; none where the folder is not there.
     pub fn make(&self, f: FileNo) -> io::Result<Option<R::File>> {
         self.open(
             f,
-            OpenOptions::new().read(true).append(true).create_new(true),
+            OpenOptions::new().read(true).write(true).create_new(true),
         )
     }
 

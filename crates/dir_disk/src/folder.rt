@@ -3,29 +3,22 @@ ghost use Rattle.std.specs.Prelude.{◌≡◌, ◌≤◌, [], false, length, str
 ghost use Rattle.je_disk.specs.States.{AreRisingNumbers};
 
 use crate::dir_path::DirPath;
-use crate::job::{DirJob, DirReadJob, Lost, sync_all, sync_file, whole};
+use crate::job::{DirJob, DirReadJob, Lost, Target, sync_all, sync_file, whole};
+use crate::opened::{Opened, Scope};
 use crate::pending::{Pending, Stage};
-use crate::pieces::{fill_from, in_order};
+use crate::pieces::in_order;
 use je_lsn::FileNo;
 use std::alloc::{AllocError, Global};
 use std::collections::BTreeMap;
-use std::fs::OpenFile;
 use std::io;
-use std::io::{Error, ErrorKind, Write};
+use std::io::{Error, ErrorKind};
 use std::rt::Files;
 use std::sync::Arc;
 use std::sync::atomic::AtomicBool;
 use std::sync::atomic::Ordering::SeqCst;
 
-// Beyond this many open files, those that need no sync are closed.
+// Beyond this many open files, those that are not needed are closed.
 const MOST_OPEN: usize = 64;
-
-/// A file that is open for reading and for writing at its end.
-#[derive(Drop)]
-struct Opened<F> {
-    file: F,
-    pending: Pending,
-}
 
 /// The file of the read job that is out, and whether it was changed since the job began.
 #[derive(Clone, Copy)]
@@ -54,8 +47,13 @@ fn lost_data() -> Error {
 }
 
 // Puts a handle behind others, where the system gave one.
-fn push_opened<F: Drop>(handles: &mut Vec<F>, opened: io::Result<F>) -> io::Result<()> {
-    handles.push(opened?)?;
+fn push_target<F: Drop>(
+    targets: &mut Vec<Target<F>>,
+    opened: io::Result<F>,
+    scope: Scope,
+) -> io::Result<()> {
+    let file = opened?;
+    targets.push(Target { file, scope })?;
     Ok(())
 }
 
@@ -76,11 +74,12 @@ impl<R: Files + AllocGlobal + Clone + Drop> Folder<R> {
         })
     }
 
-    /// Forgets the open files. A folder that is not there is no error; anything else of its name is, and so is an
-    /// empty name.
+    /// Forgets the open files, and gives the room behind their bytes back first. A folder that is not there is no
+    /// error; anything else of its name is, and so is an empty name.
     pub fn mount(&mut self) -> io::Result<()>
         ensures empty { string_bytes self.old.dir_path.path ≡ [] → IsErr result }
     {
+        self.trim()?;
         self.files.clear();
         self.entries = Pending::Nothing;
         self.name = Pending::Nothing;
@@ -104,16 +103,26 @@ impl<R: Files + AllocGlobal + Clone + Drop> Folder<R> {
             return Ok(());
         }
         match self.dir_path.file(f)? {
-            Some(file) => self.keep(f, file, Pending::Nothing),
+            Some(file) => self.keep(f, Opened::found(file)?),
             None => Ok(()),
         }
     }
 
-    fn keep(&mut self, f: FileNo, file: R::File, pending: Pending) -> io::Result<()> {
+    fn keep(&mut self, f: FileNo, opened: Opened<R::File>) -> io::Result<()> {
         if self.files.len() >= MOST_OPEN {
-            self.files.retain(|_, opened| opened.pending.is_due());
+            self.files.retain(|_, opened| opened.is_needed());
         }
-        self.files.insert(f.0, Opened { file, pending })?;
+        self.files.insert(f.0, opened)?;
+        Ok(())
+    }
+
+    // Gives the room behind the bytes of the open files back.
+    fn trim(&mut self) -> io::Result<()>
+        ensures { self.new.dir_path ≡ self.old.dir_path }
+    {
+        for opened in self.files.values_mut() {
+            opened.trim()?;
+        }
         Ok(())
     }
 
@@ -143,7 +152,7 @@ impl<R: Files + AllocGlobal + Clone + Drop> Folder<R> {
         };
         self.entries = Pending::Sync;
         match made {
-            Some(file) => self.keep(f, file, Pending::Sync),
+            Some(file) => self.keep(f, Opened::made(file)),
             None => Err(Error::from(ErrorKind::NotFound)),
         }
     }
@@ -153,10 +162,7 @@ impl<R: Files + AllocGlobal + Clone + Drop> Folder<R> {
         self.create(f)?;
         self.note_change(f);
         match self.files.get_mut(&f.0) {
-            Some(opened) => {
-                opened.pending = Pending::Sync;
-                opened.file.write_all(bytes)
-            }
+            Some(opened) => opened.append(bytes),
             None => Err(Error::from(ErrorKind::NotFound)),
         }
     }
@@ -168,10 +174,7 @@ impl<R: Files + AllocGlobal + Clone + Drop> Folder<R> {
         }
         self.note_change(f);
         match self.files.get_mut(&f.0) {
-            Some(opened) => {
-                opened.pending = Pending::Sync;
-                opened.file.set_len(len)
-            }
+            Some(opened) => opened.cut(len),
             None => Ok(()),
         }
     }
@@ -190,7 +193,7 @@ impl<R: Files + AllocGlobal + Clone + Drop> Folder<R> {
     pub fn len(&mut self, f: FileNo) -> io::Result<u64> {
         self.open(f)?;
         match self.files.get(&f.0) {
-            Some(opened) => Ok(opened.file.metadata()?.len()),
+            Some(opened) => Ok(opened.len()),
             None => Ok(0),
         }
     }
@@ -205,8 +208,16 @@ impl<R: Files + AllocGlobal + Clone + Drop> Folder<R> {
         }
         self.open(f)?;
         match self.files.get_mut(&f.0) {
-            Some(opened) => fill_from(&mut opened.file, at, into),
+            Some(opened) => opened.read(at, into),
             None => Ok(0),
+        }
+    }
+
+    // How many bytes a file may have: where it is not open no room is set aside behind it.
+    fn limit(&self, f: FileNo) -> u64 {
+        match self.files.get(&f.0) {
+            Some(opened) => opened.len(),
+            None => u64::MAX,
         }
     }
 
@@ -223,6 +234,7 @@ impl<R: Files + AllocGlobal + Clone + Drop> Folder<R> {
             number,
             alloc: self.dir_path.alloc(),
             file,
+            limit: self.limit(f),
         })
     }
 
@@ -231,34 +243,37 @@ impl<R: Files + AllocGlobal + Clone + Drop> Folder<R> {
         match self.reading.take() {
             Some(reading) if reading.is_changed => {
                 drop(bytes);
-                whole(alloc, self.dir_path.reader(reading.file)?)
+                let file = self.dir_path.reader(reading.file)?;
+                whole(alloc, file, self.limit(reading.file))
             }
             _ => bytes,
         }
     }
 
-    /// Makes stable each file that was written to, then the folder where a file was made in it or taken
-    /// away, then the folder above it where the folder was made. The first sync after a mount makes all
-    /// stable. Once the system has failed to sync, no sync works.
+    /// Gives the room behind the files' bytes back. Makes stable each file that was written to, then the folder where
+    /// a file was made in it or taken away, then the folder above it where the folder was made. The first sync after
+    /// a mount makes all stable. Once the system has failed to sync, no sync works.
     pub fn sync(&mut self) -> io::Result<()> {
-        let handles = self.handles()?;
-        self.finish(sync_all(handles.as_slice(), &self.lost))?;
+        self.trim()?;
+        let targets = self.targets()?;
+        self.finish(sync_all(targets.as_slice(), &self.lost))?;
         self.follow(Stage::Begun);
         self.follow(Stage::Ended { worked: true });
         Ok(())
     }
 
-    /// Begins a sync job, of the same files and folders.
+    /// Begins a sync job, of the same files and folders. The room behind the files' bytes stays, so of most files
+    /// their bytes alone are to be synced.
     pub fn begin_sync(&mut self, number: u64) -> io::Result<DirJob<R::File>>
         ensures { IfOk result (λ job. job.number ≡ number) }
     {
         self.follow(Stage::Ended { worked: false });
-        let files = self.handles()?;
+        let targets = self.targets()?;
         let lost = Arc::try_clone(&self.lost)?;
         self.follow(Stage::Begun);
         Ok(DirJob {
             number,
-            files,
+            targets,
             lost,
         })
     }
@@ -287,24 +302,24 @@ impl<R: Files + AllocGlobal + Clone + Drop> Folder<R> {
     }
 
     // Handles of all that is due: of the files, of the folder, of the folder above.
-    fn handles(&mut self) -> io::Result<Vec<R::File>> {
+    fn targets(&mut self) -> io::Result<Vec<Target<R::File>>> {
         if self.is_unflushed {
             self.flush()?;
             self.is_unflushed = false;
         }
-        let mut handles = Vec::new(self.dir_path.alloc());
+        let mut targets = Vec::new(self.dir_path.alloc());
         for opened in self.files.values() {
-            if opened.pending.is_due() {
-                push_opened(&mut handles, opened.file.try_clone())?;
+            if let Some(scope) = opened.due() {
+                push_target(&mut targets, opened.handle(), scope)?;
             }
         }
         if self.entries.is_due() {
-            push_opened(&mut handles, self.dir_path.folder())?;
+            push_target(&mut targets, self.dir_path.folder(), Scope::Whole)?;
         }
         if self.name.is_due() {
-            push_opened(&mut handles, self.dir_path.above())?;
+            push_target(&mut targets, self.dir_path.above(), Scope::Whole)?;
         }
-        Ok(handles)
+        Ok(targets)
     }
 
     // What earlier runs made, wrote or took away may not be stable yet, the folder itself included.
@@ -315,7 +330,7 @@ impl<R: Files + AllocGlobal + Clone + Drop> Folder<R> {
         let files = self.list(self.dir_path.alloc())?;
         for f in &files {
             if let Some(file) = self.dir_path.reader(*f)? {
-                sync_file(&file, &self.lost)?;
+                sync_file(&file, Scope::Whole, &self.lost)?;
             }
         }
         self.entries = Pending::Sync;
@@ -326,7 +341,7 @@ impl<R: Files + AllocGlobal + Clone + Drop> Folder<R> {
     // The sync job reaches a stage, for all that it is to make stable.
     fn follow(&mut self, stage: Stage) {
         for opened in self.files.values_mut() {
-            opened.pending.follow(stage);
+            opened.follow(stage);
         }
         self.entries.follow(stage);
         self.name.follow(stage);

@@ -1,6 +1,7 @@
 // The jobs of a folder.
-ghost use Rattle.std.specs.Prelude.{◌≡◌, [], length, IsNone, IfSome, IfOk};
+ghost use Rattle.std.specs.Prelude.{◌≡◌, [], length, take, IsNone, IfSome, IfOk};
 
+use crate::opened::Scope;
 use je_disk::{ReadDone, ReadJob, SyncDone, SyncJob};
 use std::alloc::Global;
 use std::fs::OpenFile;
@@ -14,10 +15,17 @@ use std::sync::atomic::Ordering::SeqCst;
 /// may say of a later sync that it worked: so no later one is trusted.
 pub type Lost = Arc<AtomicBool, Global>;
 
+/// A handle of a file or of a folder that is to be synced, and what of it.
+#[derive(Drop)]
+pub struct Target<F> {
+    pub(crate) file: F,
+    pub(crate) scope: Scope,
+}
+
 /// A sync that was begun: handles of its own of the files, and of the folders, that are to be synced.
 pub struct DirJob<F> {
     pub(crate) number: u64,
-    pub(crate) files: Vec<F>,
+    pub(crate) targets: Vec<Target<F>>,
     pub(crate) lost: Lost,
 }
 
@@ -27,11 +35,13 @@ pub struct DirDone {
     worked: bool,
 }
 
-/// The reading of a file that was begun: a handle of its own, none where the file was not there.
+/// The reading of a file that was begun: a handle of its own, none where the file was not there, and how many
+/// bytes it may have.
 pub struct DirReadJob<F> {
     pub(crate) number: u64,
     pub(crate) alloc: Global,
     pub(crate) file: Option<F>,
+    pub(crate) limit: u64,
 }
 
 /// The reading of a file that has run: its bytes, or why there are none.
@@ -40,9 +50,12 @@ pub struct DirReadDone {
     bytes: io::Result<Vec<u8>>,
 }
 
-/// Syncs a file, and notes a failure.
-pub fn sync_file<F: OpenFile>(file: &F, lost: &Lost) -> io::Result<()> {
-    let answer = file.sync_all();
+/// Syncs a file, or its bytes alone, and notes a failure.
+pub fn sync_file<F: OpenFile>(file: &F, scope: Scope, lost: &Lost) -> io::Result<()> {
+    let answer = match scope {
+        Scope::Bytes => file.sync_data(),
+        Scope::Whole => file.sync_all(),
+    };
     if answer.is_err() {
         lost.store(true, SeqCst);
     }
@@ -50,32 +63,33 @@ pub fn sync_file<F: OpenFile>(file: &F, lost: &Lost) -> io::Result<()> {
 }
 
 /// Syncs files in their order, and notes a failure, after which it syncs no more.
-pub fn sync_all<F: OpenFile>(files: &[F], lost: &Lost) -> io::Result<()> {
-    for file in files {
-        sync_file(file, lost)?;
+pub fn sync_all<F: OpenFile>(targets: &[Target<F>], lost: &Lost) -> io::Result<()> {
+    for target in targets {
+        sync_file(&target.file, target.scope, lost)?;
     }
     Ok(())
 }
 
-/// The bytes of a file that is read from its beginning; none where there is no file.
-pub fn whole<F: Read + Drop>(alloc: Global, file: Option<F>) -> io::Result<Vec<u8>>
+/// The bytes of a file that is read from its beginning, so many at most; none where there is no file.
+pub fn whole<F: Read + Drop>(alloc: Global, file: Option<F>, limit: u64) -> io::Result<Vec<u8>>
     ensures none { IsNone file → IfOk result (λ bytes. bytes.items ≡ []) }
-    ensures all { IfSome file (λ file. IfSome (F.remaining file) (λ left. IfOk result (λ bytes. bytes.items ≡ left))) }
+    ensures all { IfSome file (λ file. IfSome (F.remaining file) (λ left. IfOk result (λ bytes. bytes.items ≡ take limit left))) }
 {
     let mut bytes = Vec::new(alloc);
     let Some(mut file) = file else {
         return Ok(bytes);
     };
     file.read_to_end(&mut bytes)?;
+    bytes.truncate(limit as usize);
     Ok(bytes)
 }
 
 impl<F> DirJob<F> {
     /// How many files and folders are to be synced.
     pub fn due(&self) -> usize
-        ensures { result ≡ length self.now.files.items }
+        ensures { result ≡ length self.now.targets.items }
     {
-        self.files.len()
+        self.targets.len()
     }
 }
 
@@ -91,10 +105,10 @@ impl<F: OpenFile + Drop> SyncJob for DirJob<F> {
     fn run(self) -> DirDone {
         let DirJob {
             number,
-            files,
+            targets,
             lost,
         } = self;
-        let worked = sync_all(files.as_slice(), &lost).is_ok();
+        let worked = sync_all(targets.as_slice(), &lost).is_ok();
         DirDone { number, worked }
     }
 }
@@ -135,10 +149,11 @@ impl<F: Read + Drop> ReadJob for DirReadJob<F> {
             number,
             alloc,
             file,
+            limit,
         } = self;
         DirReadDone {
             number,
-            bytes: whole(alloc, file),
+            bytes: whole(alloc, file, limit),
         }
     }
 }

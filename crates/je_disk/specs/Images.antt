@@ -2,7 +2,7 @@
 use Rattle.std.specs.Prelude.{◌≡◌, ◌≤◌, ◌<◌, ◌^◌, ℕ, true, false, Option, Some, None, List, length, take, slice_index}
 use Rattle.je_disk.specs.States.{Files, CrashState, State, content}
 
--- bytes that a file with this crash state may be left with: the stable ones come first, and there are no more than the file had at its longest since
+-- bytes that a file with this crash state may be left with: the stable ones come first, any may follow, and there are no more than the file may have had on the disk since
 pub record Leaves (crash_state : CrashState) (bytes : List ℕ) : Type 0 where
   pub allowed : crash_state.may_exist ≡ true
   pub front : take (length crash_state.stable) bytes ≡ crash_state.stable

@@ -1,5 +1,6 @@
 -- What a disk holds: its files as they read, and what a crash keeps of each.
-use Rattle.std.specs.Prelude.{◌≡◌, ◌++◌, ◌==◌, ◌↔◌, ◌⊎◌, if◌then◌else◌, ℕ, Bool, true, false, Option, Some, None, IsSome, unwrap_or, List, [], length, take, max, map, nat_lt, Contains}
+use Rattle.std.specs.Prelude.{◌≡◌, ◌*◌, ◌^◌, ◌++◌, ◌==◌, ◌↔◌, ◌⊎◌, if◌then◌else◌, ℕ, Bool, true, false, Option, Some, None, IsSome, unwrap_or, List, [], length, take, max, map, nat_lt, Contains}
+use Rattle.std.specs.Int.{div_ceil}
 use Rattle.std.specs.Option.{option_map}
 use Rattle.std.specs.List.Sorted.{IsStrictlyIncreasing}
 use Rattle.je_lsn.specs.declared.file_no.FileNo.{FileNo}
@@ -12,7 +13,7 @@ Files = ℕ → Option (List ℕ)
 pub record CrashState : Type 0 where
   -- these bytes stay, since the last sync that finished
   pub stable : List ℕ
-  -- the greatest length since then
+  -- the greatest length that the file may have had on the disk since then, with the room that the disk set aside behind its bytes
   pub max_len : ℕ
   -- the file is there in any case
   pub exists_always : Bool
@@ -41,9 +42,17 @@ nothing = record { reads = λ _. None; crash_states = λ _. record { stable = []
 abbrev pub begun : CrashState → CrashState
 begun crash_state = record { stable = []; max_len = crash_state.max_len; exists_always = crash_state.exists_always; may_exist = true }
 
--- the crash state of a file that has grown to a length
+-- how many bytes a disk sets aside at a time, behind those of a file that grows
+abbrev pub extension : ℕ
+extension = 2 ^ 20
+
+-- how long a file may be on the disk that has so many bytes: up to the next multiple of that
+abbrev pub extended : ℕ → ℕ
+extended len = div_ceil len extension * extension
+
+-- the crash state of a file that has grown to a length: a crash may leave it longer, up to the room that was set aside for it
 abbrev pub grown : ℕ → CrashState → CrashState
-grown len crash_state = record { stable = crash_state.stable; max_len = max crash_state.max_len len; exists_always = crash_state.exists_always; may_exist = true }
+grown len crash_state = record { stable = crash_state.stable; max_len = max crash_state.max_len (extended len); exists_always = crash_state.exists_always; may_exist = true }
 
 -- the crash state of a file that was cut to a length: the cut may be undone, with any bytes past it
 abbrev pub shortened : ℕ → CrashState → CrashState
@@ -70,13 +79,17 @@ created_by (Some _) f s = s
 abbrev pub created : ℕ → State → State
 created f s = created_by (s.reads f) f s
 
--- bytes stand at the end of a file, which is made where it was not there
-abbrev pub appended_by : Option (List ℕ) → ℕ → List ℕ → State → State
-appended_by None f bytes s = put_file f (Some bytes) (λ crash_state. grown (length bytes) (begun crash_state)) s
-appended_by (Some there) f bytes s = put_file f (Some (there ++ bytes)) (grown (length (there ++ bytes))) s
+-- of bytes that are being put at the end of a file, these first ones stand there; the file is made where it was not there, and there is room for all of them
+abbrev pub partly_appended_by : Option (List ℕ) → ℕ → List ℕ → List ℕ → State → State
+partly_appended_by None f part bytes s = put_file f (Some part) (λ crash_state. grown (length bytes) (begun crash_state)) s
+partly_appended_by (Some there) f part bytes s = put_file f (Some (there ++ part)) (grown (length (there ++ bytes))) s
 
+abbrev pub partly_appended : ℕ → List ℕ → List ℕ → State → State
+partly_appended f part bytes s = partly_appended_by (s.reads f) f part bytes s
+
+-- bytes stand at the end of a file, all of them
 abbrev pub appended : ℕ → List ℕ → State → State
-appended f bytes s = appended_by (s.reads f) f bytes s
+appended f bytes s = partly_appended f bytes bytes s
 
 -- a file ends at a length, where it went further
 abbrev pub cut_by : Option (List ℕ) → ℕ → ℕ → State → State
@@ -103,13 +116,22 @@ synced_crash_state (Some there) = record { stable = there; max_len = length ther
 abbrev pub synced_crash_states : Files → ℕ → CrashState
 synced_crash_states files f = synced_crash_state (files f)
 
--- a crash keeps what the files read as, and nothing else; a sync that is out takes nothing of it back
+-- a crash keeps what the files read as, and nothing else: no room is set aside; a sync that is out takes nothing of it back
 abbrev pub synced : State → State
 synced s = record { reads = s.reads; crash_states = synced_crash_states s.reads; job = option_map (λ _. synced_crash_states s.reads) s.job }
 
+-- the crash state of a file once a sync job has ended: what it read as at the job's beginning is stable, and the room behind is set aside still
+abbrev pub job_crash_state : Option (List ℕ) → CrashState → CrashState
+job_crash_state None crash_state = synced_crash_state None
+job_crash_state (Some there) crash_state = record { stable = there; max_len = crash_state.max_len; exists_always = true; may_exist = true }
+
+-- the crash states of files once a sync job has ended
+abbrev pub job_crash_states : Files → (ℕ → CrashState) → ℕ → CrashState
+job_crash_states files crash_states f = job_crash_state (files f) (crash_states f)
+
 -- a sync is out: its crash states are counted from what the files read as now
 abbrev pub job_begun : State → State
-job_begun s = record { reads = s.reads; crash_states = s.crash_states; job = Some (synced_crash_states s.reads) }
+job_begun s = record { reads = s.reads; crash_states = s.crash_states; job = Some (job_crash_states s.reads s.crash_states) }
 
 -- the sync that was out has finished: its crash states are the disk's
 abbrev pub job_ended : State → State
@@ -122,7 +144,7 @@ IsEither before after s = (s ≡ before) ⊎ (s ≡ after)
 -- an append was not begun, or put the first of the given bytes there
 abbrev pub IsPartOfAppend : ℕ → List ℕ → State → State → Type 0
 IsPartOfAppend f bytes before s =
-    (s ≡ before) ⊎ ((part : List ℕ) × (rest : List ℕ) × (bytes ≡ part ++ rest) × (s ≡ appended f part before))
+    (s ≡ before) ⊎ ((part : List ℕ) × (rest : List ℕ) × (bytes ≡ part ++ rest) × (s ≡ partly_appended f part bytes before))
 
 -- the numbers of files rise
 abbrev pub AreRisingNumbers : List FileNo → Type 0

@@ -89,7 +89,8 @@ pub trait Disk {
         ensures cause { HasFault (faults self.old) (faults self.new) result };
 
     /// Puts bytes at the end of a file, and makes the file where it is not there. A call that fails may
-    /// leave some of them there, from the first one on.
+    /// leave some of them there, from the first one on. The disk may set room aside behind them, up to the next
+    /// multiple of `EXTENSION`: a crash may leave the file so long.
     fn append(&mut self, f: FileNo, bytes: &[u8]) -> Result<(), DiskErr>
         ensures done { observable ≡ true → OnOk result (now (history self.new) ≡ appended f.0 bytes.now (now (history self.old))) }
         ensures moments { observable ≡ true → Passes (history self.old) (history self.new) (IsPartOfAppend f.0 bytes.now (now (history self.old))) }
@@ -135,7 +136,8 @@ pub trait Disk {
         ensures last_job { last_job self.new ≡ last_job self.old }
         ensures cause { HasFault (faults self.old) (faults self.new) result };
 
-    /// Makes stable what the files read as, and which files are there. A sync job that is out stays so.
+    /// Makes stable what the files read as, and which files are there, and gives back the room that was set aside
+    /// behind files. A sync job that is out stays so.
     fn sync_now(&mut self) -> Result<(), DiskErr>
         ensures done { observable ≡ true → OnOk result (now (history self.new) ≡ synced (now (history self.old))) }
         ensures moments { observable ≡ true → Passes (history self.old) (history self.new) (IsEither (now (history self.old)) (synced (now (history self.old)))) }
@@ -145,8 +147,8 @@ pub trait Disk {
         ensures last_job { last_job self.new ≡ last_job self.old }
         ensures cause { HasFault (faults self.old) (faults self.new) result };
 
-    /// Begins a sync of what the files read as now. A sync job that is out is given up. It fails where
-    /// the last number was allocated before.
+    /// Begins a sync of what the files read as now. The room that was set aside behind files stays. A sync job that
+    /// is out is given up. It fails where the last number was allocated before.
     fn begin_sync(&mut self) -> Result<Self::Job, DiskErr>
         ensures done { observable ≡ true → OnOk result (now (history self.new) ≡ job_begun (now (history self.old))) }
         ensures moments { observable ≡ true → Passes (history self.old) (history self.new) (IsEither (now (history self.old)) (job_begun (now (history self.old)))) }

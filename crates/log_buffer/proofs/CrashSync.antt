@@ -1,23 +1,25 @@
 -- What a crash keeps of a log that was written whole, and as a sync begins and ends.
-use Rattle.std.proofs.Common.{◌≡◌, ℕ, ◌+◌, ◌≤◌, Bool, true, false, List, [], ◌∷◌, ◌++◌, Option, Some, None, length, refl, sym, ap, subst, ◌∙◌, arith, option_map, length-append, inl, inr}
+use Rattle.std.proofs.Common.{◌≡◌, ◌≢◌, ◌⊎◌, ℕ, ◌+◌, ◌≤◌, ◌<◌, Bool, true, false, List, [], ◌∷◌, ◌++◌, Option, Some, None, length, refl, sym, ap, subst, ◌∙◌, arith, option_map, length-append, inl, inr}
 use Rattle.std.specs.Prelude.{unwrap_or, Result, Ok, Err, OnOk}
 use Rattle.std.specs.Result.{is_err}
+use Rattle.std.proofs.lemmas.Bool.{cases_order}
 use Rattle.std.proofs.lemmas.List.{append-nil}
-use Rattle.je_disk.specs.States.{State, Files, CrashState, synced, synced_crash_state, synced_crash_states, job_begun, job_ended, IsEither}
+use Rattle.je_disk.specs.States.{State, Files, CrashState, synced, synced_crash_state, synced_crash_states, job_crash_state, job_crash_states, job_begun, job_ended, IsEither}
 use Rattle.je_disk.specs.Moments.{History, Passes, now}
-use Rattle.je_disk.proofs.ImageLaws.{image_synced}
+use Rattle.je_disk.specs.Images.{IsFileImage, AreFileImages}
+use Rattle.je_disk.proofs.ImageLaws.{image_job, image_synced}
 use Rattle.je_disk.proofs.MomentLaws.{passes_weaken}
 use Rattle.log_entry.specs.declared.entry.Entry.{Entry}
 use Rattle.log_file.specs.Log.{Log, IsLog, entries_of, file_bytes, files_of_log}
 use Rattle.log_buffer.specs.Log.{EndsAt, HasLog, ReadAs}
 use Rattle.log_buffer.specs.declared.buffer.LogBuffer.{LogBuffer}
 use Rattle.log_buffer.specs.Buffer.{file_of, offset_of, last_of, first_of}
-use Rattle.log_buffer.specs.Crash.{FilesStay, KeepsFront, KeepsLog, KeepsFrom, WillKeep, Holds, HoldPrefixes, IsKeptSince, KeepsRead, KeptThrough}
-use Rattle.log_buffer.proofs.LogChanges.{below_last, lookup_last, lookup_push}
+use Rattle.log_buffer.specs.Crash.{FilesStay, KeepsFront, KeepsFile, KeepsLog, KeepsFrom, WillKeep, Holds, HoldPrefixes, IsKeptSince, KeepsRead, KeptThrough}
+use Rattle.log_buffer.proofs.LogChanges.{AreBelow, below_last, below_more, lookup_last, lookup_none, lookup_push}
 use Rattle.log_buffer.proofs.CrashWrites.{keeps_less, kept_stable}
 use Rattle.log_buffer.proofs.Prefixes.{read_prefixes}
 use Rattle.log_buffer.proofs.Staying.{kept_then, stay_same}
-use Rattle.log_buffer.proofs.LogSplits.{count_part, entries-append}
+use Rattle.log_buffer.proofs.LogSplits.{below_at, count_part, entries-append, parts_ordered, parts_same}
 
 -- the count of a log's entries, by its last file
 pub count_last : (before : Log) (f : ℕ) (es : List Entry) → length (entries_of (before ++ (f, es) ∷ [])) ≤ length (entries_of before) + length es
@@ -46,16 +48,98 @@ whole_kept log removed file offset last first reads is ends le read =
 pub count_kept : (log removed : Log) (least : ℕ) (crash_states : ℕ → CrashState) → KeepsLog log removed least crash_states → least ≤ length (entries_of log)
 count_kept log removed least crash_states k = let c = count_part k.before k.at k.kept k.more k.after log k.log_is in let l = k.at_least in omega (arith, c, l)
 
+-- ---- the beginning of a sync
+
+-- what is kept of a file is kept by a sync job that ends
+job_file : (removed : Log) (at f : ℕ) (file : Option (List ℕ)) (crash_state : CrashState) → KeepsFile removed at f file crash_state → KeepsFile removed at f file (job_crash_state file crash_state)
+job_file removed at f None crash_state keeps = inl refl
+job_file removed at f (Some bytes) crash_state keeps = record { there = refl; whole = record { stable = refl; max_len = keeps.whole.max_len } }
+
+-- a file that may not be there is not there
+not_there : (crash_state : CrashState) (bytes : List ℕ) → crash_state.may_exist ≡ false → IsFileImage crash_state (Some bytes) → ⊥
+not_there crash_state bytes away leaves = let t = leaves.allowed in cc
+
+-- a log whose last file is on the disk
+module _ (log removed : Log) (least file : ℕ) (reads : Files) (crash_states : ℕ → CrashState) (before : Log) (entries : List Entry) (k : KeepsLog log removed least crash_states) (is : IsLog log) (last : log ≡ before ++ (file, entries) ∷ [])
+    (images : AreFileImages crash_states reads) (there : reads file ≡ Some (file_bytes file entries)) where
+  both : k.before ++ (k.at, k.kept ++ k.more) ∷ k.after ≡ before ++ (file, entries) ∷ []
+  both = sym k.log_is ∙ last
+
+  below_here : AreBelow k.at k.before
+  below_here = below_at k.before (k.at, k.kept ++ k.more) k.after (subst IsLog k.log_is is)
+
+  below_file : AreBelow file before
+  below_file = below_at before (file, entries) [] (subst IsLog last is)
+
+  -- no file before it is being written
+  not_before : k.at < file → ⊥
+  not_before less = by_kept (subst (λ (o : Option (List ℕ)). KeepsFile removed k.at file o (crash_states file)) none (k.others file (λ same. absurd (omega (arith, same))))) where
+    none : files_of_log k.before file ≡ None
+    none = ap (option_map (file_bytes file)) (lookup_none k.before file (below_more k.at file k.before (omega arith) below_here))
+
+    by_kept : KeepsFile removed k.at file None (crash_states file) → ⊥
+    by_kept (inl away) = not_there (crash_states file) (file_bytes file entries) away (subst (IsFileImage (crash_states file)) there (images file))
+    by_kept (inr was) = absurd (let b = was.below in omega (arith, b))
+
+  not_behind : file < k.at → ⊥
+  not_behind less =
+      let more = parts_ordered before k.before [] k.after (file, entries) (k.at, k.kept ++ k.more) (sym both) below_file below_here less in
+      let whole = ap length both in
+      let one = length-append k.before ((k.at, k.kept ++ k.more) ∷ k.after) in
+      let two = length-append before ((file, entries) ∷ []) in
+      let parts = ap length more.1 in
+      let three = length-append before ((file, entries) ∷ more.0) in
+      absurd (omega (arith, whole, one, two, parts, three))
+
+  -- the last file is the one that is being written
+  at_last : k.at ≡ file
+  at_last = by_order (cases_order k.at file) where
+    by_order : (k.at ≡ file) ⊎ ((k.at < file) ⊎ (file < k.at)) → k.at ≡ file
+    by_order (inl same) = same
+    by_order (inr (inl less)) = absurd (not_before less)
+    by_order (inr (inr more)) = absurd (not_behind more)
+
+  -- and the others are kept
+  others_kept : (g : ℕ) → g ≢ file → KeepsFile removed file g (files_of_log before g) (crash_states g)
+  others_kept g apart =
+      subst (λ (l : Log). KeepsFile removed file g (files_of_log l g) (crash_states g)) (parts_same k.before before k.after [] (k.at, k.kept ++ k.more) (file, entries) both below_here below_file at_last).0
+      (subst (λ (n : ℕ). KeepsFile removed n g (files_of_log k.before g) (crash_states g)) at_last (k.others g (λ same. apart (same ∙ at_last))))
+
+-- files that read as a log keep all of it once the sync has ended that begins now
+job_kept : (log removed : Log) (least file offset last first : ℕ) (s : State) → IsLog log → EndsAt log file offset last → first ≤ file → ((g : ℕ) → s.reads g ≡ files_of_log log g) → KeepsFrom log removed least first s.reads s.crash_states
+    → KeepsFrom log removed (length (entries_of log)) first s.reads (job_crash_states s.reads s.crash_states)
+job_kept log removed least file offset last first s is ends le read k = record {
+  keeps = record {
+    before = ends.before;
+    at = file;
+    kept = ends.entries;
+    more = [];
+    after = [];
+    log_is = ends.log_is ∙ ap (λ (x : List Entry). ends.before ++ (file, x) ∷ []) (sym (append-nil ends.entries));
+    front = inr (subst (λ (o : Option (List ℕ)). KeepsFront (file_bytes file ends.entries) (job_crash_state o (s.crash_states file))) (sym there) (record { there = refl; rest = []; stable = sym (append-nil (file_bytes file ends.entries)) }));
+    others = λ g apart. subst (λ (o : Option (List ℕ)). KeepsFile removed file g (files_of_log ends.before g) (job_crash_state o (s.crash_states g))) (sym (reads_are g apart))
+        (job_file removed file g (files_of_log ends.before g) (s.crash_states g) (others_kept log removed least file s.reads s.crash_states ends.before ends.entries k.keeps is ends.log_is k.read there g apart));
+    at_least = let c = count_last ends.before file ends.entries in let l = ap (λ (x : Log). length (entries_of x)) ends.log_is in omega (arith, c, l);
+  };
+  first_is = le;
+  read = λ g. image_job (s.reads g) (s.crash_states g) (k.read g);
+} where
+  there : s.reads file ≡ Some (file_bytes file ends.entries)
+  there = read file ∙ ap (λ (l : Log). files_of_log l file) ends.log_is ∙ ap (option_map (file_bytes file)) (lookup_last ends.before file ends.entries (below_last ends.before (file, ends.entries) (subst IsLog ends.log_is is)))
+
+  reads_are : (g : ℕ) → g ≢ file → s.reads g ≡ files_of_log ends.before g
+  reads_are g apart = read g ∙ ap (λ (l : Log). files_of_log l g) ends.log_is ∙ ap (option_map (file_bytes g)) (lookup_push ends.before file g ends.entries apart)
+
 -- a log that was written whole is kept by the sync that begins
 pub holds_begun : (log removed : Log) (least file offset last first : ℕ) (begun : Option ℕ) (s : State) → IsLog log → EndsAt log file offset last → first ≤ file → ((g : ℕ) → s.reads g ≡ files_of_log log g)
     → Holds log removed least begun first s → Holds log removed least (Some (length (entries_of log))) first (job_begun s)
 holds_begun log removed least file offset last first begun s is ends le read h = record {
   kept = h.kept;
   job = record {
-    crash_states = synced_crash_states s.reads;
+    crash_states = job_crash_states s.reads s.crash_states;
     job_is = refl;
     no_less = count_kept log removed least s.crash_states h.kept.keeps;
-    kept = whole_kept log removed file offset last first s.reads is ends le read;
+    kept = job_kept log removed least file offset last first s is ends le read h.kept;
   };
 }
 

@@ -2,7 +2,7 @@
 use Rattle.std.proofs.Common.{◌≡◌, ℕ, ◌+◌, ◌<◌, ◌≤◌, ◌==◌, Bool, true, List, [], ◌∷◌, ◌++◌, Option, Some, None, length, suc, ◌-◌, drop, refl, sym, ap, subst, ◌∙◌, arith, option_map, length-append, inl, inr}
 use Rattle.std.specs.Prelude.{unwrap_or}
 use Rattle.std.specs.Map.{lookup}
-use Rattle.je_disk.specs.States.{State, Files, created, created_by, appended, synced, IsPartOfAppend}
+use Rattle.je_disk.specs.States.{State, Files, created, created_by, appended, partly_appended, synced, IsPartOfAppend}
 use Rattle.je_disk.specs.Moments.{History, Passes, now}
 use Rattle.je_disk.proofs.MomentLaws.{passes_weaken}
 use Rattle.log_entry.specs.declared.entry.Entry.{Entry}
@@ -10,7 +10,7 @@ use Rattle.log_file.specs.Log.{Log, IsLog, file_bytes, files_of_log}
 use Rattle.log_buffer.specs.Buffer.{joined, unwritten_of, first_of}
 use Rattle.log_buffer.specs.Crash.{Holds, HoldPrefixes, IsKeptSince, KeepsRead, KeptThrough}
 use Rattle.log_buffer.specs.Writing.{IsUnwrittenOf, IsPutBehind, IsPutNext, put_behind}
-use Rattle.log_buffer.proofs.CrashWrites.{IsUnfinished, holds_appended, holds_created, holds_next, ReadUpTo}
+use Rattle.log_buffer.proofs.CrashWrites.{IsUnfinished, holds_appended, holds_partly, holds_created, holds_next, ReadUpTo}
 use Rattle.log_buffer.specs.WriteBuffer.{bytes_for, piece_of, start_of, stop_of}
 use Rattle.log_buffer.specs.declared.buffer.LogBuffer.{LogBuffer}
 use Rattle.log_buffer.specs.Log.{HasLog}
@@ -64,7 +64,8 @@ part_keeps : (log removed : Log) (least f : ℕ) (begun : Option ℕ) (bytes : L
     → IsPartOfAppend f bytes s t → KeepsRead log removed least t
 part_keeps log removed least f begun bytes s t un observed prefixes h (inl is) = keeps_at log removed least f begun s t is prefixes h
 part_keeps log removed least f begun bytes s t un observed prefixes h (inr part) =
-    keeps_at log removed least f begun (appended f part.0 s) t part.3 (grown_prefixes log f bytes part.0 part.1 s un.is_log prefixes part.2 observed) (holds_appended log removed least f begun s part.0 un h)
+    let less : length part.0 ≤ length bytes = (let whole = ap length part.2 in let both = length-append part.0 part.1 in omega (arith, whole, both)) in
+    keeps_at log removed least f begun (partly_appended f part.0 bytes s) t part.3 (grown_prefixes log f bytes part.0 part.1 s un.is_log prefixes part.2 observed) (holds_partly log removed least f begun s part.0 bytes less un h)
 
 -- the rest of the first file is being written
 unfinished_first : (log : Log) (first : ℕ) (reads : Files) (unwritten : ℕ → List ℕ) (bytes : List ℕ) → bytes ≡ unwritten first → IsUnwrittenOf log reads unwritten first → 0 < length bytes → IsUnfinished log reads first

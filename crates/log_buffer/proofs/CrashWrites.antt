@@ -4,7 +4,7 @@ use Rattle.std.proofs.lemmas.Bool.Decides.{nat_tests}
 use Rattle.std.proofs.lemmas.Bool.{cases_order}
 use Rattle.std.specs.Map.{lookup}
 use Rattle.std.specs.Option.{option_map as mapped}
-use Rattle.je_disk.specs.States.{State, Files, CrashState, put_at, put_file, with_crash_state, begun, grown, created, created_by, appended, appended_by, synced, synced_crash_state, synced_crash_states}
+use Rattle.je_disk.specs.States.{State, Files, CrashState, put_at, put_file, with_crash_state, begun, grown, created, created_by, appended, partly_appended, partly_appended_by, synced, synced_crash_state, synced_crash_states}
 use Rattle.je_disk.specs.Images.{IsFileImage, AreFileImages}
 use Rattle.je_disk.proofs.ImageLaws.{image_put, image_grown, image_begun, image_made, image_synced, stable_is}
 use Rattle.log_entry.specs.declared.entry.Entry.{Entry}
@@ -115,15 +115,20 @@ pub record IsUnfinished (log : Log) (reads : Files) (f : ℕ) : Type 0 where
 first_at : (log removed : Log) (least f : ℕ) (reads : Files) (crash_states : ℕ → CrashState) (k : KeepsFrom log removed least f reads crash_states) → IsUnfinished log reads f → k.keeps.at ≡ f
 first_at log removed least f reads crash_states k un = at_first log removed least f reads crash_states un.entries k un.is_log un.found un.part
 
-pub holds_appended : (log removed : Log) (least f : ℕ) (begun_at : Option ℕ) (s : State) (part : List ℕ) → IsUnfinished log s.reads f → Holds log removed least begun_at f s → Holds log removed least begun_at f (appended f part s)
-holds_appended log removed least f begun_at s part un h = by_file (s.reads f) refl where
-  by_file : (there : Option (List ℕ)) → s.reads f ≡ there → Holds log removed least begun_at f (appended_by there f part s)
-  by_file None is = holds_put log removed least f f begun_at s (Some part) (λ crash_state. grown (length part) (begun crash_state))
-      (λ n crash_states k. kept_put log removed n f f s.reads crash_states (Some part) (λ crash_state. grown (length part) (begun crash_state)) k (first_at log removed n f s.reads crash_states k un)
-      (λ bytes front. absurd (none_kept (crash_states f) bytes (subst (IsFileImage (crash_states f)) is (k.read f)) front)) (image_begun (crash_states f) part)) h
-  by_file (Some there) is = holds_put log removed least f f begun_at s (Some (there ++ part)) (grown (length (there ++ part)))
-      (λ n crash_states k. kept_put log removed n f f s.reads crash_states (Some (there ++ part)) (grown (length (there ++ part))) k (first_at log removed n f s.reads crash_states k un)
-      (λ bytes front. record { there = front.there; rest = front.rest; stable = front.stable }) (image_grown (crash_states f) there part (subst (IsFileImage (crash_states f)) is (k.read f)))) h
+-- some of the bytes that are being put behind it stand there
+pub holds_partly : (log removed : Log) (least f : ℕ) (begun_at : Option ℕ) (s : State) (part bytes : List ℕ) → length part ≤ length bytes → IsUnfinished log s.reads f → Holds log removed least begun_at f s
+    → Holds log removed least begun_at f (partly_appended f part bytes s)
+holds_partly log removed least f begun_at s part bytes less un h = by_file (s.reads f) refl where
+  by_file : (there : Option (List ℕ)) → s.reads f ≡ there → Holds log removed least begun_at f (partly_appended_by there f part bytes s)
+  by_file None is = holds_put log removed least f f begun_at s (Some part) (λ crash_state. grown (length bytes) (begun crash_state))
+      (λ n crash_states k. kept_put log removed n f f s.reads crash_states (Some part) (λ crash_state. grown (length bytes) (begun crash_state)) k (first_at log removed n f s.reads crash_states k un)
+      (λ x front. absurd (none_kept (crash_states f) x (subst (IsFileImage (crash_states f)) is (k.read f)) front)) (image_begun (crash_states f) part bytes less)) h
+  by_file (Some there) is = holds_put log removed least f f begun_at s (Some (there ++ part)) (grown (length (there ++ bytes)))
+      (λ n crash_states k. kept_put log removed n f f s.reads crash_states (Some (there ++ part)) (grown (length (there ++ bytes))) k (first_at log removed n f s.reads crash_states k un)
+      (λ x front. record { there = front.there; rest = front.rest; stable = front.stable }) (image_grown (crash_states f) there part bytes less (subst (IsFileImage (crash_states f)) is (k.read f)))) h
+
+pub holds_appended : (log removed : Log) (least f : ℕ) (begun_at : Option ℕ) (s : State) (bytes : List ℕ) → IsUnfinished log s.reads f → Holds log removed least begun_at f s → Holds log removed least begun_at f (appended f bytes s)
+holds_appended log removed least f begun_at s bytes un h = holds_partly log removed least f begun_at s bytes bytes (omega arith) un h
 
 pub holds_created : (log removed : Log) (least f : ℕ) (begun_at : Option ℕ) (s : State) → IsUnfinished log s.reads f → Holds log removed least begun_at f s → Holds log removed least begun_at f (created f s)
 holds_created log removed least f begun_at s un h = by_file (s.reads f) refl where

@@ -2,7 +2,7 @@
 use Rattle.std.proofs.Common.{◌≡◌, ◌≢◌, ℕ, ◌+◌, ◌<◌, ◌≤◌, ◌==◌, Bool, true, false, cond, List, [], ◌∷◌, Option, Some, None, length, refl, sym, ap, subst, ◌∙◌, arith, ◌⊎◌, inl, inr}
 use Rattle.std.proofs.lemmas.Bool.Decides.{nat_tests}
 use Rattle.std.proofs.lemmas.Bool.{cases_order, eqb-true}
-use Rattle.je_disk.specs.States.{State, Files, put_at, created, created_by, appended, appended_by, synced}
+use Rattle.je_disk.specs.States.{State, Files, put_at, created, created_by, appended, partly_appended_by, synced}
 use Rattle.log_buffer.specs.WriteBuffer.{piece_of, bytes_for}
 use Rattle.log_buffer.specs.Buffer.{joined}
 use Rattle.log_buffer.specs.Writing.{put_behind}
@@ -29,7 +29,7 @@ put_twice files f g a b = by_case (g == f) where
   by_case true = refl
   by_case false = refl
 
-appended_by_reads : (there : Option (List ℕ)) (f : ℕ) (bytes : List ℕ) (s : State) (g : ℕ) → 0 < length bytes → (appended_by there f bytes s).reads g ≡ put_at s.reads f (joined there bytes) g
+appended_by_reads : (there : Option (List ℕ)) (f : ℕ) (bytes : List ℕ) (s : State) (g : ℕ) → 0 < length bytes → (partly_appended_by there f bytes bytes s).reads g ≡ put_at s.reads f (joined there bytes) g
 appended_by_reads there f [] s g some = absurd (omega arith)
 appended_by_reads None f (b ∷ bytes) s g some = refl
 appended_by_reads (Some there) f (b ∷ bytes) s g some = refl

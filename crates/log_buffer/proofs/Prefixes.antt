@@ -5,7 +5,7 @@ use Rattle.std.specs.Map.{lookup}
 use Rattle.std.proofs.lemmas.Bool.{cases_lt, eqb-true}
 use Rattle.std.proofs.lemmas.List.{append-nil, take_at}
 use Rattle.std.specs.Option.{option_map as mapped}
-use Rattle.je_disk.specs.States.{State, Files, appended, appended_by, content, created, created_by, cut}
+use Rattle.je_disk.specs.States.{State, Files, partly_appended, partly_appended_by, content, created, created_by, cut}
 use Rattle.je_disk.proofs.CallEffects.{cut-reads}
 use Rattle.log_entry.specs.declared.entry.Entry.{Entry}
 use Rattle.log_entry.specs.declared.decoder.Decoded.TheVariants.{Torn as NotWhole}
@@ -135,20 +135,20 @@ cut_prefixes log f n s holds g =
     by_file true same = subst (λ (m : ℕ). HoldsPrefix m (entries_at log m) (unwrap_or (mapped (take n) (s.reads f)) [])) (sym (eqb-true _ _ same)) (shorter (s.reads f) (holds f))
     by_file false other = holds g
 
-appended_content : (f : ℕ) (part : List ℕ) (s : State) (g : ℕ) → content (appended f part s).reads g ≡ cond (g == f) (content s.reads f ++ part) (content s.reads g)
-appended_content f part s g = by_there (s.reads f) where
+appended_content : (f : ℕ) (part bytes : List ℕ) (s : State) (g : ℕ) → content (partly_appended f part bytes s).reads g ≡ cond (g == f) (content s.reads f ++ part) (content s.reads g)
+appended_content f part bytes s g = by_there (s.reads f) where
   by_file : (b : Bool) (x : List ℕ) → unwrap_or (cond b (Some x) (s.reads g)) [] ≡ cond b x (content s.reads g)
   by_file true x = refl
   by_file false x = refl
 
-  by_there : (there : Option (List ℕ)) → content (appended_by there f part s).reads g ≡ cond (g == f) (unwrap_or there [] ++ part) (content s.reads g)
+  by_there : (there : Option (List ℕ)) → content (partly_appended_by there f part bytes s).reads g ≡ cond (g == f) (unwrap_or there [] ++ part) (content s.reads g)
   by_there None = by_file (g == f) part
   by_there (Some there) = by_file (g == f) (there ++ part)
 
 -- the first of the bytes that are to follow a file were put there
 pub grown_prefixes : (log : Log) (f : ℕ) (bytes part rest : List ℕ) (s : State) → IsLog log → HoldPrefixes log s.reads → bytes ≡ part ++ rest → joined (s.reads f) bytes ≡ files_of_log log f →
-    HoldPrefixes log (appended f part s).reads
-grown_prefixes log f bytes part rest s is holds parts observed g = subst (HoldsPrefix g (entries_at log g)) (sym (appended_content f part s g)) (by_file (g == f) refl) where
+    HoldPrefixes log (partly_appended f part bytes s).reads
+grown_prefixes log f bytes part rest s is holds parts observed g = subst (HoldsPrefix g (entries_at log g)) (sym (appended_content f part bytes s g)) (by_file (g == f) refl) where
   here : HoldsPrefix f (entries_at log f) (content s.reads f ++ part)
   here = cut_holds log f (content s.reads f ++ part) is (part_cut log f (s.reads f) bytes part rest parts observed)
 

@@ -2,7 +2,7 @@
 use Rattle.std.proofs.Common.{◌≡◌, ℕ, ◌<◌, ◌==◌, Bool, true, false, cond, List, [], ◌++◌, Option, Some, None, refl, sym, ap, subst, arith, ◌⊎◌, inl, inr}
 use Rattle.std.specs.Prelude.{IsSome}
 use Rattle.std.proofs.lemmas.Bool.{cases_order}
-use Rattle.je_disk.specs.States.{State, Files, appended, appended_by, created, created_by, synced, IsPartOfAppend}
+use Rattle.je_disk.specs.States.{State, Files, partly_appended, partly_appended_by, created, created_by, synced, IsPartOfAppend}
 use Rattle.je_disk.specs.Moments.{History, Passes, now}
 use Rattle.je_disk.proofs.MomentLaws.{passes_then, passes_weaken}
 use Rattle.log_file.specs.Log.{Log}
@@ -25,19 +25,19 @@ stay_created f s g there = by_there (s.reads f) where
   by_there None = by_file (g == f)
   by_there (Some bytes) = there
 
-stay_appended : (f : ℕ) (part : List ℕ) (s : State) → FilesStay s.reads (appended f part s).reads
-stay_appended f part s g there = by_there (s.reads f) where
+stay_appended : (f : ℕ) (part bytes : List ℕ) (s : State) → FilesStay s.reads (partly_appended f part bytes s).reads
+stay_appended f part bytes s g there = by_there (s.reads f) where
   by_file : (b : Bool) (x : List ℕ) → IsSome (cond b (Some x) (s.reads g))
   by_file true x = refl
   by_file false x = there
 
-  by_there : (o : Option (List ℕ)) → IsSome ((appended_by o f part s).reads g)
+  by_there : (o : Option (List ℕ)) → IsSome ((partly_appended_by o f part bytes s).reads g)
   by_there None = by_file (g == f) part
-  by_there (Some bytes) = by_file (g == f) (bytes ++ part)
+  by_there (Some before) = by_file (g == f) (before ++ part)
 
 pub stay_part : (f : ℕ) (bytes : List ℕ) (s t : State) → IsPartOfAppend f bytes s t → FilesStay s.reads t.reads
 stay_part f bytes s t (inl same) = stay_same s.reads t.reads (ap (λ (x : State). x.reads) same)
-stay_part f bytes s t (inr part) = subst (λ (x : State). FilesStay s.reads x.reads) (sym part.3) (stay_appended f part.0 s)
+stay_part f bytes s t (inr part) = subst (λ (x : State). FilesStay s.reads x.reads) (sym part.3) (stay_appended f part.0 bytes s)
 
 -- a next file is begun and written
 pub stay_next : (f : ℕ) (bytes : List ℕ) (s t : State) → IsPutNext f bytes s t → FilesStay s.reads t.reads

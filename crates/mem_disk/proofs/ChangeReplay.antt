@@ -14,7 +14,7 @@ use Rattle.std.specs.declared.alloc.Global.{Global}
 use Rattle.std.proofs.lemmas.Map.Keys.{IsStrictlyIncreasing-from_sorted}
 use Rattle.std.proofs.lemmas.Map.Views.{btree_map_contains_key_iff}
 use Rattle.std.proofs.lemmas.Map.Lookups.{exact_unsigned}
-use Rattle.je_disk.specs.States.{AreRisingNumbers, IsListing, State, Files, nothing, put_at, content, created, created_by, appended, appended_by, synced}
+use Rattle.je_disk.specs.States.{AreRisingNumbers, IsListing, State, Files, nothing, put_at, content, created, created_by, appended, partly_appended_by, synced}
 use Rattle.je_disk.specs.Moments.{now, Passes}
 use Rattle.je_disk.proofs.CallEffects.{put_at-same}
 use Rattle.mem_disk.specs.declared.change.Change.{Change}
@@ -68,7 +68,7 @@ pub appended-reads : (f g : ℕ) (bytes given : List ℕ) (s : State) → bytes 
 appended-reads f g bytes given s is =
     subst (λ (xs : List ℕ). (appended f bytes s).reads g ≡ put_at s.reads f (Some (content s.reads f ++ xs)) g) is (by_file (s.reads f) refl)
   where
-    by_file : (there : Option (List ℕ)) → s.reads f ≡ there → (appended_by there f bytes s).reads g ≡ put_at s.reads f (Some (content s.reads f ++ bytes)) g
+    by_file : (there : Option (List ℕ)) → s.reads f ≡ there → (partly_appended_by there f bytes bytes s).reads g ≡ put_at s.reads f (Some (content s.reads f ++ bytes)) g
     by_file None is = rw is refl
     by_file (Some b) is = rw is refl
 

@@ -2,7 +2,7 @@
 use Rattle.std.proofs.Common.{◌≡◌, ◌≤◌, ◌<◌, ◌+◌, ◌∷◌, ◌++◌, ◌==◌, ◌∙◌, ℕ, Bool, true, false, List, [], Option, Some, None, length, take, drop, nat_lt, if◌then◌else◌, refl, ap, sym, subst, arith, get_or, drop-cons, add-one, suc}
 use Rattle.std.proofs.lemmas.Bool.Decides.{nat_tests, Decides-eqb}
 use Rattle.std.proofs.Math.ListN.{drop_of_length-le}
-use Rattle.je_disk.specs.States.{State, CrashState, nothing, put_file, created, created_by, appended, appended_by, cut, cut_by, removed, removed_by, begun, grown, shortened, dropped}
+use Rattle.je_disk.specs.States.{State, CrashState, nothing, put_file, created, created_by, appended, partly_appended_by, cut, cut_by, removed, removed_by, begun, grown, shortened, dropped}
 use Rattle.mem_disk.specs.declared.change.Change.{Change}
 use Rattle.mem_disk.specs.declared.change.Change.TheVariants.{Create, Append, Cut, Remove, Sync, BeginSync, EndSync}
 use Rattle.mem_disk.specs.CrashStates.{FileView, file_in, file_put_in, created_in, created_by_in, appended_in, appended_by_in, cut_in, cut_by_in, removed_in, removed_by_in, changed_in, traced, synced_in, ended_in}
@@ -48,13 +48,13 @@ created-other f g s other = by_file (s.reads g) where
 
 appended-same : (g : ℕ) (bytes : List ℕ) (s : State) → file_in g (appended g bytes s) ≡ appended_in bytes (file_in g s)
 appended-same g bytes s = by_file (s.reads g) where
-  by_file : (o : Option (List ℕ)) → file_in g (appended_by o g bytes s) ≡ appended_by_in o bytes (file_in g s)
+  by_file : (o : Option (List ℕ)) → file_in g (partly_appended_by o g bytes bytes s) ≡ appended_by_in o bytes (file_in g s)
   by_file None = put-same g (Some bytes) (λ crash_state. grown (length bytes) (begun crash_state)) s
   by_file (Some there) = put-same g (Some (there ++ bytes)) (grown (length (there ++ bytes))) s
 
 appended-other : (f g : ℕ) (bytes : List ℕ) (s : State) → (f == g) ≡ false → file_in f (appended g bytes s) ≡ file_in f s
 appended-other f g bytes s other = by_file (s.reads g) where
-  by_file : (o : Option (List ℕ)) → file_in f (appended_by o g bytes s) ≡ file_in f s
+  by_file : (o : Option (List ℕ)) → file_in f (partly_appended_by o g bytes bytes s) ≡ file_in f s
   by_file None = put-other f g (Some bytes) (λ crash_state. grown (length bytes) (begun crash_state)) s other
   by_file (Some there) = put-other f g (Some (there ++ bytes)) (grown (length (there ++ bytes))) s other
 

@@ -2,7 +2,7 @@
 use Rattle.std.specs.Prelude.{◌++◌, ◌==◌, if◌then◌else◌, ℕ, Option, Some, None, unwrap_or, List, [], ◌∷◌, length, take, nat_lt, Vec}
 use Rattle.std.specs.declared.alloc.Global.{Global}
 use Rattle.std.specs.Option.{option_map}
-use Rattle.je_disk.specs.States.{State, CrashState, begun, grown, shortened, dropped, synced_crash_state}
+use Rattle.je_disk.specs.States.{State, CrashState, begun, grown, shortened, dropped, synced_crash_state, job_crash_state}
 use Rattle.mem_disk.specs.declared.crash_state.MemCrashState.{MemCrashState}
 use Rattle.mem_disk.specs.declared.file_state.FileState.{FileState}
 use Rattle.mem_disk.specs.declared.change.Change.{Change}
@@ -72,7 +72,7 @@ synced_in v = record { reads = v.reads; crash_state = synced_crash_state v.reads
 
 -- a sync is out
 abbrev pub begun_in : FileView → FileView
-begun_in v = record { reads = v.reads; crash_state = v.crash_state; job = Some (synced_crash_state v.reads) }
+begun_in v = record { reads = v.reads; crash_state = v.crash_state; job = Some (job_crash_state v.reads v.crash_state) }
 
 -- the sync that was out has finished
 abbrev pub ended_in : FileView → FileView

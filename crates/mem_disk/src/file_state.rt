@@ -60,9 +60,9 @@ impl FileState {
     {
         let len = bytes.len() as u64;
         self.reads = Some(Vec::from_slice(alloc, bytes)?);
-        self.crash_state.begin_with(len);
+        self.crash_state.begin_with(len)?;
         if let Some(job) = &mut self.job {
-            job.begin_with(len);
+            job.begin_with(len)?;
         }
         Ok(())
     }
@@ -75,9 +75,9 @@ impl FileState {
         };
         there.extend_from_slice(bytes)?;
         let len = there.len() as u64;
-        self.crash_state.grow(len);
+        self.crash_state.grow(len)?;
         if let Some(job) = &mut self.job {
-            job.grow(len);
+            job.grow(len)?;
         }
         Ok(())
     }
@@ -124,7 +124,7 @@ impl FileState {
     fn begin_sync(&mut self, alloc: Global) -> Result<(), AllocError>
         ensures { OnOk result (view_of self.new ≡ begun_in (view_of self.old)) }
     {
-        self.job = Some(MemCrashState::synced(alloc, &self.reads)?);
+        self.job = Some(self.crash_state.after_job(alloc, &self.reads)?);
         Ok(())
     }
 

@@ -1,7 +1,7 @@
 // What every disk does, from a disk on which nothing was done yet.
 ghost use Rattle.std.specs.Prelude.{◌≡◌};
 
-use Change::{Append, Create, Cut, Remove, Sync};
+use Change::{Append, Create, Cut, Nothing, Remove, Sync};
 use Step::{
     Do, GiveReadUp, GiveSyncUp, IsLong, Lists, Mount, MountInSync, NoJob, ReadAround, Reads,
     SyncAround,
@@ -50,7 +50,7 @@ pub enum Step {
 pub type Row = (Step, Result<bool, DiskErr>, u64);
 
 /// What every disk does, and the name of a folder for it.
-pub static SCRIPTS: [(&str, &[Row]); 5] = [
+pub static SCRIPTS: [(&str, &[Row]); 6] = [
     (
         "files",
         &[
@@ -115,6 +115,26 @@ pub static SCRIPTS: [(&str, &[Row]); 5] = [
             (NoJob, Ok(true), 0),
             (MountInSync, Ok(true), 0),
             (NoJob, Ok(true), 0),
+        ],
+    ),
+    // Room behind a file's bytes is no part of the file, while it is open and behind a mount.
+    (
+        "rooms",
+        &[
+            (Do(Append(5, b"abc")), Ok(true), 0),
+            (SyncAround(Append(5, b"d"), 1), Ok(true), 0),
+            (IsLong(5, 4), Ok(true), 0),
+            (Reads(5, 2, 2, b"cd.."), Ok(true), 0),
+            (Reads(5, 4, 0, b"...."), Ok(true), 0),
+            (ReadAround(5, Nothing, b"abcd"), Ok(true), 0),
+            (ReadAround(5, Append(5, b"e"), b"abcde"), Ok(true), 0),
+            (Mount, Ok(true), 0),
+            (IsLong(5, 5), Ok(true), 0),
+            (Do(Append(5, b"f")), Ok(true), 0),
+            (Do(Cut(5, 2)), Ok(true), 0),
+            (Do(Append(5, b"z")), Ok(true), 0),
+            (ReadAround(5, Sync, b"abz"), Ok(true), 0),
+            (IsLong(5, 3), Ok(true), 0),
         ],
     ),
     // A reading gives its file as it is when the reading ends.

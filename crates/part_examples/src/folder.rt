@@ -1,9 +1,9 @@
 // A disk over a folder. Tests run in one folder, so that each has folders of its own in it.
 use crate::disks::Change::{Append, Create, Cut, Nothing, Remove, Sync};
-use crate::disks::Step::{Do, Lists, Mount, NoJob, ReadAround, Reads, SyncAround};
+use crate::disks::Step::{Do, IsLong, Lists, Mount, NoJob, ReadAround, Reads, SyncAround};
 use crate::disks::{self, Row};
 use dir_disk::DirDisk;
-use je_disk::{Disk, DiskErr, SyncDone, SyncJob};
+use je_disk::{Disk, DiskErr, EXTENSION, SyncDone, SyncJob};
 use je_lsn::FileNo;
 use std::alloc::AllocError;
 use std::os::unix::fs::symlink;
@@ -68,6 +68,37 @@ fn keeps_files_in_a_folder(rt: HostRuntime) {
     assert!(rt; has_text(&rt, "kept/00000003.jdb", "abcde"));
     assert!(rt; matches!(fs::exists(&rt, "kept/00000006.jdb"), Ok(false)));
     assert_eq!(rt; wrong_step(&rt, "kept", &GONE_ON), Ok(None));
+}
+
+// A job syncs a file that has grown, and no other sync comes.
+static GROWN: [Row; 2] = [
+    (Do(Append(3, b"abc")), Ok(true), 0),
+    (SyncAround(Append(3, b"de"), 1), Ok(true), 0),
+];
+
+// A disk that finds the file with its room takes it as it stands, and cuts it.
+static FOUND: [Row; 5] = [
+    (IsLong(3, EXTENSION), Ok(true), 0),
+    (Reads(3, 3, 4, b"de\0\0"), Ok(true), 0),
+    (Do(Cut(3, 5)), Ok(true), 0),
+    (Do(Append(3, b"f")), Ok(true), 0),
+    (Do(Sync), Ok(true), 0),
+];
+
+// Whether a file is so long.
+fn has_len(rt: &HostRuntime, path: &str, want: u64) -> bool {
+    match fs::metadata(rt, path) {
+        Ok(found) => found.len() == want,
+        Err(_) => false,
+    }
+}
+
+#[test]
+fn sets_room_aside(rt: HostRuntime) {
+    assert_eq!(rt; wrong_step(&rt, "grown", &GROWN), Ok(None));
+    assert!(rt; has_len(&rt, "grown/00000003.jdb", EXTENSION));
+    assert_eq!(rt; wrong_step(&rt, "grown", &FOUND), Ok(None));
+    assert!(rt; has_text(&rt, "grown/00000003.jdb", "abcdef"));
 }
 
 static ON_A_FILE: [Row; 2] = [
@@ -142,9 +173,10 @@ fn syncs_in_another_thread(rt: HostRuntime) -> Result<(), Fail> {
         || append_each(&rt, &disk, b"defghijk"),
     );
     let again = sync_by_job(&rt, &disk);
+    let trimmed = disk.lock(&rt).sync_now();
     let faults = disk.lock(&rt).faults();
     drop(disk);
-    assert!(rt; synced.is_ok() && appended.is_ok() && again.is_ok() && faults == 0);
+    assert!(rt; synced.is_ok() && appended.is_ok() && again.is_ok() && trimmed.is_ok() && faults == 0);
     assert!(rt; has_text(&rt, "threads/00000003.jdb", "abcdefghijk"));
     Ok(())
 }
@@ -166,15 +198,15 @@ fn counts_faults(rt: HostRuntime) {
     assert_eq!(rt; wrong_step(&rt, "faults", &FAULTS), Ok(None));
 }
 
-// A device that cannot be synced stands where a log file should. What the system let go it does not tell
-// again.
+// A device that has no room and cannot be synced stands where a log file should. What the system let go it does
+// not tell again.
 static LOST: [Row; 6] = [
-    (Do(Append(8, b"x")), Ok(true), 0),
-    (SyncAround(Nothing, 1), Err(DiskErr::Failed), 1),
-    (NoJob, Ok(true), 1),
-    (Do(Remove(8)), Ok(true), 1),
-    (Do(Sync), Err(DiskErr::Failed), 2),
-    (SyncAround(Nothing, 2), Err(DiskErr::Failed), 3),
+    (Do(Append(8, b"x")), Err(DiskErr::Failed), 1),
+    (SyncAround(Nothing, 1), Err(DiskErr::Failed), 2),
+    (NoJob, Ok(true), 2),
+    (Do(Remove(8)), Ok(true), 2),
+    (Do(Sync), Err(DiskErr::Failed), 3),
+    (SyncAround(Nothing, 2), Err(DiskErr::Failed), 4),
 ];
 
 #[test]

@@ -92,9 +92,10 @@ static STOPPED: [Row; 8] = [
 // Where calls work again the files are as they were.
 static GOING: [Row; 2] = [(IsLong(1, 5), Ok(true), 3), (IsLong(2, 1), Ok(true), 3)];
 
-// What stays of each file, how many bytes may, and whether the file must or may be there.
+// What stays of each file, how long it may be, and whether it must or may be there. Behind the file that has grown
+// there is room.
 static CRASH_STATES: [(u32, &[u8], u64, bool, bool); 3] = [
-    (1, b"abc", 5, true, true),
+    (1, b"abc", 1_048_576, true, true),
     (2, b"w", 4, true, true),
     (3, b"", 0, false, false),
 ];

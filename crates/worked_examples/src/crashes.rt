@@ -1,6 +1,7 @@
 // Runs that stop at each call of the disk. What a crash may leave then opens to the commits that were
 // durable, or to those and the one that was under way.
 use crate::fixture::{FIRST, RUN, RUN_SMALL, Ran, run_args, run_script, strings};
+use je_disk::extended;
 use je_lsn::FileNo;
 use mem_disk::MemDisk;
 use std::alloc::{AllocError, Global};
@@ -33,11 +34,20 @@ fn copies(alloc: Global, files: &Files) -> Result<Files, AllocError> {
     Ok(copies)
 }
 
-// The files, the last one cut to a length.
-fn cut_last(alloc: Global, files: &Files, len: usize) -> Result<Files, AllocError> {
+// How many zeros stand behind a piece of a file: more than an entry's header has.
+const ZEROS: usize = 40;
+
+// The files, the last one cut to a length, with so many zeros behind.
+fn cut_last(
+    alloc: Global,
+    files: &Files,
+    len: usize,
+    zeros: usize,
+) -> Result<Files, AllocError> {
     let mut image = copies(alloc, files)?;
     if let Some((_, bytes)) = image.last_mut() {
         bytes.truncate(len);
+        bytes.resize(len.saturating_add(zeros), 0)?;
     }
     Ok(image)
 }
@@ -87,7 +97,8 @@ fn opens_to(
     }
 }
 
-// The same where the last file is cut to a length. Images that were opened before are not opened again.
+// The same where the last file is cut to a length, which zeros behind it do not change. Images that were opened
+// before are not opened again.
 fn cut_opens_to(
     alloc: Global,
     files: &Files,
@@ -98,8 +109,12 @@ fn cut_opens_to(
     if let Some(count) = prefixes.found.get(len) {
         return Ok(Some(*count));
     }
-    let image = cut_last(alloc, files, len)?;
+    let image = cut_last(alloc, files, len, 0)?;
     let found = opens_to(alloc, image, prefixes, least)?;
+    let filled = cut_last(alloc, files, len, ZEROS)?;
+    if opens_to(alloc, filled, prefixes, least)? != found {
+        return Ok(None);
+    }
     if let Some(count) = found {
         if prefixes.found.len() == len {
             prefixes.found.push(count)?;
@@ -159,21 +174,36 @@ fn assert_opens(
     Ok(())
 }
 
-// What a crash may leave of the last file: the shortest piece, and whether the file may be gone.
+// What a crash may leave of the last file: how long its shortest and its longest piece are, and whether the file
+// may be gone.
+#[derive(Clone, Copy)]
+struct Left {
+    shortest: usize,
+    longest: usize,
+    may_go: bool,
+}
+
+// The longest piece ends with the file, or with the room that is set aside behind it.
 fn last_crash_state(
     rt: &impl Abort,
     alloc: Global,
     disk: &MemDisk,
     f: FileNo,
     len: usize,
-) -> Result<(usize, bool), AllocError> {
+) -> Result<Left, AllocError> {
     let crash_state = disk.crash_state(alloc, f)?;
-    assert!(rt; crash_state.may_exist && crash_state.max_len == len as u64);
-    Ok((crash_state.stable.len(), !crash_state.exists_always))
+    let longest = crash_state.max_len;
+    assert!(rt; crash_state.may_exist);
+    assert!(rt; longest == len as u64 || Some(longest) == extended(len as u64));
+    Ok(Left {
+        shortest: crash_state.stable.len(),
+        longest: longest as usize,
+        may_go: !crash_state.exists_always,
+    })
 }
 
 // The files, with each piece of the last one that a crash may leave, open to so many commits or to one
-// more.
+// more. Behind a piece there may be zeros, and behind the whole file as many as it has room.
 fn assert_pieces_open(
     rt: &impl Abort,
     alloc: Global,
@@ -189,16 +219,18 @@ fn assert_pieces_open(
         prefixes.last = *f;
         prefixes.found.clear();
     }
-    let (shortest, may_go) = last_crash_state(rt, alloc, disk, *f, bytes.len())?;
-    if may_go {
+    let left = last_crash_state(rt, alloc, disk, *f, bytes.len())?;
+    if left.may_go {
         let image = without_last(alloc, files)?;
         assert_opens(rt, alloc, image, prefixes, least)?;
     }
-    for len in shortest..bytes.len() + 1 {
+    for len in left.shortest..bytes.len() + 1 {
         let found = cut_opens_to(alloc, files, len, prefixes, least)?;
         assert_found(rt, found, least);
     }
-    Ok(())
+    let room = left.longest.saturating_sub(bytes.len());
+    let image = cut_last(alloc, files, bytes.len(), room)?;
+    assert_opens(rt, alloc, image, prefixes, least)
 }
 
 // Each image of the disk, with the bytes of the last file that were written there, opens to the commits
