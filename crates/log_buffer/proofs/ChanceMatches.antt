@@ -218,7 +218,7 @@ appended_prefix f entries bytes are so = by_decoded (decoded bytes) refl where
 -- ---- images that meet the premise
 
 -- what the disk reads has a run, and the image one of the first of its entries
-meets : (f : ℕ) (read bytes : List ℕ) (prefix : ValidPrefix) → scan_of f read ≡ Prefix prefix → HoldsPrefix f prefix.entries bytes → IsFoundOf (scan_of f read) (scan_of f bytes)
+pub meets : (f : ℕ) (read bytes : List ℕ) (prefix : ValidPrefix) → scan_of f read ≡ Prefix prefix → HoldsPrefix f prefix.entries bytes → IsFoundOf (scan_of f read) (scan_of f bytes)
 meets f read bytes prefix is holds =
     subst (λ (x : FileScan). IsFoundOf x (scan_of f bytes)) (sym is) (subst (λ (x : FileScan). IsFoundOf (Prefix prefix) x) (sym holds.found) (record { more = holds.more; is = holds.is }))
 

@@ -54,3 +54,5 @@ pub mod AppendMoments
 pub mod CrashOpen
 -- The faults of calls that have no answer but success and a fault, as they are handed on.
 pub mod DiskFaults
+-- Zeros are no entry, and behind whole entries they are a torn tail.
+mod ZeroTails

@@ -7,5 +7,6 @@ pub mod Causes
 pub mod Crash
 pub mod Chance
 pub mod Writing
+pub mod Zeros
 pub mod Growth
 pub mod Laws

@@ -2,6 +2,7 @@
 ghost use Rattle.log_buffer.specs.Chance.{AppendedHaveNoChance, CutsHaveNoChance, CutsKeep, KeptIsLeft, ReadsHaveNoChance};
 ghost use Rattle.log_buffer.specs.Growth.{GrewNone, GrewUnchanged, GrewThen, TriedThen, TriedMore};
 ghost use Rattle.log_buffer.specs.Laws.{AppendedIsLast, AppendedIsPlaced, AppendedArePlaced, AreBounded, NeverFalls, AppendsJoin};
+ghost use Rattle.log_buffer.specs.Zeros.{ZerosAreTorn, ZerosHaveNoChance};
 
 use je_disk::Disk;
 
@@ -42,4 +43,11 @@ pub fn kept_is_left()
     ensures cuts { CutsHaveNoChance }
     ensures appended { AppendedHaveNoChance }
     ensures opening { CutsKeep }
+{}
+
+/// Zeros are no entry. So an image in which they stand behind whole entries, as a disk leaves it that set room aside
+/// there, is one where no checksum matches by chance.
+pub fn zeros_are_torn()
+    ensures torn { ZerosAreTorn }
+    ensures chance { ZerosHaveNoChance }
 {}

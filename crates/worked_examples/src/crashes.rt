@@ -37,13 +37,11 @@ fn copies(alloc: Global, files: &Files) -> Result<Files, AllocError> {
 // How many zeros stand behind a piece of a file: more than an entry's header has.
 const ZEROS: usize = 40;
 
+// A piece that ends with a block may have zeros behind, where the next block was not written.
+const BLOCK: usize = 64;
+
 // The files, the last one cut to a length, with so many zeros behind.
-fn cut_last(
-    alloc: Global,
-    files: &Files,
-    len: usize,
-    zeros: usize,
-) -> Result<Files, AllocError> {
+fn cut_last(alloc: Global, files: &Files, len: usize, zeros: usize) -> Result<Files, AllocError> {
     let mut image = copies(alloc, files)?;
     if let Some((_, bytes)) = image.last_mut() {
         bytes.truncate(len);
@@ -97,8 +95,8 @@ fn opens_to(
     }
 }
 
-// The same where the last file is cut to a length, which zeros behind it do not change. Images that were opened
-// before are not opened again.
+// The same where the last file is cut to a length, which zeros behind a block do not change. Images that were
+// opened before are not opened again.
 fn cut_opens_to(
     alloc: Global,
     files: &Files,
@@ -111,9 +109,11 @@ fn cut_opens_to(
     }
     let image = cut_last(alloc, files, len, 0)?;
     let found = opens_to(alloc, image, prefixes, least)?;
-    let filled = cut_last(alloc, files, len, ZEROS)?;
-    if opens_to(alloc, filled, prefixes, least)? != found {
-        return Ok(None);
+    if len % BLOCK == 0 {
+        let filled = cut_last(alloc, files, len, ZEROS)?;
+        if opens_to(alloc, filled, prefixes, least)? != found {
+            return Ok(None);
+        }
     }
     if let Some(count) = found {
         if prefixes.found.len() == len {
@@ -202,8 +202,26 @@ fn last_crash_state(
     })
 }
 
+// With zeros in the room behind the last file the files open to so many commits or to one more: a few, and in the
+// first file as many as there is room for.
+fn assert_room_opens(
+    rt: &impl Abort,
+    alloc: Global,
+    files: &Files,
+    room: usize,
+    prefixes: &Prefixes,
+    least: usize,
+) -> Result<(), AllocError> {
+    let Some((f, bytes)) = files.last() else {
+        return Ok(());
+    };
+    let zeros = if f.0 == 0 { room } else { room.min(ZEROS) };
+    let image = cut_last(alloc, files, bytes.len(), zeros)?;
+    assert_opens(rt, alloc, image, prefixes, least)
+}
+
 // The files, with each piece of the last one that a crash may leave, open to so many commits or to one
-// more. Behind a piece there may be zeros, and behind the whole file as many as it has room.
+// more.
 fn assert_pieces_open(
     rt: &impl Abort,
     alloc: Global,
@@ -229,8 +247,7 @@ fn assert_pieces_open(
         assert_found(rt, found, least);
     }
     let room = left.longest.saturating_sub(bytes.len());
-    let image = cut_last(alloc, files, bytes.len(), room)?;
-    assert_opens(rt, alloc, image, prefixes, least)
+    assert_room_opens(rt, alloc, files, room, prefixes, least)
 }
 
 // Each image of the disk, with the bytes of the last file that were written there, opens to the commits

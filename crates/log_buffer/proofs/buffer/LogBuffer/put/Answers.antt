@@ -1,4 +1,4 @@
-use Rattle.std.proofs.Common.{◌≡◌, ◌+◌, ℕ, ap, sym, ◌∙◌, arith}
+use Rattle.std.proofs.Common.{◌≡◌, ap, sym, ◌∙◌, arith}
 use Rattle.log_entry.specs.Encoding.{size_of}
 use Rattle.log_entry.specs.Parts.{entry_by}
 use Rattle.log_entry.proofs.BodyLaws.{body_small}
