@@ -127,9 +127,9 @@ some_is h k e = cc
 back_up : (t : TxnId) (m h : LockType) (q : Queue) → IsSettled q → held_by t q.0 ≡ Some h → IsBack t (Some h) q (map (upgraded_by (lock_of t m)) q.0, q.1)
 back_up t m h q s is = record {
   back = λ k e. (
-      ap (λ (l : List Lock). granted l q.1) (set_all_up t m h q.0 (held_each t h q.0 s.owners.apart is)) ∙ granted_none q.1 q.0 s.waits,
-      (can_hold t h q.0 is s.owners.held, subst (λ (x : LockType). upgraded h x ≡ x) (some_is (upgraded h m) k (sym (held_up t m h q.0 is) ∙ e)) (up_again h m))
-      );
+    ap (λ (l : List Lock). granted l q.1) (set_all_up t m h q.0 (held_each t h q.0 s.owners.apart is)) ∙ granted_none q.1 q.0 s.waits,
+    (can_hold t h q.0 is s.owners.held, subst (λ (x : LockType). upgraded h x ≡ x) (some_is (upgraded h m) k (sym (held_up t m h q.0 is) ∙ e)) (up_again h m)),
+  );
   same = λ e. let k : Some (upgraded h m) ≡ None = sym (held_up t m h q.0 is) ∙ e in absurd (cc);
 }
 
@@ -143,9 +143,9 @@ back_same_by : (t : TxnId) (was : Option LockType) (q : Queue) → IsSettled q �
 back_same_by t None q s is = record { back = λ h e. let k : None ≡ Some h = sym is ∙ e in absurd (cc); same = λ e. refl }
 back_same_by t (Some m) q s is = record {
   back = λ h e. (
-      ap (λ (l : List Lock). granted l q.1) (set_same t m q.0 (held_each t m q.0 s.owners.apart is)) ∙ granted_none q.1 q.0 s.waits,
-      (can_hold t m q.0 is s.owners.held, subst (λ (x : LockType). upgraded m x ≡ x) (some_is m h (sym is ∙ e)) (up_itself m))
-      );
+    ap (λ (l : List Lock). granted l q.1) (set_same t m q.0 (held_each t m q.0 s.owners.apart is)) ∙ granted_none q.1 q.0 s.waits,
+    (can_hold t m q.0 is s.owners.held, subst (λ (x : LockType). upgraded m x ≡ x) (some_is m h (sym is ∙ e)) (up_itself m)),
+  );
   same = λ e. refl;
 }
 

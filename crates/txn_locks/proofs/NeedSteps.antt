@@ -48,11 +48,13 @@ taking_more t needs rest n s now k free =
 pub taking_stops : (t : TxnId) (needs rest : List Need) (n : Need) (owner : TxnId) (s now : LockState) → IsTaking t needs (n ∷ rest) s now → owner_before t n now.at ≡ Some owner → IsStoppedAt t needs s n owner × (now ≡ with_granted t needs s)
 taking_stops t needs rest n owner s now k is =
     let f : is_stopped t n now.at ≡ true = stopped_is t n now.at ∙ ap is_some is in
-    let at : now.at ≡ all_got t (granted_part t needs s.at) s.at = sym (ap (λ (ns : List Need). all_got t ns now.at) (cond-true (is_stopped t n now.at) [] (n ∷ granted_part t rest (got t n now.at)) f)) ∙ k.granted in
-    (record {
-      first = sym k.first ∙ cond-true (is_stopped t n now.at) (Some n) (first_blocked t rest (got t n now.at)) f;
-      least = ap (owner_before t n) (sym at) ∙ is;
-    }, same now s at k.pending)
+    let at : now.at ≡ all_got t (granted_part t needs s.at) s.at = sym (ap (λ (ns : List Need). all_got t ns now.at) (cond-true (is_stopped t n now.at) [] (n ∷ granted_part t rest (got t n now.at)) f)) ∙ k.granted in (
+      record {
+        first = sym k.first ∙ cond-true (is_stopped t n now.at) (Some n) (first_blocked t rest (got t n now.at)) f;
+        least = ap (owner_before t n) (sym at) ∙ is;
+      },
+      same now s at k.pending,
+    )
   where
     same : (a b : LockState) {f : Queues} → a.at ≡ f → a.pending ≡ b.pending → a ≡ record { at = f; pending = b.pending }
     same a b {f} e p = ap (λ (x : Queues). record { at = x; pending = a.pending }) e ∙ ap (λ (x : TxnId → Option RecordId). record { at = f; pending = x }) p
@@ -112,28 +114,42 @@ pub locking_stops : (t : TxnId) (needs : List Need) (i : ℕ) (n : Need) (wait :
     → IsStop locked t n i wait now next → IsLockedAt locked t needs wait s next more
 locking_stops t needs i n wait Ready s now next gs more within is same k stop = absurd stop
 locking_stops t needs i n wait (NotAvailable owner) s now next gs more within is same k stop =
-    let e = taking_stops t needs (drop (i + 1) needs) n owner s now (subst (λ (ns : List Need). IsTaking t needs ns s now) (from_place needs i n within is) k.taking) stop.1 in
-    (λ level. (stop.0, record { need = n; stopped = e.0; locks = ap (when_answered level t) (stop.2 ∙ e.1) }),
-    subst (λ (xs : List Got). AreGot t (reverse xs) s next) (sym same) (subst (AreGot t (reverse gs) s) (sym stop.2) k.got),
-    λ none. subst (λ (xs : List Got). AreReadsAmong t xs next.at) (sym same) (subst (λ (x : LockState). AreReadsAmong t gs x.at) (sym stop.2) (k.reads none)))
+    let e = taking_stops t needs (drop (i + 1) needs) n owner s now (subst (λ (ns : List Need). IsTaking t needs ns s now) (from_place needs i n within is) k.taking) stop.1 in (
+      λ level. (stop.0, record { need = n; stopped = e.0; locks = ap (when_answered level t) (stop.2 ∙ e.1) }),
+      subst (λ (xs : List Got). AreGot t (reverse xs) s next) (sym same) (subst (AreGot t (reverse gs) s) (sym stop.2) k.got),
+      λ none. subst (λ (xs : List Got). AreReadsAmong t xs next.at) (sym same) (subst (λ (x : LockState). AreReadsAmong t gs x.at) (sym stop.2) (k.reads none)),
+    )
 locking_stops t needs i n wait (Waiting at owner) s now next gs more within is same k stop =
-    let e = taking_stops t needs (drop (i + 1) needs) n owner s now (subst (λ (ns : List Need). IsTaking t needs ns s now) (from_place needs i n within is) k.taking) stop.2 in
-    (λ level. (stop.0, record {
-      need = n;
-      there = there_is needs i at n stop.1 within is;
-      stopped = e.0;
-      each = subst (λ (x : LockState). AreVictims (waits_in (lock_of t n.asked) (record_of n) x) []) e.1 stop.3;
-      locks = stop.4 ∙ ap (with_wait t n []) e.1;
-    }), tt, tt)
+    let e = taking_stops t needs (drop (i + 1) needs) n owner s now (subst (λ (ns : List Need). IsTaking t needs ns s now) (from_place needs i n within is) k.taking) stop.2 in (
+      λ level. (
+        stop.0,
+        record {
+          need = n;
+          there = there_is needs i at n stop.1 within is;
+          stopped = e.0;
+          each = subst (λ (x : LockState). AreVictims (waits_in (lock_of t n.asked) (record_of n) x) []) e.1 stop.3;
+          locks = stop.4 ∙ ap (with_wait t n []) e.1;
+        },
+      ),
+      tt,
+      tt,
+    )
 locking_stops t needs i n wait (Victims at owner victims) s now next gs more within is same k stop =
-    let e = taking_stops t needs (drop (i + 1) needs) n owner s now (subst (λ (ns : List Need). IsTaking t needs ns s now) (from_place needs i n within is) k.taking) stop.3 in
-    (λ level. (stop.0, stop.2, record {
-      need = n;
-      there = there_is needs i at n stop.1 within is;
-      stopped = e.0;
-      each = subst (λ (x : LockState). AreVictims (waits_in (lock_of t n.asked) (record_of n) x) victims) e.1 stop.4;
-      locks = stop.5 ∙ ap (with_wait t n (map (λ v. v.0) victims)) e.1;
-    }), tt, tt)
+    let e = taking_stops t needs (drop (i + 1) needs) n owner s now (subst (λ (ns : List Need). IsTaking t needs ns s now) (from_place needs i n within is) k.taking) stop.3 in (
+      λ level. (
+        stop.0,
+        stop.2,
+        record {
+          need = n;
+          there = there_is needs i at n stop.1 within is;
+          stopped = e.0;
+          each = subst (λ (x : LockState). AreVictims (waits_in (lock_of t n.asked) (record_of n) x) victims) e.1 stop.4;
+          locks = stop.5 ∙ ap (with_wait t n (map (λ v. v.0) victims)) e.1;
+        },
+      ),
+      tt,
+      tt,
+    )
 
 -- the same where the turn's answer is a value that is some
 pub locking_halts : (t : TxnId) (needs : List Need) (i : ℕ) (n : Need) (wait : Bool) (stop : Option Locked) (locked : Locked) (s now next : LockState) (gs more : List Got) → stop ≡ Some locked → i < length needs → n ≡ get_or needs i n

@@ -27,7 +27,9 @@ use Rattle.store_model.specs.declared.need.Need.{Need}
 use Rattle.je_answers.specs.Standing.{LockState}
 use Rattle.je_answers.specs.Locking.{Queues, record_of, got, all_got, granted_part, first_blocked, is_stopped, owner_before, given_back}
 use Rattle.txn_locks.specs.declared.got.Got.{Got}
-use Rattle.txn_locks.specs.Taking.{state_of, with_got, with_all, with_granted, when_answered, is_read, are_reads, IsStoppedAt, IsTaking}
+use Rattle.txn_locks.specs.declared.locked.Locked.{Locked}
+use Rattle.txn_locks.specs.declared.locked.Locked.TheVariants.{Ready, Waiting, NotAvailable, Victims}
+use Rattle.txn_locks.specs.Taking.{state_of, with_got, with_all, with_granted, when_answered, is_read, are_reads, IsStoppedAt, HasToWait, IsLocked, IfAnswered, IsTaking}
 use Rattle.txn_locks.specs.Undoing.{IsBack, HasNoRead, AreReadsAmong}
 use Rattle.txn_locks.proofs.States.{same_state, waits_nowhere}
 use Rattle.txn_locks.proofs.Backs.{Queue, held_none, held_some, held_here, held_there, held_pushed, back_at, not_asked}
@@ -271,3 +273,33 @@ answered_each t gs v w among l p = answered_all t v w (λ r. l r ∙ gone_all t 
 
 pub at_level : (level : Isolation) (t : TxnId) (v w : Locks) → level ≡ ReadCommitted → state_of w ≡ when_answered ReadCommitted t (state_of v) → state_of w ≡ when_answered level t (state_of v)
 at_level level t v w is h = h ∙ ap (λ (l : Isolation). when_answered l t (state_of v)) (sym is)
+
+-- none is left
+none_left_by : (t : TxnId) (held : Option LockType) (q : Queue) → held_by t q.0 ≡ held → has_lock t q.1 ≡ false → held_by t (read_given_back t held q).0 ≡ Some Read → ⊥
+none_left_by t None q e n h = let k : None ≡ Some Read = sym e ∙ h in cc
+none_left_by t (Some Read) q e n h =
+    let k : None ≡ Some Read = sym (held_none t (granted (without_txn t q.0) q.1).0 (granted_in t q.1 (without_txn t q.0) (none_of t q.0) n)) ∙ h in cc
+none_left_by t (Some Write) q e n h = let k : Some Write ≡ Some Read = sym e ∙ h in cc
+none_left_by t (Some RangeRead) q e n h = let k : Some RangeRead ≡ Some Read = sym e ∙ h in cc
+none_left_by t (Some RangeWrite) q e n h = let k : Some RangeWrite ≡ Some Read = sym e ∙ h in cc
+none_left_by t (Some RangeInsert) q e n h = let k : Some RangeInsert ≡ Some Read = sym e ∙ h in cc
+
+pub none_left : (level : Isolation) (t : TxnId) (v w : Locks) → NoDeadlock v → pending_at t v ≡ None → state_of w ≡ when_answered level t (state_of v) → level ≡ ReadCommitted → HasNoRead t (λ r. locks_at r w)
+none_left level t v w s none e is r h =
+    let a : state_of w ≡ when_answered ReadCommitted t (state_of v) = e ∙ ap (λ (l : Isolation). when_answered l t (state_of v)) is in
+    let b : locks_at r w ≡ after_read t (locks_at r v) = ap (λ (x : LockState). x.at r) a in
+    none_left_by t (held_by t (locks_at r v).0) (locks_at r v) refl (waits_nowhere t v s none r) (sym (ap (λ (q : Queue). held_by t q.0) b) ∙ h)
+
+-- ---- a call that takes nothing
+pub if_answered : (locked : Locked) (P : Type 0) → P → IfAnswered locked P
+if_answered Ready P p = p
+if_answered (NotAvailable owner) P p = p
+if_answered (Waiting at owner) P p = tt
+if_answered (Victims at owner victims) P p = tt
+
+-- one that has to wait is not answered
+pub not_answered : (locked : Locked) (level : Isolation) (t : TxnId) (needs : List Need) (wait : Bool) (s next : LockState) (P : Type 0) → HasToWait t needs wait s → IsLocked locked level t needs wait s next → IfAnswered locked P
+not_answered Ready level t needs wait s next P h l = let k : None ≡ Some h.need = sym l.0 ∙ h.stopped.first in absurd (cc)
+not_answered (NotAvailable owner) level t needs wait s next P h l = absurd (both_ways wait l.0 h.waits)
+not_answered (Waiting at owner) level t needs wait s next P h l = tt
+not_answered (Victims at owner victims) level t needs wait s next P h l = tt

@@ -68,7 +68,6 @@ IfAnswered (NotAvailable owner) P = P
 IfAnswered (Waiting at owner) P = Unit {0}
 IfAnswered (Victims at owner victims) P = Unit {0}
 
--- ---- inside
 -- READ, and needs of READ alone
 abbrev pub is_read : LockType → Bool
 is_read Read = true
@@ -76,6 +75,14 @@ is_read asked = false
 
 abbrev pub are_reads : List Need → Bool
 are_reads needs = list_all (λ n. is_read n.asked) needs
+
+-- ---- inside
+-- the call has to wait for its first need that is stopped
+pub record HasToWait (t : TxnId) (needs : List Need) (wait : Bool) (s : LockState) : Type 0 where
+  pub waits : wait ≡ true
+  pub need : Need
+  pub owner : TxnId
+  pub stopped : IsStoppedAt t needs s need owner
 
 -- what a request of one need came to, where it was stopped
 abbrev pub stop_of : ℕ → Requested → Option Locked

@@ -1,15 +1,15 @@
 // The locks of an environment, as calls take them.
-ghost use Rattle.std.specs.Prelude.{◌≡◌, [], None, false, reverse, IfOk, OnErr};
+ghost use Rattle.std.specs.Prelude.{◌≡◌, [], None, true, false, reverse, IfOk, OnErr};
 ghost use Rattle.je_order.specs.declared.txn_id.TxnId.{TxnId};
 ghost use Rattle.lock_table.specs.declared.record_id.RecordId.{RecordId};
 ghost use Rattle.lock_table.specs.Table.{locks_at, pending_at};
 ghost use Rattle.lock_mgr.specs.Deadlock.{NoDeadlock};
 ghost use Rattle.store_model.specs.declared.isolation.Isolation.TheVariants.{ReadCommitted};
 ghost use Rattle.je_answers.specs.Standing.{LockState};
-ghost use Rattle.txn_locks.specs.Taking.{state_of, when_answered, IsLocked, IfAnswered};
+ghost use Rattle.txn_locks.specs.Taking.{state_of, are_reads, when_answered, IsLocked, IfAnswered};
 ghost use Rattle.txn_locks.specs.Undoing.{AreGot, HasNoRead, AreReadsAmong};
 
-use crate::reading::{give_back_each, keeps_reads, tested};
+use crate::reading::{give_back_at, tested};
 use crate::taking::take_each;
 use crate::undoing::give_back_all;
 use crate::{Got, Locked};
@@ -58,6 +58,7 @@ impl CallLocks {
         ensures locked { IfOk result (λ locked. IsLocked locked level txn needs.now wait (state_of self.old.locks) (state_of self.new.locks)) }
         ensures got { IfOk result (λ locked. IfAnswered locked (AreGot txn (reverse self.new.got.items) (state_of self.old.locks) (state_of self.new.locks))) }
         ensures reads { IfOk result (λ locked. IfAnswered locked (HasNoRead txn (state_of self.old.locks).at → AreReadsAmong txn self.new.got.items (state_of self.new.locks).at)) }
+        ensures without { level ≡ ReadCommitted → are_reads needs.now ≡ true → IfOk result (λ locked. IfAnswered locked (state_of self.new.locks ≡ state_of self.old.locks)) }
         ensures err { OnErr result (state_of self.new.locks ≡ state_of self.old.locks) }
     {
         self.got.clear();
@@ -77,20 +78,15 @@ impl CallLocks {
     }
 
     /// Gives back what the level does not keep of a call that was answered: at read committed the READ
-    /// locks. `resumed` says whether the call had waited: then it may have some that it got before, and
-    /// each lock of the transaction is looked at. It takes no memory.
+    /// locks, so that it has none afterwards. `resumed` says whether the call had waited: then it may have
+    /// some that it got before, and each lock of the transaction is looked at. It takes no memory.
     pub fn answered(&mut self, txn: TxnId, level: Isolation, resumed: bool)
         requires none { pending_at txn self.old.locks ≡ None }
         requires reads { level ≡ ReadCommitted → resumed ≡ false → AreReadsAmong txn self.old.got.items (state_of self.old.locks).at }
-        ensures { state_of self.new.locks ≡ when_answered level txn (state_of self.old.locks) }
+        ensures locks { state_of self.new.locks ≡ when_answered level txn (state_of self.old.locks) }
+        ensures reads { level ≡ ReadCommitted → HasNoRead txn (state_of self.new.locks).at }
     {
-        if keeps_reads(level) {
-            return;
-        }
-        if resumed {
-            self.locks.give_back_reads(txn);
-            return;
-        }
-        give_back_each(&mut self.locks, self.got.as_slice(), txn);
+        self.locks.have_no_cycle();
+        give_back_at(&mut self.locks, self.got.as_slice(), txn, level, resumed);
     }
 }

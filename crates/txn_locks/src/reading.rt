@@ -14,7 +14,8 @@ ghost use Rattle.store_model.specs.declared.isolation.Isolation.TheVariants.{Rea
 ghost use Rattle.store_model.specs.declared.need.Need.{Need};
 ghost use Rattle.je_answers.specs.Standing.{LockState};
 ghost use Rattle.je_answers.specs.Locking.{first_blocked};
-ghost use Rattle.txn_locks.specs.Taking.{state_of, is_read as is_read_type, are_reads as are_read_needs, when_answered, IsStoppedAt, IsLocked};
+ghost use Rattle.txn_locks.specs.Undoing.{AreReadsAmong};
+ghost use Rattle.txn_locks.specs.Taking.{state_of, is_read as is_read_type, are_reads as are_read_needs, when_answered, IsStoppedAt, HasToWait, IsLocked};
 
 use crate::taking::place_of;
 use crate::{Got, Locked};
@@ -62,6 +63,7 @@ pub(crate) fn owner_in_way(
 pub(crate) fn keeps_reads(level: Isolation) -> bool
     ensures keeps { result ≡ true → (t : TxnId) (s : LockState) → when_answered level t s ≡ s }
     ensures read_committed { result ≡ false → level ≡ ReadCommitted }
+    ensures other { result ≡ true → level ≡ ReadCommitted → ⊥ }
 {
     !matches!(level, Isolation::ReadCommitted)
 }
@@ -75,7 +77,8 @@ pub(crate) fn without_locks(
 ) -> Result<Option<Locked>, AllocError>
     requires reads { are_read_needs needs.now ≡ true }
     requires none { pending_at txn locks.now ≡ None }
-    ensures { IfOk result (λ done. IfSome done (λ locked. IsLocked locked ReadCommitted txn needs.now wait (state_of locks.now) (state_of locks.now))) }
+    ensures waits { IfOk result (λ done. IfNone done (HasToWait txn needs.now wait (state_of locks.now))) }
+    ensures locked { IfOk result (λ done. IfSome done (λ locked. IsLocked locked ReadCommitted txn needs.now wait (state_of locks.now) (state_of locks.now))) }
 {
     locks.have_no_cycle();
     let Some(owner) = owner_in_way(locks, txn, needs)? else {
@@ -96,7 +99,8 @@ pub(crate) fn tested(
     wait: bool,
 ) -> Result<Option<Locked>, AllocError>
     requires none { pending_at txn locks.now ≡ None }
-    ensures { IfOk result (λ done. IfSome done (λ locked. IsLocked locked level txn needs.now wait (state_of locks.now) (state_of locks.now))) }
+    ensures waits { level ≡ ReadCommitted → are_read_needs needs.now ≡ true → IfOk result (λ done. IfNone done (HasToWait txn needs.now wait (state_of locks.now))) }
+    ensures locked { IfOk result (λ done. IfSome done (λ locked. IsLocked locked level txn needs.now wait (state_of locks.now) (state_of locks.now))) }
 {
     if keeps_reads(level) {
         return Ok(None);
@@ -138,4 +142,26 @@ pub(crate) fn give_back_each(locks: &mut LockMgr, got: &[Got], txn: TxnId)
     for lock in got {
         give_back_read(locks, &lock.at, txn);
     }
+}
+
+// Gives back what the level does not keep. It takes no memory.
+pub(crate) fn give_back_at(
+    locks: &mut LockMgr,
+    got: &[Got],
+    txn: TxnId,
+    level: Isolation,
+    resumed: bool,
+)
+    requires none { pending_at txn locks.old ≡ None }
+    requires reads { level ≡ ReadCommitted → resumed ≡ false → AreReadsAmong txn got.now (state_of locks.old).at }
+    ensures { state_of locks.new ≡ when_answered level txn (state_of locks.old) }
+{
+    if keeps_reads(level) {
+        return;
+    }
+    if resumed {
+        locks.give_back_reads(txn);
+        return;
+    }
+    give_back_each(locks, got, txn);
 }
