@@ -4,12 +4,10 @@ use Rattle.std.specs.List.{list_any}
 use Rattle.std.specs.Option.{option_map_or}
 use Rattle.je_order.specs.declared.txn_id.TxnId.{TxnId}
 use Rattle.je_order.specs.declared.bound.Bound.{Bound}
-use Rattle.lock_mode.specs.declared.lock_type.LockType.{LockType}
-use Rattle.lock_mode.specs.declared.lock_type.LockType.TheVariants.{Read}
 use Rattle.waits_for.specs.Cycles.{is_in}
 use Rattle.lock_table.specs.declared.lock.Lock.{Lock}
 use Rattle.lock_table.specs.declared.record_id.RecordId.{RecordId}
-use Rattle.lock_table.specs.Locks.{lock_of, has_lock, held_by, is_blocking, is_blocked, blocker, waited_for, after_ask, after_release, after_give_back}
+use Rattle.lock_table.specs.Locks.{lock_of, has_lock, is_blocking, is_blocked, blocker, waited_for, after_ask, after_read, after_release}
 use Rattle.je_order.specs.Transactions.{is_same_txn}
 use Rattle.lock_table.specs.Records.{is_record}
 use Rattle.lock_mgr.specs.Deadlock.{without_waits}
@@ -55,14 +53,9 @@ owner_before t n at = blocker (lock_of t n.asked) (at (record_of n)).0
 
 -- ---- giving back
 
--- a lock of no more than READ is given back
-abbrev pub read_given_back : TxnId → Option LockType → List Lock × List Lock → List Lock × List Lock
-read_given_back t (Some Read) q = after_give_back t None q
-read_given_back t held q = q
-
 -- at read committed a transaction's READ locks go when its call is answered
 abbrev pub given_back : Isolation → TxnId → Queues → Queues
-given_back ReadCommitted t at r = read_given_back t (held_by t (at r).0) (at r)
+given_back ReadCommitted t at r = after_read t (at r)
 given_back level t at r = at r
 
 -- at a transaction's end all that it has goes

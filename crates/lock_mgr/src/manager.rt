@@ -50,6 +50,14 @@ impl LockMgr {
         }
     }
 
+    /// No transaction waits for itself by way of others, owners never conflict, and no wait could be
+    /// granted: for those who reason above the manager. It does nothing.
+    pub fn have_no_cycle(&self)
+        ensures { NoDeadlock self.now }
+    {
+        let _ = &self.table;
+    }
+
     /// Asks for a lock. Where it conflicts with another owner it waits, or, without `wait`, is not
     /// available. A wait that closes cycles costs the greatest transaction of each its wait, one after
     /// another; these are the victims. The only error is out of memory: then no lock and no wait is
@@ -131,8 +139,7 @@ impl LockMgr {
 
     /// The least owner with which a request would conflict. It asks for nothing, and takes no memory.
     pub fn blocker(&self, txn: TxnId, at: &RecordId, asked: LockType) -> Option<TxnId>
-        ensures owner { result ≡ blocker (lock_of txn asked) (locks_at at.now self.now).0 }
-        ensures free { NoDeadlock self.now }
+        ensures { result ≡ blocker (lock_of txn asked) (locks_at at.now self.now).0 }
     {
         self.table.blocker(txn, at, asked)
     }
@@ -161,8 +168,7 @@ impl LockMgr {
 
     /// The type that the transaction holds on a record.
     pub fn held(&self, txn: TxnId, at: &RecordId) -> Option<LockType>
-        ensures held { result ≡ held_by txn (locks_at at.now self.now).0 }
-        ensures free { NoDeadlock self.now }
+        ensures { result ≡ held_by txn (locks_at at.now self.now).0 }
     {
         self.table.held(txn, at)
     }

@@ -165,11 +165,7 @@ pub(crate) fn read_back_in(
 }
 
 // The transaction's locks on these records go, where they are no more than READ.
-fn read_back_each(
-    queues: &mut BTreeMap<RecordId, Queue>,
-    list: &BTreeSet<RecordId>,
-    txn: TxnId,
-)
+fn read_back_each(queues: &mut BTreeMap<RecordId, Queue>, list: &BTreeSet<RecordId>, txn: TxnId)
     requires listed { (r : RecordId) → set_has record_cmp list.now r ≡ false → IsOut txn (queue_at r queues.old.entries) }
     ensures { (r : RecordId) → queue_at r queues.new.entries ≡ after_read txn (queue_at r queues.old.entries) }
 {

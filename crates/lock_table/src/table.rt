@@ -15,9 +15,9 @@ ghost use Rattle.lock_table.specs.Table.{locks_at, pending_at, is_waiting, was_g
 
 use crate::calls::{ask_in, cancel_in, forget_in, give_back_in, read_back_in, release_in};
 use crate::holders::{least_in, told_in};
-use crate::ranges::note_range;
 use crate::queue::Queue;
 use crate::queues::{owners_at, waits_at};
+use crate::ranges::note_range;
 use crate::{Asked, Lock, RecordId, lists};
 use je_order::{List, TxnId};
 use lock_mode::LockType;

@@ -4,7 +4,9 @@ use Rattle.lock_table.specs.Records.{queue_at}
 use Rattle.lock_table.proofs.table.LockTable.ask.Goals as goal
 
 pub invariant_of-self-2 : goal.invariant_of-self-2
-invariant_of-self-2 c = (c.ask_in.ensures.table,
-    ranges_asked_in c.ask_in.result (is_among c.note_range.new.ranging) (record { records = c.self.inside.queues.entries; pending = c.self.inside.pending.entries }) (record { records = c.ask_in.new.queues.entries; pending = c.ask_in.new.pending.entries })
-    c.args.at.now (record { txn = c.args.txn; mode = c.args.asked }) (λ r. ranges_more (is_among c.self.inside.ranging) (is_among c.note_range.new.ranging) (queue_at r c.self.inside.queues.entries) c.note_range.ensures.kept (c.self.invariant.1 r))
-    c.in_ok-note_range.ensures.noted c.ask_in.ensures.queues c.ask_in.ensures.err)
+invariant_of-self-2 c = (
+  c.ask_in.ensures.table,
+  ranges_asked_in c.ask_in.result (is_among c.note_range.new.ranging) (record { records = c.self.inside.queues.entries; pending = c.self.inside.pending.entries }) (record { records = c.ask_in.new.queues.entries; pending = c.ask_in.new.pending.entries })
+      c.args.at.now (record { txn = c.args.txn; mode = c.args.asked }) (λ r. ranges_more (is_among c.self.inside.ranging) (is_among c.note_range.new.ranging) (queue_at r c.self.inside.queues.entries) c.note_range.ensures.kept (c.self.invariant.1 r))
+      c.in_ok-note_range.ensures.noted c.ask_in.ensures.queues c.ask_in.ensures.err,
+)

@@ -7,8 +7,10 @@ use Rattle.lock_table.proofs.WholeTable.{sound_cancel}
 use Rattle.lock_table.proofs.table.LockTable.cancel.Goals as goal
 
 pub invariant_of-self : goal.invariant_of-self
-invariant_of-self c = (sound_cancel (λ r. queue_at r c.self.inside.queues.entries) (λ r. queue_at r c.cancel_in.new.queues.entries) (is_listed c.self.inside.lists.entries) (λ t. at_txn t c.self.inside.pending.entries) (λ t. at_txn t c.cancel_in.new.pending.entries) c.args.txn c.self.invariant.0 c.cancel_in.ensures.queues (λ t. unless _ _ _ _ (c.cancel_in.ensures.pending t)),
-    λ r. subst (AreRangesOf (is_among c.self.inside.ranging)) (sym (c.cancel_in.ensures.queues r)) (ranges_cancelled (is_among c.self.inside.ranging) c.args.txn (queue_at r c.self.inside.queues.entries) (c.self.invariant.1 r)))
+invariant_of-self c = (
+  sound_cancel (λ r. queue_at r c.self.inside.queues.entries) (λ r. queue_at r c.cancel_in.new.queues.entries) (is_listed c.self.inside.lists.entries) (λ t. at_txn t c.self.inside.pending.entries) (λ t. at_txn t c.cancel_in.new.pending.entries) c.args.txn c.self.invariant.0 c.cancel_in.ensures.queues (λ t. unless _ _ _ _ (c.cancel_in.ensures.pending t)),
+  λ r. subst (AreRangesOf (is_among c.self.inside.ranging)) (sym (c.cancel_in.ensures.queues r)) (ranges_cancelled (is_among c.self.inside.ranging) c.args.txn (queue_at r c.self.inside.queues.entries) (c.self.invariant.1 r)),
+)
 
 pub returns-clause-settled : goal.returns-clause-settled
 returns-clause-settled c = let s = sound_cancel (λ r. queue_at r c.self.inside.queues.entries) (λ r. queue_at r c.cancel_in.new.queues.entries) (is_listed c.self.inside.lists.entries) (λ t. at_txn t c.self.inside.pending.entries) (λ t. at_txn t c.cancel_in.new.pending.entries) c.args.txn c.self.invariant.0 c.cancel_in.ensures.queues (λ t. unless _ _ _ _ (c.cancel_in.ensures.pending t)) in record { settled = s.settled; alone = s.waits }

@@ -1,0 +1,2 @@
+-- What transactions changed, after a change of the map.
+pub mod OwnMaps

@@ -1,0 +1,19 @@
+-- What transactions under way changed, by their numbers.
+use Rattle.std.specs.Prelude.{ℕ, List, [], Option, None}
+use Rattle.std.specs.Option.{option_map_or}
+use Rattle.je_order.specs.declared.txn_id.TxnId.{TxnId}
+use Rattle.lock_table.specs.Table.{at_txn}
+use Rattle.store_model.specs.declared.record_change.RecordChange.{RecordChange}
+use Rattle.active_txns.specs.declared.own_changes.OwnChanges.{OwnChanges}
+
+-- the changes of a transaction, in order, each with its database's number
+abbrev pub changes_at : TxnId → List (TxnId × OwnChanges) → List (ℕ × RecordChange)
+changes_at t entries = option_map_or (λ o. o.changes) (at_txn t entries) []
+
+-- where the first entry stands that the log got of a transaction
+abbrev pub first_at : TxnId → List (TxnId × OwnChanges) → Option ℕ
+first_at t entries = option_map_or (λ o. o.first) (at_txn t entries) None
+
+-- the own changes of each transaction, by its number
+abbrev pub own_of : List (TxnId × OwnChanges) → ℕ → List (ℕ × RecordChange)
+own_of entries n = changes_at (record { 0 = n }) entries

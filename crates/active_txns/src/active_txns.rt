@@ -1,0 +1,102 @@
+// The transactions under way.
+ghost use Rattle.std.specs.Prelude.{◌≡◌, ◌++◌, ◌∷◌, [], None, Some, OnOk, OnErr};
+ghost use Rattle.std.specs.Option.{option_copied};
+ghost use Rattle.je_answers.specs.Standing.{active_of, with_at};
+ghost use Rattle.je_answers.specs.After.{marked, without_session};
+ghost use Rattle.active_txns.specs.Own.{own_of, changes_at};
+
+use crate::OwnChanges;
+use crate::owned::{push_at, read_at, remove_at};
+use je_answers::Active;
+use je_order::{List, TxnId};
+use std::alloc::{AllocError, Global};
+use std::collections::BTreeMap;
+use store_model::{Durability, Isolation, RecordChange};
+
+/// The transactions under way, in the order of their numbers, and what each has changed so far. It is made
+/// once and lives as long as the environment. A session has one transaction at most.
+#[derive(Drop)]
+pub struct ActiveTxns {
+    actives: Vec<Active>,
+    own: BTreeMap<TxnId, OwnChanges>,
+}
+
+impl ActiveTxns {
+    /// No transaction. It takes no memory.
+    pub fn new(alloc: Global) -> ActiveTxns
+        ensures actives { result.actives.items ≡ [] }
+        ensures own { own_of result.own.entries ≡ (λ n. []) }
+    {
+        ActiveTxns {
+            actives: Vec::new(alloc),
+            own: BTreeMap::new(alloc),
+        }
+    }
+
+    /// Begins a transaction of a session; its number is greater than those of the others. The only error
+    /// is out of memory, and nothing is changed by it.
+    pub fn begin(
+        &mut self,
+        txn: TxnId,
+        session: u8,
+        level: Isolation,
+        durability: Durability,
+        waits: bool,
+        is_auto: bool,
+    ) -> Result<(), AllocError>
+        ensures actives { OnOk result (self.new.actives.items ≡ self.old.actives.items ++ record { txn = txn; session = session; level = level; durability = durability; waits = waits; is_auto = is_auto; deadlock = None } ∷ []) }
+        ensures own { self.new.own.entries ≡ self.old.own.entries }
+        ensures err { OnErr result (self.new.actives.items ≡ self.old.actives.items) }
+    {
+        let active = Active {
+            txn,
+            session,
+            level,
+            durability,
+            waits,
+            is_auto,
+            deadlock: None,
+        };
+        self.actives.push(active)?;
+        Ok(())
+    }
+
+    /// The transaction of a session.
+    pub fn of_session(&self, session: u8) -> Option<&Active>
+        ensures { option_copied result ≡ active_of session self.now.actives.items }
+    {
+        self.actives.iter().find(|active| active.session == session)
+    }
+
+    /// What a transaction has changed so far, in order, each change with its database's number.
+    pub fn own(&self, txn: TxnId) -> &[(u32, RecordChange)]
+        ensures { result.now ≡ own_of self.now.own.entries txn.0 }
+    {
+        read_at(&self.own, txn)
+    }
+
+    /// Puts a change at the end of a transaction's. The only error is out of memory, and nothing is changed
+    /// by it.
+    pub fn push_own(
+        &mut self,
+        alloc: Global,
+        txn: TxnId,
+        db: u32,
+        change: RecordChange,
+    ) -> Result<(), AllocError>
+        ensures own { OnOk result (own_of self.new.own.entries ≡ with_at txn.0 (own_of self.old.own.entries txn.0 ++ (db, change) ∷ []) (own_of self.old.own.entries)) }
+        ensures actives { self.new.actives.items ≡ self.old.actives.items }
+        ensures err { OnErr result (own_of self.new.own.entries ≡ own_of self.old.own.entries) }
+    {
+        push_at(&mut self.own, alloc, txn, db, change)
+    }
+
+    /// Ends a session's transaction, with what it changed. It takes no memory.
+    pub fn end(&mut self, session: u8, txn: TxnId)
+        ensures actives { self.new.actives.items ≡ without_session session self.old.actives.items }
+        ensures own { own_of self.new.own.entries ≡ with_at txn.0 [] (own_of self.old.own.entries) }
+    {
+        self.actives.retain(|active| active.session != session);
+        remove_at(&mut self.own, txn);
+    }
+}
