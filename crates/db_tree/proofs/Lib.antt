@@ -36,12 +36,14 @@ pub mod GrowLaws
 pub mod RootLaws
 -- How long images are.
 pub mod ImageSizes
--- The images of nodes that were split.
-pub mod HalvesLaws
--- The LSNs of children in their IN's image.
-pub mod FillLaws
 -- Splits are taken back.
 pub mod BackLaws
+-- Which nodes of changed levels wait.
+pub mod WaitLaws
+-- Levels in which some nodes wait, or do not.
+pub mod ForcedLaws
+-- How many nodes wait.
+pub mod WaitCounts
 -- How many images and nodes a name's slot needs.
 pub mod FewSplits
 -- How calls end, and what is left of a list.

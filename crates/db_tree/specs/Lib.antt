@@ -5,6 +5,7 @@ pub mod Laws
 pub mod Seen
 pub mod Stored
 pub mod Splitting
+pub mod Waiting
 pub mod Splits
-pub mod Halves
+pub mod NodeImages
 pub mod Shapes

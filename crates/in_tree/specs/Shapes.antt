@@ -1,21 +1,17 @@
 -- The trees of all databases, as far as splits depend on them.
-use Rattle.std.specs.Prelude.{◌≡◌, ◌==◌, ℕ, [], ◌∷◌, Option, None, Some, if◌then◌else◌}
+use Rattle.std.specs.Prelude.{◌≡◌, ◌==◌, ℕ, [], Option, None, Some, if◌then◌else◌}
 use Rattle.std.specs.Ordering.{nat_cmp}
 use Rattle.std.specs.BTreeMap.{get}
 use Rattle.record_tree.specs.declared.tree_change.TreeChange.{TreeChange}
-use Rattle.tree_nodes.specs.Nodes.{least}
 use Rattle.db_tree.specs.declared.tree.DbTree.{DbTree}
-use Rattle.db_tree.specs.Shapes.{shape_in}
+use Rattle.db_tree.specs.Shapes.{shape_in, new_shape}
 use Rattle.db_tree.specs.Splits.{Shape, shape_with}
 use Rattle.in_tree.specs.Forest.{Forest}
 
--- a database without a tree, and a new tree
+-- a database without a tree has no level
 abbrev pub shape_of : Option DbTree → Shape
-shape_of None = record { cells = []; lows = [] }
+shape_of None = record { cells = []; lows = []; waiting = [] }
 shape_of (Some tree) = shape_in tree
-
-abbrev pub new_shape : Shape
-new_shape = record { cells = []; lows = (least ∷ []) ∷ [] }
 
 -- the trees by their databases' numbers
 abbrev pub Shapes : Type 0

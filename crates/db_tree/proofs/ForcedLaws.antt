@@ -1,0 +1,1 @@
+-- Levels in which some nodes wait, or do not.
