@@ -36,6 +36,8 @@ pub mod GrowLaws
 pub mod RootLaws
 -- How long images are.
 pub mod ImageSizes
+-- Images get the LSNs of children.
+pub mod FinishLaws
 -- Splits are taken back.
 pub mod BackLaws
 -- Which nodes of changed levels wait.

@@ -70,8 +70,8 @@ abbrev pub node_of : NodeImage → NodeAt
 node_of image = record { level = image.level; low = image.low }
 
 -- images are those of some nodes, in their order
-pub record AreNodeImages (db : ℕ) (rows : List NodeRow) (cells : List (Name × Cell)) (nodes : List NodeAt) (images : List NodeImage) : Type 0 where
-  pub nodes : map node_of images ≡ nodes
+pub record AreNodeImages (db : ℕ) (rows : List NodeRow) (cells : List (Name × Cell)) (wanted : List NodeAt) (images : List NodeImage) : Type 0 where
+  pub nodes : map node_of images ≡ wanted
   pub each : AllByRecursion (IsNodeImage db rows cells) images
 
 abbrev pub sizes_in : List NodeImage → List ℕ
@@ -93,8 +93,13 @@ finished_slots rows level children [] = []
 finished_slots rows level [] (slot ∷ slots) = slot ∷ slots
 finished_slots rows level (low ∷ children) (slot ∷ slots) = record { name = slot.name; child = last_at rows level low } ∷ finished_slots rows level children slots
 
+-- those in the entry of a node of a level; a BIN's has none
+abbrev pub finished_below : List NodeRow → ℕ → List Name → List ChildSlot → List ChildSlot
+finished_below rows zero children slots = slots
+finished_below rows (suc k) children slots = finished_slots rows k children slots
+
 abbrev pub finished_entry : List NodeRow → ℕ → List Name → Entry → Entry
-finished_entry rows (suc k) children (In db number level slots) = In db number level (finished_slots rows k children slots)
+finished_entry rows level children (In db number of_level slots) = In db number of_level (finished_below rows level children slots)
 finished_entry rows level children entry = entry
 
 -- an image whose children have their LSNs

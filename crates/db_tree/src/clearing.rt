@@ -40,6 +40,15 @@ impl DbTree {
         self.levels.set(level, low, with_forced(&node, forced));
     }
 
+    // The node of an image waits no more.
+    fn clear_one(&mut self, image: &NodeImage)
+        ensures forced { AreForced false (node_of image.now ∷ []) self.old.levels self.new.levels }
+        ensures cells { self.new.cells ≡ self.old.cells }
+        ensures tree { (es : Placed) (base : ℕ) (newest : Name → ℕ) → IsTree es base newest self.old.levels self.old.cells → IsTree es base newest self.new.levels self.new.cells }
+    {
+        self.set_forced(image.level, &image.low, false);
+    }
+
     // The nodes of images wait no more.
     pub(crate) fn clear_all(&mut self, images: &[NodeImage])
         ensures forced { AreForced false (map node_of images.now) self.old.levels self.new.levels }
@@ -48,7 +57,18 @@ impl DbTree {
     {
         let _height = self.levels.height();
         for i in 0..images.len() {
-            self.set_forced(images[i].level, &images[i].low, false);
+            self.clear_one(&images[i]);
+        }
+    }
+
+    // The node of an image waits again if it waited before.
+    fn restore_one(&mut self, image: &NodeImage)
+        ensures forced { AreForced true (map node_of (filter (λ i. i.waited) (image.now ∷ []))) self.old.levels self.new.levels }
+        ensures cells { self.new.cells ≡ self.old.cells }
+    {
+        let _height = self.levels.height();
+        if image.waited {
+            self.set_forced(image.level, &image.low, true);
         }
     }
 
@@ -59,9 +79,7 @@ impl DbTree {
     {
         let _height = self.levels.height();
         for i in 0..images.len() {
-            if images[i].waited {
-                self.set_forced(images[i].level, &images[i].low, true);
-            }
+            self.restore_one(&images[i]);
         }
     }
 }

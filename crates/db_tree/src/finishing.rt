@@ -11,6 +11,15 @@ use je_order::List;
 use log_entry::{ChildSlot, Entry};
 use record_map::SortKey;
 
+// The LSN, which is a number of eight bytes.
+fn bounded(at: Lsn) -> Lsn
+    ensures same { result ≡ at }
+    ensures bound { result < 2 ^ 64 }
+{
+    let _number = at.as_u64();
+    at
+}
+
 impl DbTree {
     // The LSN of the last image of the node of a level with the low.
     fn last_at(&self, level: usize, low: &SortKey) -> Lsn
@@ -35,12 +44,27 @@ impl DbTree {
         ensures each { AllByRecursion IsChildSlot slots.old → AllByRecursion IsChildSlot slots.new }
     {
         for i in 0..slots.len() {
-            if i < children.len() {
-                let at = self.last_at(level, &children[i]);
-                let _number = at.as_u64();
-                slots[i].child = at;
+            if i >= children.len() {
+                return;
             }
+            let at = bounded(self.last_at(level, &children[i]));
+            slots[i].child = at;
         }
+    }
+
+    // Slots of children, which are nodes of a level, with their LSNs.
+    fn finish_list(
+        &self,
+        slots: List<ChildSlot>,
+        level: usize,
+        children: &[SortKey],
+    ) -> List<ChildSlot>
+        ensures slots { result ≡ finished_slots self.now.levels level children.now slots }
+        ensures each { AllByRecursion IsChildSlot slots → AllByRecursion IsChildSlot result }
+    {
+        let mut items = slots.into_vec();
+        self.finish_slots(items.as_mut_slice(), level, children);
+        List::from_vec(items)
     }
 
     // The entry of a node of a level, in which its children have their LSNs.
@@ -57,16 +81,12 @@ impl DbTree {
                 node,
                 level: of_level,
                 slots,
-            } => {
-                let mut items = slots.into_vec();
-                self.finish_slots(items.as_mut_slice(), level - 1, children);
-                Entry::In {
-                    db,
-                    node,
-                    level: of_level,
-                    slots: List::from_vec(items),
-                }
-            }
+            } => Entry::In {
+                db,
+                node,
+                level: of_level,
+                slots: self.finish_list(slots, level - 1, children),
+            },
             other => other,
         }
     }

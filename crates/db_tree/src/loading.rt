@@ -74,7 +74,15 @@ fn unlogged(number: u64) -> Node {
     }
 }
 
-// Raises a tree until it has the level.
+// Puts a node without an image above the top.
+fn raise_one(levels: &mut Levels, alloc: Global, number: u64) -> Result<(), AllocError>
+    ensures height { OnOk result (length levels.new ≡ suc (length levels.old)) }
+    ensures few { count_lows (waiting_of levels.new) ≤ count_lows (waiting_of levels.old) + 1 }
+{
+    levels.raise(alloc, unlogged(number))
+}
+
+// Raises a tree until it has the level. It gives by how much.
 fn raise_to(
     levels: &mut Levels,
     alloc: Global,
@@ -87,14 +95,15 @@ fn raise_to(
     ensures made { IfOk result (λ made. made ≤ 256) }
     ensures most { count_lows (waiting_of levels.new) ≤ count_lows (waiting_of levels.old) + 256 }
 {
-    let height = levels.height();
-    for i in height..level + 1 {
-        levels.raise(alloc, unlogged(number))?;
+    let mut made = 0;
+    for i in levels.height()..level + 1 {
+        raise_one(levels, alloc, number)?;
+        made += 1;
     }
-    Ok((level + 1).saturating_sub(height))
+    Ok(made)
 }
 
-// Puts a node without an image under the low, where the level has none. The level below has that low.
+// Puts a node without an image under the low, where the level has none. The level below has that low. It gives how many were put.
 fn put_low(
     levels: &mut Levels,
     alloc: Global,
@@ -108,7 +117,7 @@ fn put_low(
     ensures height { OnOk result (length levels.new ≡ length levels.old) }
     ensures few { IfOk result (λ made. count_lows (waiting_of levels.new) ≤ count_lows (waiting_of levels.old) + made) }
     ensures made { IfOk result (λ made. made ≤ 1) }
-    ensures err { OnErr result (levels.new ≡ levels.old) }
+    ensures most { count_lows (waiting_of levels.new) ≤ count_lows (waiting_of levels.old) + 1 }
 {
     if let Some(_) = levels.at(level, low) {
         return Ok(0);
@@ -118,7 +127,7 @@ fn put_low(
     Ok(1)
 }
 
-// Puts the low on the level and on each one below.
+// Puts the low on the level and on each one below. It gives how many nodes were put.
 fn put_lows(
     levels: &mut Levels,
     alloc: Global,
@@ -158,6 +167,7 @@ fn put_node(
 {
     let raised = raise_to(levels, alloc, level, node.number)?;
     let made = put_lows(levels, alloc, level, low, node.number)?;
+    let _height = levels.height();
     levels.set(level, low, node);
     Ok(raised + made)
 }
