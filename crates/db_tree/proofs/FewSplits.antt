@@ -103,7 +103,7 @@ filter_less p (x ∷ names) =
     let head : length (cond (p x) (x ∷ filter p names) (filter p names)) ≤ length (filter p names) + 1 = cond_few (p x) x (filter p names) in
     omega (arith, rest, head)
 
-still_less : (whole : List NodeAt) (level : ℕ) (waiting : List (List Name)) → count_lows (still_waiting whole level waiting) ≤ count_lows waiting
+pub still_less : (whole : List NodeAt) (level : ℕ) (waiting : List (List Name)) → count_lows (still_waiting whole level waiting) ≤ count_lows waiting
 still_less whole level [] = omega arith
 still_less whole level (l ∷ waiting) =
     let head : length (filter (λ y. not (is_among whole level y)) l) ≤ length l = filter_less (λ (y : Name). not (is_among whole level y)) l in

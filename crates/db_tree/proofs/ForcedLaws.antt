@@ -19,7 +19,7 @@ use Rattle.tree_nodes.specs.declared.node.Node.{Node}
 use Rattle.tree_nodes.specs.Nodes.{NodeRow, low_behind}
 use Rattle.tree_nodes.specs.Levels.{row_of, slot_of, AreParts, HasPutAt}
 use Rattle.tree_nodes.specs.Lows.{lows_of, lows_at, low_after}
-use Rattle.tree_nodes.proofs.LowLaws.{low_after_is}
+use Rattle.tree_nodes.proofs.LowLaws.{low_after_is, keys_passed}
 use Rattle.db_tree.specs.declared.node_at.NodeAt.{NodeAt}
 use Rattle.db_tree.specs.declared.node_image.NodeImage.{NodeImage}
 use Rattle.db_tree.specs.Images.{Placed}
@@ -32,11 +32,11 @@ use Rattle.db_tree.proofs.Marking.{marked_or_split}
 use Rattle.db_tree.proofs.Over.{over_low}
 use Rattle.db_tree.proofs.Seen.{same_lists}
 use Rattle.db_tree.proofs.SplitLaws.{level_cases}
-use Rattle.db_tree.proofs.WaitLaws.{lows_same, keys_at, filter_ext}
+use Rattle.db_tree.proofs.WaitLaws.{lows_same, keys_at, put_lows, filter_ext}
 
 -- ---- one node
 
-abbrev one_at : ℕ → Name → List NodeAt
+abbrev pub one_at : ℕ → Name → List NodeAt
 one_at level low = record { level = level; low = low } ∷ []
 
 forced_same : (b : Bool) (o : Option Node) → option_map (forced_if false b) o ≡ o
@@ -201,20 +201,55 @@ still_is ns level (x ∷ a) (y ∷ b) same each =
     shift : (k : ℕ) → level + suc k ≡ suc level + k
     shift k = omega arith
 
--- what is cleared waits no more
-pub clear_waiting : (ns : List NodeAt) (old new : List NodeRow) → AreForced false ns old new → waiting_of new ≡ still_waiting ns 0 (waiting_of old)
-clear_waiting ns old new are = still_is ns 0 old new are.height each
+-- nodes of the same lows, of which some wait no more
+clear_by : (ns : List NodeAt) (old new : List NodeRow) → length new ≡ length old → lows_of new ≡ lows_of old → ((k : ℕ) (x : Name) → waits_at new k x ≡ (waits_at old k x && not (is_among ns k x))) → waiting_of new ≡ still_waiting ns 0 (waiting_of old)
+clear_by ns old new height lows waits = still_is ns 0 old new height each
   where
-    waits : (k : ℕ) (x : Name) → waits_at new k x ≡ (waits_at old k x && not (is_among ns k x))
-    waits k x = ap is_forced (are.each k x) ∙ clear_waits (is_among ns k x) (value_at x (row_of old k))
-
     each : (k : ℕ) → waiting_in (get_or new k []) ≡ filter (λ low. not (is_among ns (0 + k) low)) (waiting_in (get_or old k []))
     each k =
         let zero_first : k ≡ 0 + k = omega arith in
-        ap (filter (waits_in (row_of new k))) (keys_at new old k (force_lows false ns old new are))
+        ap (filter (waits_in (row_of new k))) (keys_at new old k lows)
         ∙ filter_ext (waits_in (row_of new k)) (λ (x : Name). waits_at old k x && not (is_among ns k x)) (keys_of (row_of old k)) (waits k)
         ∙ filter_both (waits_in (row_of old k)) (λ (x : Name). not (is_among ns k x)) (keys_of (row_of old k))
         ∙ ap (λ (n : ℕ). filter (λ (low : Name). not (is_among ns n low)) (waiting_in (row_of old k))) zero_first
+
+-- what is cleared waits no more
+pub clear_waiting : (ns : List NodeAt) (old new : List NodeRow) → AreForced false ns old new → waiting_of new ≡ still_waiting ns 0 (waiting_of old)
+clear_waiting ns old new are =
+    clear_by ns old new are.height (force_lows false ns old new are) (λ k x. ap is_forced (are.each k x) ∙ clear_waits (is_among ns k x) (value_at x (row_of old k)))
+
+-- a node that does not wait was put in the place of one
+pub put_waiting : (old new : List NodeRow) (level : ℕ) (low : Name) (m n : Node) → AreParts old → AreParts new → value_at low (row_of old level) ≡ Some m → HasPutAt old new level low n → n.forced ≡ false →
+    waiting_of new ≡ still_waiting (one_at level low) 0 (waiting_of old)
+put_waiting old new level low m n was are there put quiet =
+    clear_by (one_at level low) old new put.height (put_lows old new level low m n was are there put) (λ k x. by_case k x (one_cases level low k x))
+  where
+    off : (a : Bool) → false ≡ (a && false)
+    off true = refl
+    off false = refl
+
+    on : (a : Bool) → a ≡ (a && true)
+    on true = refl
+    on false = refl
+
+    same : (k : ℕ) (x : Name) → (k ≡ level → ⊥) ⊎ (is_eq (name_cmp low x) ≡ false) → waits_at new k x ≡ waits_at old k x
+    same k x (inl other) = ap (λ (row : NodeRow). waits_in row x) (put.others k other)
+    same k x (inr apart) = at_level (level_cases k level)
+      where
+        at_level : (k ≡ level) ⊎ (k ≡ level → ⊥) → waits_at new k x ≡ waits_at old k x
+        at_level (inl here) =
+            subst (λ (l : ℕ). waits_at new l x ≡ waits_at old l x) (sym here) (ap is_forced (put.here x ∙ other_stays low x (Some n) (value_at x (row_of old level)) apart))
+        at_level (inr other) = ap (λ (row : NodeRow). waits_in row x) (put.others k other)
+
+    by_case : (k : ℕ) (x : Name) → ((level ≡ k) × (low ≡ x) × (is_among (one_at level low) k x ≡ true)) ⊎ ((is_among (one_at level low) k x ≡ false) × ((k ≡ level → ⊥) ⊎ (is_eq (name_cmp low x) ≡ false))) →
+        waits_at new k x ≡ (waits_at old k x && not (is_among (one_at level low) k x))
+    by_case k x (inl is) =
+        ap₂ (λ (l : ℕ) (y : Name). waits_at new l y) (sym is.0) (sym is.1)
+        ∙ ap is_forced (put.here low ∙ same_gets low (Some n) (value_at low (row_of old level)))
+        ∙ quiet
+        ∙ off (waits_at old k x)
+        ∙ sym (ap (λ (t : Bool). waits_at old k x && not t) is.2)
+    by_case k x (inr is) = same k x is.1 ∙ on (waits_at old k x) ∙ sym (ap (λ (t : Bool). waits_at old k x && not t) is.0)
 
 -- ---- nodes that wait again
 
@@ -357,3 +392,8 @@ force_slots b ns old new k from upto are = ap (λ (row : NodeRow). map slot_of (
 
 pub force_behind : (b : Bool) (ns : List NodeAt) (old new : List NodeRow) (k : ℕ) (low : Name) → AreForced b ns old new → low_behind low (row_of new k) ≡ low_behind low (row_of old k)
 force_behind b ns old new k low are = low_after_is low (row_of new k) ∙ ap (low_after low) (keys_at new old k (force_lows b ns old new are)) ∙ sym (low_after_is low (row_of old k))
+
+-- and have the same lows
+pub force_keys : (b : Bool) (ns : List NodeAt) (old new : List NodeRow) (k : ℕ) (from upto : Edge) → AreForced b ns old new → keys_of (between_edges from upto (row_of new k)) ≡ keys_of (between_edges from upto (row_of old k))
+force_keys b ns old new k from upto are =
+    keys_passed (is_between from upto) (row_of new k) ∙ ap (filter (is_between from upto)) (keys_at new old k (force_lows b ns old new are)) ∙ sym (keys_passed (is_between from upto) (row_of old k))

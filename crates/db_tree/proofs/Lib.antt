@@ -36,6 +36,16 @@ pub mod GrowLaws
 pub mod RootLaws
 -- How long images are.
 pub mod ImageSizes
+-- The images of nodes.
+pub mod ImageLaws
+-- Which nodes are logged where nodes are split.
+pub mod LoggedLaws
+-- A node that was logged waits no more.
+pub mod NoteLaws
+-- Trees, as far as their splits depend on them.
+pub mod ShapeLaws
+-- A name gets a slot.
+pub mod PlaceLaws
 -- Images get the LSNs of children.
 pub mod FinishLaws
 -- Splits are taken back.

@@ -110,7 +110,7 @@ insert_few p k (x ∷ xs) = by_order (name_cmp k x) (insert_few p k xs)
 
 -- ---- counts of nodes that wait
 
-waiting_at_is : (rows : List NodeRow) (level : ℕ) → lows_at (waiting_of rows) level ≡ waiting_in (row_of rows level)
+pub waiting_at_is : (rows : List NodeRow) (level : ℕ) → lows_at (waiting_of rows) level ≡ waiting_in (row_of rows level)
 waiting_at_is [] level = refl
 waiting_at_is (row ∷ rows) zero = refl
 waiting_at_is (row ∷ rows) (suc level) = waiting_at_is rows level

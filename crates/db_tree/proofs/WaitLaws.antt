@@ -1,5 +1,5 @@
 -- Which nodes of changed levels wait.
-use Rattle.std.proofs.Common.{◌≡◌, ◌+◌, ◌<◌, ◌≤◌, ◌++◌, ◌∷◌, [], ℕ, zero, suc, List, Bool, true, false, cond, Option, None, Some, IsSome, is_some, option_map, filter, map, take, set, length, get_or, refl, ap, ap₂, sym, subst, ◌∙◌, arith, is_eq, ◌⊎◌, inl, inr, Ordering, Less, Equal, Greater}
+use Rattle.std.proofs.Common.{◌≡◌, ◌+◌, ◌<◌, ◌≤◌, ◌++◌, ◌∷◌, [], ℕ, zero, suc, List, Bool, true, false, cond, Option, None, Some, IsSome, is_some, option_map, filter, map, take, set, length, get_or, refl, ap, ap₂, sym, subst, ◌∙◌, arith, is_eq, ◌⊎◌, inl, inr, Ordering, Less, Equal, Greater, Result, Ok, Err, OnOk}
 use mathlib.Core.Path.{fun_ext}
 use Rattle.std.specs.List.{AllByRecursion}
 use Rattle.std.specs.List.Sorted.{IsStrictlySortedBy}
@@ -18,7 +18,7 @@ use Rattle.tree_nodes.specs.Levels.{row_of, AreParts, HasPutAt, HasMarkedAt, Has
 use Rattle.tree_nodes.specs.Lows.{lows_of, lows_at, with_low, with_root}
 use Rattle.tree_nodes.proofs.LowLaws.{lows_at_is}
 use Rattle.db_tree.specs.Shapes.{AreAlike}
-use Rattle.db_tree.specs.Waiting.{is_forced, waits_in, waits_at, waiting_in, waiting_of}
+use Rattle.db_tree.specs.Waiting.{is_forced, waits_in, waits_at, waiting_in, waiting_of, waiting_raised}
 use Rattle.db_tree.proofs.Seen.{same_lists}
 use Rattle.db_tree.proofs.SplitLaws.{level_cases}
 
@@ -208,3 +208,13 @@ first_waits rows root quiet height has lows =
 
     waits : waits_in (row_of rows 0) least ≡ false
     waits = ap is_forced (has least ∙ same_gets least (Some root) (value_at least [])) ∙ quiet
+
+pub raised_waits : {X E : Type 0} (r : Result X E) (old new : List NodeRow) (root : Node) → root.forced ≡ false → OnOk r (HasRaised old new root) → OnOk r (lows_of new ≡ with_root (lows_of old)) → OnOk r (take (length old) new ≡ old) →
+    OnOk r (waiting_of new ≡ waiting_of old ++ [] ∷ [])
+raised_waits (Ok x) old new root quiet has lows front = quiet_root_waits old new root quiet has lows front
+raised_waits (Err e) old new root quiet has lows front = tt
+
+-- with a new root or without one
+pub grown_waits : (t raised : Bool) (old mid : List (List Name)) → raised ≡ t → mid ≡ waiting_raised t old → mid ≡ waiting_raised raised old
+grown_waits t raised old mid is grown = grown ∙ ap (λ (s : Bool). waiting_raised s old) (sym is)
+

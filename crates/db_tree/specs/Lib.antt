@@ -9,3 +9,4 @@ pub mod Waiting
 pub mod Splits
 pub mod NodeImages
 pub mod Shapes
+pub mod Placing

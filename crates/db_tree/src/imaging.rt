@@ -104,22 +104,22 @@ impl DbTree {
     }
 
     // The image of a node, which a log may have.
-    fn image_of(&self, alloc: Global, db: u32, node: NodeAt) -> Result<NodeImage, AllocError>
-        ensures node { IfOk result (λ image. node_of image ≡ node) }
+    fn image_of(&self, alloc: Global, db: u32, place: NodeAt) -> Result<NodeImage, AllocError>
+        ensures node { IfOk result (λ image. node_of image ≡ place) }
         ensures image { IfOk result (IsNodeImage db self.now.levels self.now.cells) }
         ensures loggable { IfOk result (λ image. IsLoggable image.entry) }
         ensures waited { IfOk result (λ image. image.waited ≡ waits_at self.now.levels image.level image.low) }
     {
-        let NodeAt { level, low } = node;
+        let NodeAt { level, low } = place;
         if level >= self.levels.height() || level >= LAST_LEVEL {
             return Err(AllocError);
         }
-        let (number, waited) = match self.levels.at(level, &low) {
-            Some(node) => (node.number, node.forced),
+        let node = match self.levels.at(level, &low) {
+            Some(node) => node.copy(),
             None => return Err(AllocError),
         };
         let children = self.children_of(alloc, level, &low)?;
-        let entry = self.entry_of(alloc, db, number, level, &low)?;
+        let entry = self.entry_of(alloc, db, node.number, level, &low)?;
         if !is_image(&entry) {
             return Err(AllocError);
         }
@@ -127,7 +127,7 @@ impl DbTree {
             level,
             low,
             entry,
-            waited,
+            waited: node.forced,
             children,
         })
     }

@@ -1,20 +1,14 @@
 // A name gets a slot.
-ghost use Rattle.std.specs.Prelude.{◌≡◌, ◌+◌, ◌≤◌, ◌<◌, ◌⊎◌, ℕ, [], true, is_some, false, length, map, Option, None, Some, IsSome, IfOk, IfErr, OnOk, OnErr};
-ghost use Rattle.std.specs.BTreeMap.{insert_entry};
-ghost use Rattle.std.specs.List.{AllByRecursion};
-ghost use Rattle.std.specs.Map.{keys_of};
-ghost use Rattle.je_order.specs.Order.{name_cmp};
+ghost use Rattle.std.specs.Prelude.{◌≡◌, ◌≤◌, ◌<◌, ◌⊎◌, ℕ, [], true, is_some, false, None, IfOk, IfErr, OnOk, OnErr};
 ghost use Rattle.je_order.specs.declared.name.Name.{Name};
-ghost use Rattle.record_map.specs.Cells.{value_at, fresh, IsRising};
+ghost use Rattle.record_map.specs.Cells.{value_at};
 ghost use Rattle.record_tree.specs.declared.tree_err.TreeErr.{TreeErr as Reason};
-ghost use Rattle.tree_nodes.specs.Lows.{lows_of};
 ghost use Rattle.db_tree.specs.Images.{Placed};
-ghost use Rattle.db_tree.specs.NodeImages.{node_of, sizes_in, AreLoggable, AreNodeImages};
-ghost use Rattle.db_tree.specs.Seen.{occupied};
-ghost use Rattle.db_tree.specs.Shapes.{shape_in, made_by, AreForced, AreNewNumbered, IsPlaced, IsUndoable};
-ghost use Rattle.db_tree.specs.Splits.{Shape, is_raised, one_if, logged_by, nodes_logged, shape_behind, splits_of, passes_top};
+ghost use Rattle.db_tree.specs.NodeImages.{AreNodeImages};
+ghost use Rattle.db_tree.specs.Placing.{AreTaken, IsFilled, IsPlacedBy};
+ghost use Rattle.db_tree.specs.Shapes.{shape_in, IsPlaced, IsUndoable};
+ghost use Rattle.db_tree.specs.Splits.{nodes_logged, splits_of, passes_top};
 ghost use Rattle.db_tree.specs.Trees.{IsTree};
-ghost use Rattle.db_tree.specs.Waiting.{logged_for, waiting_of, waits_at};
 
 use crate::imaging::LAST_LEVEL;
 use crate::{DbTree, NodeAt, NodeImage, NodeSplit, SlotRoom};
@@ -46,10 +40,7 @@ impl DbTree {
         db: u32,
         nodes: Vec<NodeAt>,
     ) -> Result<Vec<NodeImage>, AllocError>
-        ensures images { IfOk result (λ images. AreNodeImages db self.new.levels self.new.cells nodes.items images.items) }
-        ensures loggable { IfOk result (λ images. AreLoggable images.items) }
-        ensures waited { IfOk result (λ images. AllByRecursion (λ image. image.waited ≡ waits_at self.old.levels image.level image.low) images.items) }
-        ensures cleared { OnOk result (AreForced false nodes.items self.old.levels self.new.levels) }
+        ensures taken { IfOk result (λ images. AreTaken db nodes.items images.items self.old self.new) }
         ensures cells { self.new.cells ≡ self.old.cells }
         ensures err { OnErr result (self.new.levels ≡ self.old.levels) }
         ensures tree { (es : Placed) (base : ℕ) (newest : Name → ℕ) → IsTree es base newest self.old.levels self.old.cells → IsTree es base newest self.new.levels self.new.cells }
@@ -68,14 +59,7 @@ impl DbTree {
         nodes: Vec<NodeAt>,
     ) -> Result<Vec<NodeImage>, AllocError>
         requires { value_at name.now self.old.cells ≡ None }
-        ensures images { IfOk result (λ images. AreNodeImages db self.new.levels self.new.cells nodes.items images.items) }
-        ensures loggable { IfOk result (λ images. AreLoggable images.items) }
-        ensures waited { IfOk result (λ images. AllByRecursion (λ image. image.waited ≡ waits_at self.old.levels image.level image.low) images.items) }
-        ensures cleared { OnOk result (AreForced false nodes.items self.old.levels self.new.levels) }
-        ensures list { OnOk result (self.new.cells ≡ insert_entry name_cmp self.old.cells name.now fresh) }
-        ensures there { OnOk result (IsSome (value_at name.now self.new.cells)) }
-        ensures same { OnOk result (occupied self.new.cells ≡ occupied self.old.cells) }
-        ensures kept { OnOk result ((x : Name) → IsSome (value_at x self.old.cells) → IsSome (value_at x self.new.cells)) }
+        ensures filled { IfOk result (λ images. IsFilled db name.now nodes.items images.items self.old self.new) }
         ensures err { OnErr result (self.new.levels ≡ self.old.levels) }
         ensures err_cells { OnErr result (self.new.cells ≡ self.old.cells) }
         ensures tree { OnOk result ((es : Placed) (base : ℕ) (newest : Name → ℕ) → IsTree es base newest self.old.levels self.old.cells → IsTree es base newest self.new.levels self.new.cells) }
@@ -102,19 +86,13 @@ impl DbTree {
         mark: Lsn,
     ) -> Result<SlotRoom, AllocError>
         requires { value_at name.now self.old.cells ≡ None }
-        ensures shape { OnOk result (shape_in self.new ≡ shape_behind splits.items name.now (shape_in self.old)) }
-        ensures images { IfOk result (λ room. AreNodeImages db self.new.levels self.new.cells (logged_by splits.items (shape_in self.old)) room.images.items) }
-        ensures loggable { IfOk result (λ room. AreLoggable room.images.items) }
-        ensures back { IfOk result (λ room. IsUndoable name.now room self.old self.new) }
+        ensures placed { IfOk result (λ room. IsPlacedBy db splits.items name.now room self.old self.new) }
         ensures splits { IfOk result (λ room. room.splits.items ≡ splits.items) }
-        ensures raised { IfOk result (λ room. room.is_raised ≡ is_raised splits.items (lows_of self.old.levels)) }
-        ensures there { OnOk result (IsSome (value_at name.now self.new.cells)) }
-        ensures same { OnOk result (occupied self.new.cells ≡ occupied self.old.cells) }
-        ensures kept { OnOk result ((x : Name) → IsSome (value_at x self.old.cells) → IsSome (value_at x self.new.cells)) }
         ensures err { OnErr result (self.new.levels ≡ self.old.levels) }
         ensures err_cells { OnErr result (self.new.cells ≡ self.old.cells) }
         ensures tree { OnOk result ((es : Placed) (base : ℕ) (newest : Name → ℕ) → ((x : Name) → (mark ≤ newest x) ⊎ (mark < base)) → IsTree es base newest self.old.levels self.old.cells → IsTree es base newest self.new.levels self.new.cells) }
     {
+        let _before = self.cells.len();
         let is_raised = splits.len() == self.levels.height();
         let nodes = self.nodes_for(alloc, splits.as_slice(), is_raised)?;
         self.grow(alloc, splits.as_slice(), first, mark)?;
@@ -164,13 +142,14 @@ impl DbTree {
         ensures err_cells { OnErr result (self.new.cells ≡ self.old.cells) }
         ensures tree { OnOk result ((es : Placed) (base : ℕ) (newest : Name → ℕ) → ((x : Name) → (mark ≤ newest x) ⊎ (mark < base)) → IsTree es base newest self.old.levels self.old.cells → IsTree es base newest self.new.levels self.new.cells) }
     {
+        let height = self.levels.height();
         if self.has_cell(name) {
             return Ok(no_room(alloc));
         }
         let Ok(splits) = self.splits_for(alloc, fanout, name) else {
             return Err(TreeErr::Memory);
         };
-        if splits.len() + (splits.len() == self.levels.height()) as usize > LAST_LEVEL {
+        if splits.len() + (splits.len() == height) as usize > LAST_LEVEL {
             return Err(TreeErr::IdsEnded);
         }
         match self.place_new(alloc, db, name, splits, first, mark) {

@@ -165,6 +165,7 @@ impl DbTree {
         ensures there { OnOk result (IsSome (value_at name.now self.new.cells)) }
         ensures same { occupied self.new.cells ≡ occupied self.old.cells }
         ensures kept { (x : Name) → IsSome (value_at x self.old.cells) → IsSome (value_at x self.new.cells) }
+        ensures cell { OnOk result (HasCell self.old.cells self.new.cells name.now (cell_or_fresh (value_at name.now self.old.cells))) }
         ensures list { OnOk result (value_at name.now self.old.cells ≡ None → self.new.cells ≡ insert_entry name_cmp self.old.cells name.now fresh) }
         ensures err { OnErr result (self.new.cells ≡ self.old.cells) }
         ensures tree { OnOk result ((es : Placed) (base : ℕ) (newest : Name → ℕ) → IsTree es base newest self.old.levels self.old.cells → IsTree es base newest self.new.levels self.new.cells) }

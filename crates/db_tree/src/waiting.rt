@@ -90,9 +90,10 @@ impl DbTree {
             }
         }
         self.wait_each(splits, mark);
-        if is_raised {
-            self.wait(splits.len(), &root, mark);
+        if !is_raised {
+            return Ok(());
         }
+        self.wait(splits.len(), &root, mark);
         Ok(())
     }
 
