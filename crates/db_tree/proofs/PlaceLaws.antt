@@ -90,9 +90,9 @@ taken db nodes slice images old new was cells same forced kept are = (
 )
 
 -- a cell was made first
-pub filled_by : (db : ℕ) (name : Name) (nodes : List NodeAt) (images : List NodeImage) (old mid new : DbTree) → mid.levels ≡ old.levels → mid.cells ≡ insert_entry name_cmp old.cells name fresh → IsSome (value_at name mid.cells) →
+pub filled_by : (db : ℕ) (name : Name) (nodes : List NodeAt) (images : List NodeImage) (old mid new : DbTree) → mid.levels ≡ old.levels → mid.cells ≡ insert_entry name_cmp old.cells name fresh → HasCell old.cells mid.cells name (cell_or_fresh (value_at name old.cells)) → IsSome (value_at name mid.cells) →
     occupied mid.cells ≡ occupied old.cells → ((x : Name) → IsSome (value_at x old.cells) → IsSome (value_at x mid.cells)) → new.cells ≡ mid.cells → AreTaken db nodes images mid new → IsFilled db name nodes images old new
-filled_by db name nodes images old mid new levels list there same kept cells are = record {
+filled_by db name nodes images old mid new levels list cell there same kept cells are = record {
   images = record {
     images = are.images;
     loggable = are.loggable;
@@ -100,6 +100,7 @@ filled_by db name nodes images old mid new levels list there same kept cells are
     cleared = subst (λ (rows : List NodeRow). AreForced false nodes rows new.levels) levels are.cleared;
   };
   cells = cells ∙ list;
+  cell = subst (λ (c : List (Name × Cell)). HasCell old.cells c name (cell_or_fresh (value_at name old.cells))) (sym cells) cell;
   there = subst (λ (c : List (Name × Cell)). IsSome (value_at name c)) (sym cells) there;
   same = ap occupied cells ∙ same;
   kept = λ x some. subst (λ (c : List (Name × Cell)). IsSome (value_at x c)) (sym cells) (kept x some);
@@ -134,7 +135,7 @@ placed_by db name room old mid new nodes up free fresh_one raised are lows waits
         grown = subst (λ (t : Bool). AreGrown room.splits.items t old.levels mid.levels) (sym raised) grown;
         cleared = subst (λ (ns : List NodeAt). AreForced false ns mid.levels new.levels) (sym filled.images.images.nodes) filled.images.cleared;
         waited = filled.images.waited;
-        cells = subst (λ (t : Bool). IsCellMade t name old.cells new.cells) (sym fresh_one) (up, free, list);
+        cells = subst (λ (t : Bool). IsCellMade t name old.cells new.cells) (sym fresh_one) (up, free, cell_moved old.cells mid.cells new.cells new.cells name cells refl filled.cell);
       };
     }
 
@@ -198,3 +199,27 @@ placed_there db fanout name room tree parts there splits raised old images = (
   subst (λ (l : List NodeImage). AreNodeImages db tree.levels tree.cells (nodes_logged fanout name (shape_in tree)) l) (sym images)
   (subst (λ (t : Bool). AreNodeImages db tree.levels tree.cells (cond t [] (logged_by (splits_of fanout name (shape_in tree)) (shape_in tree))) []) (sym there) (record { nodes = refl; each = tt })),
 )
+
+-- ---- a slot that is taken back
+
+pub cell_gone : (now new before : List (Name × Cell)) (name : Name) (t : Bool) → t ≡ true → IsRising new → ((x : Name) → value_at x new ≡ cond (is_eq (name_cmp name x)) None (value_at x now)) → IsCellMade t name before now → new ≡ before
+cell_gone now new before name t is up taken made = by_test (subst (λ (s : Bool). IsCellMade s name before now) is made)
+  where
+    by_test : IsCellMade true name before now → new ≡ before
+    by_test h = cell_undone before now now new name h.0 up h.1 h.2 refl taken
+
+pub cell_same : (now before : List (Name × Cell)) (name : Name) (t : Bool) → t ≡ false → IsCellMade t name before now → now ≡ before
+cell_same now before name t is made = subst (λ (s : Bool). IsCellMade s name before now) is made
+
+pub levels_back : (name : Name) (room : SlotRoom) (before now : DbTree) (slice : List NodeImage) (splits : List NodeSplit) (levels restored new : List NodeRow) → IsUndoable name room before now → slice ≡ room.images.items → splits ≡ room.splits.items → levels ≡ now.levels →
+    ((mid : List NodeRow) → AreForced false (map node_of slice) mid levels → AllByRecursion (λ image. image.waited ≡ waits_at mid image.level image.low) slice → restored ≡ mid) →
+    ((old : List NodeRow) → AreGrown splits room.is_raised old restored → new ≡ old) → new ≡ before.levels
+levels_back name room before now slice splits levels restored new is images parts same back shrunk =
+    shrunk before.levels
+    (subst (λ (rows : List NodeRow). AreGrown splits room.is_raised before.levels rows) (sym mid) (subst (λ (l : List NodeSplit). AreGrown l room.is_raised before.levels is.mid) (sym parts) is.grown))
+  where
+    mid : restored ≡ is.mid
+    mid =
+        back is.mid
+        (subst (λ (rows : List NodeRow). AreForced false (map node_of slice) is.mid rows) (sym same) (subst (λ (l : List NodeImage). AreForced false (map node_of l) is.mid now.levels) (sym images) is.cleared))
+        (subst (AllByRecursion (λ image. image.waited ≡ waits_at is.mid image.level image.low)) (sym images) is.waited)

@@ -14,6 +14,7 @@ use Rattle.db_tree.specs.NodeImages.{sizes_in, AreLoggable, AreNodeImages}
 use Rattle.db_tree.specs.Seen.{occupied}
 use Rattle.db_tree.specs.Shapes.{shape_in, made_by, AreForced, IsUndoable}
 use Rattle.db_tree.specs.Splits.{shape_behind, logged_by, made_for, node_size}
+use Rattle.db_tree.specs.Trees.{HasCell, cell_or_fresh}
 use Rattle.db_tree.specs.Waiting.{waits_at}
 
 -- images of nodes were made, which wait no more then; the rest of the tree is as it was
@@ -27,6 +28,7 @@ pub record AreTaken (db : ℕ) (nodes : List NodeAt) (made : List NodeImage) (ol
 pub record IsFilled (db : ℕ) (name : Name) (nodes : List NodeAt) (made : List NodeImage) (old new : DbTree) : Type 0 where
   pub images : AreTaken db nodes made old new
   pub cells : new.cells ≡ insert_entry name_cmp old.cells name fresh
+  pub cell : HasCell old.cells new.cells name (cell_or_fresh (value_at name old.cells))
   pub there : IsSome (value_at name new.cells)
   pub same : occupied new.cells ≡ occupied old.cells
   pub kept : (x : Name) → IsSome (value_at x old.cells) → IsSome (value_at x new.cells)

@@ -1,11 +1,9 @@
 -- A tree, as far as its splits depend on it, and what a name's slot takes.
 use Rattle.std.specs.Prelude.{◌≡◌, ◌+◌, ℕ, suc, Bool, true, false, List, [], ◌∷◌, Option, None, Some, IsSome, map, option_map, length}
-use Rattle.std.specs.BTreeMap.{insert_entry}
 use Rattle.std.specs.List.{AllByRecursion}
-use Rattle.je_order.specs.Order.{name_cmp}
 use Rattle.je_order.specs.declared.name.Name.{Name}
 use Rattle.record_map.specs.declared.cell.Cell.{Cell}
-use Rattle.record_map.specs.Cells.{value_at, fresh, IsRising}
+use Rattle.record_map.specs.Cells.{value_at, IsRising}
 use Rattle.tree_nodes.specs.declared.node.Node.{Node}
 use Rattle.tree_nodes.specs.Nodes.{NodeRow, least}
 use Rattle.tree_nodes.specs.Levels.{row_of, AreParts}
@@ -19,6 +17,7 @@ use Rattle.db_tree.specs.NodeImages.{number_of, node_of, sizes_in, AreLoggable}
 use Rattle.db_tree.specs.Seen.{occupied}
 use Rattle.db_tree.specs.Splits.{Shape, one_if, shape_with, image_sizes, nodes_made, passes_top, count_waiting}
 use Rattle.db_tree.specs.Splitting.{AreGrown}
+use Rattle.db_tree.specs.Trees.{HasCell, cell_or_fresh}
 use Rattle.db_tree.specs.Waiting.{is_among, waits_at, waiting_of}
 
 abbrev pub shape_in : DbTree → Shape
@@ -75,9 +74,9 @@ pub record AreForced (forced : Bool) (nodes : List NodeAt) (old new : List NodeR
   pub height : length new ≡ length old
   pub each : (k : ℕ) (x : Name) → value_at x (row_of new k) ≡ option_map (forced_if (is_among nodes k x) forced) (value_at x (row_of old k))
 
--- a name got a cell, or nothing changed
+-- a name that had no cell got one, or nothing changed
 abbrev pub IsCellMade : Bool → Name → List (Name × Cell) → List (Name × Cell) → Type 0
-IsCellMade true name old new = IsRising old × (value_at name old ≡ None) × (new ≡ insert_entry name_cmp old name fresh)
+IsCellMade true name old new = IsRising old × (value_at name old ≡ None) × HasCell old new name (cell_or_fresh (value_at name old))
 IsCellMade false name old new = new ≡ old
 
 -- what was done for a slot, so that it can be undone

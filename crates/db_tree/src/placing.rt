@@ -1,12 +1,13 @@
 // A name gets a slot.
-ghost use Rattle.std.specs.Prelude.{◌≡◌, ◌≤◌, ◌<◌, ◌⊎◌, ℕ, [], true, is_some, false, None, IfOk, IfErr, OnOk, OnErr};
+ghost use Rattle.std.specs.Prelude.{◌≡◌, ◌≤◌, ◌<◌, ◌⊎◌, ℕ, [], true, is_some, false, None, IfOk, IfErr, OnOk, OnErr, List as Items};
 ghost use Rattle.je_order.specs.declared.name.Name.{Name};
 ghost use Rattle.record_map.specs.Cells.{value_at};
+ghost use Rattle.record_map.specs.declared.cell.Cell.{Cell as Kept};
 ghost use Rattle.record_tree.specs.declared.tree_err.TreeErr.{TreeErr as Reason};
 ghost use Rattle.db_tree.specs.Images.{Placed};
 ghost use Rattle.db_tree.specs.NodeImages.{AreNodeImages};
 ghost use Rattle.db_tree.specs.Placing.{AreTaken, IsFilled, IsPlacedBy};
-ghost use Rattle.db_tree.specs.Shapes.{shape_in, IsPlaced, IsUndoable};
+ghost use Rattle.db_tree.specs.Shapes.{shape_in, IsCellMade, IsPlaced, IsUndoable};
 ghost use Rattle.db_tree.specs.Splits.{nodes_logged, splits_of, passes_top};
 ghost use Rattle.db_tree.specs.Trees.{IsTree};
 
@@ -158,14 +159,22 @@ impl DbTree {
         }
     }
 
+    // Takes the name's cell out, if it was made.
+    fn take_cell(&mut self, name: &SortKey, is_new: bool)
+        ensures cells { (before : Items (Name × Kept)) → IsCellMade is_new name.now before self.old.cells → self.new.cells ≡ before }
+        ensures levels { self.new.levels ≡ self.old.levels }
+    {
+        if is_new {
+            self.cells.remove(name);
+        }
+    }
+
     /// Takes back what `place` did for the name, if nothing was done since then. It takes no memory.
     pub fn take_back(&mut self, name: &SortKey, room: &SlotRoom)
         ensures levels { (before : DbTree) → IsUndoable name.now room.now before self.old → self.new.levels ≡ before.levels }
         ensures cells { (before : DbTree) → IsUndoable name.now room.now before self.old → self.new.cells ≡ before.cells }
     {
-        if room.is_new {
-            self.cells.remove(name);
-        }
+        self.take_cell(name, room.is_new);
         self.restore_all(room.images.as_slice());
         self.shrink(room.splits.as_slice(), room.is_raised);
     }
