@@ -67,9 +67,10 @@ among_first a b k y is = among_both a b k y ∙ or_left (is_among a k y) (is_amo
 -- each name of a level is among them
 all_among : (whole : List NodeAt) (level : ℕ) (names : List Name) → AreAmong (at_level level names) whole → AllByRecursion (λ y. is_among whole level y ≡ true) names
 all_among whole level [] are = tt
-all_among whole level (x ∷ names) are =
-    (are level x (or_left ((level == level) && is_same_name x x) (is_among (at_level level names) level x) here),
-    all_among whole level names (λ k y is. are k y (or_right ((level == k) && is_same_name x y) (is_among (at_level level names) k y) is)))
+all_among whole level (x ∷ names) are = (
+  are level x (or_left ((level == level) && is_same_name x x) (is_among (at_level level names) level x) here),
+  all_among whole level names (λ k y is. are k y (or_right ((level == k) && is_same_name x y) (is_among (at_level level names) k y) is)),
+)
   where
     here : ((level == level) && is_same_name x x) ≡ true
     here = ap₂ (λ (a b : Bool). a && b) (eq-eqb level level refl) (ap is_eq (name_same x))

@@ -159,8 +159,7 @@ rises_names (s ∷ a) (t ∷ b) names = rise_names s t a b (ap (name_head s.name
 pub loggable_in : (db number of_level : ℕ) (old new : List ChildSlot) → map (λ (s : ChildSlot). s.name) new ≡ map (λ (s : ChildSlot). s.name) old → (AllByRecursion IsChildSlot old → AllByRecursion IsChildSlot new) →
     IsLoggable (In db number of_level old) → IsLoggable (In db number of_level new)
 loggable_in db number of_level old new names each is =
-    let few : length new ≡ length old = sym (length-map new (λ (s : ChildSlot). s.name)) ∙ ap length names ∙ length-map old (λ (s : ChildSlot). s.name) in
-    (
+    let few : length new ≡ length old = sym (length-map new (λ (s : ChildSlot). s.name)) ∙ ap length names ∙ length-map old (λ (s : ChildSlot). s.name) in (
       (
         is.0.0,
         is.0.1,

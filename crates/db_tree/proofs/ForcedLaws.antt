@@ -1,24 +1,22 @@
 -- Levels in which some nodes wait, or do not.
-use Rattle.std.proofs.Common.{◌≡◌, ◌==◌, ◌&&◌, ◌||◌, ◌+◌, ◌<◌, ◌≤◌, ◌++◌, ◌∷◌, not, [], ℕ, zero, suc, List, Bool, true, false, cond, Option, None, Some, IsSome, is_some, option_map, filter, map, take, length, get_or, refl, ap, ap₂, sym, subst, ◌∙◌, arith, is_eq, ◌⊎◌, inl, inr}
-use mathlib.Core.Path.{fun_ext}
-use Rattle.std.specs.List.{AllByRecursion, list_any}
+use Rattle.std.proofs.Common.{◌≡◌, ◌==◌, ◌&&◌, ◌||◌, ◌+◌, ◌<◌, ◌≤◌, ◌++◌, ◌∷◌, not, [], ℕ, zero, suc, List, Bool, true, false, cond, Option, None, Some, is_some, option_map, filter, map, take, length, get_or, refl, ap, ap₂, sym, subst, ◌∙◌, arith, is_eq, ◌⊎◌, inl, inr}
+use Rattle.std.specs.List.{AllByRecursion}
 use Rattle.std.specs.List.Sorted.{IsStrictlySortedBy}
 use Rattle.std.specs.Map.{keys_of}
-use Rattle.std.proofs.lemmas.Bool.{true≢false, eq-eqb, eqb-true, ne_eqb}
-use Rattle.std.proofs.lemmas.List.{take_more, map-append, append-nil}
+use Rattle.std.proofs.lemmas.Bool.{true≢false, eq-eqb, ne_eqb}
+use Rattle.std.proofs.lemmas.List.{take_more, map-append}
 use Rattle.std.proofs.lemmas.List.Folds.{list_any-append}
 use Rattle.std.proofs.Math.Nat.{le_refl}
 use Rattle.je_order.specs.Order.{name_cmp}
 use Rattle.je_order.specs.Edges.{Edge, is_between}
 use Rattle.je_order.specs.declared.name.Name.{Name}
 use Rattle.node_core.specs.declared.slot.Slot.{Slot}
-use Rattle.record_map.specs.declared.cell.Cell.{Cell}
-use Rattle.record_map.specs.Cells.{value_at, between_edges, IsRising}
+use Rattle.record_map.specs.Cells.{value_at, between_edges}
 use Rattle.record_map.proofs.NameLaws.{same_or_other, name_same, other_stays, same_gets}
 use Rattle.tree_nodes.specs.declared.node.Node.{Node}
 use Rattle.tree_nodes.specs.Nodes.{NodeRow, low_behind}
 use Rattle.tree_nodes.specs.Levels.{row_of, slot_of, AreParts, HasPutAt}
-use Rattle.tree_nodes.specs.Lows.{lows_of, lows_at, low_after}
+use Rattle.tree_nodes.specs.Lows.{lows_of, low_after}
 use Rattle.tree_nodes.proofs.LowLaws.{low_after_is, keys_passed}
 use Rattle.db_tree.specs.declared.node_at.NodeAt.{NodeAt}
 use Rattle.db_tree.specs.declared.node_image.NodeImage.{NodeImage}
@@ -302,14 +300,22 @@ all_waited before images k x (Some n) is all = by_images (among_waited images al
     Both l = ((is_among (map node_of l) k x ≡ false) × (is_among (map node_of (waited_in l)) k x ≡ false)) ⊎ ((is_among (map node_of l) k x ≡ true) × (is_among (map node_of (waited_in l)) k x ≡ n.forced))
 
     step : (y : NodeImage) (l : List NodeImage) (s t : Bool) → y.waited ≡ s → ((y.level == k) && is_same_name y.low x) ≡ t → (t ≡ true → s ≡ n.forced) → Both l → Both (y ∷ l)
-    step y l true true w a same (inl h) = inr (ap (λ (b : Bool). b || is_among (map node_of l) k x) a,
-      ap (λ (b : Bool). is_among (map node_of (cond b (y ∷ waited_in l) (waited_in l))) k x) w ∙ ap (λ (b : Bool). b || is_among (map node_of (waited_in l)) k x) a ∙ same refl)
-    step y l true true w a same (inr h) = inr (ap (λ (b : Bool). b || is_among (map node_of l) k x) a,
-      ap (λ (b : Bool). is_among (map node_of (cond b (y ∷ waited_in l) (waited_in l))) k x) w ∙ ap (λ (b : Bool). b || is_among (map node_of (waited_in l)) k x) a ∙ same refl)
-    step y l true false w a same (inl h) = inl (ap (λ (b : Bool). b || is_among (map node_of l) k x) a ∙ h.0,
-      ap (λ (b : Bool). is_among (map node_of (cond b (y ∷ waited_in l) (waited_in l))) k x) w ∙ ap (λ (b : Bool). b || is_among (map node_of (waited_in l)) k x) a ∙ h.1)
-    step y l true false w a same (inr h) = inr (ap (λ (b : Bool). b || is_among (map node_of l) k x) a ∙ h.0,
-      ap (λ (b : Bool). is_among (map node_of (cond b (y ∷ waited_in l) (waited_in l))) k x) w ∙ ap (λ (b : Bool). b || is_among (map node_of (waited_in l)) k x) a ∙ h.1)
+    step y l true true w a same (inl h) = inr (
+      ap (λ (b : Bool). b || is_among (map node_of l) k x) a,
+      ap (λ (b : Bool). is_among (map node_of (cond b (y ∷ waited_in l) (waited_in l))) k x) w ∙ ap (λ (b : Bool). b || is_among (map node_of (waited_in l)) k x) a ∙ same refl,
+    )
+    step y l true true w a same (inr h) = inr (
+      ap (λ (b : Bool). b || is_among (map node_of l) k x) a,
+      ap (λ (b : Bool). is_among (map node_of (cond b (y ∷ waited_in l) (waited_in l))) k x) w ∙ ap (λ (b : Bool). b || is_among (map node_of (waited_in l)) k x) a ∙ same refl,
+    )
+    step y l true false w a same (inl h) = inl (
+      ap (λ (b : Bool). b || is_among (map node_of l) k x) a ∙ h.0,
+      ap (λ (b : Bool). is_among (map node_of (cond b (y ∷ waited_in l) (waited_in l))) k x) w ∙ ap (λ (b : Bool). b || is_among (map node_of (waited_in l)) k x) a ∙ h.1,
+    )
+    step y l true false w a same (inr h) = inr (
+      ap (λ (b : Bool). b || is_among (map node_of l) k x) a ∙ h.0,
+      ap (λ (b : Bool). is_among (map node_of (cond b (y ∷ waited_in l) (waited_in l))) k x) w ∙ ap (λ (b : Bool). b || is_among (map node_of (waited_in l)) k x) a ∙ h.1,
+    )
     step y l false true w a same (inl h) = inr (ap (λ (b : Bool). b || is_among (map node_of l) k x) a, ap (λ (b : Bool). is_among (map node_of (cond b (y ∷ waited_in l) (waited_in l))) k x) w ∙ h.1 ∙ same refl)
     step y l false true w a same (inr h) = inr (ap (λ (b : Bool). b || is_among (map node_of l) k x) a, ap (λ (b : Bool). is_among (map node_of (cond b (y ∷ waited_in l) (waited_in l))) k x) w ∙ h.1)
     step y l false false w a same (inl h) = inl (ap (λ (b : Bool). b || is_among (map node_of l) k x) a ∙ h.0, ap (λ (b : Bool). is_among (map node_of (cond b (y ∷ waited_in l) (waited_in l))) k x) w ∙ h.1)

@@ -1,9 +1,8 @@
 -- The images of nodes.
-use Rattle.std.proofs.Common.{◌≡◌, ◌-◌, ◌+◌, ◌++◌, ◌∷◌, [], ℕ, zero, suc, List, Bool, true, false, Option, None, Some, option_map, map, length, refl, ap, ap₂, sym, subst, ◌∙◌, arith}
+use Rattle.std.proofs.Common.{◌≡◌, ◌-◌, ◌+◌, ◌++◌, ◌∷◌, [], ℕ, zero, suc, List, Bool, true, false, Option, None, Some, option_map, map, refl, ap, ap₂, sym, ◌∙◌, arith}
 use Rattle.std.specs.List.{AllByRecursion}
 use Rattle.std.specs.Map.{keys_of}
-use Rattle.std.proofs.lemmas.List.{map-append, append_assoc, append-nil}
-use Rattle.je_order.specs.Edges.{Edge}
+use Rattle.std.proofs.lemmas.List.{map-append, append_assoc}
 use Rattle.je_order.specs.Edges.Edge.{At}
 use Rattle.je_order.specs.declared.name.Name.{Name}
 use Rattle.log_entry.specs.Encoding.{size_of}

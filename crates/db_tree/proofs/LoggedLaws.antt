@@ -1,5 +1,5 @@
 -- Which nodes are logged where nodes are split.
-use Rattle.std.proofs.Common.{◌≡◌, ◌&&◌, ◌-◌, ◌+◌, ◌<◌, ◌≤◌, ◌++◌, ◌∷◌, not, [], ℕ, zero, suc, List, Bool, true, false, cond, Option, None, Some, IfSome, option_copied, Bor, Less, filter, map, drop, get_or, length, refl, ap, ap₂, sym, subst, ◌∙◌, arith}
+use Rattle.std.proofs.Common.{◌≡◌, ◌&&◌, ◌-◌, ◌+◌, ◌<◌, ◌≤◌, ◌++◌, ◌∷◌, not, [], ℕ, suc, List, Bool, true, false, cond, Option, None, Some, IfSome, option_copied, Bor, Less, filter, map, drop, get_or, length, refl, ap, ap₂, sym, subst, ◌∙◌, arith}
 use Rattle.std.specs.Map.{keys_of}
 use Rattle.std.proofs.lemmas.List.{map-append, append_assoc, append-nil, drop_more, drop_all}
 use Rattle.std.proofs.lemmas.List.Elements.{filter-append}
@@ -11,11 +11,10 @@ use Rattle.node_core.specs.declared.slot.Slot.{Slot}
 use Rattle.record_map.specs.Cells.{between_edges, upper_edge, last_of}
 use Rattle.tree_nodes.specs.Nodes.{NodeRow}
 use Rattle.tree_nodes.specs.Levels.{row_of, slot_of}
-use Rattle.tree_nodes.specs.Lows.{lows_at}
 use Rattle.tree_nodes.proofs.LowLaws.{keys_passed}
 use Rattle.db_tree.specs.declared.node_at.NodeAt.{NodeAt}
 use Rattle.db_tree.specs.declared.node_split.NodeSplit.{NodeSplit}
-use Rattle.db_tree.specs.Waiting.{is_same_name, is_logged_before, waits_in, waits_at, waiting_in, waiting_of, at_level, waiting_below, waiting_before, halves_of, root_at, logged_for}
+use Rattle.db_tree.specs.Waiting.{is_same_name, is_logged_before, waits_in, waiting_in, waiting_of, at_level, waiting_below, waiting_before, halves_of, root_at, logged_for}
 use Rattle.db_tree.proofs.ImageLaws.{slot_names}
 use Rattle.db_tree.proofs.WaitCounts.{waiting_at_is}
 

@@ -1,8 +1,8 @@
 -- A name gets a slot.
-use Rattle.std.proofs.Common.{◌≡◌, ◌==◌, ◌*◌, ◌+◌, ◌<◌, ◌≤◌, ◌++◌, ◌∷◌, [], ℕ, suc, List, Bool, true, false, cond, Option, None, Some, IsSome, is_some, map, length, nat_lt, refl, ap, ap₂, sym, subst, ◌∙◌, arith, is_eq, ◌⊎◌, inl, inr}
+use Rattle.std.proofs.Common.{◌≡◌, ◌*◌, ◌+◌, ◌≤◌, ◌++◌, ◌∷◌, [], ℕ, List, Bool, true, false, cond, Option, None, Some, IsSome, is_some, map, length, nat_lt, refl, ap, ap₂, sym, subst, ◌∙◌, arith, is_eq, ◌⊎◌, inl, inr}
 use Rattle.std.specs.BTreeMap.{insert_entry}
 use Rattle.std.specs.List.{AllByRecursion}
-use Rattle.std.proofs.lemmas.Bool.{le-ltb, true≢false}
+use Rattle.std.proofs.lemmas.Bool.{eq-eqb, le-ltb, true≢false}
 use Rattle.std.proofs.lemmas.List.{length-map}
 use Rattle.std.specs.Map.{keys_of}
 use Rattle.je_order.specs.Order.{name_cmp}
@@ -63,8 +63,8 @@ cell_kept cells name some = by_value (value_at name cells) refl some
 
 -- ---- nodes that wait
 
-pub raised_is : (splits : List NodeSplit) (rows : List NodeRow) (height : ℕ) → height ≡ length rows → (length splits == height) ≡ true → is_raised splits (lows_of rows) ≡ true
-raised_is splits rows height is test = ap (λ (n : ℕ). length splits == n) (length-map rows keys_of ∙ sym is) ∙ test
+pub raised_is : (splits : List NodeSplit) (rows : List NodeRow) (height : ℕ) → height ≡ length rows → length splits ≡ height → is_raised splits (lows_of rows) ≡ true
+raised_is splits rows height is same = eq-eqb (length splits) (length (lows_of rows)) (same ∙ is ∙ sym (length-map rows keys_of))
 
 count_raised : (t : Bool) (waiting : List (List Name)) → count_lows (waiting_raised t waiting) ≡ count_lows waiting
 count_raised true waiting = let whole : count_lows (waiting ++ [] ∷ []) ≡ count_lows waiting + 0 = count_both waiting ([] ∷ []) in omega (arith, whole)
@@ -197,7 +197,7 @@ placed_there db fanout name room tree parts there splits raised old images = (
     };
   },
   subst (λ (l : List NodeImage). AreNodeImages db tree.levels tree.cells (nodes_logged fanout name (shape_in tree)) l) (sym images)
-  (subst (λ (t : Bool). AreNodeImages db tree.levels tree.cells (cond t [] (logged_by (splits_of fanout name (shape_in tree)) (shape_in tree))) []) (sym there) (record { nodes = refl; each = tt })),
+      (subst (λ (t : Bool). AreNodeImages db tree.levels tree.cells (cond t [] (logged_by (splits_of fanout name (shape_in tree)) (shape_in tree))) []) (sym there) (record { nodes = refl; each = tt })),
 )
 
 -- ---- a slot that is taken back

@@ -1,5 +1,5 @@
 -- How many nodes wait.
-use Rattle.std.proofs.Common.{◌≡◌, ◌+◌, ◌<◌, ◌≤◌, ◌++◌, ◌∷◌, [], ℕ, zero, suc, List, Bool, true, false, cond, Option, None, Some, filter, map, take, length, refl, ap, ap₂, sym, subst, ◌∙◌, arith, is_eq, ◌⊎◌, inl, inr, Ordering, Less, Equal, Greater, IsSome, Result, Ok, Err, OnOk, OnErr}
+use Rattle.std.proofs.Common.{◌≡◌, ◌+◌, ◌<◌, ◌≤◌, ◌++◌, ◌∷◌, [], ℕ, zero, suc, List, Bool, true, false, cond, Option, None, Some, filter, take, length, refl, ap, ap₂, sym, subst, ◌∙◌, arith, is_eq, ◌⊎◌, inl, inr, Ordering, Less, Equal, Greater, IsSome, Result, Ok, Err, OnOk, OnErr}
 use Rattle.std.specs.List.{AllByRecursion}
 use Rattle.std.specs.List.Sorted.{IsStrictlySortedBy}
 use Rattle.std.specs.Map.{keys_of}
@@ -10,15 +10,14 @@ use Rattle.std.proofs.lemmas.List.{length-map}
 use Rattle.std.proofs.lemmas.Option.{none-some}
 use Rattle.je_order.specs.Order.{name_cmp}
 use Rattle.je_order.specs.declared.name.Name.{Name}
-use Rattle.record_map.specs.Cells.{value_at, IsRising}
-use Rattle.record_map.proofs.NameLaws.{same_or_other, name_same, other_stays, same_gets}
+use Rattle.record_map.specs.Cells.{value_at}
+use Rattle.record_map.proofs.NameLaws.{same_or_other, other_stays, same_gets}
 use Rattle.tree_nodes.specs.declared.node.Node.{Node}
 use Rattle.tree_nodes.specs.Nodes.{NodeRow, least}
 use Rattle.tree_nodes.specs.Levels.{row_of, AreParts, HasPutAt, HasRaised}
 use Rattle.tree_nodes.specs.Lows.{lows_of, lows_at, with_low, with_root}
-use Rattle.db_tree.specs.Waiting.{is_forced, waits_in, waits_at, waiting_in, waiting_of, count_lows}
-use Rattle.db_tree.proofs.SplitLaws.{level_cases}
-use Rattle.db_tree.proofs.WaitLaws.{put_at, put_lows, keys_at, keys_with, insert_passed, root_waits}
+use Rattle.db_tree.specs.Waiting.{is_forced, waits_in, waiting_in, waiting_of, count_lows}
+use Rattle.db_tree.proofs.WaitLaws.{put_lows, keys_at, keys_with, root_waits}
 
 -- ---- counts of lists
 
@@ -197,6 +196,9 @@ set_fewer old new level low n was are there put quiet = by_value (value_at low (
     by_value None is some = absurd (true≢false (sym some))
     by_value (Some m) is some = put_fewer old new level low m n was are is put quiet
 
--- counts that rise step by step
-pub few_then : (a b c m n k : ℕ) → b ≤ a + m → c ≤ b + n → m + n ≤ k → c ≤ a + k
-few_then a b c m n k first next at_most = omega (arith, first, next, at_most)
+-- counts that rise step by step, and fall at the end
+pub few_last : (a b c d m n k : ℕ) → b ≤ a + m → c ≤ b + n → d ≤ c → m + n ≤ k → d ≤ a + k
+few_last a b c d m n k first next last at_most = omega (arith, first, next, last, at_most)
+
+pub both_few : (m n a b : ℕ) → m ≤ a → n ≤ b → m + n ≤ a + b
+both_few m n a b first next = omega (arith, first, next)

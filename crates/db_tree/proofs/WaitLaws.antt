@@ -1,7 +1,6 @@
 -- Which nodes of changed levels wait.
-use Rattle.std.proofs.Common.{◌≡◌, ◌+◌, ◌<◌, ◌≤◌, ◌++◌, ◌∷◌, [], ℕ, zero, suc, List, Bool, true, false, cond, Option, None, Some, IsSome, is_some, option_map, filter, map, take, set, length, get_or, refl, ap, ap₂, sym, subst, ◌∙◌, arith, is_eq, ◌⊎◌, inl, inr, Ordering, Less, Equal, Greater, Result, Ok, Err, OnOk}
+use Rattle.std.proofs.Common.{◌≡◌, ◌<◌, ◌++◌, ◌∷◌, [], ℕ, zero, suc, List, Bool, true, false, cond, Option, None, Some, is_some, option_map, filter, map, take, set, length, get_or, refl, ap, ap₂, sym, subst, ◌∙◌, arith, is_eq, ◌⊎◌, inl, inr, Ordering, Less, Equal, Greater, Result, Ok, Err, OnOk}
 use mathlib.Core.Path.{fun_ext}
-use Rattle.std.specs.List.{AllByRecursion}
 use Rattle.std.specs.List.Sorted.{IsStrictlySortedBy}
 use Rattle.std.specs.Map.{keys_of}
 use Rattle.std.specs.BTreeSet.{insert_key}
@@ -11,7 +10,7 @@ use Rattle.std.proofs.lemmas.List.{length-map, map-append}
 use Rattle.je_order.specs.Order.{name_cmp}
 use Rattle.je_order.specs.declared.name.Name.{Name}
 use Rattle.record_map.specs.Cells.{value_at, IsRising}
-use Rattle.record_map.proofs.NameLaws.{same_or_other, name_same, name_exact, other_stays, same_gets}
+use Rattle.record_map.proofs.NameLaws.{same_or_other, other_stays, same_gets}
 use Rattle.tree_nodes.specs.declared.node.Node.{Node}
 use Rattle.tree_nodes.specs.Nodes.{NodeRow, least, HasPut, marked}
 use Rattle.tree_nodes.specs.Levels.{row_of, AreParts, HasPutAt, HasMarkedAt, HasRaised}
@@ -217,4 +216,3 @@ raised_waits (Err e) old new root quiet has lows front = tt
 -- with a new root or without one
 pub grown_waits : (t raised : Bool) (old mid : List (List Name)) → raised ≡ t → mid ≡ waiting_raised t old → mid ≡ waiting_raised raised old
 grown_waits t raised old mid is grown = grown ∙ ap (λ (s : Bool). waiting_raised s old) (sym is)
-

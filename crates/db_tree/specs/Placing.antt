@@ -1,5 +1,5 @@
 -- What is known of a name's slot while it is made.
-use Rattle.std.specs.Prelude.{◌≡◌, ℕ, true, false, List, IsSome, map}
+use Rattle.std.specs.Prelude.{◌≡◌, ℕ, false, List, IsSome, map}
 use Rattle.std.specs.BTreeMap.{insert_entry}
 use Rattle.std.specs.List.{AllByRecursion}
 use Rattle.je_order.specs.Order.{name_cmp}

@@ -1,5 +1,5 @@
 -- Which nodes are split where a name gets a slot, and how long the images of their halves are.
-use Rattle.std.specs.Prelude.{◌-◌, ◌/◌, ◌+◌, ◌==◌, ◌&&◌, ℕ, zero, suc, Bool, true, false, List, [], ◌∷◌, ◌++◌, Option, None, Some, is_some, length, filter, map, nat_lt, if◌then◌else◌}
+use Rattle.std.specs.Prelude.{◌-◌, ◌/◌, ◌+◌, ◌==◌, ℕ, zero, suc, Bool, true, false, List, [], ◌∷◌, Option, None, Some, is_some, length, filter, map, nat_lt, if◌then◌else◌}
 use Rattle.std.specs.List.{slice_get}
 use Rattle.std.specs.Map.{keys_of}
 use Rattle.std.specs.BTreeMap.{insert_entry}

@@ -129,18 +129,12 @@ impl DbTree {
         if level >= self.levels.height() || !has_names(top) {
             return Err(AllocError);
         }
-        let slots = self
-            .levels
-            .slots(alloc, level, &top.low, upper_of(top))?;
+        let slots = self.levels.slots(alloc, level, &top.low, upper_of(top))?;
         self.push_each(nodes, level, lows_in(alloc, slots)?, split)
     }
 
     // The nodes that wait below the topmost one that is split, level by level from the BINs on.
-    fn waiting_before(
-        &self,
-        alloc: Global,
-        splits: &[NodeSplit],
-    ) -> Result<Vec<NodeAt>, AllocError>
+    fn waiting_before(&self, alloc: Global, splits: &[NodeSplit]) -> Result<Vec<NodeAt>, AllocError>
         ensures { IfOk result (λ nodes. nodes.items ≡ waiting_before (last_of splits.now) splits.now (waiting_of self.now.levels)) }
     {
         let mut nodes = Vec::new(alloc);

@@ -109,6 +109,7 @@ impl DbTree {
         mark: Lsn,
     ) -> Result<usize, TreeErr>
         ensures waits { IfOk result (λ made. count_in self.new ≤ count_in self.old + 2 * made) }
+        ensures few { IfOk result (λ made. made ≤ 64) }
         ensures cell { OnOk result (HasCell self.old.cells self.new.cells name.now (cell_or_fresh (value_at name.now self.old.cells))) }
         ensures was_rising { IsRising self.old.cells }
         ensures rising { IsRising self.new.cells }

@@ -1,6 +1,4 @@
-use Rattle.std.proofs.Common.{◌∙◌, ◌+◌, List, ap, option_copied}
-use Rattle.log_entry.specs.declared.child_slot.ChildSlot.{ChildSlot}
-use Rattle.log_entry.specs.declared.record_slot.RecordSlot.{RecordSlot}
+use Rattle.std.proofs.Common.{◌∙◌, ◌+◌, ap, option_copied}
 use Rattle.log_entry.specs.declared.entry.Entry.TheVariants.{In, Bin}
 use Rattle.tree_nodes.specs.Levels.{row_of}
 use Rattle.db_tree.specs.Content.{record_slots}

@@ -1,4 +1,4 @@
-use Rattle.std.proofs.Common.{◌∙◌, ◌<◌, ℕ, length, refl, subst, sym}
+use Rattle.std.proofs.Common.{◌∙◌, ◌<◌, ℕ, refl, subst, sym}
 use Rattle.db_tree.proofs.FinishLaws.{finish_begin, finish_next, finish_past, finish_all, set_height, each_next}
 use Rattle.db_tree.proofs.tree.DbTree.finish_slots.Goals as goal
 

@@ -1,4 +1,4 @@
-use Rattle.std.proofs.Common.{Some, ◌≡◌, ◌≤◌, ◌∙◌, ℕ, length, ap, subst, sym}
+use Rattle.std.proofs.Common.{Some, ◌≤◌, ◌∙◌, ℕ, ap, subst, sym}
 use Rattle.tree_nodes.specs.declared.node.Node.{Node}
 use Rattle.tree_nodes.specs.Levels.{HasPutAt}
 use Rattle.db_tree.specs.Content.{held_by}

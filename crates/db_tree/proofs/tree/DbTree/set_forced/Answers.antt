@@ -1,8 +1,7 @@
-use Rattle.std.proofs.Common.{Some, ◌≡◌, ◌≤◌, ◌∙◌, ℕ, ap, sym, subst}
+use Rattle.std.proofs.Common.{Some, ◌≤◌, ◌∙◌, ℕ, ap, sym, subst}
 use Rattle.tree_nodes.specs.declared.node.Node.{Node}
 use Rattle.tree_nodes.specs.Levels.{HasPutAt}
 use Rattle.db_tree.specs.Content.{held_by}
-use Rattle.db_tree.specs.Shapes.{with_forced}
 use Rattle.db_tree.proofs.ForcedLaws.{force_put, force_none, force_past, force_tree}
 use Rattle.db_tree.proofs.tree.DbTree.set_forced.Goals as goal
 
