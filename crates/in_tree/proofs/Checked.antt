@@ -19,11 +19,12 @@ use Rattle.record_tree.specs.declared.tree_err.TreeErr.{TreeErr}
 use Rattle.record_tree.specs.declared.tree_err.TreeErr.TheVariants.{Fault, Full, IdsEnded, Memory}
 use Rattle.record_tree.specs.Logged.{is_made, makes_db, IsLimit, IsEndOf, LogsChanges, IsFront, last_change}
 use Rattle.record_tree.specs.Occupied.{Occupied, AllCells, AreSame, AreWritten, IsWritten, value_in, write_in}
-use Rattle.in_tree.specs.declared.db_tree.DbTree.{DbTree}
-use Rattle.in_tree.specs.Forest.{Forest, cells_of, cells_at, cells_seen, is_there, occupied, HasSameTrees}
+use Rattle.db_tree.specs.declared.tree.DbTree.{DbTree}
+use Rattle.in_tree.specs.Forest.{Forest, cells_of, cells_at, cells_seen, is_there, HasSameTrees}
+use Rattle.db_tree.specs.Seen.{occupied}
 use Rattle.in_tree.specs.Limits.{HasRoomFor, end_behind, sizes_for, count_made, limit_of, GrewFitting, TriedFitting}
 use Rattle.in_tree.specs.Fitting.{fits_none, fitting_unchanged, fitting_then, fitting_tried}
-use Rattle.in_tree.proofs.Seen.{none_rise}
+use Rattle.db_tree.proofs.Seen.{none_rise}
 use Rattle.in_tree.proofs.Written.{entries_of, logs_all}
 
 -- ---- databases without a tree
@@ -95,10 +96,6 @@ trees_back old mid new changes all stay back d = by_test (is_made d changes) ref
     by_test false is = back d ∙ ap (λ (t : Bool). cond t false (is_there mid d)) is ∙ stay d is
 
 -- ---- how a call ended
-
-pub ok_then : {X Y P Q : Type 0} (r : Result X Y) → (P → Q) → OnOk r P → OnOk r Q
-ok_then (Ok x) f h = f h
-ok_then (Err y) f h = tt
 
 pub ends_by : {X P Q : Type 0} (r : Result X TreeErr) (reason : TreeErr) → (P → Q) → OnErr r P → IsEndOf reason r Q
 ends_by (Ok x) reason f h = tt

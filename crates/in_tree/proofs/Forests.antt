@@ -8,8 +8,9 @@ use Rattle.je_order.specs.Order.{name_cmp}
 use Rattle.je_order.specs.declared.name.Name.{Name}
 use Rattle.record_map.specs.Cells.{value_at, IsRising}
 use Rattle.record_tree.specs.Occupied.{Occupied, AreSame}
-use Rattle.in_tree.specs.declared.db_tree.DbTree.{DbTree}
-use Rattle.in_tree.specs.Forest.{Forest, cells_of, cells_at, cells_seen, is_there, occupied, HasChange, HasSameTrees, KeepsCells}
+use Rattle.db_tree.specs.declared.tree.DbTree.{DbTree}
+use Rattle.in_tree.specs.Forest.{Forest, cells_of, cells_at, cells_seen, is_there, HasChange, HasSameTrees, KeepsCells}
+use Rattle.db_tree.specs.Seen.{occupied}
 
 -- two numbers are one, or both tests tell them apart
 pub number_cases : (a b : ℕ) → (a ≡ b) ⊎ ((b == a ≡ false) × (is_eq (nat_cmp a b) ≡ false))

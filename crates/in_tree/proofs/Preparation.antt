@@ -14,10 +14,6 @@ use Rattle.in_tree.proofs.Forests.{number_cases}
 
 -- ---- loops over a list
 
--- what is left of a list, with its next one in front
-pub next_left : {X : Type 0} (xs : List X) (i : ℕ) (x : X) → i < length xs → x ≡ get_or xs i x → drop i xs ≡ x ∷ drop (i + 1) xs
-next_left {X} xs i x within is = drop_more xs i x within ∙ ap (λ (y : X). y ∷ drop (i + 1) xs) (sym is)
-
 -- ---- making trees
 
 -- some trees were made, and those of the changes that are left are not

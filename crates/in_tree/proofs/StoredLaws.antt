@@ -19,11 +19,14 @@ use Rattle.record_map.specs.Cells.{value_at, IsRising, from_edge}
 use Rattle.record_map.proofs.NameLaws.{same_or_other, name_same, other_stays, same_gets}
 use Rattle.record_tree.specs.Occupied.{Occupied, is_occupied, committed_value}
 use Rattle.record_tree.specs.Stored.{Stored, stored_at, HasStored, AreStoredStill}
-use Rattle.in_tree.specs.declared.db_tree.DbTree.{DbTree}
-use Rattle.in_tree.specs.Trees.{HasCell, cell_or_fresh}
-use Rattle.in_tree.specs.Forest.{Forest, cells_of, cells_at, is_there, cells_seen, occupied, with_logged}
-use Rattle.in_tree.specs.Stored.{stored_by, stored_under, with_name, stored_in, stored_of, committed_cell, AreQuiet, IsQuiet, HasLogged}
-use Rattle.in_tree.proofs.Contents.{none_behind}
+use Rattle.db_tree.specs.declared.tree.DbTree.{DbTree}
+use Rattle.db_tree.specs.Trees.{HasCell, cell_or_fresh}
+use Rattle.in_tree.specs.Forest.{Forest, cells_of, cells_at, is_there, cells_seen}
+use Rattle.db_tree.specs.Seen.{occupied}
+use Rattle.db_tree.specs.Stored.{with_logged}
+use Rattle.db_tree.specs.Stored.{stored_by, stored_under, with_name, stored_in, AreQuiet, HasLogged}
+use Rattle.in_tree.specs.Stored.{stored_of, committed_cell, IsQuiet}
+use Rattle.db_tree.proofs.Contents.{none_behind}
 use Rattle.in_tree.proofs.Forests.{number_cases, number_same, Replaces, replaced, others}
 
 -- ---- the records of cells

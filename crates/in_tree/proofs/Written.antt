@@ -22,7 +22,8 @@ use Rattle.record_map.specs.Cells.{value_at, IsRising}
 use Rattle.record_tree.specs.declared.tree_change.TreeChange.{TreeChange}
 use Rattle.record_tree.specs.Logged.{entry_for, LogsChanges, IsFront, is_change_of, last_change}
 use Rattle.record_tree.specs.Occupied.{AllCells, AreWritten, IsWritten, value_in, write_in}
-use Rattle.in_tree.specs.Forest.{Forest, cells_seen, HasSameTrees, KeepsCells, HasOne, HasChange, with_change, write_for}
+use Rattle.in_tree.specs.Forest.{Forest, cells_seen, HasSameTrees, KeepsCells, HasOne, HasChange, write_for}
+use Rattle.db_tree.specs.Seen.{with_change}
 use Rattle.in_tree.specs.Limits.{change_size, sizes_for, HasRoomFor, end_behind, FitsLog, GrewFitting, TriedFitting}
 use Rattle.in_tree.specs.Fitting.{fitting_none, fitting_then, fitting_tried}
 use Rattle.in_tree.proofs.Preparation.{same_test}

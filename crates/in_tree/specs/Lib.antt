@@ -1,14 +1,7 @@
-pub mod Images
-pub mod Content
-pub mod Trees
-pub mod Laws
 pub mod Forest
 pub mod Limits
 pub mod Fitting
-pub mod Splitting
 pub mod Stored
-pub mod Splits
-pub mod Halves
 pub mod Shapes
 pub mod Whole
 pub mod Observed

@@ -1,27 +1,13 @@
 -- The trees of all databases, as far as splits depend on them.
-use Rattle.std.specs.Prelude.{◌≡◌, ◌+◌, ◌==◌, ℕ, [], ◌∷◌, Option, None, Some, is_some, length, if◌then◌else◌}
+use Rattle.std.specs.Prelude.{◌≡◌, ◌==◌, ℕ, [], ◌∷◌, Option, None, Some, if◌then◌else◌}
 use Rattle.std.specs.Ordering.{nat_cmp}
 use Rattle.std.specs.BTreeMap.{get}
 use Rattle.record_tree.specs.declared.tree_change.TreeChange.{TreeChange}
 use Rattle.tree_nodes.specs.Nodes.{least}
-use Rattle.tree_nodes.specs.Lows.{lows_of}
-use Rattle.in_tree.specs.declared.db_tree.DbTree.{DbTree}
+use Rattle.db_tree.specs.declared.tree.DbTree.{DbTree}
+use Rattle.db_tree.specs.Shapes.{shape_in}
+use Rattle.db_tree.specs.Splits.{Shape, shape_with}
 use Rattle.in_tree.specs.Forest.{Forest}
-use Rattle.in_tree.specs.Halves.{AreLoggable}
-use Rattle.in_tree.specs.declared.slot_room.SlotRoom.{SlotRoom}
-use Rattle.in_tree.specs.Splits.{Shape, one_if, shape_with}
-
-abbrev pub shape_in : DbTree → Shape
-shape_in tree = record { cells = tree.cells; lows = lows_of tree.levels }
-
--- how many nodes were made for a slot
-abbrev pub made_by : SlotRoom → ℕ
-made_by room = length room.splits.items + one_if (is_some room.images.root)
-
--- what a name's slot takes is ready to be logged: the images are, and each split has those of its halves
-pub record IsReady (room : SlotRoom) : Type 0 where
-  pub images : AreLoggable room.images
-  pub paired : length room.images.halves.items ≡ length room.splits.items
 
 -- a database without a tree, and a new tree
 abbrev pub shape_of : Option DbTree → Shape

@@ -3,11 +3,12 @@ ghost use Rattle.std.specs.Prelude.{◌≡◌, ℕ, true, false, [], Option, Non
 ghost use Rattle.je_order.specs.declared.name.Name.{Name};
 ghost use Rattle.record_map.specs.Cells.{value_at, IsRising, first_of, last_of, from_edge, below_edge, edge_of};
 ghost use Rattle.record_tree.specs.Occupied.{AreSame, occupied_by, after_commit, after_abort};
-ghost use Rattle.in_tree.specs.Forest.{cells_at, cells_seen, is_there, HasChange, with_change, HasSameTrees, KeepsCells, HasOne, with_value};
+ghost use Rattle.in_tree.specs.Forest.{cells_at, cells_seen, is_there, HasChange, HasSameTrees, KeepsCells, HasOne};
+ghost use Rattle.db_tree.specs.Seen.{with_change, with_value};
 ghost use Rattle.in_tree.specs.Stored.{stored_of, IsQuiet};
 ghost use Rattle.record_tree.specs.Stored.{stored_at, HasStored, AreStoredStill};
 
-use crate::DbTree;
+use db_tree::DbTree;
 use je_lsn::Lsn;
 use je_order::Octets;
 use record_map::{Cell, SortKey, Write};

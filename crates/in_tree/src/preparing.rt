@@ -6,7 +6,8 @@ ghost use Rattle.record_tree.specs.Occupied.{AreSame};
 ghost use Rattle.in_tree.specs.Forest.{cells_at, cells_seen, is_there, HasSameTrees, KeepsCells, HasOne, write_for};
 ghost use Rattle.in_tree.specs.Limits.{one_made, count_made};
 
-use crate::{DbTree, Trees, forest};
+use crate::{Trees, forest};
+use db_tree::DbTree;
 use je_lsn::{FileNo, Lsn};
 use je_order::{Octets, TxnId};
 use record_map::{Data, Write};

@@ -5,10 +5,12 @@ ghost use Rattle.record_tree.specs.Logged.{IsEndOf};
 ghost use Rattle.record_tree.specs.Occupied.{AreSame, occupied_by};
 ghost use Rattle.record_tree.specs.declared.tree_err.TreeErr.{TreeErr as Reason};
 ghost use Rattle.record_tree.specs.Stored.{stored_at, HasStored, AreStoredStill};
-ghost use Rattle.in_tree.specs.Forest.{cells_seen, is_there, HasSameTrees, HasChange, with_value};
+ghost use Rattle.in_tree.specs.Forest.{cells_seen, is_there, HasSameTrees, HasChange};
+ghost use Rattle.db_tree.specs.Seen.{with_value};
 ghost use Rattle.in_tree.specs.Stored.{stored_of, IsQuiet};
 
-use crate::{DbTree, forest, reading};
+use crate::{forest, reading};
+use db_tree::DbTree;
 use je_lsn::Lsn;
 use je_order::Octets;
 use record_map::{Cell, EdgeRef, SortKey};

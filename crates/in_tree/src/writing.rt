@@ -9,10 +9,12 @@ ghost use Rattle.record_map.specs.Cells.{IsRising};
 ghost use Rattle.record_tree.specs.Logged.{entry_for, LogsChanges, IsFront};
 ghost use Rattle.record_tree.specs.Occupied.{AreWritten, HasChangedAll, after_commit, after_abort};
 ghost use Rattle.record_tree.specs.declared.tree_err.TreeErr.{TreeErr as Reason};
-ghost use Rattle.in_tree.specs.Forest.{cells_seen, HasSameTrees, KeepsCells, HasOne, HasChange, with_change, write_for};
+ghost use Rattle.in_tree.specs.Forest.{cells_seen, HasSameTrees, KeepsCells, HasOne, HasChange, write_for};
+ghost use Rattle.db_tree.specs.Seen.{with_change};
 ghost use Rattle.in_tree.specs.Limits.{change_size, commit_size, commit_sizes, sizes_for, HasRoomFor, GrewFitting, TriedFitting};
 
-use crate::{DbTree, forest};
+use crate::forest;
+use db_tree::DbTree;
 use je_disk::Disk;
 use je_lsn::Lsn;
 use je_order::TxnId;

@@ -1,6 +1,6 @@
 use Rattle.std.proofs.Common.{is_some, ap, sym}
 use Rattle.record_tree.specs.Stored.{stored_at}
-use Rattle.in_tree.proofs.Checked.{ok_then}
+use Rattle.db_tree.proofs.Ending.{ok_then}
 use Rattle.in_tree.proofs.StoredLaws.{stored_put, logged_change}
 use Rattle.in_tree.proofs.forest.redo.Goals as goal
 

@@ -1,7 +1,7 @@
 use Rattle.std.proofs.Common.{Some, is_some, ap, sym}
 use Rattle.record_tree.specs.Stored.{stored_at}
-use Rattle.in_tree.specs.Stored.{loaded_cell}
-use Rattle.in_tree.proofs.Checked.{ok_then}
+use Rattle.db_tree.specs.Stored.{loaded_cell}
+use Rattle.db_tree.proofs.Ending.{ok_then}
 use Rattle.in_tree.proofs.StoredLaws.{stored_put, stored_change}
 use Rattle.in_tree.proofs.loading.load.Goals as goal
 

@@ -1,6 +1,7 @@
 use Rattle.std.proofs.Common.{List, drop, ◌+◌, subst}
 use Rattle.record_tree.specs.declared.tree_change.TreeChange.{TreeChange}
-use Rattle.in_tree.proofs.Preparation.{MakesLeft, next_left, makes_step}
+use Rattle.db_tree.proofs.Ending.{next_left}
+use Rattle.in_tree.proofs.Preparation.{MakesLeft, makes_step}
 use Rattle.in_tree.proofs.preparing.make_all.Goals as goal
 
 pub loop-change-preserved : goal.loop-change-preserved

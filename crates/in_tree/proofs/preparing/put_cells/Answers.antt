@@ -3,7 +3,8 @@ use Rattle.std.proofs.lemmas.List.{drop_all}
 use Rattle.std.specs.List.{AllByRecursion}
 use Rattle.record_tree.specs.declared.tree_change.TreeChange.{TreeChange}
 use Rattle.in_tree.specs.Forest.{HasOne}
-use Rattle.in_tree.proofs.Preparation.{CellsLeft, next_left, cells_step}
+use Rattle.db_tree.proofs.Ending.{next_left}
+use Rattle.in_tree.proofs.Preparation.{CellsLeft, cells_step}
 use Rattle.in_tree.proofs.preparing.put_cells.Goals as goal
 
 pub loop-change-preserved : goal.loop-change-preserved

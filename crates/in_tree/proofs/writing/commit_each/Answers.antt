@@ -3,7 +3,7 @@ use Rattle.std.proofs.lemmas.List.{drop_all}
 use Rattle.record_tree.specs.declared.tree_name.TreeName.{TreeName}
 use Rattle.record_tree.specs.Occupied.{after_commit}
 use Rattle.in_tree.specs.Forest.{cells_seen}
-use Rattle.in_tree.proofs.Preparation.{next_left}
+use Rattle.db_tree.proofs.Ending.{next_left}
 use Rattle.in_tree.proofs.Names.{NamesLeft, names_begin, names_step, commit_once}
 use Rattle.in_tree.proofs.writing.commit_each.Goals as goal
 

@@ -3,7 +3,7 @@ use Rattle.std.proofs.lemmas.List.{drop_all}
 use Rattle.std.specs.Global.{Global}
 use Rattle.record_map.specs.declared.write.Write.{Write}
 use Rattle.in_tree.specs.Forest.{write_for, cells_seen}
-use Rattle.in_tree.proofs.Preparation.{next_left}
+use Rattle.db_tree.proofs.Ending.{next_left}
 use Rattle.in_tree.proofs.Written.{writes_begin, writes_turn, writes_step, writes_fail, writes_end, heads_same, rests_same, not_empty, on_err, nothing_written}
 use Rattle.in_tree.proofs.writing.write_each.Goals as goal
 

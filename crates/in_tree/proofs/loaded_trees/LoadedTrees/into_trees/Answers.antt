@@ -3,7 +3,7 @@ use Rattle.in_tree.specs.declared.trees.Trees.{Trees}
 use Rattle.in_tree.specs.Forest.{cells_at}
 use Rattle.in_tree.specs.Stored.{committed_cell}
 use Rattle.in_tree.specs.Whole.{stored_within}
-use Rattle.in_tree.proofs.Seen.{occupied_rises}
+use Rattle.db_tree.proofs.Seen.{occupied_rises}
 use Rattle.in_tree.proofs.StoredLaws.{forest_seen}
 use Rattle.in_tree.proofs.loaded_trees.LoadedTrees.into_trees.Goals as goal
 

@@ -1,5 +1,5 @@
 use Rattle.std.proofs.Common.{sym, subst}
-use Rattle.in_tree.specs.Stored.{AreQuiet}
+use Rattle.db_tree.specs.Stored.{AreQuiet}
 use Rattle.in_tree.proofs.Checked.{none_there}
 use Rattle.in_tree.proofs.StoredLaws.{none_quiet}
 use Rattle.in_tree.proofs.loaded_trees.LoadedTrees.new.Goals as goal

@@ -1,5 +1,6 @@
 use Rattle.in_tree.specs.Forest.{cells_seen}
-use Rattle.in_tree.proofs.Checked.{ok_then, ends_by, ends_never, no_limit, written_since, grew_since, tried_since}
+use Rattle.db_tree.proofs.Ending.{ok_then}
+use Rattle.in_tree.proofs.Checked.{ends_by, ends_never, no_limit, written_since, grew_since, tried_since}
 use Rattle.in_tree.proofs.log_trees.LogTrees.write_checked.Goals as goal
 
 pub returns-clause-grew : goal.returns-clause-grew

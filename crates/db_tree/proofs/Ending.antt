@@ -1,0 +1,11 @@
+-- How calls end, and what is left of a list.
+use Rattle.std.proofs.Common.{◌≡◌, ◌+◌, ◌<◌, ℕ, List, ◌∷◌, Result, Ok, Err, OnOk, ap, sym, ◌∙◌, drop, length, get_or}
+use Rattle.std.proofs.lemmas.List.{drop_more}
+
+pub ok_then : {X Y P Q : Type 0} (r : Result X Y) → (P → Q) → OnOk r P → OnOk r Q
+ok_then (Ok x) f h = f h
+ok_then (Err y) f h = tt
+
+-- what is left of a list, with its next one in front
+pub next_left : {X : Type 0} (xs : List X) (i : ℕ) (x : X) → i < length xs → x ≡ get_or xs i x → drop i xs ≡ x ∷ drop (i + 1) xs
+next_left {X} xs i x within is = drop_more xs i x within ∙ ap (λ (y : X). y ∷ drop (i + 1) xs) (sym is)

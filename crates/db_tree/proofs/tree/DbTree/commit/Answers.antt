@@ -1,0 +1,14 @@
+use Rattle.std.proofs.Common.{option_map}
+use Rattle.record_map.specs.Cells.{value_at, committed}
+use Rattle.db_tree.specs.Content.{held_by}
+use Rattle.db_tree.proofs.Records.{commits, held_apart}
+use Rattle.db_tree.proofs.tree.DbTree.commit.Goals as goal
+
+pub returns-clause-cells : goal.returns-clause-cells
+returns-clause-cells c = (c.over.result.1.now.last, c.commit.ensures.others)
+
+pub returns-clause-tree : goal.returns-clause-tree
+returns-clause-tree c = λ es base newest le tree.
+    commits es base newest c.args.self.now.levels c.mark.new.self (held_by c.args.self.now.cells) (held_by c.commit.new.self) c.args.name.now c.args.from c.mark.ensures.marked le
+    (held_apart c.args.self.now.cells c.commit.new.self c.args.name.now (option_map (committed c.args.at c.over.result.1.now.last) (value_at c.args.name.now c.args.self.now.cells)) c.commit.ensures.others)
+    tree

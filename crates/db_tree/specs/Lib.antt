@@ -1,0 +1,10 @@
+pub mod Images
+pub mod Content
+pub mod Trees
+pub mod Laws
+pub mod Seen
+pub mod Stored
+pub mod Splitting
+pub mod Splits
+pub mod Halves
+pub mod Shapes
