@@ -18,7 +18,7 @@ use Rattle.tree_nodes.specs.Levels.{row_of, slot_of}
 use Rattle.tree_nodes.specs.Lows.{lows_of, lows_at}
 use Rattle.tree_nodes.proofs.LowLaws.{keys_passed, lows_at_is}
 use Rattle.db_tree.specs.Content.{record_slots}
-use Rattle.db_tree.specs.Halves.{kept_child, kept_children, kept_in}
+use Rattle.db_tree.specs.NodeImages.{kept_child, kept_children, kept_in}
 use Rattle.db_tree.specs.Splits.{any_child, image_size}
 
 -- a slot is as long whatever its LSN is

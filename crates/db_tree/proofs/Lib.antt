@@ -36,12 +36,26 @@ pub mod GrowLaws
 pub mod RootLaws
 -- How long images are.
 pub mod ImageSizes
--- The images of nodes that were split.
-pub mod HalvesLaws
--- The LSNs of children in their IN's image.
-pub mod FillLaws
+-- The images of nodes.
+pub mod ImageLaws
+-- Which nodes are logged where nodes are split.
+pub mod LoggedLaws
+-- A node that was logged waits no more.
+pub mod NoteLaws
+-- Trees, as far as their splits depend on them.
+pub mod ShapeLaws
+-- A name gets a slot.
+pub mod PlaceLaws
+-- Images get the LSNs of children.
+pub mod FinishLaws
 -- Splits are taken back.
 pub mod BackLaws
+-- Which nodes of changed levels wait.
+pub mod WaitLaws
+-- Levels in which some nodes wait, or do not.
+pub mod ForcedLaws
+-- How many nodes wait.
+pub mod WaitCounts
 -- How many images and nodes a name's slot needs.
 pub mod FewSplits
 -- How calls end, and what is left of a list.

@@ -63,7 +63,7 @@ by_name es base newest old new held same tree = record {
   inner = λ level x e c over lower. tree.inner level x e c (over_same (row_of old (suc level)) (row_of new (suc level)) x e (same (suc level)) over) (over_same (row_of old level) (row_of new level) x c (same level) lower);
 }
 
-level_cases : (k level : ℕ) → (k ≡ level) ⊎ (k ≡ level → ⊥)
+pub level_cases : (k level : ℕ) → (k ≡ level) ⊎ (k ≡ level → ⊥)
 level_cases k level =
     elim (cases_order k level) [
       | inl same ↦ inl same

@@ -1,5 +1,5 @@
 -- What holds of every tree of a log, step by step.
-use Rattle.std.specs.Prelude.{◌≡◌, ◌≤◌, ◌⊎◌, ◌++◌, ◌*◌, ◌+◌, ℕ, suc, List, Option, Some, length}
+use Rattle.std.specs.Prelude.{◌≡◌, ◌≤◌, ◌⊎◌, ◌++◌, ◌+◌, ℕ, suc, false, List, Option, Some, length}
 use Rattle.je_order.specs.declared.name.Name.{Name}
 use Rattle.record_map.specs.declared.cell.Cell.{Cell}
 use Rattle.record_map.specs.Cells.{value_at, IsRising}
@@ -9,7 +9,7 @@ use Rattle.tree_nodes.specs.Levels.{row_of, AreParts, HasPutAt, HasRaised}
 use Rattle.db_tree.specs.Images.{Placed, entry_at, shown, shows, IsRead}
 use Rattle.db_tree.specs.Content.{held_by, bin_image, in_image}
 use Rattle.db_tree.specs.Splitting.{AreSameByName}
-use Rattle.db_tree.specs.Splits.{Shape, image_sizes, nodes_made}
+use Rattle.db_tree.specs.Splits.{Shape, image_sizes, nodes_made, passes_top, shape_with, count_waiting}
 use Rattle.db_tree.specs.Trees.{IsTreeOf, IsBehind, IsMark, IsImageOf, IsHandedOn}
 
 -- a longer log is a log of the tree, whatever it got
@@ -64,10 +64,11 @@ InImagesShowChildren = (es : Placed) (rows : List NodeRow) (held : Name → Opti
 abbrev pub TreesAreByName : Type 0
 TreesAreByName = (es : Placed) (base : ℕ) (newest : Name → ℕ) (old new : List NodeRow) (held : Name → Option ℕ) → AreSameByName old new → IsTreeOf es base newest old held → IsTreeOf es base newest new held
 
--- a name's slot needs at most two images for each level of its tree, and one for a new root
+-- where no image passes the last level, the images that a name's slot needs and the nodes that wait still are at most 129 more than the nodes that waited
 abbrev pub ImagesAreFew : Type 0
-ImagesAreFew = (fanout : ℕ) (x : Name) (shape : Shape) → length (image_sizes fanout x shape) ≤ 2 * length shape.lows + 1
+ImagesAreFew = (fanout : ℕ) (x : Name) (shape : Shape) → passes_top fanout x shape ≡ false →
+    length (image_sizes fanout x shape) + count_waiting (shape_with fanout x shape) ≤ count_waiting shape + 129
 
--- it makes at most one node for each level, and a root
+-- a name's slot makes at most one node for each level, and a root
 abbrev pub NodesAreFew : Type 0
 NodesAreFew = (fanout : ℕ) (x : Name) (shape : Shape) → nodes_made fanout x shape ≤ length shape.lows + 1

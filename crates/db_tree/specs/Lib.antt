@@ -5,6 +5,8 @@ pub mod Laws
 pub mod Seen
 pub mod Stored
 pub mod Splitting
+pub mod Waiting
 pub mod Splits
-pub mod Halves
+pub mod NodeImages
 pub mod Shapes
+pub mod Placing

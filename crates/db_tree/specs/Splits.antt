@@ -1,21 +1,22 @@
 -- Which nodes are split where a name gets a slot, and how long the images of their halves are.
-use Rattle.std.specs.Prelude.{◌-◌, ◌/◌, ◌+◌, ◌==◌, ◌&&◌, ℕ, zero, suc, Bool, true, false, List, [], ◌∷◌, ◌++◌, Option, None, Some, is_some, length, filter, map, nat_lt, if◌then◌else◌}
+use Rattle.std.specs.Prelude.{◌-◌, ◌/◌, ◌+◌, ◌==◌, ℕ, zero, suc, Bool, true, false, List, [], ◌∷◌, Option, None, Some, is_some, length, filter, map, nat_lt, if◌then◌else◌}
 use Rattle.std.specs.List.{slice_get}
 use Rattle.std.specs.Map.{keys_of}
 use Rattle.std.specs.BTreeMap.{insert_entry}
 use Rattle.je_order.specs.Order.{name_cmp}
 use Rattle.je_order.specs.Edges.{Edge, is_between}
-use Rattle.je_order.specs.Edges.Edge.{At, End}
+use Rattle.je_order.specs.Edges.Edge.{At}
 use Rattle.je_order.specs.declared.name.Name.{Name}
 use Rattle.log_entry.specs.Encoding.{size_of}
 use Rattle.log_entry.specs.declared.child_slot.ChildSlot.{ChildSlot}
 use Rattle.log_entry.specs.declared.entry.Entry.TheVariants.{In, Bin}
 use Rattle.record_map.specs.declared.cell.Cell.{Cell}
 use Rattle.record_map.specs.Cells.{value_at, between_edges, upper_edge, fresh}
-use Rattle.tree_nodes.specs.Nodes.{least}
 use Rattle.tree_nodes.specs.Lows.{low_up_to, low_after, lows_at, with_low, with_root}
 use Rattle.db_tree.specs.declared.node_split.NodeSplit.{NodeSplit}
+use Rattle.db_tree.specs.declared.node_at.NodeAt.{NodeAt}
 use Rattle.db_tree.specs.Content.{record_slots}
+use Rattle.db_tree.specs.Waiting.{logged_for, still_waiting, waiting_raised, count_lows}
 
 -- ---- which nodes are split
 
@@ -65,7 +66,7 @@ is_raised splits lows = length splits == length lows
 abbrev pub lows_behind : List NodeSplit → List (List Name) → List (List Name)
 lows_behind splits lows = if is_raised splits lows then with_root (lows_split 0 splits lows) else lows_split 0 splits lows
 
--- ---- the images of the halves
+-- ---- the images of nodes
 
 -- a child in its IN's image; how long a slot is, its LSN does not matter for
 abbrev pub any_child : Name → ChildSlot
@@ -76,23 +77,17 @@ abbrev pub image_size : List (Name × Cell) → List (List Name) → ℕ → Edg
 image_size cells lows zero from upto = size_of (Bin 0 0 (record_slots (between_edges from upto cells)))
 image_size cells lows (suc level) from upto = size_of (In 0 0 0 (map any_child (filter (is_between from upto) (lows_at lows level))))
 
--- those of the halves of nodes that were split
-abbrev pub half_sizes : List (Name × Cell) → List (List Name) → ℕ → List NodeSplit → List ℕ
-half_sizes cells lows level [] = []
-half_sizes cells lows level (split ∷ splits) =
-    image_size cells lows level (At split.low) (At split.middle) ∷ image_size cells lows level (At split.middle) (upper_edge split.high) ∷ half_sizes cells lows (suc level) splits
-
--- that of a new root
-abbrev pub root_sizes : List (Name × Cell) → List (List Name) → ℕ → Bool → List ℕ
-root_sizes cells lows level true = image_size cells lows level (At least) End ∷ []
-root_sizes cells lows level false = []
-
 -- ---- trees, as far as their splits depend on them
 
--- the cells of a tree, and the lows of each level
+-- the cells of a tree, the lows of each level, and of these the lows of the nodes that wait to be logged
 pub record Shape : Type 0 where
   pub cells : List (Name × Cell)
   pub lows : List (List Name)
+  pub waiting : List (List Name)
+
+-- how many nodes of a tree wait to be logged
+abbrev pub count_waiting : Shape → ℕ
+count_waiting shape = count_lows shape.waiting
 
 -- a name that has a cell makes no slot
 abbrev pub has_slot : Name → Shape → Bool
@@ -101,27 +96,44 @@ has_slot x shape = is_some (value_at x shape.cells)
 abbrev pub splits_of : ℕ → Name → Shape → List NodeSplit
 splits_of fanout x shape = splits_from fanout x (keys_of shape.cells) shape.lows
 
+-- the nodes that are logged for splits of a tree, and where a name gets a slot in it
+abbrev pub logged_by : List NodeSplit → Shape → List NodeAt
+logged_by splits shape = logged_for splits (is_raised splits shape.lows) shape.waiting
+
+abbrev pub nodes_logged : ℕ → Name → Shape → List NodeAt
+nodes_logged fanout x shape = if has_slot x shape then [] else logged_by (splits_of fanout x shape) shape
+
+-- a tree behind splits, with the slot of a name; what is logged for them waits no more
+abbrev pub shape_behind : List NodeSplit → Name → Shape → Shape
+shape_behind splits x shape = record {
+  cells = insert_entry name_cmp shape.cells x fresh;
+  lows = lows_behind splits shape.lows;
+  waiting = still_waiting (logged_by splits shape) 0 (waiting_raised (is_raised splits shape.lows) shape.waiting);
+}
+
 -- a tree behind the splits for a name, and with its slot
 abbrev pub shape_with : ℕ → Name → Shape → Shape
-shape_with fanout x shape =
-    if has_slot x shape then shape else record { cells = insert_entry name_cmp shape.cells x fresh; lows = lows_behind (splits_of fanout x shape) shape.lows }
+shape_with fanout x shape = if has_slot x shape then shape else shape_behind (splits_of fanout x shape) x shape
 
--- the sizes of the images that a name's slot needs, left halves first, level by level, and the new root's last
-abbrev pub sizes_of_splits : List NodeSplit → Shape → List ℕ
-sizes_of_splits splits shape =
-    half_sizes shape.cells (lows_behind splits shape.lows) 0 splits ++ root_sizes shape.cells (lows_behind splits shape.lows) (length splits) (is_raised splits shape.lows)
+-- the size of the image of a node of a tree
+abbrev pub node_size : Shape → NodeAt → ℕ
+node_size shape n = image_size shape.cells shape.lows n.level (At n.low) (upper_edge (low_after n.low (lows_at shape.lows n.level)))
 
+-- the sizes of the images that a name's slot needs, in the order in which they are logged
 abbrev pub image_sizes : ℕ → Name → Shape → List ℕ
-image_sizes fanout x shape = if has_slot x shape then [] else sizes_of_splits (splits_of fanout x shape) shape
+image_sizes fanout x shape = map (node_size (shape_with fanout x shape)) (nodes_logged fanout x shape)
 
 -- how many nodes it makes: one for each split, and a root
 abbrev pub one_if : Bool → ℕ
 one_if true = 1
 one_if false = 0
 
-abbrev pub nodes_made : ℕ → Name → Shape → ℕ
-nodes_made fanout x shape = if has_slot x shape then 0 else length (splits_of fanout x shape) + one_if (is_raised (splits_of fanout x shape) shape.lows)
+abbrev pub made_for : List NodeSplit → List (List Name) → ℕ
+made_for splits lows = length splits + one_if (is_raised splits lows)
 
--- whether the root would pass the last level, which is 64 with the BINs at 1
+abbrev pub nodes_made : ℕ → Name → Shape → ℕ
+nodes_made fanout x shape = if has_slot x shape then 0 else made_for (splits_of fanout x shape) shape.lows
+
+-- whether an image that it needs would pass the last level, which is 64 with the BINs at 1
 abbrev pub passes_top : ℕ → Name → Shape → Bool
-passes_top fanout x shape = if has_slot x shape then false else is_raised (splits_of fanout x shape) shape.lows && nat_lt 63 (length shape.lows)
+passes_top fanout x shape = nat_lt 64 (nodes_made fanout x shape)

@@ -14,9 +14,9 @@ use Rattle.tree_nodes.specs.Levels.{row_of, AreParts, HasPutAt}
 use Rattle.db_tree.specs.declared.node_split.NodeSplit.{NodeSplit}
 use Rattle.db_tree.specs.Content.{child_slot_for, lsn_of, in_image}
 
--- the node that is split off another one: a copy of it with a number of its own
+-- the node that is split off another one: a copy of it with a number of its own, which does not wait
 abbrev pub split_off : ℕ → ℕ → Node → Node
-split_off number slots node = record { number = number; last = node.last; from = node.from; slots = slots; forced = true; noted = node.noted }
+split_off number slots node = record { number = number; last = node.last; from = node.from; slots = slots; forced = false; noted = node.noted }
 
 -- the slots of children as their IN's image has them
 abbrev pub children_in : List Slot → List ChildSlot

@@ -1,5 +1,5 @@
 // Nodes are split in memory, before their halves are logged.
-ghost use Rattle.std.specs.Prelude.{◌≡◌, ◌<◌, ◌==◌, ◌≤◌, ◌+◌, ◌⊎◌, ℕ, suc, true, [], take, length, List as Rows, Option, None, Some, IsSome, IfOk, OnOk, OnErr};
+ghost use Rattle.std.specs.Prelude.{◌≡◌, ◌<◌, ◌==◌, ◌≤◌, ◌+◌, ◌⊎◌, ℕ, suc, true, false, [], take, length, List as Rows, Option, None, Some, IsSome, IfOk, OnOk, OnErr};
 ghost use Rattle.je_order.specs.declared.name.Name.{Name};
 ghost use Rattle.record_map.specs.Cells.{value_at};
 ghost use Rattle.std.specs.Ordering.{is_eq};
@@ -11,6 +11,7 @@ ghost use Rattle.db_tree.specs.Images.{Placed};
 ghost use Rattle.db_tree.specs.Splitting.{IsSplitAt, AreSplit, IsRaisedFrom, AreGrown};
 ghost use Rattle.db_tree.specs.Splits.{lows_split, lows_behind, is_raised};
 ghost use Rattle.db_tree.specs.Trees.{IsTree};
+ghost use Rattle.db_tree.specs.Waiting.{waiting_of, waiting_raised};
 
 use crate::{DbTree, NodeSplit};
 use je_lsn::Lsn;
@@ -41,6 +42,7 @@ pub(crate) fn least_name(alloc: Global) -> Result<SortKey, AllocError>
 fn new_root(number: u64, mark: Lsn) -> Node
     ensures last { result.last ≡ None }
     ensures from { result.from ≡ Some mark }
+    ensures forced { result.forced ≡ false }
 {
     Node {
         number,
@@ -106,6 +108,7 @@ impl DbTree {
         number: u64,
     ) -> Result<(), AllocError>
         ensures lows { OnOk result (lows_of self.new.levels ≡ with_low level middle.now (lows_of self.old.levels)) }
+        ensures waits { OnOk result (waiting_of self.new.levels ≡ waiting_of self.old.levels) }
         ensures cells { self.new.cells ≡ self.old.cells }
         ensures tree { (es : Placed) (base : ℕ) (newest : Name → ℕ) → IsTree es base newest self.old.levels self.old.cells → IsTree es base newest self.new.levels self.new.cells }
         ensures split { OnOk result (IsSplitAt self.old.levels self.new.levels level middle.now) }
@@ -150,6 +153,7 @@ impl DbTree {
         first: u64,
     ) -> Result<(), AllocError>
         ensures lows { OnOk result (lows_of self.new.levels ≡ lows_split 0 splits.now (lows_of self.old.levels)) }
+        ensures waits { OnOk result (waiting_of self.new.levels ≡ waiting_of self.old.levels) }
         ensures cells { self.new.cells ≡ self.old.cells }
         ensures split { OnOk result (AreSplit 0 splits.now self.old.levels self.new.levels) }
         ensures err { OnErr result (self.new.levels ≡ self.old.levels) }
@@ -171,6 +175,7 @@ impl DbTree {
     // Puts a root above the top, which was split.
     fn raise_root(&mut self, alloc: Global, number: u64, mark: Lsn) -> Result<(), AllocError>
         ensures lows { OnOk result (lows_of self.new.levels ≡ with_root (lows_of self.old.levels)) }
+        ensures waits { OnOk result (waiting_of self.new.levels ≡ waiting_raised true (waiting_of self.old.levels)) }
         ensures cells { self.new.cells ≡ self.old.cells }
         ensures raised { OnOk result (IsRaisedFrom true self.old.levels self.new.levels) }
         ensures err { OnErr result (self.new.levels ≡ self.old.levels) }
@@ -190,6 +195,7 @@ impl DbTree {
         mark: Lsn,
     ) -> Result<(), AllocError>
         ensures lows { OnOk result (lows_of self.new.levels ≡ lows_behind splits.now (lows_of self.old.levels)) }
+        ensures waits { OnOk result (waiting_of self.new.levels ≡ waiting_raised (is_raised splits.now (lows_of self.old.levels)) (waiting_of self.old.levels)) }
         ensures cells { self.new.cells ≡ self.old.cells }
         ensures grown { OnOk result (AreGrown splits.now (is_raised splits.now (lows_of self.old.levels)) self.old.levels self.new.levels) }
         ensures err { OnErr result (self.new.levels ≡ self.old.levels) }

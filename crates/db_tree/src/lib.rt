@@ -6,29 +6,31 @@
 //! images of the halves are made then, so that nothing is left to fail when they are logged.
 #![tactic(auto)]
 
-mod child_filling;
+pub mod clearing;
+pub mod finishing;
 pub mod growing;
 pub mod image_slot;
 pub mod imaging;
 pub mod laws;
 pub mod loading;
 pub mod log_node;
-pub mod node_halves;
+pub mod logged_nodes;
+pub mod node_at;
+pub mod node_image;
 pub mod node_split;
 pub mod placing;
 pub mod planning;
 pub mod reading;
 pub mod slot_room;
-pub mod split_images;
 pub mod splitting;
 pub mod tree;
 pub mod tree_log;
 pub mod waiting;
 
 pub use laws::{images_show_their_nodes, splits_are_few, trees_are_covered, trees_fit_their_log};
-pub use node_halves::NodeHalves;
+pub use node_at::NodeAt;
+pub use node_image::NodeImage;
 pub use node_split::NodeSplit;
 pub use slot_room::SlotRoom;
-pub use split_images::SplitImages;
 pub use tree::DbTree;
 pub use tree_log::TreeLog;

@@ -1,9 +1,11 @@
 // Records and nodes that a log has are put into a tree.
-ghost use Rattle.std.specs.Prelude.{◌≡◌, ◌<◌, ◌≤◌, ℕ, suc, length, OnOk, OnErr, IsSome, IfOk};
+ghost use Rattle.std.specs.Prelude.{◌≡◌, ◌<◌, ◌≤◌, ◌+◌, ℕ, suc, false, length, OnOk, OnErr, IsSome, IfOk};
 ghost use Rattle.record_map.specs.Cells.{value_at, IsRising};
 ghost use Rattle.tree_nodes.specs.Levels.{row_of};
 ghost use Rattle.db_tree.specs.Trees.{HasCell};
 ghost use Rattle.db_tree.specs.Stored.{loaded_cell};
+ghost use Rattle.db_tree.specs.Shapes.{count_in};
+ghost use Rattle.db_tree.specs.Waiting.{waiting_of, count_lows};
 
 use crate::DbTree;
 use je_lsn::Lsn;
@@ -40,7 +42,9 @@ fn count_there(slots: &[Marked]) -> u32
 }
 
 // The node that its image at `at` shows.
-fn shown_node(image: &Image, at: Lsn) -> Node {
+fn shown_node(image: &Image, at: Lsn) -> Node
+    ensures { result.forced ≡ false }
+{
     Node {
         number: image.number,
         last: Some(at),
@@ -70,55 +74,80 @@ fn unlogged(number: u64) -> Node {
     }
 }
 
-// Raises a tree until it has the level.
-fn raise_to(levels: &mut Levels, alloc: Global, level: usize, number: u64) -> Result<(), AllocError>
-    requires { level < 256 }
-    ensures { OnOk result (level < length levels.new) }
+// Puts a node without an image above the top.
+fn raise_one(levels: &mut Levels, alloc: Global, number: u64) -> Result<(), AllocError>
+    ensures height { OnOk result (length levels.new ≡ suc (length levels.old)) }
+    ensures few { count_lows (waiting_of levels.new) ≤ count_lows (waiting_of levels.old) + 1 }
 {
-    let height = levels.height();
-    for i in height..level + 1 {
-        levels.raise(alloc, unlogged(number))?;
-    }
-    Ok(())
+    levels.raise(alloc, unlogged(number))
 }
 
-// Puts a node without an image under the low, where the level has none. The level below has that low.
+// Raises a tree until it has the level. It gives by how much.
+fn raise_to(
+    levels: &mut Levels,
+    alloc: Global,
+    level: usize,
+    number: u64,
+) -> Result<usize, AllocError>
+    requires { level < 256 }
+    ensures height { OnOk result (level < length levels.new) }
+    ensures few { IfOk result (λ made. count_lows (waiting_of levels.new) ≤ count_lows (waiting_of levels.old) + made) }
+    ensures made { IfOk result (λ made. made ≤ 256) }
+    ensures most { count_lows (waiting_of levels.new) ≤ count_lows (waiting_of levels.old) + 256 }
+{
+    let mut made = 0;
+    for i in levels.height()..level + 1 {
+        raise_one(levels, alloc, number)?;
+        made += 1;
+    }
+    Ok(made)
+}
+
+// Puts a node without an image under the low, where the level has none. The level below has that low. It gives how many were put.
 fn put_low(
     levels: &mut Levels,
     alloc: Global,
     level: usize,
     low: &SortKey,
     number: u64,
-) -> Result<(), AllocError>
+) -> Result<usize, AllocError>
     requires there { level < length levels.old }
     requires nested { (k : ℕ) → level ≡ suc k → IsSome (value_at low.now (row_of levels.old k)) }
     ensures here { OnOk result (IsSome (value_at low.now (row_of levels.new level))) }
     ensures height { OnOk result (length levels.new ≡ length levels.old) }
+    ensures few { IfOk result (λ made. count_lows (waiting_of levels.new) ≤ count_lows (waiting_of levels.old) + made) }
+    ensures made { IfOk result (λ made. made ≤ 1) }
+    ensures most { count_lows (waiting_of levels.new) ≤ count_lows (waiting_of levels.old) + 1 }
 {
-    match levels.at(level, low) {
-        Some(_) => Ok(()),
-        None => {
-            let copy = low.copy(alloc)?;
-            levels.split(level, copy, unlogged(number))
-        }
+    if let Some(_) = levels.at(level, low) {
+        return Ok(0);
     }
+    let copy = low.copy(alloc)?;
+    levels.split(level, copy, unlogged(number))?;
+    Ok(1)
 }
 
-// Puts the low on the level and on each one below.
+// Puts the low on the level and on each one below. It gives how many nodes were put.
 fn put_lows(
     levels: &mut Levels,
     alloc: Global,
     level: usize,
     low: &SortKey,
     number: u64,
-) -> Result<(), AllocError>
-    requires { level < length levels.old }
-    ensures { OnOk result (IsSome (value_at low.now (row_of levels.new level))) }
+) -> Result<usize, AllocError>
+    requires there { level < length levels.old }
+    requires level { level < 256 }
+    ensures here { OnOk result (IsSome (value_at low.now (row_of levels.new level))) }
+    ensures few { IfOk result (λ made. count_lows (waiting_of levels.new) ≤ count_lows (waiting_of levels.old) + made) }
+    ensures made { IfOk result (λ made. made ≤ 256) }
+    ensures most { count_lows (waiting_of levels.new) ≤ count_lows (waiting_of levels.old) + 256 }
 {
+    let mut made = 0;
     for k in 0..level {
-        put_low(levels, alloc, k, low, number)?;
+        made += put_low(levels, alloc, k, low, number)?;
     }
-    put_low(levels, alloc, level, low, number)
+    made += put_low(levels, alloc, level, low, number)?;
+    Ok(made)
 }
 
 // Puts a node of a level under its low. The lows of a level are among those of the level below, so the low is put there too, and
@@ -129,25 +158,34 @@ fn put_node(
     level: usize,
     low: &SortKey,
     node: Node,
-) -> Result<(), AllocError>
-    requires { level < 256 }
+) -> Result<usize, AllocError>
+    requires level { level < 256 }
+    requires logged { node.forced ≡ false }
+    ensures few { IfOk result (λ made. count_lows (waiting_of levels.new) ≤ count_lows (waiting_of levels.old) + made) }
+    ensures made { IfOk result (λ made. made ≤ 512) }
+    ensures most { count_lows (waiting_of levels.new) ≤ count_lows (waiting_of levels.old) + 512 }
 {
-    raise_to(levels, alloc, level, node.number)?;
-    put_lows(levels, alloc, level, low, node.number)?;
+    let raised = raise_to(levels, alloc, level, node.number)?;
+    let made = put_lows(levels, alloc, level, low, node.number)?;
+    let _height = levels.height();
     levels.set(level, low, node);
-    Ok(())
+    Ok(raised + made)
 }
 
 impl DbTree {
-    /// Puts a node as its image at `at` shows it. No name in it is below the low.
+    /// Puts a node as its image at `at` shows it. No name in it is below the low. Where the levels had no such low, other nodes stand
+    /// there that wait to be logged, until their images come; it gives how many were made at most.
     pub fn load_node(
         &mut self,
         alloc: Global,
         image: &Image,
         low: &SortKey,
         at: Lsn,
-    ) -> Result<(), AllocError>
-        ensures { self.new.cells ≡ self.old.cells }
+    ) -> Result<usize, AllocError>
+        ensures cells { self.new.cells ≡ self.old.cells }
+        ensures few { IfOk result (λ made. count_in self.new ≤ count_in self.old + made) }
+        ensures made { IfOk result (λ made. made ≤ 512) }
+        ensures most { count_in self.new ≤ count_in self.old + 512 }
     {
         let node = shown_node(image, at);
         put_node(&mut self.levels, alloc, level_of(image), low, node)
@@ -164,6 +202,7 @@ impl DbTree {
     ) -> Result<(), AllocError>
         ensures cell { OnOk result (HasCell self.old.cells self.new.cells name (loaded_cell at value.now)) }
         ensures err { OnErr result (self.new.cells ≡ self.old.cells) }
+        ensures levels { self.new.levels ≡ self.old.levels }
         ensures was_rising { IsRising self.old.cells }
         ensures rising { IsRising self.new.cells }
     {

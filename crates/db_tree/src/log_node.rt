@@ -5,6 +5,9 @@ ghost use Rattle.log_entry.specs.Body.{IsEntry};
 ghost use Rattle.record_map.specs.Cells.{value_at, IsRising};
 ghost use Rattle.tree_nodes.specs.Levels.{row_of, AreParts};
 ghost use Rattle.db_tree.specs.Images.{Placed};
+ghost use Rattle.db_tree.specs.Shapes.{count_in, AreAlike};
+ghost use Rattle.db_tree.specs.Waiting.{waiting_of, still_waiting};
+ghost use Rattle.tree_nodes.specs.Lows.{lows_of};
 ghost use Rattle.db_tree.specs.Content.{bin_image, held_by};
 ghost use Rattle.db_tree.specs.Splitting.{ImagedBelow, IsInImage};
 ghost use Rattle.tree_nodes.specs.declared.node.Node.{Node as Kept};
@@ -38,6 +41,7 @@ fn hand_on(levels: &mut Levels, level: usize, low: &SortKey, node: &Node)
     ensures others { (k : ℕ) → (k ≡ suc level → ⊥) → row_of levels.new k ≡ row_of levels.old k }
     ensures height { length levels.new ≡ length levels.old }
     ensures parts { AreParts levels.new }
+    ensures alike { AreAlike levels.old levels.new }
 {
     let height = levels.height();
     let Some(from) = node.from else {
@@ -104,9 +108,13 @@ impl DbTree {
     /// The last image of the node of a level with the low is at `at`; its mark goes to the node above it.
     pub fn note_image(&mut self, level: usize, low: &SortKey, at: Lsn)
         ensures cells { self.new.cells ≡ self.old.cells }
+        ensures lows { lows_of self.new.levels ≡ lows_of self.old.levels }
+        ensures waits { waiting_of self.new.levels ≡ still_waiting (record { level = level; low = low.now } ∷ []) 0 (waiting_of self.old.levels) }
+        ensures few { count_in self.new ≤ count_in self.old }
         ensures tree { (es : Placed) (base : ℕ) (newest : Name → ℕ) → ((n : Kept) → value_at low.now (row_of self.old.levels level) ≡ Some n → IsImageOf es self.old.levels (held_by self.old.cells) level (low.now, n) at) → IsTree es base newest self.old.levels self.old.cells → IsTree es base newest self.new.levels self.new.cells }
     {
-        if level >= self.levels.height() {
+        let height = self.levels.height();
+        if level >= height {
             return;
         }
         let node = match self.levels.at(level, low) {

@@ -12,6 +12,7 @@ ghost use Rattle.db_tree.specs.Content.{child_slot_for, lsn_of, in_image};
 ghost use Rattle.std.specs.List.{slice_get};
 ghost use Rattle.db_tree.specs.Splitting.{children_in, split_off, name_of, cells_within, middle_of, AreSameByName};
 ghost use Rattle.db_tree.specs.Trees.{IsTree};
+ghost use Rattle.db_tree.specs.Waiting.{waiting_of};
 
 use crate::DbTree;
 use je_order::List;
@@ -31,7 +32,7 @@ fn split_off(node: &Node, number: u64, slots: u32) -> Node
         last: node.last,
         from: node.from,
         slots,
-        forced: true,
+        forced: false,
         noted: node.noted,
     }
 }
@@ -103,6 +104,7 @@ impl DbTree {
         requires nested { (k : ℕ) → level ≡ suc k → IsSome (value_at middle (row_of self.old.levels k)) }
         ensures put { OnOk result ((node : Kept) × HasPutAt self.old.levels self.new.levels level middle node) }
         ensures lows { OnOk result (lows_of self.new.levels ≡ with_low level middle (lows_of self.old.levels)) }
+        ensures waits { OnOk result (waiting_of self.new.levels ≡ waiting_of self.old.levels) }
         ensures tree { (es : Placed) (base : ℕ) (newest : Name → ℕ) → IsTree es base newest self.old.levels self.old.cells → IsTree es base newest self.new.levels self.new.cells }
         ensures cells { self.new.cells ≡ self.old.cells }
         ensures err { OnErr result (self.new.levels ≡ self.old.levels) }

@@ -15,6 +15,7 @@ ghost use Rattle.db_tree.specs.Seen.{occupied, seen, with_change, with_value};
 ghost use Rattle.db_tree.specs.Stored.{with_logged};
 ghost use Rattle.db_tree.specs.Stored.{HasLogged, loaded_cell};
 ghost use Rattle.record_tree.specs.Occupied.{after_commit, after_abort};
+ghost use Rattle.db_tree.specs.Shapes.{shape_in, new_shape, AreAlike};
 
 use je_lsn::Lsn;
 use je_order::{List, Octets};
@@ -143,6 +144,7 @@ impl DbTree {
         ensures tree { IfOk result (λ tree. (es : Placed) (base : ℕ) (newest : Name → ℕ) → IsTree es base newest tree.levels tree.cells) }
         ensures cells { IfOk result (λ tree. tree.cells ≡ []) }
         ensures lows { IfOk result (λ tree. lows_of tree.levels ≡ (least ∷ []) ∷ []) }
+        ensures shape { IfOk result (λ tree. shape_in tree ≡ new_shape) }
     {
         let root = Node {
             number,
@@ -163,6 +165,7 @@ impl DbTree {
         ensures there { OnOk result (IsSome (value_at name.now self.new.cells)) }
         ensures same { occupied self.new.cells ≡ occupied self.old.cells }
         ensures kept { (x : Name) → IsSome (value_at x self.old.cells) → IsSome (value_at x self.new.cells) }
+        ensures cell { OnOk result (HasCell self.old.cells self.new.cells name.now (cell_or_fresh (value_at name.now self.old.cells))) }
         ensures list { OnOk result (value_at name.now self.old.cells ≡ None → self.new.cells ≡ insert_entry name_cmp self.old.cells name.now fresh) }
         ensures err { OnErr result (self.new.cells ≡ self.old.cells) }
         ensures tree { OnOk result ((es : Placed) (base : ℕ) (newest : Name → ℕ) → IsTree es base newest self.old.levels self.old.cells → IsTree es base newest self.new.levels self.new.cells) }
@@ -176,7 +179,8 @@ impl DbTree {
 
     /// Takes the name's cell out where it says nothing.
     pub fn drop_unused(&mut self, name: &SortKey)
-        ensures { occupied self.new.cells ≡ occupied self.old.cells }
+        ensures same { occupied self.new.cells ≡ occupied self.old.cells }
+        ensures levels { self.new.levels ≡ self.old.levels }
     {
         let _len = self.cells.len();
         if is_unused(&self.cells, name) {
@@ -190,6 +194,7 @@ impl DbTree {
         ensures cells { (x : Name) → value_at x (occupied self.new.cells) ≡ (if is_eq (name_cmp name.now x) then with_change write.value (value_at x (occupied self.old.cells)) else value_at x (occupied self.old.cells)) }
         ensures kept { (x : Name) → IsSome (value_at x self.old.cells) → IsSome (value_at x self.new.cells) }
         ensures rising { IsRising (occupied self.new.cells) }
+        ensures levels { self.new.levels ≡ self.old.levels }
     {
         let _len = self.cells.len();
         self.cells.set_write(name, Some(write));
@@ -199,6 +204,7 @@ impl DbTree {
     pub fn commit_write(&mut self, name: &SortKey, at: Lsn)
         ensures cells { (x : Name) → value_at x (occupied self.new.cells) ≡ (if is_eq (name_cmp name.now x) then after_commit (value_at x (occupied self.old.cells)) else value_at x (occupied self.old.cells)) }
         ensures rising { IsRising (occupied self.new.cells) }
+        ensures waits { AreAlike self.old.levels self.new.levels }
     {
         let _before = self.cells.len();
         match self.written_at(name, at) {
@@ -223,6 +229,7 @@ impl DbTree {
         ensures was_rising { IsRising self.old.cells }
         ensures rising { IsRising self.new.cells }
         ensures err { OnErr result (self.new.cells ≡ self.old.cells) }
+        ensures waits { AreAlike self.old.levels self.new.levels }
         ensures tree { (es : Placed) (base : ℕ) (newest : Name → ℕ) → first ≤ newest name.now → IsTree es base newest self.old.levels self.old.cells → IsTree es base newest self.new.levels self.new.cells }
     {
         let _height = self.levels.height();
@@ -274,6 +281,7 @@ impl DbTree {
     pub fn commit(&mut self, name: &SortKey, at: Lsn, from: Lsn)
         requires { IsSome (value_at name.now self.old.cells) }
         ensures cells { (last : Option ℕ) × ((x : Name) → value_at x self.new.cells ≡ (if is_eq (name_cmp name.now x) then option_map (committed at last) (value_at name.now self.old.cells) else value_at x self.old.cells)) }
+        ensures waits { AreAlike self.old.levels self.new.levels }
         ensures tree { (es : Placed) (base : ℕ) (newest : Name → ℕ) → from ≤ newest name.now → IsTree es base newest self.old.levels self.old.cells → IsTree es base newest self.new.levels self.new.cells }
     {
         let _height = self.levels.height();

@@ -1,14 +1,16 @@
 // Nodes that are split without being logged wait to be logged.
-ghost use Rattle.std.specs.Prelude.{◌≡◌, ◌<◌, ◌≤◌, ◌⊎◌, ◌+◌, ℕ, Option, None, Some, IsSome, IfOk, IfErr, OnOk, OnErr, length, true};
+ghost use Rattle.std.specs.Prelude.{◌≡◌, ◌<◌, ◌≤◌, ◌⊎◌, ◌+◌, ◌*◌, ℕ, Option, None, Some, IsSome, IfOk, IfErr, OnOk, OnErr, length, true};
 ghost use Rattle.je_order.specs.declared.name.Name.{Name};
-ghost use Rattle.record_map.specs.Cells.{value_at};
+ghost use Rattle.record_map.specs.Cells.{value_at, IsRising};
 ghost use Rattle.record_tree.specs.declared.tree_err.TreeErr.{TreeErr as Reason};
 ghost use Rattle.tree_nodes.specs.Nodes.{earlier};
 ghost use Rattle.db_tree.specs.Seen.{occupied};
 ghost use Rattle.db_tree.specs.Images.{Placed};
-ghost use Rattle.db_tree.specs.Trees.{IsTree};
-ghost use Rattle.db_tree.specs.Shapes.{shape_in};
-ghost use Rattle.db_tree.specs.Splits.{nodes_made, passes_top};
+ghost use Rattle.db_tree.specs.Trees.{IsTree, HasCell, cell_or_fresh};
+ghost use Rattle.db_tree.specs.Waiting.{waiting_of, count_lows};
+ghost use Rattle.tree_nodes.specs.Lows.{lows_of};
+ghost use Rattle.db_tree.specs.Shapes.{shape_in, count_in};
+ghost use Rattle.db_tree.specs.Splits.{made_for, nodes_made, passes_top};
 
 use crate::growing::least_name;
 use crate::imaging::LAST_LEVEL;
@@ -32,6 +34,7 @@ fn waiting(node: &Node, mark: Lsn) -> Node
 impl DbTree {
     // Lets the node of a level with the low wait to be logged, where there is one.
     fn wait(&mut self, level: usize, low: &SortKey, mark: Lsn)
+        ensures few { count_lows (waiting_of self.new.levels) ≤ count_lows (waiting_of self.old.levels) + 1 }
         ensures cells { self.new.cells ≡ self.old.cells }
         ensures tree { (es : Placed) (base : ℕ) (newest : Name → ℕ) → IsTree es base newest self.old.levels self.old.cells → IsTree es base newest self.new.levels self.new.cells }
     {
@@ -48,6 +51,7 @@ impl DbTree {
     // Lets both halves of nodes wait, one of each level from the BINs on, and the node above them, where there is one with the least
     // low.
     fn wait_each(&mut self, splits: &[NodeSplit], mark: Lsn)
+        ensures few { count_lows (waiting_of self.new.levels) ≤ count_lows (waiting_of self.old.levels) + 2 * length splits.now }
         ensures cells { self.new.cells ≡ self.old.cells }
         ensures tree { (es : Placed) (base : ℕ) (newest : Name → ℕ) → IsTree es base newest self.old.levels self.old.cells → IsTree es base newest self.new.levels self.new.cells }
     {
@@ -66,6 +70,8 @@ impl DbTree {
         first: u64,
         mark: Lsn,
     ) -> Result<(), AllocError>
+        ensures few { OnOk result (count_in self.new ≤ count_in self.old + 2 * made_for splits.now (lows_of self.old.levels)) }
+        ensures cell { OnOk result (HasCell self.old.cells self.new.cells name.now (cell_or_fresh (value_at name.now self.old.cells))) }
         ensures there { OnOk result (IsSome (value_at name.now self.new.cells)) }
         ensures same { occupied self.new.cells ≡ occupied self.old.cells }
         ensures kept { (x : Name) → IsSome (value_at x self.old.cells) → IsSome (value_at x self.new.cells) }
@@ -84,9 +90,10 @@ impl DbTree {
             }
         }
         self.wait_each(splits, mark);
-        if is_raised {
-            self.wait(splits.len(), &root, mark);
+        if !is_raised {
+            return Ok(());
         }
+        self.wait(splits.len(), &root, mark);
         Ok(())
     }
 
@@ -101,6 +108,11 @@ impl DbTree {
         first: u64,
         mark: Lsn,
     ) -> Result<usize, TreeErr>
+        ensures waits { IfOk result (λ made. count_in self.new ≤ count_in self.old + 2 * made) }
+        ensures few { IfOk result (λ made. made ≤ 64) }
+        ensures cell { OnOk result (HasCell self.old.cells self.new.cells name.now (cell_or_fresh (value_at name.now self.old.cells))) }
+        ensures was_rising { IsRising self.old.cells }
+        ensures rising { IsRising self.new.cells }
         ensures there { OnOk result (IsSome (value_at name.now self.new.cells)) }
         ensures same { occupied self.new.cells ≡ occupied self.old.cells }
         ensures kept { (x : Name) → IsSome (value_at x self.old.cells) → IsSome (value_at x self.new.cells) }
@@ -111,20 +123,22 @@ impl DbTree {
         ensures err { OnErr result (self.new.levels ≡ self.old.levels) }
         ensures err_cells { OnErr result (self.new.cells ≡ self.old.cells) }
     {
+        let _before = self.cells.len();
         if self.has_cell(name) {
             return Ok(0);
         }
         let Ok(splits) = self.splits_for(alloc, fanout, name) else {
             return Err(TreeErr::Memory);
         };
-        let height = self.levels.height();
-        let is_raised = splits.len() == height;
-        if is_raised && height >= LAST_LEVEL {
+        let made = splits.len() + (splits.len() == self.levels.height()) as usize;
+        if made > LAST_LEVEL {
             return Err(TreeErr::IdsEnded);
         }
         match self.place_waiting(alloc, name, splits.as_slice(), first, mark) {
-            Ok(()) => Ok(splits.len() + is_raised as usize),
-            Err(_) => Err(TreeErr::Memory),
+            Ok(()) => {}
+            Err(_) => return Err(TreeErr::Memory),
         }
+        let _after = self.cells.len();
+        Ok(made)
     }
 }

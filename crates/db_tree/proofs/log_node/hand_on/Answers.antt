@@ -1,7 +1,8 @@
-use Rattle.std.proofs.Common.{subst, add-one, ◌+◌}
+use Rattle.std.proofs.Common.{subst, refl, add-one, ◌+◌}
 use Rattle.tree_nodes.specs.Levels.{HasMarkedAt}
 use Rattle.db_tree.proofs.NodeLogging.{handed_on}
 use Rattle.db_tree.proofs.Records.{marks}
+use Rattle.db_tree.proofs.WaitLaws.{mark_alike}
 use Rattle.db_tree.proofs.log_node.hand_on.Goals as goal
 
 pub returns-clause-handed : goal.returns-clause-handed
@@ -16,3 +17,9 @@ returns-clause-tree c = λ es base newest held tree.
 pub returns-clause-others : goal.returns-clause-others
 returns-clause-others c =
     (subst (λ l. HasMarkedAt c.args.levels.now c.mark.new.self l c.args.low.now c.in-Some.from) (add-one c.args.level) c.mark.ensures.marked).put.others
+
+pub returns-clause-alike : goal.returns-clause-alike
+returns-clause-alike c = mark_alike c.args.levels.now c.mark.new.self (c.args.level + 1) c.args.low.now c.in-Some.from c.height-height.ensures.parts c.mark.ensures.parts c.mark.ensures.marked
+
+pub returns-in_default-clause-alike : goal.returns-in_default-clause-alike
+returns-in_default-clause-alike c = record { lows = refl; waits = refl }

@@ -6,6 +6,7 @@ use Rattle.db_tree.specs.Seen.{with_value}
 use Rattle.db_tree.specs.Stored.{with_logged}
 use Rattle.db_tree.proofs.Records.{holds, commits, held_apart, cell_there, made_and_changed}
 use Rattle.db_tree.proofs.Seen.{change_seen, logged_seen}
+use Rattle.db_tree.proofs.WaitLaws.{mark_alike}
 use Rattle.db_tree.proofs.tree.DbTree.redo.Goals as goal
 
 pub set_logged-requires : goal.set_logged-requires
@@ -36,3 +37,6 @@ returns-clause-tree c = λ es base newest le tree.
     commits es base newest c.args.self.now.levels c.mark.new.self (held_by made) (held_by c.set_logged.new.cells) c.args.name.now c.args.first c.mark.ensures.marked le
     (held_apart made c.set_logged.new.cells c.args.name.now (option_map (with_logged c.args.value c.args.at c.behind-commit.result c.over.result.1.now.last) (value_at c.args.name.now made)) c.set_logged.ensures.others)
     (holds es base newest c.args.self.now.levels old made c.args.name.now (cell_or_fresh (value_at c.args.name.now old)) c.in_ok-make_cell.ensures.cell refl tree)
+
+pub returns-clause-waits : goal.returns-clause-waits
+returns-clause-waits c = mark_alike c.args.self.now.levels c.mark.new.self 0 c.args.name.now c.args.first c.height-height.ensures.parts c.mark.ensures.parts c.mark.ensures.marked
