@@ -18,16 +18,16 @@ use Rattle.record_map.specs.Cells.{value_at, IsRising}
 use Rattle.record_tree.specs.declared.tree_change.TreeChange.{TreeChange}
 use Rattle.record_tree.specs.declared.tree_err.TreeErr.{TreeErr}
 use Rattle.record_tree.specs.declared.tree_err.TreeErr.TheVariants.{Fault, Full, IdsEnded, Memory}
-use Rattle.record_tree.specs.Logged.{is_made, most_entries, makes_db, IsLimit, IsEndOf, IsUndone, LogsChanges, IsFront, last_change}
+use Rattle.record_tree.specs.Logged.{is_made, most_entries, makes_db, IsLimit, IsEndOf, LogsChanges, IsFront, last_change}
 use Rattle.record_tree.specs.Occupied.{Occupied, AllCells, AreSame, AreWritten, IsWritten, value_in, write_in}
 use Rattle.db_tree.specs.declared.tree.DbTree.{DbTree}
 use Rattle.db_tree.specs.declared.slot_room.SlotRoom.{SlotRoom}
 use Rattle.db_tree.specs.Seen.{occupied}
 use Rattle.db_tree.proofs.Seen.{none_rise}
 use Rattle.in_tree.specs.Forest.{Forest, IsSameForest, cells_of, cells_at, cells_seen, is_there, HasSameTrees, KeepsCells, HasOne}
-use Rattle.in_tree.specs.Limits.{HasRoomFor, end_behind, change_sizes, commit_sizes, sizes_for, numbers_drawn, are_too_high, limit_behind, limit_of, GrewFitting, TriedFitting}
+use Rattle.in_tree.specs.Limits.{HasRoomFor, end_behind, commit_sizes, sizes_for, numbers_drawn, are_too_high, limit_behind, limit_of, GrewFitting, TriedFitting}
 use Rattle.in_tree.specs.Fitting.{fits_none, fitting_unchanged, fitting_then, fitting_tried}
-use Rattle.in_tree.specs.Placing.{ArePlaced, placed_sizes, numbers_of, count_images}
+use Rattle.in_tree.specs.Placing.{ArePlaced, placed_sizes, numbers_of}
 use Rattle.in_tree.specs.Shapes.{Shapes, shapes_of}
 use Rattle.in_tree.proofs.Placings.{sizes_placed, numbers_placed, low_placed, placed_even, placed_same}
 use Rattle.in_tree.specs.declared.placed.Placed.{Placed}
@@ -162,9 +162,12 @@ module _ {D : Type 0} where
     pub grew_since : (txn : TxnId) (changes : List TreeChange) (old mid new : LogBuffer D) (images before between after : ℕ) → IsUnchanged old mid → images + between ≤ before + 129 * length changes → after ≤ between →
         (a : List Entry) × LogsChanges txn changes a × GrewFitting observable history sync_out read_out read_of faults mid new a × (length a ≡ images + length changes) →
         (a : List Entry) × LogsChanges txn changes a × GrewFitting observable history sync_out read_out read_of faults old new a × (length a + after ≤ before + most_entries (length changes))
-    grew_since txn changes old mid new images before between after same few less grew =
-        (grew.0, grew.1, fitting_then observable history sync_out read_out read_of faults old mid new [] grew.0 (fitting_unchanged observable history sync_out read_out read_of faults old mid same) grew.2,
-        (let count = grew.3 in omega (arith, few, less, count)))
+    grew_since txn changes old mid new images before between after same few less grew = (
+      grew.0,
+      grew.1,
+      fitting_then observable history sync_out read_out read_of faults old mid new [] grew.0 (fitting_unchanged observable history sync_out read_out read_of faults old mid same) grew.2,
+      (let count = grew.3 in omega (arith, few, less, count)),
+    )
 
     pub tried_since : (txn : TxnId) (changes : List TreeChange) (old mid new : LogBuffer D) → IsUnchanged old mid →
         (a : List Entry) × (f : List Entry) × LogsChanges txn changes a × IsFront f a × TriedFitting observable history sync_out read_out read_of faults mid new f →

@@ -1,23 +1,22 @@
 -- Where the log has no room it ends far behind.
-use Rattle.std.proofs.Common.{◌≡◌, ◌≤◌, ◌<◌, ◌+◌, ◌*◌, ◌==◌, ◌||◌, ◌++◌, ◌⊎◌, ℕ, zero, suc, List, [], ◌∷◌, Bool, true, false, cond, nat_lt, length, Option, None, Some, is_eq, refl, ap, ap₂, sym, subst, ◌∙◌, inl, inr, arith}
+use Rattle.std.proofs.Common.{◌≡◌, ◌≤◌, ◌<◌, ◌+◌, ◌*◌, ◌==◌, ◌++◌, ◌⊎◌, ℕ, zero, suc, List, [], ◌∷◌, Bool, true, false, cond, nat_lt, length, Option, None, Some, is_eq, refl, ap, sym, ◌∙◌, inl, inr, arith}
 use Rattle.std.specs.Ordering.{nat_cmp}
 use Rattle.std.specs.BTreeMap.{get}
-use Rattle.std.proofs.lemmas.Bool.{true≢false, eq-eqb, ltb-true, le-ltb}
-use Rattle.log_buffer.specs.declared.buffer.LogBuffer.{LogBuffer}
+use Rattle.std.proofs.lemmas.Bool.{eq-eqb, ltb-true, le-ltb}
 use Rattle.log_buffer.specs.declared.log_pos.LogPos.{LogPos}
 use Rattle.log_buffer.specs.Buffer.{end_of, file_max_of, has_failed}
-use Rattle.log_buffer.specs.Flip.{goes_in, placed_at, end_after, end_after_all, behind, next_file}
+use Rattle.log_buffer.specs.Flip.{goes_in, end_after, end_after_all, behind, next_file}
 use Rattle.record_tree.specs.declared.tree_change.TreeChange.{TreeChange}
 use Rattle.record_tree.specs.declared.tree_err.TreeErr.{TreeErr}
 use Rattle.record_tree.specs.declared.tree_err.TreeErr.TheVariants.{Full, IdsEnded}
 use Rattle.db_tree.specs.Splits.{count_waiting}
-use Rattle.db_tree.specs.Splits.{Shape, shape_with, image_sizes, passes_top}
+use Rattle.db_tree.specs.Splits.{shape_with, image_sizes, passes_top}
 use Rattle.db_tree.proofs.FewSplits.{images_few}
 use Rattle.in_tree.specs.declared.log_trees.LogTrees.{LogTrees}
-use Rattle.in_tree.specs.Limits.{change_size, change_sizes, commit_size, commit_sizes, sizes_for, end_behind, numbers_drawn, are_too_high, limit_behind, limit_of}
+use Rattle.in_tree.specs.Limits.{change_size, change_sizes, commit_sizes, sizes_for, end_behind, numbers_drawn, are_too_high, limit_behind}
 use Rattle.in_tree.specs.Observed.{limit_in, waits_of}
-use Rattle.in_tree.specs.Shapes.{Shapes, no_shape, shape_of, shapes_of, with_shape, shapes_after}
-use Rattle.in_tree.specs.Waits.{waits_below, waits_in}
+use Rattle.in_tree.specs.Shapes.{Shapes, no_shape, shape_of, shapes_of, shapes_after}
+use Rattle.in_tree.specs.Waits.{waits_below}
 use Rattle.in_tree.proofs.Forests.{number_cases}
 use Rattle.in_tree.proofs.Waits.{waits_one}
 use Rattle.in_tree.proofs.Preparation.{or_false_left, or_false_right}

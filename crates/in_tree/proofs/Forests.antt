@@ -26,7 +26,6 @@ number_cases a b =
 pub number_same : (a : ℕ) → is_eq (nat_cmp a a) ≡ true
 number_same a = sym (ap is_eq (nat_cmp_is a a Equal refl))
 
-
 pub replaced : (old new : Forest) (db : ℕ) (o : Option DbTree) → Replaces old new db o → get nat_cmp new db ≡ o
 replaced old new db o has = has db ∙ ap (λ (t : Bool). cond t o (get nat_cmp old db)) (number_same db)
 

@@ -1,10 +1,10 @@
 -- Names of changes get their slots, change by change.
-use Rattle.std.proofs.Common.{◌≡◌, ◌≤◌, ◌<◌, ◌+◌, ◌-◌, ◌*◌, ◌^◌, ◌==◌, ◌||◌, ◌++◌, ◌⊎◌, ℕ, zero, suc, List, [], ◌∷◌, Bool, true, false, cond, Option, None, Some, IsSome, is_some, map, length, take, drop, get_or, min, refl, ap, ap₂, sym, subst, ◌∙◌, inl, inr, arith}
+use Rattle.std.proofs.Common.{◌≡◌, ◌≤◌, ◌<◌, ◌+◌, ◌-◌, ◌*◌, ◌^◌, ◌==◌, ◌||◌, ◌++◌, ◌⊎◌, ℕ, List, [], ◌∷◌, Bool, true, false, cond, Option, None, Some, IsSome, is_some, map, length, take, drop, get_or, min, refl, ap, ap₂, sym, subst, ◌∙◌, inl, inr, arith}
 use mathlib.Core.Path.{fun_ext}
 use Rattle.std.specs.Ordering.{is_eq, nat_cmp}
 use Rattle.std.specs.BTreeMap.{get}
 use Rattle.std.specs.List.{AllByRecursion}
-use Rattle.std.proofs.lemmas.Bool.{eq-eqb, true≢false}
+use Rattle.std.proofs.lemmas.Bool.{eq-eqb}
 use Rattle.std.proofs.lemmas.List.{take_more, take_all, drop_all, length-take-le, take-append-drop}
 use Rattle.je_order.specs.declared.name.Name.{Name}
 use Rattle.log_entry.specs.Encoding.{size_of}
@@ -18,18 +18,17 @@ use Rattle.db_tree.specs.declared.slot_room.SlotRoom.{SlotRoom}
 use Rattle.db_tree.specs.declared.node_image.NodeImage.{NodeImage}
 use Rattle.db_tree.specs.Seen.{occupied}
 use Rattle.db_tree.specs.Shapes.{IsPlaced, IsUndoable, shape_in, made_by}
-use Rattle.db_tree.specs.NodeImages.{IsLoggable}
 use Rattle.db_tree.specs.Splits.{count_waiting}
-use Rattle.db_tree.specs.Splits.{Shape, shape_with, image_sizes, nodes_made, passes_top}
+use Rattle.db_tree.specs.Splits.{shape_with, image_sizes, nodes_made, passes_top}
 use Rattle.db_tree.proofs.Ending.{next_left}
 use Rattle.db_tree.proofs.FewSplits.{images_few}
 use Rattle.in_tree.specs.declared.placed.Placed.{Placed}
-use Rattle.in_tree.specs.Forest.{Forest, Replaces, IsSameForest, cells_of, cells_at, cells_seen, is_there, HasSameTrees, KeepsCells, HasOne}
+use Rattle.in_tree.specs.Forest.{Forest, Replaces, IsSameForest, cells_of, cells_seen, is_there, HasSameTrees, KeepsCells, HasOne}
 use Rattle.in_tree.specs.Limits.{change_size, one_made, change_sizes, numbers_drawn, are_too_high}
-use Rattle.in_tree.specs.Placing.{IsPlacedIn, ArePlaced, IsPlacedNext, room_sizes, placed_sizes, numbers_of, count_images, AreLoggable}
-use Rattle.in_tree.specs.Shapes.{Shapes, shape_of, shapes_of, with_shape, shapes_after}
+use Rattle.in_tree.specs.Placing.{IsPlacedIn, ArePlaced, IsPlacedNext, placed_sizes, numbers_of, count_images, AreLoggable}
+use Rattle.in_tree.specs.Shapes.{Shapes, shape_of, shapes_of, shapes_after}
 use Rattle.in_tree.specs.Waits.{waits_in}
-use Rattle.in_tree.proofs.Forests.{number_cases, number_same, replaced, others, forest_back, forest_same, forest_trees, forest_kept}
+use Rattle.in_tree.proofs.Forests.{number_cases, replaced, others, forest_back, forest_same, forest_trees, forest_kept}
 use Rattle.in_tree.proofs.Waits.{forest_waits, same_waits, shapes_at, shapes_same}
 
 -- ---- one change
@@ -163,10 +162,11 @@ pub placed_there : (fanout : ℕ) (changes : List TreeChange) (rooms : List Slot
 placed_there fanout [] [] old new placed = tt
 placed_there fanout [] (r ∷ rooms) old new placed = absurd placed
 placed_there fanout (c ∷ changes) [] old new placed = absurd placed
-placed_there fanout (c ∷ changes) (r ∷ rooms) old new placed =
-    (placed_kept fanout changes rooms placed.0 new placed.2 c.db c.name
-    (subst (λ (t : Option DbTree). IsSome (value_at c.name (cells_of t))) (sym (replaced old placed.0 c.db (Some placed.1.next) placed.1.has)) placed.1.placed.there),
-    placed_there fanout changes rooms placed.0 new placed.2)
+placed_there fanout (c ∷ changes) (r ∷ rooms) old new placed = (
+  placed_kept fanout changes rooms placed.0 new placed.2 c.db c.name
+      (subst (λ (t : Option DbTree). IsSome (value_at c.name (cells_of t))) (sym (replaced old placed.0 c.db (Some placed.1.next) placed.1.has)) placed.1.placed.there),
+  placed_there fanout changes rooms placed.0 new placed.2,
+)
 
 pub placed_loggable : (fanout : ℕ) (changes : List TreeChange) (rooms : List SlotRoom) (old new : Forest) → ArePlaced fanout changes rooms old new → AreLoggable rooms
 placed_loggable fanout [] [] old new placed = tt
@@ -258,8 +258,8 @@ pub back_step : (fanout : ℕ) (changes : List TreeChange) (rooms : List SlotRoo
 back_step fanout changes rooms c room before old new n k is in_changes in_rooms c_is room_is back placed =
     let lengths : length (take k changes) ≡ length (take k rooms) = length-take-le k changes (omega arith) ∙ sym (length-take-le k rooms (omega arith)) in
     let last = placed_last fanout (take k changes) (take k rooms) c room before old lengths
-        (subst (λ (cs : List TreeChange). ArePlaced fanout cs (take k rooms ++ room ∷ []) before old) (ap (λ (m : ℕ). take m changes) is ∙ take_next changes k c in_changes c_is)
-        (subst (λ (rs : List SlotRoom). ArePlaced fanout (take n changes) rs before old) (ap (λ (m : ℕ). take m rooms) is ∙ take_next rooms k room in_rooms room_is) placed)) in
+    (subst (λ (cs : List TreeChange). ArePlaced fanout cs (take k rooms ++ room ∷ []) before old) (ap (λ (m : ℕ). take m changes) is ∙ take_next changes k c in_changes c_is)
+    (subst (λ (rs : List SlotRoom). ArePlaced fanout (take n changes) rs before old) (ap (λ (m : ℕ). take m rooms) is ∙ take_next rooms k room in_rooms room_is) placed)) in
     placed_same fanout (take k changes) (take k rooms) before last.0 new last.1 (back fanout last.0 last.2)
 
 pub back_begin : (fanout : ℕ) (changes : List TreeChange) (rooms : List SlotRoom) (before old : Forest) → ArePlaced fanout (take (length rooms) changes) rooms before old →

@@ -1,5 +1,5 @@
 -- Trees that are made for the databases of changes, and taken out again.
-use Rattle.std.proofs.Common.{◌≡◌, ◌≤◌, ◌<◌, ◌+◌, ◌==◌, ◌||◌, ◌⊎◌, ℕ, length, get_or, drop, List, [], ◌∷◌, Bool, true, false, cond, Option, None, Some, IfSome, refl, ap, sym, subst, ◌∙◌, inl, inr, arith}
+use Rattle.std.proofs.Common.{◌≡◌, ◌≤◌, ◌<◌, ◌+◌, ◌==◌, ◌||◌, ◌⊎◌, ℕ, length, get_or, drop, List, [], ◌∷◌, Bool, true, false, cond, Option, None, Some, IfSome, refl, ap, sym, subst, ◌∙◌, inl, inr}
 use Rattle.std.proofs.Math.Nat.{le_refl, le_trans}
 use Rattle.std.specs.Ordering.{is_eq, nat_cmp}
 use Rattle.std.specs.BTreeMap.{get}

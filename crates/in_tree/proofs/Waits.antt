@@ -1,5 +1,5 @@
 -- How many nodes wait where the tree of one database changes.
-use Rattle.std.proofs.Common.{◌≡◌, ◌≤◌, ◌<◌, ◌+◌, ◌==◌, ◌^◌, ◌⊎◌, ℕ, zero, suc, List, Bool, true, false, cond, nat_lt, Option, Some, None, is_eq, refl, ap, ap₂, sym, subst, ◌∙◌, inl, inr, arith}
+use Rattle.std.proofs.Common.{◌≡◌, ◌≤◌, ◌<◌, ◌+◌, ◌==◌, ◌⊎◌, ℕ, zero, suc, List, Bool, true, false, cond, nat_lt, Option, Some, None, is_eq, refl, ap, ap₂, sym, subst, ◌∙◌, inl, inr, arith}
 use Rattle.std.specs.Ordering.{nat_cmp}
 use Rattle.std.specs.BTreeMap.{get}
 use Rattle.std.proofs.lemmas.Bool.{lt-ltb}

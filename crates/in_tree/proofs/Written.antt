@@ -206,19 +206,23 @@ module _ {D : Type 0} (observable : Bool) (history : D → History) (sync_out re
     loggable = so_far.loggable.1;
     some_room = (so_far.some_room.0, room (map (λ i. size_of i.entry) left ++ so_far.some_room.0) so_far.some_room.1);
     room = λ sizes for. room (map (λ i. size_of i.entry) left ++ sizes) (so_far.room sizes for);
-    done =
-        (so_far.done.0 ++ logs.0 ∷ [], images_more so_far.done.0 (logs.0 ∷ []) so_far.done.1 (logs.1, tt),
-        (let count = length_more so_far.done.0 (logs.0 ∷ []) in omega (arith, count, so_far.done.2)),
-        fitting_then observable history sync_out read_out read_of faults old log new so_far.done.0 (logs.0 ∷ []) so_far.done.3 logs.2);
+    done = (
+      so_far.done.0 ++ logs.0 ∷ [],
+      images_more so_far.done.0 (logs.0 ∷ []) so_far.done.1 (logs.1, tt),
+      (let count = length_more so_far.done.0 (logs.0 ∷ []) in omega (arith, count, so_far.done.2)),
+      fitting_then observable history sync_out read_out read_of faults old log new so_far.done.0 (logs.0 ∷ []) so_far.done.3 logs.2,
+    );
     cells = cells ∙ so_far.cells;
     waits = le_trans waits so_far.waits;
   }
 
   pub images_fail : (old log new : LogBuffer D) (before tree : DbTree) (images left : List NodeImage) → ImagesLeft old log before tree images left → TriesImage observable history sync_out read_out read_of faults log new →
       TriesImages observable history sync_out read_out read_of faults old new
-  images_fail old log new before tree images left so_far tries =
-      (so_far.done.0 ++ tries.0 ∷ [], images_more so_far.done.0 (tries.0 ∷ []) so_far.done.1 (tries.1, tt),
-      fitting_tried observable history sync_out read_out read_of faults old log new so_far.done.0 (tries.0 ∷ []) so_far.done.3 tries.2)
+  images_fail old log new before tree images left so_far tries = (
+    so_far.done.0 ++ tries.0 ∷ [],
+    images_more so_far.done.0 (tries.0 ∷ []) so_far.done.1 (tries.1, tt),
+    fitting_tried observable history sync_out read_out read_of faults old log new so_far.done.0 (tries.0 ∷ []) so_far.done.3 tries.2,
+  )
 
   pub images_end : (old log : LogBuffer D) (before tree : DbTree) (images : List NodeImage) → ImagesLeft old log before tree images [] → LogsImages observable history sync_out read_out read_of faults (length images) old log
   images_end old log before tree images so_far = (so_far.done.0, so_far.done.1, (let count = so_far.done.2 in omega (arith, count)), so_far.done.3)
@@ -235,9 +239,13 @@ module _ {D : Type 0} (observable : Bool) (history : D → History) (sync_out re
 
   pub entry_tried : (count : ℕ) (txn : TxnId) (c : TreeChange) (old mid new : LogBuffer D) → LogsImages observable history sync_out read_out read_of faults count old mid →
       TriedFitting observable history sync_out read_out read_of faults mid new (entry_for txn c.db c.name c.value ∷ []) → TriesChange observable history sync_out read_out read_of faults txn c old new
-  entry_tried count txn c old mid new images entry =
-      (images.0, images.0 ++ entry_for txn c.db c.name c.value ∷ [], images.1, ([], append-nil (images.0 ++ entry_for txn c.db c.name c.value ∷ [])),
-      fitting_tried observable history sync_out read_out read_of faults old mid new images.0 (entry_for txn c.db c.name c.value ∷ []) images.3 entry)
+  entry_tried count txn c old mid new images entry = (
+    images.0,
+    images.0 ++ entry_for txn c.db c.name c.value ∷ [],
+    images.1,
+    ([], append-nil (images.0 ++ entry_for txn c.db c.name c.value ∷ [])),
+    fitting_tried observable history sync_out read_out read_of faults old mid new images.0 (entry_for txn c.db c.name c.value ∷ []) images.3 entry,
+  )
 
   -- ---- changes
 

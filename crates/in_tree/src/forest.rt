@@ -56,12 +56,7 @@ pub(crate) fn place(
 }
 
 // Takes the name's slot back, and what was split for it.
-pub(crate) fn take_back(
-    trees: &mut BTreeMap<u32, DbTree>,
-    db: u32,
-    name: &SortKey,
-    room: &SlotRoom,
-)
+pub(crate) fn take_back(trees: &mut BTreeMap<u32, DbTree>, db: u32, name: &SortKey, room: &SlotRoom)
     ensures { (fanout : ℕ) (before : Forest) → IsPlacedIn fanout db name.now room.now before trees.old → IsSameForest before trees.new }
 {
     if let Some(tree) = trees.get_mut(&db) {

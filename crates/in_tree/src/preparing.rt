@@ -13,8 +13,7 @@ ghost use Rattle.in_tree.specs.Placing.{ArePlaced, IsPlacedNext, numbers_of};
 ghost use Rattle.in_tree.specs.Shapes.{shapes_of};
 ghost use Rattle.in_tree.specs.Waits.{waits_in};
 
-use crate::Placed;
-use crate::forest;
+use crate::{Placed, forest};
 use db_tree::{DbTree, SlotRoom};
 use je_lsn::{FileNo, Lsn};
 use je_order::{Octets, TxnId};

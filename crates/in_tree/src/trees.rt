@@ -152,7 +152,15 @@ impl Trees {
         let number = self.next_number();
         let fanout = self.fanout;
         let made = forest::redo(
-            &mut self.forest, alloc, db, fanout, number, name, value, first, at,
+            &mut self.forest,
+            alloc,
+            db,
+            fanout,
+            number,
+            name,
+            value,
+            first,
+            at,
         )?;
         self.last_node = self.last_node.saturating_add(made as u64).min(LAST_NODE);
         Ok(made)

@@ -1,5 +1,5 @@
 use Rattle.std.proofs.Common.{ap, is_some, sym}
-use Rattle.in_tree.proofs.Placings.{taken_back, nothing_back}
+use Rattle.in_tree.proofs.Placings.{taken_back}
 use Rattle.in_tree.proofs.forest.take_back.Goals as goal
 
 pub returns-in-Some : goal.returns-in-Some

@@ -1,6 +1,5 @@
-use Rattle.std.proofs.Common.{List, drop, ◌+◌, subst}
-use Rattle.record_tree.specs.declared.tree_change.TreeChange.{TreeChange}
-use Rattle.in_tree.proofs.Preparation.{MakesLeft, makes_begin, makes_turn, makes_step, makes_end}
+use Rattle.std.proofs.Common.{drop, ◌+◌}
+use Rattle.in_tree.proofs.Preparation.{makes_begin, makes_turn, makes_step, makes_end}
 use Rattle.in_tree.proofs.preparing.make_all.Goals as goal
 
 pub loop-i-init : goal.loop-i-init

@@ -1,4 +1,4 @@
-use Rattle.std.proofs.Common.{◌≡◌, ◌≤◌, ◌∙◌, ℕ, List, length, take, refl, ap, sym, subst, arith}
+use Rattle.std.proofs.Common.{◌≡◌, ◌∙◌, List, length, take, refl, ap, sym, subst, arith}
 use Rattle.db_tree.specs.declared.slot_room.SlotRoom.{SlotRoom}
 use Rattle.in_tree.specs.Placing.{ArePlaced}
 use Rattle.in_tree.proofs.Placings.{places_begin, places_step, places_there, places_few, places_fail, places_high, places_end, placed_seen, same_seen_of}

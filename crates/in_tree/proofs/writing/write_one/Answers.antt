@@ -20,7 +20,9 @@ returns-in-Ok-clause-tried g c =
 pub returns-in-Ok-clause-cells : goal.returns-in-Ok-clause-cells
 returns-in-Ok-clause-cells g c =
     ok_then c.write_entry.result
-    (λ has. (has.0,
-    change_since (cells_seen c.args.trees.now) (cells_seen c.log_room.new.trees) (cells_seen c.write_entry.new.trees) c.args.change.now.db c.args.change.now.name (with_change (record { txn = c.args.txn; at = has.0; value = c.args.change.now.value }))
-    (λ d. ap occupied (c.log_room.ensures.cells d)) has.1))
+    (λ has. (
+      has.0,
+      change_since (cells_seen c.args.trees.now) (cells_seen c.log_room.new.trees) (cells_seen c.write_entry.new.trees) c.args.change.now.db c.args.change.now.name (with_change (record { txn = c.args.txn; at = has.0; value = c.args.change.now.value }))
+          (λ d. ap occupied (c.log_room.ensures.cells d)) has.1,
+    ))
     c.write_entry.ensures.cells

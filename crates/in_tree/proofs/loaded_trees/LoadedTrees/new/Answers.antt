@@ -1,4 +1,4 @@
-use Rattle.std.proofs.Common.{◌≤◌, ℕ, sym, subst, None, Option, is_some, false, ◌≡◌}
+use Rattle.std.proofs.Common.{◌≤◌, ℕ, sym, subst}
 use Rattle.std.proofs.Math.Nat.{le_refl}
 use Rattle.db_tree.specs.Stored.{AreQuiet}
 use Rattle.in_tree.proofs.Checked.{none_there, no_tree}

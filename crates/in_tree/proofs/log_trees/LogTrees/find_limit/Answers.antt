@@ -22,9 +22,14 @@ take_back_all-requires g c =
 
 pub invariant_of-self-in-Ok : goal.invariant_of-self-in-Ok
 invariant_of-self-in-Ok g c =
-    let trees = c.args.self.now.trees in
-    ((trees.numbers, (trees.least, (trees.most, tt))), (seen_rise trees.forest c.take_back_all.new.trees (same_seen_of trees.forest c.take_back_all.new.trees (c.take_back_all.ensures c.args.self.now.trees.fanout c.args.self.now.trees.forest
-    (all_back c.args.self.now.trees.fanout c.args.changes.now c.in-Ok.placed.rooms.items c.as_slice.result.now c.args.self.now.trees.forest c.place_all.new.trees c.place_all.new.trees c.as_slice.ensures.value c.in-Ok.ensures.placed (λ d. refl)))) c.args.self.now.ordered, tt))
+    let trees = c.args.self.now.trees in (
+      (trees.numbers, (trees.least, (trees.most, tt))),
+      (
+        seen_rise trees.forest c.take_back_all.new.trees (same_seen_of trees.forest c.take_back_all.new.trees (c.take_back_all.ensures c.args.self.now.trees.fanout c.args.self.now.trees.forest
+            (all_back c.args.self.now.trees.fanout c.args.changes.now c.in-Ok.placed.rooms.items c.as_slice.result.now c.args.self.now.trees.forest c.place_all.new.trees c.place_all.new.trees c.as_slice.ensures.value c.in-Ok.ensures.placed (λ d. refl)))) c.args.self.now.ordered,
+        tt,
+      ),
+    )
 
 pub returns-in-Ok-clause-limit : goal.returns-in-Ok-clause-limit
 returns-in-Ok-clause-limit g c =

@@ -1,7 +1,7 @@
 use Rattle.std.proofs.Common.{◌||◌, ◌∙◌, Bool, ap}
 use Rattle.record_tree.specs.Logged.{is_made}
 use Rattle.in_tree.proofs.Placings.{same_seen_of, placed_seen, placed_trees, placed_there, placed_loggable, placed_even, few_placed}
-use Rattle.in_tree.proofs.Checked.{all_back, few_back, few_then, high_met, limit_none, limit_met, never_fault, none_still, seen_rise, there_still}
+use Rattle.in_tree.proofs.Checked.{all_back, few_back, few_then, limit_none, limit_met, none_still, seen_rise, there_still}
 use Rattle.in_tree.proofs.log_trees.LogTrees.prepare.Goals as goal
 
 pub invariant_of-self : goal.invariant_of-self
@@ -24,10 +24,14 @@ take_back_all-requires g c =
 
 pub invariant_of-self-in-Err-make_ready : goal.invariant_of-self-in-Err-make_ready
 invariant_of-self-in-Err-make_ready g c =
-    let trees = c.make_ready.new.self.trees in
-    ((trees.numbers, (trees.least, (trees.most, tt))),
-    (seen_rise c.args.self.now.trees.forest c.take_back_all.new.trees (same_seen_of c.args.self.now.trees.forest c.take_back_all.new.trees (c.take_back_all.ensures c.args.self.now.trees.fanout c.args.self.now.trees.forest
-    (all_back c.args.self.now.trees.fanout c.args.changes.now c.in-Ok.placed.rooms.items c.as_slice.result.now c.args.self.now.trees.forest c.place_all.new.trees c.make_ready.new.self.trees.forest c.as_slice.ensures.value c.in-Ok.ensures.placed c.in-Err-make_ready.ensures.err))) c.args.self.now.ordered, tt))
+    let trees = c.make_ready.new.self.trees in (
+      (trees.numbers, (trees.least, (trees.most, tt))),
+      (
+        seen_rise c.args.self.now.trees.forest c.take_back_all.new.trees (same_seen_of c.args.self.now.trees.forest c.take_back_all.new.trees (c.take_back_all.ensures c.args.self.now.trees.fanout c.args.self.now.trees.forest
+            (all_back c.args.self.now.trees.fanout c.args.changes.now c.in-Ok.placed.rooms.items c.as_slice.result.now c.args.self.now.trees.forest c.place_all.new.trees c.make_ready.new.self.trees.forest c.as_slice.ensures.value c.in-Ok.ensures.placed c.in-Err-make_ready.ensures.err))) c.args.self.now.ordered,
+        tt,
+      ),
+    )
 
 pub returns-in-Ok-make_ready-clause-ready : goal.returns-in-Ok-make_ready-clause-ready
 returns-in-Ok-make_ready-clause-ready g c =

@@ -14,7 +14,11 @@ returns-in-Err-clause-same g c =
 
 pub invariant_of-self-in-Err : goal.invariant_of-self-in-Err
 invariant_of-self-in-Err g c =
-    let trees = c.args.self.now.trees in
-    ((trees.numbers, (trees.least, (trees.most, tt))),
-    (seen_rise trees.forest c.drop_made.new.trees
-    (same_seen_of trees.forest c.drop_made.new.trees (trees_back trees.forest c.make_all.new.trees c.drop_made.new.trees c.args.changes.now c.requires.new c.make_all.ensures.stay c.drop_made.ensures)) c.args.self.now.ordered, tt))
+    let trees = c.args.self.now.trees in (
+      (trees.numbers, (trees.least, (trees.most, tt))),
+      (
+        seen_rise trees.forest c.drop_made.new.trees
+            (same_seen_of trees.forest c.drop_made.new.trees (trees_back trees.forest c.make_all.new.trees c.drop_made.new.trees c.args.changes.now c.requires.new c.make_all.ensures.stay c.drop_made.ensures)) c.args.self.now.ordered,
+        tt,
+      ),
+    )

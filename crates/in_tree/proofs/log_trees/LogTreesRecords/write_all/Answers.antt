@@ -1,6 +1,5 @@
-use Rattle.std.proofs.Common.{◌∙◌, length, sym}
+use Rattle.std.proofs.Common.{◌∙◌, sym}
 use Rattle.db_tree.proofs.Ending.{ok_then}
-use Rattle.in_tree.specs.Forest.{cells_seen}
 use Rattle.in_tree.specs.Placing.{count_images}
 use Rattle.in_tree.specs.Waits.{waits_in}
 use Rattle.in_tree.proofs.Checked.{tried_before, grew_since}
