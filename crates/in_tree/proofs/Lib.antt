@@ -1,31 +1,11 @@
--- The order of names.
-pub mod Order
--- The node over a name.
-pub mod Over
--- What images show is the same in a longer log.
-pub mod Longer
--- A mark, a split and a commit keep that a tree fits its log.
-pub mod Marking
--- An image of a node, and a new root, keep that a tree fits its log.
-pub mod Logging
--- What the images of a tree lack is behind each redo LSN that no mark is below.
-pub mod Covering
--- Images that are made of a node's content show it.
-pub mod Contents
--- A node is over the names from its low on and below the low behind it.
-pub mod Within
--- The image of an IN that is made of its children shows what their images show.
-pub mod Children
--- Changes of a tree's records keep that it fits its log.
-pub mod Records
--- Logging a node keeps that a tree fits its log.
-pub mod NodeLogging
--- What transactions see of cells.
-pub mod Seen
 -- How the trees of all databases change where that of one does.
 pub mod Forests
--- What is taken before changes are logged, change by change.
+-- How many nodes wait where the tree of one database changes.
+pub mod Waits
+-- Trees that are made for the databases of changes, and taken out again.
 pub mod Preparation
+-- Names of changes get their slots, change by change.
+pub mod Placings
 -- Changes are written one after the other.
 pub mod Written
 -- The sizes of entries that are to come.
@@ -34,27 +14,7 @@ pub mod Sizes
 pub mod Names
 -- What is taken before changes are written, and what holds when they were.
 pub mod Checked
--- What reads find among the cells.
-pub mod ReadCells
--- A split is a copy, and an IN's image has its children's slots.
-pub mod SplitLaws
 -- What is committed in trees while a log is read again, and how it changes where one cell does.
 pub mod StoredLaws
--- Lows that are put on levels.
-pub mod Lows
--- Which nodes are split, by what is read of them.
-pub mod SplitPlans
--- Trees whose nodes are split.
-pub mod GrowLaws
--- A root that is marked is put above the top.
-pub mod RootLaws
--- How long images are.
-pub mod ImageSizes
--- The images of nodes that were split.
-pub mod HalvesLaws
--- The LSNs of children in their IN's image.
-pub mod FillLaws
--- Splits are taken back.
-pub mod BackLaws
--- How many images and nodes a name's slot needs.
-pub mod FewSplits
+-- Where the log has no room it ends far behind.
+pub mod Far

@@ -1,5 +1,5 @@
 -- The trees of all databases, and what transactions see in them.
-use Rattle.std.specs.Prelude.{◌≡◌, ◌==◌, ◌&&◌, ℕ, Bool, false, refl, List, [], Option, Some, None, IsSome, is_some, map, filter, if◌then◌else◌}
+use Rattle.std.specs.Prelude.{◌≡◌, ◌==◌, ◌&&◌, ℕ, Bool, false, refl, List, [], Option, Some, None, IsSome, is_some, if◌then◌else◌}
 use Rattle.std.specs.Ordering.{is_eq, nat_cmp}
 use Rattle.std.specs.BTreeMap.{BTreeMap, get}
 use Rattle.std.proofs.lemmas.Map.Keys.{IsStrictlySortedBy-prop}
@@ -7,13 +7,13 @@ use mathlib.Core.HLevel.{Π_prop}
 use Rattle.je_order.specs.Order.{name_cmp}
 use Rattle.je_order.specs.declared.name.Name.{Name}
 use Rattle.je_order.specs.declared.txn_id.TxnId.{TxnId}
-use Rattle.node_core.specs.declared.slot.Version.TheVariants.{There, Deleted}
 use Rattle.record_map.specs.declared.cell.Cell.{Cell}
 use Rattle.record_map.specs.declared.write.Write.{Write}
-use Rattle.record_map.specs.Cells.{value_at, with_version, IsRising}
-use Rattle.record_tree.specs.Occupied.{Occupied, AllCells, occupied_by, is_occupied, if_occupied, value_in, write_in}
+use Rattle.record_map.specs.Cells.{value_at, IsRising}
+use Rattle.record_tree.specs.Occupied.{Occupied, AllCells}
 use Rattle.record_tree.specs.declared.tree_change.TreeChange.{TreeChange}
-use Rattle.in_tree.specs.declared.db_tree.DbTree.{DbTree}
+use Rattle.db_tree.specs.declared.tree.DbTree.{DbTree}
+use Rattle.db_tree.specs.Seen.{occupied}
 
 -- the trees by their databases' numbers
 abbrev pub Forest : Type 0
@@ -30,15 +30,7 @@ cells_at forest d = cells_of (get nat_cmp forest d)
 abbrev pub is_there : Forest → ℕ → Bool
 is_there forest d = is_some (get nat_cmp forest d)
 
--- what transactions see of a name
-abbrev pub seen : Option Cell → Option Occupied
-seen None = None
-seen (Some cell) = if_occupied (occupied_by cell)
-
--- the names that are occupied
-abbrev pub occupied : List (Name × Cell) → List (Name × Occupied)
-occupied cells = filter (λ e. is_occupied e.1) (map (λ e. (e.0, occupied_by e.1)) cells)
-
+-- the names of each database that are occupied
 abbrev pub cells_seen : Forest → AllCells
 cells_seen forest d = occupied (cells_at forest d)
 
@@ -54,18 +46,13 @@ abbrev pub HasChange : AllCells → AllCells → ℕ → Name → (Option Occupi
 HasChange old new db name change =
     (d : ℕ) (x : Name) → value_at x (new d) ≡ (if d == db && is_eq (name_cmp name x) then change (value_at x (old d)) else value_at x (old d))
 
--- a name with a change that is not committed
-abbrev pub with_change : Write → Option Occupied → Option Occupied
-with_change write o = Some (record { value = value_in o; write = Some write })
+-- the map has another tree, or none, at a number, and all else as before
+abbrev pub Replaces : Forest → Forest → ℕ → Option DbTree → Type 0
+Replaces old new db o = (d : ℕ) → get nat_cmp new d ≡ (if is_eq (nat_cmp db d) then o else get nat_cmp old d)
 
--- a name of which other data, or none, is committed
-abbrev pub with_value : Option (List ℕ) → Option Occupied → Option Occupied
-with_value value o = if_occupied (record { value = value; write = write_in o })
-
--- a cell with what was committed of its name: the record that was logged at an LSN, or none
-abbrev pub with_logged : Option (List ℕ) → ℕ → ℕ → Option ℕ → Cell → Cell
-with_logged (Some value) at commit last cell = with_version (There at) value commit last cell
-with_logged None at commit last cell = with_version Deleted [] commit last cell
+-- each database has the same tree, or none as before
+abbrev pub IsSameForest : Forest → Forest → Type 0
+IsSameForest old new = (d : ℕ) → get nat_cmp new d ≡ get nat_cmp old d
 
 -- each database has a tree as before
 abbrev pub HasSameTrees : Forest → Forest → Type 0

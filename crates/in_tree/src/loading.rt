@@ -1,181 +1,18 @@
 // Records and nodes that a log has are put into trees.
-ghost use Rattle.std.specs.Prelude.{◌≡◌, ◌<◌, ◌≤◌, ℕ, suc, true, length, OnOk, OnErr, Some, IsSome, IfOk};
-ghost use Rattle.record_map.specs.Cells.{value_at, IsRising};
-ghost use Rattle.tree_nodes.specs.Levels.{row_of};
+ghost use Rattle.std.specs.Prelude.{◌≡◌, ◌≤◌, ◌+◌, true, IfOk, OnOk, Some};
 ghost use Rattle.record_tree.specs.Stored.{stored_at, HasStored, AreStoredStill};
-ghost use Rattle.in_tree.specs.Trees.{HasCell};
 ghost use Rattle.in_tree.specs.Forest.{is_there};
-ghost use Rattle.in_tree.specs.Stored.{stored_of, IsQuiet, loaded_cell};
+ghost use Rattle.in_tree.specs.Stored.{stored_of, IsQuiet};
+ghost use Rattle.in_tree.specs.Waits.{waits_in};
 
-use crate::{DbTree, forest};
+use crate::forest;
+use db_tree::DbTree;
 use je_lsn::Lsn;
 use je_order::{Name, copy_of};
-use node_core::{Marked, Node as Image, Version};
-use record_map::{Cell, Data, SortKey};
+use node_core::Node as Image;
+use record_map::SortKey;
 use std::alloc::{AllocError, Global};
 use std::collections::BTreeMap;
-use tree_nodes::{Levels, Node};
-
-// The cell of a record that was logged at `at`.
-fn loaded_cell(alloc: Global, at: Lsn, value: &[u8]) -> Result<Cell, AllocError>
-    ensures { IfOk result (λ cell. cell ≡ loaded_cell at value.now) }
-{
-    Ok(Cell {
-        version: Version::There(at),
-        shown: Version::There(at),
-        touched: at,
-        data: Data::from_slice(alloc, value)?,
-        write: None,
-    })
-}
-
-// How many of the slots name a record or a child.
-fn count_there(slots: &[Marked]) -> u32
-    requires { length slots.now ≤ 128 }
-{
-    let mut count = 0;
-    for marked in slots {
-        match marked.slot.version {
-            Version::There(_) => count += 1,
-            Version::Deleted | Version::Unset => {}
-        }
-    }
-    count
-}
-
-// The node that its image at `at` shows.
-fn shown_node(image: &Image, at: Lsn) -> Node {
-    Node {
-        number: image.number,
-        last: Some(at),
-        from: None,
-        slots: count_there(image.slots.as_slice()),
-        forced: false,
-        noted: false,
-    }
-}
-
-// The level of the node, the BINs first.
-fn level_of(image: &Image) -> usize
-    ensures { result < 256 }
-{
-    usize::from(image.level).saturating_sub(1)
-}
-
-// A node without an image, for a low whose node is still to come.
-fn unlogged(number: u64) -> Node {
-    Node {
-        number,
-        last: None,
-        from: None,
-        slots: 0,
-        forced: true,
-        noted: false,
-    }
-}
-
-// Raises a tree until it has the level.
-fn raise_to(levels: &mut Levels, alloc: Global, level: usize, number: u64) -> Result<(), AllocError>
-    requires { level < 256 }
-    ensures { OnOk result (level < length levels.new) }
-{
-    let height = levels.height();
-    for i in height..level + 1 {
-        levels.raise(alloc, unlogged(number))?;
-    }
-    Ok(())
-}
-
-// Puts a node without an image under the low, where the level has none. The level below has that low.
-fn put_low(
-    levels: &mut Levels,
-    alloc: Global,
-    level: usize,
-    low: &SortKey,
-    number: u64,
-) -> Result<(), AllocError>
-    requires there { level < length levels.old }
-    requires nested { (k : ℕ) → level ≡ suc k → IsSome (value_at low.now (row_of levels.old k)) }
-    ensures here { OnOk result (IsSome (value_at low.now (row_of levels.new level))) }
-    ensures height { OnOk result (length levels.new ≡ length levels.old) }
-{
-    match levels.at(level, low) {
-        Some(_) => Ok(()),
-        None => {
-            let copy = low.copy(alloc)?;
-            levels.split(level, copy, unlogged(number))
-        }
-    }
-}
-
-// Puts the low on the level and on each one below.
-fn put_lows(
-    levels: &mut Levels,
-    alloc: Global,
-    level: usize,
-    low: &SortKey,
-    number: u64,
-) -> Result<(), AllocError>
-    requires { level < length levels.old }
-    ensures { OnOk result (IsSome (value_at low.now (row_of levels.new level))) }
-{
-    for k in 0..level {
-        put_low(levels, alloc, k, low, number)?;
-    }
-    put_low(levels, alloc, level, low, number)
-}
-
-// Puts a node of a level under its low. The lows of a level are among those of the level below, so the low is put there too, and
-// the nodes that it gets there come later.
-fn put_node(
-    levels: &mut Levels,
-    alloc: Global,
-    level: usize,
-    low: &SortKey,
-    node: Node,
-) -> Result<(), AllocError>
-    requires { level < 256 }
-{
-    raise_to(levels, alloc, level, node.number)?;
-    put_lows(levels, alloc, level, low, node.number)?;
-    levels.set(level, low, node);
-    Ok(())
-}
-
-impl DbTree {
-    // Puts a node as its image at `at` shows it. No name in it is below the low.
-    fn load_node(
-        &mut self,
-        alloc: Global,
-        image: &Image,
-        low: &SortKey,
-        at: Lsn,
-    ) -> Result<(), AllocError>
-        ensures { self.new.cells ≡ self.old.cells }
-    {
-        let node = shown_node(image, at);
-        put_node(&mut self.levels, alloc, level_of(image), low, node)
-    }
-
-    // Puts the cell of a record that was logged at `at`, which the last image of its BIN shows. Running out of memory
-    // changes nothing.
-    fn load(
-        &mut self,
-        alloc: Global,
-        name: SortKey,
-        at: Lsn,
-        value: &[u8],
-    ) -> Result<(), AllocError>
-        ensures cell { OnOk result (HasCell self.old.cells self.new.cells name (loaded_cell at value.now)) }
-        ensures err { OnErr result (self.new.cells ≡ self.old.cells) }
-        ensures was_rising { IsRising self.old.cells }
-        ensures rising { IsRising self.new.cells }
-    {
-        let _before = self.cells.len();
-        let cell = loaded_cell(alloc, at, value)?;
-        self.cells.insert(name, cell)
-    }
-}
 
 // Whether the database has a tree.
 pub(crate) fn has_tree(trees: &BTreeMap<u32, DbTree>, db: u32) -> bool
@@ -196,6 +33,7 @@ pub(crate) fn load(
     requires { is_there trees.old db ≡ true }
     ensures stored { OnOk result (HasStored (stored_of trees.old) (stored_of trees.new) db name (stored_at at (Some value.now))) }
     ensures quiet { IsQuiet trees.old → IsQuiet trees.new }
+    ensures waits { waits_in trees.new ≡ waits_in trees.old }
 {
     match trees.get_mut(&db) {
         Some(tree) => tree.load(alloc, name, at, value),
@@ -213,6 +51,7 @@ fn ensure_tree(
     ensures there { OnOk result (is_there trees.new db ≡ true) }
     ensures stored { AreStoredStill (stored_of trees.old) (stored_of trees.new) }
     ensures quiet { IsQuiet trees.old → IsQuiet trees.new }
+    ensures waits { waits_in trees.new ≤ waits_in trees.old }
 {
     if has_tree(trees, db) {
         return Ok(());
@@ -220,37 +59,45 @@ fn ensure_tree(
     forest::make(trees, alloc, db, number)
 }
 
-// Puts a node of a database that has a tree.
+// Puts a node of a database that has a tree. It gives how many nodes are still to come for it.
 fn put_image(
     trees: &mut BTreeMap<u32, DbTree>,
     alloc: Global,
+    db: u32,
     image: &Image,
     low: &SortKey,
     at: Lsn,
-) -> Result<(), AllocError>
-    requires { is_there trees.old image.now.db ≡ true }
+) -> Result<usize, AllocError>
+    requires { is_there trees.old db ≡ true }
     ensures stored { AreStoredStill (stored_of trees.old) (stored_of trees.new) }
     ensures quiet { IsQuiet trees.old → IsQuiet trees.new }
+    ensures few { IfOk result (λ more. more ≤ 512) }
+    ensures waits { IfOk result (λ more. waits_in trees.new ≤ waits_in trees.old + more) }
+    ensures most { waits_in trees.new ≤ waits_in trees.old + 512 }
 {
-    match trees.get_mut(&image.db) {
+    match trees.get_mut(&db) {
         Some(tree) => tree.load_node(alloc, image, low, at),
         None => unreachable!(),
     }
 }
 
-// Puts a node as its image at `at` shows it. No name in it is below `low`.
+// Puts a node as its image at `at` shows it. No name in it is below `low`. It gives how many nodes are still to come for it: they
+// wait to be logged until then.
 pub(crate) fn load_node(
     trees: &mut BTreeMap<u32, DbTree>,
     alloc: Global,
     image: &Image,
     low: &Name,
     at: Lsn,
-) -> Result<(), AllocError>
+) -> Result<usize, AllocError>
     ensures stored { AreStoredStill (stored_of trees.old) (stored_of trees.new) }
     ensures quiet { IsQuiet trees.old → IsQuiet trees.new }
+    ensures few { IfOk result (λ more. more ≤ 512) }
+    ensures waits { IfOk result (λ more. waits_in trees.new ≤ waits_in trees.old + more) }
+    ensures most { waits_in trees.new ≤ waits_in trees.old + 512 }
 {
     let copy = copy_of(low)?;
     let low = SortKey::new(alloc, copy)?;
     ensure_tree(trees, alloc, image.db, image.number)?;
-    put_image(trees, alloc, image, &low, at)
+    put_image(trees, alloc, image.db, image, &low, at)
 }

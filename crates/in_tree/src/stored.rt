@@ -3,10 +3,11 @@ ghost use Rattle.std.specs.Prelude.{◌≡◌, ◌==◌, ◌≤◌, ◌&&◌, �
 ghost use Rattle.std.specs.BTreeMap.{keys};
 ghost use Rattle.record_map.specs.Cells.{value_at, IsRising};
 ghost use Rattle.in_tree.specs.Forest.{cells_at, is_there};
-ghost use Rattle.in_tree.specs.Stored.{stored_by, stored_in, stored_of, stored_under, with_name};
+ghost use Rattle.db_tree.specs.Stored.{stored_by, stored_in, stored_under, with_name};
+ghost use Rattle.in_tree.specs.Stored.{stored_of};
 ghost use Rattle.std.specs.List.{list_any};
 
-use crate::DbTree;
+use db_tree::DbTree;
 use je_lsn::Lsn;
 use je_order::Octets;
 use node_core::Version;

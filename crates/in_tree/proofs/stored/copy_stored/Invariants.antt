@@ -1,5 +1,5 @@
 use Rattle.std.proofs.Common.{◌≡◌, ◌++◌}
-use Rattle.in_tree.specs.Stored.{stored_in}
+use Rattle.db_tree.specs.Stored.{stored_in}
 use Rattle.in_tree.proofs.stored.copy_stored.Given as goal
 
 abbrev pub invariant-loop-name : goal.invariant-loop-name

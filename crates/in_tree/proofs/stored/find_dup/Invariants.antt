@@ -1,5 +1,5 @@
 use Rattle.std.proofs.Common.{◌≡◌, ◌==◌, not, length, find}
-use Rattle.in_tree.specs.Stored.{stored_in}
+use Rattle.db_tree.specs.Stored.{stored_in}
 use Rattle.in_tree.proofs.stored.find_dup.Given as goal
 
 abbrev pub invariant-loop-name : goal.invariant-loop-name

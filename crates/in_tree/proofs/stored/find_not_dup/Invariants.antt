@@ -1,5 +1,5 @@
 use Rattle.std.proofs.Common.{◌≡◌, ◌==◌, ◌&&◌, not, nat_le, length, find}
-use Rattle.in_tree.specs.Stored.{stored_in}
+use Rattle.db_tree.specs.Stored.{stored_in}
 use Rattle.in_tree.proofs.stored.find_not_dup.Given as goal
 
 abbrev pub invariant-loop-name : goal.invariant-loop-name

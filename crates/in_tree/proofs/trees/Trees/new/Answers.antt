@@ -2,7 +2,7 @@ use Rattle.std.proofs.Common.{ℕ, List, is_some, ap}
 use Rattle.std.specs.Map.{lookup}
 use Rattle.std.specs.Ordering.{nat_cmp}
 use Rattle.std.specs.BTreeMap.{is_at}
-use Rattle.in_tree.specs.declared.db_tree.DbTree.{DbTree}
+use Rattle.db_tree.specs.declared.tree.DbTree.{DbTree}
 use Rattle.in_tree.proofs.trees.Trees.new.Goals as goal
 
 pub returns-clause-none : goal.returns-clause-none

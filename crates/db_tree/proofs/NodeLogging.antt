@@ -1,0 +1,99 @@
+-- Logging a node keeps that a tree fits its log.
+use Rattle.std.proofs.Common.{◌≡◌, ◌≤◌, ◌++◌, ◌∷◌, [], ◌==◌, ℕ, zero, suc, List, Bool, true, false, cond, Option, None, Some, length, refl, ap, ap₂, sym, subst, ◌∙◌, arith, eq-eqb}
+use Rattle.std.proofs.lemmas.Option.{none-some, same_Some}
+use Rattle.std.proofs.lemmas.List.{get_or_past}
+use Rattle.je_order.specs.declared.name.Name.{Name}
+use Rattle.log_entry.specs.declared.entry.Entry.{Entry}
+use Rattle.record_map.specs.declared.cell.Cell.{Cell}
+use Rattle.record_map.specs.Cells.{value_at, IsRising}
+use Rattle.tree_nodes.specs.declared.node.Node.{Node}
+use Rattle.tree_nodes.specs.Nodes.{NodeRow, IsOver, earlier, logged}
+use Rattle.tree_nodes.specs.Levels.{row_of, AreParts, HasPutAt, HasMarkedAt}
+use Rattle.db_tree.specs.Images.{Placed, entry_at, IsRead}
+use Rattle.db_tree.specs.Content.{held_by, bin_image, in_image}
+use Rattle.db_tree.specs.Trees.{IsTreeOf, IsTree, IsImageOf, IsHandedOn}
+use Rattle.db_tree.proofs.Longer.{longer}
+use Rattle.db_tree.specs.Splitting.{ImagedBelow, IsInImage}
+use Rattle.db_tree.proofs.Contents.{bins_show}
+use Rattle.db_tree.proofs.Children.{ins_show}
+use Rattle.db_tree.proofs.Logging.{logged as is_logged}
+use Rattle.db_tree.proofs.Records.{over_marked, earlier_below}
+
+-- a node without a mark, and one without a node above it
+pub nothing_to_hand : (rows : List NodeRow) (level : ℕ) (low : Name) (n : Node) → n.from ≡ None → IsHandedOn rows level low n
+nothing_to_hand rows level low n none p over f is = absurd (none-some f (sym none ∙ is))
+
+pub nobody_above : (rows : List NodeRow) (level : ℕ) (low : Name) (n : Node) → length rows ≤ suc level → IsHandedOn rows level low n
+nobody_above rows level low n high p over f is =
+    absurd (none-some p.1 (subst (λ (row : NodeRow). value_at p.0 row ≡ Some p.1) (get_or_past rows (suc level) [] high) over.there))
+
+-- the node above a node has its mark
+pub handed_on : (old new : List NodeRow) (level : ℕ) (low : Name) (n : Node) (from : ℕ) → n.from ≡ Some from → HasMarkedAt old new (suc level) low from → IsHandedOn new level low n
+handed_on old new level low n from is m p over f at =
+    let same : from ≡ f = same_Some from f (sym is ∙ at) in
+    (_, ap (λ (k : Node). k.from) (over_marked old new (suc level) low from p m over), subst (λ k. earlier m.e.1.from from ≤ k) same (earlier_below m.e.1.from from))
+
+-- an entry that is appended at an LSN of its own is the one that the LSN names
+pub entry_is_last : (es : Placed) (at : ℕ) (e : Entry) → entry_at es at ≡ None → entry_at (es ++ (at, e) ∷ []) at ≡ Some e
+entry_is_last [] at e none = ap (λ (t : Bool). cond t (Some e) None) (eq-eqb at at refl)
+entry_is_last (p ∷ es) at e none = by_test (p.0 == at) (entry_is_last es at e) none
+  where
+    by_test : (t : Bool) → (entry_at es at ≡ None → entry_at (es ++ (at, e) ∷ []) at ≡ Some e) → cond t (Some p.1) (entry_at es at) ≡ None → cond t (Some p.1) (entry_at (es ++ (at, e) ∷ []) at) ≡ Some e
+    by_test true rest h = absurd (none-some p.1 (sym h))
+    by_test false rest h = rest h
+
+-- a BIN is logged: the log gets its image, its mark is handed on, and the image is its last one
+pub bin_logged : (es : Placed) (base : ℕ) (newest : Name → ℕ) (old handed new : List NodeRow) (cells : List (Name × Cell)) (low : Name) (n : Node) (at db number : ℕ) (entry : Entry) →
+    IsRising cells → entry_at es at ≡ None → entry ≡ bin_image db number low (row_of old 0) cells → AreParts handed → row_of handed 0 ≡ row_of old 0 → value_at low (row_of handed 0) ≡ Some n →
+    IsHandedOn handed 0 low n → HasPutAt handed new 0 low (logged at n) →
+    ((es : Placed) (base : ℕ) (newest : Name → ℕ) (held : Name → Option ℕ) → IsTreeOf es base newest old held → IsTreeOf es base newest handed held) →
+    IsTree es base newest old cells → IsTree (es ++ (at, entry) ∷ []) base newest new cells
+bin_logged es base newest old handed new cells low n at db number entry up fresh_ is are same there hand put kept tree =
+    is_logged (es ++ (at, entry) ∷ []) base newest handed new (held_by cells) 0 low n (logged at n) at are there put refl
+    (bins_show (es ++ (at, entry) ∷ []) handed cells db number at low n up
+    (entry_is_last es at entry fresh_ ∙ ap Some (is ∙ ap (λ (row : NodeRow). bin_image db number low row cells) (sym same))))
+    hand
+    (kept (es ++ (at, entry) ∷ []) base newest (held_by cells) (longer es ((at, entry) ∷ []) base newest newest old (held_by cells) (λ x. omega arith) tree))
+
+-- an IN is logged: the log gets its image, its mark is handed on, and the image is its last one
+abbrev pub LogsIn : ℕ → ℕ → Type 0
+LogsIn level k = (es : Placed) (base : ℕ) (newest : Name → ℕ) (old handed new : List NodeRow) (held : Name → Option ℕ) (low : Name) (n : Node) (at : ℕ) (entry : Entry) →
+    entry_at es at ≡ None → ImagedBelow old level k low → IsInImage old level k low entry → AreParts handed → row_of handed level ≡ row_of old level → row_of handed k ≡ row_of old k → value_at low (row_of handed level) ≡ Some n →
+    IsHandedOn handed level low n → HasPutAt handed new level low (logged at n) →
+    ((es : Placed) (base : ℕ) (newest : Name → ℕ) (held : Name → Option ℕ) → IsTreeOf es base newest old held → IsTreeOf es base newest handed held) →
+    IsTreeOf es base newest old held → IsTreeOf (es ++ (at, entry) ∷ []) base newest new held
+
+in_logged_above : (k : ℕ) → LogsIn (suc k) k
+in_logged_above k es base newest old handed new held low n at entry fresh_ imaged is are same below there hand put kept tree =
+    let longer_tree = kept (es ++ (at, entry) ∷ []) base newest held (longer es ((at, entry) ∷ []) base newest newest old held (λ x. omega arith) tree) in
+    let with_image : (x : Name) (c : Name × Node) → IsOver (row_of handed (suc k)) x (low, n) → IsOver (row_of handed k) x c → (lsn : ℕ) × (c.1.last ≡ Some lsn) × IsRead (es ++ (at, entry) ∷ []) k lsn x =
+    λ x c upper over. let image = imaged x (low, n) c refl (subst (λ (row : NodeRow). IsOver row x (low, n)) same upper) (subst (λ (row : NodeRow). IsOver row x c) below over) in (image.0, image.1, longer_tree.reads k x c image.0 over image.1) in
+    is_logged (es ++ (at, entry) ∷ []) base newest handed new held (suc k) low n (logged at n) at are there put refl
+    (ins_show (es ++ (at, entry) ∷ []) handed held is.0 is.1 is.2 k at low n are there with_image
+    (entry_is_last es at entry fresh_ ∙ ap Some (is.3 ∙ ap₂ (λ (row under : NodeRow). in_image is.0 is.1 is.2 low row under) (sym same) (sym below))))
+    hand longer_tree
+
+pub in_logged : (level k : ℕ) → level ≡ suc k → LogsIn level k
+in_logged level k is = subst (λ (l : ℕ). LogsIn l k) (sym is) (in_logged_above k)
+
+-- a level is not the one two above it
+pub not_above : (level k : ℕ) → level ≡ suc k → k ≡ suc level → ⊥
+not_above level k is above = absurd (omega (arith, is, above))
+
+-- an image of a node is one where the mark was handed on
+pub image_handed : (es : Placed) (old handed : List NodeRow) (held : Name → Option ℕ) (level : ℕ) (e : Name × Node) (at : ℕ) → row_of handed level ≡ row_of old level →
+    ((k : ℕ) → (k ≡ suc level → ⊥) → row_of handed k ≡ row_of old k) → IsImageOf es old held level e at → IsImageOf es handed held level e at
+image_handed es old handed held zero e at same others image = record {
+  reads = λ x over. image.reads x (subst (λ (row : NodeRow). IsOver row x e) same over);
+  shows = λ x over. image.shows x (subst (λ (row : NodeRow). IsOver row x e) same over);
+}
+image_handed es old handed held (suc k) e at same others image = record {
+  reads = λ x over. image.reads x (subst (λ (row : NodeRow). IsOver row x e) same over);
+  shows = λ x over c lower. image.shows x (subst (λ (row : NodeRow). IsOver row x e) same over) c (subst (λ (row : NodeRow). IsOver row x c) (others k (λ (h : k ≡ suc (suc k)). absurd (omega (arith, h)))) lower);
+}
+
+pub image_noted : (es : Placed) (base : ℕ) (newest : Name → ℕ) (old handed new : List NodeRow) (held : Name → Option ℕ) (level : ℕ) (low : Name) (n : Node) (at : ℕ) → AreParts handed →
+    row_of handed level ≡ row_of old level → ((k : ℕ) → (k ≡ suc level → ⊥) → row_of handed k ≡ row_of old k) → value_at low (row_of old level) ≡ Some n → IsHandedOn handed level low n →
+    HasPutAt handed new level low (logged at n) → IsImageOf es old held level (low, n) at → IsTreeOf es base newest handed held → IsTreeOf es base newest new held
+image_noted es base newest old handed new held level low n at are same others there hand put image tree =
+    is_logged es base newest handed new held level low n (logged at n) at are (ap (value_at low) same ∙ there) put refl (image_handed es old handed held level (low, n) at same others image) hand tree

@@ -1,0 +1,174 @@
+-- Changes of a tree's records keep that it fits its log.
+use Rattle.std.proofs.Common.{◌≡◌, ◌≤◌, ◌⊎◌, ℕ, List, Bool, true, false, cond, Option, None, Some, IsSome, option_map, refl, ap, sym, subst, ◌∙◌, inl, inr, arith, is_eq}
+use Rattle.std.proofs.lemmas.Option.{same_Some}
+use Rattle.je_order.specs.Order.{name_cmp}
+use Rattle.je_order.specs.declared.name.Name.{Name}
+use Rattle.record_map.specs.declared.cell.Cell.{Cell}
+use Rattle.node_core.specs.declared.slot.Version.{Version}
+use Rattle.node_core.specs.declared.slot.Version.TheVariants.{There, Deleted, Unset}
+use Rattle.node_core.specs.Changes.{is_committed}
+use Rattle.record_map.specs.Cells.{value_at, with_write}
+use Rattle.record_map.proofs.NameLaws.{same_or_other, name_same, other_stays, same_gets}
+use Rattle.tree_nodes.specs.declared.node.Node.{Node}
+use Rattle.tree_nodes.specs.Nodes.{NodeRow, IsUpTo, IsOver, earlier, marked}
+use Rattle.tree_nodes.specs.Levels.{row_of, HasMarkedAt, HasPutAt}
+use Rattle.db_tree.specs.Images.{Placed}
+use Rattle.db_tree.specs.Content.{held_by, lsn_of, lsn_under}
+use Rattle.db_tree.specs.Trees.{IsTreeOf, IsBehind, IsMark, IsTree, HasCell, cell_or_fresh, given_up}
+use Rattle.db_tree.proofs.Order.{same_up}
+use Rattle.db_tree.proofs.Over.{over_low, over_once}
+use Rattle.db_tree.proofs.Marking.{marked_or_split, committed}
+
+-- ---- marks
+
+earlier_up : (own : Option ℕ) (f from : ℕ) → own ≡ Some f → earlier own from ≤ f
+earlier_up own f from is = subst (λ (o : Option ℕ). earlier o from ≤ f) (sym is) (omega arith)
+
+pub earlier_below : (own : Option ℕ) (from : ℕ) → earlier own from ≤ from
+earlier_below None from = omega arith
+earlier_below (Some f) from = omega arith
+
+is_mark : (n : Node) (from : ℕ) → IsMark n (marked from n)
+is_mark n from = record { last = refl; from = λ f is. (earlier n.from from, refl, earlier_up n.from f from is) }
+
+pub marks : (es : Placed) (base : ℕ) (newest : Name → ℕ) (old new : List NodeRow) (held : Name → Option ℕ) (level : ℕ) (x : Name) (from : ℕ) →
+    HasMarkedAt old new level x from → IsTreeOf es base newest old held → IsTreeOf es base newest new held
+marks es base newest old new held level x from m tree =
+    marked_or_split es base newest old new held level m.e.0 m.e.0 m.e.1 (marked from m.e.1) (over_low (row_of old level) m.e.0 m.e.1 m.over.there) m.put (is_mark m.e.1 from) tree
+
+-- a node waits to be logged
+pub waits : (es : Placed) (base : ℕ) (newest : Name → ℕ) (old new : List NodeRow) (held : Name → Option ℕ) (level : ℕ) (low : Name) (m n : Node) (from : ℕ) → value_at low (row_of old level) ≡ Some m →
+    HasPutAt old new level low n → n.last ≡ m.last → n.from ≡ Some (earlier m.from from) → IsTreeOf es base newest old held → IsTreeOf es base newest new held
+waits es base newest old new held level low m n from there put last is tree =
+    marked_or_split es base newest old new held level low low m n (over_low (row_of old level) low m there) put
+    (record { last = last; from = λ f own. (earlier m.from from, is, earlier_up m.from f from own) }) tree
+
+-- the node over a name after it was marked
+pub over_marked : (old new : List NodeRow) (level : ℕ) (x : Name) (from : ℕ) (e : Name × Node) → (m : HasMarkedAt old new level x from) → IsOver (row_of new level) x e → e.1 ≡ marked from m.e.1
+over_marked old new level x from e m over =
+    let names : e.0 ≡ m.e.0 = over_once (row_of new level) x e (m.e.0, marked from m.e.1) over is_over in
+    same_Some e.1 (marked from m.e.1) (sym over.there ∙ ap (λ (y : Name). value_at y (row_of new level)) names ∙ here)
+  where
+    here : value_at m.e.0 (row_of new level) ≡ Some (marked from m.e.1)
+    here = m.put.here m.e.0 ∙ same_gets m.e.0 (Some (marked from m.e.1)) (value_at m.e.0 (row_of old level))
+
+    most : (q : Name) → IsSome (value_at q (row_of new level)) → IsUpTo q x → IsUpTo q m.e.0
+    most q there up = by_name (same_or_other m.e.0 q)
+      where
+        by_name : (m.e.0 ≡ q) ⊎ (is_eq (name_cmp m.e.0 q) ≡ false) → IsUpTo q m.e.0
+        by_name (inl same) = same_up q m.e.0 (sym same)
+        by_name (inr apart) = m.over.most q (subst IsSome (m.put.here q ∙ other_stays m.e.0 q (Some (marked from m.e.1)) (value_at q (row_of old level)) apart) there) up
+
+    is_over : IsOver (row_of new level) x (m.e.0, marked from m.e.1)
+    is_over = record { there = here; below = m.over.below; most = most }
+
+-- ---- commits
+
+-- a name's BIN is marked, and the name has other data
+pub commits : (es : Placed) (base : ℕ) (newest : Name → ℕ) (old new : List NodeRow) (held next : Name → Option ℕ) (name : Name) (from : ℕ) →
+    HasMarkedAt old new 0 name from → from ≤ newest name → ((x : Name) → is_eq (name_cmp name x) ≡ false → next x ≡ held x) →
+    IsTreeOf es base newest old held → IsTreeOf es base newest new next
+commits es base newest old new held next name from m le others tree =
+    committed es base newest new held next (λ x e over. by_name x e over (same_or_other name x)) (marks es base newest old new held 0 name from m tree)
+  where
+    behind : (e : Name × Node) → IsOver (row_of new 0) name e → IsBehind base newest e.1 name
+    behind e over =
+        let low : earlier m.e.1.from from ≤ from = earlier_below m.e.1.from from in
+        (earlier m.e.1.from from, ap (λ (n : Node). n.from) (over_marked old new 0 name from e m over), inl (omega arith))
+
+    by_name : (x : Name) (e : Name × Node) → IsOver (row_of new 0) x e → (name ≡ x) ⊎ (is_eq (name_cmp name x) ≡ false) → (next x ≡ held x) ⊎ IsBehind base newest e.1 x
+    by_name x e over (inl same) = inr (subst (λ (y : Name). IsBehind base newest e.1 y) same (behind e (subst (λ (y : Name). IsOver (row_of new 0) y e) (sym same) over)))
+    by_name x e over (inr apart) = inl (others x apart)
+
+-- cells that differ at one name alone hold the same under the others
+pub held_apart : (old new : List (Name × Cell)) (name : Name) (o : Option Cell) → ((x : Name) → value_at x new ≡ cond (is_eq (name_cmp name x)) o (value_at x old)) →
+    (x : Name) → is_eq (name_cmp name x) ≡ false → held_by new x ≡ held_by old x
+held_apart old new name o has x apart = ap lsn_under (has x ∙ other_stays name x o (value_at x old) apart)
+
+-- ---- changes that are not committed
+
+fresh_holds : (o : Option Cell) → lsn_of (cell_or_fresh o).version ≡ lsn_under o
+fresh_holds None = refl
+fresh_holds (Some cell) = refl
+
+-- what is held stays where the one name that changed has the same version
+pub holds : (es : Placed) (base : ℕ) (newest : Name → ℕ) (rows : List NodeRow) (old new : List (Name × Cell)) (name : Name) (cell : Cell) →
+    HasCell old new name cell → cell.version ≡ (cell_or_fresh (value_at name old)).version → IsTree es base newest rows old → IsTree es base newest rows new
+holds es base newest rows old new name cell has same tree =
+    committed es base newest rows (held_by old) (held_by new) (λ x e over. inl (by_name x (same_or_other name x))) tree
+  where
+    by_name : (x : Name) → (name ≡ x) ⊎ (is_eq (name_cmp name x) ≡ false) → held_by new x ≡ held_by old x
+    by_name x (inl is) =
+        subst (λ (y : Name). held_by new y ≡ held_by old y) is
+        (ap lsn_under (has name ∙ same_gets name (Some cell) (value_at name old)) ∙ ap lsn_of same ∙ fresh_holds (value_at name old))
+    by_name x (inr apart) = held_apart old new name (Some cell) has x apart
+
+-- a cell that is there
+pub kept_cell : (cells : List (Name × Cell)) (name : Name) (cell : Cell) → value_at name cells ≡ Some cell → HasCell cells cells name (cell_or_fresh (value_at name cells))
+kept_cell cells name cell there x = by_name (same_or_other name x)
+  where
+    here : Some (cell_or_fresh (value_at name cells)) ≡ value_at name cells
+    here = ap (λ (o : Option Cell). Some (cell_or_fresh o)) there ∙ sym there
+
+    by_name : (name ≡ x) ⊎ (is_eq (name_cmp name x) ≡ false) → value_at x cells ≡ cond (is_eq (name_cmp name x)) (Some (cell_or_fresh (value_at name cells))) (value_at x cells)
+    by_name (inl same) =
+        subst (λ (y : Name). value_at y cells ≡ cond (is_eq (name_cmp name y)) (Some (cell_or_fresh (value_at name cells))) (value_at y cells)) same
+        (sym here ∙ sym (same_gets name (Some (cell_or_fresh (value_at name cells))) (value_at name cells)))
+    by_name (inr apart) = sym (other_stays name x (Some (cell_or_fresh (value_at name cells))) (value_at x cells) apart)
+
+pub cell_there : (old new : List (Name × Cell)) (name : Name) (cell : Cell) → HasCell old new name cell → value_at name new ≡ Some cell
+cell_there old new name cell has = has name ∙ same_gets name (Some cell) (value_at name old)
+
+-- a cell is made, and then changed
+pub made_and_changed : (old mid new : List (Name × Cell)) (name : Name) (cell : Cell) (change : Cell → Cell) → HasCell old mid name cell →
+    ((x : Name) → value_at x new ≡ cond (is_eq (name_cmp name x)) (option_map change (value_at name mid)) (value_at x mid)) → HasCell old new name (change cell)
+made_and_changed old mid new name cell change has changed x = changed x ∙ by_name (same_or_other name x)
+  where
+    by_name : (name ≡ x) ⊎ (is_eq (name_cmp name x) ≡ false) →
+        cond (is_eq (name_cmp name x)) (option_map change (value_at name mid)) (value_at x mid) ≡ cond (is_eq (name_cmp name x)) (Some (change cell)) (value_at x old)
+    by_name (inl same) =
+        ap (λ (o : Option Cell). cond (is_eq (name_cmp name x)) (option_map change o) (value_at x mid)) (cell_there old mid name cell has)
+        ∙ ap (λ (t : Bool). cond t (Some (change cell)) (value_at x mid)) equal ∙ sym (ap (λ (t : Bool). cond t (Some (change cell)) (value_at x old)) equal)
+      where
+        equal : is_eq (name_cmp name x) ≡ true
+        equal = subst (λ (y : Name). is_eq (name_cmp name y) ≡ true) same (ap is_eq (name_same name))
+    by_name (inr apart) =
+        other_stays name x (option_map change (value_at name mid)) (value_at x mid) apart
+        ∙ has x
+        ∙ other_stays name x (Some cell) (value_at x old) apart
+        ∙ sym (other_stays name x (Some (change cell)) (value_at x old) apart)
+
+-- ---- changes that are given up
+
+pub nothing_given : (cells : List (Name × Cell)) (name : Name) → value_at name cells ≡ None →
+    (x : Name) → value_at x cells ≡ cond (is_eq (name_cmp name x)) (given_up (value_at name cells)) (value_at x cells)
+nothing_given cells name none x = by_name (same_or_other name x)
+  where
+    here : given_up (value_at name cells) ≡ value_at name cells
+    here = ap given_up none ∙ sym none
+
+    by_name : (name ≡ x) ⊎ (is_eq (name_cmp name x) ≡ false) → value_at x cells ≡ cond (is_eq (name_cmp name x)) (given_up (value_at name cells)) (value_at x cells)
+    by_name (inl same) =
+        subst (λ (y : Name). value_at y cells ≡ cond (is_eq (name_cmp name y)) (given_up (value_at name cells)) (value_at y cells)) same
+        (sym here ∙ sym (same_gets name (given_up (value_at name cells)) (value_at name cells)))
+    by_name (inr apart) = sym (other_stays name x (given_up (value_at name cells)) (value_at x cells) apart)
+
+given_holds : (o : Option Cell) → lsn_under (given_up o) ≡ lsn_under o
+given_holds None = refl
+given_holds (Some cell) = by_version cell.version refl
+  where
+    by_version : (v : Version) → cell.version ≡ v → lsn_under (cond (is_committed cell.version) (Some (with_write None cell)) None) ≡ lsn_of cell.version
+    by_version (There lsn) is = ap (λ (k : Version). lsn_under (cond (is_committed k) (Some (with_write None cell)) None)) is
+    by_version Deleted is = ap (λ (k : Version). lsn_under (cond (is_committed k) (Some (with_write None cell)) None)) is
+    by_version Unset is = ap (λ (k : Version). lsn_under (cond (is_committed k) (Some (with_write None cell)) None)) is ∙ sym (ap lsn_of is)
+
+pub gives_up : (es : Placed) (base : ℕ) (newest : Name → ℕ) (rows : List NodeRow) (old new : List (Name × Cell)) (name : Name) →
+    ((x : Name) → value_at x new ≡ cond (is_eq (name_cmp name x)) (given_up (value_at name old)) (value_at x old)) → IsTree es base newest rows old → IsTree es base newest rows new
+gives_up es base newest rows old new name has tree =
+    committed es base newest rows (held_by old) (held_by new) (λ x e over. inl (by_name x (same_or_other name x))) tree
+  where
+    by_name : (x : Name) → (name ≡ x) ⊎ (is_eq (name_cmp name x) ≡ false) → held_by new x ≡ held_by old x
+    by_name x (inl is) =
+        subst (λ (y : Name). held_by new y ≡ held_by old y) is
+        (ap lsn_under (has name ∙ same_gets name (given_up (value_at name old)) (value_at name old)) ∙ given_holds (value_at name old))
+    by_name x (inr apart) = held_apart old new name (given_up (value_at name old)) has x apart

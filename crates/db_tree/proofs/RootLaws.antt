@@ -1,0 +1,55 @@
+-- A root that is marked is put above the top.
+use Rattle.std.proofs.Common.{◌≡◌, ◌<◌, ◌≤◌, ◌⊎◌, ℕ, suc, List, [], Bool, true, false, cond, Option, None, Some, length, ap, sym, subst, ◌∙◌, inl, inr, arith, is_eq}
+use Rattle.std.proofs.lemmas.Bool.{cases_order}
+use Rattle.std.proofs.lemmas.Option.{none-some, same_Some}
+use Rattle.std.proofs.lemmas.List.{get_or_past}
+use Rattle.je_order.specs.Order.{name_cmp}
+use Rattle.je_order.specs.declared.name.Name.{Name}
+use Rattle.record_map.specs.Cells.{value_at}
+use Rattle.tree_nodes.specs.declared.node.Node.{Node}
+use Rattle.tree_nodes.specs.Nodes.{NodeRow, least, IsOver}
+use Rattle.tree_nodes.specs.Levels.{row_of, HasRaised}
+use Rattle.db_tree.specs.Images.{Placed, shown, IsRead}
+use Rattle.db_tree.specs.Trees.{IsTreeOf, IsBehind}
+
+pub root_put : (es : Placed) (base : ℕ) (newest : Name → ℕ) (old new : List NodeRow) (held : Name → Option ℕ) (root : Node) (mark : ℕ) →
+    HasRaised old new root → root.last ≡ None → root.from ≡ Some mark → ((x : Name) → (mark ≤ newest x) ⊎ (mark < base)) → IsTreeOf es base newest old held → IsTreeOf es base newest new held
+root_put es base newest old new held root mark has last from behind tree = record {
+  reads = λ l x e lsn over is. at_reads l x e lsn is (kind l x e over);
+  leaf = λ x e over. at_leaf x e (kind 0 x e over);
+  inner = λ l x e c upper lower. at_inner l x e c (kind (suc l) x e upper) (kind l x c lower);
+}
+  where
+    is_root : (x : Name) (e : Name × Node) → IsOver (row_of new (length old)) x e → e.1 ≡ root
+    is_root x e over = by_test (is_eq (name_cmp least e.0)) (sym (has.top e.0) ∙ over.there)
+      where
+        by_test : (t : Bool) → cond t (Some root) None ≡ Some e.1 → e.1 ≡ root
+        by_test true h = sym (same_Some root e.1 h)
+        by_test false h = absurd (none-some e.1 h)
+
+    kind : (l : ℕ) (x : Name) (e : Name × Node) → IsOver (row_of new l) x e → ((l ≡ length old) × (e.1 ≡ root)) ⊎ ((l < length old) × IsOver (row_of old l) x e)
+    kind l x e over = by_order (cases_order l (length old))
+      where
+        by_order : (l ≡ length old) ⊎ ((l < length old) ⊎ (length old < l)) → ((l ≡ length old) × (e.1 ≡ root)) ⊎ ((l < length old) × IsOver (row_of old l) x e)
+        by_order (inl same) = inl (same, is_root x e (subst (λ k. IsOver (row_of new k) x e) same over))
+        by_order (inr (inl less)) = inr (less, subst (λ (row : NodeRow). IsOver row x e) (has.below l less) over)
+        by_order (inr (inr more)) =
+            let high : length new ≤ l = subst (λ k. k ≤ l) (sym has.height) (omega arith) in
+            absurd (none-some e.1 (subst (λ (row : NodeRow). value_at e.0 row ≡ Some e.1) (get_or_past new l [] high) over.there))
+
+    marked : (x : Name) (e : Name × Node) → e.1 ≡ root → IsBehind base newest e.1 x
+    marked x e is = (mark, ap (λ (k : Node). k.from) is ∙ from, behind x)
+
+    at_reads : (l : ℕ) (x : Name) (e : Name × Node) (lsn : ℕ) → e.1.last ≡ Some lsn → ((l ≡ length old) × (e.1 ≡ root)) ⊎ ((l < length old) × IsOver (row_of old l) x e) → IsRead es l lsn x
+    at_reads l x e lsn is (inl new_) = absurd (none-some lsn (sym (ap (λ (k : Node). k.last) new_.1 ∙ last) ∙ is))
+    at_reads l x e lsn is (inr over) = tree.reads l x e lsn over.1 is
+
+    at_leaf : (x : Name) (e : Name × Node) → ((0 ≡ length old) × (e.1 ≡ root)) ⊎ ((0 < length old) × IsOver (row_of old 0) x e) → (shown es 0 e.1.last x ≡ held x) ⊎ IsBehind base newest e.1 x
+    at_leaf x e (inl new_) = inr (marked x e new_.1)
+    at_leaf x e (inr over) = tree.leaf x e over.1
+
+    at_inner : (l : ℕ) (x : Name) (e c : Name × Node) → ((suc l ≡ length old) × (e.1 ≡ root)) ⊎ ((suc l < length old) × IsOver (row_of old (suc l)) x e) →
+        ((l ≡ length old) × (c.1 ≡ root)) ⊎ ((l < length old) × IsOver (row_of old l) x c) → (shown es (suc l) e.1.last x ≡ shown es l c.1.last x) ⊎ IsBehind base newest e.1 x
+    at_inner l x e c (inl upper) lower = inr (marked x e upper.1)
+    at_inner l x e c (inr upper) (inl lower) = let first : suc l < length old = upper.0 in let second : l ≡ length old = lower.0 in absurd (omega arith)
+    at_inner l x e c (inr upper) (inr lower) = tree.inner l x e c upper.1 lower.1

@@ -1,0 +1,22 @@
+use Rattle.std.proofs.Common.{option_map, refl}
+use Rattle.record_map.specs.Cells.{value_at, committed}
+use Rattle.record_tree.specs.Occupied.{after_commit}
+use Rattle.db_tree.proofs.Seen.{change_seen, commit_seen, none_changes, occupied_rises}
+use Rattle.db_tree.proofs.tree.DbTree.commit_write.Goals as goal
+
+pub returns-in-None-clause-cells : goal.returns-in-None-clause-cells
+returns-in-None-clause-cells c =
+    none_changes c.args.self.now.cells c.args.name.now after_commit refl c.len-before.ensures.rising (c.in-None.ensures.none refl)
+
+pub returns-in-None-clause-rising : goal.returns-in-None-clause-rising
+returns-in-None-clause-rising c = occupied_rises c.args.self.now.cells c.len-before.ensures.rising
+
+pub returns-clause-rising : goal.returns-clause-rising
+returns-clause-rising c = occupied_rises c.commit.new.self.cells c.len-after.ensures.rising
+
+pub returns-clause-cells : goal.returns-clause-cells
+returns-clause-cells c =
+    let old = c.args.self.now.cells in
+    let last = c.commit.ensures.cells.0 in
+    change_seen old c.commit.new.self.cells c.args.name.now (option_map (committed c.args.at last) (value_at c.args.name.now old)) after_commit
+    c.len-before.ensures.rising c.len-after.ensures.rising c.commit.ensures.cells.1 (commit_seen c.args.at last (value_at c.args.name.now old))

@@ -1,0 +1,35 @@
+use Rattle.std.proofs.Common.{Some, ◌≤◌, ◌∙◌, ℕ, ap, subst, sym}
+use Rattle.tree_nodes.specs.declared.node.Node.{Node}
+use Rattle.tree_nodes.specs.Levels.{HasPutAt}
+use Rattle.db_tree.specs.Content.{held_by}
+use Rattle.db_tree.proofs.NodeLogging.{image_noted}
+use Rattle.db_tree.proofs.NoteLaws.{noted_lows, noted_waits, few_still, past_waits, none_waits}
+use Rattle.db_tree.proofs.tree.DbTree.note_image.Goals as goal
+
+pub returns-clause-tree : goal.returns-clause-tree
+returns-clause-tree c = λ es base newest image tree.
+    let old = c.args.self.now.levels in
+    let handed = c.hand_on.new.levels in
+    let low = c.args.low.now in
+    let there = sym c.in-Some.ensures ∙ ap Some (sym c.copy-node.ensures) in
+    image_noted es base newest old handed c.set.new.self (held_by c.args.self.now.cells) c.args.level low c.copy-node.result c.args.at c.hand_on.ensures.parts c.hand_on.ensures.row c.hand_on.ensures.others there c.hand_on.ensures.handed
+    (subst (λ (n : Node). HasPutAt handed c.set.new.self c.args.level low n) c.logged.ensures c.set.ensures.put) (image c.copy-node.result there) (c.hand_on.ensures.tree es base newest (held_by c.args.self.now.cells) tree)
+
+pub returns-clause-lows : goal.returns-clause-lows
+returns-clause-lows c =
+    noted_lows c.args.self.now.levels c.hand_on.new.levels c.set.new.self c.args.level c.args.low.now c.copy-node.result _ c.hand_on.ensures.parts c.set.ensures.parts c.hand_on.ensures.alike c.hand_on.ensures.row
+    (sym c.in-Some.ensures ∙ ap Some (sym c.copy-node.ensures)) c.set.ensures.put
+
+pub returns-clause-waits : goal.returns-clause-waits
+returns-clause-waits c =
+    noted_waits c.args.self.now.levels c.hand_on.new.levels c.set.new.self c.args.level c.args.low.now c.copy-node.result _ c.hand_on.ensures.parts c.set.ensures.parts c.hand_on.ensures.alike c.hand_on.ensures.row
+    (sym c.in-Some.ensures ∙ ap Some (sym c.copy-node.ensures)) c.set.ensures.put (ap (λ (n : Node). n.forced) c.logged.ensures)
+
+pub returns-clause-few : goal.returns-clause-few
+returns-clause-few c = few_still c.args.self.now.levels c.set.new.self c.args.level c.args.low.now (returns-clause-waits c)
+
+pub returns-then-level-height-clause-waits : goal.returns-then-level-height-clause-waits
+returns-then-level-height-clause-waits c = past_waits c.args.self.now.levels c.args.level c.args.low.now c.height-height.ensures.parts (subst (λ (n : ℕ). n ≤ c.args.level) c.height-height.ensures.value c.if-level-height.true)
+
+pub returns-in-None-clause-waits : goal.returns-in-None-clause-waits
+returns-in-None-clause-waits c = none_waits c.args.self.now.levels c.args.level c.args.low.now c.height-height.ensures.parts (sym c.in-None.ensures)

@@ -1,0 +1,6 @@
+use Rattle.std.proofs.Common.{◌∙◌, sym}
+use Rattle.db_tree.proofs.PlaceLaws.{cell_kept}
+use Rattle.db_tree.proofs.tree.DbTree.place_unlogged.Goals as goal
+
+pub returns-then-has_cell-clause-cell : goal.returns-then-has_cell-clause-cell
+returns-then-has_cell-clause-cell c = cell_kept c.args.self.now.cells c.args.name.now (sym c.has_cell.ensures ∙ c.if-has_cell.true)

@@ -1,0 +1,14 @@
+use Rattle.db_tree.specs.Content.{held_by}
+use Rattle.db_tree.proofs.Ending.{ok_then}
+use Rattle.db_tree.proofs.RootLaws.{root_put}
+use Rattle.db_tree.proofs.WaitLaws.{raised_waits}
+use Rattle.db_tree.proofs.tree.DbTree.raise_root.Goals as goal
+
+pub returns-clause-tree : goal.returns-clause-tree
+returns-clause-tree c =
+    ok_then c.raise.result
+    (λ has es base newest behind tree. root_put es base newest c.args.self.now.levels c.raise.new.self (held_by c.args.self.now.cells) c.new_root.result c.args.mark has c.new_root.ensures.last c.new_root.ensures.from behind tree)
+    c.raise.ensures.ok
+
+pub returns-clause-waits : goal.returns-clause-waits
+returns-clause-waits c = raised_waits c.raise.result c.args.self.now.levels c.raise.new.self c.new_root.result c.new_root.ensures.forced c.raise.ensures.ok c.raise.ensures.low c.raise.ensures.front

@@ -1,0 +1,18 @@
+use Rattle.std.proofs.Common.{ap, subst, sym}
+use Rattle.tree_nodes.specs.declared.node.Node.{Node}
+use Rattle.db_tree.specs.Trees.{IsMark}
+use Rattle.db_tree.specs.Content.{held_by}
+use Rattle.db_tree.proofs.Marking.{marked_or_split}
+use Rattle.db_tree.proofs.SplitLaws.{split_is_mark}
+use Rattle.db_tree.proofs.WaitLaws.{split_waits}
+use Rattle.db_tree.proofs.tree.DbTree.split_node.Goals as goal
+
+pub returns-clause-tree : goal.returns-clause-tree
+returns-clause-tree c = λ es base newest tree.
+    marked_or_split es base newest c.args.self.now.levels c.split.new.self (held_by c.args.self.now.cells) c.args.level c.over.result.0.now c.args.middle c.over.result.1.now c.split_off-right.result
+    c.over.ensures.over c.in_ok-split.ensures.ok
+    (subst (λ (n : Node). IsMark c.over.result.1.now n) (sym c.split_off-right.ensures) (split_is_mark c.over.result.1.now c.args.number c.args.slots)) tree
+
+pub returns-clause-waits : goal.returns-clause-waits
+returns-clause-waits c =
+    split_waits c.args.self.now.levels c.split.new.self c.args.level c.args.middle c.split_off-right.result c.requires.there c.requires.free c.in_ok-split.ensures.ok (ap (λ (n : Node). n.forced) c.split_off-right.ensures) c.in_ok-split.ensures.low

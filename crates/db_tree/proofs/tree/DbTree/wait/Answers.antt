@@ -1,0 +1,14 @@
+use Rattle.std.proofs.Common.{Some, ◌∙◌, ap, sym}
+use Rattle.db_tree.specs.Content.{held_by}
+use Rattle.db_tree.proofs.Records.{waits}
+use Rattle.db_tree.proofs.WaitCounts.{put_few}
+use Rattle.db_tree.proofs.tree.DbTree.wait.Goals as goal
+
+pub returns-clause-tree : goal.returns-clause-tree
+returns-clause-tree c = λ es base newest tree.
+    waits es base newest c.args.self.now.levels c.set.new.self (held_by c.args.self.now.cells) c.args.level c.args.low.now c.copy-node.result c.waiting.result c.args.mark
+    (sym c.in-Some.ensures ∙ ap Some (sym c.copy-node.ensures)) c.set.ensures.put c.waiting.ensures.last c.waiting.ensures.from tree
+
+pub returns-clause-few : goal.returns-clause-few
+returns-clause-few c =
+    put_few c.args.self.now.levels c.set.new.self c.args.level c.args.low.now c.copy-node.result c.waiting.result c.height.ensures.parts c.set.ensures.parts (sym c.in-Some.ensures ∙ ap Some (sym c.copy-node.ensures)) c.set.ensures.put

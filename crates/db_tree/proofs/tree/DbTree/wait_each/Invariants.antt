@@ -1,0 +1,13 @@
+use Rattle.std.proofs.Common.{◌≡◌, ◌≤◌, ◌+◌, ◌*◌, ℕ}
+use Rattle.je_order.specs.declared.name.Name.{Name}
+use Rattle.db_tree.specs.Images.{Placed}
+use Rattle.db_tree.specs.Trees.{IsTree}
+use Rattle.db_tree.specs.Waiting.{waiting_of, count_lows}
+use Rattle.db_tree.proofs.tree.DbTree.wait_each.Given as goal
+
+abbrev pub invariant-loop-level : goal.invariant-loop-level
+invariant-loop-level l = record {
+  few : count_lows (waiting_of l.self.levels) ≤ count_lows (waiting_of l.initial.self.levels) + 2 * l.level;
+  cells : l.self.cells ≡ l.initial.self.cells;
+  tree : (es : Placed) (base : ℕ) (newest : Name → ℕ) → IsTree es base newest l.initial.self.levels l.initial.self.cells → IsTree es base newest l.self.levels l.self.cells;
+}

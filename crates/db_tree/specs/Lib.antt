@@ -1,0 +1,12 @@
+pub mod Images
+pub mod Content
+pub mod Trees
+pub mod Laws
+pub mod Seen
+pub mod Stored
+pub mod Splitting
+pub mod Waiting
+pub mod Splits
+pub mod NodeImages
+pub mod Shapes
+pub mod Placing

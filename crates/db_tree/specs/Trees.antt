@@ -1,0 +1,65 @@
+-- How a tree stands to the log: what its nodes' last images show, and which nodes are behind.
+use Rattle.std.specs.Prelude.{◌≡◌, ◌<◌, ◌≤◌, ◌⊎◌, ℕ, zero, suc, List, Option, Some, None, if◌then◌else◌}
+use Rattle.std.specs.Ordering.{is_eq}
+use Rattle.je_order.specs.Order.{name_cmp}
+use Rattle.je_order.specs.declared.name.Name.{Name}
+use Rattle.tree_nodes.specs.declared.node.Node.{Node}
+use Rattle.tree_nodes.specs.Nodes.{NodeRow, IsOver}
+use Rattle.tree_nodes.specs.Levels.{row_of}
+use Rattle.record_map.specs.declared.cell.Cell.{Cell}
+use Rattle.node_core.specs.Changes.{is_committed}
+use Rattle.record_map.specs.Cells.{value_at, fresh, with_write}
+use Rattle.db_tree.specs.Images.{Placed, shown, shows, IsRead}
+use Rattle.db_tree.specs.Content.{held_by}
+
+-- a node is marked for a name: the log has a committed change of the name at the mark or behind it, or the
+-- mark is older than this life of the environment, which begins at `base`
+abbrev pub IsBehind : ℕ → (Name → ℕ) → Node → Name → Type 0
+IsBehind base newest node x = (from : ℕ) × (node.from ≡ Some from) × ((from ≤ newest x) ⊎ (from < base))
+
+-- a tree of a log: `newest` has the LSN of each name's newest committed change, `held` the LSN of what is committed
+pub record IsTreeOf (es : Placed) (base : ℕ) (newest : Name → ℕ) (rows : List NodeRow) (held : Name → Option ℕ) : Type 0 where
+  -- the images that a node's last image leads to are there
+  pub reads : (level : ℕ) (x : Name) (e : Name × Node) (at : ℕ) → IsOver (row_of rows level) x e → e.1.last ≡ Some at → IsRead es level at x
+  -- a BIN's last image shows what is committed, or the BIN is marked
+  pub leaf : (x : Name) (e : Name × Node) → IsOver (row_of rows 0) x e → (shown es 0 e.1.last x ≡ held x) ⊎ IsBehind base newest e.1 x
+  -- an IN's last image shows what its child's does, or the IN is marked
+  pub inner : (level : ℕ) (x : Name) (e c : Name × Node) → IsOver (row_of rows (suc level)) x e → IsOver (row_of rows level) x c →
+      (shown es (suc level) e.1.last x ≡ shown es level c.1.last x) ⊎ IsBehind base newest e.1 x
+
+-- a node is another one, perhaps with an earlier mark
+pub record IsMark (old new : Node) : Type 0 where
+  pub last : new.last ≡ old.last
+  pub from : (f : ℕ) → old.from ≡ Some f → (g : ℕ) × (new.from ≡ Some g) × (g ≤ f)
+
+-- the image at an LSN has the content of the node of a level with a low: what is committed, or what its children's last images show
+abbrev pub ShowsContent : Placed → List NodeRow → (Name → Option ℕ) → ℕ → ℕ → Name → Type 0
+ShowsContent es rows held zero at x = shows es zero at x ≡ held x
+ShowsContent es rows held (suc level) at x = (c : Name × Node) → IsOver (row_of rows level) x c → shows es (suc level) at x ≡ shown es level c.1.last x
+
+pub record IsImageOf (es : Placed) (rows : List NodeRow) (held : Name → Option ℕ) (level : ℕ) (e : Name × Node) (at : ℕ) : Type 0 where
+  pub reads : (x : Name) → IsOver (row_of rows level) x e → IsRead es level at x
+  pub shows : (x : Name) → IsOver (row_of rows level) x e → ShowsContent es rows held level at x
+
+-- the node above one has a mark at or before the mark of that one
+abbrev pub IsHandedOn : List NodeRow → ℕ → Name → Node → Type 0
+IsHandedOn rows level low node =
+    (p : Name × Node) → IsOver (row_of rows (suc level)) low p → (f : ℕ) → node.from ≡ Some f → (g : ℕ) × (p.1.from ≡ Some g) × (g ≤ f)
+
+-- a database's tree fits a log: of what its cells hold
+abbrev pub IsTree : Placed → ℕ → (Name → ℕ) → List NodeRow → List (Name × Cell) → Type 0
+IsTree es base newest rows cells = IsTreeOf es base newest rows (held_by cells)
+
+-- the cell of a name, or one of which nothing is committed
+abbrev pub cell_or_fresh : Option Cell → Cell
+cell_or_fresh None = fresh
+cell_or_fresh (Some cell) = cell
+
+-- the cells with one of a name that was not there made fresh
+abbrev pub HasCell : List (Name × Cell) → List (Name × Cell) → Name → Cell → Type 0
+HasCell old new name cell = (x : Name) → value_at x new ≡ (if is_eq (name_cmp name x) then Some cell else value_at x old)
+
+-- what a name has when its change is given up: a cell of which nothing is committed goes
+abbrev pub given_up : Option Cell → Option Cell
+given_up None = None
+given_up (Some cell) = if is_committed cell.version then Some (with_write None cell) else None

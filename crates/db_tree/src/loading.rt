@@ -1,0 +1,213 @@
+// Records and nodes that a log has are put into a tree.
+ghost use Rattle.std.specs.Prelude.{◌≡◌, ◌<◌, ◌≤◌, ◌+◌, ℕ, suc, false, length, OnOk, OnErr, IsSome, IfOk};
+ghost use Rattle.record_map.specs.Cells.{value_at, IsRising};
+ghost use Rattle.tree_nodes.specs.Levels.{row_of};
+ghost use Rattle.db_tree.specs.Trees.{HasCell};
+ghost use Rattle.db_tree.specs.Stored.{loaded_cell};
+ghost use Rattle.db_tree.specs.Shapes.{count_in};
+ghost use Rattle.db_tree.specs.Waiting.{waiting_of, count_lows};
+
+use crate::DbTree;
+use je_lsn::Lsn;
+use node_core::{Marked, Node as Image, Version};
+use record_map::{Cell, Data, SortKey};
+use std::alloc::{AllocError, Global};
+use tree_nodes::{Levels, Node};
+
+// The cell of a record that was logged at `at`.
+fn loaded_cell(alloc: Global, at: Lsn, value: &[u8]) -> Result<Cell, AllocError>
+    ensures { IfOk result (λ cell. cell ≡ loaded_cell at value.now) }
+{
+    Ok(Cell {
+        version: Version::There(at),
+        shown: Version::There(at),
+        touched: at,
+        data: Data::from_slice(alloc, value)?,
+        write: None,
+    })
+}
+
+// How many of the slots name a record or a child.
+fn count_there(slots: &[Marked]) -> u32
+    requires { length slots.now ≤ 128 }
+{
+    let mut count = 0;
+    for marked in slots {
+        match marked.slot.version {
+            Version::There(_) => count += 1,
+            Version::Deleted | Version::Unset => {}
+        }
+    }
+    count
+}
+
+// The node that its image at `at` shows.
+fn shown_node(image: &Image, at: Lsn) -> Node
+    ensures { result.forced ≡ false }
+{
+    Node {
+        number: image.number,
+        last: Some(at),
+        from: None,
+        slots: count_there(image.slots.as_slice()),
+        forced: false,
+        noted: false,
+    }
+}
+
+// The level of the node, the BINs first.
+fn level_of(image: &Image) -> usize
+    ensures { result < 256 }
+{
+    usize::from(image.level).saturating_sub(1)
+}
+
+// A node without an image, for a low whose node is still to come.
+fn unlogged(number: u64) -> Node {
+    Node {
+        number,
+        last: None,
+        from: None,
+        slots: 0,
+        forced: true,
+        noted: false,
+    }
+}
+
+// Puts a node without an image above the top.
+fn raise_one(levels: &mut Levels, alloc: Global, number: u64) -> Result<(), AllocError>
+    ensures height { OnOk result (length levels.new ≡ suc (length levels.old)) }
+    ensures few { count_lows (waiting_of levels.new) ≤ count_lows (waiting_of levels.old) + 1 }
+{
+    levels.raise(alloc, unlogged(number))
+}
+
+// Raises a tree until it has the level. It gives by how much.
+fn raise_to(
+    levels: &mut Levels,
+    alloc: Global,
+    level: usize,
+    number: u64,
+) -> Result<usize, AllocError>
+    requires { level < 256 }
+    ensures height { OnOk result (level < length levels.new) }
+    ensures few { IfOk result (λ made. count_lows (waiting_of levels.new) ≤ count_lows (waiting_of levels.old) + made) }
+    ensures made { IfOk result (λ made. made ≤ 256) }
+    ensures most { count_lows (waiting_of levels.new) ≤ count_lows (waiting_of levels.old) + 256 }
+{
+    let mut made = 0;
+    for i in levels.height()..level + 1 {
+        raise_one(levels, alloc, number)?;
+        made += 1;
+    }
+    Ok(made)
+}
+
+// Puts a node without an image under the low, where the level has none. The level below has that low. It gives how many were put.
+fn put_low(
+    levels: &mut Levels,
+    alloc: Global,
+    level: usize,
+    low: &SortKey,
+    number: u64,
+) -> Result<usize, AllocError>
+    requires there { level < length levels.old }
+    requires nested { (k : ℕ) → level ≡ suc k → IsSome (value_at low.now (row_of levels.old k)) }
+    ensures here { OnOk result (IsSome (value_at low.now (row_of levels.new level))) }
+    ensures height { OnOk result (length levels.new ≡ length levels.old) }
+    ensures few { IfOk result (λ made. count_lows (waiting_of levels.new) ≤ count_lows (waiting_of levels.old) + made) }
+    ensures made { IfOk result (λ made. made ≤ 1) }
+    ensures most { count_lows (waiting_of levels.new) ≤ count_lows (waiting_of levels.old) + 1 }
+{
+    if let Some(_) = levels.at(level, low) {
+        return Ok(0);
+    }
+    let copy = low.copy(alloc)?;
+    levels.split(level, copy, unlogged(number))?;
+    Ok(1)
+}
+
+// Puts the low on the level and on each one below. It gives how many nodes were put.
+fn put_lows(
+    levels: &mut Levels,
+    alloc: Global,
+    level: usize,
+    low: &SortKey,
+    number: u64,
+) -> Result<usize, AllocError>
+    requires there { level < length levels.old }
+    requires level { level < 256 }
+    ensures here { OnOk result (IsSome (value_at low.now (row_of levels.new level))) }
+    ensures few { IfOk result (λ made. count_lows (waiting_of levels.new) ≤ count_lows (waiting_of levels.old) + made) }
+    ensures made { IfOk result (λ made. made ≤ 256) }
+    ensures most { count_lows (waiting_of levels.new) ≤ count_lows (waiting_of levels.old) + 256 }
+{
+    let mut made = 0;
+    for k in 0..level {
+        made += put_low(levels, alloc, k, low, number)?;
+    }
+    made += put_low(levels, alloc, level, low, number)?;
+    Ok(made)
+}
+
+// Puts a node of a level under its low. The lows of a level are among those of the level below, so the low is put there too, and
+// the nodes that it gets there come later.
+fn put_node(
+    levels: &mut Levels,
+    alloc: Global,
+    level: usize,
+    low: &SortKey,
+    node: Node,
+) -> Result<usize, AllocError>
+    requires level { level < 256 }
+    requires logged { node.forced ≡ false }
+    ensures few { IfOk result (λ made. count_lows (waiting_of levels.new) ≤ count_lows (waiting_of levels.old) + made) }
+    ensures made { IfOk result (λ made. made ≤ 512) }
+    ensures most { count_lows (waiting_of levels.new) ≤ count_lows (waiting_of levels.old) + 512 }
+{
+    let raised = raise_to(levels, alloc, level, node.number)?;
+    let made = put_lows(levels, alloc, level, low, node.number)?;
+    let _height = levels.height();
+    levels.set(level, low, node);
+    Ok(raised + made)
+}
+
+impl DbTree {
+    /// Puts a node as its image at `at` shows it. No name in it is below the low. Where the levels had no such low, other nodes stand
+    /// there that wait to be logged, until their images come; it gives how many were made at most.
+    pub fn load_node(
+        &mut self,
+        alloc: Global,
+        image: &Image,
+        low: &SortKey,
+        at: Lsn,
+    ) -> Result<usize, AllocError>
+        ensures cells { self.new.cells ≡ self.old.cells }
+        ensures few { IfOk result (λ made. count_in self.new ≤ count_in self.old + made) }
+        ensures made { IfOk result (λ made. made ≤ 512) }
+        ensures most { count_in self.new ≤ count_in self.old + 512 }
+    {
+        let node = shown_node(image, at);
+        put_node(&mut self.levels, alloc, level_of(image), low, node)
+    }
+
+    /// Puts the cell of a record that was logged at `at`, which the last image of its BIN shows. Running out of memory
+    /// changes nothing.
+    pub fn load(
+        &mut self,
+        alloc: Global,
+        name: SortKey,
+        at: Lsn,
+        value: &[u8],
+    ) -> Result<(), AllocError>
+        ensures cell { OnOk result (HasCell self.old.cells self.new.cells name (loaded_cell at value.now)) }
+        ensures err { OnErr result (self.new.cells ≡ self.old.cells) }
+        ensures levels { self.new.levels ≡ self.old.levels }
+        ensures was_rising { IsRising self.old.cells }
+        ensures rising { IsRising self.new.cells }
+    {
+        let _before = self.cells.len();
+        let cell = loaded_cell(alloc, at, value)?;
+        self.cells.insert(name, cell)
+    }
+}

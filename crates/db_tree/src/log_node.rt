@@ -1,0 +1,127 @@
+// Logging a node.
+ghost use Rattle.std.specs.Prelude.{◌≡◌, ◌≤◌, ◌<◌, ◌++◌, ◌∷◌, ℕ, [], suc, Option, None, Some, IsSome, IfOk, OnErr, length};
+ghost use Rattle.je_order.specs.declared.name.Name.{Name};
+ghost use Rattle.log_entry.specs.Body.{IsEntry};
+ghost use Rattle.record_map.specs.Cells.{value_at, IsRising};
+ghost use Rattle.tree_nodes.specs.Levels.{row_of, AreParts};
+ghost use Rattle.db_tree.specs.Images.{Placed};
+ghost use Rattle.db_tree.specs.Shapes.{count_in, AreAlike};
+ghost use Rattle.db_tree.specs.Waiting.{waiting_of, still_waiting};
+ghost use Rattle.tree_nodes.specs.Lows.{lows_of};
+ghost use Rattle.db_tree.specs.Content.{bin_image, held_by};
+ghost use Rattle.db_tree.specs.Splitting.{ImagedBelow, IsInImage};
+ghost use Rattle.tree_nodes.specs.declared.node.Node.{Node as Kept};
+ghost use Rattle.db_tree.specs.Trees.{IsTreeOf, IsTree, IsImageOf, IsHandedOn};
+
+use crate::{DbTree, TreeLog};
+use je_lsn::Lsn;
+use log_entry::Entry;
+use record_map::SortKey;
+use record_tree::TreeErr;
+use tree_nodes::{Levels, Node};
+
+// The node of a level with the low.
+fn node_at(levels: &Levels, level: usize, low: &SortKey) -> Node
+    requires there { IsSome (value_at low.now (row_of levels.now level)) }
+    requires level { level < length levels.now }
+    ensures { value_at low.now (row_of levels.now level) ≡ Some result }
+{
+    match levels.at(level, low) {
+        Some(node) => node.copy(),
+        None => unreachable!(),
+    }
+}
+
+// Hands the mark of a node on to the node above it, where there is one.
+fn hand_on(levels: &mut Levels, level: usize, low: &SortKey, node: &Node)
+    requires { level < length levels.old }
+    ensures handed { IsHandedOn levels.new level low.now node.now }
+    ensures tree { (es : Placed) (base : ℕ) (newest : Name → ℕ) (held : Name → Option ℕ) → IsTreeOf es base newest levels.old held → IsTreeOf es base newest levels.new held }
+    ensures row { row_of levels.new level ≡ row_of levels.old level }
+    ensures others { (k : ℕ) → (k ≡ suc level → ⊥) → row_of levels.new k ≡ row_of levels.old k }
+    ensures height { length levels.new ≡ length levels.old }
+    ensures parts { AreParts levels.new }
+    ensures alike { AreAlike levels.old levels.new }
+{
+    let height = levels.height();
+    let Some(from) = node.from else {
+        return;
+    };
+    if level + 1 >= height {
+        return;
+    }
+    levels.mark(level + 1, low, from);
+}
+
+impl DbTree {
+    /// Logs an image of the BIN with the low: it is the BIN's last image, and its mark goes to the node
+    /// above it. The tree stays as it was where the log fails.
+    pub fn log_bin<L: TreeLog>(
+        &mut self,
+        log: &mut L,
+        low: &SortKey,
+        entry: &Entry,
+    ) -> Result<Lsn, TreeErr>
+        requires there { IsSome (value_at low.now (row_of self.old.levels 0)) }
+        requires entry { IsEntry entry.now }
+        requires image { (db : ℕ) × (number : ℕ) × (entry.now ≡ bin_image db number low.now (row_of self.old.levels 0) self.old.cells) }
+        ensures tree { IfOk result (λ at. (es : Placed) (base : ℕ) (newest : Name → ℕ) → L.is_log log.old es → IsTree es base newest self.old.levels self.old.cells → IsTree (es ++ (at, entry.now) ∷ []) base newest self.new.levels self.new.cells) }
+        ensures log { IfOk result (λ at. (es : Placed) → L.is_log log.old es → L.is_log log.new (es ++ (at, entry.now) ∷ [])) }
+        ensures cells { self.new.cells ≡ self.old.cells }
+        ensures err { OnErr result (self.new.levels ≡ self.old.levels) }
+    {
+        let _height = self.levels.height();
+        let _len = self.cells.len();
+        let at = log.append(entry)?;
+        let node = node_at(&self.levels, 0, low);
+        hand_on(&mut self.levels, 0, low, &node);
+        self.levels.set(0, low, node.logged(at));
+        Ok(at)
+    }
+
+    /// Logs an image of the IN of the level with the low, whose children all have an image: it is the IN's last image, and its mark goes
+    /// to the node above it. The tree stays as it was where the log fails.
+    pub fn log_in<L: TreeLog>(
+        &mut self,
+        log: &mut L,
+        level: usize,
+        low: &SortKey,
+        entry: &Entry,
+    ) -> Result<Lsn, TreeErr>
+        requires level { level < length self.old.levels }
+        requires there { IsSome (value_at low.now (row_of self.old.levels level)) }
+        requires entry { IsEntry entry.now }
+        requires image { (k : ℕ) × (level ≡ suc k) × ImagedBelow self.old.levels level k low.now × IsInImage self.old.levels level k low.now entry.now }
+        ensures tree { IfOk result (λ at. (es : Placed) (base : ℕ) (newest : Name → ℕ) → L.is_log log.old es → IsTree es base newest self.old.levels self.old.cells → IsTree (es ++ (at, entry.now) ∷ []) base newest self.new.levels self.new.cells) }
+        ensures log { IfOk result (λ at. (es : Placed) → L.is_log log.old es → L.is_log log.new (es ++ (at, entry.now) ∷ [])) }
+        ensures cells { self.new.cells ≡ self.old.cells }
+        ensures err { OnErr result (self.new.levels ≡ self.old.levels) }
+    {
+        let _height = self.levels.height();
+        let at = log.append(entry)?;
+        let node = node_at(&self.levels, level, low);
+        hand_on(&mut self.levels, level, low, &node);
+        self.levels.set(level, low, node.logged(at));
+        Ok(at)
+    }
+
+    /// The last image of the node of a level with the low is at `at`; its mark goes to the node above it.
+    pub fn note_image(&mut self, level: usize, low: &SortKey, at: Lsn)
+        ensures cells { self.new.cells ≡ self.old.cells }
+        ensures lows { lows_of self.new.levels ≡ lows_of self.old.levels }
+        ensures waits { waiting_of self.new.levels ≡ still_waiting (record { level = level; low = low.now } ∷ []) 0 (waiting_of self.old.levels) }
+        ensures few { count_in self.new ≤ count_in self.old }
+        ensures tree { (es : Placed) (base : ℕ) (newest : Name → ℕ) → ((n : Kept) → value_at low.now (row_of self.old.levels level) ≡ Some n → IsImageOf es self.old.levels (held_by self.old.cells) level (low.now, n) at) → IsTree es base newest self.old.levels self.old.cells → IsTree es base newest self.new.levels self.new.cells }
+    {
+        let height = self.levels.height();
+        if level >= height {
+            return;
+        }
+        let node = match self.levels.at(level, low) {
+            Some(node) => node.copy(),
+            None => return,
+        };
+        hand_on(&mut self.levels, level, low, &node);
+        self.levels.set(level, low, node.logged(at));
+    }
+}

@@ -1,0 +1,326 @@
+// The tree of one database.
+ghost use Rattle.std.specs.Prelude.{◌≡◌, ◌≤◌, ◌++◌, ◌∷◌, ℕ, true, [], Option, None, Some, IsSome, IfOk, OnOk, OnErr, option_map, if◌then◌else◌};
+ghost use Rattle.std.specs.Ordering.{is_eq};
+ghost use Rattle.je_order.specs.Order.{name_cmp};
+ghost use Rattle.je_order.specs.declared.name.Name.{Name};
+ghost use Rattle.std.specs.BTreeMap.{insert_entry};
+ghost use Rattle.record_map.specs.Cells.{value_at, fresh, with_write, committed, IsRising};
+ghost use Rattle.db_tree.specs.Images.{Placed};
+ghost use Rattle.tree_nodes.specs.Nodes.{least};
+ghost use Rattle.tree_nodes.specs.Levels.{row_of};
+ghost use Rattle.tree_nodes.specs.Lows.{lows_of};
+ghost use Rattle.db_tree.specs.Content.{slot_for, record_slots, bin_image};
+ghost use Rattle.db_tree.specs.Trees.{IsTree, HasCell, cell_or_fresh, given_up};
+ghost use Rattle.db_tree.specs.Seen.{occupied, seen, with_change, with_value};
+ghost use Rattle.db_tree.specs.Stored.{with_logged};
+ghost use Rattle.db_tree.specs.Stored.{HasLogged, loaded_cell};
+ghost use Rattle.record_tree.specs.Occupied.{after_commit, after_abort};
+ghost use Rattle.db_tree.specs.Shapes.{shape_in, new_shape, AreAlike};
+
+use je_lsn::Lsn;
+use je_order::{List, Octets};
+use log_entry::{Entry, RecordSlot};
+use node_core::Version;
+use record_map::{Cell, Cells, Data, SortKey, Write};
+use std::alloc::{AllocError, Global};
+use std::collections::btree_map::Range;
+use tree_nodes::{Levels, Node};
+
+/// The tree of one database: its records, and the nodes that part them.
+#[derive(Drop)]
+pub struct DbTree {
+    pub cells: Cells,
+    pub levels: Levels,
+}
+
+// Makes a cell for the name where it has none.
+fn make_cell(cells: &mut Cells, alloc: Global, name: &SortKey) -> Result<(), AllocError>
+    ensures cell { OnOk result (HasCell cells.old cells.new name.now (cell_or_fresh (value_at name.now cells.old))) }
+    ensures list { OnOk result (value_at name.now cells.old ≡ None → cells.new ≡ insert_entry name_cmp cells.old name.now fresh) }
+    ensures err { OnErr result (cells.new ≡ cells.old) }
+{
+    match cells.get(name) {
+        Some(_) => Ok(()),
+        None => cells.insert(name.copy(alloc)?, Cell::new()),
+    }
+}
+
+// Sets what is committed of a name that has a cell: the record that was logged at `at`, or none.
+fn set_logged(
+    cells: &mut Cells,
+    name: &SortKey,
+    value: Option<Octets>,
+    at: Lsn,
+    commit: Lsn,
+    last: &Option<Lsn>,
+)
+    requires { IsSome (value_at name.now cells.old) }
+    ensures others { (x : Name) → value_at x cells.new ≡ (if is_eq (name_cmp name.now x) then option_map (with_logged value at commit last.now) (value_at name.now cells.old) else value_at x cells.old) }
+    ensures rising { IsRising cells.new }
+{
+    match value {
+        Some(octets) => {
+            cells.set_version(name, Version::There(at), Data::new(octets), commit, last);
+        }
+        None => cells.set_version(name, Version::Deleted, Data::empty(), commit, last),
+    }
+}
+
+// An LSN at which a change that was logged at `at` counts as committed: behind the BIN's last image, which may be
+// behind the change and before its Commit. No image is logged before the redo is over.
+fn behind(last: &Option<Lsn>, at: Lsn) -> Lsn {
+    match last {
+        Some(image) if *image >= at => Lsn::from_u64(image.as_u64().saturating_add(1)),
+        _ => at,
+    }
+}
+
+// Whether the name has a cell that says nothing.
+fn is_unused(cells: &Cells, name: &SortKey) -> bool
+    ensures { result ≡ true → seen (value_at name.now cells.now) ≡ None }
+{
+    match cells.get(name) {
+        Some(cell) => match (cell.version, &cell.write) {
+            (Version::Unset, None) => true,
+            _ => false,
+        },
+        None => false,
+    }
+}
+
+// Gives the change of the name up.
+fn give_up(cells: &mut Cells, name: &SortKey)
+    ensures { (x : Name) → value_at x cells.new ≡ (if is_eq (name_cmp name.now x) then given_up (value_at name.now cells.old) else value_at x cells.old) }
+{
+    let is_committed = match cells.get(name) {
+        Some(cell) => cell.version.is_committed(),
+        None => return,
+    };
+    if is_committed {
+        cells.set_write(name, None);
+        return;
+    }
+    cells.remove(name);
+}
+
+// Puts the slot of a cell in its BIN's image behind the others.
+fn push_slot(
+    slots: &mut Vec<RecordSlot>,
+    alloc: Global,
+    name: &SortKey,
+    cell: &Cell,
+) -> Result<(), AllocError>
+    ensures { OnOk result (slots.new.items ≡ slots.old.items ++ slot_for name.now cell.now.version) }
+{
+    let lsn = match cell.version {
+        Version::There(lsn) => Some(lsn),
+        Version::Deleted => None,
+        Version::Unset => return Ok(()),
+    };
+    slots.push(RecordSlot {
+        name: name.to_name(alloc)?,
+        lsn,
+    })?;
+    Ok(())
+}
+
+// The slots of cells in their BIN's image.
+pub(crate) fn record_slots(
+    alloc: Global,
+    cells: Range<'_, SortKey, Cell>,
+) -> Result<List<RecordSlot>, AllocError>
+    ensures { IfOk result (λ slots. slots ≡ record_slots cells.entry) }
+{
+    let mut slots = Vec::new(alloc);
+    for (name, cell) in cells {
+        push_slot(&mut slots, alloc, name, cell)?;
+    }
+    Ok(List::from_vec(slots))
+}
+
+impl DbTree {
+    /// The tree of a new database: a root without records, which has no image.
+    pub fn new(alloc: Global, number: u64) -> Result<DbTree, AllocError>
+        ensures tree { IfOk result (λ tree. (es : Placed) (base : ℕ) (newest : Name → ℕ) → IsTree es base newest tree.levels tree.cells) }
+        ensures cells { IfOk result (λ tree. tree.cells ≡ []) }
+        ensures lows { IfOk result (λ tree. lows_of tree.levels ≡ (least ∷ []) ∷ []) }
+        ensures shape { IfOk result (λ tree. shape_in tree ≡ new_shape) }
+    {
+        let root = Node {
+            number,
+            last: None,
+            from: None,
+            slots: 0,
+            forced: false,
+            noted: false,
+        };
+        Ok(DbTree {
+            cells: Cells::new(alloc),
+            levels: Levels::new(alloc, root)?,
+        })
+    }
+
+    /// Makes a cell for the name where it has none.
+    pub fn put_cell(&mut self, alloc: Global, name: &SortKey) -> Result<(), AllocError>
+        ensures there { OnOk result (IsSome (value_at name.now self.new.cells)) }
+        ensures same { occupied self.new.cells ≡ occupied self.old.cells }
+        ensures kept { (x : Name) → IsSome (value_at x self.old.cells) → IsSome (value_at x self.new.cells) }
+        ensures cell { OnOk result (HasCell self.old.cells self.new.cells name.now (cell_or_fresh (value_at name.now self.old.cells))) }
+        ensures list { OnOk result (value_at name.now self.old.cells ≡ None → self.new.cells ≡ insert_entry name_cmp self.old.cells name.now fresh) }
+        ensures err { OnErr result (self.new.cells ≡ self.old.cells) }
+        ensures tree { OnOk result ((es : Placed) (base : ℕ) (newest : Name → ℕ) → IsTree es base newest self.old.levels self.old.cells → IsTree es base newest self.new.levels self.new.cells) }
+        ensures levels { self.new.levels ≡ self.old.levels }
+    {
+        let _before = self.cells.len();
+        make_cell(&mut self.cells, alloc, name)?;
+        let _after = self.cells.len();
+        Ok(())
+    }
+
+    /// Takes the name's cell out where it says nothing.
+    pub fn drop_unused(&mut self, name: &SortKey)
+        ensures same { occupied self.new.cells ≡ occupied self.old.cells }
+        ensures levels { self.new.levels ≡ self.old.levels }
+    {
+        let _len = self.cells.len();
+        if is_unused(&self.cells, name) {
+            self.cells.remove(name);
+        }
+    }
+
+    /// Gives the name's cell a change.
+    pub fn put_write(&mut self, name: &SortKey, write: Box<Write>)
+        requires { IsSome (value_at name.now self.old.cells) }
+        ensures cells { (x : Name) → value_at x (occupied self.new.cells) ≡ (if is_eq (name_cmp name.now x) then with_change write.value (value_at x (occupied self.old.cells)) else value_at x (occupied self.old.cells)) }
+        ensures kept { (x : Name) → IsSome (value_at x self.old.cells) → IsSome (value_at x self.new.cells) }
+        ensures rising { IsRising (occupied self.new.cells) }
+        ensures levels { self.new.levels ≡ self.old.levels }
+    {
+        let _len = self.cells.len();
+        self.cells.set_write(name, Some(write));
+    }
+
+    /// Commits the name's change, by the Commit at `at`.
+    pub fn commit_write(&mut self, name: &SortKey, at: Lsn)
+        ensures cells { (x : Name) → value_at x (occupied self.new.cells) ≡ (if is_eq (name_cmp name.now x) then after_commit (value_at x (occupied self.old.cells)) else value_at x (occupied self.old.cells)) }
+        ensures rising { IsRising (occupied self.new.cells) }
+        ensures waits { AreAlike self.old.levels self.new.levels }
+    {
+        let _before = self.cells.len();
+        match self.written_at(name, at) {
+            Some(from) => self.commit(name, at, from),
+            None => return,
+        }
+        let _after = self.cells.len();
+    }
+
+    /// Sets what is committed of the name: the record that was logged at `at`, or none. Its BIN is marked: the
+    /// log has the change from `first` on, and the BIN's last image lacks it. Running out of memory changes nothing.
+    pub fn redo(
+        &mut self,
+        alloc: Global,
+        name: &SortKey,
+        value: Option<Octets>,
+        first: Lsn,
+        at: Lsn,
+    ) -> Result<(), AllocError>
+        ensures cells { OnOk result ((x : Name) → value_at x (occupied self.new.cells) ≡ (if is_eq (name_cmp name.now x) then with_value value (value_at x (occupied self.old.cells)) else value_at x (occupied self.old.cells))) }
+        ensures logged { OnOk result (HasLogged self.old.cells self.new.cells name.now value at) }
+        ensures was_rising { IsRising self.old.cells }
+        ensures rising { IsRising self.new.cells }
+        ensures err { OnErr result (self.new.cells ≡ self.old.cells) }
+        ensures waits { AreAlike self.old.levels self.new.levels }
+        ensures tree { (es : Placed) (base : ℕ) (newest : Name → ℕ) → first ≤ newest name.now → IsTree es base newest self.old.levels self.old.cells → IsTree es base newest self.new.levels self.new.cells }
+    {
+        let _height = self.levels.height();
+        let _before = self.cells.len();
+        make_cell(&mut self.cells, alloc, name)?;
+        let _made = self.cells.len();
+        let (_low, node) = self.levels.over(0, name);
+        let last = node.last;
+        self.levels.mark(0, name, first);
+        let commit = behind(&last, at);
+        set_logged(&mut self.cells, name, value, at, commit, &last);
+        Ok(())
+    }
+
+    // The LSN of the name's change, where it has a cell.
+    fn written_at(&self, name: &SortKey, at: Lsn) -> Option<Lsn>
+        ensures there { IsSome result → IsSome (value_at name.now self.now.cells) }
+        ensures none { result ≡ None → value_at name.now self.now.cells ≡ None }
+    {
+        match self.cells.get(name) {
+            Some(cell) => match &cell.write {
+                Some(write) => Some(write.at),
+                None => Some(at),
+            },
+            None => None,
+        }
+    }
+
+    /// Gives the name a change that is not committed. Running out of memory changes nothing, and does
+    /// not come where the name has a cell.
+    pub fn set_write(
+        &mut self,
+        alloc: Global,
+        name: &SortKey,
+        write: Box<Write>,
+    ) -> Result<(), AllocError>
+        ensures cells { OnOk result (HasCell self.old.cells self.new.cells name.now (with_write (Some write) (cell_or_fresh (value_at name.now self.old.cells)))) }
+        ensures tree { (es : Placed) (base : ℕ) (newest : Name → ℕ) → IsTree es base newest self.old.levels self.old.cells → IsTree es base newest self.new.levels self.new.cells }
+        ensures levels { self.new.levels ≡ self.old.levels }
+        ensures err { OnErr result (self.new.cells ≡ self.old.cells) }
+    {
+        make_cell(&mut self.cells, alloc, name)?;
+        self.cells.set_write(name, Some(write));
+        Ok(())
+    }
+
+    /// Commits the change of the name, by the Commit at `at`, and marks its BIN: the log has a committed
+    /// change at `from` that the BIN's last image lacks. It takes no memory.
+    pub fn commit(&mut self, name: &SortKey, at: Lsn, from: Lsn)
+        requires { IsSome (value_at name.now self.old.cells) }
+        ensures cells { (last : Option ℕ) × ((x : Name) → value_at x self.new.cells ≡ (if is_eq (name_cmp name.now x) then option_map (committed at last) (value_at name.now self.old.cells) else value_at x self.old.cells)) }
+        ensures waits { AreAlike self.old.levels self.new.levels }
+        ensures tree { (es : Placed) (base : ℕ) (newest : Name → ℕ) → from ≤ newest name.now → IsTree es base newest self.old.levels self.old.cells → IsTree es base newest self.new.levels self.new.cells }
+    {
+        let _height = self.levels.height();
+        let (_low, node) = self.levels.over(0, name);
+        let last = node.last;
+        self.levels.mark(0, name, from);
+        self.cells.commit(name, at, &last);
+    }
+
+    /// Gives the change of the name up: a cell of which nothing is committed goes. It takes no memory.
+    pub fn abort(&mut self, name: &SortKey)
+        ensures seen { (x : Name) → value_at x (occupied self.new.cells) ≡ (if is_eq (name_cmp name.now x) then after_abort (value_at x (occupied self.old.cells)) else value_at x (occupied self.old.cells)) }
+        ensures cells { (x : Name) → value_at x self.new.cells ≡ (if is_eq (name_cmp name.now x) then given_up (value_at name.now self.old.cells) else value_at x self.old.cells) }
+        ensures tree { (es : Placed) (base : ℕ) (newest : Name → ℕ) → IsTree es base newest self.old.levels self.old.cells → IsTree es base newest self.new.levels self.new.cells }
+        ensures levels { self.new.levels ≡ self.old.levels }
+        ensures rising { IsRising (occupied self.new.cells) }
+    {
+        let _before = self.cells.len();
+        give_up(&mut self.cells, name);
+        let _after = self.cells.len();
+    }
+
+    /// The image of the BIN with the low.
+    pub fn bin_entry(
+        &self,
+        alloc: Global,
+        db: u32,
+        number: u64,
+        low: &SortKey,
+    ) -> Result<Entry, AllocError>
+        ensures { IfOk result (λ entry. entry ≡ bin_image db number low.now (row_of self.now.levels 0) self.now.cells) }
+    {
+        let _height = self.levels.height();
+        let high = self.levels.upper_bound(0, low);
+        let slots = record_slots(alloc, self.cells.between(low, high))?;
+        Ok(Entry::Bin {
+            db,
+            node: number,
+            slots,
+        })
+    }
+}

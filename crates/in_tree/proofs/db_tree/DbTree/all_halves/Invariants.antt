@@ -1,6 +1,0 @@
-use Rattle.tree_nodes.specs.Lows.{lows_of}
-use Rattle.in_tree.proofs.HalvesLaws.{HalvesLeft}
-use Rattle.in_tree.proofs.db_tree.DbTree.all_halves.Given as goal
-
-abbrev pub invariant-loop-level : goal.invariant-loop-level
-invariant-loop-level l = HalvesLeft l.self.cells (lows_of l.self.levels) l.level l.splits l.halves.items

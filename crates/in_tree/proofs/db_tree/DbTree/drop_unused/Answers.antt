@@ -1,7 +1,0 @@
-use Rattle.in_tree.proofs.Seen.{same_seen, taken_seen}
-use Rattle.in_tree.proofs.db_tree.DbTree.drop_unused.Goals as goal
-
-pub returns-then-is_unused : goal.returns-then-is_unused
-returns-then-is_unused c =
-    same_seen c.args.self.now.cells c.remove.new.self c.len-len.ensures.rising c.remove.ensures.rising
-    (taken_seen c.args.self.now.cells c.remove.new.self c.args.name.now c.remove.ensures.others (c.is_unused.ensures c.if-is_unused.true))

@@ -1,5 +1,0 @@
-use Rattle.in_tree.proofs.GrowLaws.{SplitsLeft}
-use Rattle.in_tree.proofs.db_tree.DbTree.split_each.Given as goal
-
-abbrev pub invariant-loop-level : goal.invariant-loop-level
-invariant-loop-level l = SplitsLeft l.initial.self.levels l.self.levels l.initial.self.cells l.self.cells l.level l.splits

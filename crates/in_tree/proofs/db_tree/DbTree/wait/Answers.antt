@@ -1,9 +1,0 @@
-use Rattle.std.proofs.Common.{Some, ◌∙◌, ap, sym}
-use Rattle.in_tree.specs.Content.{held_by}
-use Rattle.in_tree.proofs.Records.{waits}
-use Rattle.in_tree.proofs.db_tree.DbTree.wait.Goals as goal
-
-pub returns-clause-tree : goal.returns-clause-tree
-returns-clause-tree c = λ es base newest tree.
-    waits es base newest c.args.self.now.levels c.set.new.self (held_by c.args.self.now.cells) c.args.level c.args.low.now c.copy-node.result c.waiting.result c.args.mark
-    (sym c.in-Some.ensures ∙ ap Some (sym c.copy-node.ensures)) c.set.ensures.put c.waiting.ensures.last c.waiting.ensures.from tree

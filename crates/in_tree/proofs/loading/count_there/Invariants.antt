@@ -1,8 +1,0 @@
-use Rattle.std.proofs.Common.{◌≤◌}
-use Rattle.in_tree.proofs.loading.count_there.Given as goal
-
-abbrev pub invariant-loop-marked : goal.invariant-loop-marked
-invariant-loop-marked l = record {
-  few : l.count ≤ l.marked-index;
-  end : l.marked-index-end ≤ 128;
-}
