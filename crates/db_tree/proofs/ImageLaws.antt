@@ -107,7 +107,7 @@ sizes_are db rows shape nodes images same are = sizes_by db rows shape images sa
 
 -- ---- images of nodes that wait no more
 
-number_kept : (t b : Bool) (o : Option Node) → number_in (option_map (forced_if t b) o) ≡ number_in o
+pub number_kept : (t b : Bool) (o : Option Node) → number_in (option_map (forced_if t b) o) ≡ number_in o
 number_kept t b None = refl
 number_kept true b (Some n) = refl
 number_kept false b (Some n) = refl

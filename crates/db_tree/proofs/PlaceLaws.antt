@@ -4,30 +4,32 @@ use Rattle.std.specs.BTreeMap.{insert_entry}
 use Rattle.std.specs.List.{AllByRecursion}
 use Rattle.std.proofs.lemmas.Bool.{eq-eqb, le-ltb, true≢false}
 use Rattle.std.proofs.lemmas.List.{length-map}
+use Rattle.std.proofs.lemmas.Option.{none-some}
 use Rattle.std.specs.Map.{keys_of}
 use Rattle.je_order.specs.Order.{name_cmp}
 use Rattle.je_order.specs.declared.name.Name.{Name}
 use Rattle.record_map.specs.declared.cell.Cell.{Cell}
 use Rattle.record_map.specs.Cells.{value_at, fresh, IsRising}
 use Rattle.record_map.proofs.NameLaws.{same_or_other, other_stays, same_gets}
-use Rattle.tree_nodes.specs.Nodes.{NodeRow}
-use Rattle.tree_nodes.specs.Levels.{AreParts}
+use Rattle.tree_nodes.specs.Nodes.{NodeRow, least}
+use Rattle.tree_nodes.specs.Levels.{row_of, AreParts}
 use Rattle.tree_nodes.specs.Lows.{lows_of}
 use Rattle.db_tree.specs.declared.node_at.NodeAt.{NodeAt}
 use Rattle.db_tree.specs.declared.node_image.NodeImage.{NodeImage}
 use Rattle.db_tree.specs.declared.node_split.NodeSplit.{NodeSplit}
 use Rattle.db_tree.specs.declared.slot_room.SlotRoom.{SlotRoom}
 use Rattle.db_tree.specs.declared.tree.DbTree.{DbTree}
-use Rattle.db_tree.specs.NodeImages.{node_of, sizes_in, AreLoggable, AreNodeImages}
+use Rattle.db_tree.specs.NodeImages.{number_in, number_of, node_of, sizes_in, AreLoggable, AreNodeImages}
+use Rattle.db_tree.specs.Numbers.{IsRootNumbered, AreNewNumbered}
 use Rattle.db_tree.specs.Placing.{AreTaken, IsFilled, IsPlacedBy}
 use Rattle.db_tree.specs.Seen.{occupied}
 use Rattle.db_tree.specs.Shapes.{shape_in, AreForced, IsCellMade, IsPlaced, IsUndoable}
 use Rattle.db_tree.specs.Splits.{is_raised, lows_behind, one_if, splits_of, passes_top, has_slot, shape_behind, nodes_logged, nodes_made, made_for, logged_by, node_size}
 use Rattle.db_tree.specs.Splitting.{AreGrown}
 use Rattle.db_tree.specs.Trees.{HasCell, cell_or_fresh}
-use Rattle.db_tree.specs.Waiting.{logged_for, still_waiting, waiting_of, waiting_raised, waits_at, count_lows}
+use Rattle.db_tree.specs.Waiting.{is_among, logged_for, still_waiting, waiting_of, waiting_raised, waits_at, count_lows}
 use Rattle.db_tree.proofs.ForcedLaws.{force_lows, clear_waiting, force_begin}
-use Rattle.db_tree.proofs.ImageLaws.{images_kept, sizes_are}
+use Rattle.db_tree.proofs.ImageLaws.{images_kept, sizes_are, number_kept}
 use Rattle.db_tree.proofs.Records.{kept_cell}
 use Rattle.db_tree.proofs.Seen.{same_lists}
 use Rattle.db_tree.proofs.ShapeLaws.{shape_is}
@@ -223,3 +225,25 @@ levels_back name room before now slice splits levels restored new is images part
         back is.mid
         (subst (λ (rows : List NodeRow). AreForced false (map node_of slice) is.mid rows) (sym same) (subst (λ (l : List NodeImage). AreForced false (map node_of l) is.mid now.levels) (sym images) is.cleared))
         (subst (AllByRecursion (λ image. image.waited ≡ waits_at is.mid image.level image.low)) (sym images) is.waited)
+
+-- ---- the numbers of new nodes
+
+pub numbers_kept : (first : ℕ) (room : SlotRoom) (second : List NodeSplit) (raised : Bool) (nodes : List NodeAt) (mid new : List NodeRow) → second ≡ room.splits.items → room.is_raised ≡ raised → AreForced false nodes mid new → AreNewNumbered first second raised mid →
+    AreNewNumbered first room.splits.items room.is_raised new
+numbers_kept first room second raised nodes mid new is same are numbers =
+    subst (λ (l : List NodeSplit). AreNewNumbered first l room.is_raised new) is (subst (λ (t : Bool). AreNewNumbered first second t new) (sym same) moved)
+  where
+    kept : (level : ℕ) (low : Name) → number_of new level low ≡ number_of mid level low
+    kept level low = ap number_in (are.each level low) ∙ number_kept (is_among nodes level low) false (value_at low (row_of mid level))
+
+    root : (t : Bool) → IsRootNumbered t first (length second) mid → IsRootNumbered t first (length second) new
+    root true h = kept (length second) least ∙ h
+    root false h = tt
+
+    moved : AreNewNumbered first second raised new
+    moved = record { halves = λ level split at. kept level split.middle ∙ numbers.halves level split at; root = root raised numbers.root }
+
+pub no_numbers : (first : ℕ) (room : SlotRoom) (rows : List NodeRow) → room.splits.items ≡ [] → room.is_raised ≡ false → AreNewNumbered first room.splits.items room.is_raised rows
+no_numbers first room rows splits raised =
+    subst (λ (l : List NodeSplit). AreNewNumbered first l room.is_raised rows) (sym splits)
+    (subst (λ (t : Bool). AreNewNumbered first [] t rows) (sym raised) (record { halves = λ level split at. absurd (none-some split at); root = tt }))

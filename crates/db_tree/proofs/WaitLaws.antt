@@ -16,6 +16,7 @@ use Rattle.tree_nodes.specs.Nodes.{NodeRow, least, HasPut, marked}
 use Rattle.tree_nodes.specs.Levels.{row_of, AreParts, HasPutAt, HasMarkedAt, HasRaised}
 use Rattle.tree_nodes.specs.Lows.{lows_of, lows_at, with_low, with_root}
 use Rattle.tree_nodes.proofs.LowLaws.{lows_at_is}
+use Rattle.db_tree.specs.NodeImages.{number_in, number_of}
 use Rattle.db_tree.specs.Shapes.{AreAlike}
 use Rattle.db_tree.specs.Waiting.{is_forced, waits_in, waits_at, waiting_in, waiting_of, waiting_raised}
 use Rattle.db_tree.proofs.Seen.{same_lists}
@@ -216,3 +217,16 @@ raised_waits (Err e) old new root quiet has lows front = tt
 -- with a new root or without one
 pub grown_waits : (t raised : Bool) (old mid : List (List Name)) → raised ≡ t → mid ≡ waiting_raised t old → mid ≡ waiting_raised raised old
 grown_waits t raised old mid is grown = grown ∙ ap (λ (s : Bool). waiting_raised s old) (sym is)
+
+-- ---- numbers
+
+pub put_number : (old new : List NodeRow) (level : ℕ) (low : Name) (n : Node) → HasPutAt old new level low n → number_of new level low ≡ n.number
+put_number old new level low n put = ap number_in (put.here low ∙ same_gets low (Some n) (value_at low (row_of old level)))
+
+pub root_number : {X E : Type 0} (r : Result X E) (old new : List NodeRow) (root : Node) (number : ℕ) → root.number ≡ number → OnOk r (HasRaised old new root) → OnOk r (number_of new (length old) least ≡ number)
+root_number (Ok x) old new root number is has = ap number_in (has.top least ∙ same_gets least (Some root) (value_at least [])) ∙ is
+root_number (Err e) old new root number is has = tt
+
+pub root_below : {X E : Type 0} (r : Result X E) (old new : List NodeRow) (root : Node) → OnOk r (HasRaised old new root) → OnOk r ((k : ℕ) → k < length old → row_of new k ≡ row_of old k)
+root_below (Ok x) old new root has = has.below
+root_below (Err e) old new root has = tt

@@ -10,3 +10,4 @@ pub mod Splits
 pub mod NodeImages
 pub mod Shapes
 pub mod Placing
+pub mod Numbers

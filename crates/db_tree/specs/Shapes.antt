@@ -39,23 +39,6 @@ count_in tree = count_waiting (shape_in tree)
 abbrev pub made_by : SlotRoom → ℕ
 made_by room = length room.splits.items + one_if room.is_raised
 
--- ---- the numbers of new nodes
-
--- the new nodes of splits have the numbers from one on, level by level
-abbrev pub AreNumbered : ℕ → ℕ → List NodeSplit → List NodeRow → Type 0
-AreNumbered number level [] rows = Unit {0}
-AreNumbered number level (split ∷ splits) rows = (number_of rows level split.middle ≡ number) × AreNumbered (suc number) (suc level) splits rows
-
--- a new root has a number
-abbrev pub IsRootNumbered : Bool → ℕ → ℕ → List NodeRow → Type 0
-IsRootNumbered true number level rows = number_of rows level least ≡ number
-IsRootNumbered false number level rows = Unit {0}
-
--- the new nodes have the numbers from one on, and a new root the next one
-pub record AreNewNumbered (first : ℕ) (splits : List NodeSplit) (raised : Bool) (rows : List NodeRow) : Type 0 where
-  pub halves : AreNumbered first 0 splits rows
-  pub root : IsRootNumbered raised (first + length splits) (length splits) rows
-
 -- ---- a slot that can be taken back
 
 -- a node that waits to be logged, or does not

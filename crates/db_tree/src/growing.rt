@@ -8,6 +8,8 @@ ghost use Rattle.tree_nodes.specs.Nodes.{NodeRow, least};
 ghost use Rattle.tree_nodes.specs.Levels.{row_of};
 ghost use Rattle.tree_nodes.specs.Lows.{lows_of, with_low, with_root};
 ghost use Rattle.db_tree.specs.Images.{Placed};
+ghost use Rattle.db_tree.specs.NodeImages.{number_of};
+ghost use Rattle.db_tree.specs.Numbers.{AreNumbered, AreNewNumbered};
 ghost use Rattle.db_tree.specs.Splitting.{IsSplitAt, AreSplit, IsRaisedFrom, AreGrown};
 ghost use Rattle.db_tree.specs.Splits.{lows_split, lows_behind, is_raised};
 ghost use Rattle.db_tree.specs.Trees.{IsTree};
@@ -43,6 +45,7 @@ fn new_root(number: u64, mark: Lsn) -> Node
     ensures last { result.last ≡ None }
     ensures from { result.from ≡ Some mark }
     ensures forced { result.forced ≡ false }
+    ensures number { result.number ≡ number }
 {
     Node {
         number,
@@ -109,6 +112,7 @@ impl DbTree {
     ) -> Result<(), AllocError>
         ensures lows { OnOk result (lows_of self.new.levels ≡ with_low level middle.now (lows_of self.old.levels)) }
         ensures waits { OnOk result (waiting_of self.new.levels ≡ waiting_of self.old.levels) }
+        ensures number { OnOk result (number_of self.new.levels level middle.now ≡ number) }
         ensures cells { self.new.cells ≡ self.old.cells }
         ensures tree { (es : Placed) (base : ℕ) (newest : Name → ℕ) → IsTree es base newest self.old.levels self.old.cells → IsTree es base newest self.new.levels self.new.cells }
         ensures split { OnOk result (IsSplitAt self.old.levels self.new.levels level middle.now) }
@@ -154,6 +158,8 @@ impl DbTree {
     ) -> Result<(), AllocError>
         ensures lows { OnOk result (lows_of self.new.levels ≡ lows_split 0 splits.now (lows_of self.old.levels)) }
         ensures waits { OnOk result (waiting_of self.new.levels ≡ waiting_of self.old.levels) }
+        ensures numbers { OnOk result (AreNumbered first splits.now self.new.levels) }
+        ensures height { OnOk result (length self.new.levels ≡ length self.old.levels) }
         ensures cells { self.new.cells ≡ self.old.cells }
         ensures split { OnOk result (AreSplit 0 splits.now self.old.levels self.new.levels) }
         ensures err { OnErr result (self.new.levels ≡ self.old.levels) }
@@ -178,6 +184,8 @@ impl DbTree {
         ensures waits { OnOk result (waiting_of self.new.levels ≡ waiting_raised true (waiting_of self.old.levels)) }
         ensures cells { self.new.cells ≡ self.old.cells }
         ensures raised { OnOk result (IsRaisedFrom true self.old.levels self.new.levels) }
+        ensures number { OnOk result (number_of self.new.levels (length self.old.levels) least ≡ number) }
+        ensures below { OnOk result ((k : ℕ) → k < length self.old.levels → row_of self.new.levels k ≡ row_of self.old.levels k) }
         ensures err { OnErr result (self.new.levels ≡ self.old.levels) }
         ensures tree { OnOk result ((es : Placed) (base : ℕ) (newest : Name → ℕ) → ((x : Name) → (mark ≤ newest x) ⊎ (mark < base)) → IsTree es base newest self.old.levels self.old.cells → IsTree es base newest self.new.levels self.new.cells) }
     {
@@ -197,6 +205,7 @@ impl DbTree {
         ensures lows { OnOk result (lows_of self.new.levels ≡ lows_behind splits.now (lows_of self.old.levels)) }
         ensures waits { OnOk result (waiting_of self.new.levels ≡ waiting_raised (is_raised splits.now (lows_of self.old.levels)) (waiting_of self.old.levels)) }
         ensures cells { self.new.cells ≡ self.old.cells }
+        ensures numbers { OnOk result (AreNewNumbered first splits.now (is_raised splits.now (lows_of self.old.levels)) self.new.levels) }
         ensures grown { OnOk result (AreGrown splits.now (is_raised splits.now (lows_of self.old.levels)) self.old.levels self.new.levels) }
         ensures err { OnErr result (self.new.levels ≡ self.old.levels) }
         ensures tree { OnOk result ((es : Placed) (base : ℕ) (newest : Name → ℕ) → ((x : Name) → (mark ≤ newest x) ⊎ (mark < base)) → IsTree es base newest self.old.levels self.old.cells → IsTree es base newest self.new.levels self.new.cells) }

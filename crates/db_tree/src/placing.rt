@@ -6,6 +6,7 @@ ghost use Rattle.record_map.specs.declared.cell.Cell.{Cell as Kept};
 ghost use Rattle.record_tree.specs.declared.tree_err.TreeErr.{TreeErr as Reason};
 ghost use Rattle.db_tree.specs.Images.{Placed};
 ghost use Rattle.db_tree.specs.NodeImages.{AreNodeImages};
+ghost use Rattle.db_tree.specs.Numbers.{AreNewNumbered};
 ghost use Rattle.db_tree.specs.Placing.{AreTaken, IsFilled, IsPlacedBy};
 ghost use Rattle.db_tree.specs.Shapes.{shape_in, IsCellMade, IsPlaced, IsUndoable};
 ghost use Rattle.db_tree.specs.Splits.{nodes_logged, splits_of, passes_top};
@@ -88,6 +89,7 @@ impl DbTree {
     ) -> Result<SlotRoom, AllocError>
         requires { value_at name.now self.old.cells ≡ None }
         ensures placed { IfOk result (λ room. IsPlacedBy db splits.items name.now room self.old self.new) }
+        ensures numbers { IfOk result (λ room. AreNewNumbered first room.splits.items room.is_raised self.new.levels) }
         ensures splits { IfOk result (λ room. room.splits.items ≡ splits.items) }
         ensures err { OnErr result (self.new.levels ≡ self.old.levels) }
         ensures err_cells { OnErr result (self.new.cells ≡ self.old.cells) }
@@ -136,6 +138,7 @@ impl DbTree {
     ) -> Result<SlotRoom, TreeErr>
         ensures placed { IfOk result (λ room. IsPlaced fanout name.now room self.old self.new) }
         ensures images { IfOk result (λ room. AreNodeImages db self.new.levels self.new.cells (nodes_logged fanout name.now (shape_in self.old)) room.images.items) }
+        ensures numbers { IfOk result (λ room. AreNewNumbered first room.splits.items room.is_raised self.new.levels) }
         ensures splits { IfOk result (λ room. room.is_new ≡ true → room.splits.items ≡ splits_of fanout name.now (shape_in self.old)) }
         ensures high { IfErr result (λ e. e ≡ Reason.IdsEnded → passes_top fanout name.now (shape_in self.old) ≡ true) }
         ensures errors { IfErr result (λ e. (e ≡ Reason.IdsEnded) ⊎ (e ≡ Reason.Memory)) }

@@ -8,6 +8,7 @@ ghost use Rattle.tree_nodes.specs.Levels.{row_of, AreParts, HasPutAt};
 ghost use Rattle.tree_nodes.specs.Lows.{lows_of, with_low};
 ghost use Rattle.tree_nodes.specs.declared.node.Node.{Node as Kept};
 ghost use Rattle.db_tree.specs.Images.{Placed};
+ghost use Rattle.db_tree.specs.NodeImages.{number_of};
 ghost use Rattle.db_tree.specs.Content.{child_slot_for, lsn_of, in_image};
 ghost use Rattle.std.specs.List.{slice_get};
 ghost use Rattle.db_tree.specs.Splitting.{children_in, split_off, name_of, cells_within, middle_of, AreSameByName};
@@ -105,6 +106,7 @@ impl DbTree {
         ensures put { OnOk result ((node : Kept) × HasPutAt self.old.levels self.new.levels level middle node) }
         ensures lows { OnOk result (lows_of self.new.levels ≡ with_low level middle (lows_of self.old.levels)) }
         ensures waits { OnOk result (waiting_of self.new.levels ≡ waiting_of self.old.levels) }
+        ensures number { OnOk result (number_of self.new.levels level middle ≡ number) }
         ensures tree { (es : Placed) (base : ℕ) (newest : Name → ℕ) → IsTree es base newest self.old.levels self.old.cells → IsTree es base newest self.new.levels self.new.cells }
         ensures cells { self.new.cells ≡ self.old.cells }
         ensures err { OnErr result (self.new.levels ≡ self.old.levels) }

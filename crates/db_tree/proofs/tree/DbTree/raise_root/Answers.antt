@@ -1,7 +1,7 @@
 use Rattle.db_tree.specs.Content.{held_by}
 use Rattle.db_tree.proofs.Ending.{ok_then}
 use Rattle.db_tree.proofs.RootLaws.{root_put}
-use Rattle.db_tree.proofs.WaitLaws.{raised_waits}
+use Rattle.db_tree.proofs.WaitLaws.{raised_waits, root_number, root_below}
 use Rattle.db_tree.proofs.tree.DbTree.raise_root.Goals as goal
 
 pub returns-clause-tree : goal.returns-clause-tree
@@ -12,3 +12,9 @@ returns-clause-tree c =
 
 pub returns-clause-waits : goal.returns-clause-waits
 returns-clause-waits c = raised_waits c.raise.result c.args.self.now.levels c.raise.new.self c.new_root.result c.new_root.ensures.forced c.raise.ensures.ok c.raise.ensures.low c.raise.ensures.front
+
+pub returns-clause-number : goal.returns-clause-number
+returns-clause-number c = root_number c.raise.result c.args.self.now.levels c.raise.new.self c.new_root.result c.args.number c.new_root.ensures.number c.raise.ensures.ok
+
+pub returns-clause-below : goal.returns-clause-below
+returns-clause-below c = root_below c.raise.result c.args.self.now.levels c.raise.new.self c.new_root.result c.raise.ensures.ok

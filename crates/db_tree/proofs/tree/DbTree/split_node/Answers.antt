@@ -1,10 +1,10 @@
-use Rattle.std.proofs.Common.{ap, subst, sym}
+use Rattle.std.proofs.Common.{◌∙◌, ap, subst, sym}
 use Rattle.tree_nodes.specs.declared.node.Node.{Node}
 use Rattle.db_tree.specs.Trees.{IsMark}
 use Rattle.db_tree.specs.Content.{held_by}
 use Rattle.db_tree.proofs.Marking.{marked_or_split}
 use Rattle.db_tree.proofs.SplitLaws.{split_is_mark}
-use Rattle.db_tree.proofs.WaitLaws.{split_waits}
+use Rattle.db_tree.proofs.WaitLaws.{put_number, split_waits}
 use Rattle.db_tree.proofs.tree.DbTree.split_node.Goals as goal
 
 pub returns-clause-tree : goal.returns-clause-tree
@@ -16,3 +16,6 @@ returns-clause-tree c = λ es base newest tree.
 pub returns-clause-waits : goal.returns-clause-waits
 returns-clause-waits c =
     split_waits c.args.self.now.levels c.split.new.self c.args.level c.args.middle c.split_off-right.result c.requires.there c.requires.free c.in_ok-split.ensures.ok (ap (λ (n : Node). n.forced) c.split_off-right.ensures) c.in_ok-split.ensures.low
+
+pub returns-clause-number : goal.returns-clause-number
+returns-clause-number c = put_number c.args.self.now.levels c.split.new.self c.args.level c.args.middle c.split_off-right.result c.in_ok-split.ensures.ok ∙ ap (λ (n : Node). n.number) c.split_off-right.ensures
