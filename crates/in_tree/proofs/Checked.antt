@@ -1,9 +1,10 @@
 -- What is taken before changes are written, and what holds when they were.
-use Rattle.std.proofs.Common.{◌≡◌, ◌≤◌, ◌+◌, ◌||◌, ◌==◌, ℕ, List, [], ◌∷◌, Bool, true, false, cond, nat_lt, Option, None, Some, IfSome, is_some, Result, Ok, Err, OnOk, OnErr, IfErr, refl, ap, ap₂, sym, subst, ◌∙◌, arith}
+use Rattle.std.proofs.Common.{◌≡◌, ◌≤◌, ◌<◌, ◌+◌, ◌*◌, ◌||◌, ◌==◌, ◌++◌, ◌⊎◌, inl, inr, take, ℕ, List, [], ◌∷◌, Bool, true, false, cond, nat_lt, length, min, Option, None, Some, IfSome, is_some, Result, Ok, Err, OnOk, OnErr, IfOk, IfErr, refl, ap, ap₂, sym, subst, ◌∙◌, arith}
 use Rattle.std.specs.Ordering.{nat_cmp}
 use Rattle.std.specs.BTreeMap.{get}
 use Rattle.std.specs.List.{AllByRecursion}
-use Rattle.std.proofs.lemmas.Bool.{true≢false, eqb-true, ltb-false}
+use Rattle.std.proofs.lemmas.Bool.{true≢false, eqb-true, ltb-true, ltb-false, lt-ltb, le-ltb}
+use Rattle.std.proofs.lemmas.List.{take_all}
 use Rattle.je_disk.specs.Moments.{History}
 use Rattle.je_order.specs.declared.name.Name.{Name}
 use Rattle.je_order.specs.declared.txn_id.TxnId.{TxnId}
@@ -17,14 +18,19 @@ use Rattle.record_map.specs.Cells.{value_at, IsRising}
 use Rattle.record_tree.specs.declared.tree_change.TreeChange.{TreeChange}
 use Rattle.record_tree.specs.declared.tree_err.TreeErr.{TreeErr}
 use Rattle.record_tree.specs.declared.tree_err.TreeErr.TheVariants.{Fault, Full, IdsEnded, Memory}
-use Rattle.record_tree.specs.Logged.{is_made, makes_db, IsLimit, IsEndOf, LogsChanges, IsFront, last_change}
+use Rattle.record_tree.specs.Logged.{is_made, most_entries, makes_db, IsLimit, IsEndOf, LogsChanges, IsFront, last_change}
 use Rattle.record_tree.specs.Occupied.{Occupied, AllCells, AreSame, AreWritten, IsWritten, value_in, write_in}
 use Rattle.db_tree.specs.declared.tree.DbTree.{DbTree}
-use Rattle.in_tree.specs.Forest.{Forest, cells_of, cells_at, cells_seen, is_there, HasSameTrees}
+use Rattle.db_tree.specs.declared.slot_room.SlotRoom.{SlotRoom}
 use Rattle.db_tree.specs.Seen.{occupied}
-use Rattle.in_tree.specs.Limits.{HasRoomFor, end_behind, sizes_for, count_made, limit_of, GrewFitting, TriedFitting}
-use Rattle.in_tree.specs.Fitting.{fits_none, fitting_unchanged, fitting_then, fitting_tried}
 use Rattle.db_tree.proofs.Seen.{none_rise}
+use Rattle.in_tree.specs.Forest.{Forest, IsSameForest, cells_of, cells_at, cells_seen, is_there, HasSameTrees, KeepsCells, HasOne}
+use Rattle.in_tree.specs.Limits.{HasRoomFor, end_behind, commit_sizes, sizes_for, numbers_drawn, are_too_high, limit_behind, limit_of, GrewFitting, TriedFitting}
+use Rattle.in_tree.specs.Fitting.{fits_none, fitting_unchanged, fitting_then, fitting_tried}
+use Rattle.in_tree.specs.Placing.{ArePlaced, placed_sizes, numbers_of}
+use Rattle.in_tree.specs.Shapes.{Shapes, shapes_of}
+use Rattle.in_tree.proofs.Placings.{sizes_placed, numbers_placed, low_placed, placed_even, placed_same}
+use Rattle.in_tree.specs.declared.placed.Placed.{Placed}
 use Rattle.in_tree.proofs.Written.{entries_of, logs_all}
 
 -- ---- databases without a tree
@@ -33,6 +39,13 @@ pub none_there : (forest : Forest) (d : ℕ) → is_there forest d ≡ false →
 none_there forest d none = by_tree (get nat_cmp forest d) none
   where
     by_tree : (o : Option DbTree) → is_some o ≡ false → cells_of o ≡ []
+    by_tree None h = refl
+    by_tree (Some tree) h = absurd (true≢false h)
+
+pub no_tree : (forest : Forest) (d : ℕ) → is_there forest d ≡ false → get nat_cmp forest d ≡ None
+no_tree forest d none = by_tree (get nat_cmp forest d) none
+  where
+    by_tree : (o : Option DbTree) → is_some o ≡ false → o ≡ None
     by_tree None h = refl
     by_tree (Some tree) h = absurd (true≢false h)
 
@@ -56,24 +69,6 @@ all_none forest (c ∷ changes) all = (by_made c.makes all.0, all_none forest ch
     by_made None h = tt
     by_made (Some d) h = none_there forest d h
 
-pub all_empty : (old new : Forest) (changes : List TreeChange) → AreSame (cells_seen old) (cells_seen new) → AllByRecursion (λ c. IfSome c.makes (λ d. is_there old d ≡ false)) changes →
-    AllByRecursion (λ c. IfSome c.makes (λ d. cells_seen new d ≡ [])) changes
-all_empty old new [] same all = tt
-all_empty old new (c ∷ changes) same all = (by_made c.makes all.0, all_empty old new changes same all.1)
-  where
-    by_made : (o : Option ℕ) → IfSome o (λ d. is_there old d ≡ false) → IfSome o (λ d. cells_seen new d ≡ [])
-    by_made None h = tt
-    by_made (Some d) h = same d ∙ ap occupied (none_there old d h)
-
-or_true : (a : Bool) → (a || true) ≡ true
-or_true true = refl
-or_true false = refl
-
-pub all_have : (old new : Forest) (made changes : List TreeChange) → ((d : ℕ) → is_there new d ≡ (is_made d made || is_there old d)) → AllByRecursion (λ c. is_there old c.db ≡ true) changes →
-    AllByRecursion (λ c. is_there new c.db ≡ true) changes
-all_have old new made [] is all = tt
-all_have old new made (c ∷ changes) is all = (is c.db ∙ ap (λ (t : Bool). is_made c.db made || t) all.0 ∙ or_true (is_made c.db made), all_have old new made changes is all.1)
-
 made_none : (old : Forest) (changes : List TreeChange) (d : ℕ) → AllByRecursion (λ c. IfSome c.makes (λ e. is_there old e ≡ false)) changes → is_made d changes ≡ true → is_there old d ≡ false
 made_none old [] d all h = absurd (true≢false (sym h))
 made_none old (c ∷ changes) d all h = by_made c.makes all.0 (made_none old changes d all.1) h
@@ -86,16 +81,45 @@ made_none old (c ∷ changes) d all h = by_made c.makes all.0 (made_none old cha
         by_test true is h = subst (λ (n : ℕ). is_there old n ≡ false) (eqb-true e d is) none
         by_test false is h = rest h
 
--- what was made was taken back
-pub trees_back : (old mid new : Forest) (changes : List TreeChange) → AllByRecursion (λ c. IfSome c.makes (λ e. is_there old e ≡ false)) changes → ((d : ℕ) → is_made d changes ≡ false → is_there mid d ≡ is_there old d) →
-    ((d : ℕ) → is_there new d ≡ cond (is_made d changes) false (is_there mid d)) → HasSameTrees old new
+-- what was made was taken out again
+pub trees_back : (old mid new : Forest) (changes : List TreeChange) → AllByRecursion (λ c. IfSome c.makes (λ e. is_there old e ≡ false)) changes → ((d : ℕ) → is_made d changes ≡ false → get nat_cmp mid d ≡ get nat_cmp old d) →
+    ((d : ℕ) → get nat_cmp new d ≡ cond (is_made d changes) None (get nat_cmp mid d)) → IsSameForest old new
 trees_back old mid new changes all stay back d = by_test (is_made d changes) refl
   where
-    by_test : (t : Bool) → is_made d changes ≡ t → is_there new d ≡ is_there old d
-    by_test true is = back d ∙ ap (λ (t : Bool). cond t false (is_there mid d)) is ∙ sym (made_none old changes d all is)
-    by_test false is = back d ∙ ap (λ (t : Bool). cond t false (is_there mid d)) is ∙ stay d is
+    none_is : (o : Option DbTree) → is_some o ≡ false → None ≡ o
+    none_is None h = refl
+    none_is (Some t) h = absurd (true≢false h)
+
+    by_test : (t : Bool) → is_made d changes ≡ t → get nat_cmp new d ≡ get nat_cmp old d
+    by_test true is = back d ∙ ap (λ (t : Bool). cond t None (get nat_cmp mid d)) is ∙ none_is (get nat_cmp old d) (made_none old changes d all is)
+    by_test false is = back d ∙ ap (λ (t : Bool). cond t None (get nat_cmp mid d)) is ∙ stay d is
+
+-- what is the same of the same trees
+pub same_trees_of : (old new : Forest) → IsSameForest old new → HasSameTrees old new
+same_trees_of old new same d = ap (λ (t : Option DbTree). is_some t) (same d)
+
+pub seen_rise : (old new : Forest) → AreSame (cells_seen old) (cells_seen new) → ((d : ℕ) → IsRising (cells_seen old d)) → (d : ℕ) → IsRising (cells_seen new d)
+seen_rise old new same up d = subst IsRising (sym (same d)) (up d)
+
+-- a database that changes make has no tree, where it had none before other steps that made none
+pub none_still : (old new : Forest) (changes : List TreeChange) → HasSameTrees old new → AllByRecursion (λ c. IfSome c.makes (λ d. is_there old d ≡ false)) changes →
+    AllByRecursion (λ c. IfSome c.makes (λ d. is_there new d ≡ false)) changes
+none_still old new [] same all = tt
+none_still old new (c ∷ changes) same all = (by_made c.makes all.0, none_still old new changes same all.1)
+  where
+    by_made : (o : Option ℕ) → IfSome o (λ d. is_there old d ≡ false) → IfSome o (λ d. is_there new d ≡ false)
+    by_made None h = tt
+    by_made (Some d) h = same d ∙ h
+
+pub there_still : (old new : Forest) (changes : List TreeChange) → KeepsCells old new → AllByRecursion (λ c. HasOne old c.db c.name) changes → AllByRecursion (λ c. HasOne new c.db c.name) changes
+there_still old new [] keeps all = tt
+there_still old new (c ∷ changes) keeps all = (keeps c.db c.name all.0, there_still old new changes keeps all.1)
 
 -- ---- how a call ended
+
+pub if_ok_then : {X Y : Type 0} {P Q : X → Type 0} (r : Result X Y) → ((x : X) → P x → Q x) → IfOk r P → IfOk r Q
+if_ok_then (Ok x) f h = f x h
+if_ok_then (Err y) f h = tt
 
 pub ends_by : {X P Q : Type 0} (r : Result X TreeErr) (reason : TreeErr) → (P → Q) → OnErr r P → IsEndOf reason r Q
 ends_by (Ok x) reason f h = tt
@@ -135,10 +159,15 @@ module _ {D : Type 0} where
   }
 
   module _ (observable : Bool) (history : D → History) (sync_out read_out : D → Option ℕ) (read_of : D → ℕ) (faults : D → ℕ) where
-    pub grew_since : (txn : TxnId) (changes : List TreeChange) (old mid new : LogBuffer D) → IsUnchanged old mid → (a : List Entry) × LogsChanges txn changes a × GrewFitting observable history sync_out read_out read_of faults mid new a →
-        (a : List Entry) × LogsChanges txn changes a × GrewFitting observable history sync_out read_out read_of faults old new a
-    grew_since txn changes old mid new same grew =
-        (grew.0, grew.1, fitting_then observable history sync_out read_out read_of faults old mid new [] grew.0 (fitting_unchanged observable history sync_out read_out read_of faults old mid same) grew.2)
+    pub grew_since : (txn : TxnId) (changes : List TreeChange) (old mid new : LogBuffer D) (images before between after : ℕ) → IsUnchanged old mid → images + between ≤ before + 129 * length changes → after ≤ between →
+        (a : List Entry) × LogsChanges txn changes a × GrewFitting observable history sync_out read_out read_of faults mid new a × (length a ≡ images + length changes) →
+        (a : List Entry) × LogsChanges txn changes a × GrewFitting observable history sync_out read_out read_of faults old new a × (length a + after ≤ before + most_entries (length changes))
+    grew_since txn changes old mid new images before between after same few less grew = (
+      grew.0,
+      grew.1,
+      fitting_then observable history sync_out read_out read_of faults old mid new [] grew.0 (fitting_unchanged observable history sync_out read_out read_of faults old mid same) grew.2,
+      (let count = grew.3 in omega (arith, few, less, count)),
+    )
 
     pub tried_since : (txn : TxnId) (changes : List TreeChange) (old mid new : LogBuffer D) → IsUnchanged old mid →
         (a : List Entry) × (f : List Entry) × LogsChanges txn changes a × IsFront f a × TriedFitting observable history sync_out read_out read_of faults mid new f →
@@ -148,19 +177,101 @@ module _ {D : Type 0} where
 
 -- ---- which limit is met
 
-module _ {D : Type 0} (log : LogBuffer D) (last : ℕ) (changes : List TreeChange) (owed : ℕ) where
-  pub no_limit_met : has_failed log ≡ false → nat_lt 0xfffffffe (end_behind log (sizes_for changes owed)) ≡ false → nat_lt 0x7fffffffffffffff (last + count_made changes) ≡ false → limit_of log last changes owed ≡ None
-  no_limit_met works files ids =
-      ap (λ (t : Bool). cond t None (cond (nat_lt 0xfffffffe (end_behind log (sizes_for changes owed))) (Some Full) (cond (nat_lt 0x7fffffffffffffff (last + count_made changes)) (Some IdsEnded) None))) works
-      ∙ ap (λ (t : Bool). cond t (Some Full) (cond (nat_lt 0x7fffffffffffffff (last + count_made changes)) (Some IdsEnded) None)) files
-      ∙ ap (λ (t : Bool). cond t (Some IdsEnded) None) ids
+module _ {D : Type 0} (log : LogBuffer D) (fanout last : ℕ) (changes : List TreeChange) (owed : ℕ) where
+  -- that of levels
+  pub limit_high : (shapes : Shapes) → has_failed log ≡ false → are_too_high fanout shapes changes ≡ true → limit_of log fanout last shapes changes owed ≡ Some IdsEnded
+  limit_high shapes works high =
+      let rest : Option TreeErr = limit_behind log (sizes_for fanout shapes changes owed) (last + numbers_drawn fanout shapes changes) in
+      ap (λ (t : Bool). cond t None (cond (are_too_high fanout shapes changes) (Some IdsEnded) rest)) works ∙ ap (λ (t : Bool). cond t (Some IdsEnded) rest) high
 
-  pub failed_no_limit : has_failed log ≡ true → limit_of log last changes owed ≡ None
-  failed_no_limit failed =
-      ap (λ (t : Bool). cond t None (cond (nat_lt 0xfffffffe (end_behind log (sizes_for changes owed))) (Some Full) (cond (nat_lt 0x7fffffffffffffff (last + count_made changes)) (Some IdsEnded) None))) failed
+  -- and those behind the slots of the changes
+  pub limit_placed : (rooms : List SlotRoom) (old new : Forest) → has_failed log ≡ false → ArePlaced fanout changes rooms old new →
+      limit_of log fanout last (shapes_of old) changes owed ≡ limit_behind log (placed_sizes changes rooms ++ commit_sizes owed) (last + numbers_of changes rooms)
+  limit_placed rooms old new works placed =
+      let rest : Option TreeErr = limit_behind log (sizes_for fanout (shapes_of old) changes owed) (last + numbers_drawn fanout (shapes_of old) changes) in
+      ap (λ (t : Bool). cond t None (cond (are_too_high fanout (shapes_of old) changes) (Some IdsEnded) rest)) works
+      ∙ ap (λ (t : Bool). cond t (Some IdsEnded) rest) (low_placed fanout changes rooms old new placed)
+      ∙ sym (ap₂ (λ (sizes : List ℕ) (n : ℕ). limit_behind log (sizes ++ commit_sizes owed) (last + n)) (sizes_placed fanout changes rooms old new placed) (numbers_placed fanout changes rooms old new placed))
 
-pub lower_by_test : (a b : ℕ) → nat_lt a b ≡ false → b ≤ a
-lower_by_test a b h = ltb-false a b h
+  pub failed_no_limit : (shapes : Shapes) → has_failed log ≡ true → limit_of log fanout last shapes changes owed ≡ None
+  failed_no_limit shapes failed =
+      let rest : Option TreeErr = limit_behind log (sizes_for fanout shapes changes owed) (last + numbers_drawn fanout shapes changes) in
+      ap (λ (t : Bool). cond t None (cond (are_too_high fanout shapes changes) (Some IdsEnded) rest)) failed
+
+module _ {D : Type 0} (log : LogBuffer D) (sizes : List ℕ) where
+  pub none_behind : (last : ℕ) → nat_lt 0xfffffffe (end_behind log sizes) ≡ false → last ≤ 0x7fffffffffffffff → limit_behind log sizes last ≡ None
+  none_behind last files ids =
+      ap (λ (t : Bool). cond t (Some Full) (cond (nat_lt 0x7fffffffffffffff last) (Some IdsEnded) None)) files ∙ ap (λ (t : Bool). cond t (Some IdsEnded) None) (le-ltb 0x7fffffffffffffff last ids)
+
+  pub full_behind : (last : ℕ) → nat_lt 0xfffffffe (end_behind log sizes) ≡ true → limit_behind log sizes last ≡ Some Full
+  full_behind last files = ap (λ (t : Bool). cond t (Some Full) (cond (nat_lt 0x7fffffffffffffff last) (Some IdsEnded) None)) files
+
+  pub ended_behind : (last : ℕ) → nat_lt 0xfffffffe (end_behind log sizes) ≡ false → 0x7fffffffffffffff < last → limit_behind log sizes last ≡ Some IdsEnded
+  ended_behind last files ids =
+      ap (λ (t : Bool). cond t (Some Full) (cond (nat_lt 0x7fffffffffffffff last) (Some IdsEnded) None)) files ∙ ap (λ (t : Bool). cond t (Some IdsEnded) None) (lt-ltb 0x7fffffffffffffff last ids)
+
+  -- a sum of numbers that is as great as 64 bits allow is beyond the last number as the whole sum is
+  pub bounded_behind : (last : ℕ) → limit_behind log sizes (min last 0xffffffffffffffff) ≡ limit_behind log sizes last
+  bounded_behind last = ap (λ (t : Bool). cond (nat_lt 0xfffffffe (end_behind log sizes)) (Some Full) (cond t (Some IdsEnded) None)) (same_test (nat_lt 0x7fffffffffffffff last) refl)
+    where
+      same_test : (t : Bool) → nat_lt 0x7fffffffffffffff last ≡ t → nat_lt 0x7fffffffffffffff (min last 0xffffffffffffffff) ≡ nat_lt 0x7fffffffffffffff last
+      same_test true is = lt-ltb 0x7fffffffffffffff (min last 0xffffffffffffffff) (omega (arith, ltb-true 0x7fffffffffffffff last is)) ∙ sym is
+      same_test false is = le-ltb 0x7fffffffffffffff (min last 0xffffffffffffffff) (omega (arith, ltb-false 0x7fffffffffffffff last is)) ∙ sym is
+
+module _ {D : Type 0} (log : LogBuffer D) (fanout last : ℕ) (changes : List TreeChange) (owed : ℕ) (slots : Placed) (old new : Forest) where
+  pub placed_limit : has_failed log ≡ false → ArePlaced fanout changes slots.rooms.items old new → slots.last ≡ min (last + numbers_of changes slots.rooms.items) 0xffffffffffffffff →
+      limit_of log fanout last (shapes_of old) changes owed ≡ limit_behind log (placed_sizes changes slots.rooms.items ++ commit_sizes owed) slots.last
+  placed_limit works placed is =
+      limit_placed log fanout last changes owed slots.rooms.items old new works placed
+      ∙ sym (bounded_behind log (placed_sizes changes slots.rooms.items ++ commit_sizes owed) (last + numbers_of changes slots.rooms.items))
+      ∙ ap (limit_behind log (placed_sizes changes slots.rooms.items ++ commit_sizes owed)) (sym is)
+
+  -- no limit was met
+  pub limit_none : has_failed log ≡ false → ArePlaced fanout changes slots.rooms.items old new → slots.last ≡ min (last + numbers_of changes slots.rooms.items) 0xffffffffffffffff →
+      nat_lt 0xfffffffe (end_behind log (placed_sizes changes slots.rooms.items ++ commit_sizes owed)) ≡ false → slots.last ≤ 0x7fffffffffffffff → limit_of log fanout last (shapes_of old) changes owed ≡ None
+  limit_none works placed is files ids = placed_limit works placed is ∙ none_behind log (placed_sizes changes slots.rooms.items ++ commit_sizes owed) slots.last files ids
+
+  -- one was
+  pub limit_met : (e : TreeErr) → has_failed log ≡ false → ArePlaced fanout changes slots.rooms.items old new → slots.last ≡ min (last + numbers_of changes slots.rooms.items) 0xffffffffffffffff →
+      (e ≡ Full → nat_lt 0xfffffffe (end_behind log (placed_sizes changes slots.rooms.items ++ commit_sizes owed)) ≡ true) →
+      (e ≡ IdsEnded → (nat_lt 0xfffffffe (end_behind log (placed_sizes changes slots.rooms.items ++ commit_sizes owed)) ≡ false) × (0x7fffffffffffffff < slots.last)) →
+      IsLimit e → limit_of log fanout last (shapes_of old) changes owed ≡ Some e
+  limit_met Full works placed is full ended limit = placed_limit works placed is ∙ full_behind log (placed_sizes changes slots.rooms.items ++ commit_sizes owed) slots.last (full refl)
+  limit_met IdsEnded works placed is full ended limit =
+      let met = ended refl in placed_limit works placed is ∙ ended_behind log (placed_sizes changes slots.rooms.items ++ commit_sizes owed) slots.last met.0 met.1
+  limit_met Fault works placed is full ended limit = absurd limit
+  limit_met Memory works placed is full ended limit = absurd limit
+
+-- where no slot was made a limit is that of levels
+pub high_met : {D : Type 0} (log : LogBuffer D) (fanout last : ℕ) (changes : List TreeChange) (owed : ℕ) (shapes : Shapes) (e : TreeErr) → has_failed log ≡ false → (e ≡ IdsEnded) ⊎ (e ≡ Memory) →
+    (e ≡ IdsEnded → are_too_high fanout shapes changes ≡ true) → IsLimit e → limit_of log fanout last shapes changes owed ≡ Some e
+high_met log fanout last changes owed shapes e works (inl is) high limit = limit_high log fanout last changes owed shapes works (high is) ∙ ap Some (sym is)
+high_met log fanout last changes owed shapes e works (inr is) high limit = absurd (subst IsLimit is limit)
+
+pub never_fault : (e : TreeErr) → (e ≡ IdsEnded) ⊎ (e ≡ Memory) → e ≡ Fault → ⊥
+never_fault e (inl is) fault = apart (sym is ∙ fault)
+  where
+    apart : IdsEnded ≡ Fault → ⊥
+    apart h = cc
+never_fault e (inr is) fault = apart (sym is ∙ fault)
+  where
+    apart : Memory ≡ Fault → ⊥
+    apart h = cc
+
+-- all slots are there to be taken back, after steps that left the trees as they were
+pub all_back : (fanout : ℕ) (changes : List TreeChange) (rooms slice : List SlotRoom) (old mid new : Forest) → slice ≡ rooms → ArePlaced fanout changes rooms old mid → IsSameForest mid new → ArePlaced fanout (take (length slice) changes) slice old new
+all_back fanout changes rooms slice old mid new is placed same =
+    subst (λ (rs : List SlotRoom). ArePlaced fanout (take (length rs) changes) rs old new) (sym is)
+    (subst (λ (cs : List TreeChange). ArePlaced fanout cs rooms old new) (sym (take_all (length rooms) changes (few (placed_even fanout changes rooms old mid placed)))) (placed_same fanout changes rooms old mid new placed same))
+  where
+    few : length rooms ≡ length changes → length changes ≤ length rooms
+    few h = omega (arith, h)
+
+pub few_then : (images waits less most : ℕ) → images + waits ≤ most → less ≤ waits → images + less ≤ most
+few_then images waits less most few down = omega arith
+
+pub few_back : (fanout : ℕ) (changes : List TreeChange) (rooms slice : List SlotRoom) (old mid : Forest) → slice ≡ rooms → ArePlaced fanout changes rooms old mid → length slice ≤ length changes
+few_back fanout changes rooms slice old mid is placed = let even = ap (λ (l : List SlotRoom). length l) is in let same = placed_even fanout changes rooms old mid placed in omega (arith, even, same)
 
 -- a buffer that has failed tried to log nothing
 pub tried_none : {D : Type 0} (observable : Bool) (history : D → History) (sync_out read_out : D → Option ℕ) (read_of : D → ℕ) (faults : D → ℕ) (log : LogBuffer D) → has_failed log ≡ true → TriedFitting observable history sync_out read_out read_of faults log log []

@@ -1,15 +1,15 @@
 -- How the trees of all databases change where that of one does.
-use Rattle.std.proofs.Common.{◌≡◌, ◌==◌, ◌&&◌, ◌⊎◌, ℕ, [], Bool, true, false, cond, Option, None, IsSome, is_some, refl, ap, sym, subst, ◌∙◌, inl, inr, Less, Equal, Greater, is_eq, arith}
+use Rattle.std.proofs.Common.{◌≡◌, ◌==◌, ◌&&◌, ◌⊎◌, ℕ, [], Bool, true, false, cond, Option, None, Some, IsSome, is_some, refl, ap, sym, subst, ◌∙◌, inl, inr, Less, Equal, Greater, is_eq, arith}
 use Rattle.std.specs.Ordering.{nat_cmp}
 use Rattle.std.specs.Cmp.{nat_cmp_is}
 use Rattle.std.specs.BTreeMap.{get}
-use Rattle.std.proofs.lemmas.Bool.{cases_order, ne_eqb, eq-eqb}
+use Rattle.std.proofs.lemmas.Bool.{cases_order, ne_eqb, eq-eqb, true≢false}
 use Rattle.je_order.specs.Order.{name_cmp}
 use Rattle.je_order.specs.declared.name.Name.{Name}
 use Rattle.record_map.specs.Cells.{value_at, IsRising}
 use Rattle.record_tree.specs.Occupied.{Occupied, AreSame}
 use Rattle.db_tree.specs.declared.tree.DbTree.{DbTree}
-use Rattle.in_tree.specs.Forest.{Forest, cells_of, cells_at, cells_seen, is_there, HasChange, HasSameTrees, KeepsCells}
+use Rattle.in_tree.specs.Forest.{Forest, Replaces, IsSameForest, cells_of, cells_at, cells_seen, is_there, HasChange, HasSameTrees, KeepsCells}
 use Rattle.db_tree.specs.Seen.{occupied}
 
 -- two numbers are one, or both tests tell them apart
@@ -25,10 +25,6 @@ number_cases a b =
 
 pub number_same : (a : ℕ) → is_eq (nat_cmp a a) ≡ true
 number_same a = sym (ap is_eq (nat_cmp_is a a Equal refl))
-
--- the map has another tree, or none, at a number, and all else as before
-abbrev pub Replaces : Forest → Forest → ℕ → Option DbTree → Type 0
-Replaces old new db o = (d : ℕ) → get nat_cmp new d ≡ cond (is_eq (nat_cmp db d)) o (get nat_cmp old d)
 
 pub replaced : (old new : Forest) (db : ℕ) (o : Option DbTree) → Replaces old new db o → get nat_cmp new db ≡ o
 replaced old new db o has = has db ∙ ap (λ (t : Bool). cond t o (get nat_cmp old db)) (number_same db)
@@ -108,3 +104,44 @@ forest_without old new db has d = by_number (number_cases db d)
         subst (λ (e : ℕ). cells_seen new e ≡ cond (e == db) [] (cells_seen old e)) is
         (ap (λ (t : Option DbTree). occupied (cells_of t)) (replaced old new db None has) ∙ sym (ap (λ (t : Bool). cond t [] (cells_seen old db)) (eq-eqb db db refl)))
     by_number (inr apart) = ap (λ (t : Option DbTree). occupied (cells_of t)) (others old new db None has d apart.1) ∙ sym (ap (λ (t : Bool). cond t [] (cells_seen old d)) apart.0)
+
+-- two numbers that a test tells apart
+pub apart_numbers : (a b : ℕ) → is_eq (nat_cmp a b) ≡ false → a ≡ b → ⊥
+apart_numbers a b apart same = absurd (true≢false (sym (number_same b) ∙ sym (ap (λ (n : ℕ). is_eq (nat_cmp n b)) same) ∙ apart))
+
+-- each other database has what it had
+pub forest_others : (old new : Forest) (db : ℕ) (o : Option DbTree) → Replaces old new db o → (d : ℕ) → d == db ≡ false → get nat_cmp new d ≡ get nat_cmp old d
+forest_others old new db o has d apart = by_number (number_cases db d)
+  where
+    by_number : (db ≡ d) ⊎ ((d == db ≡ false) × (is_eq (nat_cmp db d) ≡ false)) → get nat_cmp new d ≡ get nat_cmp old d
+    by_number (inl is) = absurd (true≢false (sym (eq-eqb d db (sym is)) ∙ apart))
+    by_number (inr other) = others old new db o has d other.1
+
+-- a tree goes
+pub forest_gone : (old new : Forest) (db : ℕ) → Replaces old new db None → (d : ℕ) → get nat_cmp new d ≡ cond (d == db) None (get nat_cmp old d)
+forest_gone old new db has d = by_number (number_cases db d)
+  where
+    by_number : (db ≡ d) ⊎ ((d == db ≡ false) × (is_eq (nat_cmp db d) ≡ false)) → get nat_cmp new d ≡ cond (d == db) None (get nat_cmp old d)
+    by_number (inl is) =
+        subst (λ (e : ℕ). get nat_cmp new e ≡ cond (e == db) None (get nat_cmp old e)) is
+        (replaced old new db None has ∙ sym (ap (λ (t : Bool). cond t None (get nat_cmp old db)) (eq-eqb db db refl)))
+    by_number (inr apart) = others old new db None has d apart.1 ∙ sym (ap (λ (t : Bool). cond t None (get nat_cmp old d)) apart.0)
+
+-- a tree is what it was before
+pub forest_back : (before old new : Forest) (db : ℕ) (t : DbTree) (o : Option DbTree) → get nat_cmp before db ≡ Some t → Replaces before old db o → Replaces old new db (Some t) → IsSameForest before new
+forest_back before old new db t o was has back d = by_number (number_cases db d)
+  where
+    by_number : (db ≡ d) ⊎ ((d == db ≡ false) × (is_eq (nat_cmp db d) ≡ false)) → get nat_cmp new d ≡ get nat_cmp before d
+    by_number (inl is) = subst (λ (e : ℕ). get nat_cmp new e ≡ get nat_cmp before e) is (replaced old new db (Some t) back ∙ sym was)
+    by_number (inr apart) = others old new db (Some t) back d apart.1 ∙ others before old db o has d apart.1
+
+-- what is seen where a tree was written over
+pub tree_change : (old new : Forest) (db : ℕ) (before after : DbTree) (name : Name) (change : Option Occupied → Option Occupied) → Some before ≡ get nat_cmp old db → Replaces old new db (Some after) →
+    ((x : Name) → value_at x (occupied after.cells) ≡ cond (is_eq (name_cmp name x)) (change (value_at x (occupied before.cells))) (value_at x (occupied before.cells))) →
+    HasChange (cells_seen old) (cells_seen new) db name change
+tree_change old new db before after name change there has is =
+    forest_change old new db (Some after) name change has
+    (subst (λ (o : Option DbTree). (x : Name) → value_at x (occupied after.cells) ≡ cond (is_eq (name_cmp name x)) (change (value_at x (occupied (cells_of o)))) (value_at x (occupied (cells_of o)))) there is)
+
+pub tree_same : (old new : Forest) (db : ℕ) (before after : DbTree) → Some before ≡ get nat_cmp old db → Replaces old new db (Some after) → occupied after.cells ≡ occupied before.cells → AreSame (cells_seen old) (cells_seen new)
+tree_same old new db before after there has same = forest_same old new db (Some after) has (same ∙ ap (λ (o : Option DbTree). occupied (cells_of o)) there)

@@ -7,6 +7,7 @@ use Rattle.record_map.specs.Cells.{value_at, IsRising}
 use Rattle.record_tree.specs.declared.tree_name.TreeName.{TreeName}
 use Rattle.record_tree.specs.Occupied.{Occupied, AllCells, HasChangedAll, is_among, after_commit, after_abort, if_occupied}
 use Rattle.in_tree.specs.Forest.{Forest, cells_seen, HasSameTrees, HasChange}
+use Rattle.in_tree.specs.Waits.{waits_in}
 use Rattle.in_tree.proofs.Preparation.{same_test}
 
 -- a change that is made twice is made once
@@ -39,6 +40,7 @@ pub record NamesLeft (before trees : Forest) (names left : List TreeName) (chang
   pub cells : (last : AllCells) → HasChangedAll (cells_seen trees) last left change → HasChangedAll (cells_seen before) last names change
   pub same : HasSameTrees before trees
   pub rising : (d : ℕ) → IsRising (cells_seen before d) → IsRising (cells_seen trees d)
+  pub waits : waits_in trees ≡ waits_in before
 
 by_tests : (change : Option Occupied → Option Occupied) → IsOnce change → (hit among : Bool) (o : Option Occupied) →
     cond among (change (cond hit (change o) o)) (cond hit (change o) o) ≡ cond (hit || among) (change o) o
@@ -48,11 +50,12 @@ by_tests change once false among o = refl
 
 pub names_step : (before trees after : Forest) (names left : List TreeName) (e : TreeName) (change : Option Occupied → Option Occupied) → IsOnce change →
     NamesLeft before trees names (e ∷ left) change → HasChange (cells_seen trees) (cells_seen after) e.db e.name change → HasSameTrees trees after →
-    ((d : ℕ) → IsRising (cells_seen trees d) → IsRising (cells_seen after d)) → NamesLeft before after names left change
-names_step before trees after names left e change once so_far has same rising = record {
+    ((d : ℕ) → IsRising (cells_seen trees d) → IsRising (cells_seen after d)) → waits_in after ≡ waits_in trees → NamesLeft before after names left change
+names_step before trees after names left e change once so_far has same rising waits = record {
   cells = λ last changed. so_far.cells last (λ d x. step last changed d x);
   same = λ d. same d ∙ so_far.same d;
   rising = λ d up. rising d (so_far.rising d up);
+  waits = waits ∙ so_far.waits;
 }
   where
     step : (last : AllCells) → HasChangedAll (cells_seen after) last left change → (d : ℕ) (x : Name) →
@@ -65,4 +68,4 @@ names_step before trees after names left e change once so_far has same rising = 
         ∙ by_tests change once (e.db == d && is_eq (name_cmp e.name x)) (is_among d x left) (value_at x (cells_seen trees d))
 
 pub names_begin : (trees : Forest) (names : List TreeName) (change : Option Occupied → Option Occupied) → NamesLeft trees trees names names change
-names_begin trees names change = record { cells = λ last changed. changed; same = λ d. refl; rising = λ d up. up }
+names_begin trees names change = record { cells = λ last changed. changed; same = λ d. refl; rising = λ d up. up; waits = refl }

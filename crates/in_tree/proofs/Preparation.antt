@@ -1,28 +1,34 @@
--- What is taken before changes are logged, change by change.
-use Rattle.std.proofs.Common.{◌≡◌, ◌≤◌, ◌+◌, ◌==◌, ◌||◌, ◌⊎◌, ℕ, List, [], ◌∷◌, Bool, true, false, cond, Option, None, Some, IfSome, refl, ap, sym, subst, ◌∙◌, inl, inr, arith, drop, length, get_or, ◌<◌}
+-- Trees that are made for the databases of changes, and taken out again.
+use Rattle.std.proofs.Common.{◌≡◌, ◌≤◌, ◌<◌, ◌+◌, ◌==◌, ◌||◌, ◌⊎◌, ℕ, length, get_or, drop, List, [], ◌∷◌, Bool, true, false, cond, Option, None, Some, IfSome, refl, ap, sym, subst, ◌∙◌, inl, inr}
+use Rattle.std.proofs.Math.Nat.{le_refl, le_trans}
 use Rattle.std.specs.Ordering.{is_eq, nat_cmp}
+use Rattle.std.specs.BTreeMap.{get}
 use Rattle.std.specs.List.{AllByRecursion}
 use Rattle.std.proofs.lemmas.Bool.{eq-eqb, ne_eqb, true≢false}
-use Rattle.std.proofs.lemmas.List.{drop_more}
+use Rattle.std.proofs.lemmas.List.{drop_all}
+use Rattle.db_tree.proofs.Ending.{next_left}
+use Rattle.db_tree.specs.declared.tree.DbTree.{DbTree}
 use Rattle.record_tree.specs.declared.tree_change.TreeChange.{TreeChange}
 use Rattle.record_tree.specs.Logged.{is_made, makes_db}
 use Rattle.record_tree.specs.Occupied.{AreSame}
-use Rattle.in_tree.specs.declared.trees.Trees.{Trees}
-use Rattle.in_tree.specs.Forest.{Forest, cells_at, cells_seen, is_there, HasSameTrees, KeepsCells, HasOne}
-use Rattle.in_tree.specs.Limits.{one_made, count_made, last_number}
+use Rattle.in_tree.specs.Forest.{Forest, cells_at, cells_seen, is_there, KeepsCells}
+use Rattle.in_tree.specs.Waits.{waits_in}
 use Rattle.in_tree.proofs.Forests.{number_cases}
-
--- ---- loops over a list
 
 -- ---- making trees
 
 -- some trees were made, and those of the changes that are left are not
-pub record MakesLeft (old new : Trees) (changes left : List TreeChange) : Type 0 where
-  pub same : AreSame (cells_seen old.forest) (cells_seen new.forest)
-  pub none : AllByRecursion (λ c. IfSome c.makes (λ d. cells_at new.forest d ≡ [])) left
-  pub made : (d : ℕ) → (is_made d left || is_there new.forest d) ≡ (is_made d changes || is_there old.forest d)
+pub record MakesLeft (old new : Forest) (changes left : List TreeChange) : Type 0 where
+  pub same : AreSame (cells_seen old) (cells_seen new)
+  pub none : AllByRecursion (λ c. IfSome c.makes (λ d. cells_at new d ≡ [])) left
+  pub made : (d : ℕ) → (is_made d left || is_there new d) ≡ (is_made d changes || is_there old d)
+  pub stay : (d : ℕ) → is_made d changes ≡ false → get nat_cmp new d ≡ get nat_cmp old d
   pub within : (d : ℕ) → is_made d changes ≡ false → is_made d left ≡ false
-  pub ids : new.last_node + count_made left ≤ last_number
+  pub kept : KeepsCells old new
+  pub waits : waits_in new ≤ waits_in old
+
+pub makes_begin : (old : Forest) (changes : List TreeChange) → AllByRecursion (λ c. IfSome c.makes (λ d. cells_at old d ≡ [])) changes → MakesLeft old old changes changes
+makes_begin old changes none = record { same = λ d. refl; none = none; made = λ d. refl; stay = λ d h. refl; within = λ d h. h; kept = λ d x h. h; waits = le_refl (waits_in old) }
 
 none_stays : (old new : Forest) (changes : List TreeChange) → ((d : ℕ) → cells_at old d ≡ [] → cells_at new d ≡ []) →
     AllByRecursion (λ c. IfSome c.makes (λ d. cells_at old d ≡ [])) changes → AllByRecursion (λ c. IfSome c.makes (λ d. cells_at new d ≡ [])) changes
@@ -38,25 +44,40 @@ or_swap true true c = refl
 or_swap true false c = refl
 or_swap false b c = refl
 
-or_false : (a b : Bool) → (a || b) ≡ false → b ≡ false
-or_false true b h = absurd (true≢false h)
-or_false false b h = h
+pub or_false_right : (a b : Bool) → (a || b) ≡ false → b ≡ false
+or_false_right true b h = absurd (true≢false h)
+or_false_right false b h = h
 
-pub makes_step : (old mid new : Trees) (changes left : List TreeChange) (c : TreeChange) → MakesLeft old mid changes (c ∷ left) → AreSame (cells_seen mid.forest) (cells_seen new.forest) →
-    ((d : ℕ) → is_there new.forest d ≡ (makes_db d c.makes || is_there mid.forest d)) → ((d : ℕ) → cells_at mid.forest d ≡ [] → cells_at new.forest d ≡ []) → new.last_node ≡ mid.last_node + one_made c.makes →
-    MakesLeft old new changes left
-makes_step old mid new changes left c so_far same made none last = record {
-  same = λ d. same d ∙ so_far.same d;
-  none = none_stays mid.forest new.forest left none so_far.none.1;
-  made = λ d. ap (λ (t : Bool). is_made d left || t) (made d) ∙ or_swap (makes_db d c.makes) (is_made d left) (is_there mid.forest d) ∙ so_far.made d;
-  within = λ d e. or_false (makes_db d c.makes) (is_made d left) (so_far.within d e);
-  ids = omega (arith, last, so_far.ids);
+pub or_false_left : (a b : Bool) → (a || b) ≡ false → a ≡ false
+or_false_left true b h = absurd (true≢false h)
+or_false_left false b h = refl
+
+-- what one change more did, whether memory ran out or not
+pub record MadeOne (old new : Forest) (c : TreeChange) : Type 0 where
+  pub same : AreSame (cells_seen old) (cells_seen new)
+  pub stay : (d : ℕ) → makes_db d c.makes ≡ false → get nat_cmp new d ≡ get nat_cmp old d
+  pub none : (d : ℕ) → cells_at old d ≡ [] → cells_at new d ≡ []
+  pub kept : KeepsCells old new
+  pub waits : waits_in new ≤ waits_in old
+
+pub makes_step : (old mid new : Forest) (changes left : List TreeChange) (c : TreeChange) → MakesLeft old mid changes (c ∷ left) → MadeOne mid new c →
+    ((d : ℕ) → is_there new d ≡ (makes_db d c.makes || is_there mid d)) → MakesLeft old new changes left
+makes_step old mid new changes left c so_far one made = record {
+  same = λ d. one.same d ∙ so_far.same d;
+  none = none_stays mid new left one.none so_far.none.1;
+  made = λ d. ap (λ (t : Bool). is_made d left || t) (made d) ∙ or_swap (makes_db d c.makes) (is_made d left) (is_there mid d) ∙ so_far.made d;
+  stay = λ d h. one.stay d (or_false_left (makes_db d c.makes) (is_made d left) (so_far.within d h)) ∙ so_far.stay d h;
+  within = λ d h. or_false_right (makes_db d c.makes) (is_made d left) (so_far.within d h);
+  kept = λ d x there. one.kept d x (so_far.kept d x there);
+  waits = le_trans one.waits so_far.waits;
 }
 
--- a database that no change makes has a tree as before
-pub makes_stay : (old new : Trees) (changes left : List TreeChange) → MakesLeft old new changes left → (d : ℕ) → is_made d changes ≡ false → is_there new.forest d ≡ is_there old.forest d
-makes_stay old new changes left so_far d none =
-    ap (λ (t : Bool). t || is_there new.forest d) (sym (so_far.within d none)) ∙ so_far.made d ∙ ap (λ (t : Bool). t || is_there old.forest d) none
+-- before one more, and behind the last one
+pub makes_turn : (old new : Forest) (changes : List TreeChange) (i : ℕ) (c : TreeChange) → i < length changes → c ≡ get_or changes i c → MakesLeft old new changes (drop i changes) → MakesLeft old new changes (c ∷ drop (i + 1) changes)
+makes_turn old new changes i c within is so_far = subst (λ (l : List TreeChange). MakesLeft old new changes l) (next_left changes i c within is) so_far
+
+pub makes_end : (old new : Forest) (changes : List TreeChange) (i : ℕ) → length changes ≤ i → MakesLeft old new changes (drop i changes) → (d : ℕ) → is_there new d ≡ (is_made d changes || is_there old d)
+makes_end old new changes i all so_far d = (subst (λ (l : List TreeChange). MakesLeft old new changes l) (drop_all i changes all) so_far).made d
 
 -- the test of a number, the other way round
 pub same_test : (a b : ℕ) → (a == b) ≡ (b == a)
@@ -73,57 +94,34 @@ made_is d db there = by_test (d == db) ∙ ap (λ (t : Bool). t || there) (same_
     by_test true = refl
     by_test false = refl
 
-pub gone_is : (d db : ℕ) (there : Bool) → cond (d == db) false there ≡ cond (makes_db d (Some db)) false there
-gone_is d db there = ap (λ (t : Bool). cond t false there) (same_test d db)
+pub apart_made : (d db : ℕ) → makes_db d (Some db) ≡ false → d == db ≡ false
+apart_made d db h = same_test d db ∙ h
 
--- ---- putting cells
+pub gone_is : (d db : ℕ) (t : Option DbTree) → cond (d == db) None t ≡ cond (makes_db d (Some db)) None t
+gone_is d db t = ap (λ (b : Bool). cond b None t) (same_test d db)
 
--- some cells were made, and those of the changes that are left may not be there
-pub record CellsLeft (old new : Forest) (changes left : List TreeChange) : Type 0 where
-  pub same : AreSame (cells_seen old) (cells_seen new)
-  pub trees : HasSameTrees old new
-  pub have : AllByRecursion (λ c. is_there new c.db ≡ true) left
-  pub there : (last : Forest) → KeepsCells new last → AllByRecursion (λ c. HasOne last c.db c.name) left → AllByRecursion (λ c. HasOne last c.db c.name) changes
+-- ---- taking them out again
 
-have_stays : (old new : Forest) (changes : List TreeChange) → HasSameTrees old new → AllByRecursion (λ c. is_there old c.db ≡ true) changes → AllByRecursion (λ c. is_there new c.db ≡ true) changes
-have_stays old new [] same all = tt
-have_stays old new (c ∷ changes) same all = (same c.db ∙ all.0, have_stays old new changes same all.1)
+-- some trees were taken out, and those that are left were not
+pub record DropsLeft (old new : Forest) (changes left : List TreeChange) : Type 0 where
+  pub trees : (d : ℕ) → cond (is_made d left) None (get nat_cmp new d) ≡ cond (is_made d changes) None (get nat_cmp old d)
 
-pub cells_step : (old mid new : Forest) (changes left : List TreeChange) (c : TreeChange) → CellsLeft old mid changes (c ∷ left) → AreSame (cells_seen mid) (cells_seen new) → HasSameTrees mid new →
-    KeepsCells mid new → HasOne new c.db c.name → CellsLeft old new changes left
-cells_step old mid new changes left c so_far same trees kept one = record {
-  same = λ d. same d ∙ so_far.same d;
-  trees = λ d. trees d ∙ so_far.trees d;
-  have = have_stays mid new left trees so_far.have.1;
-  there = λ last keeps all. so_far.there last (λ d x there. keeps d x (kept d x there)) (keeps c.db c.name one, all);
+or_gone : (a b : Bool) (t : Option DbTree) → cond b None (cond a None t) ≡ cond (a || b) None t
+or_gone true true t = refl
+or_gone true false t = refl
+or_gone false b t = refl
+
+pub drops_step : (old mid new : Forest) (changes left : List TreeChange) (c : TreeChange) → DropsLeft old mid changes (c ∷ left) →
+    ((d : ℕ) → get nat_cmp new d ≡ cond (makes_db d c.makes) None (get nat_cmp mid d)) → DropsLeft old new changes left
+drops_step old mid new changes left c so_far gone = record {
+  trees = λ d. ap (λ (t : Option DbTree). cond (is_made d left) None t) (gone d) ∙ or_gone (makes_db d c.makes) (is_made d left) (get nat_cmp mid d) ∙ so_far.trees d;
 }
 
--- ---- giving back
+pub drops_begin : (old : Forest) (changes : List TreeChange) → DropsLeft old old changes changes
+drops_begin old changes = record { trees = λ d. refl }
 
--- some of what was made was taken back, and what was made for the changes that are left was not
-pub record BackLeft (old new : Forest) (changes left : List TreeChange) : Type 0 where
-  pub same : AreSame (cells_seen old) (cells_seen new)
-  pub empty : AllByRecursion (λ c. IfSome c.makes (λ d. cells_seen new d ≡ [])) left
-  pub trees : (d : ℕ) → cond (is_made d left) false (is_there new d) ≡ cond (is_made d changes) false (is_there old d)
+pub drops_turn : (old new : Forest) (changes : List TreeChange) (i : ℕ) (c : TreeChange) → i < length changes → c ≡ get_or changes i c → DropsLeft old new changes (drop i changes) → DropsLeft old new changes (c ∷ drop (i + 1) changes)
+drops_turn old new changes i c within is so_far = subst (λ (l : List TreeChange). DropsLeft old new changes l) (next_left changes i c within is) so_far
 
-empty_stays : (old new : Forest) (changes : List TreeChange) → AreSame (cells_seen old) (cells_seen new) →
-    AllByRecursion (λ c. IfSome c.makes (λ d. cells_seen old d ≡ [])) changes → AllByRecursion (λ c. IfSome c.makes (λ d. cells_seen new d ≡ [])) changes
-empty_stays old new [] same all = tt
-empty_stays old new (c ∷ changes) same all = (by_made c.makes all.0, empty_stays old new changes same all.1)
-  where
-    by_made : (o : Option ℕ) → IfSome o (λ d. cells_seen old d ≡ []) → IfSome o (λ d. cells_seen new d ≡ [])
-    by_made None h = tt
-    by_made (Some d) h = same d ∙ h
-
-or_gone : (a b there : Bool) → cond b false (cond a false there) ≡ cond (a || b) false there
-or_gone true true there = refl
-or_gone true false there = refl
-or_gone false b there = refl
-
-pub back_step : (old mid new : Forest) (changes left : List TreeChange) (c : TreeChange) → BackLeft old mid changes (c ∷ left) → AreSame (cells_seen mid) (cells_seen new) →
-    ((d : ℕ) → is_there new d ≡ cond (makes_db d c.makes) false (is_there mid d)) → BackLeft old new changes left
-back_step old mid new changes left c so_far same trees = record {
-  same = λ d. same d ∙ so_far.same d;
-  empty = empty_stays mid new left same so_far.empty.1;
-  trees = λ d. ap (λ (t : Bool). cond (is_made d left) false t) (trees d) ∙ or_gone (makes_db d c.makes) (is_made d left) (is_there mid d) ∙ so_far.trees d;
-}
+pub drops_end : (old new : Forest) (changes : List TreeChange) (i : ℕ) → length changes ≤ i → DropsLeft old new changes (drop i changes) → (d : ℕ) → get nat_cmp new d ≡ cond (is_made d changes) None (get nat_cmp old d)
+drops_end old new changes i all so_far d = (subst (λ (l : List TreeChange). DropsLeft old new changes l) (drop_all i changes all) so_far).trees d

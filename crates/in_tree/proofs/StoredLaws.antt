@@ -25,9 +25,10 @@ use Rattle.in_tree.specs.Forest.{Forest, cells_of, cells_at, is_there, cells_see
 use Rattle.db_tree.specs.Seen.{occupied}
 use Rattle.db_tree.specs.Stored.{with_logged}
 use Rattle.db_tree.specs.Stored.{stored_by, stored_under, with_name, stored_in, AreQuiet, HasLogged}
-use Rattle.in_tree.specs.Stored.{stored_of, committed_cell, IsQuiet}
+use Rattle.in_tree.specs.Stored.{stored_of, committed_cell, IsQuiet, IsSlotFor}
 use Rattle.db_tree.proofs.Contents.{none_behind}
-use Rattle.in_tree.proofs.Forests.{number_cases, number_same, Replaces, replaced, others}
+use Rattle.in_tree.specs.Forest.{Replaces}
+use Rattle.in_tree.proofs.Forests.{number_cases, number_same, replaced, others}
 
 -- ---- the records of cells
 
@@ -173,6 +174,50 @@ logged_quiet old new name value lsn up_new logged quiet =
     quiet_change old new name (with_logged value lsn logged.commit logged.last before) quiet up_new logged.cell (logged_write value lsn logged.commit logged.last before ∙ quiet_or_fresh old name quiet)
 
 -- ---- the trees of all databases
+
+-- a name's slot, before anything is committed of it
+pub slot_none : (x : Name) (old new : List (Name × Cell)) → new ≡ old → IsSlotFor x old new
+slot_none x old new same = record { here = ap (λ (l : List (Name × Cell)). cell_or_fresh (value_at x l)) same; others = λ y apart. ap (value_at y) same }
+
+pub slot_made : (x : Name) (old new : List (Name × Cell)) → HasCell old new x (cell_or_fresh (value_at x old)) → IsSlotFor x old new
+slot_made x old new has = record {
+  here = ap cell_or_fresh (has x ∙ same_gets x (Some (cell_or_fresh (value_at x old))) (value_at x old));
+  others = λ y apart. has y ∙ other_stays x y (Some (cell_or_fresh (value_at x old))) (value_at y old) apart;
+}
+
+pub slot_logged : (old mid new : List (Name × Cell)) (x : Name) (value : Option (List ℕ)) (lsn : ℕ) → IsSlotFor x old mid → HasLogged mid new x value lsn → HasLogged old new x value lsn
+slot_logged old mid new x value lsn slot logged = record {
+  commit = logged.commit;
+  last = logged.last;
+  cell = subst (λ (c : Cell). HasCell old new x (with_logged value lsn logged.commit logged.last c)) slot.here
+      (λ y. logged.cell y ∙ by_name y (same_or_other x y));
+}
+  where
+    now : Cell
+    now = with_logged value lsn logged.commit logged.last (cell_or_fresh (value_at x mid))
+
+    by_name : (y : Name) → (x ≡ y) ⊎ (is_eq (name_cmp x y) ≡ false) →
+        cond (is_eq (name_cmp x y)) (Some (with_logged value lsn logged.commit logged.last (cell_or_fresh (value_at x mid)))) (value_at y mid)
+        ≡ cond (is_eq (name_cmp x y)) (Some (with_logged value lsn logged.commit logged.last (cell_or_fresh (value_at x mid)))) (value_at y old)
+    by_name y (inl same) =
+        subst
+        (λ (z : Name). cond (is_eq (name_cmp x z)) (Some (with_logged value lsn logged.commit logged.last (cell_or_fresh (value_at x mid)))) (value_at z mid)
+        ≡ cond (is_eq (name_cmp x z)) (Some (with_logged value lsn logged.commit logged.last (cell_or_fresh (value_at x mid)))) (value_at z old)) same
+        (same_gets x (Some (with_logged value lsn logged.commit logged.last (cell_or_fresh (value_at x mid)))) (value_at x mid)
+        ∙ sym (same_gets x (Some (with_logged value lsn logged.commit logged.last (cell_or_fresh (value_at x mid)))) (value_at x old)))
+    by_name y (inr apart) = ap (λ (o : Option Cell). cond (is_eq (name_cmp x y)) (Some (with_logged value lsn logged.commit logged.last (cell_or_fresh (value_at x mid)))) o) (slot.others y apart)
+
+pub slot_quiet : (old new : List (Name × Cell)) (x : Name) → IsSlotFor x old new → IsRising new → AreQuiet old → AreQuiet new
+slot_quiet old new x slot up quiet = record { rising = up; quiet = λ y c found. by_name y c found (same_or_other x y) }
+  where
+    of_cell : (o : Option Cell) (c : Cell) → o ≡ Some c → c ≡ cell_or_fresh o
+    of_cell None c is = absurd (none-some c is)
+    of_cell (Some e) c is = sym (same_Some e c is)
+
+    by_name : (y : Name) (c : Cell) → value_at y new ≡ Some c → (x ≡ y) ⊎ (is_eq (name_cmp x y) ≡ false) → c.write ≡ None
+    by_name y c found (inl same) =
+        ap (λ (e : Cell). e.write) (of_cell (value_at x new) c (subst (λ (z : Name). value_at z new ≡ Some c) (sym same) found) ∙ slot.here) ∙ quiet_or_fresh old x quiet
+    by_name y c found (inr apart) = quiet.quiet y c (sym (slot.others y apart) ∙ found)
 
 pub none_quiet : AreQuiet []
 unfolding IsStrictlySortedBy

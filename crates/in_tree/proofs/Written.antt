@@ -1,8 +1,9 @@
 -- Changes are written one after the other.
-use Rattle.std.proofs.Common.{◌≡◌, ◌≤◌, ◌==◌, ◌&&◌, ℕ, List, [], ◌∷◌, Bool, true, false, cond, Option, None, Some, map, find, reverse, refl, ap, ap₂, sym, subst, ◌∙◌, arith, is_eq, length, Result, Ok, Err, OnErr}
+use Rattle.std.proofs.Common.{◌≡◌, ◌≤◌, ◌+◌, ◌==◌, ◌&&◌, ◌++◌, ℕ, List, [], ◌∷◌, Bool, true, false, cond, Option, None, Some, map, find, reverse, refl, ap, ap₂, sym, subst, ◌∙◌, arith, is_eq, length, drop, suc, append-nil, Result, Ok, Err, OnErr}
+use Rattle.std.proofs.Math.Nat.{le_refl, le_trans}
 use Rattle.std.specs.List.{AllByRecursion}
 use Rattle.std.specs.Option.{option_or}
-use Rattle.std.proofs.lemmas.List.{reverse-append}
+use Rattle.std.proofs.lemmas.List.{append_assoc, drop_all, reverse-append}
 use Rattle.std.proofs.lemmas.List.Folds.{find-append}
 use Rattle.je_disk.specs.Moments.{History}
 use Rattle.je_order.specs.Order.{name_cmp}
@@ -11,6 +12,7 @@ use Rattle.je_order.specs.declared.txn_id.TxnId.{TxnId}
 use Rattle.log_entry.specs.Body.{IsEntry}
 use Rattle.log_entry.specs.Encoding.{size_of}
 use Rattle.log_entry.specs.declared.entry.Entry.{Entry}
+use Rattle.log_entry.specs.declared.entry.Entry.TheVariants.{In, Bin}
 use Rattle.log_file.specs.Scan.{may_follow}
 use Rattle.log_buffer.specs.declared.buffer.LogBuffer.{LogBuffer}
 use Rattle.log_buffer.specs.declared.log_pos.LogPos.{LogPos}
@@ -20,12 +22,21 @@ use Rattle.log_buffer.proofs.LogPositions.{all_after}
 use Rattle.record_map.specs.declared.write.Write.{Write}
 use Rattle.record_map.specs.Cells.{value_at, IsRising}
 use Rattle.record_tree.specs.declared.tree_change.TreeChange.{TreeChange}
-use Rattle.record_tree.specs.Logged.{entry_for, LogsChanges, IsFront, is_change_of, last_change}
-use Rattle.record_tree.specs.Occupied.{AllCells, AreWritten, IsWritten, value_in, write_in}
-use Rattle.in_tree.specs.Forest.{Forest, cells_seen, HasSameTrees, KeepsCells, HasOne, HasChange, write_for}
+use Rattle.record_tree.specs.Logged.{entry_for, IsImage, AreImages, LogsChanges, IsFront, is_change_of, last_change}
+use Rattle.record_tree.specs.Occupied.{Occupied, AllCells, AreWritten, IsWritten, value_in, write_in}
+use Rattle.db_tree.specs.declared.tree.DbTree.{DbTree}
+use Rattle.db_tree.specs.declared.slot_room.SlotRoom.{SlotRoom}
+use Rattle.db_tree.specs.declared.node_image.NodeImage.{NodeImage}
 use Rattle.db_tree.specs.Seen.{with_change}
-use Rattle.in_tree.specs.Limits.{change_size, sizes_for, HasRoomFor, end_behind, FitsLog, GrewFitting, TriedFitting}
+use Rattle.db_tree.specs.Shapes.{shape_in}
+use Rattle.db_tree.specs.NodeImages.{IsLoggable}
+use Rattle.db_tree.specs.Splits.{count_waiting}
+use Rattle.in_tree.specs.Forest.{Forest, cells_seen, HasSameTrees, KeepsCells, HasOne, HasChange, write_for}
+use Rattle.in_tree.specs.Limits.{change_size, commit_sizes, HasRoomFor, end_behind, FitsLog, GrewFitting, TriedFitting}
 use Rattle.in_tree.specs.Fitting.{fitting_none, fitting_then, fitting_tried}
+use Rattle.in_tree.specs.Logging.{LogsImage, TriesImage, LogsImages, TriesImages, LogsChange, TriesChange}
+use Rattle.in_tree.specs.Placing.{room_sizes, placed_sizes, count_images, AreLoggable}
+use Rattle.in_tree.specs.Waits.{waits_in}
 use Rattle.in_tree.proofs.Preparation.{same_test}
 
 -- ---- sizes
@@ -118,9 +129,6 @@ pub logs_all : (txn : TxnId) (changes : List TreeChange) → LogsChanges txn cha
 logs_all txn [] = refl
 logs_all txn (c ∷ changes) = ([], entries_of txn changes, tt, refl, logs_all txn changes)
 
-pub logs_one : (txn : TxnId) (c : TreeChange) (left : List TreeChange) (rest : List Entry) → LogsChanges txn left rest → LogsChanges txn (c ∷ left) (entry_for txn c.db c.name c.value ∷ rest)
-logs_one txn c left rest logs = ([], rest, tt, refl, logs)
-
 -- ---- lists
 
 first_or : {X : Type 0} → X → List X → X
@@ -147,80 +155,215 @@ pub on_err : {X Y : Type 0} (r : Result X Y) {P : Type 0} → P → OnErr r P
 on_err (Ok x) h = tt
 on_err (Err y) h = h
 
--- ---- both
+pub err_then : {X Y P Q : Type 0} (r : Result X Y) → (P → Q) → OnErr r P → OnErr r Q
+err_then (Ok x) f h = tt
+err_then (Err y) f h = f h
+
+-- a change of cells that are as others are
+pub change_since : (old mid new : AllCells) (db : ℕ) (name : Name) (change : Option Occupied → Option Occupied) → ((d : ℕ) → mid d ≡ old d) → HasChange mid new db name change → HasChange old new db name change
+change_since old mid new db name change same has d x =
+    subst (λ (l : List (Name × Occupied)). value_at x (new d) ≡ cond (d == db && is_eq (name_cmp name x)) (change (value_at x l)) (value_at x l)) (same d) (has d x)
+
+-- ---- images
+
+-- an image may stand behind a header
+pub image_follows : (e : Entry) → IsImage e → may_follow e ≡ true
+image_follows (In db node level slots) is = refl
+image_follows (Bin db node slots) is = refl
+image_follows e is = absurd is
+
+pub images_more : (a b : List Entry) → AreImages a → AreImages b → AreImages (a ++ b)
+images_more [] b first second = second
+images_more (e ∷ a) b first second = (first.0, images_more a b first.1 second)
+
+pub length_more : (a b : List Entry) → length (a ++ b) ≡ length a + length b
+length_more [] b = omega arith
+length_more (e ∷ a) b = let rest = length_more a b in omega (arith, rest)
 
 module _ {D : Type 0} (observable : Bool) (history : D → History) (sync_out read_out : D → Option ℕ) (read_of : D → ℕ) (faults : D → ℕ) where
+  -- some images were logged, and those that are left were not
+  pub record ImagesLeft (old log : LogBuffer D) (before tree : DbTree) (images left : List NodeImage) : Type 0 where
+    pub loggable : AllByRecursion (λ i. IsLoggable i.entry) left
+    pub some_room : (sizes : List ℕ) × HasRoomFor log (map (λ i. size_of i.entry) left ++ sizes)
+    pub room : (sizes : List ℕ) → HasRoomFor old (map (λ i. size_of i.entry) images ++ sizes) → HasRoomFor log (map (λ i. size_of i.entry) left ++ sizes)
+    pub done : (a : List Entry) × AreImages a × (length a + length left ≡ length images) × GrewFitting observable history sync_out read_out read_of faults old log a
+    pub cells : tree.cells ≡ before.cells
+    pub waits : count_waiting (shape_in tree) ≤ count_waiting (shape_in before)
+
+  pub images_begin : (log : LogBuffer D) (tree : DbTree) (images left : List NodeImage) → left ≡ images → AllByRecursion (λ i. IsLoggable i.entry) images → (sizes : List ℕ) × HasRoomFor log (map (λ i. size_of i.entry) images ++ sizes) →
+      ImagesLeft log log tree tree images left
+  images_begin log tree images left is loggable some =
+      subst (λ (l : List NodeImage). ImagesLeft log log tree tree images l) (sym is)
+      (record { loggable = loggable; some_room = some; room = λ sizes for. for; done = ([], tt, omega arith, fitting_none observable history sync_out read_out read_of faults log); cells = refl; waits = le_refl (count_waiting (shape_in tree)) })
+
+  pub images_turn : (old log : LogBuffer D) (before tree : DbTree) (images left more : List NodeImage) → ImagesLeft old log before tree images left → left ≡ more → ImagesLeft old log before tree images more
+  images_turn old log before tree images left more so_far is = subst (λ (l : List NodeImage). ImagesLeft old log before tree images l) is so_far
+
+  pub images_step : (old log new : LogBuffer D) (before tree after : DbTree) (images left : List NodeImage) (i : NodeImage) → ImagesLeft old log before tree images (i ∷ left) →
+      LogsImage observable history sync_out read_out read_of faults log new → ((sizes : List ℕ) → HasRoomFor log (size_of i.entry ∷ sizes) → HasRoomFor new sizes) →
+      after.cells ≡ tree.cells → count_waiting (shape_in after) ≤ count_waiting (shape_in tree) → ImagesLeft old new before after images left
+  images_step old log new before tree after images left i so_far logs room cells waits = record {
+    loggable = so_far.loggable.1;
+    some_room = (so_far.some_room.0, room (map (λ i. size_of i.entry) left ++ so_far.some_room.0) so_far.some_room.1);
+    room = λ sizes for. room (map (λ i. size_of i.entry) left ++ sizes) (so_far.room sizes for);
+    done = (
+      so_far.done.0 ++ logs.0 ∷ [],
+      images_more so_far.done.0 (logs.0 ∷ []) so_far.done.1 (logs.1, tt),
+      (let count = length_more so_far.done.0 (logs.0 ∷ []) in omega (arith, count, so_far.done.2)),
+      fitting_then observable history sync_out read_out read_of faults old log new so_far.done.0 (logs.0 ∷ []) so_far.done.3 logs.2,
+    );
+    cells = cells ∙ so_far.cells;
+    waits = le_trans waits so_far.waits;
+  }
+
+  pub images_fail : (old log new : LogBuffer D) (before tree : DbTree) (images left : List NodeImage) → ImagesLeft old log before tree images left → TriesImage observable history sync_out read_out read_of faults log new →
+      TriesImages observable history sync_out read_out read_of faults old new
+  images_fail old log new before tree images left so_far tries = (
+    so_far.done.0 ++ tries.0 ∷ [],
+    images_more so_far.done.0 (tries.0 ∷ []) so_far.done.1 (tries.1, tt),
+    fitting_tried observable history sync_out read_out read_of faults old log new so_far.done.0 (tries.0 ∷ []) so_far.done.3 tries.2,
+  )
+
+  pub images_end : (old log : LogBuffer D) (before tree : DbTree) (images : List NodeImage) → ImagesLeft old log before tree images [] → LogsImages observable history sync_out read_out read_of faults (length images) old log
+  images_end old log before tree images so_far = (so_far.done.0, so_far.done.1, (let count = so_far.done.2 in omega (arith, count)), so_far.done.3)
+
+  -- ---- a change behind its images
+
+  pub change_logged : (count : ℕ) (txn : TxnId) (c : TreeChange) (old mid new : LogBuffer D) → LogsImages observable history sync_out read_out read_of faults count old mid →
+      GrewFitting observable history sync_out read_out read_of faults mid new (entry_for txn c.db c.name c.value ∷ []) → LogsChange observable history sync_out read_out read_of faults count txn c old new
+  change_logged count txn c old mid new images entry =
+      (images.0, images.1, images.2, fitting_then observable history sync_out read_out read_of faults old mid new images.0 (entry_for txn c.db c.name c.value ∷ []) images.3 entry)
+
+  pub images_tried : (txn : TxnId) (c : TreeChange) (old new : LogBuffer D) → TriesImages observable history sync_out read_out read_of faults old new → TriesChange observable history sync_out read_out read_of faults txn c old new
+  images_tried txn c old new tries = (tries.0, tries.0, tries.1, (entry_for txn c.db c.name c.value ∷ [], refl), tries.2)
+
+  pub entry_tried : (count : ℕ) (txn : TxnId) (c : TreeChange) (old mid new : LogBuffer D) → LogsImages observable history sync_out read_out read_of faults count old mid →
+      TriedFitting observable history sync_out read_out read_of faults mid new (entry_for txn c.db c.name c.value ∷ []) → TriesChange observable history sync_out read_out read_of faults txn c old new
+  entry_tried count txn c old mid new images entry = (
+    images.0,
+    images.0 ++ entry_for txn c.db c.name c.value ∷ [],
+    images.1,
+    ([], append-nil (images.0 ++ entry_for txn c.db c.name c.value ∷ [])),
+    fitting_tried observable history sync_out read_out read_of faults old mid new images.0 (entry_for txn c.db c.name c.value ∷ []) images.3 entry,
+  )
+
+  -- ---- changes
+
   -- some changes were written, and those that are left were not
-  pub record WritesLeft (txn : TxnId) (old log : LogBuffer D) (before trees : Forest) (changes left : List TreeChange) (writes : List Write) : Type 0 where
+  pub record WritesLeft (txn : TxnId) (old log : LogBuffer D) (before trees : Forest) (changes left : List TreeChange) (rooms slots : List SlotRoom) (writes : List Write) : Type 0 where
     pub entries : AllByRecursion (λ c. IsEntry (entry_for txn c.db c.name c.value)) left
+    pub loggable : AreLoggable slots
+    pub paired : length slots ≡ length left
     pub there : AllByRecursion (λ c. HasOne trees c.db c.name) left
     pub writes_are : writes ≡ map (write_for txn) left
-    pub some_room : (owed : ℕ) × HasRoomFor log (sizes_for left owed)
-    pub room : (owed : ℕ) → HasRoomFor old (sizes_for changes owed) → HasRoomFor log (sizes_for left owed)
-    pub grew : (last : LogBuffer D) (b : List Entry) → LogsChanges txn left b → GrewFitting observable history sync_out read_out read_of faults log last b →
-        (a : List Entry) × LogsChanges txn changes a × GrewFitting observable history sync_out read_out read_of faults old last a
+    pub some_room : (owed : ℕ) × HasRoomFor log (placed_sizes left slots ++ commit_sizes owed)
+    pub room : (owed : ℕ) → HasRoomFor old (placed_sizes changes rooms ++ commit_sizes owed) → HasRoomFor log (placed_sizes left slots ++ commit_sizes owed)
+    pub grew : (last : LogBuffer D) (b : List Entry) → LogsChanges txn left b → GrewFitting observable history sync_out read_out read_of faults log last b → length b ≡ count_images slots + length left →
+        (a : List Entry) × LogsChanges txn changes a × GrewFitting observable history sync_out read_out read_of faults old last a × (length a ≡ count_images rooms + length changes)
     pub tried : (last : LogBuffer D) (b f : List Entry) → LogsChanges txn left b → IsFront f b → TriedFitting observable history sync_out read_out read_of faults log last f →
         (a : List Entry) × (g : List Entry) × LogsChanges txn changes a × IsFront g a × TriedFitting observable history sync_out read_out read_of faults old last g
     pub cells : (last : AllCells) → AreWritten txn left (cells_seen trees) last → AreWritten txn changes (cells_seen before) last
     pub same : HasSameTrees before trees
     pub rising : (d : ℕ) → IsRising (cells_seen before d) → IsRising (cells_seen trees d)
+    pub waits : waits_in trees ≤ waits_in before
 
-  pub writes_begin : (txn : TxnId) (log : LogBuffer D) (trees : Forest) (changes : List TreeChange) (writes : List Write) → AllByRecursion (λ c. IsEntry (entry_for txn c.db c.name c.value)) changes →
-      AllByRecursion (λ c. HasOne trees c.db c.name) changes → writes ≡ map (write_for txn) changes → (owed : ℕ) × HasRoomFor log (sizes_for changes owed) →
-      WritesLeft txn log log trees trees changes changes writes
-  writes_begin txn log trees changes writes entries there are room = record {
-    entries = entries;
-    there = there;
-    writes_are = are;
-    some_room = room;
-    room = λ owed for. for;
-    grew = λ last b logs grew. (b, logs, grew);
-    tried = λ last b f logs front tried. (b, f, logs, front, tried);
-    cells = λ last written. written;
-    same = λ d. refl;
-    rising = λ d up. up;
-  }
+  pub writes_begin : (txn : TxnId) (log : LogBuffer D) (trees : Forest) (changes : List TreeChange) (rooms slots : List SlotRoom) (writes : List Write) → slots ≡ rooms → AllByRecursion (λ c. IsEntry (entry_for txn c.db c.name c.value)) changes →
+      AreLoggable rooms → length rooms ≡ length changes → AllByRecursion (λ c. HasOne trees c.db c.name) changes → writes ≡ map (write_for txn) changes → (owed : ℕ) × HasRoomFor log (placed_sizes changes rooms ++ commit_sizes owed) →
+      WritesLeft txn log log trees trees changes changes rooms slots writes
+  writes_begin txn log trees changes rooms slots writes is entries loggable paired there are room =
+      subst (λ (l : List SlotRoom). WritesLeft txn log log trees trees changes changes rooms l writes) (sym is)
+      (record {
+        entries = entries;
+        loggable = loggable;
+        paired = paired;
+        there = there;
+        writes_are = are;
+        some_room = room;
+        room = λ owed for. for;
+        grew = λ last b logs grew count. (b, logs, grew, count);
+        tried = λ last b f logs front tried. (b, f, logs, front, tried);
+        cells = λ last written. written;
+        same = λ d. refl;
+        rising = λ d up. up;
+        waits = le_refl (waits_in trees);
+      })
 
   -- before one change more
-  pub writes_turn : (txn : TxnId) (old log : LogBuffer D) (before trees : Forest) (changes left more : List TreeChange) (ws vs : List Write) → WritesLeft txn old log before trees changes left ws →
-      left ≡ more → ws ≡ vs → WritesLeft txn old log before trees changes more vs
-  writes_turn txn old log before trees changes left more ws vs so_far lefts are =
-      subst (λ (l : List TreeChange). WritesLeft txn old log before trees changes l vs) lefts (subst (λ (l : List Write). WritesLeft txn old log before trees changes left l) are so_far)
+  pub writes_turn : (txn : TxnId) (old log : LogBuffer D) (before trees : Forest) (changes left more : List TreeChange) (rooms slots next : List SlotRoom) (ws vs : List Write) → WritesLeft txn old log before trees changes left rooms slots ws →
+      left ≡ more → slots ≡ next → ws ≡ vs → WritesLeft txn old log before trees changes more rooms next vs
+  writes_turn txn old log before trees changes left more rooms slots next ws vs so_far lefts nexts are =
+      subst (λ (l : List TreeChange). WritesLeft txn old log before trees changes l rooms next vs) lefts
+      (subst (λ (l : List SlotRoom). WritesLeft txn old log before trees changes left rooms l vs) nexts
+      (subst (λ (l : List Write). WritesLeft txn old log before trees changes left rooms slots l) are so_far))
 
   there_stays : (old new : Forest) (changes : List TreeChange) → KeepsCells old new → AllByRecursion (λ c. HasOne old c.db c.name) changes → AllByRecursion (λ c. HasOne new c.db c.name) changes
   there_stays old new [] keeps all = tt
   there_stays old new (c ∷ changes) keeps all = (keeps c.db c.name all.0, there_stays old new changes keeps all.1)
 
-  pub writes_step : (txn : TxnId) (old log new : LogBuffer D) (before trees after : Forest) (changes left : List TreeChange) (c : TreeChange) (write : Write) (writes : List Write) →
-      WritesLeft txn old log before trees changes (c ∷ left) (write ∷ writes) → writes ≡ map (write_for txn) left →
-      GrewFitting observable history sync_out read_out read_of faults log new (entry_for txn c.db c.name c.value ∷ []) → ((sizes : List ℕ) → HasRoomFor log (change_size c ∷ sizes) → HasRoomFor new sizes) →
+  -- the room of a change and those behind it
+  pub room_of_next : (log : LogBuffer D) (c : TreeChange) (left : List TreeChange) (room : SlotRoom) (slots : List SlotRoom) (owed : ℕ) → HasRoomFor log (placed_sizes (c ∷ left) (room ∷ slots) ++ commit_sizes owed) →
+      HasRoomFor log (room_sizes room ++ change_size c ∷ (placed_sizes left slots ++ commit_sizes owed))
+  room_of_next log c left room slots owed = subst (λ (l : List ℕ). HasRoomFor log l) (append_assoc (room_sizes room) (change_size c ∷ placed_sizes left slots) (commit_sizes owed))
+
+  pub writes_step : (txn : TxnId) (old log new : LogBuffer D) (before trees after : Forest) (changes left : List TreeChange) (c : TreeChange) (rooms slots : List SlotRoom) (slot : SlotRoom) (write : Write) (writes : List Write) →
+      WritesLeft txn old log before trees changes (c ∷ left) rooms (slot ∷ slots) (write ∷ writes) → writes ≡ map (write_for txn) left →
+      LogsChange observable history sync_out read_out read_of faults (length slot.images.items) txn c log new → ((sizes : List ℕ) → HasRoomFor log (room_sizes slot ++ change_size c ∷ sizes) → HasRoomFor new sizes) →
       (at : ℕ) × HasChange (cells_seen trees) (cells_seen after) c.db c.name (with_change (record { txn = txn; at = at; value = c.value })) → KeepsCells trees after → HasSameTrees trees after →
-      ((d : ℕ) → IsRising (cells_seen trees d) → IsRising (cells_seen after d)) → WritesLeft txn old new before after changes left writes
-  writes_step txn old log new before trees after changes left c write writes so_far are grew room change kept same rising = record {
+      ((d : ℕ) → IsRising (cells_seen trees d) → IsRising (cells_seen after d)) → waits_in after ≤ waits_in trees → WritesLeft txn old new before after changes left rooms slots writes
+  writes_step txn old log new before trees after changes left c rooms slots slot write writes so_far are logs room change kept same rising waits = record {
     entries = so_far.entries.1;
+    loggable = so_far.loggable.1;
+    paired = (let even = so_far.paired in omega (arith, even));
     there = there_stays trees after left kept so_far.there.1;
     writes_are = are;
-    some_room = (so_far.some_room.0, room (sizes_for left so_far.some_room.0) so_far.some_room.1);
-    room = λ owed for. room (sizes_for left owed) (so_far.room owed for);
-    grew = λ last b logs more. so_far.grew last (entry_for txn c.db c.name c.value ∷ b) (logs_one txn c left b logs)
-        (fitting_then observable history sync_out read_out read_of faults log new last (entry_for txn c.db c.name c.value ∷ []) b grew more);
-    tried = λ last b f logs front more. so_far.tried last (entry_for txn c.db c.name c.value ∷ b) (entry_for txn c.db c.name c.value ∷ f) (logs_one txn c left b logs)
-        (front.0, ap (λ (l : List Entry). entry_for txn c.db c.name c.value ∷ l) front.1)
-        (fitting_tried observable history sync_out read_out read_of faults log new last (entry_for txn c.db c.name c.value ∷ []) f grew more);
+    some_room = (so_far.some_room.0, room (placed_sizes left slots ++ commit_sizes so_far.some_room.0) (room_of_next log c left slot slots so_far.some_room.0 so_far.some_room.1));
+    room = λ owed for. room (placed_sizes left slots ++ commit_sizes owed) (room_of_next log c left slot slots owed (so_far.room owed for));
+    grew = λ last b of_left more count. so_far.grew last (logs.0 ++ entry ∷ b) (logs.0, b, logs.1, refl, of_left)
+        (subst (λ (l : List Entry). GrewFitting observable history sync_out read_out read_of faults log last l) (append_assoc logs.0 (entry ∷ []) b)
+        (fitting_then observable history sync_out read_out read_of faults log new last (logs.0 ++ entry ∷ []) b logs.3 more))
+        (let whole = length_more logs.0 (entry ∷ b) in let front = logs.2 in omega (arith, whole, front, count));
+    tried = λ last b f of_left front more. so_far.tried last (logs.0 ++ entry ∷ b) ((logs.0 ++ entry ∷ []) ++ f) (logs.0, b, logs.1, refl, of_left)
+        (front.0, append_assoc (logs.0 ++ entry ∷ []) f front.0 ∙ ap (λ (l : List Entry). (logs.0 ++ entry ∷ []) ++ l) front.1 ∙ append_assoc logs.0 (entry ∷ []) b)
+        (fitting_tried observable history sync_out read_out read_of faults log new last (logs.0 ++ entry ∷ []) f logs.3 more);
     cells = λ last written. so_far.cells last (written_step txn c left (cells_seen trees) (cells_seen after) last change.0 change.1 written);
     same = λ d. same d ∙ so_far.same d;
     rising = λ d up. rising d (so_far.rising d up);
+    waits = le_trans waits so_far.waits;
   }
+    where
+      entry : Entry
+      entry = entry_for txn c.db c.name c.value
 
   -- a change that met a fault
-  pub writes_fail : (txn : TxnId) (old log new : LogBuffer D) (before trees : Forest) (changes left : List TreeChange) (c : TreeChange) (writes : List Write) →
-      WritesLeft txn old log before trees changes (c ∷ left) writes → TriedFitting observable history sync_out read_out read_of faults log new (entry_for txn c.db c.name c.value ∷ []) →
+  pub writes_fail : (txn : TxnId) (old log new : LogBuffer D) (before trees : Forest) (changes left : List TreeChange) (c : TreeChange) (rooms slots : List SlotRoom) (writes : List Write) →
+      WritesLeft txn old log before trees changes (c ∷ left) rooms slots writes → TriesChange observable history sync_out read_out read_of faults txn c log new →
       (a : List Entry) × (g : List Entry) × LogsChanges txn changes a × IsFront g a × TriedFitting observable history sync_out read_out read_of faults old new g
-  writes_fail txn old log new before trees changes left c writes so_far tried =
-      so_far.tried new (entry_for txn c.db c.name c.value ∷ entries_of txn left) (entry_for txn c.db c.name c.value ∷ []) (logs_one txn c left (entries_of txn left) (logs_all txn left))
-      (entries_of txn left, refl) tried
+  writes_fail txn old log new before trees changes left c rooms slots writes so_far tries =
+      so_far.tried new (tries.0 ++ entry ∷ entries_of txn left) tries.1 (tries.0, entries_of txn left, tries.2, refl, logs_all txn left)
+      (tries.3.0 ++ entries_of txn left, sym (append_assoc tries.1 tries.3.0 (entries_of txn left)) ∙ ap (λ (l : List Entry). l ++ entries_of txn left) tries.3.1 ∙ append_assoc tries.0 (entry ∷ []) (entries_of txn left)) tries.4
+    where
+      entry : Entry
+      entry = entry_for txn c.db c.name c.value
 
   -- all changes were written
-  pub writes_end : (txn : TxnId) (old log : LogBuffer D) (before trees : Forest) (changes : List TreeChange) (writes : List Write) → WritesLeft txn old log before trees changes [] writes →
-      (a : List Entry) × LogsChanges txn changes a × GrewFitting observable history sync_out read_out read_of faults old log a
-  writes_end txn old log before trees changes writes so_far = so_far.grew log [] refl (fitting_none observable history sync_out read_out read_of faults log)
+  pub record AllWritten (txn : TxnId) (old log : LogBuffer D) (before trees : Forest) (changes : List TreeChange) (rooms : List SlotRoom) : Type 0 where
+    pub grew : (a : List Entry) × LogsChanges txn changes a × GrewFitting observable history sync_out read_out read_of faults old log a × (length a ≡ count_images rooms + length changes)
+    pub left : (owed : ℕ) → HasRoomFor old (placed_sizes changes rooms ++ commit_sizes owed) → HasRoomFor log (commit_sizes owed)
+    pub cells : AreWritten txn changes (cells_seen before) (cells_seen trees)
+
+  pub all_written : (txn : TxnId) (old log : LogBuffer D) (before trees : Forest) (changes : List TreeChange) (i : ℕ) (rooms slots : List SlotRoom) (writes : List Write) → length changes ≤ i → WritesLeft txn old log before trees changes (drop i changes) rooms slots writes →
+      AllWritten txn old log before trees changes rooms
+  all_written txn old log before trees changes i rooms slots writes all so_far =
+      let ended = subst (λ (l : List TreeChange). WritesLeft txn old log before trees changes l rooms slots writes) (drop_all i changes all) so_far in
+      by_slots slots ended
+    where
+      by_slots : (l : List SlotRoom) → WritesLeft txn old log before trees changes [] rooms l writes → AllWritten txn old log before trees changes rooms
+      by_slots [] ended = record {
+        grew = ended.grew log [] refl (fitting_none observable history sync_out read_out read_of faults log) refl;
+        left = ended.room;
+        cells = ended.cells (cells_seen trees) (nothing_written txn (cells_seen trees));
+      }
+      by_slots (r ∷ l) ended = absurd (none_more ended.paired)
+        where
+          none_more : suc (length l) ≡ 0 → ⊥
+          none_more h = absurd (omega (arith, h))

@@ -16,7 +16,6 @@ use Rattle.log_buffer.proofs.LogPositions.{appends_join}
 use Rattle.log_buffer.proofs.UnchangedBuffer.{unwritten_same}
 use Rattle.log_buffer.proofs.FaultCauses.{rose_then}
 use Rattle.je_order.specs.Counts.{HasRisen}
-use Rattle.record_tree.specs.Logged.{IsImage}
 use Rattle.in_tree.specs.Limits.{FitsLog, GrewFitting, TriedFitting}
 
 all_both : (P : Entry → Type 0) (a b : List Entry) → AllByRecursion P a → AllByRecursion P b → AllByRecursion P (a ++ b)
@@ -32,7 +31,8 @@ rose_later : (before mid after : ℕ) → before ≤ mid → mid ≤ after → H
 rose_later before mid after low high rose = let failed : Result (Unit {0}) (Unit {0}) = Err tt in rose_then failed before mid after low high rose
 
 module _ {D : Type 0} where
-  unchanged_itself : (x : LogBuffer D) → IsUnchanged x x
+  -- a buffer is itself
+  pub unchanged_itself : (x : LogBuffer D) → IsUnchanged x x
   unchanged_itself x = record { kept = unwritten_same x; disk = refl; failed = refl }
 
   unchanged_then : (x y z : LogBuffer D) → IsUnchanged x y → IsUnchanged y z → IsUnchanged x z
@@ -74,20 +74,18 @@ module _ {D : Type 0} where
     fitting_unchanged x y same = record {
       grew = grew_unchanged observable history sync_out read_out read_of x y same;
       fits = fits_none x;
-      plain = tt;
       none = λ e. same;
       never_falls = subst (λ (n : ℕ). faults (disk_of x) ≤ n) (sym (ap faults same.disk)) (le_refl (faults (disk_of x)));
     }
 
     pub fitting_none : (x : LogBuffer D) → GrewFitting observable history sync_out read_out read_of faults x x []
-    fitting_none x = record { grew = grew_none observable history sync_out read_out read_of x; fits = fits_none x; plain = tt; none = λ e. unchanged_itself x; never_falls = le_refl (faults (disk_of x)) }
+    fitting_none x = record { grew = grew_none observable history sync_out read_out read_of x; fits = fits_none x; none = λ e. unchanged_itself x; never_falls = le_refl (faults (disk_of x)) }
 
     pub fitting_then : (x y z : LogBuffer D) (a b : List Entry) → GrewFitting observable history sync_out read_out read_of faults x y a → GrewFitting observable history sync_out read_out read_of faults y z b →
         GrewFitting observable history sync_out read_out read_of faults x z (a ++ b)
     fitting_then x y z a b first second = record {
       grew = grew_then observable history sync_out read_out read_of x y z a b first.grew second.grew;
       fits = fits_then x y a b first second.fits;
-      plain = all_both (λ e. IsImage e → ⊥) a b first.plain second.plain;
       none = λ e. (let parts = none_both a b e in unchanged_then x y z (first.none parts.0) (second.none parts.1));
       never_falls = le_trans first.never_falls second.never_falls;
     }

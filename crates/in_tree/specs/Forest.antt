@@ -46,6 +46,14 @@ abbrev pub HasChange : AllCells → AllCells → ℕ → Name → (Option Occupi
 HasChange old new db name change =
     (d : ℕ) (x : Name) → value_at x (new d) ≡ (if d == db && is_eq (name_cmp name x) then change (value_at x (old d)) else value_at x (old d))
 
+-- the map has another tree, or none, at a number, and all else as before
+abbrev pub Replaces : Forest → Forest → ℕ → Option DbTree → Type 0
+Replaces old new db o = (d : ℕ) → get nat_cmp new d ≡ (if is_eq (nat_cmp db d) then o else get nat_cmp old d)
+
+-- each database has the same tree, or none as before
+abbrev pub IsSameForest : Forest → Forest → Type 0
+IsSameForest old new = (d : ℕ) → get nat_cmp new d ≡ get nat_cmp old d
+
 -- each database has a tree as before
 abbrev pub HasSameTrees : Forest → Forest → Type 0
 HasSameTrees old new = (d : ℕ) → is_there new d ≡ is_there old d

@@ -1,7 +1,12 @@
 pub mod Forest
+pub mod Shapes
+pub mod Waits
 pub mod Limits
+pub mod Placing
+pub mod Logging
 pub mod Fitting
 pub mod Stored
-pub mod Shapes
+pub mod Loaded
 pub mod Whole
 pub mod Observed
+pub mod Ready

@@ -6,6 +6,8 @@ use Rattle.record_tree.specs.declared.tree_err.TreeErr.{TreeErr}
 use Rattle.in_tree.specs.declared.log_trees.LogTrees.{LogTrees}
 use Rattle.in_tree.specs.Forest.{cells_seen, is_there}
 use Rattle.in_tree.specs.Limits.{limit_of}
+use Rattle.in_tree.specs.Shapes.{shapes_of}
+use Rattle.in_tree.specs.Waits.{waits_in}
 
 module _ {D : Type 0} where
   -- the occupied names of each database with what they have
@@ -18,4 +20,8 @@ module _ {D : Type 0} where
 
   -- the limit that changes, with so many Commits owed, would meet
   abbrev pub limit_in : LogTrees D → List TreeChange → ℕ → Option TreeErr
-  limit_in x changes owed = limit_of x.log x.trees.last_node changes owed
+  limit_in x changes owed = limit_of x.log x.trees.fanout x.trees.last_node (shapes_of x.trees.forest) changes owed
+
+  -- how many nodes wait to be logged
+  abbrev pub waits_of : LogTrees D → ℕ
+  waits_of x = waits_in x.trees.forest

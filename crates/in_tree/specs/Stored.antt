@@ -1,10 +1,15 @@
 -- The committed records of trees, and trees in which no transaction has changed anything.
-use Rattle.std.specs.Prelude.{◌≡◌, ℕ, false, refl, [], Option, Some, None, is_some, if◌then◌else◌}
+use Rattle.std.specs.Prelude.{◌≡◌, ℕ, List, false, refl, [], Option, Some, None, is_some, if◌then◌else◌}
+use Rattle.std.specs.Ordering.{is_eq}
+use Rattle.je_order.specs.Order.{name_cmp}
 use Rattle.je_order.specs.declared.name.Name.{Name}
+use Rattle.record_map.specs.declared.cell.Cell.{Cell}
+use Rattle.record_map.specs.Cells.{value_at}
 use Rattle.record_tree.specs.Occupied.{Occupied}
 use Rattle.record_tree.specs.Stored.{Stored, AllStored}
 use Rattle.db_tree.specs.declared.tree.DbTree.{DbTree}
 use Rattle.db_tree.specs.Stored.{stored_in, AreQuiet}
+use Rattle.db_tree.specs.Trees.{cell_or_fresh}
 use Rattle.in_tree.specs.Forest.{Forest, cells_of, cells_at}
 
 -- the records of each database
@@ -18,6 +23,11 @@ committed_cell e = (e.0, record { value = Some e.1.value; write = None })
 -- trees in which no transaction has changed anything
 abbrev pub IsQuiet : Forest → Type 0
 IsQuiet forest = (d : ℕ) → AreQuiet (cells_at forest d)
+
+-- a name has a cell more, of which nothing is committed, or the cells are as before
+pub record IsSlotFor (x : Name) (old new : List (Name × Cell)) : Type 0 where
+  pub here : cell_or_fresh (value_at x new) ≡ cell_or_fresh (value_at x old)
+  pub others : (y : Name) → is_eq (name_cmp x y) ≡ false → value_at y new ≡ value_at y old
 
 -- a database without a tree has no records
 pub none_stored : (o : Option DbTree) → is_some o ≡ false → stored_in (cells_of o) ≡ []

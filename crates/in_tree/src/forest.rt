@@ -1,46 +1,66 @@
 // The trees of all databases, by their numbers.
-ghost use Rattle.std.specs.Prelude.{◌≡◌, ℕ, true, false, [], Option, None, Some, IsSome, IfOk, OnOk, OnErr, option_map, if◌then◌else◌, ◌==◌};
+ghost use Rattle.std.specs.Prelude.{◌≡◌, ◌≤◌, ◌⊎◌, ◌+◌, ◌*◌, ℕ, true, false, [], Option, None, Some, IsSome, IfOk, IfErr, OnOk, OnErr, option_map, if◌then◌else◌, ◌==◌};
+ghost use Rattle.std.specs.Ordering.{is_eq, nat_cmp};
+ghost use Rattle.je_order.specs.Order.{name_cmp};
+ghost use Rattle.std.specs.BTreeMap.{get};
 ghost use Rattle.je_order.specs.declared.name.Name.{Name};
 ghost use Rattle.record_map.specs.Cells.{value_at, IsRising, first_of, last_of, from_edge, below_edge, edge_of};
+ghost use Rattle.record_tree.specs.Logged.{IsEndOf};
 ghost use Rattle.record_tree.specs.Occupied.{AreSame, occupied_by, after_commit, after_abort};
-ghost use Rattle.in_tree.specs.Forest.{cells_at, cells_seen, is_there, HasChange, HasSameTrees, KeepsCells, HasOne};
-ghost use Rattle.db_tree.specs.Seen.{with_change, with_value};
-ghost use Rattle.in_tree.specs.Stored.{stored_of, IsQuiet};
+ghost use Rattle.record_tree.specs.declared.tree_err.TreeErr.{TreeErr as Reason};
+ghost use Rattle.db_tree.specs.Seen.{occupied, with_change, with_value};
+ghost use Rattle.db_tree.specs.Shapes.{shape_in};
+ghost use Rattle.db_tree.specs.Splits.{count_waiting};
+ghost use Rattle.db_tree.specs.Stored.{AreQuiet, HasLogged};
+ghost use Rattle.db_tree.specs.Splits.{passes_top};
+ghost use Rattle.in_tree.specs.Forest.{Forest, cells_at, cells_seen, is_there, HasChange, HasSameTrees, IsSameForest, KeepsCells, HasOne};
+ghost use Rattle.in_tree.specs.Placing.{IsPlacedIn};
+ghost use Rattle.in_tree.specs.Shapes.{shapes_of};
+ghost use Rattle.in_tree.specs.Stored.{stored_of, IsQuiet, IsSlotFor};
+ghost use Rattle.in_tree.specs.Waits.{waits_in};
 ghost use Rattle.record_tree.specs.Stored.{stored_at, HasStored, AreStoredStill};
 
-use db_tree::DbTree;
-use je_lsn::Lsn;
+use db_tree::{DbTree, SlotRoom};
+use je_lsn::{FileNo, Lsn};
 use je_order::Octets;
 use record_map::{Cell, SortKey, Write};
+use record_tree::TreeErr;
 use std::alloc::{AllocError, Global};
 use std::collections::BTreeMap;
 
-// Makes a cell for the name where it has none.
-pub(crate) fn put_cell(
+// The LSN before all entries.
+fn beginning() -> Lsn {
+    Lsn::new(FileNo(0), 0)
+}
+
+// Makes a slot for the name where it has none, in its half of a BIN that is split for it. The nodes that this makes have the
+// numbers from `first` on.
+pub(crate) fn place(
     trees: &mut BTreeMap<u32, DbTree>,
     alloc: Global,
     db: u32,
+    fanout: u32,
     name: &SortKey,
-) -> Result<(), AllocError>
+    first: u64,
+) -> Result<SlotRoom, TreeErr>
     requires { is_there trees.old db ≡ true }
-    ensures there { OnOk result (HasOne trees.new db name.now) }
-    ensures kept { KeepsCells trees.old trees.new }
-    ensures same { AreSame (cells_seen trees.old) (cells_seen trees.new) }
-    ensures trees { HasSameTrees trees.old trees.new }
+    ensures placed { IfOk result (λ room. IsPlacedIn fanout db name.now room trees.old trees.new) }
+    ensures high { IsEndOf Reason.IdsEnded result (passes_top fanout name.now (shapes_of trees.old db) ≡ true) }
+    ensures errors { IfErr result (λ e. (e ≡ Reason.IdsEnded) ⊎ (e ≡ Reason.Memory)) }
+    ensures err { OnErr result (IsSameForest trees.old trees.new) }
 {
     match trees.get_mut(&db) {
-        Some(tree) => tree.put_cell(alloc, name),
+        Some(tree) => tree.place(alloc, db, fanout, name, first, beginning()),
         None => unreachable!(),
     }
 }
 
-// Takes the name's cell out where it says nothing.
-pub(crate) fn drop_unused(trees: &mut BTreeMap<u32, DbTree>, db: u32, name: &SortKey)
-    ensures same { AreSame (cells_seen trees.old) (cells_seen trees.new) }
-    ensures trees { HasSameTrees trees.old trees.new }
+// Takes the name's slot back, and what was split for it.
+pub(crate) fn take_back(trees: &mut BTreeMap<u32, DbTree>, db: u32, name: &SortKey, room: &SlotRoom)
+    ensures { (fanout : ℕ) (before : Forest) → IsPlacedIn fanout db name.now room.now before trees.old → IsSameForest before trees.new }
 {
     if let Some(tree) = trees.get_mut(&db) {
-        tree.drop_unused(name);
+        tree.take_back(name, room);
     }
 }
 
@@ -56,6 +76,7 @@ pub(crate) fn set_write(
     ensures kept { KeepsCells trees.old trees.new }
     ensures trees { HasSameTrees trees.old trees.new }
     ensures rising { (d : ℕ) → IsRising (cells_seen trees.old d) → IsRising (cells_seen trees.new d) }
+    ensures waits { waits_in trees.new ≡ waits_in trees.old }
 {
     match trees.get_mut(&db) {
         Some(tree) => tree.put_write(name, write),
@@ -68,6 +89,7 @@ pub(crate) fn commit(trees: &mut BTreeMap<u32, DbTree>, db: u32, name: &SortKey,
     ensures cells { HasChange (cells_seen trees.old) (cells_seen trees.new) db name.now after_commit }
     ensures trees { HasSameTrees trees.old trees.new }
     ensures rising { (d : ℕ) → IsRising (cells_seen trees.old d) → IsRising (cells_seen trees.new d) }
+    ensures waits { waits_in trees.new ≡ waits_in trees.old }
 {
     if let Some(tree) = trees.get_mut(&db) {
         tree.commit_write(name, at);
@@ -79,6 +101,7 @@ pub(crate) fn abort(trees: &mut BTreeMap<u32, DbTree>, db: u32, name: &SortKey)
     ensures cells { HasChange (cells_seen trees.old) (cells_seen trees.new) db name.now after_abort }
     ensures trees { HasSameTrees trees.old trees.new }
     ensures rising { (d : ℕ) → IsRising (cells_seen trees.old d) → IsRising (cells_seen trees.new d) }
+    ensures waits { waits_in trees.new ≡ waits_in trees.old }
 {
     if let Some(tree) = trees.get_mut(&db) {
         tree.abort(name);
@@ -97,7 +120,9 @@ pub(crate) fn make(
     ensures trees { OnOk result ((d : ℕ) → is_there trees.new d ≡ (if d == db then true else is_there trees.old d)) }
     ensures kept { KeepsCells trees.old trees.new }
     ensures none { (d : ℕ) → cells_at trees.old d ≡ [] → cells_at trees.new d ≡ [] }
-    ensures err { OnErr result (HasSameTrees trees.old trees.new) }
+    ensures others { (d : ℕ) → d == db ≡ false → get nat_cmp trees.new d ≡ get nat_cmp trees.old d }
+    ensures err { OnErr result (IsSameForest trees.old trees.new) }
+    ensures waits { waits_in trees.new ≤ waits_in trees.old }
     ensures stored { AreStoredStill (stored_of trees.old) (stored_of trees.new) }
     ensures quiet { IsQuiet trees.old → IsQuiet trees.new }
 {
@@ -106,26 +131,92 @@ pub(crate) fn make(
     Ok(())
 }
 
-// Sets what is committed of the name: the record that was logged at `at`, or none. A redo finds the change again from
-// `first` on.
-pub(crate) fn redo(
-    trees: &mut BTreeMap<u32, DbTree>,
+// Makes a slot for the name, where nodes are split for it with the numbers from `number` on if there is one, and sets what is
+// committed of the name. It gives how many nodes were made.
+fn redo_in(
+    tree: &mut DbTree,
     alloc: Global,
-    db: u32,
+    fanout: u32,
+    number: Option<u64>,
     name: &SortKey,
     value: Option<Octets>,
     first: Lsn,
     at: Lsn,
-) -> Result<(), AllocError>
+) -> Result<usize, AllocError>
+    ensures cells { OnOk result ((x : Name) → value_at x (occupied tree.new.cells) ≡ (if is_eq (name_cmp name.now x) then with_value value (value_at x (occupied tree.old.cells)) else value_at x (occupied tree.old.cells))) }
+    ensures logged { OnOk result (HasLogged tree.old.cells tree.new.cells name.now value at) }
+    ensures was_rising { IsRising tree.old.cells }
+    ensures rising { IsRising tree.new.cells }
+    ensures quiet { AreQuiet tree.old.cells → AreQuiet tree.new.cells }
+    ensures same { OnErr result (occupied tree.new.cells ≡ occupied tree.old.cells) }
+    ensures few { IfOk result (λ made. made ≤ 64) }
+    ensures waits { IfOk result (λ made. count_waiting (shape_in tree.new) ≤ count_waiting (shape_in tree.old) + 2 * made) }
+    ensures most { count_waiting (shape_in tree.new) ≤ count_waiting (shape_in tree.old) + 128 }
+{
+    let _before = tree.cells.len();
+    let made = match split_for(tree, alloc, fanout, number, name, first) {
+        Ok(made) => made,
+        Err(failed) => {
+            drop(value);
+            return Err(failed);
+        }
+    };
+    tree.redo(alloc, name, value, first, at)?;
+    Ok(made)
+}
+
+// Makes a slot for the name where it has none. Nodes are split for it with the numbers from `number` on, and wait to be logged; none
+// is split where there is no number, or the root would pass the last level.
+fn split_for(
+    tree: &mut DbTree,
+    alloc: Global,
+    fanout: u32,
+    number: Option<u64>,
+    name: &SortKey,
+    mark: Lsn,
+) -> Result<usize, AllocError>
+    ensures same { occupied tree.new.cells ≡ occupied tree.old.cells }
+    ensures slot { IsSlotFor name.now tree.old.cells tree.new.cells }
+    ensures rising { IsRising tree.old.cells → IsRising tree.new.cells }
+    ensures few { IfOk result (λ made. made ≤ 64) }
+    ensures waits { IfOk result (λ made. count_waiting (shape_in tree.new) ≤ count_waiting (shape_in tree.old) + 2 * made) }
+    ensures err { OnErr result (tree.new ≡ tree.old) }
+{
+    let Some(first) = number else {
+        return Ok(0);
+    };
+    match tree.place_unlogged(alloc, fanout, name, first, mark) {
+        Ok(made) => Ok(made),
+        Err(TreeErr::IdsEnded) => Ok(0),
+        Err(_) => Err(AllocError),
+    }
+}
+
+// Sets what is committed of the name: the record that was logged at `at`, or none, in a BIN that is split for it with the numbers from
+// `number` on, if there is one. A redo finds the change again from `first` on. It gives how many nodes were made.
+pub(crate) fn redo(
+    trees: &mut BTreeMap<u32, DbTree>,
+    alloc: Global,
+    db: u32,
+    fanout: u32,
+    number: Option<u64>,
+    name: &SortKey,
+    value: Option<Octets>,
+    first: Lsn,
+    at: Lsn,
+) -> Result<usize, AllocError>
     requires { is_there trees.old db ≡ true }
     ensures cells { OnOk result (HasChange (cells_seen trees.old) (cells_seen trees.new) db name.now (with_value value)) }
     ensures stored { OnOk result (HasStored (stored_of trees.old) (stored_of trees.new) db name.now (stored_at at value)) }
     ensures quiet { IsQuiet trees.old → IsQuiet trees.new }
     ensures same { OnErr result (AreSame (cells_seen trees.old) (cells_seen trees.new)) }
     ensures trees { HasSameTrees trees.old trees.new }
+    ensures few { IfOk result (λ made. made ≤ 64) }
+    ensures waits { IfOk result (λ made. waits_in trees.new ≤ waits_in trees.old + 2 * made) }
+    ensures most { waits_in trees.new ≤ waits_in trees.old + 128 }
 {
     match trees.get_mut(&db) {
-        Some(tree) => tree.redo(alloc, name, value, first, at),
+        Some(tree) => redo_in(tree, alloc, fanout, number, name, value, first, at),
         None => unreachable!(),
     }
 }
@@ -134,6 +225,8 @@ pub(crate) fn redo(
 pub(crate) fn drop_db(trees: &mut BTreeMap<u32, DbTree>, db: u32)
     ensures cells { (d : ℕ) → cells_seen trees.new d ≡ (if d == db then [] else cells_seen trees.old d) }
     ensures trees { (d : ℕ) → is_there trees.new d ≡ (if d == db then false else is_there trees.old d) }
+    ensures gone { (d : ℕ) → get nat_cmp trees.new d ≡ (if d == db then None else get nat_cmp trees.old d) }
+    ensures waits { waits_in trees.new ≤ waits_in trees.old }
     ensures stored { (d : ℕ) → stored_of trees.new d ≡ (if d == db then [] else stored_of trees.old d) }
     ensures quiet { IsQuiet trees.old → IsQuiet trees.new }
 {

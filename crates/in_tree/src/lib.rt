@@ -8,7 +8,9 @@ mod forest;
 pub mod loaded_trees;
 mod loading;
 pub mod log_trees;
+mod making_ready;
 pub mod observed;
+mod placed;
 mod preparing;
 mod reading;
 mod stored;
@@ -17,4 +19,5 @@ mod writing;
 
 pub use loaded_trees::LoadedTrees;
 pub use log_trees::LogTrees;
+pub(crate) use placed::Placed;
 pub use trees::Trees;

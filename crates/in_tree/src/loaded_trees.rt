@@ -3,7 +3,7 @@ ghost use Rattle.std.specs.Prelude.{◌≡◌, ◌≤◌, ℕ, [], false, map, O
 ghost use Rattle.record_map.specs.Cells.{IsRising};
 ghost use Rattle.record_tree.specs.Stored.{AreStoredStill};
 ghost use Rattle.in_tree.specs.Stored.{committed_cell};
-ghost use Rattle.in_tree.specs.Whole.{has_tree_in, seen_in, stored_within};
+ghost use Rattle.in_tree.specs.Whole.{has_tree_in, seen_in, stored_within, waits_within};
 
 use crate::trees::LAST_NODE;
 use crate::{Trees, forest, loading, stored};
@@ -15,16 +15,27 @@ use record_tree::{LoadErr, Loads, StoredRecord};
 use std::alloc::{AllocError, Global};
 use std::marker::Model;
 
+// How many nodes wait at most where another one is loaded or a record redone. No memory holds as many.
+const MOST_WAITS: u64 = 0x7fff_ffff_ffff_ffff;
+
+// How many nodes wait at most that are to come for a node that is loaded.
+const MOST_TO_COME: u64 = 512;
+
+// How many nodes wait at most that a redo splits or makes.
+const MOST_SPLIT: u64 = 128;
+
 /// The trees of an environment while its log is read again, seen as these trees: no transaction has changed anything, so
-/// each record in them is committed.
+/// each record in them is committed. Nodes that were split wait to be logged.
 #[derive(Drop)]
 pub struct LoadedTrees {
     pub(crate) trees: Trees,
+    // At least as many as the nodes that wait to be logged.
+    waits: u64,
 }
 
 impl Model for LoadedTrees {
     ghost use Rattle.in_tree.specs.declared.trees.Trees.{Trees as Forested};
-    ghost use Rattle.in_tree.specs.Stored.{IsQuiet};
+    ghost use Rattle.in_tree.specs.Loaded.{AreLoaded};
     ghost use Rattle.in_tree.specs.contracts.trees.Trees as within;
     ghost use Rattle.std.specs.Coded.{codes};
 
@@ -34,7 +45,7 @@ impl Model for LoadedTrees {
 
     ghost view = { λ a. a.trees };
 
-    ghost invariant = { λ a. IsQuiet a.trees.forest };
+    ghost invariant = { λ a. AreLoaded a.trees.forest a.waits };
 }
 
 impl LoadedTrees {
@@ -49,7 +60,15 @@ impl LoadedTrees {
     {
         LoadedTrees {
             trees: Trees::new(alloc, fanout, last_node),
+            waits: 0,
         }
+    }
+
+    /// At least as many as the nodes that wait to be logged.
+    pub fn waits(&self) -> u64
+        ensures { waits_within self.now ≤ result }
+    {
+        self.waits
     }
 
     // The trees themselves, in which each record is as transactions see it.
@@ -58,7 +77,7 @@ impl LoadedTrees {
         ensures seen { (d : ℕ) → seen_in result d ≡ map committed_cell (stored_within self d) }
         ensures rising { (d : ℕ) → IsRising (seen_in result d) }
     {
-        let LoadedTrees { trees } = self;
+        let LoadedTrees { trees, waits: _ } = self;
         trees
     }
 
@@ -109,8 +128,19 @@ impl Loads for LoadedTrees {
         at: Lsn,
     ) -> Result<(), LoadErr> {
         self.take_number(node.number);
-        loading::load_node(&mut self.trees.forest, alloc, node, low, at)?;
-        Ok(())
+        if self.waits > MOST_WAITS {
+            return Err(LoadErr::Memory);
+        }
+        match loading::load_node(&mut self.trees.forest, alloc, node, low, at) {
+            Ok(more) => {
+                self.waits += more as u64;
+                Ok(())
+            }
+            Err(_) => {
+                self.waits += MOST_TO_COME;
+                Err(LoadErr::Memory)
+            }
+        }
     }
 
     fn load(
@@ -143,9 +173,25 @@ impl Loads for LoadedTrees {
         at: Lsn,
         value: Option<Octets>,
     ) -> Result<(), LoadErr> {
-        let name = SortKey::new(alloc, name)?;
-        self.trees.redo(alloc, db, &name, value, first, at)?;
-        Ok(())
+        if self.waits > MOST_WAITS {
+            drop(name);
+            drop(value);
+            return Err(LoadErr::Memory);
+        }
+        let Ok(name) = SortKey::new(alloc, name) else {
+            drop(value);
+            return Err(LoadErr::Memory);
+        };
+        match self.trees.redo(alloc, db, &name, value, first, at) {
+            Ok(made) => {
+                self.waits += 2 * made as u64;
+                Ok(())
+            }
+            Err(_) => {
+                self.waits += MOST_SPLIT;
+                Err(LoadErr::Memory)
+            }
+        }
     }
 
     fn count(&self, db: u32) -> usize {

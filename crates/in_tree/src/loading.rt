@@ -1,8 +1,9 @@
 // Records and nodes that a log has are put into trees.
-ghost use Rattle.std.specs.Prelude.{◌≡◌, true, OnOk, Some};
+ghost use Rattle.std.specs.Prelude.{◌≡◌, ◌≤◌, ◌+◌, true, IfOk, OnOk, Some};
 ghost use Rattle.record_tree.specs.Stored.{stored_at, HasStored, AreStoredStill};
 ghost use Rattle.in_tree.specs.Forest.{is_there};
 ghost use Rattle.in_tree.specs.Stored.{stored_of, IsQuiet};
+ghost use Rattle.in_tree.specs.Waits.{waits_in};
 
 use crate::forest;
 use db_tree::DbTree;
@@ -32,6 +33,7 @@ pub(crate) fn load(
     requires { is_there trees.old db ≡ true }
     ensures stored { OnOk result (HasStored (stored_of trees.old) (stored_of trees.new) db name (stored_at at (Some value.now))) }
     ensures quiet { IsQuiet trees.old → IsQuiet trees.new }
+    ensures waits { waits_in trees.new ≡ waits_in trees.old }
 {
     match trees.get_mut(&db) {
         Some(tree) => tree.load(alloc, name, at, value),
@@ -49,6 +51,7 @@ fn ensure_tree(
     ensures there { OnOk result (is_there trees.new db ≡ true) }
     ensures stored { AreStoredStill (stored_of trees.old) (stored_of trees.new) }
     ensures quiet { IsQuiet trees.old → IsQuiet trees.new }
+    ensures waits { waits_in trees.new ≤ waits_in trees.old }
 {
     if has_tree(trees, db) {
         return Ok(());
@@ -56,37 +59,45 @@ fn ensure_tree(
     forest::make(trees, alloc, db, number)
 }
 
-// Puts a node of a database that has a tree.
+// Puts a node of a database that has a tree. It gives how many nodes are still to come for it.
 fn put_image(
     trees: &mut BTreeMap<u32, DbTree>,
     alloc: Global,
+    db: u32,
     image: &Image,
     low: &SortKey,
     at: Lsn,
-) -> Result<(), AllocError>
-    requires { is_there trees.old image.now.db ≡ true }
+) -> Result<usize, AllocError>
+    requires { is_there trees.old db ≡ true }
     ensures stored { AreStoredStill (stored_of trees.old) (stored_of trees.new) }
     ensures quiet { IsQuiet trees.old → IsQuiet trees.new }
+    ensures few { IfOk result (λ more. more ≤ 512) }
+    ensures waits { IfOk result (λ more. waits_in trees.new ≤ waits_in trees.old + more) }
+    ensures most { waits_in trees.new ≤ waits_in trees.old + 512 }
 {
-    match trees.get_mut(&image.db) {
+    match trees.get_mut(&db) {
         Some(tree) => tree.load_node(alloc, image, low, at),
         None => unreachable!(),
     }
 }
 
-// Puts a node as its image at `at` shows it. No name in it is below `low`.
+// Puts a node as its image at `at` shows it. No name in it is below `low`. It gives how many nodes are still to come for it: they
+// wait to be logged until then.
 pub(crate) fn load_node(
     trees: &mut BTreeMap<u32, DbTree>,
     alloc: Global,
     image: &Image,
     low: &Name,
     at: Lsn,
-) -> Result<(), AllocError>
+) -> Result<usize, AllocError>
     ensures stored { AreStoredStill (stored_of trees.old) (stored_of trees.new) }
     ensures quiet { IsQuiet trees.old → IsQuiet trees.new }
+    ensures few { IfOk result (λ more. more ≤ 512) }
+    ensures waits { IfOk result (λ more. waits_in trees.new ≤ waits_in trees.old + more) }
+    ensures most { waits_in trees.new ≤ waits_in trees.old + 512 }
 {
     let copy = copy_of(low)?;
     let low = SortKey::new(alloc, copy)?;
     ensure_tree(trees, alloc, image.db, image.number)?;
-    put_image(trees, alloc, image, &low, at)
+    put_image(trees, alloc, image.db, image, &low, at)
 }

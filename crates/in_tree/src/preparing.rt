@@ -1,17 +1,24 @@
 // What is taken before changes are logged, and given back where memory runs out.
-ghost use Rattle.std.specs.Prelude.{◌≡◌, ◌≤◌, ◌+◌, ◌||◌, ℕ, true, false, [], map, IfSome, IfOk, OnOk, OnErr, if◌then◌else◌};
+ghost use Rattle.std.specs.Prelude.{◌≡◌, ◌≤◌, ◌+◌, ◌||◌, ◌⊎◌, ℕ, true, false, [], None, length, map, min, take, IfSome, IfOk, IfErr, OnOk, OnErr, if◌then◌else◌};
 ghost use Rattle.std.specs.List.{AllByRecursion};
-ghost use Rattle.record_tree.specs.Logged.{is_made, makes_db};
+ghost use Rattle.std.specs.Ordering.{nat_cmp};
+ghost use Rattle.std.specs.BTreeMap.{get};
+ghost use Rattle.record_tree.specs.Logged.{is_made, makes_db, IsEndOf};
 ghost use Rattle.record_tree.specs.Occupied.{AreSame};
-ghost use Rattle.in_tree.specs.Forest.{cells_at, cells_seen, is_there, HasSameTrees, KeepsCells, HasOne, write_for};
-ghost use Rattle.in_tree.specs.Limits.{one_made, count_made};
+ghost use Rattle.record_tree.specs.declared.tree_err.TreeErr.{TreeErr as Reason};
+ghost use Rattle.db_tree.specs.Splits.{passes_top};
+ghost use Rattle.in_tree.specs.Forest.{Forest, cells_at, cells_seen, is_there, IsSameForest, KeepsCells, write_for};
+ghost use Rattle.in_tree.specs.Limits.{one_made, are_too_high};
+ghost use Rattle.in_tree.specs.Placing.{ArePlaced, IsPlacedNext, numbers_of};
+ghost use Rattle.in_tree.specs.Shapes.{shapes_of};
+ghost use Rattle.in_tree.specs.Waits.{waits_in};
 
-use crate::{Trees, forest};
-use db_tree::DbTree;
+use crate::{Placed, forest};
+use db_tree::{DbTree, SlotRoom};
 use je_lsn::{FileNo, Lsn};
 use je_order::{Octets, TxnId};
 use record_map::{Data, Write};
-use record_tree::TreeChange;
+use record_tree::{TreeChange, TreeErr};
 use std::alloc::{AllocError, Global};
 use std::collections::BTreeMap;
 
@@ -52,82 +59,162 @@ pub(crate) fn writes_for(
     Ok(writes)
 }
 
-// Makes the tree of the database that the change makes, if it makes one.
-fn make_one(trees: &mut Trees, alloc: Global, change: &TreeChange) -> Result<(), AllocError>
-    requires none { IfSome change.now.makes (λ d. cells_at trees.old.forest d ≡ []) }
-    requires ids { trees.old.last_node + one_made change.now.makes ≤ 0x7fffffffffffffff }
-    ensures same { AreSame (cells_seen trees.old.forest) (cells_seen trees.new.forest) }
-    ensures made { OnOk result ((d : ℕ) → is_there trees.new.forest d ≡ (makes_db d change.now.makes || is_there trees.old.forest d)) }
-    ensures err { OnErr result (HasSameTrees trees.old.forest trees.new.forest) }
-    ensures none { (d : ℕ) → cells_at trees.old.forest d ≡ [] → cells_at trees.new.forest d ≡ [] }
-    ensures last { OnOk result (trees.new.last_node ≡ trees.old.last_node + one_made change.now.makes) }
+// The node number that is allocated last for a change: behind those of its slot comes that of the root of the database that it makes.
+fn last_behind(last: u64, made: u64, change: &TreeChange) -> u64
+    ensures { result ≡ min (last + (made + one_made change.now.makes)) 0xffffffffffffffff }
 {
-    match change.makes {
-        Some(db) => {
-            let number = trees.last_node + 1;
-            forest::make(&mut trees.forest, alloc, db, number)?;
-            trees.last_node = number;
+    let roots = match change.makes {
+        Some(_) => 1,
+        None => 0,
+    };
+    last.saturating_add(made).saturating_add(roots)
+}
+
+// Places a change behind others. Where it fails nothing changed.
+fn place_next(
+    trees: &mut BTreeMap<u32, DbTree>,
+    alloc: Global,
+    fanout: u32,
+    change: &TreeChange,
+    placed: &mut Placed,
+) -> Result<(), TreeErr>
+    requires { is_there trees.old change.now.db ≡ true }
+    ensures ok { OnOk result (IsPlacedNext fanout change.now trees.old trees.new placed.old placed.new) }
+    ensures high { IsEndOf Reason.IdsEnded result (passes_top fanout change.now.name (shapes_of trees.old change.now.db) ≡ true) }
+    ensures errors { IfErr result (λ e. (e ≡ Reason.IdsEnded) ⊎ (e ≡ Reason.Memory)) }
+    ensures err { OnErr result (IsSameForest trees.old trees.new) }
+    ensures rooms { OnErr result (placed.new.rooms.items ≡ placed.old.rooms.items) }
+{
+    let first = placed.last.saturating_add(1);
+    let room = match forest::place(trees, alloc, change.db, fanout, &change.name, first) {
+        Ok(room) => room,
+        Err(error) => return Err(error),
+    };
+    let last = last_behind(placed.last, room.made(), change);
+    match placed.rooms.push(room) {
+        Ok(()) => {
+            placed.last = last;
             Ok(())
         }
+        Err(failed) => {
+            forest::take_back(trees, change.db, &change.name, &failed.value);
+            drop(failed);
+            Err(TreeErr::Memory)
+        }
+    }
+}
+
+// Takes the slots of changes back, the last one first.
+pub(crate) fn take_back_all(
+    trees: &mut BTreeMap<u32, DbTree>,
+    changes: &[TreeChange],
+    rooms: &[SlotRoom],
+)
+    requires { length rooms.now ≤ length changes.now }
+    ensures { (fanout : ℕ) (before : Forest) → ArePlaced fanout (take (length rooms.now) changes.now) rooms.now before trees.old → IsSameForest before trees.new }
+{
+    let count = rooms.len();
+    for i in 0..count {
+        let k = count - (i + 1);
+        let change = &changes[k];
+        forest::take_back(trees, change.db, &change.name, &rooms[k]);
+    }
+}
+
+// Makes the slots of changes, in order; the node numbers go on behind `last`. Where it fails nothing changed.
+pub(crate) fn place_all(
+    trees: &mut BTreeMap<u32, DbTree>,
+    alloc: Global,
+    fanout: u32,
+    changes: &[TreeChange],
+    last: u64,
+) -> Result<Placed, TreeErr>
+    requires { AllByRecursion (λ c. is_there trees.old c.db ≡ true) changes.now }
+    ensures placed { IfOk result (λ placed. ArePlaced fanout changes.now placed.rooms.items trees.old trees.new) }
+    ensures same { AreSame (cells_seen trees.old) (cells_seen trees.new) }
+    ensures last { IfOk result (λ placed. placed.last ≡ min (last + numbers_of changes.now placed.rooms.items) 0xffffffffffffffff) }
+    ensures high { IsEndOf Reason.IdsEnded result (are_too_high fanout (shapes_of trees.old) changes.now ≡ true) }
+    ensures errors { IfErr result (λ e. (e ≡ Reason.IdsEnded) ⊎ (e ≡ Reason.Memory)) }
+    ensures err { OnErr result (IsSameForest trees.old trees.new) }
+{
+    let mut placed = Placed {
+        rooms: Vec::new(alloc),
+        last,
+    };
+    for change in changes {
+        match place_next(trees, alloc, fanout, change, &mut placed) {
+            Ok(()) => {}
+            Err(error) => {
+                take_back_all(trees, changes, placed.rooms.as_slice());
+                drop(placed);
+                return Err(error);
+            }
+        }
+    }
+    Ok(placed)
+}
+
+// Makes the tree of the database that the change makes, if it makes one. Its root has the number.
+fn make_one(
+    trees: &mut BTreeMap<u32, DbTree>,
+    alloc: Global,
+    change: &TreeChange,
+    number: u64,
+) -> Result<(), AllocError>
+    requires { IfSome change.now.makes (λ d. cells_at trees.old d ≡ []) }
+    ensures same { AreSame (cells_seen trees.old) (cells_seen trees.new) }
+    ensures made { OnOk result ((d : ℕ) → is_there trees.new d ≡ (makes_db d change.now.makes || is_there trees.old d)) }
+    ensures stay { (d : ℕ) → makes_db d change.now.makes ≡ false → get nat_cmp trees.new d ≡ get nat_cmp trees.old d }
+    ensures kept { KeepsCells trees.old trees.new }
+    ensures none { (d : ℕ) → cells_at trees.old d ≡ [] → cells_at trees.new d ≡ [] }
+    ensures waits { waits_in trees.new ≤ waits_in trees.old }
+{
+    match change.makes {
+        Some(db) => forest::make(trees, alloc, db, number),
         None => Ok(()),
     }
 }
 
-// Makes the trees of the databases that the changes make.
+// Makes the trees of the databases that the changes make, with the node numbers behind those of the changes' slots.
 pub(crate) fn make_all(
-    trees: &mut Trees,
-    alloc: Global,
-    changes: &[TreeChange],
-) -> Result<(), AllocError>
-    requires none { AllByRecursion (λ c. IfSome c.makes (λ d. cells_at trees.old.forest d ≡ [])) changes.now }
-    requires ids { trees.old.last_node + count_made changes.now ≤ 0x7fffffffffffffff }
-    ensures same { AreSame (cells_seen trees.old.forest) (cells_seen trees.new.forest) }
-    ensures made { OnOk result ((d : ℕ) → is_there trees.new.forest d ≡ (is_made d changes.now || is_there trees.old.forest d)) }
-    ensures stay { (d : ℕ) → is_made d changes.now ≡ false → is_there trees.new.forest d ≡ is_there trees.old.forest d }
-{
-    for change in changes {
-        make_one(trees, alloc, change)?;
-    }
-    Ok(())
-}
-
-// Makes a cell for each name of the changes that has none.
-pub(crate) fn put_cells(
     trees: &mut BTreeMap<u32, DbTree>,
     alloc: Global,
     changes: &[TreeChange],
+    rooms: &[SlotRoom],
+    last: u64,
 ) -> Result<(), AllocError>
-    requires { AllByRecursion (λ c. is_there trees.old c.db ≡ true) changes.now }
-    ensures there { OnOk result (AllByRecursion (λ c. HasOne trees.new c.db c.name) changes.now) }
+    requires none { AllByRecursion (λ c. IfSome c.makes (λ d. cells_at trees.old d ≡ [])) changes.now }
+    requires paired { length rooms.now ≡ length changes.now }
     ensures same { AreSame (cells_seen trees.old) (cells_seen trees.new) }
-    ensures trees { HasSameTrees trees.old trees.new }
+    ensures made { OnOk result ((d : ℕ) → is_there trees.new d ≡ (is_made d changes.now || is_there trees.old d)) }
+    ensures stay { (d : ℕ) → is_made d changes.now ≡ false → get nat_cmp trees.new d ≡ get nat_cmp trees.old d }
+    ensures kept { KeepsCells trees.old trees.new }
+    ensures waits { waits_in trees.new ≤ waits_in trees.old }
 {
-    for change in changes {
-        forest::put_cell(trees, alloc, change.db, &change.name)?;
+    let mut last = last;
+    for i in 0..changes.len() {
+        let change = &changes[i];
+        last = last_behind(last, rooms[i].made(), change);
+        make_one(trees, alloc, change, last)?;
     }
     Ok(())
 }
 
-// Takes back what was made for a change.
-fn give_one(trees: &mut BTreeMap<u32, DbTree>, change: &TreeChange)
-    requires { IfSome change.now.makes (λ d. cells_seen trees.old d ≡ []) }
-    ensures same { AreSame (cells_seen trees.old) (cells_seen trees.new) }
-    ensures trees { (d : ℕ) → is_there trees.new d ≡ (if makes_db d change.now.makes then false else is_there trees.old d) }
+// Takes the tree of the database out that the change makes, if it makes one.
+fn drop_one(trees: &mut BTreeMap<u32, DbTree>, change: &TreeChange)
+    ensures { (d : ℕ) → get nat_cmp trees.new d ≡ (if makes_db d change.now.makes then None else get nat_cmp trees.old d) }
 {
-    forest::drop_unused(trees, change.db, &change.name);
     match change.makes {
         Some(db) => forest::drop_db(trees, db),
         None => {}
     }
 }
 
-// Takes back what was made for changes: the trees of databases, and cells that say nothing.
-pub(crate) fn give_back(trees: &mut BTreeMap<u32, DbTree>, changes: &[TreeChange])
-    requires { AllByRecursion (λ c. IfSome c.makes (λ d. cells_seen trees.old d ≡ [])) changes.now }
-    ensures same { AreSame (cells_seen trees.old) (cells_seen trees.new) }
-    ensures trees { (d : ℕ) → is_there trees.new d ≡ (if is_made d changes.now then false else is_there trees.old d) }
+// Takes the trees of the databases out that the changes make.
+pub(crate) fn drop_made(trees: &mut BTreeMap<u32, DbTree>, changes: &[TreeChange])
+    ensures { (d : ℕ) → get nat_cmp trees.new d ≡ (if is_made d changes.now then None else get nat_cmp trees.old d) }
 {
     for change in changes {
-        give_one(trees, change);
+        drop_one(trees, change);
     }
 }

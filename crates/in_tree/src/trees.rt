@@ -1,11 +1,12 @@
 // The trees of an environment.
-ghost use Rattle.std.specs.Prelude.{◌≡◌, ◌≤◌, ◌<◌, ◌+◌, ◌==◌, ℕ, [], true, false, if◌then◌else◌, OnOk, OnErr, option_map};
+ghost use Rattle.std.specs.Prelude.{◌≡◌, ◌≤◌, ◌<◌, ◌+◌, ◌*◌, ◌==◌, ℕ, [], true, false, if◌then◌else◌, IfOk, OnOk, OnErr, option_map};
 ghost use Rattle.record_map.specs.Cells.{value_at, IsRising, first_of, last_of, from_edge, below_edge, edge_of};
 ghost use Rattle.record_tree.specs.Logged.{IsEndOf};
 ghost use Rattle.record_tree.specs.Occupied.{AreSame, occupied_by};
 ghost use Rattle.record_tree.specs.declared.tree_err.TreeErr.{TreeErr as Reason};
 ghost use Rattle.record_tree.specs.Stored.{stored_at, HasStored, AreStoredStill};
-ghost use Rattle.in_tree.specs.Forest.{cells_seen, is_there, HasSameTrees, HasChange};
+ghost use Rattle.in_tree.specs.Forest.{cells_seen, is_there, HasSameTrees, IsSameForest, HasChange};
+ghost use Rattle.in_tree.specs.Waits.{waits_in};
 ghost use Rattle.db_tree.specs.Seen.{with_value};
 ghost use Rattle.in_tree.specs.Stored.{stored_of, IsQuiet};
 
@@ -20,6 +21,9 @@ use std::collections::BTreeMap;
 
 /// The greatest number that a node has.
 pub(crate) const LAST_NODE: u64 = 0x7fff_ffff_ffff_ffff;
+
+// How many nodes a name's slot makes at most.
+const MOST_MADE: u64 = 64;
 
 /// The trees of all databases. They begin without one; opening puts those in that the log has.
 #[derive(Drop)]
@@ -86,8 +90,9 @@ impl Trees {
         ensures ended { IsEndOf Reason.IdsEnded result (self.old.last_node ≡ 0x7fffffffffffffff) }
         ensures no_fault { IsEndOf Reason.Fault result ⊥ }
         ensures no_limit { IsEndOf Reason.Full result ⊥ }
-        ensures err { OnErr result (HasSameTrees self.old.forest self.new.forest) }
+        ensures err { OnErr result (IsSameForest self.old.forest self.new.forest) }
         ensures stored { AreStoredStill (stored_of self.old.forest) (stored_of self.new.forest) }
+        ensures waits { waits_in self.new.forest ≤ waits_in self.old.forest }
         ensures quiet { IsQuiet self.old.forest → IsQuiet self.new.forest }
     {
         if self.last_node == LAST_NODE {
@@ -106,15 +111,25 @@ impl Trees {
     pub fn drop_db(&mut self, db: u32)
         ensures cells { (d : ℕ) → cells_seen self.new.forest d ≡ (if d == db then [] else cells_seen self.old.forest d) }
         ensures trees { (d : ℕ) → is_there self.new.forest d ≡ (if d == db then false else is_there self.old.forest d) }
+        ensures waits { waits_in self.new.forest ≤ waits_in self.old.forest }
         ensures stored { (d : ℕ) → stored_of self.new.forest d ≡ (if d == db then [] else stored_of self.old.forest d) }
         ensures quiet { IsQuiet self.old.forest → IsQuiet self.new.forest }
     {
         forest::drop_db(&mut self.forest, db);
     }
 
+    // The number of the next node, where enough are left for the splits of a name's slot.
+    fn next_number(&self) -> Option<u64> {
+        if self.last_node < LAST_NODE - MOST_MADE {
+            return Some(self.last_node + 1);
+        }
+        None
+    }
+
     /// Sets what is committed of a name, as the log has it: the record that was logged at `at`, or none where the record was
     /// deleted there. A redo finds the change again from the LSN `first` on, which is `at` or before it. Nothing is
-    /// logged. Running out of memory changes nothing.
+    /// logged: nodes that are split for the name wait to be logged, and it gives how many were made. None is split where fewer
+    /// than 65 node numbers are left, or the root is at the last level. Running out of memory changes no record.
     pub fn redo(
         &mut self,
         alloc: Global,
@@ -123,14 +138,31 @@ impl Trees {
         value: Option<Octets>,
         first: Lsn,
         at: Lsn,
-    ) -> Result<(), AllocError>
+    ) -> Result<usize, AllocError>
         requires { is_there self.old.forest db ≡ true }
         ensures cells { OnOk result (HasChange (cells_seen self.old.forest) (cells_seen self.new.forest) db name.now (with_value value)) }
         ensures stored { OnOk result (HasStored (stored_of self.old.forest) (stored_of self.new.forest) db name.now (stored_at at value)) }
         ensures quiet { IsQuiet self.old.forest → IsQuiet self.new.forest }
         ensures same { OnErr result (AreSame (cells_seen self.old.forest) (cells_seen self.new.forest)) }
         ensures trees { HasSameTrees self.old.forest self.new.forest }
+        ensures few { IfOk result (λ made. made ≤ 64) }
+        ensures waits { IfOk result (λ made. waits_in self.new.forest ≤ waits_in self.old.forest + 2 * made) }
+        ensures most { waits_in self.new.forest ≤ waits_in self.old.forest + 128 }
     {
-        forest::redo(&mut self.forest, alloc, db, name, value, first, at)
+        let number = self.next_number();
+        let fanout = self.fanout;
+        let made = forest::redo(
+            &mut self.forest,
+            alloc,
+            db,
+            fanout,
+            number,
+            name,
+            value,
+            first,
+            at,
+        )?;
+        self.last_node = self.last_node.saturating_add(made as u64).min(LAST_NODE);
+        Ok(made)
     }
 }

@@ -1,7 +1,8 @@
 // Changes go into the log, and then into their cells.
-ghost use Rattle.std.specs.Prelude.{◌≡◌, ◌≤◌, ◌+◌, ◌++◌, ◌∷◌, ℕ, List, [], map, IfErr, IfOk, OnOk, OnErr};
+ghost use Rattle.std.specs.Prelude.{◌≡◌, ◌≤◌, ◌+◌, ◌++◌, ◌∷◌, ℕ, List, [], true, length, map, IfErr, IfOk, OnOk, OnErr};
 ghost use Rattle.std.specs.List.{AllByRecursion};
 ghost use Rattle.log_entry.specs.Body.{IsEntry};
+ghost use Rattle.log_entry.specs.Encoding.{size_of};
 ghost use Rattle.log_entry.specs.Parts.{entry_by};
 ghost use Rattle.log_entry.specs.declared.entry.Entry.{Entry};
 ghost use Rattle.log_entry.specs.declared.entry.Entry.TheVariants.{Commit as Committed};
@@ -9,12 +10,18 @@ ghost use Rattle.record_map.specs.Cells.{IsRising};
 ghost use Rattle.record_tree.specs.Logged.{entry_for, LogsChanges, IsFront};
 ghost use Rattle.record_tree.specs.Occupied.{AreWritten, HasChangedAll, after_commit, after_abort};
 ghost use Rattle.record_tree.specs.declared.tree_err.TreeErr.{TreeErr as Reason};
-ghost use Rattle.in_tree.specs.Forest.{cells_seen, HasSameTrees, KeepsCells, HasOne, HasChange, write_for};
 ghost use Rattle.db_tree.specs.Seen.{with_change};
-ghost use Rattle.in_tree.specs.Limits.{change_size, commit_size, commit_sizes, sizes_for, HasRoomFor, GrewFitting, TriedFitting};
+ghost use Rattle.db_tree.specs.Shapes.{shape_in};
+ghost use Rattle.db_tree.specs.NodeImages.{IsLoggable};
+ghost use Rattle.db_tree.specs.Splits.{count_waiting};
+ghost use Rattle.in_tree.specs.Forest.{cells_seen, is_there, HasSameCells, HasSameTrees, KeepsCells, HasOne, HasChange, write_for};
+ghost use Rattle.in_tree.specs.Limits.{change_size, commit_size, commit_sizes, HasRoomFor, GrewFitting, TriedFitting};
+ghost use Rattle.in_tree.specs.Logging.{LogsImage, TriesImage, LogsImages, TriesImages, LogsChange, TriesChange};
+ghost use Rattle.in_tree.specs.Placing.{room_sizes, placed_sizes, count_images, AreLoggable};
+ghost use Rattle.in_tree.specs.Waits.{waits_in};
 
 use crate::forest;
-use db_tree::DbTree;
+use db_tree::{DbTree, NodeImage, SlotRoom};
 use je_disk::Disk;
 use je_lsn::Lsn;
 use je_order::TxnId;
@@ -62,34 +69,137 @@ fn commit_size(txn: TxnId) -> u32
     ref_size(&EntryRef::Whole(&commit))
 }
 
-// The sizes of the changes' entries.
-fn change_sizes(alloc: Global, txn: TxnId, changes: &[TreeChange]) -> Result<Vec<u32>, AllocError>
-    requires { AllByRecursion (λ c. IsEntry (entry_for txn c.db c.name c.value)) changes.now }
-    ensures { IfOk result (λ sizes. sizes.items ≡ map change_size changes.now) }
+// Puts the sizes of images behind others.
+fn push_sizes(sizes: &mut Vec<u32>, images: &[NodeImage]) -> Result<(), AllocError>
+    requires { AllByRecursion (λ i. IsLoggable i.entry) images.now }
+    ensures { OnOk result (sizes.new.items ≡ sizes.old.items ++ map (λ i. size_of i.entry) images.now) }
+{
+    for image in images {
+        sizes.push(ref_size(&EntryRef::Whole(&image.entry)))?;
+    }
+    Ok(())
+}
+
+// The sizes of the changes' entries, each behind those of its images.
+fn change_sizes(
+    alloc: Global,
+    txn: TxnId,
+    changes: &[TreeChange],
+    rooms: &[SlotRoom],
+) -> Result<Vec<u32>, AllocError>
+    requires entries { AllByRecursion (λ c. IsEntry (entry_for txn c.db c.name c.value)) changes.now }
+    requires loggable { AreLoggable rooms.now }
+    requires paired { length rooms.now ≡ length changes.now }
+    ensures { IfOk result (λ sizes. sizes.items ≡ placed_sizes changes.now rooms.now) }
 {
     let mut sizes = Vec::new(alloc);
-    for change in changes {
-        sizes.push(change_size(txn, change))?;
+    for i in 0..changes.len() {
+        push_sizes(&mut sizes, rooms[i].images.as_slice())?;
+        sizes.push(change_size(txn, &changes[i]))?;
     }
     Ok(sizes)
 }
 
-// The sizes of the changes' entries, and of the Commits that are owed behind them.
+// The sizes of the changes' entries with their images, and of the Commits that are owed behind them.
 pub(crate) fn sizes_for(
     alloc: Global,
     txn: TxnId,
     changes: &[TreeChange],
+    rooms: &[SlotRoom],
     owed: u32,
 ) -> Result<Vec<u32>, AllocError>
-    requires { AllByRecursion (λ c. IsEntry (entry_for txn c.db c.name c.value)) changes.now }
-    ensures { IfOk result (λ sizes. sizes.items ≡ sizes_for changes.now owed) }
+    requires entries { AllByRecursion (λ c. IsEntry (entry_for txn c.db c.name c.value)) changes.now }
+    requires loggable { AreLoggable rooms.now }
+    requires paired { length rooms.now ≡ length changes.now }
+    ensures { IfOk result (λ sizes. sizes.items ≡ placed_sizes changes.now rooms.now ++ commit_sizes owed) }
 {
-    let mut sizes = change_sizes(alloc, txn, changes)?;
+    let mut sizes = change_sizes(alloc, txn, changes, rooms)?;
     let commit = commit_size(txn);
     for i in 0..owed {
         sizes.push(commit)?;
     }
     Ok(sizes)
+}
+
+// Logs an image, for which there is room.
+fn append_image<D: Disk>(log: &mut LogBuffer<D>, entry: &Entry) -> Result<Lsn, TreeErr>
+    requires loggable { IsLoggable entry.now }
+    requires room { (sizes : List ℕ) × HasRoomFor log.old (size_of entry.now ∷ sizes) }
+    ensures grew { OnOk result (GrewFitting D.observable D.history D.sync_out D.read_out D.read_of D.faults log.old log.new (entry.now ∷ [])) }
+    ensures left { (sizes : List ℕ) → HasRoomFor log.old (size_of entry.now ∷ sizes) → OnOk result (HasRoomFor log.new sizes) }
+    ensures tried { OnErr result (TriedFitting D.observable D.history D.sync_out D.read_out D.read_of D.faults log.old log.new (entry.now ∷ [])) }
+    ensures by_fault { IfErr result (λ e. e ≡ Reason.Fault) }
+{
+    match log.append_reserved(&EntryRef::Whole(entry)) {
+        Ok(at) => Ok(at),
+        Err(_) => Err(TreeErr::Fault),
+    }
+}
+
+// Logs an image, for which there is room, and notes it at its node.
+fn log_image<D: Disk>(
+    log: &mut LogBuffer<D>,
+    tree: &mut DbTree,
+    image: NodeImage,
+) -> Result<(), TreeErr>
+    requires loggable { IsLoggable image.entry }
+    requires room { (sizes : List ℕ) × HasRoomFor log.old (size_of image.entry ∷ sizes) }
+    ensures grew { OnOk result (LogsImage D.observable D.history D.sync_out D.read_out D.read_of D.faults log.old log.new) }
+    ensures left { (sizes : List ℕ) → HasRoomFor log.old (size_of image.entry ∷ sizes) → OnOk result (HasRoomFor log.new sizes) }
+    ensures tried { OnErr result (TriesImage D.observable D.history D.sync_out D.read_out D.read_of D.faults log.old log.new) }
+    ensures by_fault { IfErr result (λ e. e ≡ Reason.Fault) }
+    ensures cells { tree.new.cells ≡ tree.old.cells }
+    ensures waits { count_waiting (shape_in tree.new) ≤ count_waiting (shape_in tree.old) }
+{
+    let image = tree.finish_image(image);
+    let at = append_image(log, &image.entry)?;
+    tree.note_image(image.level, &image.low, at);
+    Ok(())
+}
+
+// Logs images in order, for which there is room, and notes each at its node.
+fn log_images<D: Disk>(
+    log: &mut LogBuffer<D>,
+    tree: &mut DbTree,
+    images: Vec<NodeImage>,
+) -> Result<(), TreeErr>
+    requires loggable { AllByRecursion (λ i. IsLoggable i.entry) images.items }
+    requires room { (sizes : List ℕ) × HasRoomFor log.old (map (λ i. size_of i.entry) images.items ++ sizes) }
+    ensures grew { OnOk result (LogsImages D.observable D.history D.sync_out D.read_out D.read_of D.faults (length images.items) log.old log.new) }
+    ensures left { (sizes : List ℕ) → HasRoomFor log.old (map (λ i. size_of i.entry) images.items ++ sizes) → OnOk result (HasRoomFor log.new sizes) }
+    ensures tried { OnErr result (TriesImages D.observable D.history D.sync_out D.read_out D.read_of D.faults log.old log.new) }
+    ensures by_fault { IfErr result (λ e. e ≡ Reason.Fault) }
+    ensures cells { tree.new.cells ≡ tree.old.cells }
+    ensures waits { count_waiting (shape_in tree.new) ≤ count_waiting (shape_in tree.old) }
+{
+    for image in images {
+        log_image(log, tree, image)?;
+    }
+    Ok(())
+}
+
+// Logs the images that a slot of the database needs.
+fn log_room<D: Disk>(
+    log: &mut LogBuffer<D>,
+    trees: &mut BTreeMap<u32, DbTree>,
+    db: u32,
+    room: SlotRoom,
+) -> Result<(), TreeErr>
+    requires loggable { AllByRecursion (λ i. IsLoggable i.entry) room.images.items }
+    requires room { (sizes : List ℕ) × HasRoomFor log.old (room_sizes room ++ sizes) }
+    requires there { is_there trees.old db ≡ true }
+    ensures grew { OnOk result (LogsImages D.observable D.history D.sync_out D.read_out D.read_of D.faults (length room.images.items) log.old log.new) }
+    ensures left { (sizes : List ℕ) → HasRoomFor log.old (room_sizes room ++ sizes) → OnOk result (HasRoomFor log.new sizes) }
+    ensures tried { OnErr result (TriesImages D.observable D.history D.sync_out D.read_out D.read_of D.faults log.old log.new) }
+    ensures by_fault { IfErr result (λ e. e ≡ Reason.Fault) }
+    ensures cells { HasSameCells trees.old trees.new }
+    ensures trees { HasSameTrees trees.old trees.new }
+    ensures waits { waits_in trees.new ≤ waits_in trees.old }
+{
+    match trees.get_mut(&db) {
+        Some(tree) => log_images(log, tree, room.images),
+        None => unreachable!(),
+    }
 }
 
 // Logs a change, for which there is room.
@@ -108,7 +218,7 @@ fn log_one<D: Disk>(log: &mut LogBuffer<D>, txn: TxnId, change: &TreeChange) -> 
 }
 
 // Logs a change and sets it in its cell.
-fn write_one<D: Disk>(
+fn write_entry<D: Disk>(
     log: &mut LogBuffer<D>,
     trees: &mut BTreeMap<u32, DbTree>,
     txn: TxnId,
@@ -127,6 +237,7 @@ fn write_one<D: Disk>(
     ensures kept { KeepsCells trees.old trees.new }
     ensures trees { HasSameTrees trees.old trees.new }
     ensures rising { (d : ℕ) → IsRising (cells_seen trees.old d) → IsRising (cells_seen trees.new d) }
+    ensures waits { waits_in trees.new ≡ waits_in trees.old }
 {
     let at = log_one(log, txn, change)?;
     let mut write = write;
@@ -135,32 +246,73 @@ fn write_one<D: Disk>(
     Ok(())
 }
 
-// Logs changes in order, and sets each in its cell.
+// Logs a change behind the images that its slot needs, and sets it in its cell.
+fn write_one<D: Disk>(
+    log: &mut LogBuffer<D>,
+    trees: &mut BTreeMap<u32, DbTree>,
+    txn: TxnId,
+    change: &TreeChange,
+    room: SlotRoom,
+    write: Box<Write>,
+) -> Result<(), TreeErr>
+    requires entry { IsEntry (entry_for txn change.now.db change.now.name change.now.value) }
+    requires loggable { AllByRecursion (λ i. IsLoggable i.entry) room.images.items }
+    requires room { (sizes : List ℕ) × HasRoomFor log.old (room_sizes room ++ change_size change.now ∷ sizes) }
+    requires there { HasOne trees.old change.now.db change.now.name }
+    requires write { write.value ≡ write_for txn change.now }
+    ensures grew { OnOk result (LogsChange D.observable D.history D.sync_out D.read_out D.read_of D.faults (length room.images.items) txn change.now log.old log.new) }
+    ensures left { (sizes : List ℕ) → HasRoomFor log.old (room_sizes room ++ change_size change.now ∷ sizes) → OnOk result (HasRoomFor log.new sizes) }
+    ensures tried { OnErr result (TriesChange D.observable D.history D.sync_out D.read_out D.read_of D.faults txn change.now log.old log.new) }
+    ensures by_fault { IfErr result (λ e. e ≡ Reason.Fault) }
+    ensures cells { OnOk result ((at : ℕ) × HasChange (cells_seen trees.old) (cells_seen trees.new) change.now.db change.now.name (with_change (record { txn = txn; at = at; value = change.now.value }))) }
+    ensures kept { KeepsCells trees.old trees.new }
+    ensures trees { HasSameTrees trees.old trees.new }
+    ensures rising { (d : ℕ) → IsRising (cells_seen trees.old d) → IsRising (cells_seen trees.new d) }
+    ensures waits { waits_in trees.new ≤ waits_in trees.old }
+{
+    match log_room(log, trees, change.db, room) {
+        Ok(()) => write_entry(log, trees, txn, change, write),
+        Err(error) => {
+            drop(write);
+            Err(error)
+        }
+    }
+}
+
+// Logs changes in order, each behind the images that its slot needs, and sets each in its cell.
 pub(crate) fn write_each<D: Disk>(
     log: &mut LogBuffer<D>,
     trees: &mut BTreeMap<u32, DbTree>,
     txn: TxnId,
     changes: &[TreeChange],
+    rooms: Vec<SlotRoom>,
     writes: Vec<Box<Write>>,
 ) -> Result<(), TreeErr>
     requires entries { AllByRecursion (λ c. IsEntry (entry_for txn c.db c.name c.value)) changes.now }
-    requires room { (owed : ℕ) × HasRoomFor log.old (sizes_for changes.now owed) }
+    requires loggable { AreLoggable rooms.items }
+    requires paired { length rooms.items ≡ length changes.now }
+    requires room { (owed : ℕ) × HasRoomFor log.old (placed_sizes changes.now rooms.items ++ commit_sizes owed) }
     requires there { AllByRecursion (λ c. HasOne trees.old c.db c.name) changes.now }
     requires writes { map (λ b. b.value) writes.items ≡ map (write_for txn) changes.now }
-    ensures grew { OnOk result ((entries : List Entry) × LogsChanges txn changes.now entries × GrewFitting D.observable D.history D.sync_out D.read_out D.read_of D.faults log.old log.new entries) }
-    ensures left { (owed : ℕ) → HasRoomFor log.old (sizes_for changes.now owed) → OnOk result (HasRoomFor log.new (commit_sizes owed)) }
+    ensures grew { OnOk result ((entries : List Entry) × LogsChanges txn changes.now entries × GrewFitting D.observable D.history D.sync_out D.read_out D.read_of D.faults log.old log.new entries × (length entries ≡ count_images rooms.items + length changes.now)) }
+    ensures left { (owed : ℕ) → HasRoomFor log.old (placed_sizes changes.now rooms.items ++ commit_sizes owed) → OnOk result (HasRoomFor log.new (commit_sizes owed)) }
     ensures tried { OnErr result ((entries : List Entry) × (front : List Entry) × LogsChanges txn changes.now entries × IsFront front entries × TriedFitting D.observable D.history D.sync_out D.read_out D.read_of D.faults log.old log.new front) }
     ensures by_fault { IfErr result (λ e. e ≡ Reason.Fault) }
     ensures cells { OnOk result (AreWritten txn changes.now (cells_seen trees.old) (cells_seen trees.new)) }
     ensures trees { HasSameTrees trees.old trees.new }
     ensures rising { (d : ℕ) → IsRising (cells_seen trees.old d) → IsRising (cells_seen trees.new d) }
+    ensures waits { waits_in trees.new ≤ waits_in trees.old }
 {
+    let mut rooms = rooms.into_iter();
     let mut writes = writes.into_iter();
     for change in changes {
-        match writes.next() {
-            Some(write) => write_one(log, trees, txn, change, write)?,
-            None => unreachable!(),
-        }
+        let Some(room) = rooms.next() else {
+            unreachable!()
+        };
+        let Some(write) = writes.next() else {
+            unreachable!()
+        };
+        write_one(log, trees, txn, change, room, write)?;
     }
     Ok(())
 }
@@ -185,6 +337,7 @@ pub(crate) fn commit_each(trees: &mut BTreeMap<u32, DbTree>, names: &[TreeName],
     ensures cells { HasChangedAll (cells_seen trees.old) (cells_seen trees.new) names.now after_commit }
     ensures trees { HasSameTrees trees.old trees.new }
     ensures rising { (d : ℕ) → IsRising (cells_seen trees.old d) → IsRising (cells_seen trees.new d) }
+    ensures waits { waits_in trees.new ≡ waits_in trees.old }
 {
     for name in names {
         forest::commit(trees, name.db, &name.name, at);
@@ -196,6 +349,7 @@ pub(crate) fn abort_each(trees: &mut BTreeMap<u32, DbTree>, names: &[TreeName])
     ensures cells { HasChangedAll (cells_seen trees.old) (cells_seen trees.new) names.now after_abort }
     ensures trees { HasSameTrees trees.old trees.new }
     ensures rising { (d : ℕ) → IsRising (cells_seen trees.old d) → IsRising (cells_seen trees.new d) }
+    ensures waits { waits_in trees.new ≡ waits_in trees.old }
 {
     for name in names {
         forest::abort(trees, name.db, &name.name);

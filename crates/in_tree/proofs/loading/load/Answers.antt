@@ -3,6 +3,7 @@ use Rattle.record_tree.specs.Stored.{stored_at}
 use Rattle.db_tree.specs.Stored.{loaded_cell}
 use Rattle.db_tree.proofs.Ending.{ok_then}
 use Rattle.in_tree.proofs.StoredLaws.{stored_put, stored_change}
+use Rattle.in_tree.proofs.Waits.{tree_waits_same, same_levels}
 use Rattle.in_tree.proofs.loading.load.Goals as goal
 
 pub returns-clause-stored : goal.returns-clause-stored
@@ -12,3 +13,8 @@ returns-clause-stored c =
     ((c.get_mut.follows.holds c.load.new.self).3 (sym (ap is_some c.in-Some.ensures.value))).0
     (stored_change c.in-Some.tree.now.cells c.load.new.self.cells c.args.name (loaded_cell c.args.at c.args.value.now) c.load.ensures.was_rising c.load.ensures.rising has))
     c.load.ensures.cell
+
+pub returns-clause-waits : goal.returns-clause-waits
+returns-clause-waits c =
+    tree_waits_same c.args.trees.now (c.get_mut.follows.lender c.load.new.self) c.args.db c.in-Some.tree.now c.load.new.self c.in-Some.ensures.value
+    ((c.get_mut.follows.holds c.load.new.self).3 (sym (ap is_some c.in-Some.ensures.value))).0 c.ranges.db.fits (same_levels c.in-Some.tree.now c.load.new.self c.load.ensures.levels)

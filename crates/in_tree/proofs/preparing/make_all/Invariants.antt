@@ -2,5 +2,5 @@ use Rattle.std.proofs.Common.{drop}
 use Rattle.in_tree.proofs.Preparation.{MakesLeft}
 use Rattle.in_tree.proofs.preparing.make_all.Given as goal
 
-abbrev pub invariant-loop-change : goal.invariant-loop-change
-invariant-loop-change l = MakesLeft l.initial.trees l.trees l.changes (drop l.change-index l.changes)
+abbrev pub invariant-loop-i : goal.invariant-loop-i
+invariant-loop-i l = MakesLeft l.initial.trees l.trees l.changes (drop l.i l.changes)

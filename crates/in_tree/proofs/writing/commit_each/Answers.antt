@@ -16,7 +16,7 @@ loop-name-preserved c =
     let names = c.args.names.now in
     names_step c.args.trees.now c.loop-name.trees c.commit.new.trees names (drop (i + 1) names) c.name-item.result after_commit commit_once
     (subst (λ (l : List TreeName). NamesLeft c.args.trees.now c.loop-name.trees names l after_commit) (next_left names i c.name-item.result c.loop-name-test.true c.name-item.is) c.loop-name.invariant)
-    c.commit.ensures.cells c.commit.ensures.trees c.commit.ensures.rising
+    c.commit.ensures.cells c.commit.ensures.trees c.commit.ensures.rising c.commit.ensures.waits
 
 pub returns-clause-cells : goal.returns-clause-cells
 returns-clause-cells c =
@@ -28,3 +28,6 @@ returns-clause-trees c = c.loop-name.invariant.same
 
 pub returns-clause-rising : goal.returns-clause-rising
 returns-clause-rising c = c.loop-name.invariant.rising
+
+pub returns-clause-waits : goal.returns-clause-waits
+returns-clause-waits c = c.loop-name.invariant.waits

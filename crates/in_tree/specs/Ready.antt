@@ -1,0 +1,21 @@
+-- Changes that are ready to be logged.
+use Rattle.std.specs.Prelude.{◌≡◌, ◌≤◌, ◌+◌, ◌*◌, ◌||◌, ◌++◌, ℕ, List, length}
+use Rattle.std.specs.List.{AllByRecursion}
+use Rattle.record_tree.specs.declared.tree_change.TreeChange.{TreeChange}
+use Rattle.record_tree.specs.Logged.{is_made}
+use Rattle.db_tree.specs.declared.slot_room.SlotRoom.{SlotRoom}
+use Rattle.in_tree.specs.declared.log_trees.LogTrees.{LogTrees}
+use Rattle.in_tree.specs.Forest.{is_there, HasOne}
+use Rattle.in_tree.specs.Limits.{commit_sizes, HasRoomFor}
+use Rattle.in_tree.specs.Placing.{placed_sizes, count_images, AreLoggable}
+use Rattle.in_tree.specs.Waits.{waits_in}
+
+module _ {D : Type 0} where
+  -- the names of changes have their slots, databases that they make have their trees, and the log has room
+  pub record IsReady (old new : LogTrees D) (changes : List TreeChange) (rooms : List SlotRoom) (owed : ℕ) : Type 0 where
+    pub made : (d : ℕ) → is_there new.trees.forest d ≡ (is_made d changes || is_there old.trees.forest d)
+    pub there : AllByRecursion (λ c. HasOne new.trees.forest c.db c.name) changes
+    pub loggable : AreLoggable rooms
+    pub paired : length rooms ≡ length changes
+    pub room : HasRoomFor new.log (placed_sizes changes rooms ++ commit_sizes owed)
+    pub few : count_images rooms + waits_in new.trees.forest ≤ waits_in old.trees.forest + 129 * length changes
