@@ -1,14 +1,17 @@
 // The transactions under way.
-ghost use Rattle.std.specs.Prelude.{◌≡◌, ◌++◌, ◌∷◌, [], None, Some, OnOk, OnErr};
+ghost use Rattle.std.specs.Prelude.{◌≡◌, ◌++◌, ◌∷◌, [], None, take, if◌then◌else◌, OnOk, OnErr};
 ghost use Rattle.std.specs.Option.{option_copied};
 ghost use Rattle.je_answers.specs.Standing.{active_of, with_at};
-ghost use Rattle.je_answers.specs.After.{marked, without_session};
-ghost use Rattle.active_txns.specs.Own.{own_of, changes_at};
+ghost use Rattle.je_answers.specs.After.{without_session};
+ghost use Rattle.active_txns.specs.Own.{own_of, first_at, first_of};
+ghost use Rattle.je_order.specs.declared.txn_id.TxnId.{TxnId};
+ghost use Rattle.je_order.specs.Transactions.{is_same_txn};
 
 use crate::OwnChanges;
-use crate::owned::{push_at, read_at, remove_at};
+use crate::owned::{note_first_at, push_at, read_at, remove_at, truncate_at};
 use je_answers::Active;
-use je_order::{List, TxnId};
+use je_lsn::Lsn;
+use je_order::TxnId;
 use std::alloc::{AllocError, Global};
 use std::collections::BTreeMap;
 use store_model::{Durability, Isolation, RecordChange};
@@ -86,15 +89,38 @@ impl ActiveTxns {
     ) -> Result<(), AllocError>
         ensures own { OnOk result (own_of self.new.own.entries ≡ with_at txn.0 (own_of self.old.own.entries txn.0 ++ (db, change) ∷ []) (own_of self.old.own.entries)) }
         ensures actives { self.new.actives.items ≡ self.old.actives.items }
+        ensures first { (t : TxnId) → first_at t self.new.own.entries ≡ first_at t self.old.own.entries }
         ensures err { OnErr result (own_of self.new.own.entries ≡ own_of self.old.own.entries) }
     {
         push_at(&mut self.own, alloc, txn, db, change)
+    }
+
+    /// Leaves the first changes of a transaction, as where the log did not take the last ones. It takes no
+    /// memory.
+    pub fn truncate_own(&mut self, txn: TxnId, len: usize)
+        ensures own { own_of self.new.own.entries ≡ with_at txn.0 (take len (own_of self.old.own.entries txn.0)) (own_of self.old.own.entries) }
+        ensures actives { self.new.actives.items ≡ self.old.actives.items }
+        ensures first { (t : TxnId) → first_at t self.new.own.entries ≡ first_at t self.old.own.entries }
+    {
+        truncate_at(&mut self.own, txn, len);
+    }
+
+    /// Notes where the log has the first entry of a transaction that has changed something, if that is not
+    /// noted yet. It takes no memory.
+    pub fn note_first(&mut self, txn: TxnId, lsn: Lsn)
+        requires { own_of self.old.own.entries txn.0 ≡ [] → ⊥ }
+        ensures first { (t : TxnId) → first_at t self.new.own.entries ≡ (if is_same_txn txn t then first_of (first_at txn self.old.own.entries) lsn else first_at t self.old.own.entries) }
+        ensures own { own_of self.new.own.entries ≡ own_of self.old.own.entries }
+        ensures actives { self.new.actives.items ≡ self.old.actives.items }
+    {
+        note_first_at(&mut self.own, txn, lsn);
     }
 
     /// Ends a session's transaction, with what it changed. It takes no memory.
     pub fn end(&mut self, session: u8, txn: TxnId)
         ensures actives { self.new.actives.items ≡ without_session session self.old.actives.items }
         ensures own { own_of self.new.own.entries ≡ with_at txn.0 [] (own_of self.old.own.entries) }
+        ensures first { (t : TxnId) → first_at t self.new.own.entries ≡ (if is_same_txn txn t then None else first_at t self.old.own.entries) }
     {
         self.actives.retain(|active| active.session != session);
         remove_at(&mut self.own, txn);

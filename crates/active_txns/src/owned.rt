@@ -1,22 +1,22 @@
 // The map of what transactions changed.
-ghost use Rattle.std.specs.Prelude.{◌≡◌, ◌++◌, ◌∷◌, [], None, Some, if◌then◌else◌, IfOk, OnOk, OnErr};
-ghost use Rattle.std.specs.Option.{option_or};
+ghost use Rattle.std.specs.Prelude.{◌≡◌, ◌++◌, ◌∷◌, [], None, take, if◌then◌else◌, IfOk, OnOk, OnErr};
 ghost use Rattle.je_order.specs.declared.txn_id.TxnId.{TxnId};
 ghost use Rattle.je_order.specs.Transactions.{is_same_txn};
-ghost use Rattle.active_txns.specs.Own.{changes_at, first_at};
+ghost use Rattle.active_txns.specs.Own.{changes_at, first_at, first_of};
 
 use crate::OwnChanges;
 use je_lsn::Lsn;
-use je_order::{List, TxnId};
+use je_order::TxnId;
 use std::alloc::{AllocError, Global};
 use std::collections::BTreeMap;
 use store_model::RecordChange;
 
 // One change, of which the log has nothing yet.
 fn one_change(alloc: Global, db: u32, change: RecordChange) -> Result<OwnChanges, AllocError>
-    ensures { IfOk result (λ own. own ≡ record { changes = (db, change) ∷ []; first = None }) }
+    ensures changes { IfOk result (λ own. own.changes.items ≡ (db, change) ∷ []) }
+    ensures first { IfOk result (λ own. own.first ≡ None) }
 {
-    let mut changes = List::new(alloc);
+    let mut changes = Vec::new(alloc);
     changes.push((db, change))?;
     Ok(OwnChanges {
         changes,
@@ -43,6 +43,37 @@ pub(crate) fn push_at(
     let first = one_change(alloc, db, change)?;
     own.insert(txn, first)?;
     Ok(())
+}
+
+// Leaves the first of a transaction's changes. It takes no memory.
+pub(crate) fn truncate_at(own: &mut BTreeMap<TxnId, OwnChanges>, txn: TxnId, len: usize)
+    ensures changes { (t : TxnId) → changes_at t own.new.entries ≡ (if is_same_txn txn t then take len (changes_at txn own.old.entries) else changes_at t own.old.entries) }
+    ensures first { (t : TxnId) → first_at t own.new.entries ≡ first_at t own.old.entries }
+{
+    if let Some(found) = own.get_mut(&txn) {
+        found.changes.truncate(len);
+    }
+}
+
+// Notes where the log has a transaction's first entry, if that is not noted yet. It takes no memory.
+pub(crate) fn note_first_at(own: &mut BTreeMap<TxnId, OwnChanges>, txn: TxnId, lsn: Lsn)
+    requires { changes_at txn own.old.entries ≡ [] → ⊥ }
+    ensures changes { (t : TxnId) → changes_at t own.new.entries ≡ changes_at t own.old.entries }
+    ensures first { (t : TxnId) → first_at t own.new.entries ≡ (if is_same_txn txn t then first_of (first_at txn own.old.entries) lsn else first_at t own.old.entries) }
+{
+    if let Some(found) = own.get_mut(&txn) {
+        found.first = first_or(found.first, lsn);
+    }
+}
+
+// The first place, if it was noted, else this one.
+fn first_or(first: Option<Lsn>, lsn: Lsn) -> Option<Lsn>
+    ensures { result ≡ first_of first lsn }
+{
+    match first {
+        None => Some(lsn),
+        Some(first) => Some(first),
+    }
 }
 
 // Takes out what a transaction changed. It takes no memory.
