@@ -1,2 +1,4 @@
 -- What transactions changed, after a change of the map.
 pub mod OwnMaps
+-- A victim is marked: the walk along the transactions.
+pub mod MarkSteps

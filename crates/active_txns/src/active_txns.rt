@@ -1,17 +1,19 @@
 // The transactions under way.
-ghost use Rattle.std.specs.Prelude.{◌≡◌, ◌++◌, ◌∷◌, [], None, take, if◌then◌else◌, OnOk, OnErr};
+ghost use Rattle.std.specs.Prelude.{ℕ, ◌≡◌, ◌++◌, ◌∷◌, [], None, take, if◌then◌else◌, OnOk, OnErr};
 ghost use Rattle.std.specs.Option.{option_copied};
 ghost use Rattle.je_answers.specs.Standing.{active_of, with_at};
-ghost use Rattle.je_answers.specs.After.{without_session};
+ghost use Rattle.je_answers.specs.After.{marked, without_session};
+ghost use Rattle.active_txns.specs.Marks.{marked_for, HaveOwnSessions};
 ghost use Rattle.active_txns.specs.Own.{own_of, first_at, first_of};
 ghost use Rattle.je_order.specs.declared.txn_id.TxnId.{TxnId};
 ghost use Rattle.je_order.specs.Transactions.{is_same_txn};
 
 use crate::OwnChanges;
+use crate::marking::mark_in;
 use crate::owned::{note_first_at, push_at, read_at, remove_at, truncate_at};
 use je_answers::Active;
 use je_lsn::Lsn;
-use je_order::TxnId;
+use je_order::{List, TxnId};
 use std::alloc::{AllocError, Global};
 use std::collections::BTreeMap;
 use store_model::{Durability, Isolation, RecordChange};
@@ -114,6 +116,16 @@ impl ActiveTxns {
         ensures actives { self.new.actives.items ≡ self.old.actives.items }
     {
         note_first_at(&mut self.own, txn, lsn);
+    }
+
+    /// Marks a session's transaction as the victim of this cycle; it can then only be aborted. It takes no
+    /// memory.
+    pub fn mark(&mut self, session: u8, cycle: List<TxnId>)
+        ensures actives { self.new.actives.items ≡ marked_for session cycle self.old.actives.items }
+        ensures marked { HaveOwnSessions self.old.actives.items → (line : ℕ) → self.new.actives.items ≡ marked (record { session = session; line = line; cycle = cycle } ∷ []) self.old.actives.items }
+        ensures own { self.new.own.entries ≡ self.old.own.entries }
+    {
+        mark_in(self.actives.as_mut_slice(), session, cycle);
     }
 
     /// Ends a session's transaction, with what it changed. It takes no memory.
