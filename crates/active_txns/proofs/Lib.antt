@@ -2,3 +2,5 @@
 pub mod OwnMaps
 -- A victim is marked: the walk along the transactions.
 pub mod MarkSteps
+-- The least place that is noted: the walk along the map.
+pub mod LeastFirst

@@ -1,5 +1,5 @@
 -- What transactions under way changed, by their numbers.
-use Rattle.std.specs.Prelude.{ℕ, List, [], Option, None, Some}
+use Rattle.std.specs.Prelude.{ℕ, cond, nat_le, List, [], Option, None, Some}
 use Rattle.std.specs.Option.{option_map_or}
 use Rattle.je_order.specs.declared.txn_id.TxnId.{TxnId}
 use Rattle.lock_table.specs.Table.{at_txn}
@@ -22,3 +22,10 @@ own_of entries n = changes_at (record { 0 = n }) entries
 abbrev pub first_of : Option ℕ → ℕ → Option ℕ
 first_of None lsn = Some lsn
 first_of (Some first) lsn = Some first
+
+-- ---- inside
+-- the lesser of two numbers, where there are two
+abbrev pub lesser_of : Option ℕ → Option ℕ → Option ℕ
+lesser_of None b = b
+lesser_of (Some x) None = Some x
+lesser_of (Some x) (Some y) = cond (nat_le x y) (Some x) (Some y)

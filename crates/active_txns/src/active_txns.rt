@@ -1,6 +1,6 @@
 // The transactions under way.
-ghost use Rattle.std.specs.Prelude.{ℕ, ◌≡◌, ◌++◌, ◌∷◌, [], None, take, if◌then◌else◌, OnOk, OnErr};
-ghost use Rattle.std.specs.Option.{option_copied};
+ghost use Rattle.std.specs.Prelude.{ℕ, ◌≡◌, ◌≤◌, Some, ◌++◌, ◌∷◌, [], None, take, if◌then◌else◌, OnOk, OnErr};
+ghost use Rattle.std.specs.Option.{option_copied, IfSome, IfNone};
 ghost use Rattle.je_answers.specs.Standing.{active_of, with_at};
 ghost use Rattle.je_answers.specs.After.{marked, without_session};
 ghost use Rattle.active_txns.specs.Marks.{marked_for, HaveOwnSessions};
@@ -10,7 +10,7 @@ ghost use Rattle.je_order.specs.Transactions.{is_same_txn};
 
 use crate::OwnChanges;
 use crate::marking::mark_in;
-use crate::owned::{note_first_at, push_at, read_at, remove_at, truncate_at};
+use crate::owned::{least_first_in, note_first_at, push_at, read_at, remove_at, truncate_at};
 use je_answers::Active;
 use je_lsn::Lsn;
 use je_order::{List, TxnId};
@@ -31,6 +31,7 @@ impl ActiveTxns {
     pub fn new(alloc: Global) -> ActiveTxns
         ensures actives { result.actives.items ≡ [] }
         ensures own { own_of result.own.entries ≡ (λ n. []) }
+        ensures first { (t : TxnId) → first_at t result.own.entries ≡ None }
     {
         ActiveTxns {
             actives: Vec::new(alloc),
@@ -116,6 +117,19 @@ impl ActiveTxns {
         ensures actives { self.new.actives.items ≡ self.old.actives.items }
     {
         note_first_at(&mut self.own, txn, lsn);
+    }
+
+    /// The least place that is noted: before it the log has nothing of a transaction under way. It looks at
+    /// each transaction.
+    pub fn least_first(&self) -> Option<Lsn>
+        ensures some { IfSome result (λ least. (t : TxnId) × (first_at t self.now.own.entries ≡ Some least)) }
+        ensures least { (t : TxnId) (lsn : ℕ) → first_at t self.now.own.entries ≡ Some lsn → IfSome result (λ least. least ≤ lsn) }
+        ensures none { IfNone result ((t : TxnId) (lsn : ℕ) → first_at t self.now.own.entries ≡ Some lsn → ⊥) }
+    {
+        match least_first_in(&self.own) {
+            None => None,
+            Some(number) => Some(Lsn::from_u64(number)),
+        }
     }
 
     /// Marks a session's transaction as the victim of this cycle; it can then only be aborted. It takes no

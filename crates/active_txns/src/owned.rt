@@ -1,8 +1,9 @@
 // The map of what transactions changed.
-ghost use Rattle.std.specs.Prelude.{◌≡◌, ◌++◌, ◌∷◌, [], None, take, if◌then◌else◌, IfOk, OnOk, OnErr};
+ghost use Rattle.std.specs.Option.{IfSome, IfNone};
+ghost use Rattle.std.specs.Prelude.{◌≡◌, ◌≤◌, ℕ, Some, ◌++◌, ◌∷◌, [], None, take, if◌then◌else◌, IfOk, OnOk, OnErr};
 ghost use Rattle.je_order.specs.declared.txn_id.TxnId.{TxnId};
 ghost use Rattle.je_order.specs.Transactions.{is_same_txn};
-ghost use Rattle.active_txns.specs.Own.{changes_at, first_at, first_of};
+ghost use Rattle.active_txns.specs.Own.{changes_at, first_at, first_of, lesser_of};
 
 use crate::OwnChanges;
 use je_lsn::Lsn;
@@ -92,4 +93,38 @@ pub(crate) fn read_at(own: &BTreeMap<TxnId, OwnChanges>, txn: TxnId) -> &[(u32, 
         Some(found) => found.changes.as_slice(),
         None => &[],
     }
+}
+
+// The lesser of two numbers, where there are two.
+fn lesser(a: Option<u64>, b: Option<u64>) -> Option<u64>
+    ensures { result ≡ lesser_of a b }
+{
+    match (a, b) {
+        (Some(x), Some(y)) => Some(if x <= y { x } else { y }),
+        (Some(x), None) => Some(x),
+        (None, b) => b,
+    }
+}
+
+// A place as its number.
+fn number_of(first: Option<Lsn>) -> Option<u64>
+    ensures { result ≡ first }
+{
+    match first {
+        None => None,
+        Some(lsn) => Some(lsn.as_u64()),
+    }
+}
+
+// The least of the places that are noted.
+pub(crate) fn least_first_in(own: &BTreeMap<TxnId, OwnChanges>) -> Option<u64>
+    ensures some { IfSome result (λ least. (t : TxnId) × (first_at t own.now.entries ≡ Some least)) }
+    ensures least { (t : TxnId) (lsn : ℕ) → first_at t own.now.entries ≡ Some lsn → IfSome result (λ least. least ≤ lsn) }
+    ensures none { IfNone result ((t : TxnId) (lsn : ℕ) → first_at t own.now.entries ≡ Some lsn → ⊥) }
+{
+    let mut least = None;
+    for (_, changed) in own.iter() {
+        least = lesser(least, number_of(changed.first));
+    }
+    least
 }
