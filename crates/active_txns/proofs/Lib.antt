@@ -1,2 +1,6 @@
 -- What transactions changed, after a change of the map.
 pub mod OwnMaps
+-- A victim is marked: the walk along the transactions.
+pub mod MarkSteps
+-- The least place that is noted: the walk along the map.
+pub mod LeastFirst

@@ -1,5 +1,5 @@
 -- What transactions changed, after a change of the map.
-use Rattle.std.proofs.Common.{◌≡◌, ℕ, Bool, true, false, cond, List, [], ◌++◌, ◌∷◌, Some, None, Option, refl, ap, sym, ◌∙◌, subst, ⊎_elim}
+use Rattle.std.proofs.Common.{◌≡◌, ℕ, Bool, true, false, cond, List, [], Some, None, Option, refl, ap, sym, ◌∙◌, subst, ⊎_elim}
 use Rattle.std.specs.Option.{option_map_or}
 use Rattle.std.proofs.lemmas.Bool.{cases_Bool, cond-true, cond-false}
 use Rattle.je_order.specs.declared.txn_id.TxnId.{TxnId}
@@ -15,20 +15,20 @@ abbrev pub Entries : Type 0
 Entries = List (TxnId × OwnChanges)
 
 abbrev changes_in : Option OwnChanges → List (ℕ × RecordChange)
-changes_in o = option_map_or (λ (x : OwnChanges). x.changes) o []
+changes_in o = option_map_or (λ (x : OwnChanges). x.changes.items) o []
 
 abbrev first_in : Option OwnChanges → Option ℕ
 first_in o = option_map_or (λ (x : OwnChanges). x.first) o None
 
 -- one transaction's entry is another one
-pub changes_put : (old new : Entries) (u : TxnId) (w : OwnChanges) (list : List (ℕ × RecordChange)) → IsChangedAt old new u (Some w) → w.changes ≡ list → (t : TxnId) → changes_at t new ≡ cond (is_same_txn u t) list (changes_at t old)
+pub changes_put : (old new : Entries) (u : TxnId) (w : OwnChanges) (list : List (ℕ × RecordChange)) → IsChangedAt old new u (Some w) → w.changes.items ≡ list → (t : TxnId) → changes_at t new ≡ cond (is_same_txn u t) list (changes_at t old)
 changes_put old new u w list c is t = ⊎_elim
     (λ h. ap changes_in (changed_here old new u (Some w) c t h) ∙ (is ∙ sym (cond-true (is_same_txn u t) list (changes_at t old) h)))
     (λ h. ap changes_in (changed_there old new u (Some w) c t h) ∙ sym (cond-false (is_same_txn u t) list (changes_at t old) h))
     (cases_Bool (is_same_txn u t))
 
 -- and its changes are what they were
-pub changes_stay : (old new : Entries) (u : TxnId) (v w : OwnChanges) → Some v ≡ at_txn u old → IsChangedAt old new u (Some w) → w.changes ≡ v.changes → (t : TxnId) → changes_at t new ≡ changes_at t old
+pub changes_stay : (old new : Entries) (u : TxnId) (v w : OwnChanges) → Some v ≡ at_txn u old → IsChangedAt old new u (Some w) → w.changes.items ≡ v.changes.items → (t : TxnId) → changes_at t new ≡ changes_at t old
 changes_stay old new u v w has c is t = ⊎_elim
     (λ h. ap changes_in (changed_here old new u (Some w) c t h) ∙ (is ∙ ap changes_in (subst (λ (x : TxnId). Some v ≡ at_txn x old) (same_is u t h) has)))
     (λ h. ap changes_in (changed_there old new u (Some w) c t h))
@@ -39,4 +39,11 @@ pub first_stays : (old new : Entries) (u : TxnId) (o : Option OwnChanges) (w : O
 first_stays old new u o w has c is t = ⊎_elim
     (λ h. ap first_in (changed_here old new u (Some w) c t h) ∙ (is ∙ ap first_in (subst (λ (x : TxnId). o ≡ at_txn x old) (same_is u t h) has)))
     (λ h. ap first_in (changed_there old new u (Some w) c t h))
+    (cases_Bool (is_same_txn u t))
+
+-- the place of one transaction's first entry is another one
+pub first_put : (old new : Entries) (u : TxnId) (w : OwnChanges) (first : Option ℕ) → IsChangedAt old new u (Some w) → w.first ≡ first → (t : TxnId) → first_at t new ≡ cond (is_same_txn u t) first (first_at t old)
+first_put old new u w first c is t = ⊎_elim
+    (λ h. ap first_in (changed_here old new u (Some w) c t h) ∙ (is ∙ sym (cond-true (is_same_txn u t) first (first_at t old) h)))
+    (λ h. ap first_in (changed_there old new u (Some w) c t h) ∙ sym (cond-false (is_same_txn u t) first (first_at t old) h))
     (cases_Bool (is_same_txn u t))

@@ -1,13 +1,18 @@
 // The transactions under way.
-ghost use Rattle.std.specs.Prelude.{◌≡◌, ◌++◌, ◌∷◌, [], None, Some, OnOk, OnErr};
-ghost use Rattle.std.specs.Option.{option_copied};
+ghost use Rattle.std.specs.Prelude.{ℕ, ◌≡◌, ◌≤◌, Some, ◌++◌, ◌∷◌, [], None, take, if◌then◌else◌, OnOk, OnErr};
+ghost use Rattle.std.specs.Option.{option_copied, IfSome, IfNone};
 ghost use Rattle.je_answers.specs.Standing.{active_of, with_at};
 ghost use Rattle.je_answers.specs.After.{marked, without_session};
-ghost use Rattle.active_txns.specs.Own.{own_of, changes_at};
+ghost use Rattle.active_txns.specs.Marks.{marked_for, HaveOwnSessions};
+ghost use Rattle.active_txns.specs.Own.{own_of, first_at, first_of};
+ghost use Rattle.je_order.specs.declared.txn_id.TxnId.{TxnId};
+ghost use Rattle.je_order.specs.Transactions.{is_same_txn};
 
 use crate::OwnChanges;
-use crate::owned::{push_at, read_at, remove_at};
+use crate::marking::mark_in;
+use crate::owned::{least_first_in, note_first_at, push_at, read_at, remove_at, truncate_at};
 use je_answers::Active;
+use je_lsn::Lsn;
 use je_order::{List, TxnId};
 use std::alloc::{AllocError, Global};
 use std::collections::BTreeMap;
@@ -26,6 +31,7 @@ impl ActiveTxns {
     pub fn new(alloc: Global) -> ActiveTxns
         ensures actives { result.actives.items ≡ [] }
         ensures own { own_of result.own.entries ≡ (λ n. []) }
+        ensures first { (t : TxnId) → first_at t result.own.entries ≡ None }
     {
         ActiveTxns {
             actives: Vec::new(alloc),
@@ -86,15 +92,61 @@ impl ActiveTxns {
     ) -> Result<(), AllocError>
         ensures own { OnOk result (own_of self.new.own.entries ≡ with_at txn.0 (own_of self.old.own.entries txn.0 ++ (db, change) ∷ []) (own_of self.old.own.entries)) }
         ensures actives { self.new.actives.items ≡ self.old.actives.items }
+        ensures first { (t : TxnId) → first_at t self.new.own.entries ≡ first_at t self.old.own.entries }
         ensures err { OnErr result (own_of self.new.own.entries ≡ own_of self.old.own.entries) }
     {
         push_at(&mut self.own, alloc, txn, db, change)
+    }
+
+    /// Leaves the first changes of a transaction, as where the log did not take the last ones. It takes no
+    /// memory.
+    pub fn truncate_own(&mut self, txn: TxnId, len: usize)
+        ensures own { own_of self.new.own.entries ≡ with_at txn.0 (take len (own_of self.old.own.entries txn.0)) (own_of self.old.own.entries) }
+        ensures actives { self.new.actives.items ≡ self.old.actives.items }
+        ensures first { (t : TxnId) → first_at t self.new.own.entries ≡ first_at t self.old.own.entries }
+    {
+        truncate_at(&mut self.own, txn, len);
+    }
+
+    /// Notes where the log has the first entry of a transaction that has changed something, if that is not
+    /// noted yet. It takes no memory.
+    pub fn note_first(&mut self, txn: TxnId, lsn: Lsn)
+        requires { own_of self.old.own.entries txn.0 ≡ [] → ⊥ }
+        ensures first { (t : TxnId) → first_at t self.new.own.entries ≡ (if is_same_txn txn t then first_of (first_at txn self.old.own.entries) lsn else first_at t self.old.own.entries) }
+        ensures own { own_of self.new.own.entries ≡ own_of self.old.own.entries }
+        ensures actives { self.new.actives.items ≡ self.old.actives.items }
+    {
+        note_first_at(&mut self.own, txn, lsn);
+    }
+
+    /// The least place that is noted: before it the log has nothing of a transaction under way. It looks at
+    /// each transaction.
+    pub fn least_first(&self) -> Option<Lsn>
+        ensures some { IfSome result (λ least. (t : TxnId) × (first_at t self.now.own.entries ≡ Some least)) }
+        ensures least { (t : TxnId) (lsn : ℕ) → first_at t self.now.own.entries ≡ Some lsn → IfSome result (λ least. least ≤ lsn) }
+        ensures none { IfNone result ((t : TxnId) (lsn : ℕ) → first_at t self.now.own.entries ≡ Some lsn → ⊥) }
+    {
+        match least_first_in(&self.own) {
+            None => None,
+            Some(number) => Some(Lsn::from_u64(number)),
+        }
+    }
+
+    /// Marks a session's transaction as the victim of this cycle; it can then only be aborted. It takes no
+    /// memory.
+    pub fn mark(&mut self, session: u8, cycle: List<TxnId>)
+        ensures actives { self.new.actives.items ≡ marked_for session cycle self.old.actives.items }
+        ensures marked { HaveOwnSessions self.old.actives.items → (line : ℕ) → self.new.actives.items ≡ marked (record { session = session; line = line; cycle = cycle } ∷ []) self.old.actives.items }
+        ensures own { self.new.own.entries ≡ self.old.own.entries }
+    {
+        mark_in(self.actives.as_mut_slice(), session, cycle);
     }
 
     /// Ends a session's transaction, with what it changed. It takes no memory.
     pub fn end(&mut self, session: u8, txn: TxnId)
         ensures actives { self.new.actives.items ≡ without_session session self.old.actives.items }
         ensures own { own_of self.new.own.entries ≡ with_at txn.0 [] (own_of self.old.own.entries) }
+        ensures first { (t : TxnId) → first_at t self.new.own.entries ≡ (if is_same_txn txn t then None else first_at t self.old.own.entries) }
     {
         self.actives.retain(|active| active.session != session);
         remove_at(&mut self.own, txn);

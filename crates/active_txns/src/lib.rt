@@ -4,6 +4,7 @@
 #![tactic(auto)]
 
 pub mod active_txns;
+pub mod marking;
 pub mod own_changes;
 pub mod owned;
 

@@ -1,22 +1,23 @@
 // The map of what transactions changed.
-ghost use Rattle.std.specs.Prelude.{◌≡◌, ◌++◌, ◌∷◌, [], None, Some, if◌then◌else◌, IfOk, OnOk, OnErr};
-ghost use Rattle.std.specs.Option.{option_or};
+ghost use Rattle.std.specs.Option.{IfSome, IfNone};
+ghost use Rattle.std.specs.Prelude.{◌≡◌, ◌≤◌, ℕ, Some, ◌++◌, ◌∷◌, [], None, take, if◌then◌else◌, IfOk, OnOk, OnErr};
 ghost use Rattle.je_order.specs.declared.txn_id.TxnId.{TxnId};
 ghost use Rattle.je_order.specs.Transactions.{is_same_txn};
-ghost use Rattle.active_txns.specs.Own.{changes_at, first_at};
+ghost use Rattle.active_txns.specs.Own.{changes_at, first_at, first_of, lesser_of};
 
 use crate::OwnChanges;
 use je_lsn::Lsn;
-use je_order::{List, TxnId};
+use je_order::TxnId;
 use std::alloc::{AllocError, Global};
 use std::collections::BTreeMap;
 use store_model::RecordChange;
 
 // One change, of which the log has nothing yet.
 fn one_change(alloc: Global, db: u32, change: RecordChange) -> Result<OwnChanges, AllocError>
-    ensures { IfOk result (λ own. own ≡ record { changes = (db, change) ∷ []; first = None }) }
+    ensures changes { IfOk result (λ own. own.changes.items ≡ (db, change) ∷ []) }
+    ensures first { IfOk result (λ own. own.first ≡ None) }
 {
-    let mut changes = List::new(alloc);
+    let mut changes = Vec::new(alloc);
     changes.push((db, change))?;
     Ok(OwnChanges {
         changes,
@@ -45,6 +46,37 @@ pub(crate) fn push_at(
     Ok(())
 }
 
+// Leaves the first of a transaction's changes. It takes no memory.
+pub(crate) fn truncate_at(own: &mut BTreeMap<TxnId, OwnChanges>, txn: TxnId, len: usize)
+    ensures changes { (t : TxnId) → changes_at t own.new.entries ≡ (if is_same_txn txn t then take len (changes_at txn own.old.entries) else changes_at t own.old.entries) }
+    ensures first { (t : TxnId) → first_at t own.new.entries ≡ first_at t own.old.entries }
+{
+    if let Some(found) = own.get_mut(&txn) {
+        found.changes.truncate(len);
+    }
+}
+
+// Notes where the log has a transaction's first entry, if that is not noted yet. It takes no memory.
+pub(crate) fn note_first_at(own: &mut BTreeMap<TxnId, OwnChanges>, txn: TxnId, lsn: Lsn)
+    requires { changes_at txn own.old.entries ≡ [] → ⊥ }
+    ensures changes { (t : TxnId) → changes_at t own.new.entries ≡ changes_at t own.old.entries }
+    ensures first { (t : TxnId) → first_at t own.new.entries ≡ (if is_same_txn txn t then first_of (first_at txn own.old.entries) lsn else first_at t own.old.entries) }
+{
+    if let Some(found) = own.get_mut(&txn) {
+        found.first = first_or(found.first, lsn);
+    }
+}
+
+// The first place, if it was noted, else this one.
+fn first_or(first: Option<Lsn>, lsn: Lsn) -> Option<Lsn>
+    ensures { result ≡ first_of first lsn }
+{
+    match first {
+        None => Some(lsn),
+        Some(first) => Some(first),
+    }
+}
+
 // Takes out what a transaction changed. It takes no memory.
 pub(crate) fn remove_at(own: &mut BTreeMap<TxnId, OwnChanges>, txn: TxnId)
     ensures changes { (t : TxnId) → changes_at t own.new.entries ≡ (if is_same_txn txn t then [] else changes_at t own.old.entries) }
@@ -61,4 +93,38 @@ pub(crate) fn read_at(own: &BTreeMap<TxnId, OwnChanges>, txn: TxnId) -> &[(u32, 
         Some(found) => found.changes.as_slice(),
         None => &[],
     }
+}
+
+// The lesser of two numbers, where there are two.
+fn lesser(a: Option<u64>, b: Option<u64>) -> Option<u64>
+    ensures { result ≡ lesser_of a b }
+{
+    match (a, b) {
+        (Some(x), Some(y)) => Some(if x <= y { x } else { y }),
+        (Some(x), None) => Some(x),
+        (None, b) => b,
+    }
+}
+
+// A place as its number.
+fn number_of(first: Option<Lsn>) -> Option<u64>
+    ensures { result ≡ first }
+{
+    match first {
+        None => None,
+        Some(lsn) => Some(lsn.as_u64()),
+    }
+}
+
+// The least of the places that are noted.
+pub(crate) fn least_first_in(own: &BTreeMap<TxnId, OwnChanges>) -> Option<u64>
+    ensures some { IfSome result (λ least. (t : TxnId) × (first_at t own.now.entries ≡ Some least)) }
+    ensures least { (t : TxnId) (lsn : ℕ) → first_at t own.now.entries ≡ Some lsn → IfSome result (λ least. least ≤ lsn) }
+    ensures none { IfNone result ((t : TxnId) (lsn : ℕ) → first_at t own.now.entries ≡ Some lsn → ⊥) }
+{
+    let mut least = None;
+    for (_, changed) in own.iter() {
+        least = lesser(least, number_of(changed.first));
+    }
+    least
 }
