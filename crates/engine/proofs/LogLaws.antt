@@ -1,5 +1,5 @@
 -- What logging planned changes needs, and what it comes to.
-use Rattle.std.proofs.Common.{◌≡◌, ◌==◌, ◌||◌, ℕ, ◌+◌, ◌<◌, ◌≤◌, nat_lt, Bool, true, false, cond, List, [], ◌∷◌, Option, None, Some, IfSome, length, map, refl, ap, sym, subst, ◌∙◌, arith}
+use Rattle.std.proofs.Common.{◌≡◌, ◌==◌, ◌||◌, ℕ, ◌+◌, ◌<◌, ◌≤◌, nat_lt, Bool, true, false, cond, List, [], ◌∷◌, Option, None, Some, IfSome, length, map, refl, ap, sym, subst, ◌∙◌, arith, ◌⊎◌, Ok, inl, inr}
 use Rattle.std.specs.List.{AllByRecursion, list_any}
 use Rattle.std.proofs.lemmas.Bool.{true≢false, eqb-true, eq-eqb, ne_eqb, ltb-true, ltb-false, and_parts, or_left, or_right}
 use Rattle.je_disk.specs.Moments.{History}
@@ -17,7 +17,7 @@ use Rattle.record_tree.specs.declared.tree_err.TreeErr.{TreeErr}
 use Rattle.record_tree.specs.Logged.{LogsTransaction, is_made, makes_db, most_entries}
 use Rattle.in_tree.specs.declared.log_trees.LogTrees.{LogTrees}
 use Rattle.in_tree.specs.Limits.{GrewFitting}
-use Rattle.in_tree.specs.Observed.{cells_of, has_tree_of, waits_of}
+use Rattle.in_tree.specs.Observed.{cells_of, has_tree_of, waits_of, limit_in}
 use Rattle.log_buffer.specs.declared.log_pos.LogPos.{LogPos}
 use Rattle.log_buffer.specs.Buffer.{end_of, file_max_of, has_failed}
 use Rattle.log_entry.specs.Encoding.{size_of}
@@ -26,12 +26,16 @@ use Rattle.txn_core.specs.Known.{committed, has_number}
 use Rattle.txn_core.specs.Planning.{IsPlannedLog}
 use Rattle.txn_core.specs.Transactions.{HasCommitted}
 use Rattle.engine.specs.declared.kept.Kept.{Kept}
-use Rattle.engine.specs.Contents.{known, rows_after}
+use Rattle.engine.specs.Contents.{known, rows_after, IsSame, drawn_contents}
 use Rattle.engine.specs.Limits.{last_number, limit_by, numbers_for}
-use Rattle.engine.specs.Steps.{HasAppended}
-use Rattle.engine.specs.Whole.{AreTrees, contents, end_file}
-use Rattle.engine.proofs.ReachLaws.{file_within, files_few, length-mapped}
-use Rattle.engine.proofs.CommittedRows.{committed_after}
+use Rattle.engine.specs.Steps.{HasAppended, LogsChanges, refusal_by}
+use Rattle.engine.specs.Whole.{AreTrees, contents, end_file, AreLeft}
+use Rattle.in_tree.proofs.Far.{files_few}
+use Rattle.std.proofs.lemmas.List.{length-map}
+use Rattle.engine.proofs.ReachLaws.{file_within}
+use Rattle.engine.proofs.CommittedRows.{committed_after, committed_same}
+use Rattle.record_tree.specs.declared.tree_err.TreeErr.TheVariants.{Fault, Full, IdsEnded as NoNumber, Memory}
+use Rattle.store_model.specs.declared.answer.Answer.{Answer}
 
 -- ---- no limit
 
@@ -116,8 +120,52 @@ module _ {D : Type 0} where
         let grown = grew.2.grew in
         let ends = ap (λ (e : LogPos). e.file) grown.end in
         let files = files_few (file_max_of old.log) (end_of old.log) (map size_of grew.0) in
-        let mapped = length-mapped size_of grew.0 in
+        let mapped = length-map grew.0 size_of in
         let few = grew.3 in
         let count = ap (λ (cs : List TreeChange). length cs) same in
         file_within (has_failed old.log) (has_failed new.log) ((end_of old.log).file + waits_of old) ((end_of new.log).file + waits_of new) (most_entries (length planned.changes.items) + 1)
         grown.failed (omega (arith, ends, files, mapped, few, count))
+
+  -- ---- where numbers may be lacking
+
+  -- nothing but that a transaction number was allocated
+  pub drawn_left : (old new : LogTrees D) (kept other : Kept) → AreLeft old new → other ≡ kept → IsSame (drawn_contents (contents old kept)) (contents new (record other { last_txn = kept.last_txn + 1 }))
+  drawn_left old new kept other left is = record {
+    rows = committed_same (cells_of old) (cells_of new) left.cells;
+    totals = ap (λ (k : Kept). k.totals) is;
+    last_txn = refl;
+    last_db = ap (λ (k : Kept). k.last_db) is;
+    last_node = ap (λ (k : Kept). k.last_node) is;
+    commits = ap (λ (k : Kept). k.commits) is;
+    fault = ap (λ (k : Kept). k.fault) is;
+  }
+
+  module _ (observable : Bool) (history : D → History) (sync_out read_out : D → Option ℕ) (read_of : D → ℕ) where
+    -- the answer where numbers may be lacking
+    pub refused_logs : (old new : LogTrees D) (kept other : Kept) (planned : PlannedChanges) (answer : Answer) → answer ≡ refusal_by (limit_in old planned.changes.items 1) →
+        (nat_lt LAST_DATABASE planned.last_db || nat_lt last_number (kept.last_node + numbers_for (length planned.changes.items))) ≡ true → AreLeft old new → other ≡ kept →
+        LogsChanges observable history sync_out read_out read_of old.log new.log (contents old kept) (contents new (record other { last_txn = kept.last_txn + 1 })) planned (limit_in old planned.changes.items 1) (Ok answer)
+    refused_logs old new kept other planned answer is lacks left same = subst (Logs (limit_in old planned.changes.items 1)) (sym is) (by_found (limit_in old planned.changes.items 1))
+      where
+        Logs : Option TreeErr → Answer → Type 0
+        Logs found a =
+            LogsChanges observable history sync_out read_out read_of old.log new.log (contents old kept) (contents new (record other { last_txn = kept.last_txn + 1 })) planned found (Ok a)
+
+        ended : (a b : Bool) → (a || b) ≡ true → nat_lt LAST_DATABASE planned.last_db ≡ a → (cond b (Some IdsEnded) None ≡ Some IdsEnded) ⊎ ((cond b (Some IdsEnded) None ≡ None) × (LAST_DATABASE < planned.last_db))
+        ended a true h test = inl refl
+        ended true false h test = inr (refl, ltb-true LAST_DATABASE planned.last_db test)
+        ended false false h test = cc
+
+        by_number : (limit_by None kept.last_node (length planned.changes.items) ≡ Some IdsEnded)
+            ⊎ ((limit_by None kept.last_node (length planned.changes.items) ≡ None) × (LAST_DATABASE < planned.last_db))
+        by_number = ended (nat_lt LAST_DATABASE planned.last_db) (nat_lt last_number (kept.last_node + numbers_for (length planned.changes.items))) lacks refl
+
+        drawn : IsSame (drawn_contents (contents old kept)) (contents new (record other { last_txn = kept.last_txn + 1 }))
+        drawn = drawn_left old new kept other left same
+
+        by_found : (found : Option TreeErr) → Logs found (refusal_by found)
+        by_found None = (by_number, drawn, left.log)
+        by_found (Some Full) = (refl, drawn, left.log)
+        by_found (Some NoNumber) = (by_number, drawn, left.log)
+        by_found (Some Fault) = (by_number, drawn, left.log)
+        by_found (Some Memory) = (by_number, drawn, left.log)

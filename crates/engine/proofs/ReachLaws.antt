@@ -1,8 +1,8 @@
 -- How many changes of trees log changes of the store, how far a log and its trees reach with them, and the limit that they meet.
-use Rattle.std.proofs.Common.{◌≡◌, ℕ, suc, ◌+◌, ◌*◌, ◌≤◌, Bool, true, false, cond, nat_lt, List, [], ◌∷◌, ◌++◌, Option, Some, None, length, map, refl, ap, ap₂, sym, subst, ◌∙◌, arith, inl, inr}
+use Rattle.std.proofs.Common.{◌≡◌, ℕ, ◌+◌, ◌*◌, ◌≤◌, Bool, true, false, cond, nat_lt, List, [], ◌∷◌, ◌++◌, Option, Some, None, length, map, refl, ap, ap₂, sym, subst, ◌∙◌, arith, inl, inr}
 use Rattle.std.specs.List.{AllByRecursion}
 use Rattle.std.proofs.lemmas.Bool.{ltb-true, true≢false}
-use Rattle.std.proofs.lemmas.List.{length-append}
+use Rattle.std.proofs.lemmas.List.{length-append, length-map}
 use Rattle.store_model.specs.declared.answer.Answer.{Answer}
 use Rattle.store_model.specs.declared.answer.Answer.TheVariants.{IdsEnded}
 use Rattle.store_model.specs.declared.change.Change.{Change}
@@ -11,9 +11,7 @@ use Rattle.db_catalog.specs.declared.db_record.DbRecord.{DbRecord}
 use Rattle.db_catalog.specs.declared.catalog_change.CatalogChange.{CatalogChange}
 use Rattle.db_catalog.specs.declared.catalog_change.CatalogChange.TheVariants.{Put, Delete}
 use Rattle.db_catalog.specs.Planning.{logged_as, moved, renewed}
-use Rattle.log_buffer.specs.declared.log_pos.LogPos.{LogPos}
 use Rattle.log_buffer.specs.Buffer.{end_of}
-use Rattle.log_buffer.specs.Flip.{behind, end_after, end_after_all, goes_in, next_file}
 use Rattle.log_replay.specs.Rows.{Rows, RowChange, rows_changed}
 use Rattle.log_replay.specs.Logging.{all_row_changes, catalog_row_change, last_db_after, record_named, row_changes}
 use Rattle.record_tree.specs.declared.tree_change.TreeChange.{TreeChange}
@@ -31,29 +29,12 @@ use Rattle.engine.specs.Whole.{HasLimit, end_file, reach_of}
 
 -- ---- files
 
--- an entry goes into the last file or the next one, by where it goes
-file_by : (here : Bool) (end : LogPos) (size : ℕ) → (behind (cond here end (next_file end)) size).file ≤ end.file + 1
-file_by true end size = omega arith
-file_by false end size = omega arith
-
--- each entry begins one file at most
-pub files_few : (most : ℕ) (end : LogPos) (sizes : List ℕ) → (end_after_all most end sizes).file ≤ end.file + length sizes
-files_few most end [] = omega arith
-files_few most end (size ∷ sizes) =
-    let one = file_by (goes_in most end.offset size) end size in
-    let rest = files_few most (end_after most end size) sizes in
-    omega (arith, one, rest)
-
 -- a log that works, or failed before, reaches so many files farther
 pub file_within : (failed_old failed_new : Bool) (old new more : ℕ) → failed_new ≡ failed_old → new ≤ old + more → cond failed_new 0 new ≤ cond failed_old 0 old + more
 file_within true true old new more same le = omega arith
 file_within false false old new more same le = le
 file_within true false old new more same le = cc
 file_within false true old new more same le = omega arith
-
-pub length-mapped : {X Y : Type 0} (f : X → Y) (xs : List X) → length (map f xs) ≡ length xs
-length-mapped f [] = refl
-length-mapped f (x ∷ xs) = ap suc (length-mapped f xs)
 
 -- ---- how many changes of records log changes of the store
 
@@ -85,7 +66,7 @@ rows_few (change ∷ changes) last_db rows =
 
 pub planned_few : (planned : List TreeChange) (last_db : ℕ) (changes : List Change) (rows : Rows) → map (row_by 0) planned ≡ all_row_changes 0 last_db changes rows → length planned ≤ most_changed changes
 planned_few planned last_db changes rows is =
-    let mapped = length-mapped (row_by 0) planned in
+    let mapped = length-map planned (row_by 0) in
     let same = ap (λ (l : List RowChange). length l) is in
     let few = rows_few changes last_db rows in
     omega (arith, mapped, same, few)

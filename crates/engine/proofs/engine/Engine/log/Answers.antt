@@ -1,11 +1,13 @@
-use Rattle.std.proofs.Common.{◌≡◌, ◌∙◌, ◌+◌, refl, sym, subst, ap, length, nat_lt, IfSome, false, List, None}
+use Rattle.std.proofs.Common.{◌≡◌, ◌∙◌, ◌+◌, refl, sym, subst, ap, length, nat_lt, IfSome, true, false, List, None}
 use Rattle.std.specs.List.{AllByRecursion}
+use Rattle.log_entry.specs.Body.{IsEntry}
+use Rattle.record_tree.specs.Logged.{entry_for}
 use Rattle.record_tree.specs.declared.tree_change.TreeChange.{TreeChange}
 use Rattle.in_tree.specs.Observed.{has_tree_of, limit_in}
 use Rattle.store_model.specs.declared.store.TheConstants.{LAST_DATABASE}
 use Rattle.engine.specs.Limits.{last_number, numbers_for}
 use Rattle.engine.specs.Steps.{txn_of}
-use Rattle.engine.proofs.LogLaws.{appended_all, near_logged, neither, no_limit, rows_logged, within_last}
+use Rattle.engine.proofs.LogLaws.{appended_all, near_logged, neither, no_limit, refused_logs, rows_logged, within_last}
 use Rattle.engine.proofs.engine.Engine.log.Goals as goal
 
 pub commit_changes-requires-clause-new : goal.commit_changes-requires-clause-new
@@ -49,3 +51,19 @@ returns-in-Ok-clause-near g c =
     let D = g.D.Disk in
     near_logged D.observable D.history D.sync_out D.read_out D.read_of D.faults c.args.self.now.trees c.commit_changes.new.trees (txn_of (c.args.self.now.kept.last_txn + 1)) c.args.planned c.as_slice.result.now c.as_slice.ensures.value
     c.in-Ok.ensures.grew
+
+pub commit_changes-requires-clause-trees : goal.commit_changes-requires-clause-trees
+commit_changes-requires-clause-trees g c =
+    subst (λ (cs : List TreeChange). AllByRecursion (λ x. has_tree_of c.args.self.now.trees x.db ≡ true) cs) (sym c.as_slice.ensures.value) c.requires.there
+
+pub commit_changes-requires-clause-entries : goal.commit_changes-requires-clause-entries
+commit_changes-requires-clause-entries g c =
+    subst (λ (cs : List TreeChange). AllByRecursion (λ x. IsEntry (entry_for (txn_of (c.args.self.now.kept.last_txn + 1)) x.db x.name x.value)) cs) (sym c.as_slice.ensures.value) c.requires.entries
+
+pub returns-then-lacks_numbers-clause-logs : goal.returns-then-lacks_numbers-clause-logs
+returns-then-lacks_numbers-clause-logs g c =
+    let D = g.D.Disk in
+    let old = c.args.self.now in
+    let mid = c.refuse.new.self in
+    refused_logs D.observable D.history D.sync_out D.read_out D.read_of old.trees mid.trees old.kept mid.kept c.args.planned c.in_ok-answer.answer c.in_ok-answer.ensures.answer
+    (sym c.lacks_numbers.ensures ∙ c.if-lacks_numbers.true) c.refuse.ensures.same c.refuse.ensures.kept
