@@ -78,9 +78,10 @@ pub bounded_far : (early late : Reach) (st : Standing) (events : List Event) (li
 bounded_far early late st [] [] within b = tt
 bounded_far early late st [] (limit ∷ limits) within b = tt
 bounded_far early late st (event ∷ events) [] within b = tt
-bounded_far early late st (event ∷ events) (limit ∷ limits) within b =
-    (bounded_later early late (changes_by st event) limit within b.0,
-    bounded_far (reach_after early (changes_by st event)) (reach_after late (changes_by st event)) (after_event st event) events limits (after_within early late (changes_by st event) within) b.1)
+bounded_far early late st (event ∷ events) (limit ∷ limits) within b = (
+  bounded_later early late (changes_by st event) limit within b.0,
+  bounded_far (reach_after early (changes_by st event)) (reach_after late (changes_by st event)) (after_event st event) events limits (after_within early late (changes_by st event) within) b.1,
+)
 
 -- the limits of a journal, and then those of another
 bounded-append : (first : Reach) (st : Standing) (limits others : List (Option Answer)) (before after : List Event) → AnswersAsModel st limits before → AreBounded first st before limits →

@@ -23,7 +23,12 @@ static RIGHT: [(&str, &str, u32, u32); 20] = [
     ("run --home=--file-max", "--file-max", 10_000_000, 128),
     ("run --home d --file-max 4096", "d", 4_096, 128),
     ("run --home d --file-max=8192", "d", 8_192, 128),
-    ("run --file-max 1073741824 --home d", "d", 1_073_741_824, 128),
+    (
+        "run --file-max 1073741824 --home d",
+        "d",
+        1_073_741_824,
+        128,
+    ),
     ("run --file-max=9999999 --home=d", "d", 9_999_999, 128),
     ("run --home d --file-max +4096", "d", 4_096, 128),
     ("run --home d --file-max=004096", "d", 4_096, 128),
@@ -92,7 +97,11 @@ fn gives(
 ) -> Result<bool, AllocError> {
     let args = split(alloc, line)?;
     match parse(alloc, args.as_slice())? {
-        Some(options) => Ok(options.home.as_str() == home && options.file_max == file_max && options.fanout == fanout),
+        Some(options) => Ok(
+            options.home.as_str() == home
+                && options.file_max == file_max
+                && options.fanout == fanout,
+        ),
         None => Ok(false),
     }
 }

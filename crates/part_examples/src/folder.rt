@@ -176,7 +176,9 @@ fn syncs_in_another_thread(rt: HostRuntime) -> Result<(), Fail> {
     let trimmed = disk.lock(&rt).sync_now();
     let faults = disk.lock(&rt).faults();
     drop(disk);
-    assert!(rt; synced.is_ok() && appended.is_ok() && again.is_ok() && trimmed.is_ok() && faults == 0);
+    assert!(rt;
+        synced.is_ok() && appended.is_ok() && again.is_ok() && trimmed.is_ok() && faults == 0
+    );
     assert!(rt; has_text(&rt, "threads/00000003.jdb", "abcdefghijk"));
     Ok(())
 }

@@ -199,11 +199,23 @@ fn listed(alloc: Global) -> Result<String, AllocError> {
 
 // All records are put, half of them are deleted, and the folder is opened again.
 fn assert_many(rt: &impl Abort, alloc: Global, args: &[&str]) -> Result<(), AllocError> {
-    let ran = run_args(alloc, args, MemDisk::new(alloc), changing(alloc)?.as_bytes())?;
+    let ran = run_args(
+        alloc,
+        args,
+        MemDisk::new(alloc),
+        changing(alloc)?.as_bytes(),
+    )?;
     let end = "\nend commits 15001 databases 1 records 5000\n";
     assert!(rt; ran.text().ends_with(end) && ran.status == 0);
     let disk = disk_of(ran);
-    drop(run_over(rt, alloc, args, disk, reading(alloc)?.as_bytes(), listed(alloc)?.as_str())?);
+    drop(run_over(
+        rt,
+        alloc,
+        args,
+        disk,
+        reading(alloc)?.as_bytes(),
+        listed(alloc)?.as_str(),
+    )?);
     Ok(())
 }
 
