@@ -186,7 +186,7 @@ fn reading(alloc: Global) -> Result<String, AllocError> {
 fn listed(alloc: Global) -> Result<String, AllocError> {
     let mut text = String::new(alloc);
     for number in 100_000..110_000u32 {
-        let line = number - 99_999;
+        let line = number.wrapping_sub(99_999);
         if is_left(number) {
             text.push_str(format!(in alloc; "{line} s1 ok {number} {number}\n")?.as_str())?;
         } else {
