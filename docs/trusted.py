@@ -28,7 +28,7 @@ QUESTIONS = [
     ("The disk and crashes", "je_disk mem_disk dir_disk"),
     ("The log's bytes", "je_bytes je_lsn log_entry log_file log_buffer log_replay log_trees log_meaning"),
     ("Trees and records", "node_core record_tree node_log tree_nodes db_tree in_tree"),
-    ("The run", "recovery_je crash_recovery txn_core engine je_program"),
+    ("The run", "recovery_je crash_recovery txn_core txn_log txn_views standing_laws sessions engine environment script_run je_program"),
     ("Parts that the program does not use", ""),
 ]
 

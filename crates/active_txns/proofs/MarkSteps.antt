@@ -1,6 +1,6 @@
 -- A victim is marked: the walk along the transactions.
-use Rattle.std.proofs.Common.{◌≡◌, ℕ, ◌<◌, ◌≤◌, ◌+◌, ◌==◌, Bool, true, false, cond, List, [], ◌++◌, ◌∷◌, Some, None, ⊎_elim, length, get_or, take, drop, refl, ap, ap₂, sym, ◌∙◌, arith, subst, append_assoc}
-use Rattle.std.specs.List.{slice_get, slice_set, AllByRecursion}
+use Rattle.std.proofs.Common.{◌≡◌, ℕ, ◌<◌, ◌≤◌, ◌+◌, ◌==◌, true, false, List, [], ◌++◌, ◌∷◌, Some, None, ⊎_elim, length, get_or, take, drop, refl, ap, ap₂, sym, ◌∙◌, arith, subst}
+use Rattle.std.specs.List.{slice_set, AllByRecursion}
 use Rattle.std.proofs.lemmas.List.{append-nil, drop_all, drop_more, take_all, take-set, take-append-drop}
 use Rattle.std.proofs.lemmas.Grind.{drop-set_at}
 use Rattle.std.proofs.lemmas.Option.{slice_get-get_or}

@@ -1,5 +1,5 @@
 -- What transactions changed, after a change of the map.
-use Rattle.std.proofs.Common.{◌≡◌, ℕ, Bool, true, false, cond, List, [], Some, None, Option, refl, ap, sym, ◌∙◌, subst, ⊎_elim}
+use Rattle.std.proofs.Common.{◌≡◌, ℕ, cond, List, [], Some, None, Option, ap, sym, ◌∙◌, subst, ⊎_elim}
 use Rattle.std.specs.Option.{option_map_or}
 use Rattle.std.proofs.lemmas.Bool.{cases_Bool, cond-true, cond-false}
 use Rattle.je_order.specs.declared.txn_id.TxnId.{TxnId}

@@ -1,16 +1,20 @@
 // The transactions under way.
-ghost use Rattle.std.specs.Prelude.{ℕ, ◌≡◌, ◌≤◌, Some, ◌++◌, ◌∷◌, [], None, take, if◌then◌else◌, OnOk, OnErr};
+ghost use Rattle.std.specs.Prelude.{List as Items, filter, length, ◌==◌, ℕ, ◌≡◌, ◌≤◌, Some, ◌++◌, ◌∷◌, [], None, take, if◌then◌else◌, OnOk, OnErr};
 ghost use Rattle.std.specs.Option.{option_copied, IfSome, IfNone};
 ghost use Rattle.je_answers.specs.Standing.{active_of, with_at};
 ghost use Rattle.je_answers.specs.After.{marked, without_session};
 ghost use Rattle.active_txns.specs.Marks.{marked_for, HaveOwnSessions};
-ghost use Rattle.active_txns.specs.Own.{own_of, first_at, first_of};
+ghost use Rattle.active_txns.specs.Own.{own_of, first_at, first_of, has_changes};
+ghost use Rattle.je_answers.specs.declared.active.Active.{Active as Begun};
+ghost use Rattle.je_answers.specs.Views.{changes_at as in_db};
 ghost use Rattle.je_order.specs.declared.txn_id.TxnId.{TxnId};
 ghost use Rattle.je_order.specs.Transactions.{is_same_txn};
 
 use crate::OwnChanges;
 use crate::marking::mark_in;
-use crate::owned::{least_first_in, note_first_at, push_at, read_at, remove_at, truncate_at};
+use crate::owned::{
+    least_first_in, note_first_at, push_all_at, push_at, read_at, remove_at, truncate_at,
+};
 use je_answers::Active;
 use je_lsn::Lsn;
 use je_order::{List, TxnId};
@@ -74,6 +78,45 @@ impl ActiveTxns {
         self.actives.iter().find(|active| active.session == session)
     }
 
+    /// Whether no transaction is under way.
+    pub fn is_empty(&self) -> bool
+        ensures { result ≡ (length self.now.actives.items == 0) }
+    {
+        self.actives.is_empty()
+    }
+
+    /// The transactions, in the order of their numbers.
+    pub fn actives(&self) -> &[Active]
+        ensures { result.now ≡ self.now.actives.items }
+    {
+        self.actives.as_slice()
+    }
+
+    /// How many transactions have changed something.
+    pub fn owing(&self) -> usize
+        ensures { result ≡ length (filter (λ a. has_changes (own_of self.now.own.entries a.txn.0)) self.now.actives.items) }
+    {
+        self.actives
+            .iter()
+            .filter(|active| self.has_own(active.txn))
+            .count()
+    }
+
+    // Whether a transaction has changed something.
+    fn has_own(&self, txn: TxnId) -> bool
+        ensures { result ≡ has_changes (own_of self.now.own.entries txn.0) }
+    {
+        !read_at(&self.own, txn).is_empty()
+    }
+
+    /// Takes back the last transaction that was begun. It takes no memory.
+    pub fn undo_begin(&mut self)
+        ensures actives { (as_ : Items Begun) (a : Begun) → self.old.actives.items ≡ as_ ++ a ∷ [] → self.new.actives.items ≡ as_ }
+        ensures own { self.new.own.entries ≡ self.old.own.entries }
+    {
+        let _ = self.actives.pop();
+    }
+
     /// What a transaction has changed so far, in order, each change with its database's number.
     pub fn own(&self, txn: TxnId) -> &[(u32, RecordChange)]
         ensures { result.now ≡ own_of self.now.own.entries txn.0 }
@@ -96,6 +139,23 @@ impl ActiveTxns {
         ensures err { OnErr result (own_of self.new.own.entries ≡ own_of self.old.own.entries) }
     {
         push_at(&mut self.own, alloc, txn, db, change)
+    }
+
+    /// Puts changes of one database at the end of a transaction's, all of them or none. The only error is out of
+    /// memory, and nothing is changed by it.
+    pub fn push_all(
+        &mut self,
+        alloc: Global,
+        txn: TxnId,
+        db: u32,
+        changes: List<RecordChange>,
+    ) -> Result<(), AllocError>
+        ensures own { OnOk result (own_of self.new.own.entries ≡ with_at txn.0 (own_of self.old.own.entries txn.0 ++ in_db db changes) (own_of self.old.own.entries)) }
+        ensures actives { self.new.actives.items ≡ self.old.actives.items }
+        ensures err { OnErr result (own_of self.new.own.entries ≡ own_of self.old.own.entries) }
+        ensures first { (t : TxnId) → first_at t self.new.own.entries ≡ first_at t self.old.own.entries }
+    {
+        push_all_at(&mut self.own, alloc, txn, db, changes)
     }
 
     /// Leaves the first changes of a transaction, as where the log did not take the last ones. It takes no

@@ -1,13 +1,15 @@
 // The map of what transactions changed.
 ghost use Rattle.std.specs.Option.{IfSome, IfNone};
-ghost use Rattle.std.specs.Prelude.{◌≡◌, ◌≤◌, ℕ, Some, ◌++◌, ◌∷◌, [], None, take, if◌then◌else◌, IfOk, OnOk, OnErr};
+ghost use Rattle.std.specs.Prelude.{◌≡◌, ◌≤◌, ℕ, List as Items, length, Some, ◌++◌, ◌∷◌, [], None, take, if◌then◌else◌, IfOk, OnOk, OnErr};
 ghost use Rattle.je_order.specs.declared.txn_id.TxnId.{TxnId};
 ghost use Rattle.je_order.specs.Transactions.{is_same_txn};
-ghost use Rattle.active_txns.specs.Own.{changes_at, first_at, first_of, lesser_of};
+ghost use Rattle.store_model.specs.declared.record_change.RecordChange.{RecordChange as Changed};
+ghost use Rattle.je_answers.specs.Views.{changes_at as in_db};
+ghost use Rattle.active_txns.specs.Own.{changes_at, first_at, first_of, lesser_of, HasMore};
 
 use crate::OwnChanges;
 use je_lsn::Lsn;
-use je_order::TxnId;
+use je_order::{List, TxnId};
 use std::alloc::{AllocError, Global};
 use std::collections::BTreeMap;
 use store_model::RecordChange;
@@ -44,6 +46,54 @@ pub(crate) fn push_at(
     let first = one_change(alloc, db, change)?;
     own.insert(txn, first)?;
     Ok(())
+}
+
+// How many changes a transaction has.
+fn count_at(own: &BTreeMap<TxnId, OwnChanges>, txn: TxnId) -> usize
+    ensures { result ≡ length (changes_at txn own.now.entries) }
+{
+    read_at(own, txn).len()
+}
+
+// Puts changes of one database at the end of a transaction's, one after another. Running out of memory leaves
+// some of them there.
+fn push_each_at(
+    own: &mut BTreeMap<TxnId, OwnChanges>,
+    alloc: Global,
+    txn: TxnId,
+    db: u32,
+    changes: List<RecordChange>,
+) -> Result<(), AllocError>
+    ensures ok { OnOk result (HasMore txn (in_db db changes) own.old.entries own.new.entries) }
+    ensures err { OnErr result ((more : Items (ℕ × Changed)) × HasMore txn more own.old.entries own.new.entries) }
+    ensures first { (t : TxnId) → first_at t own.new.entries ≡ first_at t own.old.entries }
+{
+    for change in changes.into_vec() {
+        push_at(own, alloc, txn, db, change)?;
+    }
+    Ok(())
+}
+
+// Puts changes of one database at the end of a transaction's, all of them or none.
+pub(crate) fn push_all_at(
+    own: &mut BTreeMap<TxnId, OwnChanges>,
+    alloc: Global,
+    txn: TxnId,
+    db: u32,
+    changes: List<RecordChange>,
+) -> Result<(), AllocError>
+    ensures ok { OnOk result (HasMore txn (in_db db changes) own.old.entries own.new.entries) }
+    ensures err { OnErr result ((t : TxnId) → changes_at t own.new.entries ≡ changes_at t own.old.entries) }
+    ensures first { (t : TxnId) → first_at t own.new.entries ≡ first_at t own.old.entries }
+{
+    let len = count_at(own, txn);
+    match push_each_at(own, alloc, txn, db, changes) {
+        Ok(()) => Ok(()),
+        Err(failed) => {
+            truncate_at(own, txn, len);
+            Err(failed)
+        }
+    }
 }
 
 // Leaves the first of a transaction's changes. It takes no memory.

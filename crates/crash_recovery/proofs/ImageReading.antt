@@ -16,7 +16,9 @@ use Rattle.log_file.specs.declared.file_scan.FileScan.TheVariants.{Prefix}
 use Rattle.log_file.specs.Scan.{scan_of}
 use Rattle.log_file.specs.Log.{Log, AreFiles, entries_of, log_in}
 use Rattle.log_file.proofs.FilesLaws.{AreAbove, Rises}
-use Rattle.log_buffer.specs.Chance.{AreFirst, AreWholeButLast, IsRemoved, among, if_logged}
+use Rattle.log_buffer.specs.Chance.{AreFirst, AreWholeButLast, IsRemoved, LeavesLog, among, if_logged}
+use Rattle.log_buffer.specs.Written.{HoldsWritten}
+use Rattle.log_buffer.proofs.WrittenLaws.{written_are_first}
 use Rattle.log_replay.specs.declared.corruption.Corruption.{Corruption}
 use Rattle.log_replay.specs.declared.corruption.Corruption.TheVariants.{Damaged}
 use Rattle.log_replay.specs.Wrong.{or_else}
@@ -170,3 +172,13 @@ images_hold_first log least image ok left =
     let among_are : AreFiles (among log image) held = are_held log image ok.is_log.rising in
     let are : AreFiles image held = record { rising = among_are.rising; each = λ f. among_are.each f ∙ all_are_among log image f (left.others f) } in
     record { held = held; are = are; first = holds_first log least held ok (left.first held among_are) (left.whole held are) }
+
+-- what is read of a log leaves all that was written
+pub written_left : (log : Log) (least written : ℕ) (reads : Files) → LeavesLog log [] least reads → HoldsWritten log written reads → LeavesLog log [] written reads
+written_left log least written reads left h = record {
+  first = λ held are.
+      written_are_first log least written reads held h (record { rising = are.rising; each = λ f. are.each f ∙ all_are_among log reads f (left.others f) }) (left.first held are);
+  whole = left.whole;
+  others = left.others;
+  within = left.within;
+}

@@ -14,8 +14,8 @@ use Rattle.log_trees.specs.Placed.{placed}
 use Rattle.log_meaning.specs.Recovery.{IsRecovered, commits_in}
 use Rattle.log_meaning.proofs.NeededFiles.{needed_files_recover}
 use Rattle.crash_recovery.specs.Recovery.{IsImageRecovered, IsStateRecovered}
-use Rattle.crash_recovery.specs.Laws.{ImagesRecover, KeptImagesRecover, StatesRecover, ThroughRecovers, WiderIsRecovered}
-use Rattle.crash_recovery.proofs.ImageReading.{images_hold_first}
+use Rattle.crash_recovery.specs.Laws.{ImagesRecover, KeptImagesRecover, StatesRecover, ThroughRecovers, WiderIsRecovered, WrittenRecover}
+use Rattle.crash_recovery.proofs.ImageReading.{images_hold_first, written_left}
 
 pub images_recover : ImagesRecover
 images_recover first opening base least transactions log image is from left =
@@ -35,6 +35,12 @@ states_recover first opening base least transactions log state is from kept =
     let images = kept_images_recover first opening base least transactions log state is from kept.keeps kept.prefixes in
     record { read = images state.reads kept.read (reads_have_no_chance state.reads); images = images }
 
+pub written_recover : WrittenRecover
+written_recover first opening base least written transactions log state is from kept h =
+    images_recover first opening base written transactions log state.reads is from
+    (written_left log least written state.reads
+    (kept_is_left log [] least state state.reads is.named.is_log kept.keeps kept.prefixes kept.read (reads_have_no_chance state.reads)) h)
+
 pub through_recovers : ThroughRecovers
 through_recovers first opening base least transactions log old new is from through =
     passes_weaken old new (IsKeptSince log [] least (now old).reads) (IsStateRecovered opening (commits_in base least (placed log)) transactions)
@@ -53,7 +59,7 @@ wider_files opening least fewer transactions more held is le = record {
   store = is.store ∙ ap (store_after opening) (sym (take-append-le is.count transactions more is.within));
 }
 
-wider_image : (opening : Store) (least fewer : ℕ) (transactions more : List (List Change)) (image : Files) → IsImageRecovered opening least transactions image → fewer ≤ least →
+pub wider_image : (opening : Store) (least fewer : ℕ) (transactions more : List (List Change)) (image : Files) → IsImageRecovered opening least transactions image → fewer ≤ least →
     IsImageRecovered opening fewer (transactions ++ more) image
 wider_image opening least fewer transactions more image is le =
     record { held = is.held; are = is.are; recovered = wider_files opening least fewer transactions more is.held is.recovered le }

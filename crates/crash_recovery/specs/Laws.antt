@@ -11,6 +11,7 @@ use Rattle.log_buffer.specs.Growth.{log_with_all}
 use Rattle.log_buffer.specs.Log.{EndsAt}
 use Rattle.log_buffer.specs.Chance.{LeavesLog}
 use Rattle.log_buffer.specs.Crash.{KeepsLog, KeepsRead, KeptThrough, HoldPrefixes}
+use Rattle.log_buffer.specs.Written.{HoldsWritten}
 use Rattle.log_trees.specs.Placed.{placed}
 use Rattle.log_meaning.specs.Recovery.{commits_in}
 use Rattle.crash_recovery.specs.Reading.{IsNamedLog, ImageHoldsFirst}
@@ -37,6 +38,12 @@ abbrev pub StatesRecover : Type 0
 StatesRecover = (first : ℕ) (opening : Store) (base least : ℕ) (transactions : List (List Change)) (log : Log) (state : State)
     → RecoversLog first opening base transactions log → base ≤ least → KeepsRead log [] least state
     → IsStateRecovered opening (commits_in base least (placed log)) transactions state
+
+-- of what was written, what the disk reads means at least the transactions that it commits
+abbrev pub WrittenRecover : Type 0
+WrittenRecover = (first : ℕ) (opening : Store) (base least written : ℕ) (transactions : List (List Change)) (log : Log) (state : State)
+    → RecoversLog first opening base transactions log → base ≤ written → KeepsRead log [] least state → HoldsWritten log written state.reads
+    → IsImageRecovered opening (commits_in base written (placed log)) transactions state.reads
 
 -- at each moment since
 abbrev pub ThroughRecovers : Type 0

@@ -9,7 +9,7 @@
 ghost use Rattle.crash_recovery.specs.Appending.{LogsLieBelow, AppendedRise, LongerIsNamed, LongerRecovers};
 ghost use Rattle.crash_recovery.specs.Growth.{StandingRecovers, GrowthRecovers, TriedRecovers};
 ghost use Rattle.crash_recovery.specs.Opening.{FoundLogsRecover};
-ghost use Rattle.crash_recovery.specs.Laws.{ImagesHoldFirst, ImagesRecover, KeptImagesRecover, StatesRecover, ThroughRecovers, WiderIsRecovered, KeptAreWithin, CommitsStay, AllAreCommitted};
+ghost use Rattle.crash_recovery.specs.Laws.{ImagesHoldFirst, ImagesRecover, KeptImagesRecover, StatesRecover, ThroughRecovers, WiderIsRecovered, WrittenRecover, KeptAreWithin, CommitsStay, AllAreCommitted};
 
 use je_disk::Disk;
 
@@ -21,11 +21,12 @@ pub fn images_hold_first()
 
 /// An image of a log that recovers transactions means the opening store changed by the first of them, at
 /// least as many as the entries that a crash keeps have commits of; so does what the disk reads, and so
-/// do all images at each moment of a call.
+/// do all images at each moment of a call. What the disk reads means at least those that were written.
 pub fn images_recover()
     ensures left { ImagesRecover }
     ensures kept { KeptImagesRecover }
     ensures states { StatesRecover }
+    ensures written { WrittenRecover }
     ensures through { ThroughRecovers }
     ensures wider { WiderIsRecovered }
 {}

@@ -4,3 +4,5 @@ pub mod EdgeLaws
 pub mod Walks
 -- The last record of a list.
 pub mod ListLaws
+-- Rising names between edges, and how they are walked.
+pub mod NameWalks

@@ -62,8 +62,8 @@ fn empty_if<V: View>(
     }
 }
 
-// NoPosition or KeyEmpty, which the cursor's place alone decides.
-fn early_of<V: View>(
+/// NoPosition or KeyEmpty, which the cursor's place alone decides.
+pub(crate) fn early_of<V: View>(
     alloc: Global,
     view: &V,
     call: &Call,

@@ -59,8 +59,8 @@ fn kept_above<'a>(
     }
 }
 
-// The first record from an edge on and below another one.
-fn lowest<'a, V: View>(
+/// The first record from an edge on and below another one.
+pub fn lowest<'a, V: View>(
     alloc: Global,
     view: &'a V,
     from: NameEdge<'_>,
@@ -73,8 +73,8 @@ fn lowest<'a, V: View>(
     Ok(kept_below(kind, upto, found))
 }
 
-// The last record from an edge on and below another one.
-fn highest<'a, V: View>(
+/// The last record from an edge on and below another one.
+pub fn highest<'a, V: View>(
     alloc: Global,
     view: &'a V,
     from: NameEdge<'_>,

@@ -60,3 +60,7 @@ pub mod WaitCounts
 pub mod FewSplits
 -- How calls end, and what is left of a list.
 pub mod Ending
+-- How the nodes of a tree change, as far as their images go.
+pub mod NodeSteps
+-- Nodes that are split without being logged wait to be logged.
+pub mod WaitingNodes

@@ -20,7 +20,7 @@ gt_up : (a b : Name) → is_gt (name_cmp a b) ≡ true → IsUpTo a b → ⊥
 gt_up a b gt up = true≢false (sym gt ∙ up)
 
 -- the first low above another one is up to each that is above it
-first_least : (row : NodeRow) (low q : Name) → IsRising row → IsSome (value_at q row) → name_cmp low q ≡ Less → (h : Name) × (low_behind low row ≡ Some h) × IsUpTo h q
+pub first_least : (row : NodeRow) (low q : Name) → IsRising row → IsSome (value_at q row) → name_cmp low q ≡ Less → (h : Name) × (low_behind low row ≡ Some h) × IsUpTo h q
 unfolding IsStrictlySortedBy
 first_least [] low q up there less = absurd (true≢false (sym there))
 first_least (e ∷ row) low q up there less = by_test (is_ge (name_cmp low e.0)) refl (first_or_rest e row q there) (λ rest. first_least row low q up.1 rest less)

@@ -11,3 +11,4 @@ pub mod NodeImages
 pub mod Shapes
 pub mod Placing
 pub mod Numbers
+pub mod NodeSteps

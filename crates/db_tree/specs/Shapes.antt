@@ -1,5 +1,5 @@
 -- A tree, as far as its splits depend on it, and what a name's slot takes.
-use Rattle.std.specs.Prelude.{◌≡◌, ◌+◌, ℕ, suc, Bool, true, false, List, [], ◌∷◌, None, IsSome, map, option_map, length}
+use Rattle.std.specs.Prelude.{◌≡◌, ◌+◌, ℕ, Bool, true, false, List, [], ◌∷◌, None, IsSome, map, option_map, length}
 use Rattle.std.specs.List.{AllByRecursion}
 use Rattle.je_order.specs.declared.name.Name.{Name}
 use Rattle.record_map.specs.declared.cell.Cell.{Cell}
@@ -9,10 +9,9 @@ use Rattle.tree_nodes.specs.Nodes.{NodeRow, least}
 use Rattle.tree_nodes.specs.Levels.{row_of, AreParts}
 use Rattle.tree_nodes.specs.Lows.{lows_of}
 use Rattle.db_tree.specs.declared.node_at.NodeAt.{NodeAt}
-use Rattle.db_tree.specs.declared.node_split.NodeSplit.{NodeSplit}
 use Rattle.db_tree.specs.declared.slot_room.SlotRoom.{SlotRoom}
 use Rattle.db_tree.specs.declared.tree.DbTree.{DbTree}
-use Rattle.db_tree.specs.NodeImages.{number_of, node_of, sizes_in, AreLoggable}
+use Rattle.db_tree.specs.NodeImages.{node_of, sizes_in, AreLoggable}
 use Rattle.db_tree.specs.Seen.{occupied}
 use Rattle.db_tree.specs.Splits.{Shape, one_if, shape_with, image_sizes, nodes_made, passes_top, count_waiting}
 use Rattle.db_tree.specs.Splitting.{AreGrown}

@@ -5,6 +5,7 @@ ghost use Rattle.log_entry.specs.Body.{IsEntry};
 ghost use Rattle.record_map.specs.Cells.{value_at, IsRising};
 ghost use Rattle.tree_nodes.specs.Levels.{row_of, AreParts};
 ghost use Rattle.db_tree.specs.Images.{Placed};
+ghost use Rattle.db_tree.specs.NodeSteps.{AreSameNodes, IsNoted};
 ghost use Rattle.db_tree.specs.Shapes.{count_in, AreAlike};
 ghost use Rattle.db_tree.specs.Waiting.{waiting_of, still_waiting};
 ghost use Rattle.tree_nodes.specs.Lows.{lows_of};
@@ -42,6 +43,7 @@ fn hand_on(levels: &mut Levels, level: usize, low: &SortKey, node: &Node)
     ensures height { length levels.new ≡ length levels.old }
     ensures parts { AreParts levels.new }
     ensures alike { AreAlike levels.old levels.new }
+    ensures nodes { AreSameNodes levels.old levels.new }
 {
     let height = levels.height();
     let Some(from) = node.from else {
@@ -67,6 +69,7 @@ impl DbTree {
         requires image { (db : ℕ) × (number : ℕ) × (entry.now ≡ bin_image db number low.now (row_of self.old.levels 0) self.old.cells) }
         ensures tree { IfOk result (λ at. (es : Placed) (base : ℕ) (newest : Name → ℕ) → L.is_log log.old es → IsTree es base newest self.old.levels self.old.cells → IsTree (es ++ (at, entry.now) ∷ []) base newest self.new.levels self.new.cells) }
         ensures log { IfOk result (λ at. (es : Placed) → L.is_log log.old es → L.is_log log.new (es ++ (at, entry.now) ∷ [])) }
+        ensures noted { IfOk result (λ at. IsNoted self.old.levels self.new.levels 0 low.now at) }
         ensures cells { self.new.cells ≡ self.old.cells }
         ensures err { OnErr result (self.new.levels ≡ self.old.levels) }
     {
@@ -94,6 +97,7 @@ impl DbTree {
         requires image { (k : ℕ) × (level ≡ suc k) × ImagedBelow self.old.levels level k low.now × IsInImage self.old.levels level k low.now entry.now }
         ensures tree { IfOk result (λ at. (es : Placed) (base : ℕ) (newest : Name → ℕ) → L.is_log log.old es → IsTree es base newest self.old.levels self.old.cells → IsTree (es ++ (at, entry.now) ∷ []) base newest self.new.levels self.new.cells) }
         ensures log { IfOk result (λ at. (es : Placed) → L.is_log log.old es → L.is_log log.new (es ++ (at, entry.now) ∷ [])) }
+        ensures noted { IfOk result (λ at. IsNoted self.old.levels self.new.levels level low.now at) }
         ensures cells { self.new.cells ≡ self.old.cells }
         ensures err { OnErr result (self.new.levels ≡ self.old.levels) }
     {
@@ -111,6 +115,7 @@ impl DbTree {
         ensures lows { lows_of self.new.levels ≡ lows_of self.old.levels }
         ensures waits { waiting_of self.new.levels ≡ still_waiting (record { level = level; low = low.now } ∷ []) 0 (waiting_of self.old.levels) }
         ensures few { count_in self.new ≤ count_in self.old }
+        ensures noted { IsSome (value_at low.now (row_of self.old.levels level)) → IsNoted self.old.levels self.new.levels level low.now at }
         ensures tree { (es : Placed) (base : ℕ) (newest : Name → ℕ) → ((n : Kept) → value_at low.now (row_of self.old.levels level) ≡ Some n → IsImageOf es self.old.levels (held_by self.old.cells) level (low.now, n) at) → IsTree es base newest self.old.levels self.old.cells → IsTree es base newest self.new.levels self.new.cells }
     {
         let height = self.levels.height();

@@ -1,5 +1,5 @@
 // The tree of one database.
-ghost use Rattle.std.specs.Prelude.{◌≡◌, ◌≤◌, ◌++◌, ◌∷◌, ℕ, true, [], Option, None, Some, IsSome, IfOk, OnOk, OnErr, option_map, if◌then◌else◌};
+ghost use Rattle.std.specs.Prelude.{◌≡◌, ◌≤◌, ◌++◌, ◌∷◌, ℕ, true, [], Option, None, Some, IsSome, IfOk, IfSome, OnOk, OnErr, option_map, if◌then◌else◌};
 ghost use Rattle.std.specs.Ordering.{is_eq};
 ghost use Rattle.je_order.specs.Order.{name_cmp};
 ghost use Rattle.je_order.specs.declared.name.Name.{Name};
@@ -15,6 +15,7 @@ ghost use Rattle.db_tree.specs.Seen.{occupied, seen, with_change, with_value};
 ghost use Rattle.db_tree.specs.Stored.{with_logged};
 ghost use Rattle.db_tree.specs.Stored.{HasLogged, loaded_cell};
 ghost use Rattle.record_tree.specs.Occupied.{after_commit, after_abort};
+ghost use Rattle.db_tree.specs.NodeSteps.{AreSameNodes, IsOneNode, written_from};
 ghost use Rattle.db_tree.specs.Shapes.{shape_in, new_shape, AreAlike};
 
 use je_lsn::Lsn;
@@ -145,6 +146,7 @@ impl DbTree {
         ensures cells { IfOk result (λ tree. tree.cells ≡ []) }
         ensures lows { IfOk result (λ tree. lows_of tree.levels ≡ (least ∷ []) ∷ []) }
         ensures shape { IfOk result (λ tree. shape_in tree ≡ new_shape) }
+        ensures root { IfOk result (λ tree. IsOneNode tree.levels number) }
     {
         let root = Node {
             number,
@@ -192,9 +194,11 @@ impl DbTree {
     pub fn put_write(&mut self, name: &SortKey, write: Box<Write>)
         requires { IsSome (value_at name.now self.old.cells) }
         ensures cells { (x : Name) → value_at x (occupied self.new.cells) ≡ (if is_eq (name_cmp name.now x) then with_change write.value (value_at x (occupied self.old.cells)) else value_at x (occupied self.old.cells)) }
+        ensures written { (x : Name) → value_at x self.new.cells ≡ (if is_eq (name_cmp name.now x) then option_map (with_write (Some write)) (value_at name.now self.old.cells) else value_at x self.old.cells) }
         ensures kept { (x : Name) → IsSome (value_at x self.old.cells) → IsSome (value_at x self.new.cells) }
         ensures rising { IsRising (occupied self.new.cells) }
         ensures levels { self.new.levels ≡ self.old.levels }
+        ensures tree { (es : Placed) (base : ℕ) (newest : Name → ℕ) → IsTree es base newest self.old.levels self.old.cells → IsTree es base newest self.new.levels self.new.cells }
     {
         let _len = self.cells.len();
         self.cells.set_write(name, Some(write));
@@ -205,6 +209,9 @@ impl DbTree {
         ensures cells { (x : Name) → value_at x (occupied self.new.cells) ≡ (if is_eq (name_cmp name.now x) then after_commit (value_at x (occupied self.old.cells)) else value_at x (occupied self.old.cells)) }
         ensures rising { IsRising (occupied self.new.cells) }
         ensures waits { AreAlike self.old.levels self.new.levels }
+        ensures nodes { AreSameNodes self.old.levels self.new.levels }
+        ensures committed { (last : Option ℕ) × ((x : Name) → value_at x self.new.cells ≡ (if is_eq (name_cmp name.now x) then option_map (committed at last) (value_at name.now self.old.cells) else value_at x self.old.cells)) }
+        ensures tree { (es : Placed) (base : ℕ) (newest : Name → ℕ) → written_from at (value_at name.now self.old.cells) ≤ newest name.now → IsTree es base newest self.old.levels self.old.cells → IsTree es base newest self.new.levels self.new.cells }
     {
         let _before = self.cells.len();
         match self.written_at(name, at) {
@@ -230,6 +237,7 @@ impl DbTree {
         ensures rising { IsRising self.new.cells }
         ensures err { OnErr result (self.new.cells ≡ self.old.cells) }
         ensures waits { AreAlike self.old.levels self.new.levels }
+        ensures nodes { AreSameNodes self.old.levels self.new.levels }
         ensures tree { (es : Placed) (base : ℕ) (newest : Name → ℕ) → first ≤ newest name.now → IsTree es base newest self.old.levels self.old.cells → IsTree es base newest self.new.levels self.new.cells }
     {
         let _height = self.levels.height();
@@ -248,6 +256,7 @@ impl DbTree {
     fn written_at(&self, name: &SortKey, at: Lsn) -> Option<Lsn>
         ensures there { IsSome result → IsSome (value_at name.now self.now.cells) }
         ensures none { result ≡ None → value_at name.now self.now.cells ≡ None }
+        ensures from { IfSome result (λ from. from ≡ written_from at (value_at name.now self.now.cells)) }
     {
         match self.cells.get(name) {
             Some(cell) => match &cell.write {
@@ -282,6 +291,7 @@ impl DbTree {
         requires { IsSome (value_at name.now self.old.cells) }
         ensures cells { (last : Option ℕ) × ((x : Name) → value_at x self.new.cells ≡ (if is_eq (name_cmp name.now x) then option_map (committed at last) (value_at name.now self.old.cells) else value_at x self.old.cells)) }
         ensures waits { AreAlike self.old.levels self.new.levels }
+        ensures nodes { AreSameNodes self.old.levels self.new.levels }
         ensures tree { (es : Placed) (base : ℕ) (newest : Name → ℕ) → from ≤ newest name.now → IsTree es base newest self.old.levels self.old.cells → IsTree es base newest self.new.levels self.new.cells }
     {
         let _height = self.levels.height();

@@ -1,5 +1,5 @@
 // Nodes that are split without being logged wait to be logged.
-ghost use Rattle.std.specs.Prelude.{◌≡◌, ◌<◌, ◌≤◌, ◌⊎◌, ◌+◌, ◌*◌, ℕ, Option, None, Some, IsSome, IfOk, IfErr, OnOk, OnErr, length, true};
+ghost use Rattle.std.specs.Prelude.{◌≡◌, ◌<◌, ◌≤◌, ◌⊎◌, ◌+◌, ◌*◌, ◌∷◌, [], ℕ, Option, None, Some, IsSome, IfOk, IfErr, OnOk, OnErr, length, true};
 ghost use Rattle.je_order.specs.declared.name.Name.{Name};
 ghost use Rattle.record_map.specs.Cells.{value_at, IsRising};
 ghost use Rattle.record_tree.specs.declared.tree_err.TreeErr.{TreeErr as Reason};
@@ -7,7 +7,8 @@ ghost use Rattle.tree_nodes.specs.Nodes.{earlier};
 ghost use Rattle.db_tree.specs.Seen.{occupied};
 ghost use Rattle.db_tree.specs.Images.{Placed};
 ghost use Rattle.db_tree.specs.Trees.{IsTree, HasCell, cell_or_fresh};
-ghost use Rattle.db_tree.specs.Waiting.{waiting_of, count_lows};
+ghost use Rattle.db_tree.specs.NodeSteps.{AreWaiting, AreSplitWaiting, slot_splits};
+ghost use Rattle.db_tree.specs.Waiting.{waiting_of, count_lows, halves_of};
 ghost use Rattle.tree_nodes.specs.Lows.{lows_of};
 ghost use Rattle.db_tree.specs.Shapes.{shape_in, count_in};
 ghost use Rattle.db_tree.specs.Splits.{made_for, nodes_made, passes_top};
@@ -25,6 +26,8 @@ use tree_nodes::Node;
 fn waiting(node: &Node, mark: Lsn) -> Node
     ensures last { result.last ≡ node.now.last }
     ensures from { result.from ≡ Some (earlier node.now.from mark) }
+    ensures number { result.number ≡ node.now.number }
+    ensures forced { result.forced ≡ true }
 {
     let mut waits = node.marked(mark);
     waits.forced = true;
@@ -35,6 +38,7 @@ impl DbTree {
     // Lets the node of a level with the low wait to be logged, where there is one.
     fn wait(&mut self, level: usize, low: &SortKey, mark: Lsn)
         ensures few { count_lows (waiting_of self.new.levels) ≤ count_lows (waiting_of self.old.levels) + 1 }
+        ensures waiting { AreWaiting (record { level = level; low = low.now } ∷ []) self.old.levels self.new.levels }
         ensures cells { self.new.cells ≡ self.old.cells }
         ensures tree { (es : Placed) (base : ℕ) (newest : Name → ℕ) → IsTree es base newest self.old.levels self.old.cells → IsTree es base newest self.new.levels self.new.cells }
     {
@@ -52,6 +56,7 @@ impl DbTree {
     // low.
     fn wait_each(&mut self, splits: &[NodeSplit], mark: Lsn)
         ensures few { count_lows (waiting_of self.new.levels) ≤ count_lows (waiting_of self.old.levels) + 2 * length splits.now }
+        ensures waiting { AreWaiting (halves_of 0 splits.now) self.old.levels self.new.levels }
         ensures cells { self.new.cells ≡ self.old.cells }
         ensures tree { (es : Placed) (base : ℕ) (newest : Name → ℕ) → IsTree es base newest self.old.levels self.old.cells → IsTree es base newest self.new.levels self.new.cells }
     {
@@ -71,6 +76,7 @@ impl DbTree {
         mark: Lsn,
     ) -> Result<(), AllocError>
         ensures few { OnOk result (count_in self.new ≤ count_in self.old + 2 * made_for splits.now (lows_of self.old.levels)) }
+        ensures split { OnOk result (AreSplitWaiting first splits.now self.old.levels self.new.levels) }
         ensures cell { OnOk result (HasCell self.old.cells self.new.cells name.now (cell_or_fresh (value_at name.now self.old.cells))) }
         ensures there { OnOk result (IsSome (value_at name.now self.new.cells)) }
         ensures same { occupied self.new.cells ≡ occupied self.old.cells }
@@ -82,6 +88,7 @@ impl DbTree {
         let is_raised = splits.len() == self.levels.height();
         let root = least_name(alloc)?;
         self.grow(alloc, splits, first, mark)?;
+        let _grown = self.levels.height();
         match self.put_cell(alloc, name) {
             Ok(()) => {}
             Err(failed) => {
@@ -109,6 +116,7 @@ impl DbTree {
         mark: Lsn,
     ) -> Result<usize, TreeErr>
         ensures waits { IfOk result (λ made. count_in self.new ≤ count_in self.old + 2 * made) }
+        ensures split { OnOk result (AreSplitWaiting first (slot_splits fanout name.now (shape_in self.old)) self.old.levels self.new.levels) }
         ensures few { IfOk result (λ made. made ≤ 64) }
         ensures cell { OnOk result (HasCell self.old.cells self.new.cells name.now (cell_or_fresh (value_at name.now self.old.cells))) }
         ensures was_rising { IsRising self.old.cells }
@@ -124,6 +132,7 @@ impl DbTree {
         ensures err_cells { OnErr result (self.new.cells ≡ self.old.cells) }
     {
         let _before = self.cells.len();
+        let _height = self.levels.height();
         if self.has_cell(name) {
             return Ok(0);
         }

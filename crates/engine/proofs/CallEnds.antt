@@ -149,11 +149,11 @@ refused_or_answered None call limit p session answer is late e = performed_answe
 -- ---- changes
 
 -- a call that changes something: under no limit it is logged, and where the log has no room it says so
-record LogsAlone (call : Call) (p : Alone) (session : ℕ) (changes : List Change) : Type 0 where
-  logged : (answer : Answer) → p.last_db ≤ LAST_DATABASE → IsLogged (database_limit p.last_db changes) (Logged (p.commits + 1)) answer → IsPerformedAlone call None p session answer
-  full : IsPerformedAlone call (Some LogFull) p session LogFull
-  ended : IsPerformedAlone call (Some IdsEnded) p session IdsEnded
-  leaves : (answer : Answer) → performed_alone call p session answer ≡ fate_alone (fate_of answer) changes p
+pub record LogsAlone (call : Call) (p : Alone) (session : ℕ) (changes : List Change) : Type 0 where
+  pub logged : (answer : Answer) → p.last_db ≤ LAST_DATABASE → IsLogged (database_limit p.last_db changes) (Logged (p.commits + 1)) answer → IsPerformedAlone call None p session answer
+  pub full : IsPerformedAlone call (Some LogFull) p session LogFull
+  pub ended : IsPerformedAlone call (Some IdsEnded) p session IdsEnded
+  pub leaves : (answer : Answer) → performed_alone call p session answer ≡ fate_alone (fate_of answer) changes p
 
 -- where no number of a node is left for changes of the catalog
 numbers_ended : (b : Bool) (due : Answer) → IsLogged (or_refusal (cond b (Some IdsEnded) None) (Some IdsEnded)) due IdsEnded
@@ -280,7 +280,7 @@ answered_ends limit known p session call answer none is e =
       leaves = ap (λ (f : Option Fault). after_alone f call p session answer) none ∙ ends.1;
     }
 
-logs_alone : (known : Known) (p : Alone) (session : ℕ) (call : Call) (planned : PlannedChanges) → IsAutoCommitted call → (log : IsPlannedLog known p session call planned) →
+pub logs_alone : (known : Known) (p : Alone) (session : ℕ) (call : Call) (planned : PlannedChanges) → IsAutoCommitted call → (log : IsPlannedLog known p session call planned) →
     (late_refusal (alone p) session call ≡ None) × LogsAlone call p session (log.change ∷ log.more)
 logs_alone known p session call planned is log =
     let some = not_refused (late_refusal (alone p) session call) (performed_outcome p session call) log.change log.more log.changes in

@@ -1,5 +1,5 @@
 -- A guarded run that was closed, and one that begins.
-use Rattle.std.proofs.Common.{◌≡◌, ℕ, ◌≤◌, Bool, true, false, true≢false, List, [], None, length, refl, ap, sym, ◌∙◌, subst, arith}
+use Rattle.std.proofs.Common.{◌≡◌, ℕ, ◌≤◌, Bool, true, false, true≢false, List, [], None, length, refl, ap, sym, ◌∙◌, subst, arith, inl}
 use Rattle.std.proofs.lemmas.List.{append-nil, take_all}
 use Rattle.je_disk.specs.States.{Files, State}
 use Rattle.je_disk.specs.Moments.{History, now}
@@ -24,9 +24,9 @@ use Rattle.crash_recovery.proofs.ImageStores.{states_recover}
 use Rattle.engine.specs.Crash.{IsSafeRun, ImagesMean}
 use Rattle.engine.specs.Environment.{RecoversStore}
 use Rattle.engine.specs.Files.{MeanStore}
-use Rattle.engine.specs.Guarded.{IsGuardedLog, IsKeeping}
+use Rattle.engine.specs.Guarded.{IsGuardedLog, IsKeeping, IsRead}
 use Rattle.engine.proofs.GuardLaws.{keeping_read}
-use Rattle.engine.proofs.SafeLaws.{as_many, files_on, goes_on, none_more, safe}
+use Rattle.engine.proofs.SafeLaws.{as_many, files_on, goes_on, grown_same, none_more, read_on, safe}
 
 module _ {D : Type 0} where
   -- a run that was closed; one whose buffer has failed was let go
@@ -36,7 +36,8 @@ module _ {D : Type 0} where
     since = goes_on start old new (IsKeptSince log [] g.least (now old).reads) g.since through;
     begins = g.begins;
     events = none_more st old new (IsKeptSince log [] g.least (now old).reads) start.moment [] journal through g.events
-        (λ k lo hi. safe st g.kept.first g.base log g.least g.kept.logged g.kept.cut journal [] journal (new.state_at k) (sym (append-nil journal)) g.kept.from g.kept.recovers g.kept.attempts g.kept.synced (through.each k lo hi).kept)
+        (λ k lo hi. safe st g.kept.first g.base log g.least g.kept.logged g.kept.cut journal [] journal (new.state_at k) (sym (append-nil journal)) g.kept.from g.kept.recovers g.kept.attempts g.kept.synced (through.each k lo hi).kept
+        (read_on g.base log log g.least (now old) (new.state_at k) journal (grown_same g.base log) (through.each k lo hi).stay g.kept.read))
         (by_failed (has_failed buffer) refl);
     files = files_on log g.least start old new g.since.later g.files through;
   } where
@@ -82,14 +83,15 @@ module _ {D : Type 0} where
       let keeping : IsKeeping (now history) buffer log count None = record { has = has; holds = holds } in
       let keeps : KeepsRead log [] count (now history) = keeping_read (now history) buffer log count None keeping in
       let from : length (placed log) ≤ count = omega (arith, as_many log) in
+      let read : IsRead (length (placed log)) log count (now history) [] = record { written = count; from = from; within = omega arith; count = omega arith; holds = inl (omega arith) } in
       record {
         since = passes_none history (λ (s : State). Unit {0});
-        begins = safe (alone p) first (length (placed log)) log count [] [] [] [] [] (now history) refl from recovers refl (omega arith) keeps;
+        begins = safe (alone p) first (length (placed log)) log count [] [] [] [] [] (now history) refl from recovers refl (omega arith) keeps read;
         events = refl;
         none_before = commits;
         base = length (placed log);
         least = count;
-        kept = record { from = from; first = first; logged = []; cut = []; attempts = refl; recovers = recovers; synced = omega arith; keeps = keeps };
+        kept = record { from = from; first = first; logged = []; cut = []; attempts = refl; recovers = recovers; synced = omega arith; keeps = keeps; read = read };
         works = λ valid. keeping;
         all = λ valid. refl;
         stops = λ ok. none;

@@ -7,7 +7,8 @@ use Rattle.store_model.specs.declared.change.Change.{Change}
 use Rattle.store_model.specs.declared.event.Event.{Event}
 use Rattle.je_answers.specs.Standing.{Standing}
 use Rattle.je_answers.specs.After.{after_event, after_events}
-use Rattle.je_answers.specs.Journal.{answers_some, attempt_of, attempts_of, durable_by, has_answer, is_disk_fault}
+use Rattle.je_answers.specs.Journal.{answers_some, attempt_of, attempts_of, has_answer, is_disk_fault}
+use Rattle.je_answers.specs.Written.{written_by}
 use Rattle.je_answers.proofs.Journals.{after_events-append}
 use Rattle.log_file.specs.Log.{Log, AreFiles, files_of_log}
 use Rattle.log_file.proofs.FilesLaws.{are_encoded_files, logs_are_found, encoded_files}
@@ -20,7 +21,7 @@ use Rattle.log_buffer.proofs.Prefixes.{observed_prefixes}
 use Rattle.log_trees.specs.Placed.{placed}
 use Rattle.log_meaning.specs.Recovery.{commits_in}
 use Rattle.engine.specs.Guarded.{IsKeeping, IsGuardedLog}
-use Rattle.engine.proofs.SafeLaws.{guarded_on, attempts-push}
+use Rattle.engine.proofs.SafeLaws.{guarded_on, grown_same, attempts-push}
 
 -- ---- one log
 
@@ -57,7 +58,7 @@ module _ {D : Type 0} where
   pub guarded_same : (st : Standing) (log : Log) (start : History) (old new : History) (buffer longer : LogBuffer D) (journal : List Event) (event : Event) (before begun : Option ℕ) (least : ℕ) →
       (g : IsGuardedLog st log start old buffer journal before) → attempt_of (after_events st journal) event ≡ [] →
       KeptThrough old new log [] g.least → g.least ≤ least → KeepsRead log [] least (now new) →
-      durable_by event ≤ commits_in g.base least (placed log) →
+      written_by event ≤ commits_in g.base least (placed log) →
       ((after_event (after_events st journal) event).fault ≡ None → IsKeeping (now new) longer log least begun) →
       (has_failed longer ≡ false → (after_event (after_events st journal) event).fault ≡ None) →
       ((after_event (after_events st journal) event).fault ≡ None → ((after_events st journal).fault ≡ None) × (answers_some is_disk_fault event ≡ false)) →
@@ -68,7 +69,7 @@ module _ {D : Type 0} where
       let attempts : attempts_of st all ≡ g.kept.logged ++ g.kept.cut =
       attempts-push st journal event ∙ ap (λ (l : List (List Change)). attempts_of st journal ++ l) none ∙ append-nil (attempts_of st journal) ∙ g.kept.attempts in
       let stands : after_events st all ≡ after_event (after_events st journal) event = after_events-append st journal (event ∷ []) in
-      guarded_on st log log start old new buffer longer journal event before begun least g.kept.logged g.kept.cut g g.kept.recovers attempts
+      guarded_on st log log start old new buffer longer journal event before begun least g.kept.logged g.kept.cut g g.kept.recovers (grown_same g.base log) attempts
       through g.kept.synced rises keeps durable
       (λ fault. works (subst (λ (s : Standing). s.fault ≡ None) stands fault))
       (λ fault. g.all (quiet (subst (λ (s : Standing). s.fault ≡ None) stands fault)).0)
@@ -83,7 +84,7 @@ module _ {D : Type 0} where
 
   -- a call that commits nothing leaves the disk and the buffer as they were
   pub guarded_quiet : (st : Standing) (log : Log) (start : History) (history : History) (buffer : LogBuffer D) (journal : List Event) (event : Event) →
-      attempt_of (after_events st journal) event ≡ [] → durable_by event ≡ 0 → answers_some is_disk_fault event ≡ false →
+      attempt_of (after_events st journal) event ≡ [] → written_by event ≡ 0 → answers_some is_disk_fault event ≡ false →
       (after_event (after_events st journal) event).fault ≡ (after_events st journal).fault → IsGuardedLog st log start history buffer journal None →
       IsGuardedLog st log start history buffer (journal ++ event ∷ []) None
   guarded_quiet st log start history buffer journal event none durable calm fault g =

@@ -14,7 +14,8 @@ use Rattle.store_model.specs.declared.store.TheConstants.{LAST_DATABASE}
 use Rattle.je_answers.specs.Standing.{Standing}
 use Rattle.je_answers.specs.Alone.{Alone, IsAutoCommitted, after_alone, alone, committed_alone, drawn_alone, faulted_alone}
 use Rattle.je_answers.specs.After.{after_event, after_events}
-use Rattle.je_answers.specs.Journal.{answers_some, attempt_of, attempts_of, changes_of, durable_by, is_disk_fault, synced_of}
+use Rattle.je_answers.specs.Journal.{answers_some, attempt_of, attempts_of, changes_of, is_disk_fault, synced_of}
+use Rattle.je_answers.specs.Written.{written_by}
 use Rattle.je_answers.specs.Refusals.{early_refusal}
 use Rattle.je_answers.proofs.AloneLaws.{calls-stay_alone}
 use Rattle.je_answers.proofs.Journals.{after_events-append}
@@ -37,13 +38,13 @@ use Rattle.txn_core.specs.Planning.{IsPlannedLog}
 use Rattle.engine.specs.Contents.{Contents, known}
 use Rattle.engine.specs.Crash.{AreSafeEvents, Follows}
 use Rattle.engine.specs.Environment.{AreAlone, GivesRecords}
-use Rattle.engine.specs.Guarded.{IsGuardedLog, IsKeeping}
+use Rattle.engine.specs.Guarded.{IsGuardedLog, IsKeeping, IsRead}
 use Rattle.engine.specs.Steps.{LogsChanges}
 use Rattle.engine.proofs.AttemptLaws.{alone_changes, tried_refused, tried_some}
 use Rattle.engine.proofs.CallFates.{leaves_logged}
 use Rattle.engine.proofs.GuardLaws.{goes_freely, guarded_quiet, keeping_read, keeping_unchanged, one_log}
 use Rattle.engine.proofs.ObservedLaws.{as_observed, of_observed}
-use Rattle.engine.proofs.SafeLaws.{attempts-push, guarded_on}
+use Rattle.engine.proofs.SafeLaws.{IsGrownFrom, attempts-push, grown_by, guarded_on}
 use Rattle.engine.proofs.SyncLaws.{passes_now}
 use Rattle.engine.proofs.TransactionGrowth.{MayGrow, may_grow, recovers_on, recovers_tried}
 
@@ -100,6 +101,7 @@ module _ {D : Type 0} where
           recovers = k.recovers;
           synced = k.synced;
           keeps = subst (λ (h : History). KeepsRead log [] g.least (now h)) alike k.keeps;
+          read = subst (λ (h : History). IsRead g.base log g.least (now h) journal) alike k.read;
         };
         works = λ valid. keeping;
         all = g.all;
@@ -107,6 +109,10 @@ module _ {D : Type 0} where
         faultless = g.faultless;
         files = subst (λ (h : History). (k : ℕ) → start.moment ≤ k → k ≤ h.moment → FilesStay (now start).reads (h.state_at k).reads) alike g.files;
       }
+
+  -- a buffer's log, longer
+  pub grown_longer : (state : State) (buffer : LogBuffer D) (log : Log) (base : ℕ) (entries : List Entry) → HasLog true state buffer log → IsGrownFrom base log (longer buffer entries log)
+  grown_longer state buffer log base entries has = grown_by base log (end_of buffer) (last_of buffer) (file_max_of buffer) entries has.is_log has.ends
 
   -- what the first entries of a guarded log commit stays where it grows
   synced_grown : (st : Standing) (log : Log) (start : History) (history : History) (buffer : LogBuffer D) (journal : List Event) (entries : List Entry) →
@@ -146,20 +152,20 @@ module _ {D : Type 0} where
   -- the run with the call, where its transaction was attempted
   guarded_attempt : (st : Standing) (log : Log) (start : History) (old new : History) (buffer other : LogBuffer D) (journal : List Event) (event : Event) (changes : List Change) (grown : Log) (logged cut : List (List Change))
       (p after : Alone) →
-      (g : IsGuardedLog st log start old buffer journal None) → IsAttempted st g.kept.first g.base g.least journal changes grown logged cut → after_events st journal ≡ alone p → after_event (alone p) event ≡ alone after →
-      p.fault ≡ None → attempt_of (alone p) event ≡ changes ∷ [] → durable_by event ≡ 0 →
+      (g : IsGuardedLog st log start old buffer journal None) → IsAttempted st g.kept.first g.base g.least journal changes grown logged cut → IsGrownFrom g.base log grown → after_events st journal ≡ alone p → after_event (alone p) event ≡ alone after →
+      p.fault ≡ None → attempt_of (alone p) event ≡ changes ∷ [] → written_by event ≡ 0 →
       KeptThrough old new grown [] g.least → KeepsRead grown [] g.least (now new) →
       (after.fault ≡ None → IsKeeping (now new) other grown g.least None × (answers_some is_disk_fault event ≡ false)) →
       (after.fault ≡ None → cut ≡ []) →
       (has_failed other ≡ false → after.fault ≡ None) →
       IsGuardedLog st grown start new other (journal ++ event ∷ []) None
-  guarded_attempt st log start old new buffer other journal event changes grown logged cut p after g is stands leaves none one durable through keeps works whole stops =
+  guarded_attempt st log start old new buffer other journal event changes grown logged cut p after g is grows stands leaves none one durable through keeps works whole stops =
       let all : List Event = journal ++ event ∷ [] in
       let attempts : attempts_of st all ≡ attempts_of st journal ++ changes ∷ [] =
       attempts-push st journal event ∙ ap (λ (l : List (List Change)). attempts_of st journal ++ l) (ap (λ (s : Standing). attempt_of s event) stands ∙ one) in
       let then_ : after_events st all ≡ alone after = after_events-append st journal (event ∷ []) ∙ ap (λ (s : Standing). after_event s event) stands ∙ leaves in
       let before : (after_events st journal).fault ≡ None = ap (λ (s : Standing). s.fault) stands ∙ none in
-      guarded_on st log grown start old new buffer other journal event None None g.least logged cut g is.recovers (attempts ∙ is.attempts)
+      guarded_on st log grown start old new buffer other journal event None None g.least logged cut g is.recovers grows (attempts ∙ is.attempts)
       through is.synced (omega arith) keeps (omega (arith, durable))
       (λ fault. (works (sym (ap (λ (s : Standing). s.fault) then_) ∙ fault)).0)
       (λ fault. whole (sym (ap (λ (s : Standing). s.fault) then_) ∙ fault))
@@ -181,14 +187,14 @@ module _ {D : Type 0} where
     -- the disk failed while a transaction was appended
     guarded_fault : (st : Standing) (log : Log) (start : History) (buffer other : LogBuffer D) (journal : List Event) (p : Alone) (event : Event) (changes : List Change) (front : List Entry) (logged cut : List (List Change)) →
         observable ≡ true → (g : IsGuardedLog st log start (history (disk_of buffer)) buffer journal None) → IsKeeping (now (history (disk_of buffer))) buffer log g.least None →
-        after_events st journal ≡ alone p → after_event (alone p) event ≡ alone (faulted_alone p) → p.fault ≡ None → attempt_of (alone p) event ≡ changes ∷ [] → durable_by event ≡ 0 →
+        after_events st journal ≡ alone p → after_event (alone p) event ≡ alone (faulted_alone p) → p.fault ≡ None → attempt_of (alone p) event ≡ changes ∷ [] → written_by event ≡ 0 →
         Tried observable history sync_out read_out read_of buffer other front → IsAttempted st g.kept.first g.base g.least journal changes (longer buffer front log) logged cut →
         IsGuardedLog st (longer buffer front log) start (history (disk_of other)) other (journal ++ event ∷ []) None
     guarded_fault st log start buffer other journal p event changes front logged cut observed g keeping stands leaves none one durable tried attempted =
         let old : History = history (disk_of buffer) in
         let new : History = history (disk_of other) in
         let through = tried.crash observed log [] g.least None (as_observed observable (now old) buffer log observed keeping.has) keeping.holds in
-        guarded_attempt st log start old new buffer other journal event changes (longer buffer front log) logged cut p (faulted_alone p) g attempted stands leaves none one durable through
+        guarded_attempt st log start old new buffer other journal event changes (longer buffer front log) logged cut p (faulted_alone p) g attempted (grown_longer (now old) buffer log g.base front keeping.has) stands leaves none one durable through
         (passes_now old new (KeepsRead (longer buffer front log) [] g.least) (read_through (longer buffer front log) [] g.least old new through)
         (read_with_all log [] (end_of buffer) (file_max_of buffer) g.least front (now old) (ends_in log (end_of buffer) (last_of buffer) keeping.has.is_log keeping.has.ends) g.kept.keeps))
         (λ fault. absurd cc) (λ fault. absurd cc) (λ ok. (let failed = tried.failed in absurd cc))
@@ -220,7 +226,7 @@ module _ {D : Type 0} where
           longer buffer entries log,
           guarded_attempt st log start (history (disk_of buffer)) (history (disk_of other)) buffer other journal event changes (longer buffer entries log) (g.kept.logged ++ changes ∷ []) [] p
               (committed_alone changes (drawn_alone p)) g (logged_whole st log start (history (disk_of buffer)) buffer journal changes entries g before keeping.has recovers)
-              stands (stays.leaves ∙ ap alone (leaves_logged p session call plan.change plan.more none is plan.changes (Logged commit))) none
+              (grown_longer (now (history (disk_of buffer))) buffer log g.base entries keeping.has) stands (stays.leaves ∙ ap alone (leaves_logged p session call plan.change plan.more none is plan.changes (Logged commit))) none
               (tried_some (changes_of (early_refusal (alone p) session call) (alone p) session call) plan.change plan.more (alone_changes p session call none is ∙ plan.changes)).0 refl
               (grew.crash observed log [] g.least None has keeping.holds) (keeping_read (now (history (disk_of other))) other (longer buffer entries log) g.least None kept)
               (λ fault. (kept, refl)) (λ fault. refl) (λ ok. none),

@@ -34,6 +34,14 @@ pub mod GuardLaws
 pub mod SyncLaws
 -- A guarded run goes on by a call.
 pub mod GuardedCalls
+-- What a log gives while transactions are under way, and while none is.
+pub mod TxnGives
+-- The log of an environment beside the model goes on by a change of the catalog.
+pub mod CatalogLogs
+-- A guarded run goes on by an event, whatever transactions are under way.
+pub mod GuardedEvents
+-- A guarded run goes on by a write of all that was appended.
+pub mod WriteOutLaws
 -- A guarded run of an engine as one value.
 pub mod GuardedEngine
 -- What logging planned changes needs, and what it comes to.

@@ -1,11 +1,13 @@
 -- What logging planned changes needs, and what it comes to.
-use Rattle.std.proofs.Common.{◌≡◌, ◌==◌, ◌||◌, ℕ, ◌+◌, ◌<◌, ◌≤◌, nat_lt, Bool, true, false, cond, List, [], ◌∷◌, Option, None, Some, IfSome, length, map, refl, ap, sym, subst, ◌∙◌, arith, ◌⊎◌, Ok, inl, inr}
+use Rattle.std.proofs.Common.{◌≡◌, ◌==◌, ◌||◌, ℕ, ◌+◌, ◌<◌, ◌≤◌, nat_lt, Bool, true, false, cond, List, [], ◌∷◌, Option, None, Some, IfSome, length, map, refl, ap, sym, subst, ◌∙◌, arith, ◌⊎◌, Ok, Err, Result, is_some, inl, inr}
 use Rattle.std.specs.List.{AllByRecursion, list_any}
 use Rattle.std.proofs.lemmas.Bool.{true≢false, eqb-true, eq-eqb, ne_eqb, ltb-true, ltb-false, and_parts, or_left, or_right}
 use Rattle.je_disk.specs.Moments.{History}
 use Rattle.je_order.specs.declared.txn_id.TxnId.{TxnId}
 use Rattle.je_order.proofs.Lists.{all_weaker}
-use Rattle.store_model.specs.declared.answer.Answer.TheVariants.{IdsEnded}
+use Rattle.std.specs.declared.alloc.AllocError.{AllocError}
+use Rattle.std.proofs.lemmas.Option.{none-some}
+use Rattle.store_model.specs.declared.answer.Answer.TheVariants.{IdsEnded, Logged, DiskFault}
 use Rattle.store_model.specs.declared.call.Call.{Call}
 use Rattle.store_model.specs.declared.store.TheConstants.{LAST_DATABASE}
 use Rattle.je_answers.specs.Alone.{Alone}
@@ -14,7 +16,10 @@ use Rattle.record_map.specs.Cells.{IsRising}
 use Rattle.log_replay.specs.Rows.{numbers_of}
 use Rattle.record_tree.specs.declared.tree_change.TreeChange.{TreeChange}
 use Rattle.record_tree.specs.declared.tree_err.TreeErr.{TreeErr}
-use Rattle.record_tree.specs.Logged.{LogsTransaction, is_made, makes_db, most_entries}
+use Rattle.record_map.specs.Cells.{value_at}
+use Rattle.record_map.specs.declared.write.Write.{Write}
+use Rattle.record_tree.specs.Occupied.{IsFreeFor, write_in}
+use Rattle.record_tree.specs.Logged.{LogsTransaction, is_made, last_change, makes_db, most_entries}
 use Rattle.in_tree.specs.declared.log_trees.LogTrees.{LogTrees}
 use Rattle.in_tree.specs.Limits.{GrewFitting}
 use Rattle.in_tree.specs.Observed.{cells_of, has_tree_of, waits_of, limit_in}
@@ -24,16 +29,16 @@ use Rattle.log_entry.specs.Encoding.{size_of}
 use Rattle.txn_core.specs.declared.planned_changes.PlannedChanges.{PlannedChanges}
 use Rattle.txn_core.specs.Known.{committed, has_number}
 use Rattle.txn_core.specs.Planning.{IsPlannedLog}
-use Rattle.txn_core.specs.Transactions.{HasCommitted}
+use Rattle.txn_core.specs.Transactions.{HasCommitted, is_gone}
 use Rattle.engine.specs.declared.kept.Kept.{Kept}
 use Rattle.engine.specs.Contents.{known, rows_after, IsSame, drawn_contents}
 use Rattle.engine.specs.Limits.{last_number, limit_by, numbers_for}
 use Rattle.engine.specs.Steps.{HasAppended, LogsChanges, refusal_by}
-use Rattle.engine.specs.Whole.{AreTrees, contents, end_file, AreLeft}
+use Rattle.engine.specs.Whole.{AreTrees, LeavesCells, LeavesTrees, contents, end_file, AreLeft}
 use Rattle.in_tree.proofs.Far.{files_few}
 use Rattle.std.proofs.lemmas.List.{length-map}
 use Rattle.engine.proofs.ReachLaws.{file_within}
-use Rattle.engine.proofs.CommittedRows.{committed_after, committed_same}
+use Rattle.engine.proofs.CommittedRows.{committed_after, committed_same, trees_same}
 use Rattle.record_tree.specs.declared.tree_err.TreeErr.TheVariants.{Fault, Full, IdsEnded as NoNumber, Memory}
 use Rattle.store_model.specs.declared.answer.Answer.{Answer}
 
@@ -76,23 +81,59 @@ none_above : (numbers : List ℕ) (last d : ℕ) → AllByRecursion (λ n. n ≤
 none_above numbers last d all above =
     ap (λ (b : Bool). b || list_any (λ n. n == d) numbers) (ne_eqb d 0 (λ e. absurd (omega (arith, e, above)))) ∙ none_of numbers last d all above
 
+-- where nobody has changed anything each name is free
+free_one : (t : TxnId) (w : Option Write) → w ≡ None → IsFreeFor t w
+free_one t None is = tt
+free_one t (Some w) is = absurd (none-some w (sym is))
+
+-- and nobody has afterwards
+none_left : (a b : Bool) (w : Option Write) → w ≡ None → cond a None (cond b None w) ≡ None
+none_left true b w is = refl
+none_left false true w is = refl
+none_left false false w is = is
+
 module _ {D : Type 0} where
   -- each change is of a database that has a tree
+  pub made_there : (trees : LogTrees D) (kept : Kept) (p : Alone) (session : ℕ) (call : Call) (planned : PlannedChanges) →
+      ((d : ℕ) → has_tree_of trees d ≡ has_number (numbers_of (committed (cells_of trees))) d) → IsPlannedLog (known (contents trees kept)) p session call planned →
+      AllByRecursion (λ c. has_tree_of trees c.db ≡ true) planned.changes.items
+  made_there trees kept p session call planned made log =
+      all_weaker (λ (c : TreeChange). has_number (numbers_of (committed (cells_of trees))) c.db ≡ true) (λ c. has_tree_of trees c.db ≡ true) (λ c there. made c.db ∙ there) planned.changes.items log.there
+
   pub trees_there : (trees : LogTrees D) (kept : Kept) (p : Alone) (session : ℕ) (call : Call) (planned : PlannedChanges) → AreTrees trees → IsPlannedLog (known (contents trees kept)) p session call planned →
       AllByRecursion (λ c. has_tree_of trees c.db ≡ true) planned.changes.items
-  trees_there trees kept p session call planned are log =
-      all_weaker (λ (c : TreeChange). has_number (numbers_of (committed (cells_of trees))) c.db ≡ true) (λ c. has_tree_of trees c.db ≡ true) (λ c there. are.made c.db ∙ there) planned.changes.items log.there
+  trees_there trees kept p session call planned are log = made_there trees kept p session call planned are.made log
 
   -- a database that changes make has none yet
-  pub trees_new : (trees : LogTrees D) (kept : Kept) (p : Alone) (session : ℕ) (call : Call) (planned : PlannedChanges) → AreTrees trees → AllByRecursion (λ n. n ≤ kept.last_db) (numbers_of (committed (cells_of trees))) →
+  pub made_new : (trees : LogTrees D) (kept : Kept) (p : Alone) (session : ℕ) (call : Call) (planned : PlannedChanges) →
+      ((d : ℕ) → has_tree_of trees d ≡ has_number (numbers_of (committed (cells_of trees))) d) → AllByRecursion (λ n. n ≤ kept.last_db) (numbers_of (committed (cells_of trees))) →
       IsPlannedLog (known (contents trees kept)) p session call planned → planned.last_db ≤ LAST_DATABASE → AllByRecursion (λ c. IfSome c.makes (λ d. has_tree_of trees d ≡ false)) planned.changes.items
-  trees_new trees kept p session call planned are below log low =
+  made_new trees kept p session call planned each below log low =
       each_made (λ d. has_tree_of trees d ≡ false) planned.changes.items
       (λ d made.
       let parts = and_parts (nat_lt kept.last_db planned.last_db) (d == planned.last_db) (sym (log.made (omega (arith, low)) d) ∙ made) in
       let later = ltb-true kept.last_db planned.last_db parts.0 in
       let is : d ≡ planned.last_db = eqb-true d planned.last_db parts.1 in
-      are.made d ∙ none_above (numbers_of (committed (cells_of trees))) kept.last_db d below (omega (arith, later, is)))
+      each d ∙ none_above (numbers_of (committed (cells_of trees))) kept.last_db d below (omega (arith, later, is)))
+
+  pub trees_new : (trees : LogTrees D) (kept : Kept) (p : Alone) (session : ℕ) (call : Call) (planned : PlannedChanges) → AreTrees trees → AllByRecursion (λ n. n ≤ kept.last_db) (numbers_of (committed (cells_of trees))) →
+      IsPlannedLog (known (contents trees kept)) p session call planned → planned.last_db ≤ LAST_DATABASE → AllByRecursion (λ c. IfSome c.makes (λ d. has_tree_of trees d ≡ false)) planned.changes.items
+  trees_new trees kept p session call planned are below log low = made_new trees kept p session call planned are.made below log low
+
+  -- ---- other transactions
+
+  pub all_free : (trees : LogTrees D) (t : TxnId) (changes : List TreeChange) → AreTrees trees → AllByRecursion (λ c. IsFreeFor t (write_in (value_at c.name (cells_of trees c.db)))) changes
+  all_free trees t [] are = tt
+  all_free trees t (c ∷ changes) are = (free_one t (write_in (value_at c.name (cells_of trees c.db))) (are.quiet c.db c.name), all_free trees t changes are)
+
+  pub trees_left : (old new : LogTrees D) (planned : PlannedChanges) (result : Result Answer AllocError) → AreTrees old → LeavesCells old new planned 1 result → LeavesTrees old new planned result
+  trees_left old new planned (Ok (Logged commit)) are leaves = (
+    λ d x. leaves.writes d x ∙ none_left (is_gone d planned.gone) (is_some (last_change d x planned.changes.items)) (write_in (value_at x (cells_of old d))) (are.quiet d x),
+    leaves.trees,
+  )
+  trees_left old new planned (Ok DiskFault) are leaves = tt
+  trees_left old new planned (Ok answer) are leaves = trees_same old new are leaves.cells leaves.made
+  trees_left old new planned (Err error) are leaves = trees_same old new are leaves.cells leaves.made
 
   -- ---- what was logged
 
@@ -142,10 +183,10 @@ module _ {D : Type 0} where
 
   module _ (observable : Bool) (history : D → History) (sync_out read_out : D → Option ℕ) (read_of : D → ℕ) where
     -- the answer where numbers may be lacking
-    pub refused_logs : (old new : LogTrees D) (kept other : Kept) (planned : PlannedChanges) (answer : Answer) → answer ≡ refusal_by (limit_in old planned.changes.items 1) →
+    pub refused_logs : (old new : LogTrees D) (kept other : Kept) (planned : PlannedChanges) (owed : ℕ) (answer : Answer) → answer ≡ refusal_by (limit_in old planned.changes.items owed) →
         (nat_lt LAST_DATABASE planned.last_db || nat_lt last_number (kept.last_node + numbers_for (length planned.changes.items))) ≡ true → AreLeft old new → other ≡ kept →
-        LogsChanges observable history sync_out read_out read_of old.log new.log (contents old kept) (contents new (record other { last_txn = kept.last_txn + 1 })) planned (limit_in old planned.changes.items 1) (Ok answer)
-    refused_logs old new kept other planned answer is lacks left same = subst (Logs (limit_in old planned.changes.items 1)) (sym is) (by_found (limit_in old planned.changes.items 1))
+        LogsChanges observable history sync_out read_out read_of old.log new.log (contents old kept) (contents new (record other { last_txn = kept.last_txn + 1 })) planned (limit_in old planned.changes.items owed) (Ok answer)
+    refused_logs old new kept other planned owed answer is lacks left same = subst (Logs (limit_in old planned.changes.items owed)) (sym is) (by_found (limit_in old planned.changes.items owed))
       where
         Logs : Option TreeErr → Answer → Type 0
         Logs found a =

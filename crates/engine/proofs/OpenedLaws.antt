@@ -279,6 +279,7 @@ module _ {D : Type 0} where
         last_db = ap (λ (k : Kept). k.last_db) is.begun.kept;
         commits = ap (λ (k : Kept). k.commits) is.begun.kept;
         totals = ap (λ (k : Kept). k.totals) is.begun.kept ∙ ap (λ d. make d r.records) w.is.databases_are ∙ ap (λ n. make (length r.opening.databases) n) w.is.records_are;
+        numbers = λ none. refl;
         valid = λ none. record {
           log = found_log 0 w.held;
           has = is.ready.has;

@@ -1,12 +1,18 @@
 -- Where an environment stands after a step, beside the model.
-use Rattle.std.proofs.Common.{◌≡◌, ℕ, ◌+◌, ◌<◌, ◌≤◌, Bool, List, ◌∷◌, Option, None, ap, sym, ◌∙◌, subst, arith}
+use Rattle.std.proofs.Common.{◌≡◌, ℕ, ◌+◌, ◌<◌, ◌≤◌, Bool, List, [], ◌∷◌, refl, Option, None, ap, sym, ◌∙◌, subst, arith}
 use Rattle.std.proofs.lemmas.Bool.Decides.{nat_tests}
 use Rattle.je_disk.specs.States.{State}
 use Rattle.je_disk.specs.Moments.{History, now}
 use Rattle.store_model.specs.declared.call.Call.{Call}
 use Rattle.store_model.specs.declared.change.Change.{Change}
+use Rattle.store_model.specs.declared.change.Change.TheVariants.{Set, Unset, Make, Remove, Rename, Empty}
 use Rattle.store_model.specs.declared.store.TheConstants.{LAST_DATABASE, LAST_TXN}
 use Rattle.store_model.specs.Refusals.{made_by, next_txn}
+use Rattle.je_answers.specs.Standing.{numbered, all_numbered}
+use Rattle.log_replay.specs.Logging.{number_named}
+use Rattle.log_replay.specs.Kept.{numbered as numbered_in, all_numbered as all_numbered_in}
+use Rattle.engine.proofs.PlannedRows.{planned_rows}
+use mathlib.Core.Path.{fun_ext}
 use Rattle.je_answers.specs.Alone.{Alone, committed_alone, drawn_alone}
 use Rattle.log_buffer.specs.declared.buffer.LogBuffer.{LogBuffer}
 use Rattle.log_buffer.specs.Buffer.{IsUnchanged, disk_of, end_of}
@@ -17,6 +23,20 @@ use Rattle.engine.specs.Environment.{AreAlone}
 use Rattle.engine.specs.Steps.{HasAppended, txn_of}
 use Rattle.engine.proofs.PlannedCalls.{are_planned}
 use Rattle.engine.proofs.TransactionGrowth.{sound_of, valid_drawn, valid_on, valid_same}
+
+-- the numbers after changes, of databases and of the catalog's records
+one_numbered : (change : Change) (last : ℕ) (numbers : List ℕ → ℕ) → numbered_in change last numbers ≡ numbered change last numbers
+one_numbered (Set db at value) last numbers = refl
+one_numbered (Unset db at) last numbers = refl
+one_numbered (Make db kind) last numbers = refl
+one_numbered (Remove db) last numbers = refl
+one_numbered (Rename db to) last numbers = refl
+one_numbered (Empty db) last numbers = refl
+
+pub numbered_alike : (changes : List Change) (last : ℕ) (numbers : List ℕ → ℕ) → all_numbered_in changes last numbers ≡ all_numbered changes last numbers
+numbered_alike [] last numbers = refl
+numbered_alike (change ∷ changes) last numbers =
+    ap (all_numbered_in changes (last + made_by (change ∷ []))) (one_numbered change last numbers) ∙ numbered_alike changes (last + made_by (change ∷ [])) (numbered change last numbers)
 
 next_is : (last : ℕ) → last < LAST_TXN → next_txn last ≡ last + 1
 next_is last h = grind (arith, nat_tests)
@@ -33,6 +53,7 @@ module _ {D : Type 0} where
       last_db = at.last_db;
       commits = at.commits;
       totals = at.totals;
+      numbers = at.numbers;
       valid = λ none. valid_drawn observable history sync_out read_out read_of state buffer c p.store (at.valid none);
     }
 
@@ -46,6 +67,7 @@ module _ {D : Type 0} where
       last_db = same.last_db ∙ at.last_db;
       commits = same.commits ∙ at.commits;
       totals = same.totals ∙ at.totals;
+      numbers = λ none. ap number_named (fun_ext same.rows) ∙ at.numbers none;
       valid = λ none. valid_same observable history sync_out read_out read_of buffer other old new p.store log same (at.valid none);
     }
 
@@ -65,6 +87,11 @@ module _ {D : Type 0} where
           last_db = has.last_db ∙ log.last_db ∙ ap (λ n. n + made_by changes) at.last_db;
           commits = has.commits ∙ ap (λ n. n + 1) at.commits;
           totals = has.totals ∙ log.totals;
+          numbers = λ again. ap number_named (fun_ext has.rows)
+              ∙ (planned_rows old.rows old.last_db log.change log.more planned.changes.items planned.gone
+              (are_planned old p session call planned (sound_of v.log (end_of buffer) old v.gives) log (omega (arith, low)))).numbers
+              ∙ numbered_alike changes old.last_db (number_named old.rows)
+              ∙ ap (λ (n : ℕ). all_numbered changes n (number_named old.rows)) at.last_db ∙ ap (all_numbered changes p.last_db) (at.numbers none);
           valid = λ again. valid_on observable history sync_out read_out read_of buffer other old new log.change log.more planned p.store v
               (are_planned old p session call planned (sound_of v.log (end_of buffer) old v.gives) log (omega (arith, low))) log.last_db has appended;
         }

@@ -22,6 +22,7 @@ module _ {D : Type 0} where
     last_db = has.last_db ∙ at.last_db;
     commits = has.commits ∙ at.commits;
     totals = has.totals ∙ at.totals;
+    numbers = λ none. absurd cc;
     valid = λ none. absurd cc;
   }
 
@@ -36,6 +37,7 @@ module _ {D : Type 0} where
     last_db = at.last_db;
     commits = at.commits;
     totals = at.totals;
+    numbers = at.numbers;
     valid = λ none. let v = at.valid none in record {
       log = v.log;
       has = logs v.log v.has;

@@ -7,6 +7,7 @@ use Rattle.store_model.specs.declared.event.Event.{Event}
 use Rattle.store_model.specs.declared.store.Store.{Store}
 use Rattle.je_answers.specs.Standing.{Standing}
 use Rattle.je_answers.specs.Journal.{attempts_of, has_answer, is_disk_fault, synced_of}
+use Rattle.je_answers.specs.Written.{written_of}
 use Rattle.log_file.specs.declared.valid_prefix.ValidPrefix.{ValidPrefix}
 use Rattle.log_file.specs.declared.file_scan.FileScan.TheVariants.{Prefix}
 use Rattle.log_file.specs.Log.{AreFiles}
@@ -23,9 +24,10 @@ abbrev pub Follows : History → History → Type 0
 Follows old new = Passes old new (λ s. Unit {0})
 
 -- Of a run that began where the model stood at `st`, some events are over while one may be under way. What the disk reads, and each image in which no
--- checksum matches by chance, means the opening store changed by the first attempted commits, at least the synced ones.
+-- checksum matches by chance, means the opening store changed by the first attempted commits: an image at least the synced ones, and what the disk
+-- reads at least those that were written.
 pub record IsSafe (st : Standing) (over under_way : List Event) (state : State) : Type 0 where
-  pub read : IsImageRecovered st.store (synced_of over) (attempts_of st (over ++ under_way)) state.reads
+  pub read : IsImageRecovered st.store (written_of over) (attempts_of st (over ++ under_way)) state.reads
   pub images : (image : Files) → IsImage state image → NoChanceMatch state.reads image → IsImageRecovered st.store (synced_of over) (attempts_of st (over ++ under_way)) image
 
 -- where one of these events met a disk fault, the disk's state is from one moment to another what it was at the first

@@ -14,6 +14,7 @@ use Rattle.log_buffer.specs.Buffer.{end_of, file_max_of, has_failed}
 use Rattle.log_buffer.specs.Flip.{pos_lsn}
 use Rattle.log_buffer.specs.Log.{HasLog}
 use Rattle.log_replay.specs.Rows.{data_at, numbers_of, store_of}
+use Rattle.log_replay.specs.Logging.{number_named}
 use Rattle.log_trees.specs.Placed.{placed}
 use Rattle.log_meaning.specs.Stands.{Stands}
 use Rattle.log_meaning.specs.Transactions.{AreListed}
@@ -62,6 +63,7 @@ module _ {D : Type 0} where
     pub last_db : c.last_db ≡ p.last_db
     pub commits : c.commits ≡ p.commits
     pub totals : c.totals ≡ totals_of p.store
+    pub numbers : p.fault ≡ None → number_named c.rows ≡ p.numbers
     pub valid : p.fault ≡ None → IsValid observable state buffer c p.store
 
   -- the environment is where the model stands: nothing is under way there

@@ -1,5 +1,5 @@
 -- What the parts of a run keep of its log. No clause of the top call speaks of these.
-use Rattle.std.specs.Prelude.{ℕ, ◌≡◌, ◌≤◌, [], ◌++◌, List, Option, None, Bool, true, false}
+use Rattle.std.specs.Prelude.{ℕ, ◌≡◌, ◌≤◌, ◌⊎◌, [], ◌++◌, length, List, Option, None, Bool, true, false}
 use Rattle.je_disk.specs.States.{State}
 use Rattle.je_disk.specs.Moments.{History, now}
 use Rattle.store_model.specs.declared.change.Change.{Change}
@@ -7,18 +7,33 @@ use Rattle.store_model.specs.declared.event.Event.{Event}
 use Rattle.je_answers.specs.Standing.{Standing}
 use Rattle.je_answers.specs.After.{after_events}
 use Rattle.je_answers.specs.Journal.{attempts_of, has_answer, is_disk_fault, synced_of}
-use Rattle.log_file.specs.Log.{Log}
+use Rattle.je_answers.specs.Written.{written_of}
+use Rattle.log_file.specs.Log.{Log, entries_of}
 use Rattle.log_buffer.specs.declared.buffer.LogBuffer.{LogBuffer}
 use Rattle.log_buffer.specs.Buffer.{first_of, has_failed}
 use Rattle.log_buffer.specs.Crash.{FilesStay, Holds, KeepsRead}
 use Rattle.log_buffer.specs.Log.{HasLog}
+use Rattle.log_buffer.specs.Written.{HoldsWritten}
 use Rattle.log_trees.specs.Placed.{placed}
 use Rattle.log_meaning.specs.Recovery.{commits_in}
 use Rattle.crash_recovery.specs.Recovery.{RecoversLog}
 use Rattle.engine.specs.Crash.{AreSafeEvents, Follows, IsSafe}
 
+-- what the disk reads holds at least so many of a log's entries: a crash keeps them, or they were written
+abbrev pub HoldsRead : Log → ℕ → ℕ → State → Type 0
+HoldsRead log least written state = (written ≤ least) ⊎ HoldsWritten log written state.reads
+
+-- What the disk reads of a log of which a crash keeps so many entries: behind the first `base`, those that commit the written transactions.
+pub record IsRead (base : ℕ) (log : Log) (least : ℕ) (state : State) (journal : List Event) : Type 0 where
+  pub written : ℕ
+  pub from : base ≤ written
+  pub within : written ≤ length (entries_of log)
+  pub count : written_of journal ≤ commits_in base written (placed log)
+  pub holds : HoldsRead log least written state
+
 -- What a run that began at `st` has kept so far of its log, which had `base` entries then. Those behind them are of the transactions that its
--- journal attempted; only one that was cut short by a fault may not be among them. A crash keeps at least `least` of all, with the synced commits.
+-- journal attempted; only one that was cut short by a fault may not be among them. A crash keeps at least `least` of all, with the synced commits; and
+-- the disk reads those that were written.
 pub record IsKept (st : Standing) (base : ℕ) (log : Log) (least : ℕ) (state : State) (journal : List Event) : Type 0 where
   pub from : base ≤ least
   pub first : ℕ
@@ -28,6 +43,7 @@ pub record IsKept (st : Standing) (base : ℕ) (log : Log) (least : ℕ) (state 
   pub recovers : RecoversLog first st.store base logged log
   pub synced : synced_of journal ≤ commits_in base least (placed log)
   pub keeps : KeepsRead log [] least state
+  pub read : IsRead base log least state journal
 
 module _ {D : Type 0} where
   -- the buffer has this log; a crash keeps at least so many of its entries, and more once a sync that is out has ended

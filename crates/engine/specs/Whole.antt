@@ -1,5 +1,5 @@
 -- An engine as one value. Users speak of it by these alone; what it is made of may change below them.
-use Rattle.std.specs.Prelude.{ℕ, ◌≡◌, ◌≤◌, ◌<◌, ◌^◌, ◌+◌, ◌++◌, ◌∷◌, [], List, Option, None, Some, Bool, Result, Ok, Err, true, false, length, map, if◌then◌else◌}
+use Rattle.std.specs.Prelude.{ℕ, suc, ◌≡◌, ◌≤◌, ◌<◌, ◌^◌, ◌+◌, ◌++◌, ◌∷◌, [], List, Option, None, Some, Bool, Result, Ok, Err, true, false, length, map, if◌then◌else◌}
 use Rattle.std.specs.declared.alloc.AllocError.{AllocError}
 use Rattle.je_disk.specs.States.{Files, State, synced_crash_states}
 use Rattle.je_disk.specs.Moments.{History, now}
@@ -23,7 +23,8 @@ use Rattle.record_tree.specs.Logged.{is_made, most_entries}
 use Rattle.store_model.specs.Refusals.{made_by}
 use Rattle.txn_core.specs.Known.{committed, has_number, IsQuiet}
 use Rattle.txn_core.specs.Planning.{row_by}
-use Rattle.txn_core.specs.Transactions.{HasTreesAfter}
+use Rattle.txn_core.specs.Transactions.{HasTreesAfter, LeavesWrites}
+use Rattle.in_tree.specs.Limits.{HasRoomFor, commit_sizes}
 use Rattle.txn_core.specs.declared.planned_changes.PlannedChanges.{PlannedChanges}
 use Rattle.log_buffer.specs.Buffer.{IsUnchanged, disk_of as disk_below, end_of, has_failed}
 use Rattle.store_model.specs.declared.change.Change.{Change}
@@ -68,6 +69,22 @@ module _ {D : Type 0} where
   LeavesTrees old new planned (Ok DiskFault) = Unit {0}
   LeavesTrees old new planned (Ok answer) = AreTrees new
   LeavesTrees old new planned (Err error) = AreTrees new
+
+  -- The same where other transactions are under way: the changes of theirs stay, and there is room for the Commits that are owed behind this one.
+  pub record LeavesOthers (old new : LogTrees D) (planned : PlannedChanges) (owed : ℕ) : Type 0 where
+    pub writes : LeavesWrites planned.changes.items planned.gone (cells_of old) (cells_of new)
+    pub trees : HasTreesAfter planned.changes.items planned.gone (has_tree_of old) (has_tree_of new)
+    pub room : (n : ℕ) → owed ≡ suc n → HasRoomFor new.log (commit_sizes n)
+
+  pub record AreSameCells (old new : LogTrees D) : Type 0 where
+    pub cells : (db : ℕ) → cells_of new db ≡ cells_of old db
+    pub made : (db : ℕ) → has_tree_of new db ≡ has_tree_of old db
+
+  abbrev pub LeavesCells : LogTrees D → LogTrees D → PlannedChanges → ℕ → Result Answer AllocError → Type 0
+  LeavesCells old new planned owed (Ok (Logged commit)) = LeavesOthers old new planned owed
+  LeavesCells old new planned owed (Ok DiskFault) = Unit {0}
+  LeavesCells old new planned owed (Ok answer) = AreSameCells old new
+  LeavesCells old new planned owed (Err error) = AreSameCells old new
 
   -- trees are as they were, and so is their log
   pub record AreLeft (old new : LogTrees D) : Type 0 where

@@ -30,8 +30,8 @@ pub struct Closed<D> {
     pub records: Records,
 }
 
-// Closes a log: writes it out, and syncs, unless the disk failed before. Whether the disk failed now.
-fn close_log<D: Disk>(log: LogBuffer<D>) -> (D, bool)
+/// Closes a log: writes it out, and syncs, unless the disk failed before. Whether the disk failed now.
+pub fn close_log<D: Disk>(log: LogBuffer<D>) -> (D, bool)
     ensures crash { D.observable ≡ true → (held : Log) (least : ℕ) → KeepsIfWorks (has_failed log) (now (D.history (disk_below log))) log held least → KeptThrough (D.history (disk_below log)) (D.history result.0) held [] least }
     ensures kept { D.observable ≡ true → (held : Log) → HasLog D.observable (now (D.history (disk_below log))) log held → has_failed log ≡ false → result.1 ≡ false → KeepsRead held [] (length (entries_of held)) (now (D.history result.0)) }
     ensures still { has_failed log ≡ true → result.0 ≡ disk_below log }

@@ -15,12 +15,14 @@ ghost use Rattle.je_answers.specs.Journal.{changes_of};
 ghost use Rattle.je_answers.specs.Refusals.{early_refusal};
 ghost use Rattle.log_buffer.specs.Buffer.{has_failed};
 ghost use Rattle.log_entry.specs.Body.{IsEntry};
+ghost use Rattle.record_map.specs.Cells.{value_at};
 ghost use Rattle.record_tree.specs.Logged.{entry_for};
-ghost use Rattle.in_tree.specs.Observed.{has_tree_of, limit_in};
+ghost use Rattle.record_tree.specs.Occupied.{IsFreeFor, write_in};
+ghost use Rattle.in_tree.specs.Observed.{cells_of, has_tree_of, limit_in};
 ghost use Rattle.txn_core.specs.Totals.{totals_of};
 ghost use Rattle.engine.specs.Limits.{IsWithin, last_number, numbers_for, reach_after};
 ghost use Rattle.engine.specs.Steps.{HasStepCause, IsNumbered, LogsChanges, refusal_by, txn_of};
-ghost use Rattle.engine.specs.Whole.{AreLeft, AreTrees, BeginsSafely, BeginsSync, CanGoOn, EndsNear, EndsSync, GoesOn, GoesOnSafely, HasLimit, IsAt, IsGuarded, IsGuardedInSync, LeavesTrees, contents, disk_of, reach_of};
+ghost use Rattle.engine.specs.Whole.{AreLeft, AreTrees, BeginsSafely, BeginsSync, CanGoOn, EndsNear, EndsSync, GoesOn, GoesOnSafely, HasLimit, IsAt, IsGuarded, IsGuardedInSync, LeavesCells, LeavesTrees, contents, disk_of, reach_of};
 
 use crate::kept::Kept;
 use in_tree::LogTrees;
@@ -32,20 +34,20 @@ use store_model::{Answer, Call, Fault, LAST_DATABASE, LAST_TXN, Totals};
 use txn_core::{Planned, PlannedChanges, commit_changes, plan};
 
 /// The greatest number of a node.
-pub(crate) const LAST_NODE: u64 = 0x7fff_ffff_ffff_ffff;
+pub const LAST_NODE: u64 = 0x7fff_ffff_ffff_ffff;
 
 /// How many node numbers a change of a record may allocate: one for each of 64 levels, one for a root above
 /// them, and one for the root of a database.
-pub(crate) const NUMBERS_FOR_CHANGE: u64 = 66;
+pub const NUMBERS_FOR_CHANGE: u64 = 66;
 
 /// An open environment: its log over its disk with the trees of its databases, and what is kept in memory
 /// beside them. It is made by `open`, answers calls by `step`, makes commits durable by `sync_begin` and
 /// `sync_end`, and ends by `close`.
 pub struct Engine<D> {
-    // The trees, over the log, over its disk.
-    pub(crate) trees: LogTrees<D>,
-    // What is kept beside them.
-    pub(crate) kept: Kept,
+    /// The trees, over the log, over its disk.
+    pub trees: LogTrees<D>,
+    /// What is kept beside them.
+    pub kept: Kept,
 }
 
 impl<D: Disk> Engine<D> {
@@ -114,19 +116,24 @@ impl<D: Disk> Engine<D> {
     }
 
     // What changes are answered that may lack numbers: no room in the log is told first.
-    fn refuse(&mut self, alloc: Global, planned: &PlannedChanges) -> Result<Answer, AllocError>
+    fn refuse(
+        &mut self,
+        alloc: Global,
+        planned: &PlannedChanges,
+        owed: u32,
+    ) -> Result<Answer, AllocError>
         requires works { has_failed self.old.trees.log ≡ false }
         requires trees { AllByRecursion (λ c. has_tree_of self.old.trees c.db ≡ true) planned.now.changes.items }
         requires numbers { self.old.kept.last_txn < LAST_TXN }
         requires entries { AllByRecursion (λ c. IsEntry (entry_for (txn_of (self.old.kept.last_txn + 1)) c.db c.name c.value)) planned.now.changes.items }
-        ensures answer { IfOk result (λ answer. answer ≡ refusal_by (limit_in self.old.trees planned.now.changes.items 1)) }
+        ensures answer { IfOk result (λ answer. answer ≡ refusal_by (limit_in self.old.trees planned.now.changes.items owed)) }
         ensures same { AreLeft self.old.trees self.new.trees }
         ensures kept { self.new.kept ≡ self.old.kept }
     {
         let txn = TxnId(self.kept.last_txn + 1);
         match self
             .trees
-            .find_limit(alloc, txn, planned.changes.as_slice(), 1)?
+            .find_limit(alloc, txn, planned.changes.as_slice(), owed)?
         {
             Some(TreeErr::Full) => Ok(Answer::LogFull),
             _ => Ok(Answer::IdsEnded),
@@ -148,9 +155,34 @@ impl<D: Disk> Engine<D> {
         ensures bounds { CanGoOn self.new }
         ensures cause { HasStepCause (D.faults (disk_of self.old)) (D.faults (disk_of self.new)) result }
     {
+        self.log_among(alloc, planned, 1)
+    }
+
+    /// Logs planned changes of a valid environment as one transaction, with room for as many Commits, that of these changes among
+    /// them; no other transaction has a change of their names. Running out of memory leaves the environment as it was.
+    pub fn log_among(
+        &mut self,
+        alloc: Global,
+        planned: PlannedChanges,
+        owed: u32,
+    ) -> Result<Answer, AllocError>
+        requires bounds { CanGoOn self.old }
+        requires works { has_failed self.old.trees.log ≡ false }
+        requires free { AllByRecursion (λ c. IsFreeFor (txn_of (self.old.kept.last_txn + 1)) (write_in (value_at c.name (cells_of self.old.trees c.db)))) planned.changes.items }
+        requires some { 1 ≤ owed }
+        requires numbers { self.old.kept.last_txn < LAST_TXN }
+        requires there { AllByRecursion (λ c. has_tree_of self.old.trees c.db ≡ true) planned.changes.items }
+        requires new { planned.last_db ≤ LAST_DATABASE → AllByRecursion (λ c. IfSome c.makes (λ d. has_tree_of self.old.trees d ≡ false)) planned.changes.items }
+        requires entries { AllByRecursion (λ c. IsEntry (entry_for (txn_of (self.old.kept.last_txn + 1)) c.db c.name c.value)) planned.changes.items }
+        ensures trees { LeavesCells self.old.trees self.new.trees planned owed result }
+        ensures near { EndsNear self.old.trees self.new.trees (length planned.changes.items) result }
+        ensures logs { LogsChanges D.observable D.history D.sync_out D.read_out D.read_of self.old.trees.log self.new.trees.log (contents self.old.trees self.old.kept) (contents self.new.trees self.new.kept) planned (limit_in self.old.trees planned.changes.items owed) result }
+        ensures bounds { CanGoOn self.new }
+        ensures cause { HasStepCause (D.faults (disk_of self.old)) (D.faults (disk_of self.new)) result }
+    {
         let txn = self.kept.last_txn + 1;
         if self.lacks_numbers(&planned) {
-            let answer = self.refuse(alloc, &planned)?;
+            let answer = self.refuse(alloc, &planned, owed)?;
             self.kept.last_txn = txn;
             return Ok(answer);
         }
@@ -161,7 +193,14 @@ impl<D: Disk> Engine<D> {
             totals,
             gone,
         } = planned;
-        match commit_changes(&mut self.trees, alloc, TxnId(txn), changes.as_slice(), gone) {
+        match commit_changes(
+            &mut self.trees,
+            alloc,
+            TxnId(txn),
+            changes.as_slice(),
+            gone,
+            owed,
+        ) {
             Ok(()) => {
                 self.trees.are_ordered();
                 self.kept.last_txn = txn;

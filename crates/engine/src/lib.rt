@@ -14,8 +14,9 @@ mod kept;
 mod open_err;
 mod opening;
 
-pub use closing::{Closed, Records};
+pub use closing::{Closed, Records, close_log};
 pub use config::Config;
-pub use engine::Engine;
+pub use engine::{Engine, LAST_NODE, NUMBERS_FOR_CHANGE};
+pub use kept::Kept;
 pub use open_err::OpenErr;
 pub use opening::{Opened, Opening, Stopped, no_opening};

@@ -1,8 +1,9 @@
 -- What a journal of events answers, has committed and acknowledges (Getting Started with Transaction Processing).
-use Rattle.std.specs.Prelude.{ℕ, ◌≡◌, ◌⊎◌, ◌==◌, ◌++◌, ◌∷◌, [], List, Option, None, Some, Bool, true, false, IsTrue, max, if◌then◌else◌}
+use Rattle.std.specs.Prelude.{ℕ, ◌≡◌, ◌<◌, ◌⊎◌, ◌==◌, ◌||◌, ◌++◌, ◌∷◌, [], List, Option, None, Some, Bool, true, false, IsTrue, find, filter, length, max, if◌then◌else◌}
+use Rattle.std.specs.Option.{is_some, option_map}
 use Rattle.std.specs.List.{list_any, flat_map}
 use Rattle.store_model.specs.declared.durability.Durability.{Durability}
-use Rattle.store_model.specs.declared.durability.Durability.TheVariants.{Sync}
+use Rattle.store_model.specs.declared.durability.Durability.TheVariants.{Sync, WriteNoSync}
 use Rattle.store_model.specs.declared.call.Call.{Call}
 use Rattle.store_model.specs.declared.call.Call.TheVariants.{Commit, Create, Remove, Rename, Truncate, Get, GetBoth, Put, Delete, Count, Cur, CPutCur, CDel, CPut}
 use Rattle.store_model.specs.declared.change.Change.{Change}
@@ -10,7 +11,7 @@ use Rattle.store_model.specs.declared.need.Need.{Need}
 use Rattle.store_model.specs.declared.answer.Answer.{Answer}
 use Rattle.store_model.specs.declared.answer.Answer.TheVariants.{Done, Logged, Durable, LogFull, IdsEnded, DiskFault}
 use Rattle.store_model.specs.declared.event.Event.{Event}
-use Rattle.store_model.specs.declared.event.Event.TheVariants.{Call as Called, Resume, SyncBegin, SyncEnd, Turn}
+use Rattle.store_model.specs.declared.event.Event.TheVariants.{Call as Called, Resume, End, WriteOut, SyncBegin, SyncEnd, Turn}
 use Rattle.store_model.specs.declared.plan.ScriptLine.{ScriptLine}
 use Rattle.store_model.specs.declared.plan.ScriptLine.TheVariants.{Session, Maintenance}
 use Rattle.store_model.specs.Evaluation.{evaluation}
@@ -20,7 +21,7 @@ use Rattle.je_answers.specs.declared.wait.Wait.{Wait}
 use Rattle.je_answers.specs.Standing.{Standing, active_of, wait_of}
 use Rattle.je_answers.specs.Views.{Target, target_of, changes_on, changes_named, outcome_of, needs_in}
 use Rattle.je_answers.specs.Refusals.{early_refusal, late_refusal}
-use Rattle.je_answers.specs.Locking.{first_blocked}
+use Rattle.je_answers.specs.Locking.{first_blocked, was_granted_in}
 use Rattle.je_answers.specs.Events.{auto_active, begun, resumed}
 use Rattle.je_answers.specs.After.{Fate, fate_of, after_event}
 use Rattle.je_answers.specs.After.Fate.{Succeeds, IsRefused, Faults}
@@ -144,7 +145,7 @@ abbrev pub attempts_of : Standing → List Event → List (List Change)
 attempts_of st [] = []
 attempts_of st (event ∷ events) = attempt_of st event ++ attempts_of (after_event st event) events
 
--- ---- syncs
+-- ---- syncs and write-outs
 
 -- how many commits an event says are durable after any crash
 abbrev pub durable_by : Event → ℕ
@@ -156,29 +157,76 @@ abbrev pub synced_of : List Event → ℕ
 synced_of [] = 0
 synced_of (event ∷ events) = max (durable_by event) (synced_of events)
 
--- behind a commit stand its sync's beginning and end, or the disk fault that came in the place of one of them
-abbrev pub IsSyncedBy : ℕ → List Event → Type 0
-IsSyncedBy commit later =
-    (more : List Event) × ((later ≡ SyncBegin Done ∷ SyncEnd (Durable commit) ∷ more) ⊎ (later ≡ SyncBegin Done ∷ SyncEnd DiskFault ∷ more) ⊎ (later ≡ SyncBegin DiskFault ∷ more))
-
--- where an event is a commit, its sync follows it at once
-abbrev pub IsSyncedAtOnce : Event → List Event → Type 0
-IsSyncedAtOnce (Called session line call (Logged commit) victims) later = IsSyncedBy commit later
-IsSyncedAtOnce (Resume session line (Logged commit) victims) later = IsSyncedBy commit later
-IsSyncedAtOnce event later = Unit {0}
-
--- each commit's sync follows it at once
-abbrev pub AreSyncedAtOnce : List Event → Type 0
-AreSyncedAtOnce [] = Unit {0}
-AreSyncedAtOnce (event ∷ events) = IsSyncedAtOnce event events × AreSyncedAtOnce events
-
--- ---- acknowledgements
-
 -- what the commits of a session wait for: what its transaction was begun with; a call outside a transaction waits for a sync
 abbrev pub durability_of : Option Active → Durability
 durability_of None = Sync
 durability_of (Some a) = a.durability
 
+-- behind a commit stand its sync's beginning and end, or the disk fault that came in the place of one of them
+abbrev pub IsSyncedBy : ℕ → List Event → Type 0
+IsSyncedBy commit later =
+    (more : List Event) × ((later ≡ SyncBegin Done ∷ SyncEnd (Durable commit) ∷ more) ⊎ (later ≡ SyncBegin Done ∷ SyncEnd DiskFault ∷ more) ⊎ (later ≡ SyncBegin DiskFault ∷ more))
+
+-- behind a commit stands its write-out, or the disk fault that came in its place
+abbrev pub IsWrittenOutBy : ℕ → List Event → Type 0
+IsWrittenOutBy commit later = (more : List Event) × ((later ≡ WriteOut (Durable commit) ∷ more) ⊎ (later ≡ WriteOut DiskFault ∷ more))
+
+-- Behind a commit that was logged stands what its durability asks for: its write-out, or its sync. One that waits for nothing is not answered so.
+abbrev pub IsFollowed : Durability → ℕ → List Event → Type 0
+IsFollowed WriteNoSync commit later = IsWrittenOutBy commit later
+IsFollowed durability commit later = IsSyncedBy commit later
+
+-- where an event is a commit, what its durability asks for follows it at once
+abbrev pub IsSyncedAtOnce : Standing → Event → List Event → Type 0
+IsSyncedAtOnce st (Called session line call (Logged commit) victims) later = IsFollowed (durability_of (active_of session st.actives)) commit later
+IsSyncedAtOnce st (Resume session line (Logged commit) victims) later = IsFollowed (durability_of (active_of session st.actives)) commit later
+IsSyncedAtOnce st event later = Unit {0}
+
+-- each commit is followed at once by what its durability asks for
+abbrev pub AreSyncedAtOnce : Standing → List Event → Type 0
+AreSyncedAtOnce st [] = Unit {0}
+AreSyncedAtOnce st (event ∷ events) = IsSyncedAtOnce st event events × AreSyncedAtOnce (after_event st event) events
+
+-- ---- the order of lines and of calls that go on
+
+-- whether a waiting call may go on: its wait was granted, or a fault has come
+abbrev pub is_ready : Standing → Wait → Bool
+is_ready st w = is_some st.fault || was_granted_in w.txn st.locks
+
+-- the first call that may go on, in the order in which the calls began to wait
+abbrev pub first_ready : Standing → Option Wait
+first_ready st = find (is_ready st) st.waiting
+
+-- this session's call is the first that may go on
+abbrev pub IsFirstReady : Standing → ℕ → Type 0
+IsFirstReady st session = option_map (λ w. w.session) (first_ready st) ≡ Some session
+
+-- how many calls may go on
+abbrev pub ready_in : Standing → ℕ
+ready_in st = length (filter (is_ready st) st.waiting)
+
+-- A call that went on was answered, and fewer calls wait; or it waits again, as many do, and fewer of them may go on. This comes only so often in turn.
+abbrev pub IsSettling : Answer → Standing → Standing → Type 0
+IsSettling answer old new =
+    (length new.waiting < length old.waiting)
+    ⊎ ((is_logged answer ≡ false) × (length new.waiting ≡ length old.waiting) × (ready_in new < ready_in old))
+
+-- A line is given only where no call may go on, and of the calls that may go on the first does. A session ends where none may go on, or in place of the
+-- first that may.
+abbrev pub IsInOrder : Standing → Event → Type 0
+IsInOrder st (Called session line call answer victims) = first_ready st ≡ None
+IsInOrder st (Resume session line answer victims) = IsFirstReady st session
+IsInOrder st (End session) = (first_ready st ≡ None) ⊎ IsFirstReady st session
+IsInOrder st event = Unit {0}
+
+-- waiting calls go on in the order in which they began to wait, and before the next line is given
+abbrev pub AreResumedInOrder : Standing → List Event → Type 0
+AreResumedInOrder st [] = Unit {0}
+AreResumedInOrder st (event ∷ events) = IsInOrder st event × AreResumedInOrder (after_event st event) events
+
+-- ---- acknowledgements
+
+-- where an event is a commit that waits, a later one acknowledges it
 abbrev pub ComesLater : Standing → Event → List Event → Type 0
 ComesLater st (Called session line call (Logged commit) victims) later = IsTrue (list_any (acknowledges (durability_of (active_of session st.actives)) commit) later)
 ComesLater st (Resume session line (Logged commit) victims) later = IsTrue (list_any (acknowledges (durability_of (active_of session st.actives)) commit) later)

@@ -7,3 +7,4 @@ pub mod After
 pub mod Journal
 pub mod Alone
 pub mod Laws
+pub mod Written

@@ -4,21 +4,23 @@ use Rattle.std.proofs.lemmas.Bool.{cases_Bool, cond-true, cond-false, le-leb, or
 use Rattle.std.specs.List.{list_any}
 use Rattle.je_order.specs.Counts.{HasRisen}
 use Rattle.store_model.specs.declared.durability.Durability.{Durability}
+use Rattle.store_model.specs.declared.durability.Durability.TheVariants.{Sync, WriteNoSync, NoSync}
 use Rattle.store_model.specs.declared.event.Event.{Event}
-use Rattle.store_model.specs.declared.event.Event.TheVariants.{Call as Called, Resume, SyncBegin, SyncEnd}
+use Rattle.store_model.specs.declared.event.Event.TheVariants.{Call as Called, Resume, WriteOut, SyncBegin, SyncEnd}
 use Rattle.store_model.specs.declared.answer.Answer.{Answer}
 use Rattle.store_model.specs.declared.answer.Answer.TheVariants.{Done as Synced, Logged, Durable, LogFull as LogFullAnswer, IdsEnded as IdsEndedAnswer, DiskFault}
 use Rattle.store_model.specs.Journal.{acknowledges, answer_of, answers_some, is_disk_fault}
 use Rattle.je_answers.specs.Standing.{Standing, active_of}
 use Rattle.je_answers.specs.After.{after_event}
-use Rattle.je_answers.specs.Journal.{has_answer, durability_of, AllAcknowledged, AreSyncedAtOnce, ComesLater, IsSyncedAtOnce, IsSyncedBy}
+use Rattle.je_answers.specs.Journal.{has_answer, durability_of, AllAcknowledged, AreSyncedAtOnce, ComesLater, IsFollowed, IsSyncedAtOnce, IsSyncedBy, IsWrittenOutBy}
 use Rattle.log_replay.specs.declared.corruption.Corruption.{Corruption}
 use Rattle.je_program.specs.declared.cause.Cause.{Cause}
 use Rattle.je_program.specs.declared.cause.Cause.TheVariants.{Done, Disk, Unreadable, Memory, LogFull, IdsEnded}
 use Rattle.engine.proofs.Counts.{rose_earlier, rose_later}
 use Rattle.je_program.specs.Program.{cause_closed, ClosesBy, ClosesRun, EndsBy, RunsIf, is_before_disk}
-use Rattle.je_program.specs.Run.{IsCaused, cause_of_journal, cause_of_room, cause_of_answer}
-use Rattle.je_program.proofs.FaultLaws.{or_false}
+use Rattle.script_run.specs.UnderWay.{IsCaused}
+use Rattle.script_run.proofs.FaultLaws.{or_false}
+use Rattle.je_program.specs.Run.{cause_of_journal, cause_of_room, cause_of_answer}
 
 -- the cause that room gives is no disk fault
 room_is_none : (events : List Event) → cause_of_room events ≢ Disk
@@ -48,10 +50,10 @@ no_fault_of_cause journal h =
       disk_is_not_done : Disk ≡ Done → ⊥
       disk_is_not_done e = cc
 
--- without a disk fault, the sync that follows a commit at once acknowledges it
-acknowledged_by : (durability : Durability) (commit : ℕ) (later : List Event) → has_answer is_disk_fault later ≡ false → IsSyncedBy commit later →
+-- without a disk fault, what follows a commit at once acknowledges it: a sync each, and a write-out one that asks for no sync
+synced_by : (durability : Durability) (commit : ℕ) (later : List Event) → has_answer is_disk_fault later ≡ false → IsSyncedBy commit later →
     list_any (acknowledges durability commit) later ≡ true
-acknowledged_by durability commit later none h =
+synced_by durability commit later none h =
     ⊎_elim
     (λ (e : later ≡ SyncBegin Synced ∷ SyncEnd (Durable commit) ∷ h.0). ap (list_any (acknowledges durability commit)) e ∙ or_left (nat_le commit commit) (list_any (acknowledges durability commit) h.0) (le-leb commit commit (omega arith)))
     (λ f. ⊎_elim
@@ -60,12 +62,25 @@ acknowledged_by durability commit later none h =
     f)
     h.1
 
-later_acknowledged : (st : Standing) (event : Event) (later : List Event) → has_answer is_disk_fault later ≡ false → IsSyncedAtOnce event later → ComesLater st event later
+written_by : (commit : ℕ) (later : List Event) → has_answer is_disk_fault later ≡ false → IsWrittenOutBy commit later → list_any (acknowledges WriteNoSync commit) later ≡ true
+written_by commit later none h =
+    ⊎_elim
+    (λ (e : later ≡ WriteOut (Durable commit) ∷ h.0). ap (list_any (acknowledges WriteNoSync commit)) e ∙ or_left (nat_le commit commit) (list_any (acknowledges WriteNoSync commit) h.0) (le-leb commit commit (omega arith)))
+    (λ (e : later ≡ WriteOut DiskFault ∷ h.0). absurd (true≢false (sym (ap (has_answer is_disk_fault) e) ∙ none)))
+    h.1
+
+acknowledged_by : (durability : Durability) (commit : ℕ) (later : List Event) → has_answer is_disk_fault later ≡ false → IsFollowed durability commit later →
+    list_any (acknowledges durability commit) later ≡ true
+acknowledged_by Sync commit later none h = synced_by Sync commit later none h
+acknowledged_by WriteNoSync commit later none h = written_by commit later none h
+acknowledged_by NoSync commit later none h = synced_by NoSync commit later none h
+
+later_acknowledged : (st : Standing) (event : Event) (later : List Event) → has_answer is_disk_fault later ≡ false → IsSyncedAtOnce st event later → ComesLater st event later
 later_acknowledged st (Called session line call (Logged commit) victims) later none h = acknowledged_by (durability_of (active_of session st.actives)) commit later none h
 later_acknowledged st (Resume session line (Logged commit) victims) later none h = acknowledged_by (durability_of (active_of session st.actives)) commit later none h
 later_acknowledged st event later none h = tt
 
-pub all_acknowledged : (st : Standing) (journal : List Event) → has_answer is_disk_fault journal ≡ false → AreSyncedAtOnce journal → AllAcknowledged st journal
+pub all_acknowledged : (st : Standing) (journal : List Event) → has_answer is_disk_fault journal ≡ false → AreSyncedAtOnce st journal → AllAcknowledged st journal
 all_acknowledged st [] none synced = tt
 all_acknowledged st (event ∷ events) none synced =
     let parts = or_false (answers_some is_disk_fault event) (has_answer is_disk_fault events) none in
@@ -160,15 +175,8 @@ pub ends_by : (journal : List Event) (memory_ended : Bool) (cause : Cause) → (
 ends_by journal true cause memory ends other = absurd (other (memory refl))
 ends_by journal false cause memory ends other = ends refl
 
--- what is known of faults since a moment is known since an earlier one
-pub caused_earlier : (before mid after : ℕ) (journal : List Event) → before ≤ mid → IsCaused mid after journal → IsCaused before after journal
-caused_earlier before mid after journal earlier caused = record {
-  never_falls = (let later : mid ≤ after = caused.never_falls in omega arith);
-  fault = λ h. rose_earlier before mid after earlier (caused.fault h) caused.never_falls;
-}
-
 -- where a run is done, each commit is acknowledged
-pub done_acknowledged : (st : Standing) (journal : List Event) (cause : Cause) → cause ≡ Done → EndsBy journal cause → AreSyncedAtOnce journal → AllAcknowledged st journal
+pub done_acknowledged : (st : Standing) (journal : List Event) (cause : Cause) → cause ≡ Done → EndsBy journal cause → AreSyncedAtOnce st journal → AllAcknowledged st journal
 done_acknowledged st journal cause done ends settled =
     ⊎_elim
     (λ (e : cause ≡ cause_of_journal journal). all_acknowledged st journal (no_fault_of_cause journal (sym e ∙ done)) settled)
@@ -181,6 +189,11 @@ pub done_is_no_memory : (cause : Cause) → cause ≡ Done → cause ≢ Memory
 done_is_no_memory cause done = λ e. done_not_memory (sym done ∙ e) where
   done_not_memory : Done ≡ Memory → ⊥
   done_not_memory e = cc
+
+-- where memory did not run out, no call found none
+pub memory_left : (memory_ended : Bool) (cause : Cause) → (memory_ended ≡ true → cause ≡ Memory) → cause ≢ Memory → memory_ended ≡ false
+memory_left true cause memory other = absurd (other (memory refl))
+memory_left false cause memory other = refl
 
 -- ---- closing
 

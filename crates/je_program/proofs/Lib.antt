@@ -1,11 +1,5 @@
--- Where no event is answered by a disk fault, a valid environment stays valid.
-pub mod FaultLaws
 -- The end of a run.
 pub mod FinishLaws
--- A run goes on by one line of its script.
-pub mod RunLaws
--- Which lines a journal has, line after line.
-pub mod GivenLaws
 -- Reading a script.
 pub mod ReadingLaws
 -- Writing one text after another.

@@ -7,7 +7,7 @@ use Rattle.je_answers.specs.Standing.{Standing}
 use Rattle.engine.specs.Crash.{ImagesMean, IsSafeRun, KeepsEntry}
 use Rattle.je_program.specs.declared.cause.Cause.{Cause}
 use Rattle.je_program.specs.declared.cause.Cause.TheVariants.{Done as AllDone}
-use Rattle.je_program.specs.Run.{final_store}
+use Rattle.script_run.specs.Events.{final_store}
 
 -- A program's run began, with the model at `st`, at the end of the sync with which the files at entry were opened, and was safe from there on; before it the files
 -- of entry were kept. Where all was done, each image at the end means the final store.

@@ -10,8 +10,8 @@ use Rattle.store_model.specs.declared.plan.RunPlan.{RunPlan}
 use Rattle.store_model.specs.declared.totals.Totals.{Totals}
 use Rattle.store_model.specs.Journal.{is_disk_fault}
 use Rattle.je_answers.specs.Standing.{Standing}
-use Rattle.je_answers.specs.After.{AnswersAsModel}
-use Rattle.je_answers.specs.Journal.{AllAcknowledged, AreSyncedAtOnce, lines_of, has_answer}
+use Rattle.je_answers.specs.After.{AnswersAsModel, after_events}
+use Rattle.je_answers.specs.Journal.{AllAcknowledged, AreResumedInOrder, AreSyncedAtOnce, first_ready, lines_of, has_answer}
 use Rattle.script_text.specs.Grammar.{plan_of}
 use Rattle.script_text.specs.Report.{report_text}
 use Rattle.je_program.specs.declared.reading.TheConstants.{MOST_INPUT}
@@ -25,11 +25,13 @@ use Rattle.log_replay.specs.declared.corruption.Corruption.TheVariants.{Damaged,
 use Rattle.engine.specs.declared.open_err.OpenErr.{OpenErr}
 use Rattle.engine.specs.declared.open_err.OpenErr.TheVariants.{Disk as NoDisk, Memory as NoMemory, IdsEnded as NoNumbers, Unreadable as CannotRead}
 use Rattle.engine.specs.Files.{MeanStore}
-use Rattle.engine.specs.Limits.{AreBounded}
+use Rattle.environment.specs.Limits.{AreBounded}
 use Rattle.engine.specs.Opening.{StartsAt, reach_in}
 use Rattle.txn_core.specs.Totals.{totals_of}
 use Rattle.je_program.specs.Crash.{IsSafeProgram}
-use Rattle.je_program.specs.Run.{IsCallOrSync, cause_of_journal, final_store, of_session, AreFirstLines, status_of, unwritten_status_of}
+use Rattle.script_run.specs.Events.{IsOfSessions, final_store}
+use Rattle.script_run.specs.Lines.{AreFirstLines, of_session}
+use Rattle.je_program.specs.Run.{cause_of_journal, status_of, unwritten_status_of}
 
 -- the input was a script, and was read to its end
 abbrev pub ReadsPlan : Option (List ℕ) → Option (List ℕ) → RunPlan → Type 0
@@ -88,15 +90,19 @@ abbrev pub EndsBy : List Event → Cause → Type 0
 EndsBy journal cause = (cause ≡ cause_of_journal journal) ⊎ (cause ≡ Disk)
 
 -- A run from one history of the disk to another, with log files of at most so many bytes. It begins where the files at entry are opened: each event
--- of the journal answers what the model lets it from there on, within the limits of the log, each commit's sync follows it at once, and nothing
--- else happens. At every moment the disk is safe. Where all was done, each commit is acknowledged and the files mean the final store. What is counted is how much that holds.
+-- of the journal answers what the model lets it from there on, within the limits of the log; each commit is followed at once by what its durability asks
+-- for; the calls that waited go on in the order in which they began to wait, before the next line; and nothing else happens. At every moment the disk
+-- is safe. Unless memory ran out no call may go on at the end. Where all was done, each commit is acknowledged and the files mean the final store.
+-- What is counted is how much that holds.
 pub record IsRunOf (file_max : ℕ) (observable : Bool) (old new : History) (opening : Store) (counted : Totals) (journal : List Event) (cause : Cause) (st : Standing) : Type 0 where
   pub starts : StartsAt observable (now old).reads opening st
   pub limits : List (Option Answer)
   pub answers : AnswersAsModel st limits journal
   pub bounded : AreBounded (reach_in starts.held starts.meaning) st journal limits
-  pub synced_at_once : AreSyncedAtOnce journal
-  pub only : AllByRecursion IsCallOrSync journal
+  pub synced_at_once : AreSyncedAtOnce st journal
+  pub in_order : AreResumedInOrder st journal
+  pub only : AllByRecursion IsOfSessions journal
+  pub rests : cause ≢ Memory → first_ready (after_events st journal) ≡ None
   pub acknowledged : cause ≡ Done → AllAcknowledged st journal
   pub safe : observable ≡ true → IsSafeProgram old new st journal cause
   pub files : cause ≡ Done → observable ≡ true → MeanStore (now new).reads (final_store st journal)

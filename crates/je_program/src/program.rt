@@ -23,7 +23,7 @@ ghost use Rattle.command_line.specs.Arguments.{file_max_in, is_taken};
 use crate::cause::Cause;
 use crate::output::write_output;
 use crate::run_result::{RunResult, run_unprinted};
-use engine::{Opening, Records};
+use environment::{Opening, Records};
 use je_disk::Disk;
 use je_io::{Sink, Source};
 use std::alloc::Global;
@@ -85,11 +85,13 @@ pub fn run_je<D: Disk, S: Source, K: Sink>(
     ensures unreadable_untouched { (corruption : Wrong) → result.cause ≡ Why.Unreadable corruption → D.observable ≡ true → IsUntouched (D.history disk) (D.history result.disk) }
 
     // A run: its journal holds the script's lines. Each answer is the model's, from what the files at entry mean on;
-    // each commit's sync follows it at once; where all was done, each commit is acknowledged, and the files mean the
-    // opening store changed by the commits in order. Over an observable disk, at each moment from the end of the
-    // opening's own sync on, what the disk reads, and each image of the disk in which no checksum matches by chance,
-    // means the opening store changed by the first of the attempted commits, at least the synced ones. Behind a disk
-    // fault the disk stands still. Each file stays. Where all was done, each image at the end means the final store.
+    // each commit is followed at once by its sync or its write-out, as its durability asks; the calls that waited go on
+    // in the order in which they began to wait, before the next line; where all was done, each commit that waits is
+    // acknowledged, and the files mean the opening store changed by the commits in order. Over an observable disk, at
+    // each moment from the end of the opening's own sync on, what the disk reads means the opening store changed by the
+    // first of the attempted commits, at least the written ones, and each image of the disk in which no checksum matches
+    // by chance means it changed by at least the synced ones. Behind a disk fault the disk stands still. Each file stays.
+    // Where all was done, each image at the end means the final store.
     ensures runs { RunsIf result.cause result.opened }
     ensures given { result.opened ≡ true → (plan : RunPlan) × IsGivenTo (S.left input.old) (S.left input.new) result.journal.items result.cause plan }
     ensures run { result.opened ≡ true → (file_max : ℕ) × (st : Standing) × (file_max_in (map string_bytes args.now) ≡ Some file_max) × IsRunOf file_max D.observable (D.history disk) (D.history result.disk) result.opening result.totals result.journal.items result.cause st }

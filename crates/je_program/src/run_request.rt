@@ -8,7 +8,7 @@ ghost use Rattle.je_program.specs.Program.{ReadsPlan, IsNoRequest};
 use crate::cause::Cause;
 use crate::reading::read_script;
 use command_line::parse;
-use engine::Config;
+use environment::Config;
 use je_io::Source;
 use std::alloc::Global;
 use store_model::RunPlan;

@@ -5,12 +5,15 @@ ghost use Rattle.store_model.specs.declared.plan.RunPlan.{RunPlan};
 ghost use Rattle.script_text.specs.Grammar.{is_line};
 ghost use Rattle.command_line.specs.Arguments.{file_max_in, is_taken};
 ghost use Rattle.je_disk.specs.Moments.{History, now};
-ghost use Rattle.engine.specs.Limits.{Reach};
-ghost use Rattle.engine.specs.Whole.{IsGuarded, disk_of};
+ghost use Rattle.environment.specs.Whole.{disk_of};
 ghost use Rattle.log_replay.specs.declared.corruption.Corruption.{Corruption as Wrong};
 ghost use Rattle.store_model.specs.Store.{no_databases};
 ghost use Rattle.je_answers.specs.Standing.{Standing};
 ghost use Rattle.je_answers.specs.Journal.{lines_of};
+ghost use Rattle.script_run.specs.Events.{final_store};
+ghost use Rattle.script_run.specs.Events.Awaited.{Nothing};
+ghost use Rattle.script_run.specs.Lines.{AreFirstLines, of_session};
+ghost use Rattle.script_run.specs.UnderWay.{Beginning, IsCaused, IsUnderWay};
 ghost use Rattle.je_program.specs.declared.cause.Cause.{Cause as Why};
 ghost use Rattle.engine.specs.Crash.{ImagesMean, IsSafeRun, KeepsEntry};
 ghost use Rattle.je_program.specs.Untouched.{LeavesUnreadable};
@@ -18,15 +21,17 @@ ghost use Rattle.engine.specs.Files.{HasCorruption, MeanStore};
 ghost use Rattle.engine.specs.Opening.{HasNoNumbers};
 ghost use Rattle.txn_core.specs.Totals.{totals_of};
 ghost use Rattle.je_program.specs.Program.{ClosesRun, EndsBy, IsGivenTo, IsRunOf, IsStopped, ReadsPlan, RunsIf, is_before_disk, cause_closed, cause_of_opening};
-ghost use Rattle.je_program.specs.Run.{IsCaused, AreFirstLines, IsRunning, cause_of_journal, final_store, of_session};
+ghost use Rattle.je_program.specs.Run.{cause_of_journal};
 
 use crate::cause::Cause;
 use crate::ending::journal_cause;
 use crate::run_request::{RunRequest, read_request};
-use crate::running::{Running, run};
-use engine::{Closed, Config, Engine, OpenErr, Opened, Opening, Records, Stopped, no_opening};
+use environment::{
+    Closed, Config, Environment, OpenErr, Opened, Opening, Records, Stopped, no_opening,
+};
 use je_disk::Disk;
 use je_io::Source;
+use script_run::{Recorded, Running, run};
 use std::alloc::Global;
 use store_model::{Event, RunPlan, Totals};
 
@@ -107,30 +112,30 @@ fn opening_cause(error: OpenErr) -> Cause
 fn finish<D: Disk>(running: Running<D>, opening: Opening) -> RunResult<D>
     ensures opened { result.opened ≡ true }
     ensures opening { result.opening ≡ opening }
-    ensures journal { result.journal.items ≡ running.journal.items }
+    ensures journal { result.journal.items ≡ running.recorded.journal.items }
     ensures memory { running.memory_ended ≡ true → result.cause ≡ Why.Memory }
-    ensures ends { running.memory_ended ≡ false → EndsBy running.journal.items result.cause }
-    ensures caused { (before : ℕ) → IsCaused before (D.faults (disk_of running.engine)) running.journal.items → ClosesRun before (D.faults result.disk) running.journal.items result.cause }
-    ensures crash { D.observable ≡ true → (most : ℕ) (first : Reach) (start : History) (st : Standing) → IsRunning most first D.observable (now (D.history (disk_of running.engine))) running.engine running.journal.items st
-        → IsGuarded most st start (D.history (disk_of running.engine)) running.engine running.journal.items
-        → IsSafeRun st start (D.history result.disk) running.journal.items }
-    ensures crash_end { D.observable ≡ true → (most : ℕ) (first : Reach) (start : History) (st : Standing) → IsRunning most first D.observable (now (D.history (disk_of running.engine))) running.engine running.journal.items st
-        → IsGuarded most st start (D.history (disk_of running.engine)) running.engine running.journal.items → st.fault ≡ None → result.cause ≡ Why.Done
-        → ImagesMean (now (D.history result.disk)) (final_store st running.journal.items) }
-    ensures totals { (most : ℕ) (first : Reach) (st : Standing) → IsRunning most first D.observable (now (D.history (disk_of running.engine))) running.engine running.journal.items st
-        → result.totals ≡ totals_of (final_store st running.journal.items) }
-    ensures files { (most : ℕ) (first : Reach) (st : Standing) → IsRunning most first D.observable (now (D.history (disk_of running.engine))) running.engine running.journal.items st
-        → st.fault ≡ None → result.cause ≡ Why.Done → D.observable ≡ true → MeanStore (now (D.history result.disk)).reads (final_store st running.journal.items) }
+    ensures ends { running.memory_ended ≡ false → EndsBy running.recorded.journal.items result.cause }
+    ensures caused { (before : ℕ) → IsCaused before (D.faults (disk_of running.recorded.environment)) running.recorded.journal.items → ClosesRun before (D.faults result.disk) running.recorded.journal.items result.cause }
+    ensures crash { D.observable ≡ true → (p : Beginning) → IsUnderWay D.observable D.history D.faults p Nothing running.recorded → IsSafeRun p.st p.start (D.history result.disk) running.recorded.journal.items }
+    ensures crash_end { D.observable ≡ true → (p : Beginning) → IsUnderWay D.observable D.history D.faults p Nothing running.recorded → p.st.fault ≡ None → result.cause ≡ Why.Done
+        → ImagesMean (now (D.history result.disk)) (final_store p.st running.recorded.journal.items) }
+    ensures totals { (p : Beginning) → IsUnderWay D.observable D.history D.faults p Nothing running.recorded → result.totals ≡ totals_of (final_store p.st running.recorded.journal.items) }
+    ensures files { (p : Beginning) → IsUnderWay D.observable D.history D.faults p Nothing running.recorded → p.st.fault ≡ None → result.cause ≡ Why.Done → D.observable ≡ true
+        → MeanStore (now (D.history result.disk)).reads (final_store p.st running.recorded.journal.items) }
 {
     let Running {
-        engine,
-        journal,
+        recorded,
         memory_ended,
         stopped: _,
+        halted: _,
     } = running;
-    let totals = engine.totals();
+    let Recorded {
+        environment,
+        journal,
+    } = recorded;
+    let totals = environment.totals();
     let cause = end_cause(memory_ended, &journal);
-    let closed = engine.close();
+    let closed = environment.close();
     let Closed {
         disk,
         failed,
@@ -167,10 +172,13 @@ pub fn run_plan<D: Disk>(alloc: Global, disk: D, config: Config, plan: RunPlan) 
     ensures caused { ClosesRun (D.faults disk) (D.faults result.disk) result.journal.items result.cause }
     ensures left_alone { D.observable ≡ true → LeavesUnreadable result.cause (D.history disk) (D.history result.disk) }
 {
-    match Engine::open(alloc, disk, &config) {
+    match Environment::open(alloc, disk, &config) {
         Ok(opened) => {
-            let Opened { engine, opening } = opened;
-            let running = run(alloc, engine, plan.lines.into_vec());
+            let Opened {
+                environment,
+                opening,
+            } = opened;
+            let running = run(alloc, environment, plan.lines.into_vec());
             finish(running, opening)
         }
         Err(Stopped { error, disk }) => {

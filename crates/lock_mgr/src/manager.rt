@@ -9,7 +9,7 @@ ghost use Rattle.lock_table.specs.declared.record_id.RecordId.{RecordId};
 ghost use Rattle.lock_table.specs.Locks.{lock_of, held_by, blocker, is_blocked, is_range, writer_in, after_ask, after_cancel, after_read, after_release, after_give_back, WasHeld};
 ghost use Rattle.je_order.specs.Transactions.{is_same_txn};
 ghost use Rattle.lock_table.specs.Records.{is_record};
-ghost use Rattle.lock_table.specs.Table.{locks_at, pending_at, is_waiting, was_granted, wait_pairs, holder_of, IsToldIn, IsLockTable};
+ghost use Rattle.lock_table.specs.Table.{locks_at, pending_at, is_waiting, was_granted, wait_pairs, holder_of, IsToldIn, OwnsIn, IsLockTable};
 ghost use Rattle.lock_mgr.specs.Deadlock.{waits, waits_with, NoDeadlock, AreVictims, owner_of, victims_of as victims_in, taken_back, without_waits, HasSomeVictims};
 
 use crate::Requested;
@@ -196,7 +196,8 @@ impl LockMgr {
 
     /// The least owner of the records of a database. It looks at no other database's records.
     pub fn holder_in(&self, db: u32) -> Option<TxnId>
-        ensures { result ≡ holder_of db self.now }
+        ensures least { result ≡ holder_of db self.now }
+        ensures owns { IfSome result (λ t. OwnsIn db t self.now.records) }
     {
         self.table.holder_in(db)
     }

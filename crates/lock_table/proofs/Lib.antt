@@ -26,3 +26,5 @@ pub mod ReadLocks
 pub mod DatabaseRanges
 -- Walks along a list: what was found so far, and what the rest gives.
 pub mod ListWalks
+-- The least owner in a database owns a lock on a record that the map finds.
+pub mod HolderFound

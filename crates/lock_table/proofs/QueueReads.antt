@@ -1,13 +1,13 @@
 -- A lock of no more than READ that goes: what it keeps of one record.
-use Rattle.std.proofs.Common.{◌≡◌, Bool, true, false, ◌||◌, List, [], ◌∷◌, Some, None, Option, refl, ap, ◌∙◌}
+use Rattle.std.proofs.Common.{◌≡◌, true, false, List, [], ◌∷◌, Some, None, Option, refl, ap, ◌∙◌}
 use Rattle.std.specs.List.{find}
 use Rattle.std.specs.Option.{option_map}
 use Rattle.std.proofs.lemmas.Bool.{or_parts, cond-false}
 use Rattle.je_order.specs.declared.txn_id.TxnId.{TxnId}
 use Rattle.lock_mode.specs.declared.lock_type.LockType.{LockType}
-use Rattle.lock_mode.specs.declared.lock_type.LockType.TheVariants.{Read, Write, RangeRead, RangeWrite, RangeInsert}
+use Rattle.lock_mode.specs.declared.lock_type.LockType.TheVariants.{Read}
 use Rattle.lock_table.specs.declared.lock.Lock.{Lock}
-use Rattle.lock_table.specs.Locks.{is_of, has_lock, held_by, after_give_back, read_given_back, after_read, IsSettled}
+use Rattle.lock_table.specs.Locks.{is_of, has_lock, held_by, read_given_back, after_read, IsSettled}
 use Rattle.lock_table.specs.Table.{IsOut}
 use Rattle.lock_table.proofs.RecordCalls.{settled_give_back, out_give_back, waits_give_back}
 

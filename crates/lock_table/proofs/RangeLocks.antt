@@ -1,6 +1,6 @@
 -- Locks of a range type are those of transactions that asked for one: what each call keeps of it.
 use Rattle.std.proofs.Common.{◌≡◌, Bool, true, false, cond, not, ◌||◌, length, arith, List, [], ◌∷◌, ◌++◌, map, Some, None, Option, Result, Ok, Err, OnOk, OnErr, refl, ap, sym, ◌∙◌, subst, ⊎_elim}
-use Rattle.std.specs.List.{filter, list_any, AllByRecursion}
+use Rattle.std.specs.List.{list_any, AllByRecursion}
 use Rattle.std.specs.BTreeSet.{BTreeSet}
 use Rattle.std.specs.Ordering.{is_eq}
 use Rattle.std.specs.Bool.{IsTrue}
@@ -10,7 +10,7 @@ use Rattle.lock_mode.specs.declared.lock_type.LockType.{LockType}
 use Rattle.lock_mode.specs.declared.lock_type.LockType.TheVariants.{Read, Write, RangeRead, RangeWrite, RangeInsert}
 use Rattle.lock_mode.specs.Modes.{upgraded, can_be_held}
 use Rattle.lock_table.specs.declared.lock.Lock.{Lock}
-use Rattle.lock_table.specs.Locks.{is_range, is_of, has_lock, without_txn, held_by, is_blocked, upgraded_by, set_by, with_lock, waits_still, granted, after_ask, after_cancel, after_release, after_give_back, read_given_back, WasHeld, IsSettled}
+use Rattle.lock_table.specs.Locks.{is_range, is_of, has_lock, without_txn, held_by, is_blocked, upgraded_by, set_by, with_lock, granted, after_ask, after_cancel, after_release, after_give_back, read_given_back, WasHeld, IsSettled}
 use Rattle.je_order.specs.Transactions.{is_same_txn, txn_cmp}
 use Rattle.lock_table.specs.declared.record_id.RecordId.{RecordId}
 use Rattle.lock_table.specs.Records.{is_record}

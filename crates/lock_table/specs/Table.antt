@@ -59,6 +59,12 @@ pub record IsToldIn (db : ℕ) (t : TxnId) (v : Locks) : Type 0 where
   pub told : pending_at t v ≡ Some record_
   pub there : record_.db ≡ db
 
+-- the transaction owns a lock on a record of the database
+pub record OwnsIn (db : ℕ) (t : TxnId) (records : List (RecordId × (List Lock × List Lock))) : Type 0 where
+  pub record_ : RecordId
+  pub owns : has_lock t (queue_at record_ records).0 ≡ true
+  pub there : record_.db ≡ db
+
 -- what holds of every lock table: each record's owners never conflict and none of its waits could be granted; and who waits on a record waits there alone
 pub record IsLockTable (v : Locks) : Type 0 where
   pub settled : (r : RecordId) → IsSettled (locks_at r v)

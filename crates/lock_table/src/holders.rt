@@ -6,7 +6,7 @@ ghost use Rattle.lock_table.specs.declared.record_id.RecordId.{RecordId};
 ghost use Rattle.std.specs.List.{flat_map, filter};
 ghost use Rattle.lock_table.specs.Locks.{lesser, least};
 ghost use Rattle.lock_table.specs.Records.{start_bound, end_bound};
-ghost use Rattle.lock_table.specs.Table.{at_txn};
+ghost use Rattle.lock_table.specs.Table.{at_txn, OwnsIn};
 
 use crate::lists::lesser_of;
 use crate::queue::Queue;
@@ -28,7 +28,8 @@ fn least_with(found: Option<TxnId>, owners: &[Lock]) -> Option<TxnId>
 
 // The least owner of the records of a database. It looks at no other database's records.
 pub(crate) fn least_in(queues: &BTreeMap<RecordId, Queue>, db: u32) -> Option<TxnId>
-    ensures { result ≡ least (map (λ o. o.txn) (flat_map (λ e. e.1.0) (filter (λ e. e.0.db == db) queues.now.entries))) }
+    ensures least { result ≡ least (map (λ o. o.txn) (flat_map (λ e. e.1.0) (filter (λ e. e.0.db == db) queues.now.entries))) }
+    ensures owns { IfSome result (λ t. OwnsIn db t queues.now.entries) }
 {
     let mut found = None;
     for (_, queue) in queues.range((start_of(db), end_of(db))) {

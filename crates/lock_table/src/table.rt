@@ -11,7 +11,7 @@ ghost use Rattle.std.specs.List.{AllByRecursion};
 ghost use Rattle.lock_table.specs.Locks.{is_range, after_read, held_by, blocker, after_ask, after_cancel, after_release, after_give_back, WasHeld, lock_of, writer_in, waited_for};
 ghost use Rattle.je_order.specs.Transactions.{is_same_txn};
 ghost use Rattle.lock_table.specs.Records.{is_record, queue_at};
-ghost use Rattle.lock_table.specs.Table.{locks_at, pending_at, is_waiting, was_granted, owner_in, waits_for, wait_pairs, holder_of, IsSameTable, IsToldIn, IsLockTable};
+ghost use Rattle.lock_table.specs.Table.{locks_at, pending_at, is_waiting, was_granted, owner_in, waits_for, wait_pairs, holder_of, IsSameTable, IsToldIn, OwnsIn, IsLockTable};
 
 use crate::calls::{ask_in, cancel_in, forget_in, give_back_in, read_back_in, release_in};
 use crate::holders::{least_in, told_in};
@@ -189,7 +189,8 @@ impl LockTable {
 
     /// The least owner of the records of a database. It looks at no other database's records.
     pub fn holder_in(&self, db: u32) -> Option<TxnId>
-        ensures { result ≡ holder_of db self.now }
+        ensures least { result ≡ holder_of db self.now }
+        ensures owns { IfSome result (λ t. OwnsIn db t self.now.records) }
     {
         least_in(&self.queues, db)
     }

@@ -36,6 +36,8 @@ pub mod ChanceMatches
 pub mod Prefixes
 -- Files stay while the disk is written, and what is kept through two calls is kept through both.
 pub mod Staying
+-- Entries that were written stay written.
+pub mod WrittenLaws
 -- What a crash keeps at each moment while a write buffer is written.
 pub mod CrashWriteOut
 -- What a crash keeps of a log that was written whole, and as a sync begins and ends.

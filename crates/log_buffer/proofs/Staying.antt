@@ -1,7 +1,8 @@
--- Files stay while the disk is written, and what is kept through two calls is kept through both.
-use Rattle.std.proofs.Common.{◌≡◌, ℕ, ◌<◌, ◌==◌, Bool, true, false, cond, List, [], ◌++◌, Option, Some, None, refl, sym, ap, subst, arith, ◌⊎◌, inl, inr}
-use Rattle.std.specs.Prelude.{IsSome}
-use Rattle.std.proofs.lemmas.Bool.{cases_order}
+-- Files stay while the disk is written, none shorter, and what is kept through two calls is kept through both.
+use Rattle.std.proofs.Common.{◌≡◌, ℕ, ◌<◌, ◌==◌, Bool, true, false, cond, List, [], ◌++◌, Option, Some, None, refl, sym, ap, subst, ◌∙◌, arith, append_assoc, ◌⊎◌, inl, inr}
+use Rattle.std.specs.Prelude.{unwrap_or}
+use Rattle.std.proofs.lemmas.Bool.{cases_order, eqb-true}
+use Rattle.std.proofs.lemmas.List.{append-nil}
 use Rattle.je_disk.specs.States.{State, Files, partly_appended, partly_appended_by, created, created_by, synced, IsPartOfAppend}
 use Rattle.je_disk.specs.Moments.{History, Passes, now}
 use Rattle.je_disk.proofs.MomentLaws.{passes_then, passes_weaken}
@@ -10,30 +11,46 @@ use Rattle.log_buffer.specs.Crash.{FilesStay, IsKeptSince, KeepsRead, KeptThroug
 use Rattle.log_buffer.specs.Writing.{IsPutNext}
 
 pub stay_same : (before after : Files) → after ≡ before → FilesStay before after
-stay_same before after same f there = subst (λ (files : Files). IsSome (files f)) (sym same) there
+stay_same before after same f bytes there =
+    ([], ap (λ (files : Files). files f) same ∙ there ∙ ap (λ (x : List ℕ). Some x) (sym (append-nil bytes)))
 
 pub stay_then : (a b c : Files) → FilesStay a b → FilesStay b c → FilesStay a c
-stay_then a b c first second f there = second f (first f there)
+stay_then a b c first second f bytes there =
+    let one = first f bytes there in
+    let two = second f (bytes ++ one.0) one.1 in
+    (one.0 ++ two.0, two.1 ∙ ap (λ (x : List ℕ). Some x) (append_assoc bytes one.0 two.0))
 
 stay_created : (f : ℕ) (s : State) → FilesStay s.reads (created f s).reads
-stay_created f s g there = by_there (s.reads f) where
-  by_file : (b : Bool) → IsSome (cond b (Some []) (s.reads g))
-  by_file true = refl
-  by_file false = there
+stay_created f s g bytes there = by_there (s.reads f) refl where
+  same : (o : Option (List ℕ)) → o ≡ Some bytes → (more : List ℕ) × (o ≡ Some (bytes ++ more))
+  same o is = ([], is ∙ ap (λ (x : List ℕ). Some x) (sym (append-nil bytes)))
 
-  by_there : (o : Option (List ℕ)) → IsSome ((created_by o f s).reads g)
-  by_there None = by_file (g == f)
-  by_there (Some bytes) = there
+  by_file : (b : Bool) → (g == f) ≡ b → s.reads f ≡ None → (more : List ℕ) × (cond b (Some []) (s.reads g) ≡ Some (bytes ++ more))
+  by_file true is none = let here = ap s.reads (eqb-true g f is) in absurd (let no : None ≡ Some bytes = sym none ∙ sym here ∙ there in cc)
+  by_file false is none = same (s.reads g) there
 
-stay_appended : (f : ℕ) (part bytes : List ℕ) (s : State) → FilesStay s.reads (partly_appended f part bytes s).reads
-stay_appended f part bytes s g there = by_there (s.reads f) where
-  by_file : (b : Bool) (x : List ℕ) → IsSome (cond b (Some x) (s.reads g))
-  by_file true x = refl
-  by_file false x = there
+  by_there : (o : Option (List ℕ)) → s.reads f ≡ o → (more : List ℕ) × ((created_by o f s).reads g ≡ Some (bytes ++ more))
+  by_there None none = by_file (g == f) refl none
+  by_there (Some before) some = same (s.reads g) there
 
-  by_there : (o : Option (List ℕ)) → IsSome ((partly_appended_by o f part bytes s).reads g)
-  by_there None = by_file (g == f) part
-  by_there (Some before) = by_file (g == f) (before ++ part)
+stay_appended : (f : ℕ) (part all : List ℕ) (s : State) → FilesStay s.reads (partly_appended f part all s).reads
+stay_appended f part all s g bytes there = by_there (s.reads f) refl where
+  same : (o : Option (List ℕ)) → o ≡ Some bytes → (more : List ℕ) × (o ≡ Some (bytes ++ more))
+  same o is = ([], is ∙ ap (λ (x : List ℕ). Some x) (sym (append-nil bytes)))
+
+  by_none : (b : Bool) → (g == f) ≡ b → s.reads f ≡ None → (more : List ℕ) × (cond b (Some part) (s.reads g) ≡ Some (bytes ++ more))
+  by_none true is none = let here = ap s.reads (eqb-true g f is) in absurd (let no : None ≡ Some bytes = sym none ∙ sym here ∙ there in cc)
+  by_none false is none = same (s.reads g) there
+
+  by_some : (b : Bool) (before : List ℕ) → (g == f) ≡ b → s.reads f ≡ Some before → (more : List ℕ) × (cond b (Some (before ++ part)) (s.reads g) ≡ Some (bytes ++ more))
+  by_some true before is some =
+      let both : Some before ≡ Some bytes = sym some ∙ ap s.reads (sym (eqb-true g f is)) ∙ there in
+      (part, ap (λ (o : Option (List ℕ)). Some (unwrap_or o [] ++ part)) both)
+  by_some false before is some = same (s.reads g) there
+
+  by_there : (o : Option (List ℕ)) → s.reads f ≡ o → (more : List ℕ) × ((partly_appended_by o f part all s).reads g ≡ Some (bytes ++ more))
+  by_there None none = by_none (g == f) refl none
+  by_there (Some before) some = by_some (g == f) before refl some
 
 pub stay_part : (f : ℕ) (bytes : List ℕ) (s t : State) → IsPartOfAppend f bytes s t → FilesStay s.reads t.reads
 stay_part f bytes s t (inl same) = stay_same s.reads t.reads (ap (λ (x : State). x.reads) same)

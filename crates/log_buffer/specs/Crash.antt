@@ -1,5 +1,5 @@
 -- What a crash keeps of a log.
-use Rattle.std.specs.Prelude.{◌≡◌, ◌≢◌, ◌≤◌, ◌<◌, ◌+◌, ◌==◌, ◌⊎◌, ℕ, true, false, Option, Some, None, IsSome, unwrap_or, List, [], ◌∷◌, ◌++◌, length}
+use Rattle.std.specs.Prelude.{◌≡◌, ◌≢◌, ◌≤◌, ◌<◌, ◌+◌, ◌==◌, ◌⊎◌, ℕ, true, false, Option, Some, None, unwrap_or, List, [], ◌∷◌, ◌++◌, length}
 use Rattle.std.specs.Map.{lookup}
 use Rattle.je_disk.specs.States.{Files, CrashState, State, content}
 use Rattle.je_disk.specs.Moments.{History, Passes, now}
@@ -73,16 +73,16 @@ pub record KeepsRead (log removed : Log) (least : ℕ) (state : State) : Type 0 
   pub read : AreFileImages state.crash_states state.reads
   pub prefixes : HoldPrefixes log state.reads
 
--- each file that was there is there
+-- each file that was there is there, and begins with the bytes that it had
 abbrev pub FilesStay : Files → Files → Type 0
-FilesStay before after = (f : ℕ) → IsSome (before f) → IsSome (after f)
+FilesStay before after = (f : ℕ) (bytes : List ℕ) → before f ≡ Some bytes → (more : List ℕ) × (after f ≡ Some (bytes ++ more))
 
--- the same, and each file of before is there
+-- the same, and each file of before is there, no shorter
 pub record IsKeptSince (log removed : Log) (least : ℕ) (before : Files) (state : State) : Type 0 where
   pub kept : KeepsRead log removed least state
   pub stay : FilesStay before state.reads
 
--- at each moment since, a crash keeps at least so many of the log's entries, and each file is there that was there before
+-- at each moment since, a crash keeps at least so many of the log's entries, and each file that was there before is there, no shorter
 abbrev pub KeptThrough : History → History → Log → Log → ℕ → Type 0
 KeptThrough old new log removed least = Passes old new (IsKeptSince log removed least (now old).reads)
 

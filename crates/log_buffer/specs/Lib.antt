@@ -9,4 +9,5 @@ pub mod Chance
 pub mod Writing
 pub mod Zeros
 pub mod Growth
+pub mod Written
 pub mod Laws

@@ -2,6 +2,7 @@
 ghost use Rattle.log_buffer.specs.Chance.{AppendedHaveNoChance, CutsHaveNoChance, CutsKeep, KeptIsLeft, ReadsHaveNoChance};
 ghost use Rattle.log_buffer.specs.Growth.{GrewNone, GrewUnchanged, GrewThen, TriedThen, TriedMore};
 ghost use Rattle.log_buffer.specs.Laws.{AppendedIsLast, AppendedIsPlaced, AppendedArePlaced, AreBounded, NeverFalls, AppendsJoin};
+ghost use Rattle.log_buffer.specs.Written.{AllAreWritten, WrittenAreFirst, WrittenGrow, WrittenStay};
 ghost use Rattle.log_buffer.specs.Zeros.{ZerosAreTorn, ZerosHaveNoChance};
 
 use je_disk::Disk;
@@ -50,4 +51,13 @@ pub fn kept_is_left()
 pub fn zeros_are_torn()
     ensures torn { ZerosAreTorn }
     ensures chance { ZerosHaveNoChance }
+{}
+
+/// Entries that were written are read from then on, whatever is appended behind them and whatever fault the disk
+/// meets: each file that was there stays, and begins with the bytes that it had.
+pub fn written_entries_stay()
+    ensures all { AllAreWritten }
+    ensures stay { WrittenStay }
+    ensures grow { WrittenGrow }
+    ensures first { WrittenAreFirst }
 {}

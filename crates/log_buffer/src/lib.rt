@@ -23,5 +23,8 @@ pub mod writing;
 
 pub use buffer::LogBuffer;
 pub use error::LogErr;
-pub use laws::{entries_go_last, files_are_bounded, kept_is_left, logs_grow, zeros_are_torn};
+pub use laws::{
+    entries_go_last, files_are_bounded, kept_is_left, logs_grow, written_entries_stay,
+    zeros_are_torn,
+};
 pub use log_pos::LogPos;

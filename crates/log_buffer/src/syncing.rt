@@ -1,10 +1,10 @@
 // Syncs, and the end of a buffer.
-ghost use Rattle.std.specs.Prelude.{◌≡◌, ◌≤◌, [], ℕ, true, false, Option, Some, None, length, OnOk, OnErr, IfOk, IsErrOf};
+ghost use Rattle.std.specs.Prelude.{◌≡◌, ◌≤◌, [], ℕ, List, true, false, Option, Some, None, length, OnOk, OnErr, IfOk, IsErrOf};
 ghost use Rattle.je_order.specs.Counts.{HasRisen};
 ghost use Rattle.je_disk.specs.Moments.{now, Passes};
 ghost use Rattle.je_disk.specs.States.{synced, synced_crash_states, IsEither};
 ghost use Rattle.log_file.specs.Log.{Log, entries_of};
-ghost use Rattle.log_buffer.specs.Buffer.{disk_of, first_of, end_of, last_of, file_max_of, has_failed, IsWritten, KeepsUnwritten};
+ghost use Rattle.log_buffer.specs.Buffer.{disk_of, first_of, end_of, last_of, file_max_of, has_failed, HasRoom, IsWritten, KeepsUnwritten};
 ghost use Rattle.log_buffer.specs.Log.{HasLog, ReadAs};
 ghost use Rattle.log_buffer.specs.Crash.{KeepsRead, Holds, KeptThrough};
 ghost use Rattle.log_buffer.specs.Growth.{SameJobs};
@@ -27,6 +27,7 @@ impl<D: Disk> LogBuffer<D> {
             → OnOk result (Holds log removed least (Some (length (entries_of log))) (first_of self.new) (now (D.history (disk_of self.new)))) }
         ensures end { end_of self.new ≡ end_of self.old }
         ensures last { last_of self.new ≡ last_of self.old }
+        ensures room { (sizes : List ℕ) → HasRoom self.old sizes → OnOk result (HasRoom self.new sizes) }
         ensures file_max { file_max_of self.new ≡ file_max_of self.old }
         ensures by_fault { FailsByFault result }
         ensures cause { HasLogCause (has_failed self.old) (has_failed self.new) (D.faults (disk_of self.old)) (D.faults (disk_of self.new)) result }

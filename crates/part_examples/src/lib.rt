@@ -20,6 +20,8 @@ mod disks;
 #[cfg(test)]
 mod due;
 #[cfg(test)]
+mod durabilities;
+#[cfg(test)]
 mod entries;
 #[cfg(test)]
 mod files;

@@ -3,7 +3,7 @@ use crate::rows::first_wrong;
 use je_order::{Octets, Word};
 use script_text::{ParseErr, parse};
 use std::alloc::{AllocError, Global};
-use store_model::{Call, Kind, PutMode, ScriptLine};
+use store_model::{Call, Durability, Isolation, Kind, PutMode, ScriptLine};
 
 // A call on the database t, at a line of the script below.
 fn catalog_call(alloc: Global, line: u32) -> Result<Call, AllocError> {
@@ -56,11 +56,40 @@ fn record_call(alloc: Global, line: u32) -> Result<Call, AllocError> {
     })
 }
 
+// A call of a transaction: each word of a begin at least once.
+fn txn_call(line: u32) -> Call {
+    match line {
+        13 => Call::Begin {
+            level: Isolation::ReadUncommitted,
+            durability: Durability::Sync,
+            wait: true,
+        },
+        14 => Call::Begin {
+            level: Isolation::ReadCommitted,
+            durability: Durability::WriteNoSync,
+            wait: false,
+        },
+        15 => Call::Begin {
+            level: Isolation::RepeatableRead,
+            durability: Durability::NoSync,
+            wait: true,
+        },
+        16 => Call::Begin {
+            level: Isolation::Serializable,
+            durability: Durability::Sync,
+            wait: false,
+        },
+        17 => Call::Commit,
+        _ => Call::Abort,
+    }
+}
+
 // The calls of the script below, which starts with line 3.
 fn call_at(alloc: Global, line: u32) -> Result<Call, AllocError> {
     match line {
         3 | 9 | 10 | 11 => catalog_call(alloc, line),
         12 => Ok(Call::List),
+        13..=18 => Ok(txn_call(line)),
         _ => record_call(alloc, line),
     }
 }
@@ -77,7 +106,7 @@ fn is_given(alloc: Global, given: &ScriptLine, session: u8, line: u32) -> Result
 }
 
 // The lines that have a call, and the session of each.
-static LINES: [(u8, u32); 10] = [
+static LINES: [(u8, u32); 16] = [
     (1, 3),
     (64, 4),
     (9, 5),
@@ -88,6 +117,12 @@ static LINES: [(u8, u32); 10] = [
     (4, 10),
     (5, 11),
     (6, 12),
+    (7, 13),
+    (8, 14),
+    (9, 15),
+    (10, 16),
+    (11, 17),
+    (12, 18),
 ];
 
 // Whether those are the calls.
@@ -102,7 +137,7 @@ fn are_given(alloc: Global, lines: &[ScriptLine]) -> Result<bool, AllocError> {
 // Each form, in a script with a comment, an empty line and no feed at its end.
 fn reads_forms(alloc: Global) -> Result<bool, ParseErr> {
     let text =
-        b"# a test\n\ns1 create t plain\ns64 put t 00fF -\ns9 get t 0a\ns10 get t - rmw\ns2 delete t aB\ns2 putno t ab -\ns3 remove t\ns4 truncate t\ns5 rename t u\ns6 list";
+        b"# a test\n\ns1 create t plain\ns64 put t 00fF -\ns9 get t 0a\ns10 get t - rmw\ns2 delete t aB\ns2 putno t ab -\ns3 remove t\ns4 truncate t\ns5 rename t u\ns6 list\ns7 begin ru sync wait\ns8 begin rc wsync nowait\ns9 begin rr nosync wait\ns10 begin ser sync nowait\ns11 commit\ns12 abort";
     let plan = parse(alloc, text)?;
     let same = are_given(alloc, plan.lines.as_slice());
     drop(plan);
@@ -115,7 +150,7 @@ fn reads_each_form(rt: HostRuntime) {
 }
 
 // Scripts with a bad line, and the number of the first one.
-static BAD: [(&[u8], u32); 26] = [
+static BAD: [(&[u8], u32); 37] = [
     (b" ", 1),
     (b"\n\ns1 lists", 3),
     (b"s1 list t", 1),
@@ -141,6 +176,17 @@ static BAD: [(&[u8], u32); 26] = [
     (b"s1 put t  00", 1),
     (b"s1 get t 00 rmx", 1),
     (b"s1", 1),
+    (b"s1 begin", 1),
+    (b"s1 begin rr", 1),
+    (b"s1 begin rr sync", 1),
+    (b"s1 begin rr sync wait now", 1),
+    (b"s1 begin RR sync wait", 1),
+    (b"s1 begin si sync wait", 1),
+    (b"s1 begin rr async wait", 1),
+    (b"s1 begin rr wait sync", 1),
+    (b"s1 begin rr sync waits", 1),
+    (b"s1 commit now", 1),
+    (b"s1 abort t", 1),
     (b"s1 create t plain\ns1 delete t\ns1", 2),
 ];
 

@@ -106,6 +106,7 @@ pub trait Records {
         ensures cells { (d : ℕ) → cells self.new d ≡ (if d == db then [] else cells self.old d) }
         ensures trees { (d : ℕ) → has_tree self.new d ≡ (if d == db then false else has_tree self.old d) }
         ensures grew { grew self.old self.new [] }
+        ensures left { (owed : ℕ) → has_room self.old owed → has_room self.new owed }
         ensures waits { waits self.new ≤ waits self.old };
 
     /// A database without a tree has no records.

@@ -10,5 +10,7 @@ mod PlanCalls
 mod BufferedText
 -- Which calls wait, along a journal.
 mod WaitingCalls
+-- Which transactions have changed something, and how many commits there are, along a journal.
+mod CommitCounts
 -- What the words of a get spell.
 mod GetCalls

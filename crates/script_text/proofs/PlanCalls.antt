@@ -5,9 +5,11 @@ use Rattle.std.specs.List.{list_all}
 use Rattle.std.specs.Str.{bytes_eq}
 use Rattle.std.proofs.lemmas.Bool.{and_parts, and_from}
 use Rattle.je_order.specs.Words.{is_word}
+use Rattle.store_model.specs.declared.isolation.Isolation.{Isolation}
+use Rattle.store_model.specs.declared.durability.Durability.{Durability}
 use Rattle.store_model.specs.declared.kind.Kind.TheVariants.{Plain}
 use Rattle.store_model.specs.declared.call.Call.{Call}
-use Rattle.store_model.specs.declared.call.Call.TheVariants.{List as Lists, Create, Remove, Rename, Truncate, Put, Get, Delete}
+use Rattle.store_model.specs.declared.call.Call.TheVariants.{Begin, Commit, Abort, List as Lists, Create, Remove, Rename, Truncate, Put, Get, Delete}
 use Rattle.store_model.specs.declared.put_mode.PutMode.{PutMode}
 use Rattle.store_model.specs.declared.put_mode.PutMode.TheVariants.{Overwrite, NoOverwrite, NoDupData}
 use Rattle.store_model.specs.declared.plan.ScriptLine.{ScriptLine}
@@ -16,7 +18,7 @@ use Rattle.store_model.specs.declared.plan.RunPlan.{RunPlan}
 use Rattle.script_text.specs.declared.parsing.TheConstants.{MOST_LINES}
 use Rattle.script_text.specs.declared.parsing.ParseErr.{ParseErr}
 use Rattle.script_text.specs.Words.{words_of}
-use Rattle.script_text.specs.Grammar.{text_lines, session_of, bytes_of, list_of, create_of, remove_of, rename_of, truncate_of, put_call, put_of, get_call, get_of, delete_call, delete_of, call_of, given_by, given_of, is_skipped, good_or_bad, line_gives, and_then, lines_give, as_plan, plan_of, Gives, has_line, is_line}
+use Rattle.script_text.specs.Grammar.{text_lines, session_of, bytes_of, level_of, durability_of, wait_of, begin_call, begin_of, commit_of, abort_of, list_of, create_of, remove_of, rename_of, truncate_of, put_call, put_of, get_call, get_of, delete_call, delete_of, call_of, given_by, given_of, is_skipped, good_or_bad, line_gives, and_then, lines_give, as_plan, plan_of, Gives, has_line, is_line}
 
 -- ---- calls
 
@@ -32,6 +34,27 @@ none_made got e = cc
 either : (b : Bool) (one other : Option Call) (got : Call) → (one ≡ Some got → has_line got ≡ true) → (other ≡ Some got → has_line got ≡ true) → cond b one other ≡ Some got → has_line got ≡ true
 either true one other got h k e = h e
 either false one other got h k e = k e
+
+begin_call_scripted : (level : Option Isolation) (durability : Option Durability) (wait : Option Bool) (got : Call) → begin_call level durability wait ≡ Some got → has_line got ≡ true
+begin_call_scripted (Some level) (Some durability) (Some wait) got e = made (Begin level durability wait) got refl e
+begin_call_scripted None durability wait got e = none_made got e
+begin_call_scripted (Some level) None wait got e = none_made got e
+begin_call_scripted (Some level) (Some durability) None got e = none_made got e
+
+begin_scripted : (words : List (List ℕ)) (got : Call) → begin_of words ≡ Some got → has_line got ≡ true
+begin_scripted [] got e = none_made got e
+begin_scripted (level ∷ []) got e = none_made got e
+begin_scripted (level ∷ durability ∷ []) got e = none_made got e
+begin_scripted (level ∷ durability ∷ wait ∷ []) got e = begin_call_scripted (level_of level) (durability_of durability) (wait_of wait) got e
+begin_scripted (level ∷ durability ∷ wait ∷ more ∷ words) got e = none_made got e
+
+commit_scripted : (words : List (List ℕ)) (got : Call) → commit_of words ≡ Some got → has_line got ≡ true
+commit_scripted [] got e = made Commit got refl e
+commit_scripted (word ∷ words) got e = none_made got e
+
+abort_scripted : (words : List (List ℕ)) (got : Call) → abort_of words ≡ Some got → has_line got ≡ true
+abort_scripted [] got e = made Abort got refl e
+abort_scripted (word ∷ words) got e = none_made got e
 
 list_scripted : (words : List (List ℕ)) (got : Call) → list_of words ≡ Some got → has_line got ≡ true
 list_scripted [] got e = made Lists got refl e
@@ -111,7 +134,10 @@ delete_scripted (db ∷ key ∷ more ∷ words) got e = none_made got e
 
 call_scripted : (verb : List ℕ) (words : List (List ℕ)) (got : Call) → call_of verb words ≡ Some got → has_line got ≡ true
 call_scripted verb words got e =
-    either (bytes_eq verb (codes "list")) (list_of words) _ got (λ s. list_scripted words got s)
+    either (bytes_eq verb (codes "begin")) (begin_of words) _ got (λ s. begin_scripted words got s)
+    (either (bytes_eq verb (codes "commit")) (commit_of words) _ got (λ s. commit_scripted words got s)
+    (either (bytes_eq verb (codes "abort")) (abort_of words) _ got (λ s. abort_scripted words got s)
+    (either (bytes_eq verb (codes "list")) (list_of words) _ got (λ s. list_scripted words got s)
     (either (bytes_eq verb (codes "create")) (create_of words) _ got (λ s. create_scripted words got s)
     (either (bytes_eq verb (codes "remove")) (remove_of words) _ got (λ s. remove_scripted words got s)
     (either (bytes_eq verb (codes "rename")) (rename_of words) _ got (λ s. rename_scripted words got s)
@@ -119,7 +145,7 @@ call_scripted verb words got e =
     (either (bytes_eq verb (codes "put")) (put_of Overwrite words) _ got (λ s. put_scripted Overwrite words got tt s)
     (either (bytes_eq verb (codes "putno")) (put_of NoOverwrite words) _ got (λ s. put_scripted NoOverwrite words got tt s)
     (either (bytes_eq verb (codes "get")) (get_of words) _ got (λ s. get_scripted words got s)
-    (either (bytes_eq verb (codes "delete")) (delete_of words) None got (λ s. delete_scripted words got s) (λ n. none_made got n))))))))) e
+    (either (bytes_eq verb (codes "delete")) (delete_of words) None got (λ s. delete_scripted words got s) (λ n. none_made got n)))))))))))) e
 
 -- ---- lines
 

@@ -5,11 +5,15 @@ use Rattle.std.specs.Str.{bytes_eq}
 use Rattle.hex.specs.Hex.{decode_of}
 use Rattle.hex.specs.declared.error.FromHexError.{FromHexError}
 use Rattle.je_order.specs.Words.{is_word}
+use Rattle.store_model.specs.declared.isolation.Isolation.{Isolation}
+use Rattle.store_model.specs.declared.isolation.Isolation.TheVariants.{ReadUncommitted, ReadCommitted, RepeatableRead, Serializable}
+use Rattle.store_model.specs.declared.durability.Durability.{Durability}
+use Rattle.store_model.specs.declared.durability.Durability.TheVariants.{Sync, WriteNoSync, NoSync}
 use Rattle.store_model.specs.declared.kind.Kind.TheVariants.{Plain}
 use Rattle.store_model.specs.declared.put_mode.PutMode.{PutMode}
 use Rattle.store_model.specs.declared.put_mode.PutMode.TheVariants.{Overwrite, NoOverwrite}
 use Rattle.store_model.specs.declared.call.Call.{Call}
-use Rattle.store_model.specs.declared.call.Call.TheVariants.{List as Lists, Create, Remove, Rename, Truncate, Put, Get, Delete}
+use Rattle.store_model.specs.declared.call.Call.TheVariants.{Begin, Commit, Abort, List as Lists, Create, Remove, Rename, Truncate, Put, Get, Delete}
 use Rattle.store_model.specs.declared.plan.ScriptLine.{ScriptLine}
 use Rattle.store_model.specs.declared.plan.ScriptLine.TheVariants.{Session, Maintenance}
 use Rattle.store_model.specs.declared.plan.RunPlan.{RunPlan}
@@ -50,6 +54,46 @@ bytes_of word =
     if bytes_eq word (codes "-") then Some []
     else if length word == 0 then None
     else decoded_bytes (decode_of word)
+
+-- `begin LEVEL DURABILITY WAIT`, each one of its words
+abbrev pub level_of : List ℕ → Option Isolation
+level_of word =
+    if bytes_eq word (codes "ru") then Some ReadUncommitted
+    else if bytes_eq word (codes "rc") then Some ReadCommitted
+    else if bytes_eq word (codes "rr") then Some RepeatableRead
+    else if bytes_eq word (codes "ser") then Some Serializable
+    else None
+
+abbrev pub durability_of : List ℕ → Option Durability
+durability_of word =
+    if bytes_eq word (codes "sync") then Some Sync
+    else if bytes_eq word (codes "wsync") then Some WriteNoSync
+    else if bytes_eq word (codes "nosync") then Some NoSync
+    else None
+
+abbrev pub wait_of : List ℕ → Option Bool
+wait_of word =
+    if bytes_eq word (codes "wait") then Some true
+    else if bytes_eq word (codes "nowait") then Some false
+    else None
+
+abbrev pub begin_call : Option Isolation → Option Durability → Option Bool → Option Call
+begin_call (Some level) (Some durability) (Some wait) = Some (Begin level durability wait)
+begin_call level durability wait = None
+
+abbrev pub begin_of : List (List ℕ) → Option Call
+begin_of (level ∷ durability ∷ wait ∷ []) = begin_call (level_of level) (durability_of durability) (wait_of wait)
+begin_of words = None
+
+-- `commit`
+abbrev pub commit_of : List (List ℕ) → Option Call
+commit_of [] = Some Commit
+commit_of words = None
+
+-- `abort`
+abbrev pub abort_of : List (List ℕ) → Option Call
+abort_of [] = Some Abort
+abort_of words = None
 
 -- `list`
 abbrev pub list_of : List (List ℕ) → Option Call
@@ -113,7 +157,10 @@ delete_of words = None
 -- a call is one of these forms
 abbrev pub call_of : List ℕ → List (List ℕ) → Option Call
 call_of verb words =
-    if bytes_eq verb (codes "list") then list_of words
+    if bytes_eq verb (codes "begin") then begin_of words
+    else if bytes_eq verb (codes "commit") then commit_of words
+    else if bytes_eq verb (codes "abort") then abort_of words
+    else if bytes_eq verb (codes "list") then list_of words
     else if bytes_eq verb (codes "create") then create_of words
     else if bytes_eq verb (codes "remove") then remove_of words
     else if bytes_eq verb (codes "rename") then rename_of words
@@ -151,6 +198,9 @@ line_gives line text =
 
 -- whether the grammar has a line for a call; the others cannot be asked for by a script yet
 abbrev pub has_line : Call → Bool
+has_line (Begin level durability wait) = true
+has_line Commit = true
+has_line Abort = true
 has_line Lists = true
 has_line (Create db Plain) = true
 has_line (Remove db) = true

@@ -1,5 +1,6 @@
 -- The text of a report (this project's own).
-use Rattle.std.specs.Prelude.{ℕ, ◌≡◌, ◌==◌, ◌++◌, ◌∷◌, [], List, Bool, false, ◌||◌, nat_le, Option, Some, None, unwrap_or, codes, decimal, count_by, position, take, drop, if◌then◌else◌}
+use Rattle.std.specs.Prelude.{ℕ, ◌+◌, ◌≡◌, ◌==◌, ◌&&◌, ◌++◌, ◌∷◌, [], List, Bool, true, false, ◌||◌, nat_le, Option, Some, None, unwrap_or, codes, decimal, position, take, drop, if◌then◌else◌}
+use Rattle.std.specs.Option.{is_some}
 use Rattle.std.specs.List.{list_all, list_any, flat_map}
 use Rattle.hex.specs.Hex.{encode_lower}
 use Rattle.je_order.specs.declared.txn_id.TxnId.{TxnId}
@@ -8,9 +9,9 @@ use Rattle.je_order.specs.declared.bound.Bound.TheVariants.{At as On, End as AtE
 use Rattle.store_model.specs.declared.kind.Kind.{Kind}
 use Rattle.store_model.specs.declared.kind.Kind.TheVariants.{Plain, Dup}
 use Rattle.store_model.specs.declared.durability.Durability.{Durability}
-use Rattle.store_model.specs.declared.durability.Durability.TheVariants.{Sync}
+use Rattle.store_model.specs.declared.durability.Durability.TheVariants.{Sync, NoSync}
 use Rattle.store_model.specs.declared.call.Call.{Call}
-use Rattle.store_model.specs.declared.call.Call.TheVariants.{Begin, Commit}
+use Rattle.store_model.specs.declared.call.Call.TheVariants.{Begin, Commit, Put, Delete, CPutCur, CDel, CPut}
 use Rattle.store_model.specs.declared.lock_target.LockTarget.{LockTarget}
 use Rattle.store_model.specs.declared.victim.Victim.{Victim}
 use Rattle.store_model.specs.declared.answer.Answer.{Answer}
@@ -262,11 +263,54 @@ abbrev pub events_text : List Event → List Event → List ℕ
 events_text before [] = []
 events_text before (event ∷ events) = event_text before event ++ events_text (before ++ event ∷ []) events
 
--- whether an event is a call that was logged
-abbrev pub is_logged_call : Event → Bool
-is_logged_call (Called session line call answer victims) = is_logged answer
-is_logged_call (Resume session line answer victims) = is_logged answer
-is_logged_call event = false
+-- ---- how many commits there were
+
+-- the calls that have changed something where they are answered Done
+abbrev pub changes_when_done : Call → Bool
+changes_when_done (Put db key value mode) = true
+changes_when_done (Delete db key) = true
+changes_when_done (CPutCur cursor value) = true
+changes_when_done (CDel cursor) = true
+changes_when_done (CPut cursor key value mode) = true
+changes_when_done call = false
+
+-- whether an event changed something in a session's transaction
+abbrev pub has_changed : ℕ → Event → Bool
+has_changed session (Called by line call Done victims) = (by == session) && changes_when_done call
+has_changed session (Resume by line Done victims) = by == session
+has_changed session event = false
+
+-- whether each session's last transaction has changed something, after one event more and after several
+abbrev pub none_changed : ℕ → Bool
+none_changed session = false
+
+abbrev pub changed_then : Event → (ℕ → Bool) → ℕ → Bool
+changed_then event changed session = if is_some (begins session event) then false else has_changed session event || changed session
+
+abbrev pub changed_after : (ℕ → Bool) → List Event → ℕ → Bool
+changed_after changed [] = changed
+changed_after changed (event ∷ events) = changed_after (changed_then event changed) events
+
+-- whether a commit waits for nothing
+abbrev pub is_no_sync : Durability → Bool
+is_no_sync NoSync = true
+is_no_sync durability = false
+
+-- whether a session's last transaction, after some events, has changes and its commit waits for nothing
+abbrev pub is_unlogged : List Event → ℕ → Bool
+is_unlogged before session = is_no_sync (begun_after none_begun before session) && changed_after none_changed before session
+
+-- whether an event that comes after others is the commit of changes: it was logged, or waits for nothing
+abbrev pub is_commit : List Event → Event → Bool
+is_commit before (Called session line Commit Done victims) = is_unlogged before session
+is_commit before (Called session line call answer victims) = is_logged answer
+is_commit before (Resume session line answer victims) = is_logged answer
+is_commit before event = false
+
+-- how many of the events that come after others are such commits
+abbrev pub commits_in : List Event → List Event → ℕ
+commits_in before [] = 0
+commits_in before (event ∷ events) = (if is_commit before event then 1 else 0) + commits_in (before ++ event ∷ []) events
 
 -- the last line
 abbrev pub end_line : ℕ → Totals → List ℕ
@@ -275,4 +319,4 @@ end_line commits totals =
 
 -- the report of a journal, and of what the final store holds
 abbrev pub report_text : List Event → Totals → List ℕ
-report_text events totals = events_text [] events ++ end_line (count_by is_logged_call events) totals
+report_text events totals = events_text [] events ++ end_line (commits_in [] events) totals

@@ -1,19 +1,25 @@
 // The forms of calls.
 ghost use Rattle.std.specs.Prelude.{◌≡◌, true, IfOk, if◌then◌else◌};
 ghost use Rattle.je_order.specs.Words.{is_word};
-ghost use Rattle.script_text.specs.Grammar.{call_of, list_of, create_of, remove_of, rename_of, truncate_of, put_call, put_of, get_of, get_call, rmw_of, delete_call, delete_of, bytes_of};
+ghost use Rattle.script_text.specs.Grammar.{call_of, begin_of, level_of, durability_of, wait_of, commit_of, abort_of, list_of, create_of, remove_of, rename_of, truncate_of, put_call, put_of, get_of, get_call, rmw_of, delete_call, delete_of, bytes_of};
 
 use crate::bytes::bytes_of;
 use crate::words::Words;
 use je_order::Word;
 use std::alloc::{AllocError, Global};
-use store_model::{Call, Kind, PutMode};
+use store_model::{Call, Durability, Isolation, Kind, PutMode};
 
 // The call that a verb and the words behind it spell, if they spell one.
 pub fn call_of(alloc: Global, verb: &[u8], words: Words) -> Result<Option<Call>, AllocError>
     ensures { IfOk result (λ call. call ≡ call_of verb.now words.entry) }
 {
-    if verb == b"list".as_slice() {
+    if verb == b"begin".as_slice() {
+        Ok(begin_of(words))
+    } else if verb == b"commit".as_slice() {
+        Ok(commit_of(words))
+    } else if verb == b"abort".as_slice() {
+        Ok(abort_of(words))
+    } else if verb == b"list".as_slice() {
         Ok(list_of(words))
     } else if verb == b"create".as_slice() {
         create_of(alloc, words)
@@ -33,6 +39,84 @@ pub fn call_of(alloc: Global, verb: &[u8], words: Words) -> Result<Option<Call>,
         delete_of(alloc, words)
     } else {
         Ok(None)
+    }
+}
+
+fn level_of(word: &[u8]) -> Option<Isolation>
+    ensures { result ≡ level_of word.now }
+{
+    if word == b"ru".as_slice() {
+        Some(Isolation::ReadUncommitted)
+    } else if word == b"rc".as_slice() {
+        Some(Isolation::ReadCommitted)
+    } else if word == b"rr".as_slice() {
+        Some(Isolation::RepeatableRead)
+    } else if word == b"ser".as_slice() {
+        Some(Isolation::Serializable)
+    } else {
+        None
+    }
+}
+
+fn durability_of(word: &[u8]) -> Option<Durability>
+    ensures { result ≡ durability_of word.now }
+{
+    if word == b"sync".as_slice() {
+        Some(Durability::Sync)
+    } else if word == b"wsync".as_slice() {
+        Some(Durability::WriteNoSync)
+    } else if word == b"nosync".as_slice() {
+        Some(Durability::NoSync)
+    } else {
+        None
+    }
+}
+
+fn wait_of(word: &[u8]) -> Option<bool>
+    ensures { result ≡ wait_of word.now }
+{
+    if word == b"wait".as_slice() {
+        Some(true)
+    } else if word == b"nowait".as_slice() {
+        Some(false)
+    } else {
+        None
+    }
+}
+
+fn begin_of(mut words: Words) -> Option<Call>
+    ensures { result ≡ begin_of words.entry }
+{
+    let level = words.next()?;
+    let durability = words.next()?;
+    let wait = words.next()?;
+    if words.next().is_some() {
+        return None;
+    }
+    Some(Call::Begin {
+        level: level_of(level)?,
+        durability: durability_of(durability)?,
+        wait: wait_of(wait)?,
+    })
+}
+
+fn commit_of(mut words: Words) -> Option<Call>
+    ensures { result ≡ commit_of words.entry }
+{
+    if words.next().is_some() {
+        None
+    } else {
+        Some(Call::Commit)
+    }
+}
+
+fn abort_of(mut words: Words) -> Option<Call>
+    ensures { result ≡ abort_of words.entry }
+{
+    if words.next().is_some() {
+        None
+    } else {
+        Some(Call::Abort)
     }
 }
 

@@ -7,6 +7,7 @@
 mod answer_texts;
 mod bytes;
 mod calls;
+mod counting;
 mod cutting;
 mod event_lines;
 mod lines;

@@ -1,19 +1,19 @@
 // Printing a report.
-ghost use Rattle.std.specs.Prelude.{◌≡◌, ◌<◌, ◌≤◌, ◌+◌, ◌++◌, [], length, take, drop, slice_get, Some, count_by, OnOk, OnErr};
+ghost use Rattle.std.specs.Prelude.{◌≡◌, ◌<◌, ◌≤◌, ◌+◌, ◌++◌, [], length, take, drop, slice_get, Some, OnOk, OnErr};
 ghost use Rattle.std.specs.List.{flat_map};
 ghost use Rattle.je_order.specs.Counts.{HasRisen};
 ghost use Rattle.je_io.specs.Sink.{Gains, GainsPart};
 ghost use Rattle.script_text.specs.OutBuffer.{Adds, point};
-ghost use Rattle.store_model.specs.Journal.{is_logged};
-ghost use Rattle.script_text.specs.Report.{end_line, NoneWaits, event_text, events_text, is_logged_call, none_begun, report_text, settled_line, waiting_after, waiting_if};
+ghost use Rattle.script_text.specs.Report.{end_line, NoneWaits, event_text, events_text, none_begun, report_text, settled_line, waiting_after, waiting_if};
 
+use crate::counting::commits_of;
 use crate::event_lines::{put_own_line, put_victims};
 use crate::logged_call::LoggedCall;
 use crate::out_buffer::OutBuffer;
 use crate::texts::{put_line, put_number};
 use crate::waiting::{first_waiting, is_settled, logged_call, may_settle, settles, settling_text};
 use je_io::{Failed, Sink};
-use store_model::{Answer, Event, Totals};
+use store_model::{Event, Totals};
 
 /// Prints the report of a journal: a line for each answer to a call or a step, those of an event's
 /// victims behind its own, and the last line with the number of commits and what the final store holds. It takes no memory. `Failed` is a fault of the
@@ -35,34 +35,6 @@ pub fn report<K: Sink>(events: &[Event], totals: &Totals, out: &mut K) -> Result
     } else {
         Ok(())
     }
-}
-
-fn is_logged(answer: &Answer) -> bool
-    ensures { result ≡ is_logged answer.now }
-{
-    matches!(answer, Answer::Logged { .. })
-}
-
-fn is_logged_call(event: &Event) -> bool
-    ensures { result ≡ is_logged_call event.now }
-{
-    match event {
-        Event::Call { answer, .. } => is_logged(answer),
-        Event::Resume { answer, .. } => is_logged(answer),
-        _ => false,
-    }
-}
-
-fn commits_of(events: &[Event]) -> usize
-    ensures { result ≡ count_by is_logged_call events.now }
-{
-    let mut commits = 0;
-    for event in events {
-        if is_logged_call(event) {
-            commits += 1;
-        }
-    }
-    commits
 }
 
 fn put_end<K: Sink>(buffer: &mut OutBuffer, out: &mut K, commits: usize, totals: &Totals)

@@ -10,7 +10,7 @@ use crate::logged_call::LoggedCall;
 use store_model::{Answer, Call, Durability, Event};
 
 // The durability with which an event begins a session's transaction, if it does.
-fn begins(session: u8, event: &Event) -> Option<Durability>
+pub fn begins(session: u8, event: &Event) -> Option<Durability>
     ensures { result ≡ begins session event.now }
 {
     match event {
@@ -31,7 +31,7 @@ fn begins(session: u8, event: &Event) -> Option<Durability>
 }
 
 // The one with which the session's last transaction was begun.
-fn begun_by(events: &[Event], session: u8) -> Durability
+pub fn begun_by(events: &[Event], session: u8) -> Durability
     ensures { result ≡ begun_after none_begun events.now session }
 {
     let mut left = events.len();

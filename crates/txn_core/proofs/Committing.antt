@@ -1,5 +1,5 @@
 -- The names of changes, and what they have once these are committed.
-use Rattle.std.proofs.Common.{◌≡◌, ◌||◌, ◌∙◌, ℕ, List, [], ◌∷◌, ◌++◌, Bool, true, false, cond, Option, None, Some, is_some, find, reverse, refl, ap, sym, subst, Result, Ok, Err, OnOk, OnErr, ◌+◌, ◌≤◌, length, arith}
+use Rattle.std.proofs.Common.{◌≡◌, ◌||◌, ◌∙◌, ℕ, zero, suc, List, [], ◌∷◌, ◌++◌, Bool, true, false, cond, Option, None, Some, is_some, find, reverse, refl, ap, sym, subst, Result, Ok, Err, OnOk, OnErr, ◌+◌, ◌≤◌, length, arith}
 use Rattle.std.specs.List.{AllByRecursion}
 use Rattle.std.specs.Option.{option_or}
 use Rattle.std.proofs.lemmas.List.{reverse-append, append_assoc, length-append}
@@ -14,7 +14,7 @@ use Rattle.record_tree.specs.declared.tree_err.TreeErr.{TreeErr}
 use Rattle.record_tree.specs.Logged.{IsEndOf, LogsChanges, LogsTransaction, IsFront, is_change_of, last_change, value_changed}
 use Rattle.record_tree.specs.Occupied.{Occupied, AllCells, AreWritten, IsWritten, IsFreeFor, value_in, write_in, value_after, after_commit, if_occupied, is_among}
 use Rattle.txn_core.specs.Known.{IsQuiet}
-use Rattle.txn_core.specs.Transactions.{is_gone, changed_names, IsCommittedAmong, HasCommitted}
+use Rattle.txn_core.specs.Transactions.{is_gone, changed_names, IsCommittedAmong, HasCommitted, LeavesWrites}
 
 -- ---- the names of changes
 
@@ -58,7 +58,7 @@ write_committed None = refl
 write_committed (Some o) = write_gone (value_after o.value o.write)
 
 -- a name with the changes of a transaction, once these are committed
-module _ (txn : TxnId) (last : Option TreeChange) (old mid : Option Occupied) (free : write_in old ≡ None) (written : IsWritten last txn (write_in old) (write_in mid)) where
+module _ (txn : TxnId) (last : Option TreeChange) (old mid : Option Occupied) (written : IsWritten last txn (write_in old) (write_in mid)) where
   value_then : value_in mid ≡ value_in old → value_in (cond (is_some last) (after_commit mid) mid) ≡ value_changed last (value_in old)
   value_then same = by_last last written
     where
@@ -66,15 +66,15 @@ module _ (txn : TxnId) (last : Option TreeChange) (old mid : Option Occupied) (f
       by_last None is = same
       by_last (Some c) is = value_committed mid ∙ ap (value_after (value_in mid)) is.1
 
-  write_then : write_in (cond (is_some last) (after_commit mid) mid) ≡ None
+  write_then : write_in (cond (is_some last) (after_commit mid) mid) ≡ cond (is_some last) None (write_in old)
   write_then = by_last last written
     where
-      by_last : (l : Option TreeChange) → IsWritten l txn (write_in old) (write_in mid) → write_in (cond (is_some l) (after_commit mid) mid) ≡ None
-      by_last None is = is ∙ free
+      by_last : (l : Option TreeChange) → IsWritten l txn (write_in old) (write_in mid) → write_in (cond (is_some l) (after_commit mid) mid) ≡ cond (is_some l) None (write_in old)
+      by_last None is = is
       by_last (Some c) is = write_committed mid
 
 -- cells with the changes of a transaction, once these are committed and a database is gone
-module _ (txn : TxnId) (changes : List TreeChange) (gone : Option ℕ) (old mid new : AllCells) (quiet : IsQuiet old) (written : AreWritten txn changes old mid)
+module _ (txn : TxnId) (changes : List TreeChange) (gone : Option ℕ) (old mid new : AllCells) (written : AreWritten txn changes old mid)
     (committed : IsCommittedAmong (changed_names changes) gone mid new) where
   here : (d : ℕ) (x : Name) → value_at x (new d) ≡ cond (is_gone d gone) None (cond (is_some (last_change d x changes)) (after_commit (value_at x (mid d))) (value_at x (mid d)))
   here d x = committed d x ∙ ap (λ (t : Bool). cond (is_gone d gone) None (cond t (after_commit (value_at x (mid d))) (value_at x (mid d)))) (among_changes d x changes)
@@ -84,14 +84,23 @@ module _ (txn : TxnId) (changes : List TreeChange) (gone : Option ℕ) (old mid 
     where
       by_test : (t : Bool) → value_in (cond t None (cond (is_some (last_change d x changes)) (after_commit (value_at x (mid d))) (value_at x (mid d)))) ≡ cond t None (value_changed (last_change d x changes) (value_in (value_at x (old d))))
       by_test true = refl
-      by_test false = value_then txn (last_change d x changes) (value_at x (old d)) (value_at x (mid d)) (quiet d x) (written.writes d x) (written.values d x)
+      by_test false = value_then txn (last_change d x changes) (value_at x (old d)) (value_at x (mid d)) (written.writes d x) (written.values d x)
 
-  pub quiet_then : IsQuiet new
-  quiet_then d x = ap write_in (here d x) ∙ by_test (is_gone d gone)
+  pub writes_then : LeavesWrites changes gone old new
+  writes_then d x = ap write_in (here d x) ∙ by_test (is_gone d gone)
     where
-      by_test : (t : Bool) → write_in (cond t None (cond (is_some (last_change d x changes)) (after_commit (value_at x (mid d))) (value_at x (mid d)))) ≡ None
+      by_test : (t : Bool) → write_in (cond t None (cond (is_some (last_change d x changes)) (after_commit (value_at x (mid d))) (value_at x (mid d))))
+          ≡ cond t None (cond (is_some (last_change d x changes)) None (write_in (value_at x (old d))))
       by_test true = refl
-      by_test false = write_then txn (last_change d x changes) (value_at x (old d)) (value_at x (mid d)) (quiet d x) (written.writes d x)
+      by_test false = write_then txn (last_change d x changes) (value_at x (old d)) (value_at x (mid d)) (written.writes d x)
+
+  pub quiet_then : IsQuiet old → IsQuiet new
+  quiet_then quiet d x = writes_then d x ∙ none (is_gone d gone) (is_some (last_change d x changes))
+    where
+      none : (s t : Bool) → cond s None (cond t None (write_in (value_at x (old d)))) ≡ None
+      none true t = refl
+      none false true = refl
+      none false false = quiet d x
 
 -- ---- what is logged
 
@@ -117,6 +126,16 @@ pub front_behind : (entries front more : List Entry) → IsFront front more → 
 front_behind entries front more is = (is.0, append_assoc entries front is.0 ∙ ap (λ (l : List Entry). entries ++ l) is.1)
 
 -- ---- how a call ended
+
+-- room for the Commits that are left
+pub room_then : {X Y : Type 0} (has_room : ℕ → Type 0) (r : Result X Y) (owed : ℕ) → ((n : ℕ) → owed ≡ suc n → OnOk r (has_room n)) → OnOk r ((n : ℕ) → owed ≡ suc n → has_room n)
+room_then has_room (Ok x) owed each = each
+room_then has_room (Err y) owed each = tt
+
+-- as many as one and some more
+pub more_than : (owed : ℕ) → 1 ≤ owed → (n : ℕ) × (owed ≡ suc n)
+more_than zero some = absurd (omega (arith, some))
+more_than (suc n) some = (n, refl)
 
 pub ok_then : {X Y P Q : Type 0} (r : Result X Y) → (P → Q) → OnOk r P → OnOk r Q
 ok_then (Ok x) f h = f h

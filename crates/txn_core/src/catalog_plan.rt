@@ -75,8 +75,8 @@ fn changes_of(
     Ok(changes)
 }
 
-// The number of the database of that name, 0 where there is none.
-fn number_under<T: Records>(trees: &T, alloc: Global, db: &Word) -> Result<u32, AllocError>
+/// The number of the database of that name, 0 where there is none.
+pub fn number_under<T: Records>(trees: &T, alloc: Global, db: &Word) -> Result<u32, AllocError>
     ensures { IfOk result (λ number. number ≡ number_named (committed (T.cells trees.now)) db.now) }
 {
     let name = plain_name(alloc, db)?;

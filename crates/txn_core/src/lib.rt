@@ -8,18 +8,22 @@
 
 mod catalog_plan;
 mod catalog_rows;
-mod found_record;
-mod held_edge;
+mod finding;
+pub mod found_record;
+pub mod held_edge;
 mod planned;
 mod planned_changes;
 mod planning;
-mod reading;
+pub mod reading;
 mod record_plan;
 mod record_rows;
 mod transaction;
 mod walking;
 
+pub use catalog_plan::number_under;
+pub use finding::find;
 pub use planned::Planned;
 pub use planned_changes::PlannedChanges;
 pub use planning::plan;
+pub use record_plan::changes_of;
 pub use transaction::commit_changes;

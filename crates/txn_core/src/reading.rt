@@ -9,8 +9,8 @@ use node_core::Version;
 use record_map::{Cell, Data, EdgeRef, SortKey};
 use record_tree::Records;
 
-// The committed data in a cell, if a record is committed.
-fn committed_in(cell: &Cell) -> Option<&Data>
+/// The committed data in a cell, if a record is committed.
+pub fn committed_in(cell: &Cell) -> Option<&Data>
     ensures { option_map (λ d. d.now) result ≡ (occupied_by cell.now).value }
 {
     match cell.version {
@@ -30,8 +30,8 @@ fn cell_at<'a, T: Records>(trees: &'a T, db: u32, name: &SortKey) -> Option<&'a 
     }
 }
 
-// The first occupied name that is not below the edge.
-fn cell_from<'a, T: Records>(
+/// The first occupied name that is not below the edge.
+pub fn cell_from<'a, T: Records>(
     trees: &'a T,
     db: u32,
     from: EdgeRef<'_>,
@@ -45,8 +45,8 @@ fn cell_from<'a, T: Records>(
     }
 }
 
-// The last occupied name below the edge.
-fn cell_below<'a, T: Records>(
+/// The last occupied name below the edge.
+pub fn cell_below<'a, T: Records>(
     trees: &'a T,
     db: u32,
     upto: EdgeRef<'_>,

@@ -42,8 +42,8 @@ fn change_of(alloc: Global, number: u32, change: RecordChange) -> Result<TreeCha
     }
 }
 
-// The changes of the records of one database, as what is logged of them.
-fn changes_of(
+/// The changes of the records of one database, as what is logged of them.
+pub fn changes_of(
     alloc: Global,
     number: u32,
     changes: List<RecordChange>,

@@ -1,6 +1,7 @@
 // Runs that stop at each call of the disk. What a crash may leave then opens to the commits that were
 // durable, or to those and the one that was under way.
 use crate::fixture::{FIRST, RUN, RUN_SMALL, Ran, run_args, run_script, strings};
+use crate::transactions::WRITTEN;
 use je_disk::extended;
 use je_lsn::FileNo;
 use mem_disk::MemDisk;
@@ -322,6 +323,15 @@ fn stops_in_the_first_example(rt: HostRuntime) -> Result<(), Fail> {
     let alloc = rt.alloc();
     let mut prefixes = first_prefixes(alloc)?;
     assert!(rt; stop_at_each_call(&rt, alloc, &RUN, FIRST, &mut prefixes)? == Some(1));
+    Ok(())
+}
+
+// A commit that is written out and not synced may be lost, as long as no later sync covers it.
+#[test]
+fn stops_in_a_written_commit(rt: HostRuntime) -> Result<(), Fail> {
+    let alloc = rt.alloc();
+    let mut prefixes = first_prefixes(alloc)?;
+    assert!(rt; stop_at_each_call(&rt, alloc, &RUN, WRITTEN, &mut prefixes)? == Some(1));
     Ok(())
 }
 

@@ -20,3 +20,5 @@ mod fixture;
 mod reports;
 #[cfg(test)]
 mod splitting;
+#[cfg(test)]
+mod transactions;

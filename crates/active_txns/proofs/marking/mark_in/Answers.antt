@@ -1,4 +1,4 @@
-use Rattle.std.proofs.Common.{◌≡◌, ◌<◌, ◌≤◌, ◌∙◌, length, arith}
+use Rattle.std.proofs.Common.{◌<◌, ◌≤◌, ◌∙◌, length, arith}
 use Rattle.active_txns.proofs.MarkSteps.{mark_here, mark_ends, marked_alone}
 use Rattle.active_txns.proofs.marking.mark_in.Goals as goal
 

@@ -1,4 +1,4 @@
-use Rattle.std.proofs.Common.{◌≡◌, ◌++◌, ◌∷◌, [], None, Some, refl, ap, sym, ◌∙◌}
+use Rattle.std.proofs.Common.{◌++◌, ◌∷◌, [], None, Some, refl, ap, sym, ◌∙◌}
 use Rattle.std.specs.Option.{is_some, option_map_or}
 use Rattle.active_txns.specs.declared.own_changes.OwnChanges.{OwnChanges}
 use Rattle.lock_table.proofs.RecordLists.{on_err}

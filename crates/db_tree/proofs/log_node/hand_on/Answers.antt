@@ -3,6 +3,7 @@ use Rattle.tree_nodes.specs.Levels.{HasMarkedAt}
 use Rattle.db_tree.proofs.NodeLogging.{handed_on}
 use Rattle.db_tree.proofs.Records.{marks}
 use Rattle.db_tree.proofs.WaitLaws.{mark_alike}
+use Rattle.db_tree.proofs.NodeSteps.{nodes_marked}
 use Rattle.db_tree.proofs.log_node.hand_on.Goals as goal
 
 pub returns-clause-handed : goal.returns-clause-handed
@@ -23,3 +24,6 @@ returns-clause-alike c = mark_alike c.args.levels.now c.mark.new.self (c.args.le
 
 pub returns-in_default-clause-alike : goal.returns-in_default-clause-alike
 returns-in_default-clause-alike c = record { lows = refl; waits = refl }
+
+pub returns-clause-nodes : goal.returns-clause-nodes
+returns-clause-nodes c = nodes_marked c.args.levels.now c.mark.new.self (c.args.level + 1) c.args.low.now c.in-Some.from c.height-height.ensures.parts c.mark.ensures.parts c.mark.ensures.marked

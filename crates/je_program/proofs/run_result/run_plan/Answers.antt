@@ -1,18 +1,18 @@
-use Rattle.std.proofs.Common.{◌≡◌, ◌∙◌, ℕ, true, true≢false, List, None, sym, ap, subst}
+use Rattle.std.proofs.Common.{◌≡◌, ◌∙◌, true, true≢false, List, [], None, sym, ap, subst}
 use Rattle.je_disk.specs.Moments.{now}
 use Rattle.store_model.specs.declared.event.Event.{Event}
 use Rattle.store_model.specs.declared.plan.ScriptLine.{ScriptLine}
 use Rattle.store_model.specs.declared.store.Store.{Store}
 use Rattle.je_answers.specs.Journal.{lines_of}
-use Rattle.engine.specs.Whole.{disk_of, reach_of}
+use Rattle.environment.specs.Whole.{disk_of}
 use Rattle.engine.specs.Crash.{KeepsEntry}
 use Rattle.engine.specs.Opening.{reach_in}
 use Rattle.je_program.specs.Crash.{IsSafeProgram}
 use Rattle.je_program.specs.Program.{EndsBy, ClosesRun, IsRunOf, RunsIf, cause_of_opening, is_before_disk}
-use Rattle.je_program.specs.Run.{AreFirstLines, of_session}
-use Rattle.je_program.proofs.BeginLaws.{opened_as_one, starts_valid}
-use Rattle.je_program.proofs.FinishLaws.{done_acknowledged, done_is_no_memory, ran_cause, runs_if, ran_after_reading, ran_not_unreadable, ends_by, caused_earlier}
-use Rattle.je_program.proofs.RunLaws.{bounded_far}
+use Rattle.script_run.specs.Lines.{AreFirstLines, of_session}
+use Rattle.je_program.proofs.BeginLaws.{beginning, begins, opened_as_one, starts_valid}
+use Rattle.je_program.proofs.FinishLaws.{done_acknowledged, done_is_no_memory, ran_cause, runs_if, ran_after_reading, ran_not_unreadable, ends_by, memory_left}
+use Rattle.script_run.proofs.Pushed.{bounded_far, caused_earlier, synced_all}
 use Rattle.je_program.specs.declared.cause.Cause.{Cause}
 use Rattle.je_program.specs.Untouched.{LeavesUnreadable}
 use Rattle.je_program.proofs.StopLaws.{stopped_after_reading, stopped_caused, stopped_failed, stopped_numbers, stopped_runs, stopped_unreadable}
@@ -22,63 +22,76 @@ use Rattle.je_program.proofs.run_result.run_plan.Goals as goal
 pub returns-in-Ok-clause-runs : goal.returns-in-Ok-clause-runs
 returns-in-Ok-clause-runs g c =
     let f = c.finish in
-    runs_if f.result.cause f.result.opened (ran_cause c.run-running.result.journal.items c.run-running.result.memory_ended f.result.cause f.ensures.memory f.ensures.ends) f.ensures.opened
+    runs_if f.result.cause f.result.opened (ran_cause c.run-running.result.recorded.journal.items c.run-running.result.memory_ended f.result.cause f.ensures.memory f.ensures.ends) f.ensures.opened
 
 pub returns-in-Ok-clause-after_reading : goal.returns-in-Ok-clause-after_reading
 returns-in-Ok-clause-after_reading g c =
     let f = c.finish in
-    ran_after_reading f.result.cause (ran_cause c.run-running.result.journal.items c.run-running.result.memory_ended f.result.cause f.ensures.memory f.ensures.ends)
+    ran_after_reading f.result.cause (ran_cause c.run-running.result.recorded.journal.items c.run-running.result.memory_ended f.result.cause f.ensures.memory f.ensures.ends)
+
+pub run-running-requires-clause-start : goal.run-running-requires-clause-start
+run-running-requires-clause-start g c =
+    let environment = c.in-Ok.opened.environment in
+    let most = c.args.config.file_max in
+    let history = g.D.Disk.history in
+    let files = (now (history c.args.disk)).reads in
+    let opening = c.in-Ok.opened.opening in
+    let one = opened_as_one most g.D.Disk.observable files opening (history (disk_of environment)) environment c.in-Ok.ensures.opened c.in-Ok.ensures.crash in
+    (beginning g.D.Disk.observable history g.D.Disk.faults most environment one.st, begins g.D.Disk.observable history g.D.Disk.faults most files opening environment one c.in-Ok.ensures.bounds)
 
 pub returns-in-Ok-clause-run : goal.returns-in-Ok-clause-run
 returns-in-Ok-clause-run g c = λ is_opened.
     let f = c.finish in
+    let observable = g.D.Disk.observable in
     let history = g.D.Disk.history in
-    let engine = c.in-Ok.opened.engine in
+    let faults = g.D.Disk.faults in
+    let environment = c.in-Ok.opened.environment in
     let opening = c.in-Ok.opened.opening in
     let most = c.args.config.file_max in
-    let journal = c.run-running.result.journal.items in
+    let ran = c.run-running in
+    let journal = ran.result.recorded.journal.items in
     let cause = f.result.cause in
     let totals = f.result.totals in
     let old = history c.args.disk in
-    let start = history (disk_of engine) in
     let new = history f.result.disk in
-    let at = opened_as_one most g.D.Disk.observable (now old).reads opening start engine c.in-Ok.ensures.opened c.in-Ok.ensures.crash in
-    let st = at.st in
-    let running = c.run-running.ensures.runs most st at.here in
-    let first = reach_of engine in
-    let valid : st.fault ≡ None = starts_valid g.D.Disk.observable (now old).reads opening st at.starts in
-    let safe : g.D.Disk.observable ≡ true → IsSafeProgram old new st journal cause = λ observed.
-    let begun = at.safe observed in
-    let guarded = c.run-running.ensures.crash observed most st start at.here begun.guarded in
-    record {
-      start = start;
-      stable = begun.stable;
+    let one = opened_as_one most observable (now old).reads opening (history (disk_of environment)) environment c.in-Ok.ensures.opened c.in-Ok.ensures.crash in
+    let st = one.st in
+    let p = beginning observable history faults most environment st in
+    let starts = begins observable history faults most (now old).reads opening environment one c.in-Ok.ensures.bounds in
+    let under = ran.ensures.goes_on p starts in
+    let valid : st.fault ≡ None = starts_valid observable (now old).reads opening st one.starts in
+    let synced = synced_all st journal (under.running.synced [] tt) in
+    let safe : observable ≡ true → IsSafeProgram old new st journal cause = λ observed. record {
+      start = p.start;
+      stable = (one.safe observed).stable;
       before = c.in-Ok.ensures.entry observed;
-      run = f.ensures.crash observed most first start st running guarded;
-      ends = λ done. f.ensures.crash_end observed most first start st running guarded valid done;
+      run = f.ensures.crash observed p under;
+      ends = λ done. f.ensures.crash_end observed p under valid done;
     } in
-    let run : IsRunOf most g.D.Disk.observable old new opening totals journal cause st = record {
-      starts = at.starts;
-      limits = running.limits;
-      answers = running.answers;
-      bounded = bounded_far first (reach_in at.starts.held at.starts.meaning) st journal running.limits at.reach running.bounded;
-      synced_at_once = running.synced;
-      only = running.only;
+    let run : IsRunOf most observable old new opening totals journal cause st = record {
+      starts = one.starts;
+      limits = under.running.limits;
+      answers = under.running.answers;
+      bounded = bounded_far p.first (reach_in one.starts.held one.starts.meaning) st journal under.running.limits one.reach under.running.bounded;
+      synced_at_once = synced;
+      in_order = under.running.ordered;
+      only = under.running.only;
+      rests = λ other. ran.ensures.calm p starts (memory_left ran.result.memory_ended cause f.ensures.memory other);
       acknowledged = λ done. done_acknowledged st journal cause done
-          (ends_by journal c.run-running.result.memory_ended cause f.ensures.memory f.ensures.ends (done_is_no_memory cause done)) running.synced;
+          (ends_by journal ran.result.memory_ended cause f.ensures.memory f.ensures.ends (done_is_no_memory cause done)) synced;
       safe = safe;
-      files = λ done observed. f.ensures.files most first st running valid done observed;
-      totals = f.ensures.totals most first st running;
+      files = λ done observed. f.ensures.files p under valid done observed;
+      totals = f.ensures.totals p under;
     } in (
       st,
-      subst (λ (s : Store). IsRunOf most g.D.Disk.observable old new s totals f.result.journal.items cause st) (sym f.ensures.opening)
-          (subst (λ (j : List Event). IsRunOf most g.D.Disk.observable old new opening totals j cause st) (sym f.ensures.journal) run),
+      subst (λ (s : Store). IsRunOf most observable old new s totals f.result.journal.items cause st) (sym f.ensures.opening)
+          (subst (λ (j : List Event). IsRunOf most observable old new opening totals j cause st) (sym f.ensures.journal) run),
     )
 
 pub returns-in-Ok-clause-unreadable : goal.returns-in-Ok-clause-unreadable
 returns-in-Ok-clause-unreadable g c = λ corruption is observed.
     let f = c.finish in
-    absurd (ran_not_unreadable f.result.cause corruption (ran_cause c.run-running.result.journal.items c.run-running.result.memory_ended f.result.cause f.ensures.memory f.ensures.ends) is)
+    absurd (ran_not_unreadable f.result.cause corruption (ran_cause c.run-running.result.recorded.journal.items c.run-running.result.memory_ended f.result.cause f.ensures.memory f.ensures.ends) is)
 
 pub returns-in-Ok-clause-ids_ended : goal.returns-in-Ok-clause-ids_ended
 returns-in-Ok-clause-ids_ended g c = λ is none observed.
@@ -88,22 +101,30 @@ pub returns-in-Ok-clause-front : goal.returns-in-Ok-clause-front
 returns-in-Ok-clause-front g c = λ opened session.
     let front = c.run-running.ensures.given.front session in
     subst (λ (j : List Event). AreFirstLines (of_session session (lines_of j)) (of_session session c.args.plan.lines)) (sym c.finish.ensures.journal)
-    (subst (λ (l : List ScriptLine). AreFirstLines (of_session session (lines_of c.run-running.result.journal.items)) (of_session session l)) c.into_vec.ensures front)
+    (subst (λ (l : List ScriptLine). AreFirstLines (of_session session (lines_of c.run-running.result.recorded.journal.items)) (of_session session l)) c.into_vec.ensures front)
 
 pub returns-in-Ok-clause-ends : goal.returns-in-Ok-clause-ends
 returns-in-Ok-clause-ends g c = λ opened other.
     let f = c.finish in
     subst (λ (j : List Event). EndsBy j f.result.cause) (sym f.ensures.journal)
-    (ends_by c.run-running.result.journal.items c.run-running.result.memory_ended f.result.cause f.ensures.memory f.ensures.ends other)
+    (ends_by c.run-running.result.recorded.journal.items c.run-running.result.memory_ended f.result.cause f.ensures.memory f.ensures.ends other)
 
 pub returns-in-Ok-clause-caused : goal.returns-in-Ok-clause-caused
 returns-in-Ok-clause-caused g c =
     let f = c.finish in
-    let j = c.run-running.result.journal.items in
+    let j = c.run-running.result.recorded.journal.items in
+    let observable = g.D.Disk.observable in
+    let history = g.D.Disk.history in
     let faults = g.D.Disk.faults in
+    let environment = c.in-Ok.opened.environment in
+    let most = c.args.config.file_max in
+    let files = (now (history c.args.disk)).reads in
+    let one = opened_as_one most observable files c.in-Ok.opened.opening (history (disk_of environment)) environment c.in-Ok.ensures.opened c.in-Ok.ensures.crash in
+    let under = c.run-running.ensures.goes_on (beginning observable history faults most environment one.st)
+    (begins observable history faults most files c.in-Ok.opened.opening environment one c.in-Ok.ensures.bounds) in
     subst (λ (l : List Event). ClosesRun (faults c.args.disk) (faults f.result.disk) l f.result.cause) (sym f.ensures.journal)
     (f.ensures.caused (faults c.args.disk)
-    (caused_earlier (faults c.args.disk) (faults (disk_of c.in-Ok.opened.engine)) (faults (disk_of c.run-running.result.engine)) j c.in-Ok.ensures.faults c.run-running.ensures.caused))
+    (caused_earlier (faults c.args.disk) (faults (disk_of environment)) (faults (disk_of c.run-running.result.recorded.environment)) j c.in-Ok.ensures.faults under.running.caused))
 
 pub returns-in-Err-clause-crash_unopened : goal.returns-in-Err-clause-crash_unopened
 returns-in-Err-clause-crash_unopened g c = λ observed opened. subst (λ d. KeepsEntry (g.D.Disk.history c.args.disk) (g.D.Disk.history d)) (sym c.unopened.ensures.disk) (c.in-Err.ensures.stopped_entry observed)
@@ -111,7 +132,7 @@ returns-in-Err-clause-crash_unopened g c = λ observed opened. subst (λ d. Keep
 pub returns-in-Ok-clause-left_alone : goal.returns-in-Ok-clause-left_alone
 returns-in-Ok-clause-left_alone g c = λ observed.
     let f = c.finish in
-    ran_alone f.result.cause (g.D.Disk.history c.args.disk) (g.D.Disk.history f.result.disk) (ran_cause c.run-running.result.journal.items c.run-running.result.memory_ended f.result.cause f.ensures.memory f.ensures.ends)
+    ran_alone f.result.cause (g.D.Disk.history c.args.disk) (g.D.Disk.history f.result.disk) (ran_cause c.run-running.result.recorded.journal.items c.run-running.result.memory_ended f.result.cause f.ensures.memory f.ensures.ends)
 
 pub returns-in-Err-clause-left_alone : goal.returns-in-Err-clause-left_alone
 returns-in-Err-clause-left_alone g c = λ observed.

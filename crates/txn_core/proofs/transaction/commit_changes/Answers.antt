@@ -1,11 +1,11 @@
-use Rattle.std.proofs.Common.{rules, [], ◌∷◌, ◌++◌, ◌∙◌, ◌≡◌, subst, List, length}
+use Rattle.std.proofs.Common.{rules, [], ◌∷◌, ◌++◌, ◌∙◌, ◌≡◌, subst, ℕ, List, length}
 use Rattle.log_entry.specs.declared.entry.Entry.{Entry}
 use Rattle.log_entry.specs.declared.entry.Entry.TheVariants.{Commit}
 use Rattle.record_tree.specs.declared.tree_name.TreeName.{TreeName}
 use Rattle.record_tree.specs.declared.tree_err.TreeErr.{TreeErr as Reason}
 use Rattle.record_tree.specs.Logged.{LogsTransaction, IsFront, most_entries}
 use Rattle.txn_core.specs.Transactions.{IsCommittedAmong}
-use Rattle.txn_core.proofs.Committing.{entries_few, values_then, quiet_then, logs_commit, tried_with, front_behind, ok_then, ends_by}
+use Rattle.txn_core.proofs.Committing.{entries_few, values_then, writes_then, quiet_then, room_then, more_than, logs_commit, tried_with, front_behind, ok_then, ends_by}
 use Rattle.txn_core.proofs.transaction.commit_changes.Goals as goal
 
 pub returns-in_err-write_all-clause-tried : goal.returns-in_err-write_all-clause-tried
@@ -14,21 +14,40 @@ returns-in_err-write_all-clause-tried g c =
     = (λ is. tried_with g.T.Records.tried c.args.trees.now c.write_all.new.self c.args.txn c.args.changes.now (c.in_err-write_all.ensures.tried is)) in
     search rules
 
+pub commit_names-requires : goal.commit_names-requires
+commit_names-requires g c =
+    let more = more_than c.args.owed c.requires.some in
+    (more.0, subst (λ (n : ℕ). g.T.Records.has_room c.write_all.new.self n) more.1 c.in_ok-write_all.ensures.left)
+
 pub returns-clause-values : goal.returns-clause-values
 returns-clause-values g c =
     ok_then c.commit_names.result
     (λ (committed : IsCommittedAmong c.as_slice.result.now c.args.gone (g.T.Records.cells c.write_all.new.self) (g.T.Records.cells c.commit_names.new.trees)).
-    values_then c.args.txn c.args.changes.now c.args.gone (g.T.Records.cells c.args.trees.now) (g.T.Records.cells c.write_all.new.self) (g.T.Records.cells c.commit_names.new.trees) c.requires.quiet c.in_ok-write_all.ensures.cells
+    values_then c.args.txn c.args.changes.now c.args.gone (g.T.Records.cells c.args.trees.now) (g.T.Records.cells c.write_all.new.self) (g.T.Records.cells c.commit_names.new.trees) c.in_ok-write_all.ensures.cells
+    (subst (λ (names : List TreeName). IsCommittedAmong names c.args.gone (g.T.Records.cells c.write_all.new.self) (g.T.Records.cells c.commit_names.new.trees)) (c.as_slice.ensures.value ∙ c.in-Ok.ensures) committed))
+    c.commit_names.ensures.cells
+
+pub returns-clause-writes : goal.returns-clause-writes
+returns-clause-writes g c =
+    ok_then c.commit_names.result
+    (λ (committed : IsCommittedAmong c.as_slice.result.now c.args.gone (g.T.Records.cells c.write_all.new.self) (g.T.Records.cells c.commit_names.new.trees)).
+    writes_then c.args.txn c.args.changes.now c.args.gone (g.T.Records.cells c.args.trees.now) (g.T.Records.cells c.write_all.new.self) (g.T.Records.cells c.commit_names.new.trees) c.in_ok-write_all.ensures.cells
     (subst (λ (names : List TreeName). IsCommittedAmong names c.args.gone (g.T.Records.cells c.write_all.new.self) (g.T.Records.cells c.commit_names.new.trees)) (c.as_slice.ensures.value ∙ c.in-Ok.ensures) committed))
     c.commit_names.ensures.cells
 
 pub returns-clause-quiet : goal.returns-clause-quiet
-returns-clause-quiet g c =
+returns-clause-quiet g c = λ quiet.
     ok_then c.commit_names.result
     (λ (committed : IsCommittedAmong c.as_slice.result.now c.args.gone (g.T.Records.cells c.write_all.new.self) (g.T.Records.cells c.commit_names.new.trees)).
-    quiet_then c.args.txn c.args.changes.now c.args.gone (g.T.Records.cells c.args.trees.now) (g.T.Records.cells c.write_all.new.self) (g.T.Records.cells c.commit_names.new.trees) c.requires.quiet c.in_ok-write_all.ensures.cells
-    (subst (λ (names : List TreeName). IsCommittedAmong names c.args.gone (g.T.Records.cells c.write_all.new.self) (g.T.Records.cells c.commit_names.new.trees)) (c.as_slice.ensures.value ∙ c.in-Ok.ensures) committed))
+    quiet_then c.args.txn c.args.changes.now c.args.gone (g.T.Records.cells c.args.trees.now) (g.T.Records.cells c.write_all.new.self) (g.T.Records.cells c.commit_names.new.trees) c.in_ok-write_all.ensures.cells
+    (subst (λ (names : List TreeName). IsCommittedAmong names c.args.gone (g.T.Records.cells c.write_all.new.self) (g.T.Records.cells c.commit_names.new.trees)) (c.as_slice.ensures.value ∙ c.in-Ok.ensures) committed)
+    quiet)
     c.commit_names.ensures.cells
+
+pub returns-clause-left : goal.returns-clause-left
+returns-clause-left g c =
+    room_then (g.T.Records.has_room c.commit_names.new.trees) c.commit_names.result c.args.owed
+    (λ n is. c.commit_names.ensures.left n (subst (λ (m : ℕ). g.T.Records.has_room c.write_all.new.self m) is c.in_ok-write_all.ensures.left))
 
 pub returns-clause-grew : goal.returns-clause-grew
 returns-clause-grew g c =

@@ -3,6 +3,7 @@ use Rattle.record_map.specs.Cells.{value_at, committed}
 use Rattle.db_tree.specs.Content.{held_by}
 use Rattle.db_tree.proofs.Records.{commits, held_apart}
 use Rattle.db_tree.proofs.WaitLaws.{mark_alike}
+use Rattle.db_tree.proofs.NodeSteps.{nodes_marked}
 use Rattle.db_tree.proofs.tree.DbTree.commit.Goals as goal
 
 pub returns-clause-cells : goal.returns-clause-cells
@@ -16,3 +17,6 @@ returns-clause-tree c = λ es base newest le tree.
 
 pub returns-clause-waits : goal.returns-clause-waits
 returns-clause-waits c = mark_alike c.args.self.now.levels c.mark.new.self 0 c.args.name.now c.args.from c.height-height.ensures.parts c.mark.ensures.parts c.mark.ensures.marked
+
+pub returns-clause-nodes : goal.returns-clause-nodes
+returns-clause-nodes c = nodes_marked c.args.self.now.levels c.mark.new.self 0 c.args.name.now c.args.from c.height-height.ensures.parts c.mark.ensures.parts c.mark.ensures.marked

@@ -2,6 +2,7 @@ use Rattle.std.proofs.Common.{option_map, refl}
 use Rattle.record_map.specs.Cells.{value_at, committed}
 use Rattle.record_tree.specs.Occupied.{after_commit}
 use Rattle.db_tree.proofs.Seen.{change_seen, commit_seen, none_changes, occupied_rises}
+use Rattle.db_tree.proofs.NodeSteps.{none_committed}
 use Rattle.db_tree.proofs.tree.DbTree.commit_write.Goals as goal
 
 pub returns-in-None-clause-cells : goal.returns-in-None-clause-cells
@@ -20,3 +21,6 @@ returns-clause-cells c =
     let last = c.commit.ensures.cells.0 in
     change_seen old c.commit.new.self.cells c.args.name.now (option_map (committed c.args.at last) (value_at c.args.name.now old)) after_commit
     c.len-before.ensures.rising c.len-after.ensures.rising c.commit.ensures.cells.1 (commit_seen c.args.at last (value_at c.args.name.now old))
+
+pub returns-in-None-clause-committed : goal.returns-in-None-clause-committed
+returns-in-None-clause-committed c = none_committed c.args.self.now.cells c.args.name.now c.args.at (c.in-None.ensures.none refl)

@@ -4,6 +4,7 @@ use Rattle.tree_nodes.specs.declared.node.Node.{Node}
 use Rattle.tree_nodes.specs.Levels.{HasPutAt}
 use Rattle.db_tree.specs.Content.{held_by}
 use Rattle.db_tree.proofs.NodeLogging.{in_logged, not_above}
+use Rattle.db_tree.proofs.NodeSteps.{node_noted}
 use Rattle.db_tree.proofs.tree.DbTree.log_in.Goals as goal
 
 pub returns-clause-tree : goal.returns-clause-tree
@@ -17,3 +18,8 @@ returns-clause-tree g c = λ es base newest log tree.
     (ap (value_at low) c.hand_on.ensures.row ∙ c.node_at-node.ensures) c.hand_on.ensures.handed
     (subst (λ (n : Node). HasPutAt handed c.set.new.self c.args.level low n) c.logged.ensures c.set.ensures.put)
     c.hand_on.ensures.tree tree
+
+pub returns-clause-noted : goal.returns-clause-noted
+returns-clause-noted g c =
+    node_noted c.args.self.now.levels c.hand_on.new.levels c.set.new.self c.args.level c.args.low.now c.node_at-node.result _ c.in_ok-at.at c.hand_on.ensures.parts c.set.ensures.parts c.hand_on.ensures.nodes c.hand_on.ensures.row
+    c.node_at-node.ensures c.logged.ensures c.set.ensures.put

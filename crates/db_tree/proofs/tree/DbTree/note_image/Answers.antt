@@ -4,6 +4,7 @@ use Rattle.tree_nodes.specs.Levels.{HasPutAt}
 use Rattle.db_tree.specs.Content.{held_by}
 use Rattle.db_tree.proofs.NodeLogging.{image_noted}
 use Rattle.db_tree.proofs.NoteLaws.{noted_lows, noted_waits, few_still, past_waits, none_waits}
+use Rattle.db_tree.proofs.NodeSteps.{node_noted}
 use Rattle.db_tree.proofs.tree.DbTree.note_image.Goals as goal
 
 pub returns-clause-tree : goal.returns-clause-tree
@@ -33,3 +34,8 @@ returns-then-level-height-clause-waits c = past_waits c.args.self.now.levels c.a
 
 pub returns-in-None-clause-waits : goal.returns-in-None-clause-waits
 returns-in-None-clause-waits c = none_waits c.args.self.now.levels c.args.level c.args.low.now c.height-height.ensures.parts (sym c.in-None.ensures)
+
+pub returns-clause-noted : goal.returns-clause-noted
+returns-clause-noted c = λ some.
+    node_noted c.args.self.now.levels c.hand_on.new.levels c.set.new.self c.args.level c.args.low.now c.copy-node.result _ c.args.at c.hand_on.ensures.parts c.set.ensures.parts c.hand_on.ensures.nodes c.hand_on.ensures.row
+    (sym c.in-Some.ensures ∙ ap Some (sym c.copy-node.ensures)) c.logged.ensures c.set.ensures.put

@@ -7,6 +7,7 @@ use Rattle.db_tree.specs.Stored.{with_logged}
 use Rattle.db_tree.proofs.Records.{holds, commits, held_apart, cell_there, made_and_changed}
 use Rattle.db_tree.proofs.Seen.{change_seen, logged_seen}
 use Rattle.db_tree.proofs.WaitLaws.{mark_alike}
+use Rattle.db_tree.proofs.NodeSteps.{nodes_marked}
 use Rattle.db_tree.proofs.tree.DbTree.redo.Goals as goal
 
 pub set_logged-requires : goal.set_logged-requires
@@ -40,3 +41,6 @@ returns-clause-tree c = λ es base newest le tree.
 
 pub returns-clause-waits : goal.returns-clause-waits
 returns-clause-waits c = mark_alike c.args.self.now.levels c.mark.new.self 0 c.args.name.now c.args.first c.height-height.ensures.parts c.mark.ensures.parts c.mark.ensures.marked
+
+pub returns-clause-nodes : goal.returns-clause-nodes
+returns-clause-nodes c = nodes_marked c.args.self.now.levels c.mark.new.self 0 c.args.name.now c.args.first c.height-height.ensures.parts c.mark.ensures.parts c.mark.ensures.marked

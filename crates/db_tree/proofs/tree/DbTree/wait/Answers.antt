@@ -2,6 +2,7 @@ use Rattle.std.proofs.Common.{Some, ◌∙◌, ap, sym}
 use Rattle.db_tree.specs.Content.{held_by}
 use Rattle.db_tree.proofs.Records.{waits}
 use Rattle.db_tree.proofs.WaitCounts.{put_few}
+use Rattle.db_tree.proofs.WaitingNodes.{waiting_none, waiting_put}
 use Rattle.db_tree.proofs.tree.DbTree.wait.Goals as goal
 
 pub returns-clause-tree : goal.returns-clause-tree
@@ -12,3 +13,11 @@ returns-clause-tree c = λ es base newest tree.
 pub returns-clause-few : goal.returns-clause-few
 returns-clause-few c =
     put_few c.args.self.now.levels c.set.new.self c.args.level c.args.low.now c.copy-node.result c.waiting.result c.height.ensures.parts c.set.ensures.parts (sym c.in-Some.ensures ∙ ap Some (sym c.copy-node.ensures)) c.set.ensures.put
+
+pub returns-in-None-clause-waiting : goal.returns-in-None-clause-waiting
+returns-in-None-clause-waiting c = waiting_none c.args.self.now.levels c.args.level c.args.low.now (sym c.in-None.ensures)
+
+pub returns-clause-waiting : goal.returns-clause-waiting
+returns-clause-waiting c =
+    waiting_put c.args.self.now.levels c.set.new.self c.args.level c.args.low.now c.copy-node.result c.waiting.result c.height.ensures.parts c.set.ensures.parts (sym c.in-Some.ensures ∙ ap Some (sym c.copy-node.ensures))
+    c.set.ensures.put c.waiting.ensures.number c.waiting.ensures.last c.waiting.ensures.forced

@@ -1,0 +1,65 @@
+-- Changes that are put at the end of a transaction's, one after another.
+use Rattle.std.proofs.Common.{◌≡◌, ℕ, cond, List, [], ◌∷◌, ◌++◌, length, take, refl, ap, sym, ◌∙◌, subst, ⊎_elim, append_assoc}
+use Rattle.std.proofs.lemmas.List.{append-nil}
+use Rattle.std.proofs.lemmas.Bool.{cases_Bool, cond-true, cond-false}
+use Rattle.je_order.specs.declared.txn_id.TxnId.{TxnId}
+use Rattle.je_order.specs.Transactions.{is_same_txn}
+use Rattle.je_order.proofs.TxnIds.{same_is, same_itself}
+use Rattle.store_model.specs.declared.record_change.RecordChange.{RecordChange}
+use Rattle.je_answers.specs.Views.{changes_at as in_db}
+use Rattle.active_txns.specs.Own.{changes_at, first_at, HasMore}
+use Rattle.active_txns.proofs.OwnMaps.{Entries}
+
+-- some of the changes were put, and these are left
+pub record IsPushing (t : TxnId) (db : ℕ) (all rest : List RecordChange) (old now : Entries) : Type 0 where
+  pub more : List (ℕ × RecordChange)
+  pub has : HasMore t more old now
+  pub left : more ++ in_db db rest ≡ in_db db all
+  pub first : (u : TxnId) → first_at u now ≡ first_at u old
+
+none_more : (t : TxnId) (old : Entries) → HasMore t [] old old
+none_more t old u = ⊎_elim
+    (λ e. sym (cond-true (is_same_txn t u) (changes_at t old ++ []) (changes_at u old) e ∙ (append-nil (changes_at t old) ∙ ap (λ (x : TxnId). changes_at x old) (same_is t u e))))
+    (λ e. sym (cond-false (is_same_txn t u) (changes_at t old ++ []) (changes_at u old) e))
+    (cases_Bool (is_same_txn t u))
+
+pub pushing_begins : (t : TxnId) (db : ℕ) (all rest : List RecordChange) (old : Entries) → rest ≡ all → IsPushing t db all rest old old
+pushing_begins t db all rest old is = record { more = []; has = none_more t old; left = ap (in_db db) is; first = λ u. refl }
+
+one_more : (t : TxnId) (more one : List (ℕ × RecordChange)) (old now next : Entries) → HasMore t more old now → HasMore t one now next → HasMore t (more ++ one) old next
+one_more t more one old now next h k u = ⊎_elim
+    (λ e. k u ∙ (cond-true (is_same_txn t u) (changes_at t now ++ one) (changes_at u now) e ∙ (ap (λ l. l ++ one) (h t ∙ cond-true (is_same_txn t t) (changes_at t old ++ more) (changes_at t old) (same_itself t))
+    ∙ (append_assoc (changes_at t old) more one ∙ sym (cond-true (is_same_txn t u) (changes_at t old ++ (more ++ one)) (changes_at u old) e)))))
+    (λ e. k u ∙ (cond-false (is_same_txn t u) (changes_at t now ++ one) (changes_at u now) e ∙ (h u ∙ (cond-false (is_same_txn t u) (changes_at t old ++ more) (changes_at u old) e
+    ∙ sym (cond-false (is_same_txn t u) (changes_at t old ++ (more ++ one)) (changes_at u old) e)))))
+    (cases_Bool (is_same_txn t u))
+
+pub pushing_goes_on : (t : TxnId) (db : ℕ) (all left rest : List RecordChange) (change : RecordChange) (old now next : Entries) → left ≡ change ∷ rest
+    → ((u : TxnId) → changes_at u next ≡ cond (is_same_txn t u) (changes_at t now ++ (db, change) ∷ []) (changes_at u now)) → ((u : TxnId) → first_at u next ≡ first_at u now)
+    → IsPushing t db all left old now → IsPushing t db all rest old next
+pushing_goes_on t db all left rest change old now next is put first p = record {
+  more = p.more ++ (db, change) ∷ [];
+  has = one_more t p.more ((db, change) ∷ []) old now next p.has put;
+  left = append_assoc p.more ((db, change) ∷ []) (in_db db rest) ∙ (ap (λ l. p.more ++ in_db db l) (sym is) ∙ p.left);
+  first = λ u. first u ∙ p.first u;
+}
+
+pub pushing_ends : (t : TxnId) (db : ℕ) (all rest : List RecordChange) (old now : Entries) → rest ≡ [] → IsPushing t db all rest old now → HasMore t (in_db db all) old now
+pushing_ends t db all rest old now is p = subst (λ l. HasMore t l old now) (sym (append-nil p.more) ∙ (ap (λ l. p.more ++ in_db db l) (sym is) ∙ p.left)) p.has
+
+pub still_more : (t : TxnId) (more : List (ℕ × RecordChange)) (old now next : Entries) → ((u : TxnId) → changes_at u next ≡ changes_at u now) → HasMore t more old now → HasMore t more old next
+still_more t more old now next same h u = same u ∙ h u
+
+-- those that were put are cut off again
+take_front : (xs ys : List (ℕ × RecordChange)) → take (length xs) (xs ++ ys) ≡ xs
+take_front [] ys = refl
+take_front (x ∷ xs) ys = ap (λ l. x ∷ l) (take_front xs ys)
+
+pub cut_back : (t : TxnId) (n : ℕ) (more : List (ℕ × RecordChange)) (old now next : Entries) → n ≡ length (changes_at t old) → HasMore t more old now
+    → ((u : TxnId) → changes_at u next ≡ cond (is_same_txn t u) (take n (changes_at t now)) (changes_at u now)) → (u : TxnId) → changes_at u next ≡ changes_at u old
+cut_back t n more old now next is h cut u = ⊎_elim
+    (λ e. cut u ∙ (cond-true (is_same_txn t u) (take n (changes_at t now)) (changes_at u now) e
+    ∙ (ap (take n) (h t ∙ cond-true (is_same_txn t t) (changes_at t old ++ more) (changes_at t old) (same_itself t))
+    ∙ (ap (λ k. take k (changes_at t old ++ more)) is ∙ (take_front (changes_at t old) more ∙ ap (λ (x : TxnId). changes_at x old) (same_is t u e))))))
+    (λ e. cut u ∙ (cond-false (is_same_txn t u) (take n (changes_at t now)) (changes_at u now) e ∙ (h u ∙ cond-false (is_same_txn t u) (changes_at t old ++ more) (changes_at u old) e)))
+    (cases_Bool (is_same_txn t u))

@@ -1,0 +1,239 @@
+-- Where no transaction is under way: what an environment is beside its engine.
+use Rattle.std.proofs.Common.{◌≡◌, ℕ, ◌+◌, ◌<◌, ◌≤◌, suc, inl, inr, Bool, true, false, true≢false, cond, List, [], ◌∷◌, ◌++◌, Option, None, Some, filter, length, refl, ap, sym, ◌∙◌, subst, arith}
+use mathlib.Core.Path.{fun_ext}
+use Rattle.std.proofs.lemmas.Option.{none-some}
+use Rattle.std.specs.List.{AllByRecursion}
+use Rattle.je_disk.specs.States.{Files, State}
+use Rattle.je_disk.specs.Moments.{History, now}
+use Rattle.je_order.specs.declared.txn_id.TxnId.{TxnId}
+use Rattle.store_model.specs.declared.answer.Fault.{Fault}
+use Rattle.store_model.specs.declared.record_change.RecordChange.{RecordChange}
+use Rattle.store_model.specs.declared.store.Store.{Store}
+use Rattle.je_answers.specs.declared.active.Active.{Active}
+use Rattle.je_answers.specs.Alone.{Alone, alone}
+use Rattle.je_answers.specs.Standing.{LockState, Standing}
+use Rattle.lock_table.specs.Table.{Locks}
+use Rattle.log_file.specs.Log.{Log}
+use Rattle.log_buffer.specs.declared.buffer.LogBuffer.{LogBuffer}
+use Rattle.log_buffer.specs.Buffer.{end_of, has_failed}
+use Rattle.log_replay.specs.Rows.{Rows}
+use Rattle.log_replay.specs.Logging.{number_named}
+use Rattle.in_tree.specs.declared.log_trees.LogTrees.{LogTrees}
+use Rattle.in_tree.specs.Observed.{cells_of, has_tree_of, waits_of}
+use Rattle.active_txns.specs.Own.{has_changes, own_of}
+use Rattle.record_map.specs.Cells.{value_at}
+use Rattle.record_map.specs.declared.write.Write.{Write}
+use Rattle.record_tree.specs.Occupied.{AllCells, write_in}
+use Rattle.sessions.specs.declared.all_sessions.Sessions.{Sessions}
+use Rattle.sessions.specs.AtStanding.{AreLocksAt, AreSessionsAt, owing}
+use Rattle.standing_laws.specs.Right.{AreRight, AreSound}
+use Rattle.standing_laws.proofs.AloneRight.{alone-is_right, no_transactions-is_alone}
+use Rattle.txn_core.specs.Known.{IsQuiet, committed}
+use Rattle.txn_log.specs.Committing.{MakesStore}
+use Rattle.txn_log.specs.Gives.{GivesRecordsWith}
+use Rattle.txn_log.specs.Own.{OwnChange}
+use Rattle.txn_views.specs.Seen.{HasWrites, IsWriteOf}
+use Rattle.engine.specs.declared.engine.Engine.{Engine}
+use Rattle.engine.specs.declared.kept.Kept.{Kept}
+use Rattle.engine.specs.Contents.{Contents}
+use Rattle.engine.specs.Environment.{AreAlone, AreAt as AreAloneAt, GivesRecords, IsValid}
+use Rattle.engine.specs.Limits.{IsWithin, Reach}
+use Rattle.engine.specs.Opening.{reach_in}
+use Rattle.engine.specs.Whole.{AreTrees, IsAt as EngineIsAt, IsOpened as EngineIsOpened, IsOpenedSafely as EngineIsOpenedSafely, contents, reach_of as engine_reach}
+use Rattle.engine.proofs.TxnGives.{gives_alone, gives_with_none}
+use Rattle.environment.specs.Valid.{AreBare, AreAt, IsValidWith, active_number, owed_by}
+use Rattle.environment.specs.Whole.{IsAt, IsOpened, IsOpenedSafely, reach_of}
+use Rattle.environment.specs.Written.{AreNamesOf}
+use Rattle.environment.specs.declared.environment.Environment.{Environment}
+use Rattle.environment.specs.declared.written.OwnNames.{OwnNames}
+
+-- names that nobody wrote do not hang on the records
+pub names_of_none : (entries : List (TxnId × OwnNames)) (rows later : Rows) → AreNamesOf entries (λ t. []) rows → AreNamesOf entries (λ t. []) later
+names_of_none entries rows later names = record { names = names.names; had = names.had }
+
+pub names_none : (entries : List (TxnId × OwnNames)) (rows : Rows) → entries ≡ [] → AreNamesOf entries (λ t. []) rows
+names_none entries rows none = subst (λ (l : List (TxnId × OwnNames)). AreNamesOf l (λ t. []) rows) (sym none) (record { names = λ t. refl; had = λ t. refl })
+
+-- nobody has changes: no name has one
+none_writes : (cells : AllCells) → IsQuiet cells → HasWrites cells (λ t. [])
+none_writes cells quiet d x = subst (IsWriteOf d x (λ t. [])) (sym (quiet d x)) (λ t. refl)
+
+none_written : (cells : AllCells) → HasWrites cells (λ t. []) → IsQuiet cells
+none_written cells writes d x = by_write (write_in (value_at x (cells d))) (writes d x)
+  where
+    by_write : (w : Option Write) → IsWriteOf d x (λ t. []) w → w ≡ None
+    by_write None is = refl
+    by_write (Some w) is = absurd (none-some is.change is.last)
+
+-- nobody owes a Commit
+none_owing : (p : Alone) (n : ℕ) → owing (alone p) ≡ suc n → ⊥
+none_owing p n is = cc
+
+-- sessions without a transaction stand so wherever nobody is under way
+locks_alone : (f g : Option Fault) (v : Locks) (state : LockState) → f ≡ None → AreLocksAt f v state → AreLocksAt g v state
+locks_alone None None v state none at = at
+locks_alone None (Some fault) v state none at = tt
+locks_alone (Some fault) g v state none at = absurd cc
+
+pub sessions_alone : (s : Sessions) (p q : Alone) → p.fault ≡ None → AreSessionsAt s (alone p) → AreSessionsAt s (alone q)
+sessions_alone s p q none at = record { actives = at.actives; own = at.own; waiting = at.waiting; locks = locks_alone p.fault q.fault s.locks.locks (alone p).locks none at.locks }
+
+-- and sessions owe none
+none_owed : (s : Sessions) (p : Alone) → AreSessionsAt s (alone p) → owed_by s ≡ 0
+none_owed s p at = ap (λ (l : List Active). length (filter (λ (a : Active). has_changes (own_of s.txns.own.entries a.txn.0)) l)) at.actives
+
+module _ {D : Type 0} where
+  -- a log and trees in which nobody changed anything
+  wide_valid : (observable : Bool) (state : State) (trees : LogTrees D) (kept : Kept) (entries : List (TxnId × OwnNames)) (p : Alone) → IsValid observable state trees.log (contents trees kept) p.store →
+      AreTrees trees → kept.last_txn ≡ p.last_txn → kept.last_db ≡ p.last_db → number_named (committed (cells_of trees)) ≡ p.numbers → AreNamesOf entries (λ t. []) (committed (cells_of trees)) →
+      IsValidWith observable state trees.log (cells_of trees) (has_tree_of trees) entries (alone p)
+  wide_valid observable state trees kept entries p v are last_txn last_db numbers names =
+      let rows : Rows = committed (cells_of trees) in
+      let given : GivesRecordsWith v.log (end_of trees.log) rows kept.last_txn kept.last_db (λ t. false) (λ t. []) = gives_with_none v.log (end_of trees.log) (contents trees kept) v.gives in
+      let gives : GivesRecordsWith v.log (end_of trees.log) rows p.last_txn p.last_db (λ t. false) (λ t. []) =
+      subst (λ (n : ℕ). GivesRecordsWith v.log (end_of trees.log) rows n p.last_db (λ t. false) (λ t. [])) last_txn
+      (subst (λ (n : ℕ). GivesRecordsWith v.log (end_of trees.log) rows kept.last_txn n (λ t. false) (λ t. [])) last_db given) in
+      record {
+        log = v.log;
+        has = v.has;
+        works = v.works;
+        gives = gives;
+        recovers = v.recovers;
+        makes = record {
+          environment = gives.listed.environment;
+          rising = gives.listed.rising;
+          unused = gives.unused;
+          numbers = gives.numbers;
+          store = v.made;
+          named = λ name. ap (λ (f : List ℕ → ℕ). f name) numbers;
+        };
+        writes = none_writes (cells_of trees) are.quiet;
+        may = λ t. tt;
+        made = are.made;
+        room = λ n is. absurd (none_owing p n is);
+        names = names;
+      }
+
+  -- an environment in which nobody is under way is where its engine is
+  pub wide_at : (most : ℕ) (observable : Bool) (state : State) (engine : Engine D) (sessions : Sessions) (entries : List (TxnId × OwnNames)) (st : Standing) → EngineIsAt most observable state engine st →
+      ((p : Alone) → AreSessionsAt sessions (alone p)) → AreNamesOf entries (λ t. []) (committed (cells_of engine.trees)) →
+      AreAt most observable state engine.trees.log (cells_of engine.trees) (has_tree_of engine.trees) engine.kept sessions entries st
+  wide_at most observable state engine sessions entries st here at names =
+      let p : Alone = here.at.alone_at in
+      let is = here.at.here in
+      let same : st ≡ alone p = here.at.st_is in
+      subst (λ (s : Standing). AreAt most observable state engine.trees.log (cells_of engine.trees) (has_tree_of engine.trees) engine.kept sessions entries s) (sym same) (record {
+        file_max = is.file_max;
+        fault = is.fault;
+        last_txn = is.last_txn;
+        last_db = is.last_db;
+        commits = is.commits;
+        totals = is.totals;
+        sessions_at = at p;
+        apart = tt;
+        valid = λ none.
+            wide_valid observable state engine.trees engine.kept entries p (is.valid none) (here.trees (ap (λ (s : Standing). s.fault) same ∙ none)) is.last_txn is.last_db (is.numbers none) names;
+      })
+
+  pub wide : (most : ℕ) (observable : Bool) (state : State) (e : Environment D) (st : Standing) → EngineIsAt most observable state e.engine st →
+      ((p : Alone) → AreSessionsAt e.sessions (alone p)) → AreNamesOf e.written.by_txn.entries (λ t. []) (committed (cells_of e.engine.trees)) → IsAt most observable state e st
+  wide most observable state e st here at names = record {
+    at = wide_at most observable state e.engine e.sessions e.written.by_txn.entries st here at names;
+    right = λ none. subst AreRight (sym here.at.st_is) (alone-is_right here.at.alone_at);
+    bare = λ none. subst AreBare (sym here.at.st_is) tt;
+  }
+
+  -- and the other way round
+  narrow_alone : (most : ℕ) (observable : Bool) (state : State) (e : Environment D) (p : Alone) → IsAt most observable state e (alone p) → EngineIsAt most observable state e.engine (alone p)
+  narrow_alone most observable state e p here =
+      let rows : Rows = committed (cells_of e.engine.trees) in
+      let at = here.at in
+      record {
+        at = record {
+          alone_at = p;
+          st_is = refl;
+          here = record {
+            file_max = at.file_max;
+            fault = at.fault;
+            last_txn = at.last_txn;
+            last_db = at.last_db;
+            commits = at.commits;
+            totals = at.totals;
+            numbers = λ none. fun_ext (at.valid none).makes.named;
+            valid = λ none.
+                let v = at.valid none in
+                record {
+                  log = v.log;
+                  has = v.has;
+                  works = v.works;
+                  gives = gives_alone v.log (end_of e.engine.trees.log) (contents e.engine.trees e.engine.kept) (active_number []) (λ t. [])
+                      (subst (λ (n : ℕ). GivesRecordsWith v.log (end_of e.engine.trees.log) rows n e.engine.kept.last_db (active_number []) (λ t. [])) (sym at.last_txn)
+                      (subst (λ (n : ℕ). GivesRecordsWith v.log (end_of e.engine.trees.log) rows p.last_txn n (active_number []) (λ t. [])) (sym at.last_db) v.gives));
+                  recovers = v.recovers;
+                  made = v.makes.store;
+                };
+          };
+        };
+        trees = λ none. let v = at.valid none in record { quiet = none_written (cells_of e.engine.trees) v.writes; made = v.made };
+      }
+
+  -- what an environment without transactions is beside its engine
+  pub record IsNarrow (most : ℕ) (observable : Bool) (state : State) (e : Environment D) (st : Standing) : Type 0 where
+    pub p : Alone
+    pub st_is : st ≡ alone p
+    pub engine : EngineIsAt most observable state e.engine st
+    pub sessions : (q : Alone) → AreSessionsAt e.sessions (alone q)
+    pub names : AreNamesOf e.written.by_txn.entries (λ t. []) (committed (cells_of e.engine.trees))
+
+  pub narrow : (most : ℕ) (observable : Bool) (state : State) (e : Environment D) (st : Standing) → IsAt most observable state e st → e.engine.kept.fault ≡ None → e.sessions.txns.actives.items ≡ [] →
+      IsNarrow most observable state e st
+  narrow most observable state e st here valid empty =
+      let none : st.fault ≡ None = sym here.at.fault ∙ valid in
+      let is = no_transactions-is_alone st (here.right none).sound (sym here.at.sessions_at.actives ∙ empty) in
+      let p : Alone = is.0 in
+      let at : IsAt most observable state e (alone p) = subst (λ (s : Standing). IsAt most observable state e s) is.1 here in
+      let fault : p.fault ≡ None = sym (ap (λ (s : Standing). s.fault) is.1) ∙ none in
+      record {
+        p = p;
+        st_is = is.1;
+        engine = subst (λ (s : Standing). EngineIsAt most observable state e.engine s) (sym is.1) (narrow_alone most observable state e p at);
+        sessions = λ q. sessions_alone e.sessions p q fault at.at.sessions_at;
+        names = (at.at.valid fault).names;
+      }
+
+  -- ---- how far it reaches
+
+  -- it reaches as far as its engine
+  pub reach_alone : (e : Environment D) (p : Alone) → AreSessionsAt e.sessions (alone p) → reach_of e ≡ engine_reach e.engine
+  reach_alone e p at = ap (λ (f : ℕ). let r : Reach = record { file = f; node = e.engine.kept.last_node } in r) (by_failed (has_failed e.engine.trees.log))
+    where
+      none : owed_by e.sessions ≡ 0
+      none = none_owed e.sessions p at
+
+      by_failed : (b : Bool) → cond b 0 ((end_of e.engine.trees.log).file + waits_of e.engine.trees + owed_by e.sessions) ≡ cond b 0 ((end_of e.engine.trees.log).file + waits_of e.engine.trees)
+      by_failed true = refl
+      by_failed false = omega (arith, none)
+
+  -- ---- an environment that was opened
+
+  pub opened_wide : (most : ℕ) (observable : Bool) (files : Files) (state : State) (e : Environment D) (opening : Store) → EngineIsOpened most observable files state e.engine opening →
+      ((p : Alone) → AreSessionsAt e.sessions (alone p)) → e.written.by_txn.entries ≡ [] → IsOpened most observable files state e opening
+  opened_wide most observable files state e opening opened at none = (
+    opened.0,
+    record {
+      starts = opened.1.starts;
+      here = wide most observable state e opened.0 opened.1.here at (names_none e.written.by_txn.entries (committed (cells_of e.engine.trees)) none);
+      reach = subst (λ (r : Reach). IsWithin r (reach_in opened.1.starts.held opened.1.starts.meaning)) (sym (reach_alone e opened.1.here.at.alone_at (at opened.1.here.at.alone_at))) opened.1.reach;
+    },
+  )
+
+  pub opened_wide_safely : (most : ℕ) (files : Files) (opening : Store) (history : History) (e : Environment D) → EngineIsOpenedSafely most files opening history e.engine →
+      ((p : Alone) → AreSessionsAt e.sessions (alone p)) → e.written.by_txn.entries ≡ [] → IsOpenedSafely most files opening history e
+  opened_wide_safely most files opening history e opened at none = record {
+    st = opened.st;
+    starts = opened.starts;
+    here = wide most true (now history) e opened.st opened.here at (names_none e.written.by_txn.entries (committed (cells_of e.engine.trees)) none);
+    reach = subst (λ (r : Reach). IsWithin r (reach_in opened.starts.held opened.starts.meaning)) (sym (reach_alone e opened.here.at.alone_at (at opened.here.at.alone_at))) opened.reach;
+    stable = opened.stable;
+    guarded = opened.guarded;
+  }

@@ -1,0 +1,134 @@
+-- A call on records that is a transaction of its own: what it may ask.
+use Rattle.std.proofs.Common.{◌≡◌, ◌∙◌, ℕ, ◌≤◌, ◌<◌, ◌+◌, nat_lt, Bool, true, false, cond, List, ◌∷◌, ◌++◌, [], Option, None, Some, refl, ap, sym, subst, arith}
+use Rattle.std.proofs.lemmas.Bool.{ltb-true}
+use Rattle.je_disk.specs.Moments.{History}
+use Rattle.store_model.specs.declared.call.Call.{Call}
+use Rattle.store_model.specs.declared.call.Call.TheVariants.{Get, GetBoth, Put, Delete}
+use Rattle.store_model.specs.declared.store.TheConstants.{LAST_TXN}
+use Rattle.store_model.specs.Refusals.{next_txn}
+use Rattle.je_answers.specs.declared.active.Active.{Active}
+use Rattle.je_answers.specs.Standing.{Standing, active_of}
+use Rattle.je_answers.specs.Views.{Target, needs_in}
+use Rattle.je_answers.specs.Alone.{IsAutoCommitted}
+use Rattle.je_answers.specs.Events.{auto_active, begun}
+use Rattle.je_answers.specs.Refusals.{early_refusal, number_refusal}
+use Rattle.in_tree.specs.Observed.{cells_of}
+use Rattle.txn_core.specs.Known.{committed, known_of}
+use Rattle.txn_core.specs.Planning.{CanPlan, HasModel}
+use Rattle.txn_core.specs.Totals.{totals_of}
+use Rattle.sessions.specs.declared.all_sessions.Sessions.{Sessions}
+use Rattle.sessions.specs.AtStanding.{AreSessionsAt, with_active}
+use Rattle.sessions.specs.Taking.{AreNeedsOf, HasStopped, HasTaken, IfReady, IfStopped, MayAsk}
+use Rattle.sessions.specs.declared.taken.Taken.{Taken}
+use Rattle.sessions.specs.declared.taken.Taken.TheVariants.{Ready, Stopped}
+use Rattle.store_model.specs.declared.answer.Answer.{Answer}
+use Rattle.store_model.specs.declared.victim.Victim.{Victim}
+use Rattle.je_order.specs.declared.txn_id.TxnId.{TxnId}
+use Rattle.store_model.specs.declared.durability.Durability.TheVariants.{Sync}
+use Rattle.store_model.specs.declared.isolation.Isolation.TheVariants.{RepeatableRead}
+use Rattle.store_model.specs.declared.kind.Kind.{Kind}
+use Rattle.store_model.specs.declared.need.Need.{Need}
+use Rattle.sessions.proofs.Takes.{may_ask}
+use Rattle.standing_laws.specs.Right.{AreSound, MayWait}
+use Rattle.standing_laws.proofs.Moves.{begun_found, drawn_untold, sound_begun}
+use Rattle.standing_laws.proofs.StandingsStay.{has_number, late_number}
+use Rattle.db_catalog.specs.declared.found_db.FoundDb.{FoundDb}
+use Rattle.environment.specs.declared.environment.Environment.{Environment}
+use Rattle.environment.specs.Access.{IsFoundFor}
+use Rattle.environment.specs.Auto.{IsAutoAt, alone_in}
+use Rattle.environment.specs.Calls.{IsOnRecords}
+use Rattle.environment.specs.Steps.{MayCall, StandsAt}
+use Rattle.environment.proofs.BeginLaws.{next_is}
+
+pub auto_call : (call : Call) (db : List ℕ) → IsOnRecords db call → IsAutoCommitted call
+auto_call (Get name key rmw) db is = tt
+auto_call (GetBoth name key value rmw) db is = tt
+auto_call (Put name key value mode) db is = tt
+auto_call (Delete name key) db is = tt
+auto_call call db is = absurd is
+
+pub may_wait : (call : Call) (db : List ℕ) → IsOnRecords db call → MayWait call
+may_wait (Get name key rmw) db is = tt
+may_wait (GetBoth name key value rmw) db is = tt
+may_wait (Put name key value mode) db is = tt
+may_wait (Delete name key) db is = tt
+may_wait call db is = absurd is
+
+-- what is said of a call that has its needs, and of one that was stopped
+pub ready_is : (t : Taken) (P : Type 0) → t ≡ Ready → IfReady t P → P
+ready_is t P is h = subst (λ (x : Taken). IfReady x P) is h
+
+abbrev pub Stops : Sessions → Sessions → ℕ → ℕ → Call → List ℕ → Kind → List Need → Answer → List Victim → Type 0
+Stops old new session line call db kind needs answer victims =
+    (st : Standing) (a : Active) (g : Target) → st.fault ≡ None → AreNeedsOf st session call db kind needs a g → AreSessionsAt old st → HasStopped new st a line call g answer victims
+
+pub stopped_is : (old new : Sessions) (session line : ℕ) (call : Call) (db : List ℕ) (kind : Kind) (needs : List Need) (t : Taken) (answer : Answer) (victims : List Victim) → t ≡ Stopped answer victims →
+    IfStopped t (Stops old new session line call db kind needs) → Stops old new session line call db kind needs answer victims
+stopped_is old new session line call db kind needs t answer victims is h = subst (λ (x : Taken). IfStopped x (Stops old new session line call db kind needs)) is h
+
+module _ {D : Type 0} (most : ℕ) (observable : Bool) (history : D → History) (e : Environment D) (st : Standing) (session : ℕ) (call : Call) where
+  pub auto_at : (g : Target) (db : List ℕ) (found : FoundDb) → StandsAt most observable history e st → AreSound st → e.engine.kept.fault ≡ None → MayCall st session true → IsFoundFor st session call db found g → IsOnRecords db call →
+      active_of session st.actives ≡ None → IsAutoAt most observable history e st session call g
+  auto_at g db found at sound valid may on records outside = record {
+    at = at;
+    sound = sound;
+    valid = sym at.fault ∙ valid;
+    bare = may.bare;
+    db = db;
+    found = found;
+    records = records;
+    on = on;
+    outside = outside;
+    left = has_number st.last_txn (sym (ap (number_refusal st.last_txn) outside) ∙ late_number st session call on.late);
+  }
+
+  module _ (g : Target) (may : IsAutoAt most observable history e st session call g) where
+    abbrev a : Active
+    a = auto_active st session
+
+    past : st.last_txn < a.txn.0
+    past = let next = next_is st.last_txn may.left in omega (arith, next)
+
+    pub sound_there : AreSound (begun st session)
+    sound_there = sound_begun st.last_txn st.actives st.own st.places st.waiting st.locks a may.sound past may.outside
+
+    pub may_take : (s : Sessions) → AreSessionsAt s (begun st session) → MayAsk s session true
+    may_take s at = may_ask s (begun st session) session a at may.valid sound_there (begun_found st.actives a may.outside)
+        (drawn_untold st.last_txn st.actives st.own st.places st.waiting st.locks a.txn may.sound past)
+
+    pub its_active : active_of session (begun st session).actives ≡ Some a
+    its_active = begun_found st.actives a may.outside
+
+    pub may_plan : CanPlan (known_of (cells_of e.engine.trees) e.engine.kept.totals e.engine.kept.last_db)
+    may_plan =
+        let makes = subst (λ (n : ℕ). Rattle.txn_log.specs.Committing.MakesStore (committed (cells_of e.engine.trees)) n st) (sym may.at.last_db) (may.at.valid may.valid).makes in
+        record {
+          environment = makes.environment;
+          rising = makes.rising;
+          unused = makes.unused;
+          numbers = makes.numbers;
+          totals = may.at.totals ∙ ap totals_of (sym makes.store);
+        }
+
+    pub has_model : HasModel (known_of (cells_of e.engine.trees) e.engine.kept.totals e.engine.kept.last_db) (alone_in st)
+    has_model = record { store = (may.at.valid may.valid).makes.store; last_db = may.at.last_db; below = ltb-true st.last_txn LAST_TXN may.left }
+
+    pub number_is : e.engine.kept.last_txn + 1 ≡ next_txn st.last_txn
+    number_is = ap (λ (n : ℕ). n + 1) may.at.last_txn ∙ sym (next_is st.last_txn may.left)
+
+    -- the sessions once it has begun
+    pub begun_sessions : (s : Sessions) (t : TxnId) → t.0 ≡ e.engine.kept.last_txn + 1 →
+        AreSessionsAt s (with_active (record { txn = t; session = session; level = RepeatableRead; durability = Sync; waits = true; is_auto = true; deadlock = None }) st) → AreSessionsAt s (begun st session)
+    begun_sessions s t is at =
+        let same : (record { txn = t; session = session; level = RepeatableRead; durability = Sync; waits = true; is_auto = true; deadlock = None }) ≡ a =
+        ap (λ (n : ℕ). let b : Active = record { txn = record { 0 = n }; session = session; level = RepeatableRead; durability = Sync; waits = true; is_auto = true; deadlock = None } in b) (is ∙ number_is) in
+        let there : AreSessionsAt s (with_active a st) = subst (λ (b : Active). AreSessionsAt s (with_active b st)) same at in
+        record { actives = there.actives; own = there.own; waiting = there.waiting; locks = there.locks }
+
+    -- its needs
+    pub needs_auto : (needs : List Need) (db : List ℕ) (kind : Kind) → g.database.name ≡ db → g.database.kind ≡ kind → needs ≡ needs_in (begun st session) a call g → AreNeedsOf (begun st session) session call db kind needs a g
+    needs_auto needs db kind name its_kind is = record { its = its_active; name = name; its_kind = its_kind; each = is }
+
+    -- it has them all
+    pub taken_auto : (s : Sessions) (needs : List Need) → needs ≡ needs_in (begun st session) a call g → HasTaken s true a needs (begun st session) → HasTaken s true a (needs_in (begun st session) a call g) (begun st session)
+    taken_auto s needs is taken = subst (λ (n : List Need). HasTaken s true a n (begun st session)) is taken

@@ -1,0 +1,402 @@
+-- A call on records that is a transaction of its own, among others: what it changes is logged with its Commit, or not.
+use mathlib.Core.Path.{fun_ext}
+use Rattle.std.proofs.Common.{◌≡◌, ◌≢◌, ◌∙◌, ◌⊎◌, inl, inr, ℕ, ◌≤◌, ◌<◌, ◌+◌, Bool, false, cond, List, [], ◌∷◌, ◌++◌, map, length, Option, None, Some, Result, Ok, Err, refl, ap, sym, subst, arith}
+use Rattle.std.specs.List.{AllByRecursion}
+use Rattle.std.specs.declared.alloc.AllocError.{AllocError}
+use Rattle.std.proofs.lemmas.Bool.{ltb-true}
+use Rattle.je_disk.specs.Moments.{History, now}
+use Rattle.je_order.specs.declared.txn_id.TxnId.{TxnId}
+use Rattle.store_model.specs.declared.answer.Answer.{Answer}
+use Rattle.store_model.specs.declared.answer.Answer.TheVariants.{Logged, LogFull, IdsEnded, DiskFault}
+use Rattle.store_model.specs.declared.answer.Fault.TheVariants.{Disk}
+use Rattle.store_model.specs.declared.call.Call.{Call}
+use Rattle.store_model.specs.declared.call.Call.TheVariants.{Get, GetBoth, Put, Delete}
+use Rattle.store_model.specs.declared.change.Change.{Change}
+use Rattle.store_model.specs.declared.record_change.RecordChange.{RecordChange}
+use Rattle.store_model.specs.declared.record_change.RecordChange.TheVariants.{Set, Unset}
+use Rattle.store_model.specs.declared.store.TheConstants.{LAST_DATABASE, LAST_TXN}
+use Rattle.store_model.specs.declared.victim.Victim.{Victim}
+use Rattle.store_model.specs.Evaluation.{Outcome}
+use Rattle.store_model.specs.Needs.{changed_name}
+use Rattle.store_model.specs.Records.{Evaluated}
+use Rattle.store_model.specs.Refusals.{made_by, next_txn}
+use Rattle.store_model.specs.Store.{all_changed}
+use Rattle.je_answers.specs.declared.active.Active.{Active}
+use Rattle.je_answers.specs.Alone.{IsAutoCommitted, committed_alone, drawn_alone, evaluated_on, faulted_alone}
+use Rattle.je_answers.specs.After.{after_changes, answered, committed as commits, ended, fate_of, faulted, with_locks, with_outcome}
+use Rattle.je_answers.specs.Events.{IsLogged, auto_active, begun, due, log_limit}
+use Rattle.je_answers.specs.Journal.{is_disk_fault, tried}
+use Rattle.je_answers.specs.Locking.{all_got, first_blocked}
+use Rattle.je_answers.specs.Standing.{Standing, all_numbered}
+use Rattle.je_answers.specs.Views.{Target, changes_at, changes_on, needs_in}
+use Rattle.log_buffer.specs.Buffer.{disk_of as disk_below, end_of, has_failed}
+use Rattle.log_replay.specs.Logging.{all_row_changes, number_named}
+use Rattle.log_replay.specs.Rows.{Rows}
+use Rattle.record_map.specs.Cells.{value_at}
+use Rattle.record_tree.specs.Logged.{LogsTransaction}
+use Rattle.record_tree.specs.Occupied.{IsFreeFor, write_in}
+use Rattle.record_tree.specs.declared.tree_change.TreeChange.{TreeChange}
+use Rattle.in_tree.specs.Limits.{HasRoomFor, commit_sizes}
+use Rattle.in_tree.specs.Observed.{cells_of, has_tree_of, limit_in, waits_of}
+use Rattle.sessions.specs.declared.all_sessions.Sessions.{Sessions}
+use Rattle.sessions.specs.AtStanding.{AreSessionsAt, owing}
+use Rattle.standing_laws.specs.Laws.{IsOnlyOf}
+use Rattle.standing_laws.specs.Right.{AreSound, HaveOwnWaits}
+use Rattle.standing_laws.proofs.Moves.{sound_begun}
+use Rattle.standing_laws.proofs.Stopped.{LeavesSame}
+use Rattle.standing_laws.proofs.Writers.{writers-are_free}
+use Rattle.txn_core.specs.declared.planned_changes.PlannedChanges.{PlannedChanges}
+use Rattle.txn_core.specs.Known.{committed}
+use Rattle.txn_core.specs.Planning.{IsPlannedLog, gone_by, outcome_alone, outcome_on, row_by}
+use Rattle.txn_core.specs.Totals.{totals_of}
+use Rattle.txn_core.specs.Transactions.{LeavesWrites}
+use Rattle.txn_log.specs.Buffers.{HasAdded}
+use Rattle.txn_log.specs.Own.{row_of}
+use Rattle.engine.specs.declared.engine.Engine.{Engine}
+use Rattle.engine.specs.Contents.{HasLogged, known, rows_after}
+use Rattle.engine.specs.Limits.{IsWithin, limit_by, reach_after}
+use Rattle.engine.specs.Steps.{HasAppended, LogsChanges, txn_of}
+use Rattle.engine.specs.Whole.{EndsNear, LeavesCells, LeavesOthers, contents_of}
+use Rattle.engine.proofs.CallLaws.{sound_at}
+use Rattle.engine.proofs.PlannedCalls.{trees_logged}
+use Rattle.engine.proofs.PlannedRows.{ArePlanned}
+use Rattle.engine.proofs.StepLaws.{logged_at}
+use Rattle.engine.proofs.SyncedStanding.{faulted_at}
+use Rattle.environment.specs.declared.environment.Environment.{Environment}
+use Rattle.environment.specs.Auto.{IsAutoAt, alone_in}
+use Rattle.environment.specs.Calls.{IsOnRecords}
+use Rattle.environment.specs.Steps.{HasCome, HasNotCome, IsLogStep, StandsAt}
+use Rattle.environment.specs.Valid.{IsValidWith, owed_by}
+use Rattle.environment.specs.Whole.{HasLimit, reach_of}
+use Rattle.environment.proofs.Answering.{owed_is}
+use Rattle.environment.proofs.AutoEnds.{evaluates, next, none_yet, plan_is, sessions_closed}
+use Rattle.environment.proofs.AutoLaws.{Evaluates, back, come_ready, near_fewer, own_back, own_gone, same_leaves, valid_leaves}
+use Rattle.environment.proofs.AutoRows.{AreOnly, all_free, lone_valid, planned_all, rows_on}
+use Rattle.environment.proofs.CatalogEnds.{alone_at}
+use Rattle.environment.proofs.CatalogLogged.{are_of, drawn_same, has_limit, logged_step, stands_on, tried_step, undrawn_same, with_engine, within_below}
+use Rattle.environment.proofs.Standing.{sessions_faulted}
+
+-- ---- what it changes
+
+auto_is : (call : Call) (db : List ℕ) → IsOnRecords db call → IsAutoCommitted call
+auto_is (Get name key rmw) db is = tt
+auto_is (GetBoth name key value rmw) db is = tt
+auto_is (Put name key value mode) db is = tt
+auto_is (Delete name key) db is = tt
+auto_is call db is = absurd is
+
+head_of : Change → List Change → Change
+head_of c [] = c
+head_of c (x ∷ xs) = x
+
+-- changes of records take no database out, and make none
+no_gone : (rows : Rows) (g : Target) (cs : List RecordChange) (change : Change) (more : List Change) → changes_on g cs ≡ change ∷ more → gone_by rows change ≡ None
+unfolding head_of
+no_gone rows g [] change more is = absurd cc
+no_gone rows g (Set at value ∷ cs) change more is = ap (gone_by rows) (sym (ap (head_of change) is))
+no_gone rows g (Unset at ∷ cs) change more is = ap (gone_by rows) (sym (ap (head_of change) is))
+
+none_made : (g : Target) (cs : List RecordChange) → made_by (changes_on g cs) ≡ 0
+none_made g [] = refl
+none_made g (Set at value ∷ cs) = let rest = none_made g cs in omega (arith, rest)
+none_made g (Unset at ∷ cs) = let rest = none_made g cs in omega (arith, rest)
+
+each_above : (P : Type 0) (cs : List RecordChange) → P → AllByRecursion (λ (c : RecordChange). P) cs
+each_above P [] p = tt
+each_above P (c ∷ cs) p = (p, each_above P cs p)
+
+module _ {D : Type 0} where
+  -- an environment with another engine and other sessions
+  abbrev pub with_both : Environment D → Engine D → Sessions → Environment D
+  with_both e n s = record { engine = n; sessions = s; written = e.written }
+
+module _ {D : Type 0} (observable : Bool) (history : D → History) (sync_out read_out : D → Option ℕ) (read_of : D → ℕ) where
+  -- other sessions stand at a standing that is as far
+  restand : (most : ℕ) (e : Environment D) (s : Sessions) (st after : Standing) → StandsAt most observable history e st → LeavesSame st after → AreSessionsAt s after → HaveOwnWaits after.waiting →
+      StandsAt most observable history (record { engine = e.engine; sessions = s; written = e.written }) after
+  restand most e s st after at same sessions apart = record {
+    file_max = at.file_max;
+    fault = at.fault ∙ sym same.fault;
+    last_txn = at.last_txn ∙ sym same.last_txn;
+    last_db = at.last_db ∙ sym same.last_db;
+    commits = at.commits ∙ sym same.commits;
+    totals = at.totals ∙ ap totals_of (sym same.store);
+    sessions_at = sessions;
+    apart = apart;
+    valid = λ none. valid_leaves observable (now (history (disk_below e.engine.trees.log))) e.engine.trees.log (cells_of e.engine.trees) (has_tree_of e.engine.trees) e.written.by_txn.entries st after same
+        (at.valid (sym same.fault ∙ none));
+  }
+
+  module _ (most : ℕ) (e : Environment D) (st : Standing) (session line : ℕ) (call : Call) (g : Target) (planned : PlannedChanges) (may : IsAutoAt most observable history e st session call g)
+      (log : IsPlannedLog (known (contents_of e.engine)) (alone_in st) session call planned) (free : first_blocked (auto_active st session).txn (needs_in (begun st session) (auto_active st session) call g) st.locks.at ≡ None) where
+    pub below : e.engine.kept.last_txn < LAST_TXN
+    below = let left = ltb-true st.last_txn LAST_TXN may.left in let at = may.at.last_txn in omega (arith, left, at)
+
+    abbrev a_ : Active
+    a_ = auto_active st session
+
+    abbrev there_ : Standing
+    there_ = begun st session
+
+    abbrev ev_ : Evaluated
+    ev_ = evaluated_on call g
+
+    abbrev with_changes : List RecordChange → Evaluated
+    with_changes l = record { answer = ev_.answer; answered = ev_.answered; changes = l; place = ev_.place }
+
+    abbrev rows_ : Rows
+    rows_ = committed (cells_of e.engine.trees)
+
+    abbrev all_ : List Change
+    all_ = log.change ∷ log.more
+
+    plan_at : outcome_alone (alone_in st) session call ≡ outcome_on call (Some g)
+    plan_at = plan_is observable history sync_out read_out read_of most e st session call g may
+
+    changes_eq : changes_on g ev_.changes ≡ all_
+    changes_eq = sym (ap (λ (o : Outcome). o.changes) plan_at) ∙ log.changes
+
+    none_own_yet : st.own a_.txn.0 ≡ []
+    none_own_yet = none_yet observable history sync_out read_out read_of most e st session call g may
+
+    next_ : next_txn st.last_txn ≡ st.last_txn + 1
+    next_ = next observable history sync_out read_out read_of most e st session call g may
+
+    none_gone : planned.gone ≡ None
+    none_gone = log.gone_is ∙ no_gone rows_ g ev_.changes log.change log.more changes_eq
+
+    number_is : number_named rows_ g.database.name ≡ g.db
+    number_is = (may.at.valid may.valid).makes.named g.database.name ∙ may.on.named
+
+    rows_are : map (row_by 0) planned.changes.items ≡ map row_of (map (λ (c : RecordChange). (g.db, c)) ev_.changes)
+    rows_are = log.rows 0 ∙ ap (λ (l : List Change). all_row_changes 0 e.engine.kept.last_db l rows_) (sym changes_eq) ∙ rows_on ev_.changes rows_ e.engine.kept.last_db g.db g.database.name number_is may.on.above
+
+    sound_there : AreSound there_
+    sound_there = sound_begun st.last_txn st.actives st.own st.places st.waiting st.locks a_ may.sound (omega (arith, next_)) may.outside
+
+    only : AreOnly a_.txn.0 st.own planned.changes.items
+    only = planned_all (λ d x. IsOnlyOf d x a_.txn.0 st.own) g.db planned.changes.items ev_.changes rows_are
+        (subst (λ (v : Evaluated). AllByRecursion (λ (c : RecordChange). IsOnlyOf g.db (changed_name c) a_.txn.0 st.own) v.changes) (evaluates observable history sync_out read_out read_of most e st session call g may)
+        (writers-are_free there_ a_ call g sound_there free))
+
+    above_all : AllByRecursion (λ (c : TreeChange). c.db ≢ 0) planned.changes.items
+    above_all = planned_all (λ d x. d ≢ 0) g.db planned.changes.items ev_.changes rows_are (each_above (g.db ≢ 0) ev_.changes may.on.above)
+
+    txn_is : txn_of (e.engine.kept.last_txn + 1) ≡ a_.txn
+    txn_is = ap txn_of (ap (λ (n : ℕ). n + 1) may.at.last_txn ∙ sym next_)
+
+    pub names_free : AllByRecursion (λ (c : TreeChange). IsFreeFor (txn_of (e.engine.kept.last_txn + 1)) (write_in (value_at c.name (cells_of e.engine.trees c.db)))) planned.changes.items
+    names_free = subst (λ (t : TxnId). AllByRecursion (λ (c : TreeChange). IsFreeFor t (write_in (value_at c.name (cells_of e.engine.trees c.db)))) planned.changes.items) (sym txn_is)
+        (all_free (cells_of e.engine.trees) st.own a_.txn planned.changes.items (may.at.valid may.valid).writes only)
+
+    -- ---- how it comes out
+
+    by_shape : (answer : Answer) (new : Environment D) →
+        ((c : RecordChange) (cs : List RecordChange) → changes_on g (c ∷ cs) ≡ all_ → Evaluates observable history sync_out read_out read_of most e new st session call g answer (with_changes (c ∷ cs))) →
+        HasCome observable history sync_out read_out read_of most e new st session line call answer []
+    by_shape answer new each =
+        come_ready observable history sync_out read_out read_of most e new st session line call g answer may.db ev_ may.records may.on.late may.outside may.on.target free
+        (evaluates observable history sync_out read_out read_of most e st session call g may) (by_list ev_.changes changes_eq)
+      where
+        by_list : (l : List RecordChange) → changes_on g l ≡ all_ → Evaluates observable history sync_out read_out read_of most e new st session call g answer (with_changes l)
+        by_list [] is = absurd cc
+        by_list (c ∷ cs) is = each c cs is
+
+    abbrev Found : Option Answer
+    Found = limit_by (limit_in e.engine.trees planned.changes.items (owing st + 1)) e.engine.kept.last_node (length planned.changes.items)
+
+    abbrev Logs_ : Engine D → Result Answer AllocError → Type 0
+    Logs_ n result = LogsChanges observable history sync_out read_out read_of e.engine.trees.log n.trees.log (contents_of e.engine) (contents_of n) planned (limit_in e.engine.trees planned.changes.items (owing st + 1)) result
+
+    abbrev Near_ : Engine D → Result Answer AllocError → Type 0
+    Near_ n result = EndsNear e.engine.trees n.trees (length planned.changes.items) result
+
+    fewer_owed : (s : Sessions) (after : Standing) → AreSessionsAt s after → owing after ≤ owing st → owed_by s ≤ owed_by e.sessions
+    fewer_owed s after at less = let new = owed_is s after at in let old = owed_is e.sessions st may.at.sessions_at in omega (arith, new, old, less)
+
+    near_at : (n : Engine D) (s : Sessions) (answer : Answer) → Logs_ n (Ok answer) → Near_ n (Ok answer) → owed_by s ≤ owed_by e.sessions → IsWithin (reach_of (with_both e n s)) (reach_after (reach_of e) all_)
+    near_at n s answer logs near less =
+        let first = near_fewer (with_engine e n) s n.kept.last_txn less in
+        let second = within_below observable history sync_out read_out read_of e n (alone_in st) session call planned (limit_in e.engine.trees planned.changes.items (owing st + 1)) answer may.valid (auto_is call may.db may.records) log logs near
+        (may.at.valid may.valid).works in
+        let f1 = first.file in let n1 = first.node in let f2 = second.file in let n2 = second.node in
+        record { file = omega (arith, f1, f2); node = omega (arith, n1, n2) }
+
+    -- an answer, behind which it stands as it does
+    comes_by : (n : Engine D) (s : Sessions) (answer : Answer) (old : Standing) (c : RecordChange) (cs : List RecordChange) → changes_on g (c ∷ cs) ≡ all_ → Logs_ n (Ok answer) → Near_ n (Ok answer) →
+        StandsAt most observable history (with_engine e n) old → LeavesSame old (after_changes (c ∷ cs) st there_ a_ call g (with_changes (c ∷ cs)) answer) →
+        AreSessionsAt s (after_changes (c ∷ cs) st there_ a_ call g (with_changes (c ∷ cs)) answer) → HaveOwnWaits (after_changes (c ∷ cs) st there_ a_ call g (with_changes (c ∷ cs)) answer).waiting →
+        owing (after_changes (c ∷ cs) st there_ a_ call g (with_changes (c ∷ cs)) answer) ≤ owing st →
+        IsLogged (log_limit Found) (due there_ a_ (with_changes (c ∷ cs))) answer → Rattle.engine.specs.Steps.IsNumbered answer (after_changes (c ∷ cs) st there_ a_ call g (with_changes (c ∷ cs)) answer).commits →
+        (after_changes (c ∷ cs) st there_ a_ call g (with_changes (c ∷ cs)) answer).fault ≡ cond (is_disk_fault answer) (Some Disk) None →
+        IsLogStep observable history sync_out read_out read_of (is_disk_fault answer) e.engine.trees.log n.trees.log (tried all_ (fate_of answer)) →
+        Evaluates observable history sync_out read_out read_of most e (with_both e n s) st session call g answer (with_changes (c ∷ cs))
+    comes_by n s answer old c cs is logs near stands leaves sessions apart less answers numbered fault step =
+        let after : Standing = after_changes (c ∷ cs) st there_ a_ call g (with_changes (c ∷ cs)) answer in
+        record {
+          limit = Found;
+          has_limit = subst (λ (l : List Change). HasLimit e (owing st + 1) l Found) (sym is) (has_limit e (owing st + 1) (alone_in st) session call planned log);
+          answers = (answers, refl);
+          here = restand most (with_engine e n) s old after stands leaves sessions apart;
+          numbered = numbered;
+          fault = fault;
+          logged = subst (λ (l : List Change). IsLogStep observable history sync_out read_out read_of (is_disk_fault answer) e.engine.trees.log n.trees.log (tried l (fate_of answer))) (sym is) step;
+          near = subst (λ (l : List Change). IsWithin (reach_of (with_both e n s)) (reach_after (reach_of e) l)) (sym is) (near_at n s answer logs near (fewer_owed s after sessions less));
+        }
+
+    -- where its transaction has ended
+    abbrev Closed : Sessions → Type 0
+    Closed s = AreSessionsAt s (ended a_ (with_locks a_ (all_got a_.txn (needs_in there_ a_ call g) st.locks.at) there_))
+
+    back_actives : (ended a_ there_).actives ≡ st.actives
+    back_actives = back session st.actives a_ refl may.outside
+
+    -- it is refused
+    refused : (n : Engine D) (s : Sessions) (answer : Answer) (c : RecordChange) (cs : List RecordChange) → changes_on g (c ∷ cs) ≡ all_ → Logs_ n (Ok answer) → Near_ n (Ok answer) →
+        StandsAt most observable history (with_engine e n) (record st { last_txn = next_txn st.last_txn }) → Closed s → fate_of answer ≡ Rattle.je_answers.specs.After.IsRefused → is_disk_fault answer ≡ false →
+        ((k : ℕ) → Rattle.engine.specs.Steps.IsNumbered answer k) → IsLogged (log_limit Found) (due there_ a_ (with_changes (c ∷ cs))) answer →
+        IsLogStep observable history sync_out read_out read_of false e.engine.trees.log n.trees.log [] →
+        Evaluates observable history sync_out read_out read_of most e (with_both e n s) st session call g answer (with_changes (c ∷ cs))
+    refused n s answer c cs is logs near stands closed fate calm numbered answers step =
+        let after : Standing = ended a_ (answered a_ call g there_) in
+        let drawn : Standing = record st { last_txn = next_txn st.last_txn } in
+        let same : after_changes (c ∷ cs) st there_ a_ call g (with_changes (c ∷ cs)) answer ≡ after =
+        ap (λ (f : Rattle.je_answers.specs.After.Fate). Rattle.je_answers.specs.After.after_fate f st there_ a_ call g (with_changes (c ∷ cs))) fate in
+        let own_is : after.own ≡ st.own = own_gone a_.txn.0 st.own none_own_yet in
+        let leaves : LeavesSame drawn after = same_leaves drawn after refl refl refl refl refl refl own_is back_actives in
+        let less : owing after ≤ owing drawn = leaves.owing in
+        let sessions : AreSessionsAt s after = sessions_closed observable history sync_out read_out read_of most e st session call g may s [] after closed refl refl own_is refl refl in
+        comes_by n s answer drawn c cs is logs near stands
+        (subst (LeavesSame drawn) (sym same) leaves)
+        (subst (AreSessionsAt s) (sym same) sessions)
+        (subst (λ (x : Standing). HaveOwnWaits x.waiting) (sym same) may.at.apart)
+        (subst (λ (x : Standing). owing x ≤ owing st) (sym same) less) answers (numbered _)
+        (ap (λ (x : Standing). x.fault) same ∙ may.valid ∙ ap (λ (b : Bool). cond b (Some Disk) None) (sym calm))
+        (subst (λ (b : Bool). IsLogStep observable history sync_out read_out read_of b e.engine.trees.log n.trees.log (tried all_ (fate_of answer))) (sym calm)
+        (subst (λ (f : Rattle.je_answers.specs.After.Fate). IsLogStep observable history sync_out read_out read_of false e.engine.trees.log n.trees.log (tried all_ f)) (sym fate) step))
+
+    -- it is logged
+    low_of : planned.last_db ≤ LAST_DATABASE → ArePlanned rows_ st.last_db log.change log.more planned.changes.items None
+    low_of low = subst (λ (o : Option ℕ). ArePlanned rows_ st.last_db log.change log.more planned.changes.items o) none_gone
+        (subst (λ (x : ℕ). ArePlanned rows_ x log.change log.more planned.changes.items planned.gone) may.at.last_db
+        (are_of observable history sync_out read_out read_of most e st session call planned may.at may.valid log low))
+
+    valid_logged : (n : Engine D) → planned.last_db ≤ LAST_DATABASE → HasLogged (contents_of e.engine) (contents_of n) planned → LeavesOthers e.engine.trees n.trees planned (owing st + 1) →
+        HasAppended observable history sync_out read_out read_of e.engine.trees.log n.trees.log (txn_of (e.engine.kept.last_txn + 1)) planned.changes.items →
+        IsValidWith observable (now (history (disk_below n.trees.log))) n.trees.log (cells_of n.trees) (has_tree_of n.trees) e.written.by_txn.entries (commits all_ (record st { last_txn = next_txn st.last_txn }))
+    valid_logged n low has leaves h =
+        let t : TxnId = txn_of (e.engine.kept.last_txn + 1) in
+        let v = may.at.valid may.valid in
+        let number : t.0 ≡ st.last_txn + 1 = ap (λ (k : ℕ). k + 1) may.at.last_txn in
+        let its : t.0 ≡ a_.txn.0 = ap (λ (x : TxnId). x.0) txn_is in
+        let a : HasAdded observable history sync_out read_out read_of e.engine.trees.log n.trees.log (LogsTransaction t planned.changes.items) =
+        record { entries = h.entries; logs = h.logs; grew = h.grew; room = record { max = e.engine.trees.log.max; entries_are = h.fits.entries_are; room = h.fits.room } } in
+        lone_valid rows_ st t log.change log.more planned.changes.items (low_of low) above_all (subst (λ (k : ℕ). AreOnly k st.own planned.changes.items) (sym its) only) (ap st.own its ∙ none_own_yet) number
+        observable history sync_out read_out read_of e.engine.trees.log n.trees.log (cells_of e.engine.trees) (cells_of n.trees) (has_tree_of e.engine.trees) (has_tree_of n.trees) e.written.by_txn.entries refl next_ v a
+        (fun_ext has.rows ∙ ap (λ (o : Option ℕ). rows_after planned.changes.items o rows_) none_gone)
+        (subst (λ (o : Option ℕ). LeavesWrites planned.changes.items o (cells_of e.engine.trees) (cells_of n.trees)) none_gone leaves.writes)
+        (trees_logged (contents_of e.engine) (contents_of n) (alone_in st) session call planned (has_tree_of e.engine.trees) (has_tree_of n.trees)
+        (sound_at most observable (now (history (disk_below e.engine.trees.log))) e.engine.trees.log (contents_of e.engine) (alone_in st) (alone_at most observable history e st may.at) may.valid) log (omega (arith, low)) has v.made leaves.trees)
+        (λ k owed. subst (λ (m : ℕ). HasRoomFor n.trees.log (commit_sizes m)) owed (leaves.room (owing st) (omega arith)))
+
+    abbrev Done_ : Standing
+    Done_ = commits all_ (record st { last_txn = next_txn st.last_txn })
+
+    pub comes_logged : (n : Engine D) (s : Sessions) (commit : ℕ) → Logs_ n (Ok (Logged commit)) → Near_ n (Ok (Logged commit)) → LeavesOthers e.engine.trees n.trees planned (owing st + 1) → Closed s →
+        HasCome observable history sync_out read_out read_of most e (with_both e n s) st session line call (Logged commit) []
+    comes_logged n s commit logs near leaves closed = by_shape (Logged commit) (with_both e n s) by_changes
+      where
+        number : commit ≡ st.commits + 1
+        number = logs.0 ∙ ap (λ (x : ℕ). x + 1) may.at.commits
+
+        by_changes : (c : RecordChange) (cs : List RecordChange) → changes_on g (c ∷ cs) ≡ all_ → Evaluates observable history sync_out read_out read_of most e (with_both e n s) st session call g (Logged commit) (with_changes (c ∷ cs))
+        by_changes c cs is =
+            let after : Standing = ended a_ (commits (changes_on g (c ∷ cs)) (with_outcome a_ call g (with_changes (c ∷ cs)) (answered a_ call g there_))) in
+            let own_is : after.own ≡ st.own = own_back a_.txn.0 (st.own a_.txn.0 ++ changes_at g.db (c ∷ cs)) st.own none_own_yet in
+            let same : LeavesSame Done_ after =
+            same_leaves Done_ after (ap (λ (l : List Change). all_changed l st.store) is) (ap (λ (l : List Change). all_numbered l st.last_db st.numbers) is) refl (ap (λ (l : List Change). st.last_db + made_by l) is) refl refl own_is
+            back_actives in
+            let less : owing after ≤ owing Done_ = same.owing in
+            comes_by n s (Logged commit) Done_ c cs is logs near
+            (stands_on observable history sync_out read_out read_of most e n st (committed_alone all_ (drawn_alone (alone_in st))) may.at may.at.sessions_at
+            (logged_at observable history sync_out read_out read_of most e.engine.trees.log n.trees.log (contents_of e.engine) (contents_of n) (alone_in st) session call planned (alone_at most observable history e st may.at) may.valid below log logs.2 logs.1
+            logs.4)
+            (λ valid. valid_logged n logs.2 logs.1 leaves logs.4))
+            same (sessions_closed observable history sync_out read_out read_of most e st session call g may s [] after closed refl refl own_is refl refl) may.at.apart less
+            (subst (λ (l : Option Answer). IsLogged (log_limit l) (Logged (st.commits + 1)) (Logged commit)) (sym logs.3) (inl (ap Logged number))) number may.valid
+            (logged_step observable history sync_out read_out read_of most e st session call planned may.at may.valid log logs.2 n logs.4)
+
+    drawn_on : (n : Engine D) → Rattle.engine.specs.Contents.IsSame (Rattle.engine.specs.Contents.drawn_contents (contents_of e.engine)) (contents_of n) → Rattle.log_buffer.specs.Buffer.IsUnchanged e.engine.trees.log n.trees.log →
+        Rattle.engine.specs.Whole.AreSameCells e.engine.trees n.trees → StandsAt most observable history (with_engine e n) (record st { last_txn = next_txn st.last_txn })
+    drawn_on n same log_same cells = drawn_same observable history sync_out read_out read_of most e n st may.at below same log_same cells
+
+    pub comes_full : (n : Engine D) (s : Sessions) → Logs_ n (Ok LogFull) → Near_ n (Ok LogFull) → Rattle.engine.specs.Whole.AreSameCells e.engine.trees n.trees → Closed s →
+        HasCome observable history sync_out read_out read_of most e (with_both e n s) st session line call LogFull []
+    comes_full n s logs near cells closed = by_shape LogFull (with_both e n s) (λ c cs is.
+        refused n s LogFull c cs is logs near (drawn_on n logs.1 logs.2 cells) closed refl refl (λ k. tt)
+        (subst (λ (l : Option Answer). IsLogged (log_limit l) (Logged (st.commits + 1)) LogFull) (sym logs.0) refl) (inl (logs.2, refl)))
+
+    pub comes_ended : (n : Engine D) (s : Sessions) → Logs_ n (Ok IdsEnded) → Near_ n (Ok IdsEnded) → Rattle.engine.specs.Whole.AreSameCells e.engine.trees n.trees → Closed s → e.engine.kept.last_db ≤ LAST_DATABASE →
+        HasCome observable history sync_out read_out read_of most e (with_both e n s) st session line call IdsEnded []
+    comes_ended n s logs near cells closed few = by_shape IdsEnded (with_both e n s) (λ c cs is.
+        refused n s IdsEnded c cs is logs near (drawn_on n logs.1 logs.2 cells) closed refl refl (λ k. tt) (by_limit logs.0) (inl (logs.2, refl)))
+      where
+        by_limit : (Found ≡ Some IdsEnded) ⊎ ((Found ≡ None) × (LAST_DATABASE < planned.last_db)) → IsLogged (log_limit Found) (Logged (st.commits + 1)) IdsEnded
+        by_limit (inl is) = subst (λ (l : Option Answer). IsLogged (log_limit l) (Logged (st.commits + 1)) IdsEnded) (sym is) refl
+        by_limit (inr past) =
+            let made = ap made_by changes_eq in
+            let none = none_made g ev_.changes in
+            let last = log.last_db in
+            let over = past.1 in
+            absurd (omega (arith, made, none, last, over, few))
+
+    pub comes_failed : (n : Engine D) (s : Sessions) → Logs_ n (Ok DiskFault) → Near_ n (Ok DiskFault) → AreSessionsAt s (faulted st) →
+        HasCome observable history sync_out read_out read_of most e (with_both e n s) st session line call DiskFault []
+    comes_failed n s logs near back_at = by_shape DiskFault (with_both e n s) (λ c cs is.
+        let after : Standing = faulted st in
+        let same : LeavesSame after after = same_leaves after after refl refl refl refl refl refl refl refl in
+        comes_by n s DiskFault after c cs is logs near
+        (stands_on observable history sync_out read_out read_of most e n st (faulted_alone (alone_in st)) may.at (sessions_faulted e.sessions st st.begun may.at.sessions_at)
+        (faulted_at most observable (now (history (disk_below e.engine.trees.log))) (now (history (disk_below n.trees.log))) e.engine.trees.log n.trees.log (contents_of e.engine) (contents_of n) (alone_in st) st.begun
+        (alone_at most observable history e st may.at) logs.0 logs.3.tried.max)
+        (λ valid. absurd cc))
+        same back_at may.at.apart (omega arith)
+        (subst (λ (l : Option Answer). IsLogged (log_limit l) (Logged (st.commits + 1)) DiskFault) (sym logs.2) (inr refl)) tt refl
+        (tried_step observable history sync_out read_out read_of most e st session call planned may.at may.valid log logs.1 n logs.3))
+
+    pub comes_not : (n : Engine D) (s : Sessions) (error : AllocError) → Logs_ n (Err error) → Near_ n (Err error) → Rattle.engine.specs.Whole.AreSameCells e.engine.trees n.trees → AreSessionsAt s st →
+        HasNotCome observable history sync_out read_out read_of most e (with_both e n s) st
+    comes_not n s error logs near cells back_at =
+        let same : LeavesSame st st = same_leaves st st refl refl refl refl refl refl refl refl in
+        record {
+          here = restand most (with_engine e n) s st st (undrawn_same observable history sync_out read_out read_of most e n st may.at logs.0 logs.1 cells) same back_at may.at.apart;
+          log = logs.1;
+          near =
+              let less : owed_by s ≤ owed_by e.sessions = fewer_owed s st back_at (omega arith) in
+              let first = near_fewer (with_engine e n) s n.kept.last_txn less in
+              let f1 = first.file in let n1 = first.node in
+              let end_is : Rattle.engine.specs.Whole.end_file n.trees ≡ Rattle.engine.specs.Whole.end_file e.engine.trees = near in
+              let node = logs.0.last_node in
+              let below_ = Rattle.environment.proofs.CatalogLogged.near_by (has_failed e.engine.trees.log) (has_failed n.trees.log) ((end_of e.engine.trees.log).file + waits_of e.engine.trees) ((end_of n.trees.log).file + waits_of n.trees) (owed_by e.sessions) 0 (may.at.valid may.valid).works (omega (arith, end_is)) in
+              record { file = omega (arith, f1, below_); node = omega (arith, n1, node) };
+        }
+
+    -- after a fault locks do not matter
+    closed_faulted : (s : Sessions) → Closed s → AreSessionsAt s (faulted st)
+    closed_faulted s at = record { actives = at.actives ∙ back_actives; own = at.own ∙ own_gone a_.txn.0 st.own none_own_yet; waiting = at.waiting; locks = tt }
+
+    -- an answer, behind which its transaction has ended
+    pub comes_closed : (n : Engine D) (s : Sessions) (answer : Answer) → Logs_ n (Ok answer) → Near_ n (Ok answer) → LeavesCells e.engine.trees n.trees planned (owing st + 1) (Ok answer) → Closed s →
+        e.engine.kept.last_db ≤ LAST_DATABASE → HasCome observable history sync_out read_out read_of most e (with_both e n s) st session line call answer []
+    comes_closed n s (Logged commit) logs near leaves closed few = comes_logged n s commit logs near leaves closed
+    comes_closed n s LogFull logs near leaves closed few = comes_full n s logs near leaves closed
+    comes_closed n s IdsEnded logs near leaves closed few = comes_ended n s logs near leaves closed few
+    comes_closed n s DiskFault logs near leaves closed few = comes_failed n s logs near (closed_faulted s closed)
+    comes_closed n s answer logs near leaves closed few = absurd logs
+
+  -- what is told
+  pub told_come : (most : ℕ) (e new : Environment D) (st : Standing) (session line : ℕ) (call : Call) (answer : Answer) (told : Answer) (victims : List Victim) → told ≡ answer → victims ≡ [] →
+      HasCome observable history sync_out read_out read_of most e new st session line call answer [] → HasCome observable history sync_out read_out read_of most e new st session line call told victims
+  told_come most e new st session line call answer told victims is none comes =
+      subst (λ (v : List Victim). HasCome observable history sync_out read_out read_of most e new st session line call told v) (sym none)
+      (subst (λ (x : Answer). HasCome observable history sync_out read_out read_of most e new st session line call x []) (sym is) comes)

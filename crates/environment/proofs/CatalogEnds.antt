@@ -1,0 +1,310 @@
+-- How a change of the catalog ends where others are under way.
+use Rattle.std.proofs.Common.{◌≡◌, ◌∙◌, ◌⊎◌, inl, ◌≤◌, ◌<◌, ◌+◌, ℕ, Bool, true, false, true≢false, cond, nat_lt, List, [], ◌∷◌, Option, None, Some, Ok, Err, ap, refl, sym, subst, arith}
+use Rattle.std.specs.Prelude.{IfNone, IfSome}
+use mathlib.Core.Path.{fun_ext}
+use Rattle.std.specs.declared.alloc.AllocError.{AllocError}
+use Rattle.std.proofs.lemmas.Bool.{lt-ltb}
+use Rattle.je_disk.specs.Moments.{History, now}
+use Rattle.je_order.specs.declared.txn_id.TxnId.{TxnId}
+use Rattle.store_model.specs.declared.store.Database.{Database}
+use Rattle.store_model.specs.declared.store.TheConstants.{LAST_TXN}
+use Rattle.store_model.specs.declared.answer.Answer.{Answer}
+use Rattle.store_model.specs.declared.answer.Answer.TheVariants.{DatabaseInUse, IdsEnded, DiskFault}
+use Rattle.store_model.specs.declared.answer.Fault.{Fault}
+use Rattle.store_model.specs.declared.answer.Fault.TheVariants.{Disk}
+use Rattle.store_model.specs.declared.call.Call.{Call}
+use Rattle.store_model.specs.declared.call.Call.TheVariants.{Create, Remove, Rename, Truncate}
+use Rattle.store_model.specs.declared.change.Change.{Change}
+use Rattle.store_model.specs.declared.change.Change.TheVariants.{Make, Remove as Removes, Rename as Renames, Empty}
+use Rattle.store_model.specs.Evaluation.{Outcome, answers, evaluation, evaluation_in}
+use Rattle.store_model.specs.Refusals.{next_txn, or_refusal}
+use Rattle.store_model.specs.Store.{database_of}
+use Rattle.db_catalog.specs.Planning.{outcome_unless}
+use Rattle.je_answers.specs.declared.active.Active.{Active}
+use Rattle.je_answers.specs.After.{after_evaluated, fate_of}
+use Rattle.je_answers.specs.Alone.{Alone, IsAutoCommitted, IsAnsweredAlone, IsEvaluatedAlone, after_alone, alone, drawn_alone, evaluated_alone}
+use Rattle.je_answers.specs.Events.{IsEvaluated}
+use Rattle.je_answers.specs.Journal.{changes_evaluated, is_disk_fault, tried}
+use Rattle.je_answers.specs.Locking.{IsAwaited, IsLeastUser, IsUnused}
+use Rattle.je_answers.specs.Refusals.{early_refusal, late_refusal, name_refusal, number_refusal, target_refusal, there_refusal}
+use Rattle.je_answers.specs.Standing.{Standing, active_of}
+use Rattle.je_answers.specs.Views.{target_of}
+use Rattle.log_file.specs.Log.{Log}
+use Rattle.log_buffer.specs.Buffer.{disk_of as disk_below, end_of}
+use Rattle.log_replay.specs.Rows.{Rows}
+use Rattle.in_tree.specs.Observed.{cells_of}
+use Rattle.sessions.specs.AtStanding.{owing}
+use Rattle.standing_laws.specs.Right.{AreSound}
+use Rattle.txn_core.specs.declared.planned.Planned.TheVariants.{Answered}
+use Rattle.txn_core.specs.Known.{committed}
+use Rattle.txn_core.specs.Planning.{HasModel, IsPlanned, outcome_alone, performed_outcome}
+use Rattle.txn_log.specs.Gives.{GivesRecordsWith}
+use Rattle.engine.specs.Contents.{known}
+use Rattle.engine.specs.Environment.{AreAlone, GivesRecords}
+use Rattle.engine.specs.Limits.{IsWithin, reach_after}
+use Rattle.engine.specs.Steps.{IsNumbered}
+use Rattle.engine.specs.Whole.{contents_of}
+use Rattle.engine.proofs.CallEnds.{EndsAlone, answered_ends, is_there, no_number_ends}
+use Rattle.engine.proofs.CallLaws.{model}
+use Rattle.engine.proofs.CalmAnswers.{IsCalm, faultless, is_loud, outcome_calm, unnumbered}
+use Rattle.engine.proofs.TxnGives.{gives_alone}
+use Rattle.environment.specs.declared.environment.Environment.{Environment}
+use Rattle.environment.specs.Calls.{ChangesCatalog}
+use Rattle.environment.specs.Catalog.{IsFreeToChange, IsUsedBy, IsUserOf, changed_number}
+use Rattle.environment.specs.Limits.{owing_with, written_evaluated}
+use Rattle.environment.specs.Steps.{HasCome, IsLogStep, PerformsAnswer, StandsAt}
+use Rattle.environment.specs.Valid.{active_number}
+use Rattle.environment.specs.Whole.{CanGoOn, HasLimit, reach_of}
+use Rattle.environment.proofs.Answering.{within_more}
+use Rattle.environment.proofs.BeginLaws.{next_is, none_left, with_begun}
+use Rattle.environment.proofs.CatalogStanding.{alone_of, answers_alike, late_alike, leaves_alike, outside, with_alone}
+use Rattle.environment.proofs.EarlyLaws.{same_buffer, same_reach}
+use Rattle.environment.proofs.ListLaws.{drawn_at}
+
+-- ---- a change of the catalog is a transaction of its own
+
+pub auto_is : (call : Call) → ChangesCatalog call → IsAutoCommitted call
+auto_is (Create db kind) is = tt
+auto_is (Remove db) is = tt
+auto_is (Rename db to) is = tt
+auto_is (Truncate db) is = tt
+auto_is call is = absurd is
+
+-- what it writes and what it is to commit are what it comes to
+pub committed_are : (late : Option Answer) (st : Standing) (session : ℕ) (call : Call) → ChangesCatalog call →
+    changes_evaluated late st session call ≡ (outcome_unless late (performed_outcome (alone_of st) session call)).changes
+committed_are (Some refusal) st session call is = refl
+committed_are None st session (Create db kind) is = refl
+committed_are None st session (Remove db) is = refl
+committed_are None st session (Rename db to) is = refl
+committed_are None st session (Truncate db) is = refl
+committed_are None st session call is = absurd is
+
+pub written_are : (late : Option Answer) (st : Standing) (session : ℕ) (call : Call) → ChangesCatalog call →
+    written_evaluated late st session call ≡ (outcome_unless late (performed_outcome (alone_of st) session call)).changes
+written_are (Some refusal) st session call is = refl
+written_are None st session (Create db kind) is = refl
+written_are None st session (Remove db) is = refl
+written_are None st session (Rename db to) is = refl
+written_are None st session (Truncate db) is = refl
+written_are None st session call is = absurd is
+
+-- no number is left
+ended_late : (p : Alone) (session : ℕ) (call : Call) → nat_lt p.last_txn LAST_TXN ≡ false → late_refusal (alone p) session call ≡ Some IdsEnded
+ended_late p session call ended =
+    ap (λ (b : Bool). or_refusal (cond b None (Some IdsEnded)) (or_refusal (there_refusal (alone p) session call) (or_refusal (name_refusal (alone p) session call) (target_refusal call (target_of (alone p) session call))))) ended
+
+-- where nothing refuses it, it changes something
+by_one : (o : Outcome) (answer : Answer) (change : Change) → o.changes ≡ change ∷ [] → o ≡ answers answer → ⊥
+by_one o answer change one is = let none : change ∷ [] ≡ [] = sym one ∙ ap (λ (x : Outcome). x.changes) is in absurd cc
+
+removes_one : (db : List ℕ) (p : Alone) (o : Option Database) (d : Database) (answer : Answer) → o ≡ Some d → evaluation_in (Remove db) p.store o ≡ answers answer → ⊥
+removes_one db p None d answer there is = absurd cc
+removes_one db p (Some e) d answer there is = by_one (evaluation_in (Remove db) p.store (Some e)) answer (Removes db) refl is
+
+renames_one : (db to : List ℕ) (p : Alone) (o : Option Database) (d : Database) (answer : Answer) → o ≡ Some d → evaluation_in (Rename db to) p.store o ≡ answers answer → ⊥
+renames_one db to p None d answer there is = absurd cc
+renames_one db to p (Some e) d answer there is = by_one (evaluation_in (Rename db to) p.store (Some e)) answer (Renames db to) refl is
+
+empties_one : (db : List ℕ) (p : Alone) (o : Option Database) (d : Database) (answer : Answer) → o ≡ Some d → evaluation_in (Truncate db) p.store o ≡ answers answer → ⊥
+empties_one db p None d answer there is = absurd cc
+empties_one db p (Some e) d answer there is = by_one (evaluation_in (Truncate db) p.store (Some e)) answer (Empty db) refl is
+
+unrefused : (p : Alone) (session : ℕ) (call : Call) (answer : Answer) → ChangesCatalog call → late_refusal (alone p) session call ≡ None → performed_outcome p session call ≡ answers answer → ⊥
+unrefused p session (Create db kind) answer is none e = by_one (evaluation (Create db kind) p.store) answer (Make db kind) refl e
+unrefused p session (Remove db) answer is none e =
+    let there = is_there (number_refusal p.last_txn None) _ (database_of db p.store) none in
+    removes_one db p (database_of db p.store) there.0 answer there.1 e
+unrefused p session (Rename db to) answer is none e =
+    let there = is_there (number_refusal p.last_txn None) _ (database_of db p.store) none in
+    renames_one db to p (database_of db p.store) there.0 answer there.1 e
+unrefused p session (Truncate db) answer is none e =
+    let there = is_there (number_refusal p.last_txn None) _ (database_of db p.store) none in
+    empties_one db p (database_of db p.store) there.0 answer there.1 e
+unrefused p session call answer is none e = absurd is
+
+-- ---- who uses its database
+
+user_by : (st : Standing) (db : List ℕ) (number : ℕ) (o : Option TxnId) (call : Call) → number ≡ st.numbers db →
+    (IsUnused st (st.numbers db) → IsFreeToChange st call) → ((t : TxnId) → IsLeastUser st (st.numbers db) t ⊎ IsAwaited st (st.numbers db) t → IsUsedBy st call t) →
+    IfNone o (IsUnused st number) → IfSome o (λ t. IsLeastUser st number t ⊎ IsAwaited st number t) → IsUserOf st call o
+user_by st db number None call is free used none some = free (subst (IsUnused st) is none)
+user_by st db number (Some t) call is free used none some = used t (subst (λ (n : ℕ). IsLeastUser st n t ⊎ IsAwaited st n t) is some)
+
+number_is : (numbers : List ℕ → ℕ) (st : Standing) (db : List ℕ) (number : ℕ) → Some number ≡ Some (numbers db) → ((name : List ℕ) → numbers name ≡ st.numbers name) → number ≡ st.numbers db
+number_is numbers st db number is named = by_some number (numbers db) is ∙ named db
+  where
+    by_some : (x y : ℕ) → Some x ≡ Some y → x ≡ y
+    by_some x y e = ap (λ (o : Option ℕ). unwrap_zero o) e
+      where
+        unwrap_zero : Option ℕ → ℕ
+        unwrap_zero None = 0
+        unwrap_zero (Some n) = n
+
+pub user_is : (st : Standing) (numbers : List ℕ → ℕ) (call : Call) (number : ℕ) (o : Option TxnId) → ChangesCatalog call → ((name : List ℕ) → numbers name ≡ st.numbers name) →
+    Some number ≡ changed_number numbers call → IfNone o (IsUnused st number) → IfSome o (λ t. IsLeastUser st number t ⊎ IsAwaited st number t) → IsUserOf st call o
+user_is st numbers (Create db kind) number o is named e none some = absurd cc
+user_is st numbers (Remove db) number o is named e none some = user_by st db number o (Remove db) (number_is numbers st db number e named) (λ unused. unused) (λ t used. used) none some
+user_is st numbers (Rename db to) number o is named e none some = user_by st db number o (Rename db to) (number_is numbers st db number e named) (λ unused. unused) (λ t used. used) none some
+user_is st numbers (Truncate db) number o is named e none some = user_by st db number o (Truncate db) (number_is numbers st db number e named) (λ unused. unused) (λ t used. used) none some
+user_is st numbers call number o is named e none some = absurd is
+
+pub user_none : (st : Standing) (numbers : List ℕ → ℕ) (call : Call) → ChangesCatalog call → None ≡ changed_number numbers call → IsFreeToChange st call
+user_none st numbers (Create db kind) is e = tt
+user_none st numbers (Remove db) is e = absurd cc
+user_none st numbers (Rename db to) is e = absurd cc
+user_none st numbers (Truncate db) is e = absurd cc
+user_none st numbers call is e = absurd is
+
+module _ {D : Type 0} where
+  -- what is there without those that are under way
+  pub gives_without : (log : Log) (e : Environment D) (st : Standing) → e.engine.kept.last_txn ≡ st.last_txn → e.engine.kept.last_db ≡ st.last_db →
+      GivesRecordsWith log (end_of e.engine.trees.log) (committed (cells_of e.engine.trees)) st.last_txn st.last_db (active_number st.actives) st.own →
+      GivesRecords log (end_of e.engine.trees.log) (contents_of e.engine)
+  gives_without log e st last_txn last_db gives =
+      let rows : Rows = committed (cells_of e.engine.trees) in
+      gives_alone log (end_of e.engine.trees.log) (contents_of e.engine) (active_number st.actives) st.own
+      (subst (λ (n : ℕ). GivesRecordsWith log (end_of e.engine.trees.log) rows n e.engine.kept.last_db (active_number st.actives) st.own) (sym last_txn)
+      (subst (λ (n : ℕ). GivesRecordsWith log (end_of e.engine.trees.log) rows st.last_txn n (active_number st.actives) st.own) (sym last_db) gives))
+
+  pub alone_at : (most : ℕ) (observable : Bool) (history : D → History) (e : Environment D) (st : Standing) → StandsAt most observable history e st →
+      AreAlone most observable (now (history (disk_below e.engine.trees.log))) e.engine.trees.log (contents_of e.engine) (alone_of st)
+  alone_at most observable history e st at = record {
+    file_max = at.file_max;
+    fault = at.fault;
+    last_txn = at.last_txn;
+    last_db = at.last_db;
+    commits = at.commits;
+    totals = at.totals;
+    numbers = λ none. fun_ext (at.valid none).makes.named;
+    valid = λ none.
+        let v = at.valid none in
+        record {
+          log = v.log;
+          has = v.has;
+          works = v.works;
+          gives = gives_without v.log e st at.last_txn at.last_db v.gives;
+          recovers = v.recovers;
+          made = v.makes.store;
+        };
+  }
+
+  module _ (observable : Bool) (history : D → History) (sync_out read_out : D → Option ℕ) (read_of : D → ℕ) where
+    -- the parts of a step
+    pub come : (most : ℕ) (old new : Environment D) (st : Standing) (session line : ℕ) (call : Call) (answer : Answer) (changes : List Change) (limit : Option Answer) (after : Alone) → active_of session st.actives ≡ None →
+        written_evaluated (late_refusal st session call) st session call ≡ changes → changes_evaluated (late_refusal st session call) st session call ≡ changes →
+        HasLimit old (owing st + 1) changes limit → IsEvaluated (late_refusal st session call) limit st session line call answer [] →
+        after_evaluated (late_refusal st session call) st session line call answer [] ≡ with_alone after st →
+        StandsAt most observable history new (with_alone after st) → IsNumbered answer after.commits → after.fault ≡ cond (is_disk_fault answer) (Some Disk) None →
+        IsLogStep observable history sync_out read_out read_of (is_disk_fault answer) old.engine.trees.log new.engine.trees.log (tried changes (fate_of answer)) →
+        IsWithin (reach_of new) (reach_after (reach_of old) changes) → HasCome observable history sync_out read_out read_of most old new st session line call answer []
+    come most old new st session line call answer changes limit after none written committed_ has answers_ leaves here numbered fault logged near = record {
+      limit = limit;
+      has_limit = subst (λ (o : Option Active). HasLimit old (owing_with o st) (written_evaluated (late_refusal st session call) st session call) limit) (sym none)
+          (subst (λ (cs : List Change). HasLimit old (owing st + 1) cs limit) (sym written) has);
+      answers = answers_;
+      here = subst (StandsAt most observable history new) (sym leaves) here;
+      numbered = subst (λ (s : Standing). IsNumbered answer s.commits) (sym leaves) numbered;
+      fault = ap (λ (s : Standing). s.fault) leaves ∙ fault;
+      logged = subst (λ (cs : List Change). IsLogStep observable history sync_out read_out read_of (is_disk_fault answer) old.engine.trees.log new.engine.trees.log (tried cs (fate_of answer))) (sym committed_) logged;
+      near = subst (λ (cs : List Change). IsWithin (reach_of new) (reach_after (reach_of old) cs)) (sym written) near;
+    }
+
+    -- the same by where it ends without those that are under way
+    pub come_alone : (most : ℕ) (old new : Environment D) (st : Standing) (session line : ℕ) (call : Call) (answer : Answer) (changes : List Change) (limit : Option Answer) (after : Alone) → ChangesCatalog call →
+        early_refusal st session call ≡ None → st.fault ≡ None → (outcome_alone (alone_of st) session call).changes ≡ changes → (late_refusal (alone (alone_of st)) session call ≡ None → IsFreeToChange st call) →
+        HasLimit old (owing st + 1) changes limit → EndsAlone limit (alone_of st) session call answer after →
+        StandsAt most observable history new (with_alone after st) → IsNumbered answer after.commits → after.fault ≡ cond (is_disk_fault answer) (Some Disk) None →
+        IsLogStep observable history sync_out read_out read_of (is_disk_fault answer) old.engine.trees.log new.engine.trees.log (tried changes (fate_of answer)) →
+        IsWithin (reach_of new) (reach_after (reach_of old) changes) → HasCome observable history sync_out read_out read_of most old new st session line call answer []
+    come_alone most old new st session line call answer changes limit after is early none outcome free has ends here numbered fault logged near =
+        let p : Alone = alone_of st in
+        let out = outside st session call is early in
+        let alike : late_refusal st session call ≡ late_refusal (alone p) session call = late_alike st session call is out in
+        let same : (outcome_unless (late_refusal st session call) (performed_outcome p session call)).changes ≡ changes =
+        ap (λ (l : Option Answer). (outcome_unless l (performed_outcome p session call)).changes) alike ∙ outcome in
+        let may : IsEvaluatedAlone (late_refusal (alone p) session call) limit p session call answer = subst (λ (f : Option Fault). IsAnsweredAlone f limit p session call answer) none ends.answers in
+        come most old new st session line call answer changes limit after out
+        (written_are (late_refusal st session call) st session call is ∙ same) (committed_are (late_refusal st session call) st session call is ∙ same) has
+        (answers_alike (late_refusal st session call) limit st session line call answer is (λ l. free (sym alike ∙ l)) (subst (λ (l : Option Answer). IsEvaluatedAlone l limit p session call answer) (sym alike) may))
+        (leaves_alike (late_refusal st session call) st session line call answer is out
+        ∙ ap (λ (l : Option Answer). with_alone (evaluated_alone l call p session answer) st) alike
+        ∙ ap (λ (f : Option Fault). with_alone (after_alone f call p session answer) st) (sym none) ∙ ap (λ (q : Alone). with_alone q st) ends.leaves)
+        here numbered fault logged near
+
+    -- a number is drawn, and nothing else
+    pub drawn_here : (most : ℕ) (e : Environment D) (st : Standing) → e.engine.kept.last_txn < LAST_TXN → StandsAt most observable history e st →
+        StandsAt most observable history (with_begun e (e.engine.kept.last_txn + 1) e.sessions) (with_alone (drawn_alone (alone_of st)) st)
+    drawn_here most e st below at =
+        let left : nat_lt st.last_txn LAST_TXN ≡ true = ap (λ (n : ℕ). nat_lt n LAST_TXN) (sym at.last_txn) ∙ lt-ltb e.engine.kept.last_txn LAST_TXN below in
+        let next : e.engine.kept.last_txn + 1 ≡ next_txn st.last_txn = ap (λ (n : ℕ). n + 1) at.last_txn ∙ sym (next_is st.last_txn left) in
+        let last = at.last_txn in
+        subst (λ (n : ℕ). StandsAt most observable history (with_begun e (e.engine.kept.last_txn + 1) e.sessions) (record st { last_txn = n })) next
+        (drawn_at most observable history e (e.engine.kept.last_txn + 1) st (omega (arith, last)) at)
+
+    module _ (faults : D → ℕ) where
+      never_ended : IdsEnded ≡ DiskFault → ⊥
+      never_ended is = absurd cc
+
+      never_used : (t : TxnId) → DatabaseInUse t ≡ DiskFault → ⊥
+      never_used t is = absurd cc
+
+      never_calm : (answer : Answer) → IsCalm answer → answer ≡ DiskFault → ⊥
+      never_calm answer calm is = true≢false (sym (ap is_loud is) ∙ calm)
+
+      -- no number is left
+      pub ended_performs : (e : Environment D) (session : ℕ) (call : Call) → ChangesCatalog call → LAST_TXN ≤ e.engine.kept.last_txn → e.engine.kept.fault ≡ None → CanGoOn e →
+          PerformsAnswer observable history sync_out read_out read_of faults e e session call (Ok IdsEnded)
+      ended_performs e session call is over valid bounds = record {
+        comes = λ most st line at sound early.
+            let none : st.fault ≡ None = sym at.fault ∙ valid in
+            let last = at.last_txn in
+            let past : LAST_TXN ≤ st.last_txn = omega (arith, last, over) in
+            let late = ended_late (alone_of st) session call (none_left st.last_txn past) in
+            come_alone most e e st session line call IdsEnded [] None (alone_of st) is early none
+            (ap (λ (l : Option Answer). (outcome_unless l (performed_outcome (alone_of st) session call)).changes) late) (λ unrefused_. absurd (not_some IdsEnded (sym late ∙ unrefused_))) refl
+            (no_number_ends None (alone_of st) session call none past) at tt none (inl (same_buffer e.engine.trees.log, refl)) (within_more e e [] (same_reach e));
+        near = tt;
+        bounds = bounds;
+        cause = record { never_falls = omega arith; fault = λ done. absurd (never_ended done) };
+      }
+        where
+          not_some : (a : Answer) → Some a ≡ None → ⊥
+          not_some a e = absurd cc
+
+      -- an answer without changes
+      pub answered_performs : (e : Environment D) (session : ℕ) (call : Call) (answer : Answer) → ChangesCatalog call → e.engine.kept.last_txn < LAST_TXN → e.engine.kept.fault ≡ None → CanGoOn e →
+          ((p : Alone) (s : ℕ) → HasModel (known (contents_of e.engine)) p → IsPlanned (known (contents_of e.engine)) p s call (Answered answer)) →
+          ((most : ℕ) × (st : Standing) × StandsAt most observable history e st × AreSound st × (early_refusal st session call ≡ None)) →
+          PerformsAnswer observable history sync_out read_out read_of faults e (with_begun e (e.engine.kept.last_txn + 1) e.sessions) session call (Ok answer)
+      answered_performs e session call answer is below valid bounds plan there = record {
+        comes = λ most st line at sound early.
+            let none : st.fault ≡ None = sym at.fault ∙ valid in
+            let p : Alone = alone_of st in
+            let planned = plan p session (has most st at) in
+            let calm : IsCalm answer = calm_is most st at in
+            come_alone most e (with_begun e (e.engine.kept.last_txn + 1) e.sessions) st session line call answer [] None (drawn_alone p) is early none (ap (λ (o : Outcome). o.changes) planned)
+            (λ late. absurd (unrefused p session call answer is late (sym (ap (λ (l : Option Answer). outcome_unless l (performed_outcome p session call)) late) ∙ planned))) refl
+            (answered_ends None (known (contents_of e.engine)) p session call answer none (auto_is call is) planned)
+            (drawn_here most e st below at) (unnumbered answer st.commits calm) (none ∙ ap (λ (b : Bool). cond b (Some Disk) None) (sym (faultless answer calm)))
+            (subst (λ (b : Bool). IsLogStep observable history sync_out read_out read_of b e.engine.trees.log e.engine.trees.log []) (sym (faultless answer calm)) (inl (same_buffer e.engine.trees.log, refl)))
+            (within_more e (with_begun e (e.engine.kept.last_txn + 1) e.sessions) [] (record { file = omega arith; node = omega arith }));
+        near = tt;
+        bounds = let within : e.engine.kept.commits ≤ e.engine.kept.last_txn = bounds in omega (arith, within);
+        cause = record { never_falls = omega arith; fault = λ done. absurd (never_calm answer (calm_is there.0 there.1 there.2) done) };
+      }
+        where
+          has : (most : ℕ) (st : Standing) → StandsAt most observable history e st → HasModel (known (contents_of e.engine)) (alone_of st)
+          has most st at = model most observable (now (history (disk_below e.engine.trees.log))) e.engine.trees.log (contents_of e.engine) (alone_of st) (alone_at most observable history e st at) (sym at.fault ∙ valid) below
+
+          calm_is : (most : ℕ) (st : Standing) → StandsAt most observable history e st → IsCalm answer
+          calm_is most st at = sym (ap (λ (o : Outcome). is_loud o.answer) (plan (alone_of st) session (has most st at))) ∙ outcome_calm (alone_of st) session call (auto_is call is)
+
+      -- there was no memory
+      pub none_performs : (e : Environment D) (session : ℕ) (call : Call) (error : AllocError) → CanGoOn e → PerformsAnswer observable history sync_out read_out read_of faults e e session call (Err error)
+      none_performs e session call error bounds = record {
+        comes = λ most st line at sound early. record { here = at; log = same_buffer e.engine.trees.log; near = same_reach e };
+        near = same_reach e;
+        bounds = bounds;
+        cause = record { never_falls = omega arith; fault = tt };
+      }

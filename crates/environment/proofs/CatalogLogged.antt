@@ -1,0 +1,550 @@
+-- A change of the catalog is logged where others are under way.
+use Rattle.std.proofs.Common.{◌≡◌, ◌≢◌, ◌∙◌, ◌⊎◌, inl, inr, ◌≤◌, ◌<◌, ◌+◌, ◌^◌, ℕ, Bool, true, false, true≢false, cond, nat_lt, List, [], ◌∷◌, Option, None, Some, Result, Ok, Err, OnErr, length, map, ap, refl, sym, subst, arith}
+use Rattle.std.specs.Prelude.{◌==◌}
+use mathlib.Core.Path.{fun_ext}
+use Rattle.std.specs.List.{AllByRecursion}
+use Rattle.std.specs.declared.alloc.AllocError.{AllocError}
+use Rattle.std.proofs.lemmas.Bool.{and_parts, eqb-true, ltb-true}
+use Rattle.std.proofs.lemmas.List.{append-nil}
+use Rattle.std.proofs.lemmas.Option.{none-some}
+use Rattle.je_disk.specs.Moments.{History, now}
+use Rattle.je_disk.specs.States.{State}
+use Rattle.je_order.specs.declared.name.Name.{Name}
+use Rattle.je_order.specs.declared.txn_id.TxnId.{TxnId}
+use Rattle.je_order.proofs.Lists.{all_weaker}
+use Rattle.store_model.specs.declared.store.Database.{Database}
+use Rattle.store_model.specs.declared.store.Store.{Store}
+use Rattle.store_model.specs.declared.store.TheConstants.{LAST_TXN, LAST_DATABASE}
+use Rattle.store_model.specs.declared.answer.Answer.{Answer}
+use Rattle.store_model.specs.declared.answer.Answer.TheVariants.{IdsEnded, DiskFault, LogFull, Logged, DatabaseInUse}
+use Rattle.store_model.specs.declared.answer.Fault.TheVariants.{Disk}
+use Rattle.store_model.specs.declared.call.Call.{Call}
+use Rattle.store_model.specs.declared.call.Call.TheVariants.{Create, Remove, Rename, Truncate}
+use Rattle.store_model.specs.declared.change.Change.{Change}
+use Rattle.store_model.specs.declared.change.Change.TheVariants.{Set, Unset, Make, Remove as Removes, Rename as Renames, Empty}
+use Rattle.store_model.specs.Evaluation.{evaluation_in}
+use Rattle.store_model.specs.Refusals.{made_by, next_txn}
+use Rattle.store_model.specs.Store.{database_of}
+use Rattle.db_catalog.specs.declared.catalog_change.CatalogChange.{CatalogChange}
+use Rattle.db_catalog.specs.declared.catalog_change.CatalogChange.TheVariants.{Put as PutRecord, Delete as DeleteRecord}
+use Rattle.db_catalog.specs.Planning.{logged_as, outcome_unless}
+use Rattle.je_answers.specs.Alone.{Alone, alone, committed_alone, drawn_alone, faulted_alone, IsAutoCommitted}
+use Rattle.je_answers.specs.After.{fate_of, after_evaluated}
+use Rattle.je_answers.specs.Journal.{is_disk_fault, tried}
+use Rattle.je_answers.specs.Refusals.{early_refusal, late_refusal}
+use Rattle.je_answers.specs.Standing.{Standing}
+use Rattle.je_answers.specs.Views.{of_db}
+use Rattle.log_buffer.specs.declared.buffer.LogBuffer.{LogBuffer}
+use Rattle.log_buffer.specs.Buffer.{IsUnchanged, disk_of as disk_below, end_of, has_failed}
+use Rattle.log_buffer.proofs.GrowthLaws.{grew_unchanged}
+use Rattle.log_replay.specs.Logging.{all_row_changes, catalog_row_change, number_named, record_named, row_changes}
+use Rattle.log_replay.specs.Rows.{RowChange, Rows}
+use Rattle.log_replay.proofs.ListLaws.{all_of_map}
+use Rattle.record_map.specs.Cells.{value_at}
+use Rattle.record_map.specs.declared.write.Write.{Write}
+use Rattle.record_tree.specs.Logged.{LogsTransaction, is_made}
+use Rattle.record_tree.specs.Occupied.{AllCells, IsFreeFor, write_in}
+use Rattle.record_tree.specs.declared.tree_err.TreeErr.{TreeErr}
+use Rattle.record_tree.specs.declared.tree_change.TreeChange.{TreeChange}
+use Rattle.in_tree.specs.Limits.{HasRoomFor, commit_sizes}
+use Rattle.in_tree.specs.Observed.{cells_of, has_tree_of, limit_in, waits_of}
+use Rattle.sessions.specs.AtStanding.{AreSessionsAt, owing}
+use Rattle.standing_laws.specs.Right.{AreSound}
+use Rattle.standing_laws.proofs.Writers.{unused-has_no_changes}
+use Rattle.txn_core.specs.declared.planned_changes.PlannedChanges.{PlannedChanges}
+use Rattle.txn_core.specs.Known.{Known, committed}
+use Rattle.txn_core.specs.Planning.{HasModel, IsPlannedLog, performed_outcome, row_by}
+use Rattle.txn_core.specs.Transactions.{is_gone}
+use Rattle.txn_log.specs.Buffers.{HasAdded, HasFailed, HasGiven, MayCommit}
+use Rattle.txn_log.specs.Committing.{IsElsewhere, MayBeCommitted}
+use Rattle.txn_log.specs.Own.{AreFreeNames, OwnChange}
+use Rattle.txn_log.proofs.CommittingLaws.{own_above}
+use Rattle.txn_views.specs.Seen.{HasWrites, IsWriteOf, last_own}
+use Rattle.txn_views.proofs.OwnLaws.{none_in}
+use Rattle.engine.specs.declared.engine.Engine.{Engine}
+use Rattle.engine.specs.Contents.{Contents, IsSame, drawn_contents, known, rows_after, HasLogged}
+use Rattle.engine.specs.Environment.{AreAlone, GivesRecords}
+use Rattle.engine.specs.Limits.{IsWithin, limit_by, reach_after}
+use Rattle.engine.specs.Steps.{HasAppended, HasTried, LogsChanges, txn_of, HasStepCause, IsNumbered}
+use Rattle.engine.specs.Whole.{AreSameCells, EndsNear, LeavesCells, contents_of, end_file as end_below, reach_of as reach_below, LeavesOthers}
+use Rattle.engine.proofs.AttemptLaws.{alone_changes}
+use Rattle.engine.proofs.CallEnds.{EndsAlone, ended_ends, fault_ends, full_ends, ids_ends, logged_ends, logs_alone}
+use Rattle.engine.proofs.CallLaws.{logs_grow, model, sound_at}
+use Rattle.engine.proofs.CatalogLogs.{IsOfCatalog, elsewhere_empty, elsewhere_make, elsewhere_remove, elsewhere_rename}
+use Rattle.engine.proofs.GuardedEvents.{commit_recovered_in, tried_commit_recovered_in}
+use Rattle.engine.proofs.PlannedCalls.{are_planned, trees_logged}
+use Rattle.engine.proofs.PlannedRows.{ArePlanned, LeavesRows, planned_rows}
+use Rattle.engine.proofs.StepLaws.{drawn_at as drawn_alone_at, logged_at, same_at}
+use Rattle.engine.proofs.SyncedStanding.{faulted_at}
+use Rattle.engine.proofs.TransactionGrowth.{may_grow, store_on}
+use Rattle.engine.proofs.TxnGives.{gives_with_none, leaves_records}
+use Rattle.environment.specs.declared.environment.Environment.{Environment}
+use Rattle.environment.specs.declared.written.OwnNames.{OwnNames}
+use Rattle.environment.specs.Calls.{ChangesCatalog}
+use Rattle.environment.specs.Catalog.{IsFreeToChange, IsUsedBy}
+use Rattle.environment.specs.Steps.{ComesToAnswer, HasCome, IsLogStep, StandsAt, PerformsAnswer}
+use Rattle.environment.specs.Valid.{IsValidWith, owed_by}
+use Rattle.environment.specs.Whole.{HasLimit, reach_of, CanGoOn}
+use Rattle.environment.proofs.BeginLaws.{next_is, with_begun}
+use Rattle.environment.proofs.CatalogEnds.{alone_at, auto_is, come_alone, gives_without, come, written_are, committed_are, drawn_here}
+use Rattle.environment.proofs.CatalogStanding.{alone_of, with_alone, in_use_answers, in_use_leaves, late_alike, outside}
+use Rattle.environment.proofs.CatalogValid.{logged_valid, none_of}
+use Rattle.environment.proofs.ListLaws.{valid_drawn}
+use Rattle.environment.proofs.Standing.{IsLike, sessions_faulted, valid_like}
+use Rattle.std.proofs.lemmas.Bool.{lt-ltb}
+use Rattle.environment.proofs.EarlyLaws.{same_buffer}
+use Rattle.environment.proofs.Answering.{within_more}
+use Rattle.je_answers.specs.Events.{IsEvaluated}
+
+-- ---- one change of the catalog
+
+abbrev pub IsChangeOf : Call → Change → Type 0
+IsChangeOf (Create db kind) change = change ≡ Make db kind
+IsChangeOf (Remove db) change = change ≡ Removes db
+IsChangeOf (Rename db to) change = change ≡ Renames db to
+IsChangeOf (Truncate db) change = change ≡ Empty db
+IsChangeOf call change = ⊥
+
+abbrev AreOne : Call → List Change → Type 0
+AreOne call [] = Unit {0}
+AreOne call (change ∷ more) = IsChangeOf call change × (more ≡ [])
+
+remove_one : (db : List ℕ) (store : Store) (o : Option Database) → AreOne (Remove db) (evaluation_in (Remove db) store o).changes
+remove_one db store None = tt
+remove_one db store (Some d) = (refl, refl)
+
+rename_one : (db to : List ℕ) (store : Store) (o : Option Database) → AreOne (Rename db to) (evaluation_in (Rename db to) store o).changes
+rename_one db to store None = tt
+rename_one db to store (Some d) = (refl, refl)
+
+empty_one : (db : List ℕ) (store : Store) (o : Option Database) → AreOne (Truncate db) (evaluation_in (Truncate db) store o).changes
+empty_one db store None = tt
+empty_one db store (Some d) = (refl, refl)
+
+ones : (late : Option Answer) (p : Alone) (session : ℕ) (call : Call) → ChangesCatalog call → AreOne call (outcome_unless late (performed_outcome p session call)).changes
+ones (Some refusal) p session call is = tt
+ones None p session (Create db kind) is = (refl, refl)
+ones None p session (Remove db) is = remove_one db p.store (database_of db p.store)
+ones None p session (Rename db to) is = rename_one db to p.store (database_of db p.store)
+ones None p session (Truncate db) is = empty_one db p.store (database_of db p.store)
+ones None p session call is = absurd is
+
+pub one_planned : (k : Known) (p : Alone) (session : ℕ) (call : Call) (planned : PlannedChanges) → ChangesCatalog call → (log : IsPlannedLog k p session call planned) →
+    IsChangeOf call log.change × (log.more ≡ [])
+one_planned k p session call planned is log = subst (AreOne call) log.changes (ones (late_refusal (alone p) session call) p session call is)
+
+pub of_catalog : (call : Call) (change : Change) → IsChangeOf call change → IsOfCatalog change
+of_catalog (Create db kind) change is = subst IsOfCatalog (sym is) tt
+of_catalog (Remove db) change is = subst IsOfCatalog (sym is) tt
+of_catalog (Rename db to) change is = subst IsOfCatalog (sym is) tt
+of_catalog (Truncate db) change is = subst IsOfCatalog (sym is) tt
+of_catalog call change is = absurd is
+
+pub elsewhere_of : (rows : Rows) (st : Standing) (call : Call) (change : Change) (u : ℕ) → ((name : List ℕ) → number_named rows name ≡ st.numbers name) → AreSound st → IsFreeToChange st call → IsChangeOf call change →
+    AllByRecursion (λ (c : OwnChange). IsElsewhere rows change c.0) (st.own u)
+elsewhere_of rows st (Create db kind) change u named sound free is =
+    subst (λ (x : Change). AllByRecursion (λ (c : OwnChange). IsElsewhere rows x c.0) (st.own u)) (sym is) (elsewhere_make rows db kind (st.own u))
+elsewhere_of rows st (Remove db) change u named sound free is =
+    subst (λ (x : Change). AllByRecursion (λ (c : OwnChange). IsElsewhere rows x c.0) (st.own u)) (sym is)
+    (elsewhere_remove rows db (st.own u) (subst (λ (n : ℕ). of_db n (st.own u) ≡ []) (sym (named db)) (unused-has_no_changes st (st.numbers db) sound free u)))
+elsewhere_of rows st (Rename db to) change u named sound free is =
+    subst (λ (x : Change). AllByRecursion (λ (c : OwnChange). IsElsewhere rows x c.0) (st.own u)) (sym is)
+    (elsewhere_rename rows db to (st.own u) (subst (λ (n : ℕ). of_db n (st.own u) ≡ []) (sym (named db)) (unused-has_no_changes st (st.numbers db) sound free u)))
+elsewhere_of rows st (Truncate db) change u named sound free is =
+    subst (λ (x : Change). AllByRecursion (λ (c : OwnChange). IsElsewhere rows x c.0) (st.own u)) (sym is)
+    (elsewhere_empty rows db (st.own u) (subst (λ (n : ℕ). of_db n (st.own u) ≡ []) (sym (named db)) (unused-has_no_changes st (st.numbers db) sound free u)))
+elsewhere_of rows st call change u named sound free is = absurd is
+
+-- ---- its names are the catalog's, which no transaction under way changes
+
+catalog_only : (changes : List CatalogChange) → AllByRecursion (λ (r : RowChange). r.db ≡ 0) (map (catalog_row_change 0) changes)
+catalog_only [] = tt
+catalog_only (PutRecord db row ∷ changes) = (refl, catalog_only changes)
+catalog_only (DeleteRecord db ∷ changes) = (refl, catalog_only changes)
+
+in_catalog : (last_db : ℕ) (change : Change) (rows : Rows) → IsOfCatalog change → AllByRecursion (λ (r : RowChange). r.db ≡ 0) (row_changes 0 last_db change rows)
+in_catalog last_db (Set db at value) rows is = absurd is
+in_catalog last_db (Unset db at) rows is = absurd is
+in_catalog last_db (Make db kind) rows is = catalog_only (logged_as (record_named rows) (last_db + 1) (Make db kind))
+in_catalog last_db (Removes db) rows is = catalog_only (logged_as (record_named rows) (last_db + 1) (Removes db))
+in_catalog last_db (Renames db to) rows is = catalog_only (logged_as (record_named rows) (last_db + 1) (Renames db to))
+in_catalog last_db (Empty db) rows is = catalog_only (logged_as (record_named rows) (last_db + 1) (Empty db))
+
+logged_in : (last_db : ℕ) (change : Change) (more : List Change) (rows : Rows) (planned : List TreeChange) → IsOfCatalog change → more ≡ [] → map (row_by 0) planned ≡ all_row_changes 0 last_db (change ∷ more) rows →
+    AllByRecursion (λ (c : TreeChange). c.db ≡ 0) planned
+logged_in last_db change more rows planned of none are =
+    let logs : map (row_by 0) planned ≡ row_changes 0 last_db change rows = are ∙ ap (λ (m : List Change). all_row_changes 0 last_db (change ∷ m) rows) none ∙ append-nil (row_changes 0 last_db change rows) in
+    all_of_map (row_by 0) (λ (r : RowChange). r.db ≡ 0) planned (subst (AllByRecursion (λ (r : RowChange). r.db ≡ 0)) (sym logs) (in_catalog last_db change rows of))
+
+unwritten : (cells : AllCells) (own : ℕ → List OwnChange) (rows : Rows) (x : Name) → HasWrites cells own → ((t : ℕ) → AllByRecursion (MayBeCommitted rows) (own t)) → write_in (value_at x (cells 0)) ≡ None
+unwritten cells own rows x writes may = by_write (write_in (value_at x (cells 0))) (writes 0 x)
+  where
+    none_own : (t : ℕ) → last_own 0 x (own t) ≡ None
+    none_own t = none_in 0 x (own t) (none_of 0 (own t) (all_weaker (MayBeCommitted rows) (λ (c : OwnChange). c.0 ≢ 0) (λ c can. own_above rows c can) (own t) (may t)))
+
+    by_write : (w : Option Write) → IsWriteOf 0 x own w → w ≡ None
+    by_write None is = refl
+    by_write (Some w) is = absurd (none-some is.change (sym (none_own w.txn.0) ∙ is.last))
+
+free_each : (cells : AllCells) (own : ℕ → List OwnChange) (rows : Rows) (t : TxnId) (changes : List TreeChange) → HasWrites cells own → ((u : ℕ) → AllByRecursion (MayBeCommitted rows) (own u)) →
+    AllByRecursion (λ (c : TreeChange). c.db ≡ 0) changes → AllByRecursion (λ (c : TreeChange). IsFreeFor t (write_in (value_at c.name (cells c.db)))) changes
+free_each cells own rows t [] writes may all = tt
+free_each cells own rows t (c ∷ changes) writes may all = (
+  subst (λ (d : ℕ). IsFreeFor t (write_in (value_at c.name (cells d)))) (sym all.0) (subst (IsFreeFor t) (sym (unwritten cells own rows c.name writes may)) tt),
+  free_each cells own rows t changes writes may all.1,
+)
+
+no_others : (t : ℕ) (changes : List TreeChange) → AreFreeNames (λ u. false) (λ u. []) t changes
+no_others t [] = tt
+no_others t (c ∷ changes) = (λ u active other. absurd (true≢false (sym active)), no_others t changes)
+
+pub near_by : (failed_old failed_new : Bool) (old new owed more : ℕ) → failed_old ≡ false → cond failed_new 0 new ≤ cond failed_old 0 old + more → cond failed_new 0 (new + owed) ≤ cond failed_old 0 (old + owed) + more
+near_by false true old new owed more works le = omega arith
+near_by false false old new owed more works le = omega (arith, le)
+near_by true failed_new old new owed more works le = absurd (true≢false works)
+
+module _ {D : Type 0} where
+  abbrev pub with_engine : Environment D → Engine D → Environment D
+  with_engine e n = record { engine = n; sessions = e.sessions; written = e.written }
+
+  -- the names that are to be logged are free
+  pub free_names : (most : ℕ) (observable : Bool) (history : D → History) (e : Environment D) (st : Standing) (session : ℕ) (call : Call) (planned : PlannedChanges) (t : TxnId) → StandsAt most observable history e st → st.fault ≡ None →
+      ChangesCatalog call → IsPlannedLog (known (contents_of e.engine)) (alone_of st) session call planned →
+      AllByRecursion (λ (c : TreeChange). IsFreeFor t (write_in (value_at c.name (cells_of e.engine.trees c.db)))) planned.changes.items
+  free_names most observable history e st session call planned t at none is log =
+      let v = at.valid none in
+      let one = one_planned (known (contents_of e.engine)) (alone_of st) session call planned is log in
+      free_each (cells_of e.engine.trees) st.own (committed (cells_of e.engine.trees)) t planned.changes.items v.writes v.may
+      (logged_in e.engine.kept.last_db log.change log.more (committed (cells_of e.engine.trees)) planned.changes.items (of_catalog call log.change one.0) one.1 (log.rows 0))
+
+  -- it reaches no farther than its engine does
+  pub near_env : (e : Environment D) (n : Engine D) (changes : List Change) → has_failed e.engine.trees.log ≡ false → IsWithin (reach_below n) (reach_after (reach_below e.engine) changes) →
+      IsWithin (reach_of (with_engine e n)) (reach_after (reach_of e) changes)
+  near_env e n changes works near = record {
+    file = near_by (has_failed e.engine.trees.log) (has_failed n.trees.log) ((end_of e.engine.trees.log).file + waits_of e.engine.trees) ((end_of n.trees.log).file + waits_of n.trees) _ _ works near.file;
+    node = near.node;
+  }
+
+  pub has_limit : (e : Environment D) (owed : ℕ) (p : Alone) (session : ℕ) (call : Call) (planned : PlannedChanges) → (log : IsPlannedLog (known (contents_of e.engine)) p session call planned) →
+      HasLimit e owed (log.change ∷ log.more) (limit_by (limit_in e.engine.trees planned.changes.items owed) e.engine.kept.last_node (length planned.changes.items))
+  has_limit e owed p session call planned log = record { planned = planned.changes.items; rows = log.rows 0; makes = made_later; is = refl }
+    where
+      made_later : e.engine.kept.last_db + made_by (log.change ∷ log.more) < 2 ^ 32 → (d : ℕ) → is_made d planned.changes.items ≡ true → e.engine.kept.last_db < d
+      made_later low d made =
+          let parts = and_parts (nat_lt e.engine.kept.last_db planned.last_db) (d == planned.last_db) (sym (log.made (subst (λ n. n < 2 ^ 32) (sym log.last_db) low) d) ∙ made) in
+          let later = ltb-true e.engine.kept.last_db planned.last_db parts.0 in
+          let is : d ≡ planned.last_db = eqb-true d planned.last_db parts.1 in
+          omega (arith, later, is)
+
+  module _ (observable : Bool) (history : D → History) (sync_out read_out : D → Option ℕ) (read_of : D → ℕ) where
+    -- ---- where it stands
+
+    pub stands_on : (most : ℕ) (e : Environment D) (n : Engine D) (st : Standing) (q : Alone) → StandsAt most observable history e st → AreSessionsAt e.sessions (with_alone q st) →
+        AreAlone most observable (now (history (disk_below n.trees.log))) n.trees.log (contents_of n) q →
+        (q.fault ≡ None → IsValidWith observable (now (history (disk_below n.trees.log))) n.trees.log (cells_of n.trees) (has_tree_of n.trees) e.written.by_txn.entries (with_alone q st)) →
+        StandsAt most observable history (with_engine e n) (with_alone q st)
+    stands_on most e n st q at sessions here valid = record {
+      file_max = here.file_max;
+      fault = here.fault;
+      last_txn = here.last_txn;
+      last_db = here.last_db;
+      commits = here.commits;
+      totals = here.totals;
+      sessions_at = sessions;
+      apart = at.apart;
+      valid = valid;
+    }
+
+    valid_same : (old new : LogBuffer D) (cells later : AllCells) (has_tree later_tree : ℕ → Bool) (written : List (TxnId × OwnNames)) (st : Standing) → IsUnchanged old new → ((d : ℕ) → later d ≡ cells d) →
+        ((d : ℕ) → later_tree d ≡ has_tree d) → IsValidWith observable (now (history (disk_below old))) old cells has_tree written st →
+        IsValidWith observable (now (history (disk_below new))) new later later_tree written st
+    valid_same old new cells later has_tree later_tree written st same cells_are trees_are v =
+        let like : IsLike observable (now (history (disk_below old))) (now (history (disk_below new))) old new = record {
+          logs = (grew_unchanged observable history sync_out read_out read_of old new same).log;
+          end = same.kept.end;
+          max = same.kept.max;
+          works = same.failed ∙ v.works;
+          room = same.kept.room;
+        } in
+        subst (λ (c : AllCells). IsValidWith observable (now (history (disk_below new))) new c later_tree written st) (sym (fun_ext cells_are))
+        (subst (λ (t : ℕ → Bool). IsValidWith observable (now (history (disk_below new))) new cells t written st) (sym (fun_ext trees_are))
+        (valid_like observable (now (history (disk_below old))) (now (history (disk_below new))) old new cells has_tree written st st.begun like v))
+
+    -- nothing was logged: a number was drawn, or not even that
+    pub drawn_same : (most : ℕ) (e : Environment D) (n : Engine D) (st : Standing) → StandsAt most observable history e st → e.engine.kept.last_txn < LAST_TXN → IsSame (drawn_contents (contents_of e.engine)) (contents_of n) →
+        IsUnchanged e.engine.trees.log n.trees.log → AreSameCells e.engine.trees n.trees → StandsAt most observable history (with_engine e n) (with_alone (drawn_alone (alone_of st)) st)
+    drawn_same most e n st at below same log cells =
+        let p : Alone = alone_of st in
+        let state : State = now (history (disk_below e.engine.trees.log)) in
+        let left : nat_lt st.last_txn LAST_TXN ≡ true = ap (λ (x : ℕ). nat_lt x LAST_TXN) (sym at.last_txn) ∙ lt-ltb e.engine.kept.last_txn LAST_TXN below in
+        let next = next_is st.last_txn left in
+        stands_on most e n st (drawn_alone p) at at.sessions_at
+        (same_at observable history sync_out read_out read_of most e.engine.trees.log n.trees.log (drawn_contents (contents_of e.engine)) (contents_of n) (drawn_alone p)
+        (drawn_alone_at observable history sync_out read_out read_of most state e.engine.trees.log (contents_of e.engine) p (alone_at most observable history e st at) below) same log)
+        (λ none. valid_same e.engine.trees.log n.trees.log (cells_of e.engine.trees) (cells_of n.trees) (has_tree_of e.engine.trees) (has_tree_of n.trees) e.written.by_txn.entries (record st { last_txn = next_txn st.last_txn }) log cells.cells cells.made
+        (valid_drawn observable state e.engine.trees.log (cells_of e.engine.trees) (has_tree_of e.engine.trees) e.written.by_txn.entries st (next_txn st.last_txn) (omega (arith, next)) (at.valid none)))
+
+    pub undrawn_same : (most : ℕ) (e : Environment D) (n : Engine D) (st : Standing) → StandsAt most observable history e st → IsSame (contents_of e.engine) (contents_of n) →
+        IsUnchanged e.engine.trees.log n.trees.log → AreSameCells e.engine.trees n.trees → StandsAt most observable history (with_engine e n) st
+    undrawn_same most e n st at same log cells =
+        stands_on most e n st (alone_of st) at at.sessions_at
+        (same_at observable history sync_out read_out read_of most e.engine.trees.log n.trees.log (contents_of e.engine) (contents_of n) (alone_of st) (alone_at most observable history e st at) same log)
+        (λ none. valid_same e.engine.trees.log n.trees.log (cells_of e.engine.trees) (cells_of n.trees) (has_tree_of e.engine.trees) (has_tree_of n.trees) e.written.by_txn.entries st log cells.cells cells.made (at.valid none))
+
+    -- ---- what is recovered
+
+    module _ (most : ℕ) (e : Environment D) (st : Standing) (session : ℕ) (call : Call) (planned : PlannedChanges) (at : StandsAt most observable history e st) (none : st.fault ≡ None)
+        (log : IsPlannedLog (known (contents_of e.engine)) (alone_of st) session call planned) (low : planned.last_db ≤ LAST_DATABASE) where
+      pub are_of : ArePlanned (committed (cells_of e.engine.trees)) e.engine.kept.last_db log.change log.more planned.changes.items planned.gone
+      are_of = are_planned (contents_of e.engine) (alone_of st) session call planned
+          (sound_at most observable (now (history (disk_below e.engine.trees.log))) e.engine.trees.log (contents_of e.engine) (alone_of st) (alone_at most observable history e st at) none) log (omega (arith, low))
+
+      pub leaves_of : LeavesRows (committed (cells_of e.engine.trees)) (rows_after planned.changes.items planned.gone (committed (cells_of e.engine.trees))) e.engine.kept.last_db (log.change ∷ log.more) planned.changes.items planned.gone
+      leaves_of = planned_rows (committed (cells_of e.engine.trees)) e.engine.kept.last_db log.change log.more planned.changes.items planned.gone are_of
+
+      may_of : MayCommit e.engine.kept.last_txn (λ t. false) (λ t. []) (committed (cells_of e.engine.trees)) (rows_after planned.changes.items planned.gone (committed (cells_of e.engine.trees)))
+          e.engine.kept.last_db (e.engine.kept.last_db + made_by (log.change ∷ log.more)) (λ d. is_gone d planned.gone) (txn_of (e.engine.kept.last_txn + 1)) [] planned.changes.items
+      may_of = record {
+        has = inr (omega arith, refl);
+        free = no_others (e.engine.kept.last_txn + 1) planned.changes.items;
+        leaves = leaves_records (committed (cells_of e.engine.trees)) (rows_after planned.changes.items planned.gone (committed (cells_of e.engine.trees))) e.engine.kept.last_db (log.change ∷ log.more) planned.changes.items
+            planned.gone leaves_of;
+      }
+
+      pub gives_of : GivesRecords (at.valid none).log (end_of e.engine.trees.log) (contents_of e.engine)
+      gives_of = gives_without (at.valid none).log e st at.last_txn at.last_db (at.valid none).gives
+
+      given_of : HasGiven observable history e.engine.trees.log (at.valid none).log (committed (cells_of e.engine.trees)) e.engine.kept.last_txn e.engine.kept.last_db (λ t. false) (λ t. [])
+      given_of = record { has = (at.valid none).has; gives = gives_with_none (at.valid none).log (end_of e.engine.trees.log) (contents_of e.engine) gives_of }
+
+      -- the log got the entries, or tried them
+      pub logged_step : (n : Engine D) → HasAppended observable history sync_out read_out read_of e.engine.trees.log n.trees.log (txn_of (e.engine.kept.last_txn + 1)) planned.changes.items →
+          IsLogStep observable history sync_out read_out read_of false e.engine.trees.log n.trees.log ((log.change ∷ log.more) ∷ [])
+      logged_step n a =
+          let added : HasAdded observable history sync_out read_out read_of e.engine.trees.log n.trees.log (LogsTransaction (txn_of (e.engine.kept.last_txn + 1)) planned.changes.items) =
+          record { entries = a.entries; logs = a.logs; grew = a.grew; room = record { max = e.engine.trees.log.max; entries_are = a.fits.entries_are; room = a.fits.room } } in
+          inr (record {
+            entries = a.entries;
+            grew = a.grew;
+            recovers = commit_recovered_in observable history sync_out read_out read_of (at.valid none).log e.engine.trees.log n.trees.log (committed (cells_of e.engine.trees))
+                (rows_after planned.changes.items planned.gone (committed (cells_of e.engine.trees))) e.engine.kept.last_txn e.engine.kept.last_db (e.engine.kept.last_db + made_by (log.change ∷ log.more)) (λ t. false) (λ t. [])
+                (λ d. is_gone d planned.gone) (txn_of (e.engine.kept.last_txn + 1)) [] planned.changes.items (log.change ∷ log.more) given_of may_of leaves_of.store added;
+          })
+
+      pub tried_step : (n : Engine D) → HasTried observable history sync_out read_out read_of e.engine.trees.log n.trees.log (txn_of (e.engine.kept.last_txn + 1)) planned.changes.items →
+          IsLogStep observable history sync_out read_out read_of true e.engine.trees.log n.trees.log ((log.change ∷ log.more) ∷ [])
+      tried_step n a =
+          let failed : HasFailed observable history sync_out read_out read_of e.engine.trees.log n.trees.log (LogsTransaction (txn_of (e.engine.kept.last_txn + 1)) planned.changes.items) =
+          record { entries = a.entries; front = a.front; logs = a.logs; is_front = a.is_front; tried = a.tried; room = record { max = e.engine.trees.log.max; entries_are = a.fits.entries_are; room = a.fits.room } } in
+          record {
+            front = a.front;
+            tried = a.tried;
+            recovers = tried_commit_recovered_in observable history sync_out read_out read_of (at.valid none).log e.engine.trees.log n.trees.log (committed (cells_of e.engine.trees))
+                (rows_after planned.changes.items planned.gone (committed (cells_of e.engine.trees))) e.engine.kept.last_txn e.engine.kept.last_db (e.engine.kept.last_db + made_by (log.change ∷ log.more)) (λ t. false) (λ t. [])
+                (λ d. is_gone d planned.gone) (txn_of (e.engine.kept.last_txn + 1)) [] planned.changes.items (log.change ∷ log.more) given_of may_of leaves_of.store failed;
+          }
+
+      -- it is valid afterwards
+      valid_logged : (n : Engine D) → AreSound st → ChangesCatalog call → IsFreeToChange st call → e.engine.kept.last_txn < LAST_TXN →
+          HasLogged (contents_of e.engine) (contents_of n) planned → LeavesOthers e.engine.trees n.trees planned (owing st + 1) →
+          HasAppended observable history sync_out read_out read_of e.engine.trees.log n.trees.log (txn_of (e.engine.kept.last_txn + 1)) planned.changes.items →
+          IsValidWith observable (now (history (disk_below n.trees.log))) n.trees.log (cells_of n.trees) (has_tree_of n.trees) e.written.by_txn.entries (with_alone (committed_alone (log.change ∷ log.more) (drawn_alone (alone_of st))) st)
+      valid_logged n sound is free below has leaves a =
+          let p : Alone = alone_of st in
+          let c : Contents = contents_of e.engine in
+          let rows : Rows = committed (cells_of e.engine.trees) in
+          let v = at.valid none in
+          let one = one_planned (known c) p session call planned is log in
+          let added : HasAdded observable history sync_out read_out read_of e.engine.trees.log n.trees.log (LogsTransaction (txn_of (e.engine.kept.last_txn + 1)) planned.changes.items) =
+          record { entries = a.entries; logs = a.logs; grew = a.grew; room = record { max = e.engine.trees.log.max; entries_are = a.fits.entries_are; room = a.fits.room } } in
+          let left : nat_lt st.last_txn LAST_TXN ≡ true = ap (λ (x : ℕ). nat_lt x LAST_TXN) (sym at.last_txn) ∙ lt-ltb e.engine.kept.last_txn LAST_TXN below in
+          let are : ArePlanned rows st.last_db log.change [] planned.changes.items planned.gone =
+          subst (λ (m : List Change). ArePlanned rows st.last_db log.change m planned.changes.items planned.gone) one.1
+          (subst (λ (x : ℕ). ArePlanned rows x log.change log.more planned.changes.items planned.gone) at.last_db are_of) in
+          logged_valid observable history sync_out read_out read_of e.engine.trees.log n.trees.log (cells_of e.engine.trees) (cells_of n.trees) (has_tree_of e.engine.trees) (has_tree_of n.trees) e.written.by_txn.entries st
+          (with_alone (committed_alone (log.change ∷ log.more) (drawn_alone p)) st) (txn_of (e.engine.kept.last_txn + 1)) log.change planned.changes.items planned.gone v
+          (of_catalog call log.change one.0) are sound.numbers (next_is st.last_txn left) (ap (λ (x : ℕ). x + 1) at.last_txn)
+          (λ u. elsewhere_of rows st call log.change u v.makes.named sound free one.0) added (fun_ext has.rows) leaves.writes
+          (trees_logged c (contents_of n) p session call planned (has_tree_of e.engine.trees) (has_tree_of n.trees)
+          (sound_at most observable (now (history (disk_below e.engine.trees.log))) e.engine.trees.log c p (alone_at most observable history e st at) none) log (omega (arith, low)) has v.made leaves.trees)
+          (λ x owed. subst (λ (k : ℕ). HasRoomFor n.trees.log (commit_sizes k)) owed (leaves.room (owing st) (omega arith)))
+          (store_on observable history sync_out read_out read_of e.engine.trees.log n.trees.log v.log c log.change log.more planned
+          (may_grow observable (now (history (disk_below e.engine.trees.log))) e.engine.trees.log v.log c p session call planned v.has gives_of log (omega (arith, low))) a st.store v.recovers)
+          (ap (λ (m : List Change). with_alone (committed_alone (log.change ∷ m) (drawn_alone p)) st) one.1)
+
+    -- ---- how it comes out
+
+    pub within_below : (e : Environment D) (n : Engine D) (p : Alone) (session : ℕ) (call : Call) (planned : PlannedChanges) (found : Option TreeErr) (answer : Answer) → p.fault ≡ None → IsAutoCommitted call →
+        (log : IsPlannedLog (known (contents_of e.engine)) p session call planned) →
+        LogsChanges observable history sync_out read_out read_of e.engine.trees.log n.trees.log (contents_of e.engine) (contents_of n) planned found (Ok answer) →
+        EndsNear e.engine.trees n.trees (length planned.changes.items) (Ok answer) → has_failed e.engine.trees.log ≡ false →
+        IsWithin (reach_of (with_engine e n)) (reach_after (reach_of e) (log.change ∷ log.more))
+    within_below e n p session call planned found answer none is log logs near works =
+        near_env e n (log.change ∷ log.more) works
+        (subst (λ (cs : List Change). IsWithin (reach_below n) (reach_after (reach_below e.engine) cs)) (alone_changes p session call none is ∙ log.changes)
+        (logs_grow observable history sync_out read_out read_of e.engine n p session call planned found (Ok answer) none is log logs near))
+
+    module _ (most : ℕ) (e : Environment D) (st : Standing) (session line : ℕ) (call : Call) (planned : PlannedChanges) (is : ChangesCatalog call) (early : early_refusal st session call ≡ None) (sound : AreSound st)
+        (free : IsFreeToChange st call) (at : StandsAt most observable history e st) (none : st.fault ≡ None) (below : e.engine.kept.last_txn < LAST_TXN)
+        (log : IsPlannedLog (known (contents_of e.engine)) (alone_of st) session call planned) where
+      abbrev limit_of : Option Answer
+      limit_of = limit_by (limit_in e.engine.trees planned.changes.items (owing st + 1)) e.engine.kept.last_node (length planned.changes.items)
+
+      -- an answer of the engine
+      comes_by : (n : Engine D) (answer : Answer) (after : Alone) →
+          LogsChanges observable history sync_out read_out read_of e.engine.trees.log n.trees.log (contents_of e.engine) (contents_of n) planned (limit_in e.engine.trees planned.changes.items (owing st + 1)) (Ok answer) →
+          EndsNear e.engine.trees n.trees (length planned.changes.items) (Ok answer) →
+          EndsAlone limit_of (alone_of st) session call answer after → StandsAt most observable history (with_engine e n) (with_alone after st) → IsNumbered answer after.commits →
+          after.fault ≡ cond (is_disk_fault answer) (Some Disk) None →
+          IsLogStep observable history sync_out read_out read_of (is_disk_fault answer) e.engine.trees.log n.trees.log (tried (log.change ∷ log.more) (fate_of answer)) →
+          HasCome observable history sync_out read_out read_of most e (with_engine e n) st session line call answer []
+      comes_by n answer after logs near ends here numbered fault step =
+          come_alone observable history sync_out read_out read_of most e (with_engine e n) st session line call answer (log.change ∷ log.more) limit_of after is early none log.changes (λ late. free)
+          (has_limit e (owing st + 1) (alone_of st) session call planned log) ends here numbered fault step
+          (within_below e n (alone_of st) session call planned (limit_in e.engine.trees planned.changes.items (owing st + 1)) answer none (auto_is call is) log logs near (at.valid none).works)
+
+      model_at : HasModel (known (contents_of e.engine)) (alone_of st)
+      model_at = model most observable (now (history (disk_below e.engine.trees.log))) e.engine.trees.log (contents_of e.engine) (alone_of st) (alone_at most observable history e st at) none below
+
+      comes_logged : (n : Engine D) (commit : ℕ) →
+          LogsChanges observable history sync_out read_out read_of e.engine.trees.log n.trees.log (contents_of e.engine) (contents_of n) planned (limit_in e.engine.trees planned.changes.items (owing st + 1)) (Ok (Logged commit)) →
+          EndsNear e.engine.trees n.trees (length planned.changes.items) (Ok (Logged commit)) → LeavesOthers e.engine.trees n.trees planned (owing st + 1) →
+          HasCome observable history sync_out read_out read_of most e (with_engine e n) st session line call (Logged commit) []
+      comes_logged n commit logs near leaves =
+          let p : Alone = alone_of st in
+          let after : Alone = committed_alone (log.change ∷ log.more) (drawn_alone p) in
+          let number : commit ≡ p.commits + 1 = logs.0 ∙ ap (λ (x : ℕ). x + 1) at.commits in
+          comes_by n (Logged commit) after logs near
+          (subst (λ (x : ℕ). EndsAlone limit_of p session call (Logged x) after) (sym number)
+          (subst (λ (l : Option Answer). EndsAlone l p session call (Logged (p.commits + 1)) after) (sym logs.3)
+          (logged_ends (known (contents_of e.engine)) p session call planned none (auto_is call is) model_at log logs.2)))
+          (stands_on most e n st after at at.sessions_at
+          (logged_at observable history sync_out read_out read_of most e.engine.trees.log n.trees.log (contents_of e.engine) (contents_of n) p session call planned (alone_at most observable history e st at) none below log logs.2 logs.1 logs.4)
+          (λ valid. valid_logged most e st session call planned at none log logs.2 n sound is free below logs.1 leaves logs.4))
+          number none (logged_step most e st session call planned at none log logs.2 n logs.4)
+
+      comes_full : (n : Engine D) →
+          LogsChanges observable history sync_out read_out read_of e.engine.trees.log n.trees.log (contents_of e.engine) (contents_of n) planned (limit_in e.engine.trees planned.changes.items (owing st + 1)) (Ok LogFull) →
+          EndsNear e.engine.trees n.trees (length planned.changes.items) (Ok LogFull) → AreSameCells e.engine.trees n.trees →
+          HasCome observable history sync_out read_out read_of most e (with_engine e n) st session line call LogFull []
+      comes_full n logs near same =
+          let p : Alone = alone_of st in
+          comes_by n LogFull (drawn_alone p) logs near
+          (subst (λ (l : Option Answer). EndsAlone l p session call LogFull (drawn_alone p)) (sym logs.0) (full_ends (known (contents_of e.engine)) p session call planned none (auto_is call is) log))
+          (drawn_same most e n st at below logs.1 logs.2 same) tt none (inl (logs.2, refl))
+
+      comes_ended : (n : Engine D) →
+          LogsChanges observable history sync_out read_out read_of e.engine.trees.log n.trees.log (contents_of e.engine) (contents_of n) planned (limit_in e.engine.trees planned.changes.items (owing st + 1)) (Ok IdsEnded) →
+          EndsNear e.engine.trees n.trees (length planned.changes.items) (Ok IdsEnded) → AreSameCells e.engine.trees n.trees → e.engine.kept.last_db ≤ LAST_DATABASE →
+          HasCome observable history sync_out read_out read_of most e (with_engine e n) st session line call IdsEnded []
+      comes_ended n logs near same few =
+          comes_by n IdsEnded (drawn_alone (alone_of st)) logs near (by_limit logs.0) (drawn_same most e n st at below logs.1 logs.2 same) tt none (inl (logs.2, refl))
+        where
+          by_limit : (limit_of ≡ Some IdsEnded) ⊎ ((limit_of ≡ None) × (LAST_DATABASE < planned.last_db)) → EndsAlone limit_of (alone_of st) session call IdsEnded (drawn_alone (alone_of st))
+          by_limit (inl ended) = subst (λ (l : Option Answer). EndsAlone l (alone_of st) session call IdsEnded (drawn_alone (alone_of st))) (sym ended)
+              (ended_ends (known (contents_of e.engine)) (alone_of st) session call planned none (auto_is call is) log)
+          by_limit (inr past) = subst (λ (l : Option Answer). EndsAlone l (alone_of st) session call IdsEnded (drawn_alone (alone_of st))) (sym past.0)
+              (ids_ends (known (contents_of e.engine)) (alone_of st) session call planned none (auto_is call is) model_at log few past.1)
+
+      comes_failed : (n : Engine D) →
+          LogsChanges observable history sync_out read_out read_of e.engine.trees.log n.trees.log (contents_of e.engine) (contents_of n) planned (limit_in e.engine.trees planned.changes.items (owing st + 1)) (Ok DiskFault) →
+          EndsNear e.engine.trees n.trees (length planned.changes.items) (Ok DiskFault) →
+          HasCome observable history sync_out read_out read_of most e (with_engine e n) st session line call DiskFault []
+      comes_failed n logs near =
+          let p : Alone = alone_of st in
+          comes_by n DiskFault (faulted_alone p) logs near
+          (subst (λ (l : Option Answer). EndsAlone l p session call DiskFault (faulted_alone p)) (sym logs.2)
+          (fault_ends (known (contents_of e.engine)) p session call planned none (auto_is call is) model_at log logs.1))
+          (stands_on most e n st (faulted_alone p) at (sessions_faulted e.sessions st st.begun at.sessions_at)
+          (faulted_at most observable (now (history (disk_below e.engine.trees.log))) (now (history (disk_below n.trees.log))) e.engine.trees.log n.trees.log (contents_of e.engine) (contents_of n) p p.begun
+          (alone_at most observable history e st at) logs.0 logs.3.tried.max)
+          (λ valid. absurd cc))
+          tt refl (tried_step most e st session call planned at none log logs.1 n logs.3)
+
+      pub comes_out : (n : Engine D) (result : Result Answer AllocError) →
+          LogsChanges observable history sync_out read_out read_of e.engine.trees.log n.trees.log (contents_of e.engine) (contents_of n) planned (limit_in e.engine.trees planned.changes.items (owing st + 1)) result →
+          EndsNear e.engine.trees n.trees (length planned.changes.items) result → LeavesCells e.engine.trees n.trees planned (owing st + 1) result → e.engine.kept.last_db ≤ LAST_DATABASE →
+          ComesToAnswer observable history sync_out read_out read_of most e (with_engine e n) st session line call result
+      comes_out n (Ok (Logged commit)) logs near leaves few = comes_logged n commit logs near leaves
+      comes_out n (Ok LogFull) logs near leaves few = comes_full n logs near leaves
+      comes_out n (Ok IdsEnded) logs near leaves few = comes_ended n logs near leaves few
+      comes_out n (Ok DiskFault) logs near leaves few = comes_failed n logs near
+      comes_out n (Ok answer) logs near leaves few = absurd logs
+      comes_out n (Err error) logs near leaves few = record {
+        here = undrawn_same most e n st at logs.0 logs.1 leaves;
+        log = logs.1;
+        near = stay_near (at.valid none).works;
+      }
+        where
+          same_end : end_below n.trees ≡ end_below e.engine.trees
+          same_end = near
+
+          stay_near : has_failed e.engine.trees.log ≡ false → IsWithin (reach_of (with_engine e n)) (reach_of e)
+          stay_near works =
+              let node = logs.0.last_node in
+              let file = near_by (has_failed e.engine.trees.log) (has_failed n.trees.log) ((end_of e.engine.trees.log).file + waits_of e.engine.trees) ((end_of n.trees.log).file + waits_of n.trees)
+              (owed_by e.sessions) 0 works (omega (arith, same_end)) in
+              record { file = omega (arith, file); node = omega (arith, node) }
+
+    -- the call by what the engine logged
+    pub logs_performs : (faults : D → ℕ) (e : Environment D) (n : Engine D) (session owed : ℕ) (call : Call) (planned : PlannedChanges) (result : Result Answer AllocError) → ChangesCatalog call → e.engine.kept.fault ≡ None →
+        e.engine.kept.last_txn < LAST_TXN → e.engine.kept.last_db ≤ LAST_DATABASE →
+        ((p : Alone) (s : ℕ) → HasModel (known (contents_of e.engine)) p → IsPlannedLog (known (contents_of e.engine)) p s call planned) →
+        ((most : ℕ) (st : Standing) → StandsAt most observable history e st → AreSound st → IsFreeToChange st call) →
+        ((st : Standing) → AreSessionsAt e.sessions st → owed ≡ owing st + 1) →
+        ((most : ℕ) × (st : Standing) × StandsAt most observable history e st × AreSound st × (early_refusal st session call ≡ None)) →
+        LogsChanges observable history sync_out read_out read_of e.engine.trees.log n.trees.log (contents_of e.engine) (contents_of n) planned (limit_in e.engine.trees planned.changes.items owed) result →
+        EndsNear e.engine.trees n.trees (length planned.changes.items) result → LeavesCells e.engine.trees n.trees planned owed result → CanGoOn (with_engine e n) →
+        HasStepCause (faults (disk_below e.engine.trees.log)) (faults (disk_below n.trees.log)) result →
+        PerformsAnswer observable history sync_out read_out read_of faults e (with_engine e n) session call result
+    logs_performs faults e n session owed call planned result is valid below few plan free owed_is there logs near leaves bounds cause = record {
+      comes = comes;
+      near = near_of result (comes there.0 there.1 0 there.2 there.3 there.4);
+      bounds = bounds;
+      cause = cause;
+    }
+      where
+        comes : (most : ℕ) (st : Standing) (line : ℕ) → StandsAt most observable history e st → AreSound st → early_refusal st session call ≡ None →
+            ComesToAnswer observable history sync_out read_out read_of most e (with_engine e n) st session line call result
+        comes most st line at sound early =
+            let none : st.fault ≡ None = sym at.fault ∙ valid in
+            let owed_ : owed ≡ owing st + 1 = owed_is st at.sessions_at in
+            comes_out most e st session line call planned is early sound (free most st at sound) at none below
+            (plan (alone_of st) session (model most observable (now (history (disk_below e.engine.trees.log))) e.engine.trees.log (contents_of e.engine) (alone_of st) (alone_at most observable history e st at) none below)) n result
+            (subst (λ (x : ℕ). LogsChanges observable history sync_out read_out read_of e.engine.trees.log n.trees.log (contents_of e.engine) (contents_of n) planned (limit_in e.engine.trees planned.changes.items x) result) owed_ logs)
+            near (subst (λ (x : ℕ). LeavesCells e.engine.trees n.trees planned x result) owed_ leaves) few
+
+        near_of : (r : Result Answer AllocError) → ComesToAnswer observable history sync_out read_out read_of there.0 e (with_engine e n) there.1 session 0 call r → OnErr r (IsWithin (reach_of (with_engine e n)) (reach_of e))
+        near_of (Ok answer) come_ = tt
+        near_of (Err error) come_ = come_.near
+
+    -- somebody uses its database
+    pub used_performs : (faults : D → ℕ) (e : Environment D) (session : ℕ) (call : Call) (t : TxnId) (planned : PlannedChanges) → ChangesCatalog call → e.engine.kept.last_txn < LAST_TXN → e.engine.kept.fault ≡ None → CanGoOn e →
+        ((p : Alone) (s : ℕ) → HasModel (known (contents_of e.engine)) p → IsPlannedLog (known (contents_of e.engine)) p s call planned) →
+        ((most : ℕ) (st : Standing) → StandsAt most observable history e st → AreSound st → IsUsedBy st call t) →
+        PerformsAnswer observable history sync_out read_out read_of faults e (with_begun e (e.engine.kept.last_txn + 1) e.sessions) session call (Ok (DatabaseInUse t))
+    used_performs faults e session call t planned is below valid bounds plan used = record {
+      comes = λ most st line at sound early.
+          let none : st.fault ≡ None = sym at.fault ∙ valid in
+          let p : Alone = alone_of st in
+          let out = outside st session call is early in
+          let log = plan p session (model most observable (now (history (disk_below e.engine.trees.log))) e.engine.trees.log (contents_of e.engine) p (alone_at most observable history e st at) none below) in
+          let alike : late_refusal st session call ≡ late_refusal (alone p) session call = late_alike st session call is out in
+          let late : late_refusal st session call ≡ None = alike ∙ (logs_alone (known (contents_of e.engine)) p session call planned (auto_is call is) log).0 in
+          let same : (outcome_unless (late_refusal st session call) (performed_outcome p session call)).changes ≡ log.change ∷ log.more =
+          ap (λ (l : Option Answer). (outcome_unless l (performed_outcome p session call)).changes) alike ∙ log.changes in
+          let limit : Option Answer = limit_by (limit_in e.engine.trees planned.changes.items (owing st + 1)) e.engine.kept.last_node (length planned.changes.items) in
+          come observable history sync_out read_out read_of most e (with_begun e (e.engine.kept.last_txn + 1) e.sessions) st session line call (DatabaseInUse t) (log.change ∷ log.more) limit (drawn_alone p) out
+          (written_are (late_refusal st session call) st session call is ∙ same) (committed_are (late_refusal st session call) st session call is ∙ same)
+          (has_limit e (owing st + 1) p session call planned log)
+          (subst (λ (l : Option Answer). IsEvaluated l limit st session line call (DatabaseInUse t) []) (sym late) (in_use_answers limit st session line call t is (used most st at sound)))
+          (ap (λ (l : Option Answer). after_evaluated l st session line call (DatabaseInUse t) []) late ∙ in_use_leaves st session line call t is out)
+          (drawn_here observable history sync_out read_out read_of most e st below at) tt none (inl (same_buffer e.engine.trees.log, refl))
+          (within_more e (with_begun e (e.engine.kept.last_txn + 1) e.sessions) (log.change ∷ log.more) (record { file = omega arith; node = omega arith }));
+      near = tt;
+      bounds = let within : e.engine.kept.commits ≤ e.engine.kept.last_txn = bounds in omega (arith, within);
+      cause = record { never_falls = omega arith; fault = λ done. absurd (never_used t done) };
+    }
+      where
+        never_used : (u : TxnId) → DatabaseInUse u ≡ DiskFault → ⊥
+        never_used u done = absurd cc

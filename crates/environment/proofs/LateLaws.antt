@@ -1,0 +1,240 @@
+-- What refuses a call on records late, and the database that it is on.
+use Rattle.std.proofs.Common.{◌≡◌, ◌≢◌, ◌==◌, ◌∙◌, ℕ, zero, suc, ◌<◌, ◌≤◌, nat_lt, Bool, true, false, true≢false, cond, List, [], ◌∷◌, Option, None, Some, is_some, find, length, refl, ap, sym, subst, rules, arith, is_eq}
+use Rattle.std.specs.Prelude.{option_map}
+use Rattle.std.specs.List.{AllByRecursion}
+use Rattle.std.proofs.lemmas.Bool.{eq-eqb, eqb-true, ltb-true}
+use Rattle.std.proofs.lemmas.Bool.Decides.{nat_tests}
+use Rattle.std.proofs.lemmas.Map.Lookups.{exact_bytes}
+use Rattle.je_order.specs.Order.{bytes_cmp, is_same_bytes}
+use Rattle.je_order.proofs.Orderings.{equal_from_test}
+use Rattle.node_core.proofs.NameOrder.{itself}
+use Rattle.store_model.specs.declared.answer.Answer.{Answer}
+use Rattle.store_model.specs.declared.answer.Answer.TheVariants.{IdsEnded, NoDatabase}
+use Rattle.store_model.specs.declared.call.Call.{Call}
+use Rattle.store_model.specs.declared.call.Call.TheVariants.{Get, GetBoth, Put, Delete}
+use Rattle.store_model.specs.declared.kind.Kind.{Kind}
+use Rattle.store_model.specs.declared.store.Database.{Database}
+use Rattle.store_model.specs.declared.store.Store.{Store}
+use Rattle.store_model.specs.declared.store.TheConstants.{LAST_TXN}
+use Rattle.store_model.specs.Evaluation.{plain_name}
+use Rattle.store_model.specs.declared.answer.Answer.TheVariants.{TooLong}
+use Rattle.store_model.specs.declared.kind.Kind.TheVariants.{Plain as IsPlain, Dup as IsDup}
+use Rattle.store_model.specs.declared.put_mode.PutMode.{PutMode}
+use Rattle.store_model.specs.declared.put_mode.PutMode.TheVariants.{Overwrite, NoOverwrite, NoDupData}
+use Rattle.je_order.specs.declared.limits.TheConstants.{KEY_LIMIT}
+use Rattle.store_model.specs.Refusals.{access_refusal, data_limit, database_refuses, kind_refusal, or_refusal, pair_refusal, too_long}
+use Rattle.environment.proofs.EarlyLaws.{IsCalmRefusal, calm_or}
+use Rattle.store_model.specs.Store.{database_of}
+use Rattle.je_answers.specs.declared.active.Active.{Active}
+use Rattle.je_answers.specs.Standing.{Standing, active_of, database_at}
+use Rattle.je_answers.specs.Views.{Target, named_target, target, target_of}
+use Rattle.je_answers.specs.Refusals.{database_refusal, late_refusal, number_refusal, target_refusal}
+use Rattle.db_catalog.specs.declared.db_kind.DbKind.{DbKind}
+use Rattle.db_catalog.specs.declared.db_kind.DbKind.TheVariants.{Plain, Dup, SliceIndex, FieldIndex}
+use Rattle.db_catalog.specs.declared.db_record.DbRecord.{DbRecord}
+use Rattle.db_catalog.specs.declared.found_db.FoundDb.{FoundDb}
+use Rattle.db_catalog.specs.Planning.{IsFoundAs, found_in}
+use Rattle.log_replay.specs.Logging.{number_named, record_named}
+use Rattle.log_replay.specs.Rows.{Rows, number_or_0, store_of}
+use Rattle.log_replay.proofs.RowLaws.{name_cmp-plain}
+use Rattle.log_replay.proofs.StoreLaws.{database_of-absent}
+use Rattle.txn_log.specs.Committing.{MakesStore}
+use Rattle.txn_log.proofs.CommittingLaws.{database_numbered}
+use Rattle.engine.proofs.CalmAnswers.{IsCalm}
+use Rattle.environment.specs.Access.{IsFoundFor, IsLate}
+use Rattle.environment.specs.Calls.{IsOnRecords}
+use Rattle.environment.specs.declared.late.Late.TheVariants.{Refused, Found}
+
+-- ---- the refusals
+
+-- a call outside a transaction wants a number
+number_is : (last : ℕ) (o : Option Active) (kept : ℕ) → kept ≡ last → (is_some o ≡ false) → (LAST_TXN ≤ kept) → number_refusal last o ≡ Some IdsEnded
+number_is last None kept same none over = ap (λ (b : Bool). cond b None (Some IdsEnded)) (let test : nat_lt last LAST_TXN ≡ false = grind (arith, nat_tests) in test)
+number_is last (Some a) kept same none over = absurd (true≢false none)
+
+number_is_none : (n : Option Answer) → is_some n ≡ false → n ≡ None
+number_is_none None is = refl
+number_is_none (Some x) is = absurd (true≢false is)
+
+-- where one is wanted and none is left
+number_ended : (last : ℕ) (o : Option Active) → is_some (number_refusal last o) ≡ true → number_refusal last o ≡ Some IdsEnded
+number_ended last None is = by_test (nat_lt last LAST_TXN) is
+  where
+    by_test : (b : Bool) → is_some (cond b None (Some IdsEnded)) ≡ true → cond b None (Some IdsEnded) ≡ Some IdsEnded
+    by_test true h = absurd (true≢false (sym h))
+    by_test false h = refl
+number_ended last (Some a) is = absurd (true≢false (sym is))
+
+-- what refuses a call on the records of a name
+abbrev pub late_by : Option Answer → Standing → Call → List ℕ → Option Answer
+late_by number st call db = or_refusal number (or_refusal (database_refusal st db) (or_refusal None (target_refusal call (named_target st db))))
+
+pub late_is : (st : Standing) (session : ℕ) (call : Call) (db : List ℕ) → IsOnRecords db call → late_refusal st session call ≡ late_by (number_refusal st.last_txn (active_of session st.actives)) st call db
+late_is st session (Get name key rmw) db is = ap (late_by (number_refusal st.last_txn (active_of session st.actives)) st (Get name key rmw)) is
+late_is st session (GetBoth name key value rmw) db is = ap (late_by (number_refusal st.last_txn (active_of session st.actives)) st (GetBoth name key value rmw)) is
+late_is st session (Put name key value mode) db is = ap (late_by (number_refusal st.last_txn (active_of session st.actives)) st (Put name key value mode)) is
+late_is st session (Delete name key) db is = ap (late_by (number_refusal st.last_txn (active_of session st.actives)) st (Delete name key)) is
+late_is st session call db is = absurd is
+
+pub target_is : (st : Standing) (session : ℕ) (call : Call) (db : List ℕ) → IsOnRecords db call → target_of st session call ≡ named_target st db
+target_is st session (Get name key rmw) db is = ap (named_target st) is
+target_is st session (GetBoth name key value rmw) db is = ap (named_target st) is
+target_is st session (Put name key value mode) db is = ap (named_target st) is
+target_is st session (Delete name key) db is = ap (named_target st) is
+target_is st session call db is = absurd is
+
+-- ---- the database of a name
+
+pub same_is : (a b : List ℕ) → is_same_bytes a b ≡ true → a ≡ b
+same_is a b same = exact_bytes a b (equal_from_test (bytes_cmp a b) same)
+
+same_itself : (name : List ℕ) → is_same_bytes name name ≡ true
+same_itself name = ap is_eq (sym (name_cmp-plain (plain_name name) name refl) ∙ itself (plain_name name))
+
+some_is : {X : Type 0} (x y : X) → Some x ≡ Some y → x ≡ y
+some_is x y e = search (rules, e)
+
+-- the first that passes a test passes it
+passes : {X : Type 0} (p : X → Bool) (xs : List X) (x : X) → find p xs ≡ Some x → p x ≡ true
+passes p [] x is = absurd cc
+passes p (h ∷ xs) x is = by_test (p h) refl is (passes p xs x)
+  where
+    by_test : (b : Bool) → p h ≡ b → cond b (Some h) (find p xs) ≡ Some x → (find p xs ≡ Some x → p x ≡ true) → p x ≡ true
+    by_test true e here rest = subst (λ y. p y ≡ true) (some_is h x here) e
+    by_test false e there rest = rest there
+
+-- where each of two that are first by their tests passes the other's, they are one
+one_first : {X : Type 0} (p q : X → Bool) (xs : List X) (x y : X) → find p xs ≡ Some x → find q xs ≡ Some y → p y ≡ true → q x ≡ true → x ≡ y
+one_first p q [] x y first second py qx = absurd cc
+one_first p q (h ∷ xs) x y first second py qx = by_tests (p h) (q h) refl refl first second (λ f s. one_first p q xs x y f s py qx)
+  where
+    by_tests : (a b : Bool) → p h ≡ a → q h ≡ b → cond a (Some h) (find p xs) ≡ Some x → cond b (Some h) (find q xs) ≡ Some y → (find p xs ≡ Some x → find q xs ≡ Some y → x ≡ y) → x ≡ y
+    by_tests true true ea eb f s rest = sym (some_is h x f) ∙ some_is h y s
+    by_tests true false ea eb f s rest = absurd (true≢false (sym (sym eb ∙ ap q (some_is h x f) ∙ qx)))
+    by_tests false true ea eb f s rest = absurd (true≢false (sym (sym ea ∙ ap p (some_is h y s) ∙ py)))
+    by_tests false false ea eb f s rest = rest f s
+
+found_number : (o : Option DbRecord) (f : FoundDb) → found_in o ≡ Some f → number_or_0 o ≡ f.number
+found_number None f is = absurd cc
+found_number (Some r) f is = by_kind r.kind is
+  where
+    by_kind : (k : DbKind) → Rattle.db_catalog.specs.Planning.found_db r.number (Rattle.db_catalog.specs.Planning.kind_of_catalog k) ≡ Some f → Rattle.log_replay.specs.Rows.database_number k r.number ≡ f.number
+    by_kind Plain e = ap (λ (x : FoundDb). x.number) (some_is _ f e)
+    by_kind Dup e = ap (λ (x : FoundDb). x.number) (some_is _ f e)
+    by_kind (SliceIndex primary offset len) e = absurd cc
+    by_kind (FieldIndex primary number separator) e = absurd cc
+
+module _ (rows : Rows) (st : Standing) (makes : MakesStore rows st.last_db st) (session : ℕ) (call : Call) (db : List ℕ) (on : IsOnRecords db call) where
+  abbrev pub number : Option Answer
+  number = number_refusal st.last_txn (active_of session st.actives)
+
+  late_on : (o : Option Database) → database_of db st.store ≡ o → late_refusal st session call ≡ or_refusal number (or_refusal (access_refusal (is_some o)) (or_refusal None (target_refusal call (option_map (target (st.numbers db) None) o))))
+  late_on o is = late_is st session call db on
+      ∙ ap (λ (x : Option Database). or_refusal number (or_refusal (access_refusal (is_some x)) (or_refusal None (target_refusal call (option_map (target (st.numbers db) None) x))))) is
+
+  pub late_number : is_some number ≡ true → IsLate st session call db (Refused IdsEnded)
+  late_number is = (
+    late_is st session call db on ∙ ap (λ (n : Option Answer). late_by n st call db) (number_ended st.last_txn (active_of session st.actives) is),
+    refl,
+  )
+
+  found_none : (o : Option Database) (found : Option FoundDb) → IsFoundAs o found → found ≡ None → o ≡ None
+  found_none None found as_ none = refl
+  found_none (Some d) found as_ none = absurd (let e = sym none ∙ as_.1 in cc)
+
+  pub late_absent : is_some number ≡ false → (found : Option FoundDb) → IsFoundAs (database_of db (store_of rows)) found → found ≡ None → IsLate st session call db (Refused NoDatabase)
+  late_absent none found as_ absent =
+      let gone : database_of db st.store ≡ None = ap (database_of db) (sym makes.store) ∙ found_none (database_of db (store_of rows)) found as_ absent in (
+        late_on None gone ∙ ap (λ (n : Option Answer). or_refusal n (Some NoDatabase)) (number_is_none number none),
+        refl,
+      )
+
+  record IsThere (found : FoundDb) : Type 0 where
+    database : Database
+    is : database_of db st.store ≡ Some database
+    kind : database.kind ≡ found.kind
+
+  found_there : (o : Option Database) (found : Option FoundDb) (f : FoundDb) → database_of db st.store ≡ o → IsFoundAs o found → found ≡ Some f → IsThere f
+  found_there None found f is as_ there = absurd (let e = sym as_ ∙ there in cc)
+  found_there (Some d) found f is as_ there = record { database = d; is = is; kind = ap (λ (x : FoundDb). x.kind) (some_is _ f (sym as_.1 ∙ there)) }
+
+  there_by : (found : Option FoundDb) (f : FoundDb) → IsFoundAs (database_of db (store_of rows)) found → found ≡ Some f → IsThere f
+  there_by found f as_ there = found_there (database_of db (store_of rows)) found f (ap (database_of db) (sym makes.store)) as_ there
+
+  pub late_refuses : is_some number ≡ false → (found : Option FoundDb) (f : FoundDb) → IsFoundAs (database_of db (store_of rows)) found → found ≡ Some f → (answer : Answer) → database_refuses f.kind call ≡ Some answer → IsCalm answer →
+      IsLate st session call db (Refused answer)
+  late_refuses none found f as_ there answer refuses calm =
+      let d = there_by found f as_ there in (
+        late_on (Some d.database) d.is ∙ ap (λ (n : Option Answer). or_refusal n (database_refuses d.database.kind call)) (number_is_none number none) ∙ ap (λ (k : Kind). database_refuses k call) d.kind ∙ refuses,
+        calm,
+      )
+
+  pub late_found : is_some number ≡ false → (found : Option FoundDb) (f : FoundDb) → found ≡ found_in (record_named rows db) → IsFoundAs (database_of db (store_of rows)) found → found ≡ Some f → database_refuses f.kind call ≡ None →
+      IsLate st session call db (Found f)
+  late_found none found f exact as_ there refuses = (
+    g,
+    record {
+      late = late_on (Some d.database) d.is ∙ ap (λ (n : Option Answer). or_refusal n (database_refuses d.database.kind call)) (number_is_none number none) ∙ ap (λ (k : Kind). database_refuses k call) d.kind ∙ refuses;
+      target = target_is st session call db on ∙ ap (option_map (target (st.numbers db) None)) d.is;
+      number = named_number;
+      kind = d.kind;
+      name = name_is;
+      at = refl;
+      is = d.is;
+      there = by_number;
+      named = ap st.numbers name_is;
+      above = above;
+    },
+  ) where
+    d : IsThere f
+    d = there_by found f as_ there
+
+    g : Target
+    g = target (st.numbers db) None d.database
+
+    name_is : d.database.name ≡ db
+    name_is = same_is d.database.name db (passes (λ (x : Database). is_same_bytes x.name db) st.store.databases d.database d.is)
+
+    named_number : st.numbers db ≡ f.number
+    named_number = sym (makes.named db) ∙ found_number (record_named rows db) f (sym exact ∙ there)
+
+    above : st.numbers db ≢ 0
+    above zero_ =
+        let gone = database_of-absent rows db makes.environment (makes.named db ∙ zero_) in
+        absurd (let e : None ≡ Some d.database = sym gone ∙ ap (database_of db) makes.store ∙ d.is in cc)
+
+    by_number : database_at (st.numbers db) st ≡ Some d.database
+    by_number =
+        let other = database_numbered rows st.last_db st db makes (λ e. above (sym (makes.named db) ∙ e)) in
+        let is : database_at (st.numbers db) st ≡ Some other.database = ap (λ (n : ℕ). database_at n st) (sym (makes.named db)) ∙ other.is in
+        let one : d.database ≡ other.database =
+        one_first (λ (x : Database). is_same_bytes x.name db) (λ (x : Database). st.numbers x.name == st.numbers db) st.store.databases d.database other.database d.is is
+        (ap (λ (n : List ℕ). is_same_bytes n db) other.name_is ∙ same_itself db) (eq-eqb (st.numbers d.database.name) (st.numbers db) (ap st.numbers name_is)) in
+        is ∙ ap Some (sym one)
+
+-- ---- what a database refuses is calm
+
+calm_long : (limit : ℕ) (bytes : List ℕ) → IsCalmRefusal (too_long limit bytes)
+calm_long limit bytes = by_test (nat_lt limit (length bytes))
+  where
+    by_test : (b : Bool) → IsCalmRefusal (cond b (Some (TooLong (length bytes))) None)
+    by_test true = refl
+    by_test false = tt
+
+calm_pair : (kind : Kind) (key value : List ℕ) → IsCalmRefusal (pair_refusal kind key value)
+calm_pair kind key value = calm_or (too_long KEY_LIMIT key) (too_long (data_limit kind) value) (calm_long KEY_LIMIT key) (calm_long (data_limit kind) value)
+
+calm_kind : (kind : Kind) (db key value : List ℕ) (mode : PutMode) → IsCalmRefusal (kind_refusal (Put db key value mode) kind)
+calm_kind IsPlain db key value NoDupData = refl
+calm_kind IsDup db key value NoDupData = tt
+calm_kind IsPlain db key value Overwrite = tt
+calm_kind IsDup db key value Overwrite = tt
+calm_kind IsPlain db key value NoOverwrite = tt
+calm_kind IsDup db key value NoOverwrite = tt
+
+pub calm_refuses : (kind : Kind) (call : Call) (db : List ℕ) → IsOnRecords db call → IsCalmRefusal (database_refuses kind call)
+calm_refuses kind (Get name key rmw) db is = calm_or (kind_refusal (Get name key rmw) kind) _ tt (calm_long KEY_LIMIT key)
+calm_refuses kind (GetBoth name key value rmw) db is = calm_or (kind_refusal (GetBoth name key value rmw) kind) _ tt (calm_pair kind key value)
+calm_refuses kind (Put name key value mode) db is = calm_or (kind_refusal (Put name key value mode) kind) _ (calm_kind kind name key value mode) (calm_pair kind key value)
+calm_refuses kind (Delete name key) db is = calm_or (kind_refusal (Delete name key) kind) _ tt (calm_long KEY_LIMIT key)
+calm_refuses kind call db is = absurd is

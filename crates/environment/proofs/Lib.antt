@@ -1,0 +1,76 @@
+-- Where an environment stands when its log was written out or synced, or the disk failed.
+pub mod Standing
+-- The calls that wait.
+pub mod Waiting
+-- An environment goes on by a step.
+pub mod Answering
+-- A call that is refused early, and one that is not.
+pub mod EarlyLaws
+-- A call after a fault.
+pub mod InvalidLaws
+-- Where an environment stands once a transaction has ended without a commit.
+pub mod EndingLaws
+-- A call by its kind.
+pub mod PerformedLaws
+-- The abort of a transaction.
+pub mod AbortLaws
+-- Where no transaction is under way: what an environment is beside its engine.
+pub mod AloneLaws
+-- A call where no transaction is under way.
+pub mod AnswerAlone
+-- The committed records behind a commit.
+pub mod CommitRows
+-- Where an environment stands once a transaction has committed.
+pub mod CommitLaws
+-- What refuses a call on records late, and the database that it is on.
+pub mod LateLaws
+-- A call on records that is refused late, or goes on.
+pub mod AccessLaws
+-- A call on records that is refused late.
+pub mod RefusedLaws
+-- What transactions wrote, after a change of the map.
+pub mod NameMaps
+-- The beginning of a transaction.
+pub mod BeginLaws
+-- The names of databases.
+pub mod ListLaws
+-- A waiting call goes on.
+pub mod ResumeLaws
+-- What a transaction sees of the database that a call is on.
+pub mod PlanLaws
+-- A change of the catalog where others are under way.
+pub mod CatalogStanding
+-- A valid environment goes on by a change of the catalog.
+pub mod CatalogValid
+-- A call on records that is a transaction of its own, among others.
+pub mod AutoLaws
+-- It waits, or changes nothing.
+pub mod AutoEnds
+-- What its changes leave of records, and of the own changes of others.
+pub mod AutoRows
+-- The locks that it needs.
+pub mod AutoNeeds
+-- What it may ask.
+pub mod AutoCalls
+-- What transactions wrote, where room was made.
+pub mod WrittenNames
+-- What the changes of a call are where it may write them.
+pub mod WritingLaws
+-- Where an environment stands once changes were to be logged.
+pub mod OwnLogged
+-- How a change of the catalog ends.
+pub mod CatalogEnds
+-- A change of the catalog is logged.
+pub mod CatalogLogged
+-- It is logged with its Commit, or not.
+pub mod AutoLogged
+-- A call on records in a transaction.
+pub mod OwnLaws
+-- The changes of a call that is not refused.
+pub mod LoggableLaws
+-- A call of a transaction that changes nothing.
+pub mod FinishLaws
+-- Where an environment stands once a call that changes something has ended.
+pub mod OwnEnds
+-- A call that waited, and is a transaction of its own.
+pub mod AgainLaws

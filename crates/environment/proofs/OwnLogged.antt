@@ -1,0 +1,292 @@
+-- Where an environment stands once changes of a transaction under way were to be logged.
+use mathlib.Core.Path.{fun_ext}
+use Rattle.std.proofs.Common.{arith, ◌≡◌, inl, ℕ, suc, ◌+◌, ◌≤◌, ◌==◌, nat_lt, Bool, true, false, true≢false, cond, ◌||◌, List, [], ◌∷◌, ◌++◌, map, length, Option, None, Some, Result, Ok, Err, count_by, refl, ap, ap₂, sym, ◌∙◌, subst}
+use Rattle.std.specs.declared.alloc.AllocError.{AllocError}
+use Rattle.std.specs.List.{AllByRecursion}
+use Rattle.std.proofs.lemmas.Bool.{cond-true}
+use Rattle.std.proofs.lemmas.List.{length-map}
+use Rattle.je_disk.specs.States.{State}
+use Rattle.je_disk.specs.Moments.{History, now}
+use Rattle.je_order.specs.declared.txn_id.TxnId.{TxnId}
+use Rattle.je_order.proofs.TxnIds.{same_either}
+use Rattle.record_map.specs.Cells.{value_at}
+use Rattle.record_tree.specs.Logged.{LogsChanges, most_entries}
+use Rattle.record_tree.specs.Occupied.{AllCells, IsFreeFor, write_in}
+use Rattle.record_tree.specs.declared.tree_change.TreeChange.{TreeChange}
+use Rattle.record_tree.specs.declared.tree_err.TreeErr.{TreeErr}
+use Rattle.record_tree.specs.declared.tree_err.TreeErr.TheVariants.{Fault, Full as TooFull, IdsEnded as NoNumber, Memory}
+use Rattle.record_tree.specs.declared.tree_name.TreeName.{TreeName}
+use Rattle.store_model.specs.declared.answer.Answer.{Answer}
+use Rattle.store_model.specs.declared.answer.Answer.TheVariants.{LogFull, IdsEnded}
+use Rattle.store_model.specs.declared.record_change.RecordChange.{RecordChange}
+use Rattle.je_answers.specs.Standing.{Standing, with_at}
+use Rattle.je_answers.specs.Views.{Target, changes_at, changes_on}
+use Rattle.log_entry.specs.Encoding.{size_of}
+use Rattle.log_buffer.specs.declared.log_pos.LogPos.{LogPos}
+use Rattle.log_buffer.specs.Buffer.{disk_of as disk_below, end_of, file_max_of, has_failed}
+use Rattle.log_buffer.specs.Growth.{longer}
+use Rattle.log_buffer.specs.Log.{HasLog}
+use Rattle.log_buffer.proofs.BufferLog.{log_kept}
+use Rattle.log_replay.specs.Rows.{Rows, numbers_of}
+use Rattle.in_tree.specs.Limits.{HasRoomFor, commit_sizes}
+use Rattle.in_tree.specs.Observed.{cells_of, has_tree_of, limit_in, waits_of}
+use Rattle.in_tree.proofs.Far.{files_few}
+use Rattle.txn_core.specs.Known.{committed, has_number}
+use Rattle.txn_core.specs.Plans.{record_planned}
+use Rattle.txn_core.proofs.NumberLaws.{number_there}
+use Rattle.txn_core.proofs.RecordLaws.{records_rows}
+use Rattle.txn_log.specs.AtStanding.{IsLogAt}
+use Rattle.txn_log.specs.Buffers.{HasAdded, HasFailed, HasGiven, MayAddChanges}
+use Rattle.txn_log.specs.Committing.{MakesStore, MayBeCommitted, records_had}
+use Rattle.txn_log.specs.Gives.{GivesRecordsWith}
+use Rattle.txn_log.proofs.AtStandingLaws.{changes_leave_log}
+use Rattle.txn_log.proofs.BufferLaws.{changes_are_recovered}
+use Rattle.txn_log.proofs.CountLaws.{had_go_on}
+use Rattle.txn_views.specs.Laws.{own_names}
+use Rattle.txn_views.specs.Seen.{HasWrites}
+use Rattle.txn_views.proofs.WriteLaws.{writes-are_own}
+use Rattle.sessions.specs.AtStanding.{owing, with_own}
+use Rattle.standing_laws.specs.Right.{txn_id}
+use Rattle.engine.specs.Limits.{last_number, limit_by, numbers_for}
+use Rattle.engine.specs.Whole.{end_file}
+use Rattle.engine.proofs.GuardedEvents.{changes_recovered_in, tried_changes_recovered_in}
+use Rattle.engine.proofs.LogLaws.{no_limit}
+use Rattle.engine.proofs.ReachLaws.{file_within}
+use Rattle.engine.proofs.TxnGives.{added, failed}
+use Rattle.environment.specs.declared.environment.Environment.{Environment}
+use Rattle.environment.specs.declared.wrote.Wrote.{Wrote}
+use Rattle.environment.specs.declared.wrote.Wrote.TheVariants.{Done, Full, NoNumbers, Failed}
+use Rattle.environment.specs.Valid.{active_number}
+use Rattle.environment.specs.Whole.{HasLimit}
+use Rattle.environment.specs.Written.{AreNamesOf, had_at, names_at}
+use Rattle.environment.specs.Writing.{HasWrittenNone, HasWrittenOwn, IsLeft, IsValidAt, MayWrite, WritesAll, WritesOwn, has_record, wrote_by}
+use Rattle.environment.proofs.EndingLaws.{room_unchanged}
+use Rattle.environment.proofs.WritingLaws.{had_counted, kind_at, made_none, may_all, names_append, names_free, own_planned, planned_free, planned_there, rows_stay}
+
+module _ {D : Type 0} (observable : Bool) (history : D → History) (sync_out read_out : D → Option ℕ) (read_of : D → ℕ) (faults : D → ℕ) where
+  abbrev state_of : Environment D → State
+  state_of e = now (history (disk_below e.engine.trees.log))
+
+  abbrev planned_of : Target → List RecordChange → List TreeChange
+  planned_of g changes = map (record_planned g.db) changes
+
+  abbrev rows_in : Environment D → Rows
+  rows_in e = committed (cells_of e.engine.trees)
+
+  -- ---- before
+
+  abbrev LogAt : (old : Environment D) (st : Standing) → IsValidAt observable history old st → Type 0
+  LogAt old st v = IsLogAt observable history old.engine.trees.log v.log (rows_in old) (active_number st.actives) st
+
+  log_at : (old : Environment D) (st : Standing) (v : IsValidAt observable history old st) → LogAt old st v
+  log_at old st v = record { given = record { has = v.has; gives = v.gives }; makes = v.makes; may = v.may }
+
+  may_add : (st : Standing) (txn : TxnId) (g : Target) (changes : List RecordChange) → MayWrite st txn.0 g changes → active_number st.actives txn.0 ≡ true →
+      MayAddChanges st.last_txn (active_number st.actives) st.own txn (planned_of g changes)
+  may_add st txn g changes m active = record { active = active; drawn = m.drawn; free = names_free (active_number st.actives) txn.0 g.db changes st.own m.free }
+
+  pub trees_there : (old : Environment D) (st : Standing) (txn : TxnId) (g : Target) (changes : List RecordChange) → IsValidAt observable history old st → MayWrite st txn.0 g changes →
+      AllByRecursion (λ c. has_tree_of old.engine.trees c.db ≡ true) (planned_of g changes)
+  trees_there old st txn g changes v m =
+      let number = v.makes.named g.database.name ∙ m.named in
+      planned_there (has_tree_of old.engine.trees) g.db changes
+      (v.made g.db ∙ ap (has_number (numbers_of (rows_in old))) (sym number) ∙ number_there (rows_in old) g.database.name (λ e. m.above (sym number ∙ e)))
+
+  pub free_there : (old : Environment D) (st : Standing) (txn : TxnId) (g : Target) (changes : List RecordChange) → IsValidAt observable history old st → MayWrite st txn.0 g changes →
+      AllByRecursion (λ c. IsFreeFor txn (write_in (value_at c.name (cells_of old.engine.trees c.db)))) (planned_of g changes)
+  free_there old st txn g changes v m = planned_free txn g.db changes st.own (cells_of old.engine.trees) v.writes m.free
+
+  -- ---- the limit
+
+  limit_for : (old : Environment D) (st : Standing) (txn : TxnId) (g : Target) (changes : List RecordChange) (owed : ℕ) (limit : Option Answer) → IsValidAt observable history old st → MayWrite st txn.0 g changes →
+      limit ≡ limit_by (limit_in old.engine.trees (planned_of g changes) owed) old.engine.kept.last_node (length (planned_of g changes)) → HasLimit old owed (changes_on g changes) limit
+  limit_for old st txn g [] owed limit v m is = absurd (m.some refl)
+  limit_for old st txn g (c ∷ changes) owed limit v m is =
+      let number = v.makes.named g.database.name ∙ m.named in
+      record {
+        planned = planned_of g (c ∷ changes);
+        rows = records_rows 0 old.engine.kept.last_db g.db g.database.name (c ∷ changes) (rows_in old) (sym number) (λ e. m.above (sym number ∙ e));
+        makes = λ few d made. absurd (true≢false (sym made ∙ made_none d g.db (c ∷ changes)));
+        is = is;
+      }
+
+  none_found : (found : Option TreeErr) (node count : ℕ) → wrote_by found ≡ NoNumbers → nat_lt last_number (node + numbers_for count) ≡ true → Some IdsEnded ≡ limit_by found node count
+  none_found None node count is lack = sym (ap (λ (b : Bool). cond b (Some IdsEnded) None) lack)
+  none_found (Some TooFull) node count is lack = absurd cc
+  none_found (Some NoNumber) node count is lack = sym (ap (λ (b : Bool). cond b (Some IdsEnded) None) lack)
+  none_found (Some Fault) node count is lack = sym (ap (λ (b : Bool). cond b (Some IdsEnded) None) lack)
+  none_found (Some Memory) node count is lack = sym (ap (λ (b : Bool). cond b (Some IdsEnded) None) lack)
+
+  -- ---- nothing was written
+
+  pub left_valid : (old new : Environment D) (st : Standing) → HasWrittenNone old new → IsValidAt observable history old st → IsValidAt observable history new st
+  left_valid old new st h v =
+      let same : cells_of new.engine.trees ≡ cells_of old.engine.trees = fun_ext h.trees.cells in
+      let log = h.trees.log in
+      record {
+        log = v.log;
+        has = subst (λ (d : D). HasLog observable (now (history d)) new.engine.trees.log v.log) (sym log.disk)
+            (log_kept observable (state_of old) old.engine.trees.log new.engine.trees.log v.log log.kept v.has);
+        works = log.failed ∙ v.works;
+        gives = subst (λ (e : LogPos). GivesRecordsWith v.log e (rows_in new) st.last_txn st.last_db (active_number st.actives) st.own) (sym log.kept.end)
+            (subst (λ (c : AllCells). GivesRecordsWith v.log (end_of old.engine.trees.log) (committed c) st.last_txn st.last_db (active_number st.actives) st.own) (sym same) v.gives);
+        recovers = v.recovers;
+        makes = subst (λ (c : AllCells). MakesStore (committed c) st.last_db st) (sym same) v.makes;
+        writes = subst (λ (c : AllCells). HasWrites c st.own) (sym same) v.writes;
+        may = subst (λ (c : AllCells). (t : ℕ) → AllByRecursion (MayBeCommitted (committed c)) (st.own t)) (sym same) v.may;
+        made = λ d. h.trees.made d ∙ v.made d ∙ sym (ap (λ (c : AllCells). has_number (numbers_of (committed c)) d) same);
+        room = λ n is. room_unchanged old.engine.trees.log new.engine.trees.log (commit_sizes (suc n)) log (v.room n is);
+        names = subst (λ (c : AllCells). AreNamesOf new.written.by_txn.entries st.own (committed c)) (sym same) (record {
+          names = λ t. h.written.names (txn_id t) ∙ v.names.names t;
+          had = λ t. h.written.had (txn_id t) ∙ v.names.had t;
+        });
+      }
+
+  pub is_left : (old new : Environment D) → HasWrittenNone old new → IsLeft old new
+  is_left old new h = record {
+    log = h.trees.log;
+    kept = h.kept;
+    end = ap₂ (λ (b : Bool) (n : ℕ). cond b 0 n) h.trees.log.failed (ap₂ (λ (p : LogPos) (n : ℕ). p.file + n) h.trees.log.kept.end h.trees.waits);
+  }
+
+  -- ---- changes were written
+
+  module _ (old new : Environment D) (txn : TxnId) (st : Standing) (g : Target) (changes : List RecordChange) (owed : ℕ) (v : IsValidAt observable history old st) (m : MayWrite st txn.0 g changes)
+      (active : active_number st.actives txn.0 ≡ true) where
+    abbrev planned_ : List TreeChange
+    planned_ = planned_of g changes
+
+    abbrev own_ : List (ℕ × RecordChange)
+    own_ = changes_at g.db changes
+
+    abbrev rows_ : Rows
+    rows_ = rows_in old
+
+    abbrev after_ : Standing
+    after_ = with_own txn.0 own_ st
+
+    abbrev Written : Type 0
+    Written = HasWrittenOwn observable history sync_out read_out read_of faults old new txn planned_ (own_names own_) owed
+
+    abbrev Added : Type 0
+    Added = HasAdded observable history sync_out read_out read_of old.engine.trees.log new.engine.trees.log (LogsChanges txn planned_)
+
+    may_own : AllByRecursion (MayBeCommitted rows_) own_
+    may_own = may_all rows_ g.database.name g.db g.database.kind changes (v.makes.named g.database.name ∙ m.named) m.above (kind_at rows_ st.last_db st g v.makes m.there) m.right
+
+    given : HasGiven observable history old.engine.trees.log v.log rows_ st.last_txn st.last_db (active_number st.actives) st.own
+    given = record { has = v.has; gives = v.gives }
+
+    log_on : (a : Added) → IsLogAt observable history new.engine.trees.log (longer old.engine.trees.log a.entries v.log) rows_ (active_number st.actives) after_
+    log_on a =
+        changes_leave_log observable history sync_out read_out read_of old.engine.trees.log new.engine.trees.log v.log rows_ (active_number st.actives) st after_ txn planned_
+        (log_at old st v) (may_add st txn g changes m active) (subst (AllByRecursion (MayBeCommitted rows_)) (sym (own_planned g.db changes)) may_own) a refl refl refl refl
+        (λ u. ap (λ (l : List (ℕ × RecordChange)). with_at txn.0 (st.own txn.0 ++ l) st.own u) (sym (own_planned g.db changes)))
+
+    names_on : Written → AreNamesOf new.written.by_txn.entries after_.own rows_
+    names_on w = record {
+      names = λ t. w.names (txn_id t) ∙ ap (λ (b : Bool). cond b (names_at txn old.written.by_txn.entries ++ own_names own_) (names_at (txn_id t) old.written.by_txn.entries)) (same_either txn (txn_id t))
+          ∙ by_names t (t == txn.0);
+      had = λ t. w.had (txn_id t)
+          ∙ ap (λ (b : Bool). cond b (had_at txn old.written.by_txn.entries + count_) (had_at (txn_id t) old.written.by_txn.entries)) (same_either txn (txn_id t))
+          ∙ by_had t (t == txn.0);
+    } where
+      count_ : ℕ
+      count_ = count_by (has_record txn (cells_of old.engine.trees)) planned_
+
+      by_names : (t : ℕ) (b : Bool) → cond b (names_at txn old.written.by_txn.entries ++ own_names own_) (names_at (txn_id t) old.written.by_txn.entries) ≡ own_names (cond b (st.own txn.0 ++ own_) (st.own t))
+      by_names t true = ap (λ (l : List TreeName). l ++ own_names own_) (v.names.names txn.0) ∙ sym (names_append (st.own txn.0) own_)
+      by_names t false = v.names.names t
+
+      by_had : (t : ℕ) (b : Bool) → cond b (had_at txn old.written.by_txn.entries + count_) (had_at (txn_id t) old.written.by_txn.entries) ≡ records_had (cond b (st.own txn.0 ++ own_) (st.own t)) rows_
+      by_had t true =
+          ap₂ (λ (x y : ℕ). x + y) (v.names.had txn.0) (had_counted txn g.db changes st.own (cells_of old.engine.trees) w.was_rising v.writes m.apart)
+          ∙ sym (had_go_on rows_ (st.own txn.0) own_)
+      by_had t false = v.names.had t
+
+    done_valid : Written → (a : Added) → owed ≡ owing after_ → IsValidAt observable history new after_
+    done_valid w a owes =
+        let same : rows_in new ≡ rows_ = rows_stay txn planned_ (cells_of old.engine.trees) (cells_of new.engine.trees) w.was_rising w.rising w.writes in
+        let on = log_on a in
+        record {
+          log = longer old.engine.trees.log a.entries v.log;
+          has = on.given.has;
+          works = a.grew.failed ∙ v.works;
+          gives = subst (λ (r : Rows). GivesRecordsWith (longer old.engine.trees.log a.entries v.log) (end_of new.engine.trees.log) r st.last_txn st.last_db (active_number st.actives) after_.own) (sym same) on.given.gives;
+          recovers = record {
+            first = v.recovers.first;
+            opening = v.recovers.opening;
+            base = v.recovers.base;
+            transactions = v.recovers.transactions;
+            recovers = changes_are_recovered observable history sync_out read_out read_of old.engine.trees.log new.engine.trees.log v.log rows_ st.last_txn st.last_db (active_number st.actives) st.own txn planned_
+                v.recovers.first v.recovers.opening v.recovers.base v.recovers.transactions given (may_add st txn g changes m active) a v.recovers.recovers;
+            made = v.recovers.made;
+          };
+          makes = subst (λ (r : Rows). MakesStore r st.last_db after_) (sym same) on.makes;
+          writes = writes-are_own txn g.db changes st.own (cells_of old.engine.trees) (cells_of new.engine.trees) v.writes (free_there old st txn g changes v m) w.writes;
+          may = subst (λ (r : Rows). (t : ℕ) → AllByRecursion (MayBeCommitted r) (after_.own t)) (sym same) on.may;
+          made = λ d. w.made d ∙ ap (λ (b : Bool). b || has_tree_of old.engine.trees d) (made_none d g.db changes) ∙ v.made d ∙ sym (ap (λ (r : Rows). has_number (numbers_of r) d) same);
+          room = λ n is. subst (λ (k : ℕ). HasRoomFor new.engine.trees.log (commit_sizes k)) (owes ∙ is) w.room;
+          names = subst (λ (r : Rows). AreNamesOf new.written.by_txn.entries after_.own r) (sym same) (names_on w);
+        }
+
+    near : Written → end_file new.engine.trees ≤ end_file old.engine.trees + most_entries (length changes)
+    near w =
+        let grown = w.logged.grew.grew in
+        let ends = ap (λ (e : LogPos). e.file) grown.end in
+        let files = files_few (file_max_of old.engine.trees.log) (end_of old.engine.trees.log) (map size_of w.logged.entries) in
+        let mapped = length-map w.logged.entries size_of in
+        let few = w.logged.waits in
+        let count = length-map changes (record_planned g.db) in
+        file_within (has_failed old.engine.trees.log) (has_failed new.engine.trees.log) ((end_of old.engine.trees.log).file + waits_of old.engine.trees) ((end_of new.engine.trees.log).file + waits_of new.engine.trees)
+        (most_entries (length changes)) grown.failed (omega (arith, ends, files, mapped, few, count))
+
+    pub done : Written → owed ≡ owing after_ → WritesOwn observable history sync_out read_out read_of old new st txn.0 g changes owed (Ok Done)
+    done w owes = (
+      done_valid w a owes,
+      record {
+        entries = a.entries;
+        grew = a.grew;
+        recovers = changes_recovered_in observable history sync_out read_out read_of v.log old.engine.trees.log new.engine.trees.log rows_ st.last_txn st.last_db (active_number st.actives) st.own txn planned_ given
+            (may_add st txn g changes m active) a;
+      },
+      limit_for old st txn g changes owed None v m (sym (no_limit (limit_in old.engine.trees planned_ owed) old.engine.kept.last_node (length planned_) w.limit w.left)),
+      a.grew.max,
+      w.kept ∙ ap (λ (n : ℕ). record old.engine.kept { last_node = old.engine.kept.last_node + numbers_for n }) (length-map changes (record_planned g.db)),
+      near w,
+    ) where
+      a : Added
+      a = added observable history sync_out read_out read_of faults old.engine.trees.log new.engine.trees.log (LogsChanges txn planned_) w.logged.entries w.logged.logs w.logged.grew
+
+    pub tried : WritesAll observable history sync_out read_out read_of faults old new txn planned_ (own_names own_) owed (Ok Failed) →
+        WritesOwn observable history sync_out read_out read_of old new st txn.0 g changes owed (Ok Failed)
+    tried t = (
+      record {
+        front = f.front;
+        tried = f.tried;
+        recovers = inl (tried_changes_recovered_in observable history sync_out read_out read_of v.log old.engine.trees.log new.engine.trees.log rows_ st.last_txn st.last_db (active_number st.actives) st.own txn planned_
+            given (may_add st txn g changes m active) f);
+      },
+      limit_for old st txn g changes owed None v m (sym (no_limit (limit_in old.engine.trees planned_ owed) old.engine.kept.last_node (length planned_) t.1 t.2)),
+      f.tried.max,
+      t.3,
+      cond-true (has_failed new.engine.trees.log) 0 ((end_of new.engine.trees.log).file + waits_of new.engine.trees) f.tried.failed,
+    ) where
+      f : HasFailed observable history sync_out read_out read_of old.engine.trees.log new.engine.trees.log (LogsChanges txn planned_)
+      f = failed observable history sync_out read_out read_of faults old.engine.trees.log new.engine.trees.log (LogsChanges txn planned_) t.0.entries t.0.front t.0.logs t.0.is_front t.0.tried
+
+    pub writes_own : (result : Result Wrote AllocError) → owed ≡ owing after_ → WritesAll observable history sync_out read_out read_of faults old new txn planned_ (own_names own_) owed result →
+        WritesOwn observable history sync_out read_out read_of old new st txn.0 g changes owed result
+    writes_own (Ok Done) owes w = done w owes
+    writes_own (Ok Full) owes w = (
+      left_valid old new st w.0 v,
+      is_left old new w.0,
+      limit_for old st txn g changes owed (Some LogFull) v m (sym (ap (λ (f : Option TreeErr). limit_by f old.engine.kept.last_node (length planned_)) w.1)),
+    )
+    writes_own (Ok NoNumbers) owes w = (
+      left_valid old new st w.0 v,
+      is_left old new w.0,
+      limit_for old st txn g changes owed (Some IdsEnded) v m (none_found (limit_in old.engine.trees planned_ owed) old.engine.kept.last_node (length planned_) w.1 w.2),
+    )
+    writes_own (Ok Failed) owes w = tried w
+    writes_own (Err error) owes w = (left_valid old new st w v, is_left old new w)

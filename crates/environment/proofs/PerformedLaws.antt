@@ -1,0 +1,35 @@
+-- A call by its kind.
+use Rattle.std.proofs.Common.{◌≡◌, ◌∙◌, ℕ, Bool, List, [], Option, None, Result, Ok, Err, OnErr, subst, sym}
+use Rattle.std.specs.declared.alloc.AllocError.{AllocError}
+use Rattle.je_disk.specs.Moments.{History}
+use Rattle.store_model.specs.declared.answer.Answer.{Answer}
+use Rattle.store_model.specs.declared.answer.Answer.TheVariants.{DiskFault}
+use Rattle.store_model.specs.declared.call.Call.{Call}
+use Rattle.store_model.specs.declared.victim.Victim.{Victim}
+use Rattle.je_order.specs.Counts.{HasRisen}
+use Rattle.engine.specs.Limits.{IsWithin}
+use Rattle.environment.specs.declared.environment.Environment.{Environment}
+use Rattle.environment.specs.declared.outcome.Outcome.{Outcome}
+use Rattle.environment.specs.Steps.{HasCome, IsOnly, Performs, PerformsAnswer}
+use Rattle.environment.specs.Whole.{disk_of, reach_of}
+use Rattle.environment.proofs.EarlyLaws.{told_so}
+
+module _ {D : Type 0} (observable : Bool) (history : D → History) (sync_out read_out : D → Option ℕ) (read_of faults : D → ℕ) where
+  -- a call that has no victims
+  pub performs_only : (old new : Environment D) (session line : ℕ) (call : Call) (resumed : Bool) (answered : Result Answer AllocError) (result : Result Outcome AllocError) → IsOnly answered result →
+      PerformsAnswer observable history sync_out read_out read_of faults old new session call answered → Performs observable history sync_out read_out read_of faults old new session line call resumed result
+  performs_only old new session line call resumed (Ok answer) (Ok o) only p = record {
+    comes = λ most st here sound early may.
+        told_so (λ a victims. HasCome observable history sync_out read_out read_of most old new st session line call a victims) o answer only.0 only.1 (p.comes most st line here sound early);
+    near = tt;
+    bounds = p.bounds;
+    cause = record { never_falls = p.cause.never_falls; fault = λ is. p.cause.fault (sym only.0 ∙ is) };
+  }
+  performs_only old new session line call resumed (Err error) (Err other) only p = record {
+    comes = λ most st here sound early may. p.comes most st line here sound early;
+    near = p.near;
+    bounds = p.bounds;
+    cause = record { never_falls = p.cause.never_falls; fault = tt };
+  }
+  performs_only old new session line call resumed (Ok answer) (Err other) only p = absurd only
+  performs_only old new session line call resumed (Err error) (Ok o) only p = absurd only

@@ -1,0 +1,10 @@
+use Rattle.environment.proofs.CatalogEnds.{none_performs}
+use Rattle.environment.proofs.environment.Environment.change_unless_used.Goals as goal
+
+pub returns-in-Err : goal.returns-in-Err
+returns-in-Err g c = record {
+  performs = none_performs g.D.Disk.observable g.D.Disk.history g.D.Disk.sync_out g.D.Disk.read_out g.D.Disk.read_of g.D.Disk.faults c.args.self.now c.args.session c.args.call.now c.in-Err.error c.requires.bounds;
+}
+
+pub returns-in-Ok : goal.returns-in-Ok
+returns-in-Ok g c = record { performs = c.change_by_user.ensures.performs }

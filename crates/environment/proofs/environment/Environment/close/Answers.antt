@@ -1,0 +1,36 @@
+use Rattle.std.proofs.Common.{false, None, ap, sym, subst, ◌≡◌}
+use Rattle.je_disk.specs.Moments.{now}
+use Rattle.je_answers.specs.After.{after_events}
+use Rattle.log_file.specs.Log.{Log}
+use Rattle.log_buffer.specs.declared.buffer.LogBuffer.{LogBuffer}
+use Rattle.log_buffer.specs.Buffer.{disk_of, has_failed}
+use Rattle.log_buffer.specs.Log.{HasLog}
+use Rattle.engine.specs.Guarded.{IsGuardedLog}
+use Rattle.engine.proofs.ClosedLaws.{closed_images, closed_safely, files_mean}
+use Rattle.environment.proofs.environment.Environment.close.Goals as goal
+
+pub returns-clause-crash : goal.returns-clause-crash
+returns-clause-crash g c = λ observed most st start journal is.
+    let buffer = c.into_parts-log.result.0 in
+    let log : Log = is.0 in
+    let guarded = subst (λ (b : LogBuffer g.row.D.Denot). IsGuardedLog st log start (g.D.Disk.history (disk_of b)) b journal None) (sym c.into_parts-log.ensures.log) is.1 in
+    closed_safely st log start (g.D.Disk.history (disk_of buffer)) (g.D.Disk.history c.close_log-disk.result.0) buffer journal guarded
+    (c.close_log-disk.ensures.crash observed log guarded.least (λ works. guarded.works (guarded.stops works)))
+    (λ failed. ap (λ (d : g.row.D.Denot). g.D.Disk.history d) (c.close_log-disk.ensures.still failed))
+
+pub returns-clause-images : goal.returns-clause-images
+returns-clause-images g c = λ observed done most st start journal here is none.
+    let standing = after_events st journal in
+    let same = sym c.into_parts-log.ensures.log in
+    let v = here.at.valid none in
+    closed_images v.log (now (g.D.Disk.history c.close_log-disk.result.0)) standing.store v.recovers
+    (c.close_log-disk.ensures.kept observed v.log (subst (λ (b : LogBuffer g.row.D.Denot). HasLog g.D.Disk.observable (now (g.D.Disk.history (disk_of b))) b v.log) same v.has)
+    (subst (λ (b : LogBuffer g.row.D.Denot). has_failed b ≡ false) same v.works) done)
+
+pub returns-clause-files : goal.returns-clause-files
+returns-clause-files g c = λ observed done most st here none.
+    let same = sym c.into_parts-log.ensures.log in
+    let v = here.at.valid none in
+    files_mean v.log (now (g.D.Disk.history c.close_log-disk.result.0)) st.store v.recovers
+    (c.close_log-disk.ensures.kept observed v.log (subst (λ (b : LogBuffer g.row.D.Denot). HasLog g.D.Disk.observable (now (g.D.Disk.history (disk_of b))) b v.log) same v.has)
+    (subst (λ (b : LogBuffer g.row.D.Denot). has_failed b ≡ false) same v.works) done)

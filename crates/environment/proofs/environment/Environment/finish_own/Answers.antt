@@ -1,0 +1,17 @@
+use Rattle.std.proofs.Common.{◌∙◌, length, refl, sym}
+use Rattle.std.proofs.lemmas.Bool.{eqb-true}
+use Rattle.std.proofs.lemmas.List.{nil_from_length}
+use Rattle.environment.proofs.AccessLaws.{calm_cause}
+use Rattle.environment.proofs.FinishLaws.{calm_taken, finishes}
+use Rattle.environment.proofs.environment.Environment.finish_own.Goals as goal
+
+pub returns-then-is_empty-clause-comes : goal.returns-then-is_empty-clause-comes
+returns-then-is_empty-clause-comes g c = λ before most session line st a asked db found on up txn level number auto.
+    finishes g.D.Disk.observable g.D.Disk.history g.D.Disk.sync_out g.D.Disk.read_out g.D.Disk.read_of before c.args.self.now c.answered.new.self most session line st a asked db found on c.args.answer c.args.changes c.told.result
+    up (nil_from_length c.args.changes (eqb-true (length c.args.changes) 0 (sym c.is_empty.ensures ∙ c.if-is_empty.true))) auto (c.answered.ensures a _ st txn level up.taken) c.told.ensures.answer c.told.ensures.victims
+
+pub returns-then-is_empty-clause-cause : goal.returns-then-is_empty-clause-cause
+returns-then-is_empty-clause-cause g c =
+    let taken = c.requires.taken in
+    calm_cause _ _ c.told.result c.args.answer c.told.ensures.answer
+    (calm_taken g.D.Disk.observable g.D.Disk.history g.D.Disk.sync_out g.D.Disk.read_out g.D.Disk.read_of taken.0 c.args.self.now taken.1 taken.2 taken.3 taken.4 taken.5 taken.6 taken.7 taken.8 c.args.answer c.args.changes taken.9) refl

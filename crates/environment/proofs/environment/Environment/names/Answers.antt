@@ -1,0 +1,25 @@
+use Rattle.std.proofs.Common.{◌∙◌, sym, subst}
+use Rattle.store_model.specs.declared.call.Call.TheVariants.{List as Lists}
+use Rattle.je_answers.specs.Alone.{Alone}
+use Rattle.in_tree.specs.Observed.{cells_of}
+use Rattle.txn_core.specs.Known.{known_of}
+use Rattle.txn_core.specs.Planning.{IsPlanned}
+use Rattle.txn_core.specs.declared.planned.Planned.{Planned}
+use Rattle.environment.proofs.ListLaws.{logs_nothing, planned_names}
+use Rattle.environment.proofs.environment.Environment.names.Goals as goal
+
+pub unreachable-requires : goal.unreachable-requires
+unreachable-requires g c =
+    let e = c.args.self.now.engine in
+    let at = c.requires.here.2 in
+    let st = c.requires.here.1 in
+    let known = known_of (cells_of e.trees) e.kept.totals e.kept.last_db in
+    logs_nothing known st c.in-Logs.field-0 (at.valid (sym at.fault ∙ c.requires.valid)).makes.store at.last_db
+    (λ p session has. subst (λ (x : Planned). IsPlanned known p session Lists x) c.in-Logs.is (c.in_ok-planned.ensures p session has))
+
+pub returns : goal.returns
+returns g c = λ most st at.
+    let e = c.args.self.now.engine in
+    let known = known_of (cells_of e.trees) e.kept.totals e.kept.last_db in
+    planned_names known st c.in-Answered.answer (at.valid (sym at.fault ∙ c.requires.valid)).makes.store at.last_db
+    (λ p session has. subst (λ (x : Planned). IsPlanned known p session Lists x) c.in-Answered.is (c.in_ok-planned.ensures p session has))

@@ -1,0 +1,33 @@
+-- What changes that are logged leave.
+use Rattle.std.proofs.Common.{◌∙◌, refl, sym, subst, count_by, Ok}
+use Rattle.environment.specs.declared.wrote.Wrote.{Wrote}
+use Rattle.environment.specs.Writing.{WritesTrees, has_record}
+use Rattle.in_tree.specs.Observed.{cells_of}
+use Rattle.environment.proofs.WrittenNames.{names_through, had_through}
+use Rattle.environment.proofs.environment.Environment.write_all.Goals as goal
+
+-- src/logging.rt:47:5
+pub returns-in-Done-clause-writes : goal.returns-in-Done-clause-writes
+returns-in-Done-clause-writes g c =
+    let old = c.args.self.now in
+    let w = subst (λ (x : Wrote). WritesTrees g.D.Disk.observable g.D.Disk.history g.D.Disk.sync_out g.D.Disk.read_out g.D.Disk.read_of g.D.Disk.faults old.engine.trees c.write_changes.new.trees c.args.txn c.args.changes.now c.args.owed (Ok x)) c.in-Done.is c.in_ok-wrote.ensures.writes in
+    record {
+      writes = w.0;
+      was_rising = c.are_ordered.ensures;
+      rising = c.are_ordered-2.ensures;
+      made = w.1;
+      logged = w.2;
+      room = w.3;
+      limit = w.4;
+      left = sym c.may_lack.ensures ∙ c.if-may_lack.false;
+      kept = refl;
+      names = names_through old.written.by_txn.entries c.make_room_at.new.written.entries c.append_at.new.written.entries c.args.txn c.args.names.items c.make_room_at.ensures.names c.append_at.ensures.names;
+      had = had_through old.written.by_txn.entries c.make_room_at.new.written.entries c.append_at.new.written.entries c.args.txn c.count_had-had.result (count_by (has_record c.args.txn (cells_of old.engine.trees)) c.args.changes.now) c.count_had-had.ensures c.make_room_at.ensures.had c.append_at.ensures.had;
+    }
+
+-- src/logging.rt:47:5
+pub returns-in-Full-clause-writes : goal.returns-in-Full-clause-writes
+returns-in-Full-clause-writes g c =
+    let old = c.args.self.now in
+    let w = subst (λ (x : Wrote). WritesTrees g.D.Disk.observable g.D.Disk.history g.D.Disk.sync_out g.D.Disk.read_out g.D.Disk.read_of g.D.Disk.faults old.engine.trees c.write_changes.new.trees c.args.txn c.args.changes.now c.args.owed (Ok x)) c.in-Full.is c.in_ok-wrote.ensures.writes in
+    (record { trees = w.0; kept = refl; written = record { names = c.make_room_at.ensures.names; had = c.make_room_at.ensures.had } }, w.1)

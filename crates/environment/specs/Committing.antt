@@ -1,0 +1,55 @@
+-- A transaction that commits its own changes.
+use Rattle.std.specs.Prelude.{ℕ, suc, ◌≡◌, ◌+◌, ◌∷◌, [], List, Option, Some, Bool, true, false, if◌then◌else◌}
+use Rattle.je_disk.specs.Moments.{History}
+use Rattle.je_order.specs.declared.txn_id.TxnId.{TxnId}
+use Rattle.je_order.specs.Transactions.{is_same_txn}
+use Rattle.store_model.specs.declared.answer.Fault.TheVariants.{Disk}
+use Rattle.store_model.specs.declared.record_change.RecordChange.{RecordChange}
+use Rattle.store_model.specs.declared.record_change.RecordChange.TheVariants.{Set, Unset}
+use Rattle.log_entry.specs.declared.entry.Entry.{Entry}
+use Rattle.log_entry.specs.declared.entry.Entry.TheVariants.{Commit}
+use Rattle.record_map.specs.Cells.{IsRising}
+use Rattle.record_tree.specs.Occupied.{HasChangedAll, after_commit}
+use Rattle.record_tree.specs.Logged.{IsFront}
+use Rattle.in_tree.specs.Limits.{GrewFitting, HasRoomFor, TriedFitting, commit_sizes}
+use Rattle.in_tree.specs.Observed.{cells_of, has_tree_of, waits_of}
+use Rattle.je_answers.specs.declared.active.Active.{Active}
+use Rattle.je_answers.specs.Standing.{Standing}
+use Rattle.je_answers.specs.After.{ended}
+use Rattle.sessions.specs.AtStanding.{AreSessionsAt}
+use Rattle.engine.specs.declared.kept.Kept.{Kept}
+use Rattle.environment.specs.declared.environment.Environment.{Environment}
+use Rattle.environment.specs.Written.{names_at, had_at}
+
+-- whether a change sets a name
+abbrev pub is_set : RecordChange → Bool
+is_set (Set at value) = true
+is_set (Unset at) = false
+
+-- what is kept, with one commit more, behind which the store has so many records
+abbrev pub kept_committed : Kept → ℕ → Kept
+kept_committed kept records = record kept { totals = record { databases = kept.totals.databases; records = records }; commits = kept.commits + 1 }
+
+module _ {D : Type 0} where
+  -- a session's transaction has committed, and is at its end
+  pub record HasSettled (observable : Bool) (history : D → History) (sync_out read_out : D → Option ℕ) (read_of faults : D → ℕ) (old new : Environment D) (session : ℕ) (txn : TxnId)
+      (records : ℕ) : Type 0 where
+    pub grew : GrewFitting observable history sync_out read_out read_of faults old.engine.trees.log new.engine.trees.log (Commit txn ∷ [])
+    pub left : (owed : ℕ) → HasRoomFor old.engine.trees.log (commit_sizes (suc owed)) → HasRoomFor new.engine.trees.log (commit_sizes owed)
+    pub kept : new.engine.kept ≡ kept_committed old.engine.kept records
+    pub cells : HasChangedAll (cells_of old.engine.trees) (cells_of new.engine.trees) (names_at txn old.written.by_txn.entries) after_commit
+    pub was_rising : (d : ℕ) → IsRising (cells_of old.engine.trees d)
+    pub rising : (d : ℕ) → IsRising (cells_of new.engine.trees d)
+    pub has_tree : (d : ℕ) → has_tree_of new.engine.trees d ≡ has_tree_of old.engine.trees d
+    pub waits : waits_of new.engine.trees ≡ waits_of old.engine.trees
+    pub names : (t : TxnId) → names_at t new.written.by_txn.entries ≡ (if is_same_txn txn t then [] else names_at t old.written.by_txn.entries)
+    pub had : (t : TxnId) → had_at t new.written.by_txn.entries ≡ (if is_same_txn txn t then 0 else had_at t old.written.by_txn.entries)
+    pub sessions : (st : Standing) (a : Active) → a.session ≡ session → a.txn ≡ txn → AreSessionsAt old.sessions st → AreSessionsAt new.sessions (ended a st)
+
+  -- or the disk failed
+  pub record HasNotSettled (observable : Bool) (history : D → History) (sync_out read_out : D → Option ℕ) (read_of faults : D → ℕ) (old new : Environment D) (txn : TxnId) : Type 0 where
+    pub front : List Entry
+    pub is_front : IsFront front (Commit txn ∷ [])
+    pub tried : TriedFitting observable history sync_out read_out read_of faults old.engine.trees.log new.engine.trees.log front
+    pub kept : new.engine.kept ≡ (record old.engine.kept { fault = Some Disk })
+    pub sessions : new.sessions ≡ old.sessions

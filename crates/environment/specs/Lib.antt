@@ -1,0 +1,17 @@
+pub mod Calls
+pub mod Limits
+pub mod Written
+pub mod Valid
+pub mod Whole
+pub mod Steps
+pub mod Answering
+pub mod Writing
+pub mod Committing
+pub mod Ending
+-- Of which database a change of the catalog is.
+pub mod Catalog
+pub mod Access
+-- A call on records that is a transaction of its own, among others.
+pub mod Auto
+pub mod Resuming
+pub mod OwnEnds

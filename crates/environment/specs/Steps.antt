@@ -1,0 +1,136 @@
+-- What a call that nothing refuses early comes to, beside the model.
+use Rattle.std.specs.Prelude.{ℕ, ◌≡◌, ◌⊎◌, ◌==◌, ◌++◌, [], List, Option, None, Some, Bool, true, false, Result, Ok, Err, OnErr, if◌then◌else◌}
+use Rattle.std.specs.declared.alloc.AllocError.{AllocError}
+use Rattle.std.specs.List.{AllByRecursion}
+use Rattle.je_disk.specs.Moments.{History, now}
+use Rattle.store_model.specs.declared.answer.Answer.{Answer}
+use Rattle.store_model.specs.declared.answer.Fault.TheVariants.{Disk}
+use Rattle.store_model.specs.declared.call.Call.{Call}
+use Rattle.store_model.specs.declared.change.Change.{Change}
+use Rattle.store_model.specs.declared.store.Store.{Store}
+use Rattle.store_model.specs.declared.victim.Victim.{Victim}
+use Rattle.je_answers.specs.Standing.{Standing, active_of}
+use Rattle.je_answers.specs.declared.active.Active.{Active}
+use Rattle.je_answers.specs.Refusals.{early_refusal, late_refusal}
+use Rattle.je_answers.specs.Events.{IsCallAnswered, IsEvaluated}
+use Rattle.je_answers.specs.After.{after_call, after_evaluated, fate_of}
+use Rattle.je_answers.specs.Journal.{changes_evaluated, changes_of, is_disk_fault, tried}
+use Rattle.log_entry.specs.declared.entry.Entry.{Entry}
+use Rattle.log_file.specs.Log.{Log}
+use Rattle.log_buffer.specs.declared.buffer.LogBuffer.{LogBuffer}
+use Rattle.log_buffer.specs.Buffer.{IsUnchanged, disk_of as disk_below}
+use Rattle.log_buffer.specs.Growth.{Grew, Tried, longer}
+use Rattle.log_buffer.specs.Log.{HasLog}
+use Rattle.crash_recovery.specs.Recovery.{RecoversLog}
+use Rattle.in_tree.specs.Observed.{cells_of, has_tree_of}
+use Rattle.engine.specs.Limits.{IsWithin, reach_after}
+use Rattle.engine.specs.Steps.{HasStepCause, IsNumbered}
+use Rattle.environment.specs.declared.environment.Environment.{Environment}
+use Rattle.environment.specs.declared.outcome.Outcome.{Outcome}
+use Rattle.environment.specs.Limits.{owing_after, written_evaluated, written_unless}
+use Rattle.standing_laws.specs.Right.{AreSound}
+use Rattle.environment.specs.Valid.{AreAt, AreBare}
+use Rattle.environment.specs.Whole.{CanGoOn, HasLimit, disk_of, reach_of}
+use Rattle.environment.specs.Calls.{HasCause}
+
+-- ---- who may ask
+
+-- a session may make a call: its transaction waits for nothing, and a transaction of one call that is under way has changed nothing
+pub record MayCall (st : Standing) (session : ℕ) (resumed : Bool) : Type 0 where
+  pub told : (a : Active) → active_of session st.actives ≡ Some a → st.locks.pending a.txn ≡ None
+  pub bare : AreBare st
+  pub alone : (a : Active) → active_of session st.actives ≡ Some a → AllByRecursion (λ w. (w.session == a.session) ≡ false) st.waiting
+
+-- an answer alone
+abbrev pub IsOnly : Result Answer AllocError → Result Outcome AllocError → Type 0
+IsOnly (Ok answer) (Ok o) = (o.answer ≡ answer) × (o.victims ≡ [])
+IsOnly (Err error) (Err other) = Unit {0}
+IsOnly answered result = ⊥
+
+module _ {D : Type 0} where
+  -- in the middle of an event too the environment is where the model stands
+  abbrev pub StandsAt : ℕ → Bool → (D → History) → Environment D → Standing → Type 0
+  StandsAt most observable history e st =
+      AreAt most observable (now (history (disk_below e.engine.trees.log))) e.engine.trees.log (cells_of e.engine.trees) (has_tree_of e.engine.trees) e.engine.kept e.sessions e.written.by_txn.entries st
+
+  module _ (observable : Bool) (history : D → History) (sync_out read_out : D → Option ℕ) (read_of : D → ℕ) where
+    -- a log that is longer by these entries recovers these transactions more
+    abbrev pub RecoversWith : LogBuffer D → List Entry → List (List Change) → Type 0
+    RecoversWith old entries more =
+        observable ≡ true → (log : Log) → HasLog observable (now (history (disk_below old))) old log → (first : ℕ) (opening : Store) (base : ℕ) (transactions : List (List Change)) →
+        RecoversLog first opening base transactions log → RecoversLog first opening base (transactions ++ more) (longer old entries log)
+
+    -- the log got entries with which it recovers these transactions more
+    pub record HasGrown (old new : LogBuffer D) (more : List (List Change)) : Type 0 where
+      pub entries : List Entry
+      pub grew : Grew observable history sync_out read_out read_of old new entries
+      pub recovers : RecoversWith old entries more
+
+    -- it failed with some with which it recovers them, or none of them
+    pub record HasFailedWith (old new : LogBuffer D) (more : List (List Change)) : Type 0 where
+      pub front : List Entry
+      pub tried : Tried observable history sync_out read_out read_of old new front
+      pub recovers : RecoversWith old front [] ⊎ RecoversWith old front more
+
+    -- what a call did to the log that was to commit these transactions, and that met a fault or not
+    abbrev pub IsLogStep : Bool → LogBuffer D → LogBuffer D → List (List Change) → Type 0
+    IsLogStep false old new more = (IsUnchanged old new × (more ≡ [])) ⊎ HasGrown old new more
+    IsLogStep true old new more = HasFailedWith old new more
+
+    -- A step was answered as the model may, for which `owed` Commits are owed: it wrote these changes, was to commit those, and the environment is
+    -- where the model then stands.
+    pub record HasStepped (most : ℕ) (old new : Environment D) (owed : ℕ) (written committed : List Change) (Answered : Option Answer → Type 0) (after : Standing) (answer : Answer) : Type 0 where
+      pub limit : Option Answer
+      pub has_limit : HasLimit old owed written limit
+      pub answers : Answered limit
+      pub here : StandsAt most observable history new after
+      pub numbered : IsNumbered answer after.commits
+      pub fault : after.fault ≡ (if is_disk_fault answer then Some Disk else None)
+      pub logged : IsLogStep (is_disk_fault answer) old.engine.trees.log new.engine.trees.log (tried committed (fate_of answer))
+      pub near : IsWithin (reach_of new) (reach_after (reach_of old) written)
+
+    -- the step of a call that nothing refuses early, and that of a call
+    abbrev pub HasCome : ℕ → Environment D → Environment D → Standing → ℕ → ℕ → Call → Answer → List Victim → Type 0
+    HasCome most old new st session line call answer victims =
+        let late = late_refusal st session call in
+        HasStepped most old new (owing_after st session) (written_evaluated late st session call) (changes_evaluated late st session call)
+        (λ limit. IsEvaluated late limit st session line call answer victims) (after_evaluated late st session line call answer victims) answer
+
+    abbrev pub HasCalled : ℕ → Environment D → Environment D → Standing → ℕ → ℕ → Call → Answer → List Victim → Type 0
+    HasCalled most old new st session line call answer victims =
+        let early = early_refusal st session call in
+        HasStepped most old new (owing_after st session) (written_unless early st session call) (changes_of early st session call)
+        (λ limit. IsCallAnswered early limit st session line call answer victims) (after_call early st session line call answer victims) answer
+
+    -- there was no memory, and all is as it was
+    pub record HasNotCome (most : ℕ) (old new : Environment D) (st : Standing) : Type 0 where
+      pub here : StandsAt most observable history new st
+      pub log : IsUnchanged old.engine.trees.log new.engine.trees.log
+      pub near : IsWithin (reach_of new) (reach_of old)
+
+    abbrev pub ComesTo : ℕ → Environment D → Environment D → Standing → ℕ → ℕ → Call → Result Outcome AllocError → Type 0
+    ComesTo most old new st session line call (Ok o) = HasCome most old new st session line call o.answer o.victims
+    ComesTo most old new st session line call (Err error) = HasNotCome most old new st
+
+    abbrev pub ComesToAnswer : ℕ → Environment D → Environment D → Standing → ℕ → ℕ → Call → Result Answer AllocError → Type 0
+    ComesToAnswer most old new st session line call (Ok answer) = HasCome most old new st session line call answer []
+    ComesToAnswer most old new st session line call (Err error) = HasNotCome most old new st
+
+    -- A call that nothing refuses early, of a session that may make it: what it comes to wherever the model stands. `resumed` says whether it had waited.
+    pub record Performs (faults : D → ℕ) (old new : Environment D) (session line : ℕ) (call : Call) (resumed : Bool) (result : Result Outcome AllocError) : Type 0 where
+      pub comes : (most : ℕ) (st : Standing) → StandsAt most observable history old st → AreSound st → early_refusal st session call ≡ None → MayCall st session resumed
+          → ComesTo most old new st session line call result
+      pub near : OnErr result (IsWithin (reach_of new) (reach_of old))
+      pub bounds : CanGoOn new
+      pub cause : HasCause (faults (disk_of old)) (faults (disk_of new)) result
+
+    -- the same of a call that has no victims
+    pub record PerformsAnswer (faults : D → ℕ) (old new : Environment D) (session : ℕ) (call : Call) (result : Result Answer AllocError) : Type 0 where
+      pub comes : (most : ℕ) (st : Standing) (line : ℕ) → StandsAt most observable history old st → AreSound st → early_refusal st session call ≡ None → ComesToAnswer most old new st session line call result
+      pub near : OnErr result (IsWithin (reach_of new) (reach_of old))
+      pub bounds : CanGoOn new
+      pub cause : HasStepCause (faults (disk_of old)) (faults (disk_of new)) result
+
+    abbrev pub CallsTo : ℕ → Environment D → Environment D → Standing → ℕ → ℕ → Call → Result Outcome AllocError → Type 0
+    CallsTo most old new st session line call (Ok o) = HasCalled most old new st session line call o.answer o.victims
+    CallsTo most old new st session line call (Err error) = HasNotCome most old new st

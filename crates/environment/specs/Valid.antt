@@ -1,0 +1,68 @@
+-- A valid environment beside the model: its log and its trees, and where the model stands.
+use Rattle.std.specs.Prelude.{ℕ, suc, ◌≡◌, ◌+◌, Bool, true, false, List, [], Option, None, filter, length, if◌then◌else◌}
+use Rattle.std.specs.List.{AllByRecursion}
+use Rattle.je_disk.specs.States.{State}
+use Rattle.je_order.specs.declared.txn_id.TxnId.{TxnId}
+use Rattle.je_answers.specs.declared.active.Active.{Active}
+use Rattle.je_answers.specs.Standing.{Standing}
+use Rattle.log_file.specs.Log.{Log}
+use Rattle.log_buffer.specs.declared.buffer.LogBuffer.{LogBuffer}
+use Rattle.log_buffer.specs.Buffer.{end_of, file_max_of, has_failed}
+use Rattle.log_buffer.specs.Log.{HasLog}
+use Rattle.log_replay.specs.Rows.{Rows, numbers_of}
+use Rattle.in_tree.specs.Limits.{HasRoomFor, commit_sizes}
+use Rattle.record_tree.specs.Occupied.{AllCells}
+use Rattle.engine.specs.declared.kept.Kept.{Kept}
+use Rattle.txn_core.specs.Totals.{totals_of}
+use Rattle.active_txns.specs.Own.{has_changes, own_of}
+use Rattle.sessions.specs.declared.all_sessions.Sessions.{Sessions}
+use Rattle.sessions.specs.AtStanding.{AreSessionsAt, owing}
+use Rattle.standing_laws.specs.Right.{HaveOwnWaits, is_active, txn_id}
+use Rattle.txn_core.specs.Known.{committed, has_number}
+use Rattle.txn_log.specs.Committing.{MakesStore, MayBeCommitted}
+use Rattle.txn_log.specs.Gives.{GivesRecordsWith}
+use Rattle.txn_views.specs.Seen.{HasWrites}
+use Rattle.engine.specs.Environment.{RecoversStore}
+use Rattle.environment.specs.Written.{AreNamesOf}
+use Rattle.environment.specs.declared.written.OwnNames.{OwnNames}
+
+-- whether a transaction of that number is under way
+abbrev pub active_number : List Active → ℕ → Bool
+active_number actives n = is_active (txn_id n) actives
+
+-- a transaction of one call changes nothing but by the call that ends it
+abbrev pub AreBare : Standing → Type 0
+AreBare st = AllByRecursion (λ a. a.is_auto ≡ true → st.own a.txn.0 ≡ []) st.actives
+
+-- how many Commits sessions owe the log
+abbrev pub owed_by : Sessions → ℕ
+owed_by s = length (filter (λ a. has_changes (own_of s.txns.own.entries a.txn.0)) s.txns.actives.items)
+
+module _ {D : Type 0} where
+  -- A log and trees with these cells, where the model stands at `st` and no fault came: the log works, gives the committed records and each
+  -- transaction's own changes, recovers the store, and has room for the Commits that are owed; the trees have the same.
+  pub record IsValidWith (observable : Bool) (state : State) (buffer : LogBuffer D) (cells : AllCells) (has_tree : ℕ → Bool) (written : List (TxnId × OwnNames)) (st : Standing) : Type 0 where
+    pub log : Log
+    pub has : HasLog observable state buffer log
+    pub works : has_failed buffer ≡ false
+    pub gives : GivesRecordsWith log (end_of buffer) (committed cells) st.last_txn st.last_db (active_number st.actives) st.own
+    pub recovers : RecoversStore log st.store
+    pub makes : MakesStore (committed cells) st.last_db st
+    pub writes : HasWrites cells st.own
+    pub may : (t : ℕ) → AllByRecursion (MayBeCommitted (committed cells)) (st.own t)
+    pub made : (db : ℕ) → has_tree db ≡ has_number (numbers_of (committed cells)) db
+    pub room : (n : ℕ) → owing st ≡ suc n → HasRoomFor buffer (commit_sizes (suc n))
+    pub names : AreNamesOf written st.own (committed cells)
+
+  -- an environment of these parts, whose files have at most so many bytes, is where the model stands
+  pub record AreAt (most : ℕ) (observable : Bool) (state : State) (buffer : LogBuffer D) (cells : AllCells) (has_tree : ℕ → Bool) (kept : Kept) (sessions : Sessions) (written : List (TxnId × OwnNames))
+      (st : Standing) : Type 0 where
+    pub file_max : file_max_of buffer ≡ most
+    pub fault : kept.fault ≡ st.fault
+    pub last_txn : kept.last_txn ≡ st.last_txn
+    pub last_db : kept.last_db ≡ st.last_db
+    pub commits : kept.commits ≡ st.commits
+    pub totals : kept.totals ≡ totals_of st.store
+    pub sessions_at : AreSessionsAt sessions st
+    pub apart : HaveOwnWaits st.waiting
+    pub valid : st.fault ≡ None → IsValidWith observable state buffer cells has_tree written st

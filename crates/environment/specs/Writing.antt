@@ -1,0 +1,167 @@
+-- What became of a call's changes that were to be logged.
+use Rattle.std.specs.Prelude.{ℕ, ◌≡◌, ◌≢◌, ◌≤◌, ◌+◌, ◌||◌, ◌∷◌, ◌++◌, [], List, Option, None, Some, Bool, true, false, length, nat_lt, count_by, Result, Ok, Err, if◌then◌else◌}
+use Rattle.std.specs.declared.alloc.AllocError.{AllocError}
+use Rattle.std.specs.List.{AllByRecursion}
+use Rattle.std.specs.Ordering.{is_eq}
+use Rattle.je_disk.specs.Moments.{History, now}
+use Rattle.std.specs.Option.{is_some, option_map_or}
+use Rattle.je_order.specs.Order.{name_cmp}
+use Rattle.je_order.specs.Transactions.{is_same_txn}
+use Rattle.je_order.specs.declared.txn_id.TxnId.{TxnId}
+use Rattle.store_model.specs.declared.isolation.Isolation.TheVariants.{RepeatableRead}
+use Rattle.record_tree.specs.Occupied.{AllCells, AreWritten}
+use Rattle.record_tree.specs.declared.tree_change.TreeChange.{TreeChange}
+use Rattle.record_tree.specs.declared.tree_name.TreeName.{TreeName}
+use Rattle.record_map.specs.Cells.{IsRising, value_at}
+use Rattle.store_model.specs.declared.answer.Answer.TheVariants.{LogFull, IdsEnded}
+use Rattle.store_model.specs.declared.answer.Fault.TheVariants.{Disk}
+use Rattle.store_model.specs.declared.record_change.RecordChange.{RecordChange}
+use Rattle.store_model.specs.Needs.{changed_name}
+use Rattle.je_answers.specs.Standing.{Standing, database_at}
+use Rattle.je_answers.specs.Views.{Target, changes_at, changes_on}
+use Rattle.log_buffer.specs.Buffer.{IsUnchanged, disk_of as disk_below, file_max_of}
+use Rattle.in_tree.specs.declared.log_trees.LogTrees.{LogTrees}
+use Rattle.in_tree.specs.Limits.{GrewFitting, HasRoomFor, TriedFitting, commit_sizes}
+use Rattle.in_tree.specs.Observed.{cells_of, has_tree_of, limit_in, waits_of}
+use Rattle.record_tree.specs.Logged.{IsFront, LogsChanges, is_made, most_entries}
+use Rattle.record_tree.specs.declared.tree_err.TreeErr.{TreeErr}
+use Rattle.record_tree.specs.declared.tree_err.TreeErr.TheVariants.{Full as TooFull}
+use Rattle.log_entry.specs.declared.entry.Entry.{Entry}
+use Rattle.sessions.specs.AtStanding.{with_own}
+use Rattle.standing_laws.specs.Laws.{IsOnlyOf}
+use Rattle.txn_views.specs.Seen.{is_right_change, seen_value}
+use Rattle.engine.specs.Limits.{last_number, numbers_for}
+use Rattle.engine.specs.Whole.{AreLeft, end_file}
+use Rattle.environment.specs.declared.environment.Environment.{Environment}
+use Rattle.environment.specs.declared.wrote.Wrote.{Wrote}
+use Rattle.environment.specs.declared.wrote.Wrote.TheVariants.{Done, Full, NoNumbers, Failed}
+use Rattle.environment.specs.Steps.{HasFailedWith, HasGrown}
+use Rattle.environment.specs.Valid.{IsValidWith}
+use Rattle.environment.specs.Whole.{HasLimit}
+use Rattle.environment.specs.Written.{had_at, names_at}
+
+-- whether the name of a change has a record that a transaction sees, with its own changes
+abbrev pub has_record : TxnId → AllCells → TreeChange → Bool
+has_record txn cells c = option_map_or (λ o. is_some (seen_value RepeatableRead txn o)) (value_at c.name (cells c.db)) false
+
+-- no two changes are of one name
+abbrev pub AreApart : List RecordChange → Type 0
+AreApart [] = Unit {0}
+AreApart (c ∷ cs) = AllByRecursion (λ e. is_eq (name_cmp (changed_name c) (changed_name e)) ≡ false) cs × AreApart cs
+
+-- a transaction of that number may write these changes in a database, which nobody else has changed there
+pub record MayWrite (st : Standing) (txn : ℕ) (g : Target) (changes : List RecordChange) : Type 0 where
+  pub some : changes ≢ []
+  pub drawn : txn ≤ st.last_txn
+  pub there : database_at g.db st ≡ Some g.database
+  pub named : st.numbers g.database.name ≡ g.db
+  pub above : g.db ≢ 0
+  pub right : AllByRecursion (λ c. is_right_change g.database.kind c ≡ true) changes
+  pub free : AllByRecursion (λ c. IsOnlyOf g.db (changed_name c) txn st.own) changes
+  pub apart : AreApart changes
+
+-- what changes come to that may lack numbers, where the trees find this limit
+abbrev pub wrote_by : Option TreeErr → Wrote
+wrote_by (Some TooFull) = Full
+wrote_by found = NoNumbers
+
+module _ {D : Type 0} (observable : Bool) (history : D → History) (sync_out read_out : D → Option ℕ) (read_of : D → ℕ) (faults : D → ℕ) where
+  -- changes went into the log, an entry for each, behind images of nodes
+  pub record HasLoggedAll (old new : LogTrees D) (txn : TxnId) (changes : List TreeChange) : Type 0 where
+    pub entries : List Entry
+    pub logs : LogsChanges txn changes entries
+    pub grew : GrewFitting observable history sync_out read_out read_of faults old.log new.log entries
+    pub waits : length entries + waits_of new ≤ waits_of old + most_entries (length changes)
+
+  -- or the disk failed while the first of these entries were appended
+  pub record HasTriedAll (old new : LogTrees D) (txn : TxnId) (changes : List TreeChange) : Type 0 where
+    pub entries : List Entry
+    pub front : List Entry
+    pub logs : LogsChanges txn changes entries
+    pub is_front : IsFront front entries
+    pub tried : TriedFitting observable history sync_out read_out read_of faults old.log new.log front
+
+  -- Changes were made in the trees and logged, with room behind them for so many Commits; or they met a limit, or the disk failed; or there was no
+  -- memory.
+  abbrev pub WritesTrees : LogTrees D → LogTrees D → TxnId → List TreeChange → ℕ → Result Wrote AllocError → Type 0
+  WritesTrees old new txn changes owed (Ok Done) =
+      AreWritten txn changes (cells_of old) (cells_of new) × ((d : ℕ) → has_tree_of new d ≡ (is_made d changes || has_tree_of old d)) × HasLoggedAll old new txn changes
+      × HasRoomFor new.log (commit_sizes owed) × (limit_in old changes owed ≡ None)
+  WritesTrees old new txn changes owed (Ok Full) = AreLeft old new × (limit_in old changes owed ≡ Some TooFull)
+  WritesTrees old new txn changes owed (Ok NoNumbers) = ⊥
+  WritesTrees old new txn changes owed (Ok Failed) = HasTriedAll old new txn changes × (limit_in old changes owed ≡ None)
+  WritesTrees old new txn changes owed (Err error) = AreLeft old new
+
+module _ {D : Type 0} where
+  -- what transactions under way wrote is as it was
+  pub record HaveNames (old new : Environment D) : Type 0 where
+    pub names : (t : TxnId) → names_at t new.written.by_txn.entries ≡ names_at t old.written.by_txn.entries
+    pub had : (t : TxnId) → had_at t new.written.by_txn.entries ≡ had_at t old.written.by_txn.entries
+
+  -- nothing was written
+  pub record HasWrittenNone (old new : Environment D) : Type 0 where
+    pub trees : AreLeft old.engine.trees new.engine.trees
+    pub kept : new.engine.kept ≡ old.engine.kept
+    pub written : HaveNames old new
+
+  -- whether a number may be lacking of the nodes that changes make
+  abbrev pub lacks : Environment D → List TreeChange → Bool
+  lacks e changes = nat_lt last_number (e.engine.kept.last_node + numbers_for (length changes))
+
+  module _ (observable : Bool) (history : D → History) (sync_out read_out : D → Option ℕ) (read_of : D → ℕ) (faults : D → ℕ) where
+    -- changes were logged and are in the trees, and their names are the transaction's
+    pub record HasWrittenOwn (old new : Environment D) (txn : TxnId) (changes : List TreeChange) (more : List TreeName) (owed : ℕ) : Type 0 where
+      pub writes : AreWritten txn changes (cells_of old.engine.trees) (cells_of new.engine.trees)
+      pub was_rising : (d : ℕ) → IsRising (cells_of old.engine.trees d)
+      pub rising : (d : ℕ) → IsRising (cells_of new.engine.trees d)
+      pub made : (d : ℕ) → has_tree_of new.engine.trees d ≡ (is_made d changes || has_tree_of old.engine.trees d)
+      pub logged : HasLoggedAll observable history sync_out read_out read_of faults old.engine.trees new.engine.trees txn changes
+      pub room : HasRoomFor new.engine.trees.log (commit_sizes owed)
+      pub limit : limit_in old.engine.trees changes owed ≡ None
+      pub left : lacks old changes ≡ false
+      pub kept : new.engine.kept ≡ record old.engine.kept { last_node = old.engine.kept.last_node + numbers_for (length changes) }
+      pub names : (t : TxnId) → names_at t new.written.by_txn.entries ≡ (if is_same_txn txn t then names_at txn old.written.by_txn.entries ++ more else names_at t old.written.by_txn.entries)
+      pub had : (t : TxnId) → had_at t new.written.by_txn.entries
+          ≡ (if is_same_txn txn t then had_at txn old.written.by_txn.entries + count_by (has_record txn (cells_of old.engine.trees)) changes else had_at t old.written.by_txn.entries)
+
+    -- what changes that are to be logged come to, whatever the model is
+    abbrev pub WritesAll : Environment D → Environment D → TxnId → List TreeChange → List TreeName → ℕ → Result Wrote AllocError → Type 0
+    WritesAll old new txn changes names owed (Ok Done) = HasWrittenOwn old new txn changes names owed
+    WritesAll old new txn changes names owed (Ok Full) = HasWrittenNone old new × (limit_in old.engine.trees changes owed ≡ Some TooFull)
+    WritesAll old new txn changes names owed (Ok NoNumbers) = HasWrittenNone old new × (wrote_by (limit_in old.engine.trees changes owed) ≡ NoNumbers) × (lacks old changes ≡ true)
+    WritesAll old new txn changes names owed (Ok Failed) =
+        HasTriedAll observable history sync_out read_out read_of faults old.engine.trees new.engine.trees txn changes × (limit_in old.engine.trees changes owed ≡ None) × (lacks old changes ≡ false)
+        × (new.engine.kept ≡ record old.engine.kept { fault = Some Disk })
+    WritesAll old new txn changes names owed (Err error) = HasWrittenNone old new
+
+module _ {D : Type 0} where
+  -- an environment's log and trees are where a valid standing is
+  abbrev pub IsValidAt : Bool → (D → History) → Environment D → Standing → Type 0
+  IsValidAt observable history e st =
+      IsValidWith observable (now (history (disk_below e.engine.trees.log))) e.engine.trees.log (cells_of e.engine.trees) (has_tree_of e.engine.trees) e.written.by_txn.entries st
+
+  -- nothing was logged
+  pub record IsLeft (old new : Environment D) : Type 0 where
+    pub log : IsUnchanged old.engine.trees.log new.engine.trees.log
+    pub kept : new.engine.kept ≡ old.engine.kept
+    pub end : end_file new.engine.trees ≡ end_file old.engine.trees
+
+  module _ (observable : Bool) (history : D → History) (sync_out read_out : D → Option ℕ) (read_of : D → ℕ) where
+    -- Changes that a transaction under way writes: they are logged and its own; or they met a limit, or the disk failed; or there was no memory.
+    abbrev pub WritesOwn : Environment D → Environment D → Standing → ℕ → Target → List RecordChange → ℕ → Result Wrote AllocError → Type 0
+    WritesOwn old new st txn g changes owed (Ok Done) =
+        IsValidAt observable history new (with_own txn (changes_at g.db changes) st)
+        × HasGrown observable history sync_out read_out read_of old.engine.trees.log new.engine.trees.log []
+        × HasLimit old owed (changes_on g changes) None
+        × (file_max_of new.engine.trees.log ≡ file_max_of old.engine.trees.log)
+        × (new.engine.kept ≡ record old.engine.kept { last_node = old.engine.kept.last_node + numbers_for (length changes) })
+        × (end_file new.engine.trees ≤ end_file old.engine.trees + most_entries (length changes))
+    WritesOwn old new st txn g changes owed (Ok Full) = IsValidAt observable history new st × IsLeft old new × HasLimit old owed (changes_on g changes) (Some LogFull)
+    WritesOwn old new st txn g changes owed (Ok NoNumbers) = IsValidAt observable history new st × IsLeft old new × HasLimit old owed (changes_on g changes) (Some IdsEnded)
+    WritesOwn old new st txn g changes owed (Ok Failed) =
+        HasFailedWith observable history sync_out read_out read_of old.engine.trees.log new.engine.trees.log []
+        × HasLimit old owed (changes_on g changes) None
+        × (file_max_of new.engine.trees.log ≡ file_max_of old.engine.trees.log)
+        × (new.engine.kept ≡ record old.engine.kept { fault = Some Disk })
+        × (end_file new.engine.trees ≡ 0)
+    WritesOwn old new st txn g changes owed (Err error) = IsValidAt observable history new st × IsLeft old new

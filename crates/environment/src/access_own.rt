@@ -1,0 +1,141 @@
+// A call on records in a transaction.
+ghost use Rattle.std.specs.Prelude.{◌≡◌, ◌≢◌, Bool, None, Some, ℕ, List as Lists, [], OnErr, true, false};
+ghost use Rattle.je_answers.specs.declared.active.Active.{Active as Transaction};
+ghost use Rattle.je_answers.specs.Standing.{Standing, active_of};
+ghost use Rattle.je_answers.specs.Refusals.{early_refusal};
+ghost use Rattle.je_answers.specs.Views.{Target};
+ghost use Rattle.engine.specs.Limits.{IsWithin};
+ghost use Rattle.standing_laws.specs.Right.{AreSound};
+ghost use Rattle.store_model.specs.declared.call.Call.{Call as Asked};
+ghost use Rattle.db_catalog.specs.declared.found_db.FoundDb.{FoundDb as Found};
+ghost use Rattle.environment.specs.Access.{AccessesTo, IsFoundFor, IsTakenUp};
+ghost use Rattle.environment.specs.Calls.{HasCause, IsOnRecords};
+ghost use Rattle.environment.specs.Steps.{ComesTo, MayCall, StandsAt};
+ghost use Rattle.environment.specs.Whole.{CanGoOn, disk_of, reach_of};
+
+use crate::calling::told;
+use crate::environment::Environment;
+use crate::outcome::Outcome;
+use crate::own_writing::answer_by;
+use db_catalog::FoundDb;
+use je_disk::Disk;
+use je_order::{List, TxnId, Word};
+use sessions::Taken;
+use std::alloc::{AllocError, Global};
+use store_model::{Answer, Call, Isolation, RecordChange};
+use txn_views::AccessPlan;
+
+impl<D: Disk> Environment<D> {
+    // Makes a call on records in a transaction of the session.
+    pub(crate) fn access_own(
+        &mut self,
+        alloc: Global,
+        session: u8,
+        txn: TxnId,
+        level: Isolation,
+        line: u32,
+        db: &Word,
+        found: FoundDb,
+        call: &Call,
+    ) -> Result<Outcome, AllocError>
+        requires here { (most : ℕ) × (st : Standing) × (g : Target) × StandsAt most D.observable D.history self.old st × AreSound st × (early_refusal st session call.now ≡ None) × IsFoundFor st session call.now db.now found g × MayCall st session true × (a : Transaction) × (active_of session st.actives ≡ Some a) × (a.txn ≡ txn) × (a.level ≡ level) × (a.is_auto ≡ false) }
+        requires bounds { CanGoOn self.old }
+        requires call { IsOnRecords db.now call.now }
+        requires valid { self.old.engine.kept.fault ≡ None }
+        ensures comes { (most : ℕ) (st : Standing) (g : Target) → StandsAt most D.observable D.history self.old st → AreSound st → early_refusal st session call.now ≡ None → MayCall st session true
+            → IsFoundFor st session call.now db.now found g → (a : Transaction) → active_of session st.actives ≡ Some a → a.txn ≡ txn → a.level ≡ level → a.is_auto ≡ false → ComesTo D.observable D.history D.sync_out D.read_out D.read_of most self.old self.new st session line call.now result }
+        ensures near { OnErr result (IsWithin (reach_of self.new) (reach_of self.old)) }
+        ensures bounds { CanGoOn self.new }
+        ensures cause { HasCause (D.faults (disk_of self.old)) (D.faults (disk_of self.new)) result }
+    {
+        let AccessPlan {
+            answer,
+            changes,
+            needs,
+        } = self.plan(alloc, txn, level, db, found, call)?;
+        let taken = self
+            .sessions
+            .take(alloc, session, line, call, db, found.kind, needs, true);
+        match taken {
+            Ok(Taken::Ready) => self.finish_own(alloc, txn, level, found.number, answer, changes),
+            Ok(
+                Taken::Stopped {
+                    answer: stop,
+                    victims,
+                },
+            ) => {
+                drop(answer);
+                drop(changes);
+                Ok(Outcome {
+                    answer: stop,
+                    victims,
+                })
+            }
+            Err(error) => {
+                drop(answer);
+                drop(changes);
+                Err(error)
+            }
+        }
+    }
+
+    // Ends a call that got its locks: answers it, or logs what it changes first.
+    fn finish_own(
+        &mut self,
+        alloc: Global,
+        txn: TxnId,
+        level: Isolation,
+        number: u32,
+        answer: Answer,
+        changes: List<RecordChange>,
+    ) -> Result<Outcome, AllocError>
+        requires taken { (before : Environment D) × (most session : ℕ) × (st : Standing) × (a : Transaction) × (asked : Asked) × (db : Lists ℕ) × (found : Found) × (g : Target)
+            × IsTakenUp D.observable D.history most before self.old st session a asked db found g answer changes × (a.txn ≡ txn) × (a.level ≡ level) × (g.db ≡ number) × (a.is_auto ≡ false) }
+        requires bounds { CanGoOn self.old }
+        ensures comes { (before : Environment D) (most session line : ℕ) (st : Standing) (a : Transaction) (asked : Asked) (db : Lists ℕ) (found : Found) (g : Target)
+            → IsTakenUp D.observable D.history most before self.old st session a asked db found g answer changes → a.txn ≡ txn → a.level ≡ level → g.db ≡ number → a.is_auto ≡ false
+            → AccessesTo D.observable D.history D.sync_out D.read_out D.read_of most before self.new st a line asked g result }
+        ensures bounds { CanGoOn self.new }
+        ensures cause { HasCause (D.faults (disk_of self.old)) (D.faults (disk_of self.new)) result }
+    {
+        if changes.is_empty() {
+            drop(changes);
+            self.sessions.answered(txn, level, true);
+            return Ok(told(alloc, answer));
+        }
+        self.write_own(alloc, txn, level, number, answer, changes)
+    }
+
+    // Logs what a call changes that got its locks, and answers it.
+    fn write_own(
+        &mut self,
+        alloc: Global,
+        txn: TxnId,
+        level: Isolation,
+        number: u32,
+        answer: Answer,
+        changes: List<RecordChange>,
+    ) -> Result<Outcome, AllocError>
+        requires taken { (before : Environment D) × (most session : ℕ) × (st : Standing) × (a : Transaction) × (asked : Asked) × (db : Lists ℕ) × (found : Found) × (g : Target)
+            × IsTakenUp D.observable D.history most before self.old st session a asked db found g answer changes × (a.txn ≡ txn) × (a.level ≡ level) × (g.db ≡ number) × (a.is_auto ≡ false) }
+        requires some { changes ≢ [] }
+        requires bounds { CanGoOn self.old }
+        ensures comes { (before : Environment D) (most session line : ℕ) (st : Standing) (a : Transaction) (asked : Asked) (db : Lists ℕ) (found : Found) (g : Target)
+            → IsTakenUp D.observable D.history most before self.old st session a asked db found g answer changes → a.txn ≡ txn → a.level ≡ level → g.db ≡ number → a.is_auto ≡ false
+            → AccessesTo D.observable D.history D.sync_out D.read_out D.read_of most before self.new st a line asked g result }
+        ensures bounds { CanGoOn self.new }
+        ensures cause { HasCause (D.faults (disk_of self.old)) (D.faults (disk_of self.new)) result }
+    {
+        match self.write_up(alloc, txn, level, number, changes.as_slice()) {
+            Ok(wrote) => {
+                drop(changes);
+                Ok(told(alloc, answer_by(wrote, answer)))
+            }
+            Err(error) => {
+                drop(answer);
+                drop(changes);
+                Err(error)
+            }
+        }
+    }
+}

@@ -1,0 +1,138 @@
+// A call among transactions.
+ghost use Rattle.std.specs.Prelude.{◌≡◌, ◌≤◌, ◌++◌, ◌∷◌, [], ℕ, List, Option, None, Some, true, false, Ok, IfOk, OnErr};
+ghost use Rattle.je_disk.specs.Moments.{History, now};
+ghost use Rattle.store_model.specs.declared.answer.Answer.{Answer as Answered};
+ghost use Rattle.store_model.specs.declared.event.Event.{Event};
+ghost use Rattle.je_answers.specs.Standing.{Standing};
+ghost use Rattle.je_answers.specs.After.{after_event, after_events};
+ghost use Rattle.je_answers.specs.Alone.{IsAutoCommitted};
+ghost use Rattle.je_answers.specs.Events.{IsAnswered};
+ghost use Rattle.je_answers.specs.Refusals.{early_refusal};
+ghost use Rattle.engine.specs.Limits.{IsWithin};
+ghost use Rattle.engine.specs.Steps.{IsNumbered};
+ghost use Rattle.environment.specs.Calls.{HasCause, HasNoCursor};
+ghost use Rattle.environment.specs.Answering.{AnswersCall};
+ghost use Rattle.standing_laws.specs.Right.{AreSound};
+ghost use Rattle.environment.specs.Steps.{CallsTo, ComesTo, MayCall, StandsAt};
+ghost use Rattle.environment.specs.Whole.{CanGoOn, IsAt, disk_of, reach_of};
+
+use crate::environment::Environment;
+use crate::outcome::Outcome;
+use je_disk::Disk;
+use je_order::List;
+use std::alloc::{AllocError, Global};
+use store_model::{Answer, Call, Fault};
+
+// An answer alone.
+pub(crate) fn told(alloc: Global, answer: Answer) -> Outcome
+    ensures answer { result.answer ≡ answer }
+    ensures victims { result.victims ≡ [] }
+{
+    Outcome {
+        answer,
+        victims: List::new(alloc),
+    }
+}
+
+// Whether a call may be a transaction of its own.
+pub(crate) fn is_alone(call: &Call) -> bool
+    ensures { result ≡ true → IsAutoCommitted call.now }
+{
+    match call {
+        Call::List
+        | Call::Create { .. }
+        | Call::Remove { .. }
+        | Call::Rename { .. }
+        | Call::Truncate { .. }
+        | Call::Get { .. }
+        | Call::GetBoth { .. }
+        | Call::Put { .. }
+        | Call::Delete { .. } => true,
+        _ => false,
+    }
+}
+
+impl<D: Disk> Environment<D> {
+    // Answers a call.
+    pub(crate) fn answer(
+        &mut self,
+        alloc: Global,
+        session: u8,
+        line: u32,
+        call: &Call,
+    ) -> Result<Outcome, AllocError>
+        requires here { (most : ℕ) × (st : Standing) × IsAt most D.observable (now (D.history (disk_of self.old))) self.old st }
+        requires bounds { CanGoOn self.old }
+        requires call { HasNoCursor call.now }
+        ensures answers { AnswersCall D.observable D.history self.old self.new session line call.now result }
+        ensures bounds { CanGoOn self.new }
+        ensures cause { HasCause (D.faults (disk_of self.old)) (D.faults (disk_of self.new)) result }
+    {
+        if let Some(first) = self.engine.kept.fault {
+            return Ok(self.answer_invalid(alloc, session, line, call, first));
+        }
+        if self.sessions.is_empty() && is_alone(call) {
+            return self.answer_alone(alloc, session, line, call);
+        }
+        self.answer_among(alloc, session, line, call)
+    }
+
+    // Answers a call after a fault.
+    fn answer_invalid(
+        &self,
+        alloc: Global,
+        session: u8,
+        line: u32,
+        call: &Call,
+        first: Fault,
+    ) -> Outcome
+        requires fault { self.now.engine.kept.fault ≡ Some first }
+        ensures answers { AnswersCall D.observable D.history self.now self.now session line call.now (Ok result) }
+        ensures answer { result.answer ≡ Answer.Invalid first }
+    {
+        told(alloc, Answer::Invalid { first })
+    }
+
+    // Answers a call of a valid environment.
+    fn answer_among(
+        &mut self,
+        alloc: Global,
+        session: u8,
+        line: u32,
+        call: &Call,
+    ) -> Result<Outcome, AllocError>
+        requires here { (most : ℕ) × (st : Standing) × IsAt most D.observable (now (D.history (disk_of self.old))) self.old st }
+        requires bounds { CanGoOn self.old }
+        requires call { HasNoCursor call.now }
+        requires valid { self.old.engine.kept.fault ≡ None }
+        ensures answers { AnswersCall D.observable D.history self.old self.new session line call.now result }
+        ensures bounds { CanGoOn self.new }
+        ensures cause { HasCause (D.faults (disk_of self.old)) (D.faults (disk_of self.new)) result }
+    {
+        self.call_among(alloc, session, line, call)
+    }
+
+    // Makes a call of a valid environment, unless it is refused early.
+    fn call_among(
+        &mut self,
+        alloc: Global,
+        session: u8,
+        line: u32,
+        call: &Call,
+    ) -> Result<Outcome, AllocError>
+        requires here { (most : ℕ) × (st : Standing) × IsAt most D.observable (now (D.history (disk_of self.old))) self.old st }
+        requires bounds { CanGoOn self.old }
+        requires call { HasNoCursor call.now }
+        requires valid { self.old.engine.kept.fault ≡ None }
+        ensures comes { (most : ℕ) (st : Standing) → IsAt most D.observable (now (D.history (disk_of self.old))) self.old st
+            → CallsTo D.observable D.history D.sync_out D.read_out D.read_of most self.old self.new st session line call.now result }
+        ensures near { OnErr result (IsWithin (reach_of self.new) (reach_of self.old)) }
+        ensures bounds { CanGoOn self.new }
+        ensures cause { HasCause (D.faults (disk_of self.old)) (D.faults (disk_of self.new)) result }
+    {
+        if let Some(refusal) = self.sessions.early_refusal(None, session, call)? {
+            return Ok(told(alloc, refusal));
+        }
+        self.perform(alloc, session, line, call, false)
+    }
+}

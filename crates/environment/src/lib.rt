@@ -1,0 +1,37 @@
+//! An open environment, with the transactions of its sessions.
+#![tactic(auto)]
+
+mod aborting;
+mod access_again;
+mod access_auto;
+mod access_own;
+mod accessing;
+mod alone;
+mod beginning;
+mod calling;
+mod catalog;
+mod closing;
+mod committing;
+mod ending;
+mod environment;
+mod late;
+mod listing;
+mod logging;
+mod opening;
+mod outcome;
+mod own_changes;
+mod own_names;
+mod own_writing;
+mod performing;
+mod planning;
+mod resuming;
+mod tree_writing;
+mod writing_out;
+mod written;
+mod wrote;
+
+pub use closing::Closed;
+pub use engine::{Config, OpenErr, Opening, Records, Stopped, no_opening};
+pub use environment::Environment;
+pub use opening::Opened;
+pub use outcome::Outcome;

@@ -1,0 +1,120 @@
+// A call's own changes as what is logged and written of them.
+ghost use Rattle.std.specs.Prelude.{◌≡◌, IfOk, map, count_by};
+ghost use Rattle.std.specs.Option.{is_some};
+ghost use Rattle.je_answers.specs.Views.{changes_at};
+ghost use Rattle.record_tree.specs.Occupied.{occupied_by};
+ghost use Rattle.store_model.specs.declared.isolation.Isolation.TheVariants.{RepeatableRead};
+ghost use Rattle.txn_views.specs.Seen.{seen_value};
+ghost use Rattle.txn_core.specs.Plans.{record_planned};
+ghost use Rattle.txn_views.specs.Laws.{own_name, own_names};
+ghost use Rattle.environment.specs.Writing.{has_record};
+
+use je_order::{TxnId, copy_of};
+use record_map::{Cell, SortKey};
+use record_tree::{Records, TreeChange, TreeName};
+use std::alloc::{AllocError, Global};
+use store_model::RecordChange;
+use txn_core::reading::committed_in;
+
+fn copy_change(alloc: Global, db: u32, change: &RecordChange) -> Result<TreeChange, AllocError>
+    ensures { IfOk result (λ planned. planned ≡ record_planned db change.now) }
+{
+    match change {
+        RecordChange::Set { at, value } => {
+            let value = copy_of(value)?;
+            let name = SortKey::new(alloc, copy_of(at)?)?;
+            Ok(TreeChange {
+                db,
+                name,
+                value: Some(value),
+                makes: None,
+            })
+        }
+        RecordChange::Unset { at } => {
+            let name = SortKey::new(alloc, copy_of(at)?)?;
+            Ok(TreeChange {
+                db,
+                name,
+                value: None,
+                makes: None,
+            })
+        }
+    }
+}
+
+// The changes of the records of one database, as what is logged of them.
+pub(crate) fn copy_changes(
+    alloc: Global,
+    db: u32,
+    changes: &[RecordChange],
+) -> Result<Vec<TreeChange>, AllocError>
+    ensures { IfOk result (λ planned. planned.items ≡ map (record_planned db) changes.now) }
+{
+    let mut planned = Vec::new(alloc);
+    for change in changes {
+        planned.push(copy_change(alloc, db, change)?)?;
+    }
+    Ok(planned)
+}
+
+fn copy_name(alloc: Global, db: u32, change: &RecordChange) -> Result<TreeName, AllocError>
+    ensures { IfOk result (λ name. name ≡ own_name (db, change.now)) }
+{
+    let at = match change {
+        RecordChange::Set { at, .. } => at,
+        RecordChange::Unset { at } => at,
+    };
+    let name = SortKey::new(alloc, copy_of(at)?)?;
+    Ok(TreeName { db, name })
+}
+
+// The names of these changes in the trees.
+pub(crate) fn copy_names(
+    alloc: Global,
+    db: u32,
+    changes: &[RecordChange],
+) -> Result<Vec<TreeName>, AllocError>
+    ensures { IfOk result (λ names. names.items ≡ own_names (changes_at db changes.now)) }
+{
+    let mut names = Vec::new(alloc);
+    for change in changes {
+        names.push(copy_name(alloc, db, change)?)?;
+    }
+    Ok(names)
+}
+
+// Whether a cell has data that the transaction sees: its own change, else what is committed.
+fn has_data(cell: &Cell, txn: TxnId) -> bool
+    ensures { result ≡ is_some (seen_value RepeatableRead txn (occupied_by cell.now)) }
+{
+    if let Some(write) = &cell.write {
+        if write.txn == txn {
+            return write.value.is_some();
+        }
+    }
+    committed_in(cell).is_some()
+}
+
+// Whether the name of a change has a record that the transaction sees.
+fn holds<T: Records>(trees: &T, txn: TxnId, change: &TreeChange) -> bool
+    ensures { result ≡ has_record txn (T.cells trees.now) change.now }
+{
+    match trees.get(change.db, &change.name) {
+        Ok(Some(cell)) => has_data(cell, txn),
+        Ok(None) => false,
+        Err(_) => unreachable!(),
+    }
+}
+
+// How many of these names have one.
+pub(crate) fn count_had<T: Records>(trees: &T, txn: TxnId, changes: &[TreeChange]) -> u64
+    ensures { result ≡ count_by (has_record txn (T.cells trees.now)) changes.now }
+{
+    let mut count = 0u64;
+    for change in changes {
+        if holds(trees, txn, change) {
+            count += 1;
+        }
+    }
+    count
+}

@@ -1,0 +1,37 @@
+// What a call on records comes to for a transaction, and what it needs.
+ghost use Rattle.std.specs.Prelude.{◌≡◌, ℕ, IfOk};
+ghost use Rattle.je_answers.specs.declared.active.Active.{Active as Transaction};
+ghost use Rattle.je_answers.specs.Standing.{Standing};
+ghost use Rattle.je_answers.specs.Views.{Target};
+ghost use Rattle.standing_laws.specs.Right.{AreSound};
+ghost use Rattle.environment.specs.Access.{IsOnDb, IsPlannedFor};
+ghost use Rattle.environment.specs.Writing.{IsValidAt};
+
+use crate::environment::Environment;
+use db_catalog::FoundDb;
+use je_disk::Disk;
+use je_order::{TxnId, Word};
+use std::alloc::{AllocError, Global};
+use store_model::{Call, Isolation};
+use txn_views::{AccessPlan, plan_access};
+
+impl<D: Disk> Environment<D> {
+    // What a call comes to for a transaction at a level, on a database that was found under a name, and the locks that it
+    // needs.
+    pub(crate) fn plan(
+        &self,
+        alloc: Global,
+        txn: TxnId,
+        level: Isolation,
+        db: &Word,
+        found: FoundDb,
+        call: &Call,
+    ) -> Result<AccessPlan, AllocError>
+        requires here { (st : Standing) × (a : Transaction) × (g : Target) × IsValidAt D.observable D.history self.now st × AreSound st × IsOnDb st db.now found g × (a.txn ≡ txn) × (a.level ≡ level) }
+        ensures { IfOk result (λ p. (st : Standing) (a : Transaction) (g : Target) → IsValidAt D.observable D.history self.now st → AreSound st → IsOnDb st db.now found g → a.txn ≡ txn → a.level ≡ level
+            → IsPlannedFor st a call.now g p.answer p.changes p.needs.items) }
+    {
+        self.engine.trees.are_ordered();
+        plan_access(&self.engine.trees, alloc, txn, level, found, call)
+    }
+}

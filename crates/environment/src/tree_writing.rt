@@ -1,0 +1,62 @@
+// The trees and their log get changes.
+ghost use Rattle.std.specs.Prelude.{◌≡◌, ◌≤◌, ℕ, true, false, IfOk, IfSome};
+ghost use Rattle.std.specs.List.{AllByRecursion};
+ghost use Rattle.log_buffer.specs.Buffer.{disk_of as disk_below, has_failed};
+ghost use Rattle.log_entry.specs.Body.{IsEntry};
+ghost use Rattle.record_map.specs.Cells.{value_at};
+ghost use Rattle.record_tree.specs.Logged.{entry_for};
+ghost use Rattle.record_tree.specs.Occupied.{IsFreeFor, write_in};
+ghost use Rattle.in_tree.specs.Observed.{cells_of, has_tree_of, limit_in};
+ghost use Rattle.engine.specs.Whole.{AreLeft};
+ghost use Rattle.environment.specs.Writing.{WritesTrees, wrote_by};
+
+use crate::wrote::Wrote;
+use in_tree::LogTrees;
+use je_disk::Disk;
+use je_order::TxnId;
+use record_tree::{Records, TreeChange, TreeErr};
+use std::alloc::{AllocError, Global};
+
+// Makes changes of a transaction in the trees and logs them, with room for so many Commits behind them.
+pub(crate) fn write_changes<D: Disk>(
+    trees: &mut LogTrees<D>,
+    alloc: Global,
+    txn: TxnId,
+    changes: &[TreeChange],
+    owed: u32,
+) -> Result<Wrote, AllocError>
+    requires trees { AllByRecursion (λ c. has_tree_of trees.old c.db ≡ true) changes.now }
+    requires free { AllByRecursion (λ c. IsFreeFor txn (write_in (value_at c.name (cells_of trees.old c.db)))) changes.now }
+    requires new { AllByRecursion (λ c. IfSome c.makes (λ d. has_tree_of trees.old d ≡ false)) changes.now }
+    requires entries { AllByRecursion (λ c. IsEntry (entry_for txn c.db c.name c.value)) changes.now }
+    ensures writes { WritesTrees D.observable D.history D.sync_out D.read_out D.read_of D.faults trees.old trees.new txn changes.now owed result }
+    ensures never_falls { D.faults (disk_below trees.old.log) ≤ D.faults (disk_below trees.new.log) }
+{
+    match trees.write_all(alloc, txn, changes, owed) {
+        Ok(()) => Ok(Wrote::Done),
+        Err(TreeErr::Full) => Ok(Wrote::Full),
+        Err(TreeErr::Fault) => Ok(Wrote::Failed),
+        Err(TreeErr::IdsEnded) => Err(AllocError),
+        Err(TreeErr::Memory) => Err(AllocError),
+    }
+}
+
+// What changes come to that may lack numbers: no room in the log is told first.
+pub(crate) fn limit_of<D: Disk>(
+    trees: &mut LogTrees<D>,
+    alloc: Global,
+    txn: TxnId,
+    changes: &[TreeChange],
+    owed: u32,
+) -> Result<Wrote, AllocError>
+    requires works { has_failed trees.old.log ≡ false }
+    requires trees { AllByRecursion (λ c. has_tree_of trees.old c.db ≡ true) changes.now }
+    requires entries { AllByRecursion (λ c. IsEntry (entry_for txn c.db c.name c.value)) changes.now }
+    ensures answer { IfOk result (λ wrote. wrote ≡ wrote_by (limit_in trees.old changes.now owed)) }
+    ensures same { AreLeft trees.old trees.new }
+{
+    match trees.find_limit(alloc, txn, changes, owed)? {
+        Some(TreeErr::Full) => Ok(Wrote::Full),
+        _ => Ok(Wrote::NoNumbers),
+    }
+}

@@ -1,0 +1,51 @@
+// Writing the log out.
+ghost use Rattle.std.specs.Prelude.{◌≡◌, ◌≤◌, ◌++◌, ◌∷◌, [], ℕ, List, Option, None, Some, is_some, true, false, IfSome, IfOk, IsNone, OnErr, if◌then◌else◌, option_map, length};
+ghost use Rattle.je_order.specs.Counts.{HasRisen};
+ghost use Rattle.je_disk.specs.Moments.{History, now};
+ghost use Rattle.store_model.specs.declared.answer.Answer.{Answer as Answered};
+ghost use Rattle.store_model.specs.declared.event.Event.{Event};
+ghost use Rattle.store_model.specs.declared.event.Event.TheVariants.{End, SyncEnd, WriteOut};
+ghost use Rattle.je_answers.specs.Standing.{Standing, active_of, wait_of};
+ghost use Rattle.je_answers.specs.After.{after_event, after_events};
+ghost use Rattle.je_answers.specs.Events.{IsAnswered};
+ghost use Rattle.je_answers.specs.Journal.{durability_of as durability_in, first_ready};
+ghost use Rattle.txn_core.specs.Totals.{totals_of};
+ghost use Rattle.engine.specs.Limits.{IsWithin, reach_after};
+ghost use Rattle.engine.specs.Steps.{IsNumbered};
+ghost use Rattle.environment.specs.Calls.{HasCause, HasNoCursor, MayResume, SettlesBy, called, resumed_by};
+ghost use Rattle.environment.specs.Limits.{owing_after, written_call, written_resumed};
+ghost use Rattle.environment.specs.Whole.{BeginsSafely, BeginsSync, CanGoOn, EndsSync, GoesOn, GoesOnSafely, HasDone, HasLimit, IsAt, IsGuarded, IsGuardedInSync, disk_of, reach_of};
+
+use crate::environment::Environment;
+use je_disk::Disk;
+use store_model::{Answer, Fault};
+
+impl<D: Disk> Environment<D> {
+    /// Writes the log out to its files, so that the commits so far are in them. It takes no memory.
+    pub fn write_out(&mut self) -> Answer
+        requires here { (most : ℕ) × (st : Standing) × IsAt most D.observable (now (D.history (disk_of self.old))) self.old st }
+        ensures goes_on { (most : ℕ) (st : Standing) → IsAt most D.observable (now (D.history (disk_of self.old))) self.old st
+            → HasDone most D.observable (now (D.history (disk_of self.new))) self.old self.new st (WriteOut result) }
+        ensures crash { D.observable ≡ true → (most : ℕ) (st : Standing) (start : History) (journal : List Event)
+            → IsAt most D.observable (now (D.history (disk_of self.old))) self.old (after_events st journal)
+            → IsGuarded most st start (D.history (disk_of self.old)) self.old journal
+            → IsGuarded most st start (D.history (disk_of self.new)) self.new (journal ++ WriteOut result ∷ []) }
+        ensures within { IsWithin (reach_of self.new) (reach_of self.old) }
+        ensures bounds { CanGoOn self.old → CanGoOn self.new }
+        ensures never_falls { D.faults (disk_of self.old) ≤ D.faults (disk_of self.new) }
+        ensures cause { result ≡ Answer.DiskFault → HasRisen (D.faults (disk_of self.old)) (D.faults (disk_of self.new)) }
+    {
+        if let Some(first) = self.engine.kept.fault {
+            return Answer::Invalid { first };
+        }
+        match self.engine.trees.log.write_out() {
+            Ok(()) => Answer::Durable {
+                commit: self.engine.kept.commits,
+            },
+            Err(_) => {
+                self.engine.kept.fault = Some(Fault::Disk);
+                Answer::DiskFault
+            }
+        }
+    }
+}

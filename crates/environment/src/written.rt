@@ -1,0 +1,18 @@
+// What transactions under way wrote, beside their own changes.
+use je_order::TxnId;
+use record_tree::TreeName;
+use std::collections::BTreeMap;
+
+/// The names that one transaction wrote, in order, and how many of its changes were of a name that had a record
+/// just then.
+#[derive(Drop)]
+pub struct OwnNames {
+    pub names: Vec<TreeName>,
+    pub had: u64,
+}
+
+/// What each transaction under way wrote. Ending one takes no memory, so the names stand here.
+#[derive(Drop)]
+pub struct Written {
+    pub by_txn: BTreeMap<TxnId, OwnNames>,
+}

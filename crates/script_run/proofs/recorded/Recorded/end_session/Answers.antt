@@ -1,0 +1,34 @@
+use Rattle.std.proofs.Common.{◌≤◌, ◌∙◌, ap, sym, subst, arith}
+use Rattle.je_answers.specs.Standing.{Standing}
+use Rattle.script_run.proofs.Standings.{ended_waits}
+use Rattle.script_run.proofs.Pushed.{within_none}
+use Rattle.script_run.proofs.RunLaws.{pushed, standing_push}
+use Rattle.script_run.specs.UnderWay.{standing}
+use Rattle.script_run.specs.declared.recorded.Recorded.{Recorded}
+use Rattle.script_run.specs.Events.Awaited.{Nothing}
+use Rattle.store_model.specs.declared.event.Event.TheVariants.{End}
+use Rattle.environment.specs.Whole.{disk_of, reach_of}
+use Rattle.script_run.proofs.recorded.Recorded.end_session.Goals as goal
+
+pub returns-clause-goes_on : goal.returns-clause-goes_on
+returns-clause-goes_on g c = λ p under may.
+    let x = c.args.self.now in
+    let e = c.end_session.ensures in
+    let y : Recorded g.row.D.Denot = record { environment = c.end_session.new.self; journal = c.record.new.journal } in
+    pushed g.D.Disk.observable g.D.Disk.history g.D.Disk.faults p Nothing Nothing x y (End c.args.session) c.record.ensures.items under (record {
+      done = e.goes_on p.most (standing p x) under.running.here;
+      grows = within_none (reach_of x.environment) (reach_of y.environment) e.within;
+      synced = λ later met. (tt, tt);
+      fresh = tt;
+      ordered = may;
+      only = tt;
+      bounds = e.bounds under.running.bounds;
+      never_falls = (let faults = g.D.Disk.faults in subst (λ d. faults (disk_of x.environment) ≤ faults d) (sym e.same_disk) (omega arith));
+      fault = λ h. cc;
+    }) (λ observed. e.crash observed p.most p.st p.start x.journal.items under.running.here (under.guarded observed))
+
+pub returns-clause-waits : goal.returns-clause-waits
+returns-clause-waits g c = λ p.
+    let x = c.args.self.now in
+    let y : Recorded g.row.D.Denot = record { environment = c.end_session.new.self; journal = c.record.new.journal } in
+    ap (λ (s : Standing). s.waiting) (standing_push p x y (End c.args.session) c.record.ensures.items) ∙ ended_waits c.args.session (standing p x)

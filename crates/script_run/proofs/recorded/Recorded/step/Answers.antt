@@ -1,0 +1,50 @@
+use Rattle.std.proofs.Common.{refl}
+use Rattle.script_run.proofs.RunLaws.{kept, pushed}
+use Rattle.script_run.proofs.Waiting.{IsAwaitedFor, called_synced, called_valid, fault_is, fresh_after}
+use Rattle.script_run.specs.UnderWay.{standing}
+use Rattle.script_run.specs.declared.recorded.Recorded.{Recorded}
+use Rattle.script_run.specs.Events.{awaited_of}
+use Rattle.script_run.specs.Events.Awaited.{Nothing}
+use Rattle.store_model.specs.declared.event.Event.{Event}
+use Rattle.store_model.specs.declared.event.Event.TheVariants.{Call as Called}
+use Rattle.je_answers.specs.After.{after_event}
+use Rattle.script_run.proofs.recorded.Recorded.step.Goals as goal
+
+pub returns-in-Err-clause-goes_on : goal.returns-in-Err-clause-goes_on
+returns-in-Err-clause-goes_on g c = λ p under calm.
+    let x = c.args.self.now in
+    let e = c.in-Err.ensures in
+    let y : Recorded g.row.D.Denot = record { environment = c.step.new.self; journal = x.journal } in
+    kept g.D.Disk.observable g.D.Disk.history g.D.Disk.faults p x y refl under (e.goes_on p.most (standing p x) under.running.here) e.same_reach c.step.ensures.bounds e.cause.never_falls
+    (λ observed. e.crash observed p.most p.st p.start x.journal.items under.running.here (under.guarded observed))
+
+pub returns-clause-goes_on : goal.returns-clause-goes_on
+returns-clause-goes_on g c = λ p under calm.
+    let x = c.args.self.now in
+    let st = standing p x in
+    let session = c.args.session in
+    let line = c.args.line in
+    let call = c.args.call in
+    let e = c.in-Ok.ensures in
+    let o = c.in-Ok.outcome in
+    let awaited = c.awaited-awaited.result in
+    let durability = c.durability_of-durability.result in
+    let event : Event = Called session line call o.answer o.victims in
+    let for_ : IsAwaitedFor o.answer durability awaited = record { logged = c.awaited-awaited.ensures.logged; other = c.awaited-awaited.ensures.other } in
+    let y : Recorded g.row.D.Denot = record { environment = c.step.new.self; journal = c.record.new.journal } in
+    let done = e.goes_on p.most st under.running.here in
+    pushed g.D.Disk.observable g.D.Disk.history g.D.Disk.faults p Nothing (awaited_of awaited) x y event c.record.ensures.items under (record {
+      done = done;
+      grows = c.step.ensures.grows p.most st under.running.here;
+      synced = λ later met. (
+        tt,
+        called_synced st (after_event st event) session line call o.answer o.victims durability awaited later (c.durability_of-durability.ensures p.most st under.running.here) for_
+            (e.numbered p.most st under.running.here) met,
+      );
+      fresh = fresh_after o.answer durability awaited (after_event st event) for_ (λ logged. called_valid done.limit st session line call o.answer o.victims logged done.answered);
+      ordered = calm;
+      only = tt;
+      bounds = c.step.ensures.bounds;
+      never_falls = e.cause.never_falls;
+      fault = λ h. e.cause.fault (fault_is o.answer h);
+    }) (λ observed. e.crash observed p.most p.st p.start x.journal.items under.running.here (under.guarded observed))

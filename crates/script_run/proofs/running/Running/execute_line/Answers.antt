@@ -1,0 +1,10 @@
+use Rattle.script_run.proofs.running.Running.execute_line.Goals as goal
+
+pub returns-clause-goes_on : goal.returns-clause-goes_on
+returns-clause-goes_on g c = λ p under calm. c.resume_ready.ensures.goes_on p (c.give_line.ensures.goes_on p under calm)
+
+pub returns-clause-calm : goal.returns-clause-calm
+returns-clause-calm g c = λ p under calm. c.resume_ready.ensures.calm p (c.give_line.ensures.goes_on p under calm)
+
+pub returns-clause-given : goal.returns-clause-given
+returns-clause-given g c = λ lines has. c.resume_ready.ensures.given _ (c.give_line.ensures.given lines has)

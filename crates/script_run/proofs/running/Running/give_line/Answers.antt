@@ -1,0 +1,49 @@
+use Rattle.std.proofs.Common.{◌∙◌, ◌<◌, arith, ap, inl, sym, subst}
+use Rattle.script_run.specs.declared.recorded.Recorded.{Recorded}
+use Rattle.script_run.specs.Events.Awaited.{Nothing}
+use Rattle.script_run.specs.UnderWay.{IsUnderWay}
+use Rattle.script_run.proofs.GivenLaws.{given_line, given_same, given_skipped}
+use Rattle.script_run.proofs.Resting.{not_halted}
+use Rattle.script_run.proofs.Standings.{calm_same}
+use Rattle.je_answers.specs.Journal.{lines_of}
+use Rattle.script_run.proofs.running.Running.give_line.Goals as goal
+
+pub returns-then-self-session-clause-given : goal.returns-then-self-session-clause-given
+returns-then-self-session-clause-given g c = λ lines has.
+    let x = c.args.self.now in
+    given_skipped x.recorded.journal.items x.memory_ended x.stopped lines c.args.session c.args.line c.args.call has c.if-self-session.true
+
+pub execute-requires-clause-here : goal.execute-requires-clause-here
+execute-requires-clause-here g c =
+    let h = c.requires.here in
+    let within : c.args.session < 256 = omega arith in
+    (h.0, h.1, h.2 (not_halted c.args.self.now c.args.session c.requires.flags within c.if-self-session.false))
+
+pub returns-in-Ok-clause-goes_on : goal.returns-in-Ok-clause-goes_on
+returns-in-Ok-clause-goes_on g c = λ p under calm.
+    let within : c.args.session < 256 = omega arith in
+    c.execute.ensures.goes_on p under (calm (not_halted c.args.self.now c.args.session c.requires.flags within c.if-self-session.false))
+
+pub returns-in-Ok-clause-given : goal.returns-in-Ok-clause-given
+returns-in-Ok-clause-given g c = λ lines has.
+    let x = c.args.self.now in
+    given_line x.recorded.journal.items c.execute.new.self.journal.items x.memory_ended x.stopped lines c.args.session c.args.line c.args.call has c.if-self-session.false c.in-Ok.ensures.line
+
+pub returns-in-Err-clause-goes_on : goal.returns-in-Err-clause-goes_on
+returns-in-Err-clause-goes_on g c = λ p under was_calm.
+    let x = c.args.self.now.recorded in
+    let s = c.stop.new.self.recorded in
+    let within : c.args.session < 256 = omega arith in
+    let calm = was_calm (not_halted c.args.self.now c.args.session c.requires.flags within c.if-self-session.false) in
+    let items = ap (λ (r : Recorded g.row.D.Denot). r.journal.items) c.stop.ensures.recorded ∙ c.in-Err.ensures.err in
+    c.end_session.ensures.goes_on p
+    (subst (λ (r : Recorded g.row.D.Denot). IsUnderWay g.D.Disk.observable g.D.Disk.history g.D.Disk.faults p Nothing r) (sym c.stop.ensures.recorded) (c.execute.ensures.goes_on p under calm))
+    (inl (calm_same p x s items calm))
+
+pub returns-in-Err-clause-given : goal.returns-in-Err-clause-given
+returns-in-Err-clause-given g c = λ lines has.
+    let x = c.args.self.now in
+    let new = c.end_session.new.self in
+    let failed = given_same x.recorded.journal.items c.execute.new.self.journal.items x.memory_ended x.stopped lines (ap lines_of c.in-Err.ensures.err) has in
+    given_skipped new.recorded.journal.items new.memory_ended new.stopped lines c.args.session c.args.line c.args.call
+    (c.end_session.ensures.given lines (c.stop.ensures.given lines failed)) (c.end_session.ensures.stopped c.stop.ensures.stopped)

@@ -1,0 +1,41 @@
+use Rattle.std.proofs.Common.{sym}
+use Rattle.script_run.specs.declared.recorded.Recorded.{Recorded}
+use Rattle.script_run.proofs.Resting.{not_ended}
+use Rattle.script_run.proofs.RunLaws.{started, starts_calm}
+use Rattle.script_run.proofs.running.run.Goals as goal
+
+pub execute_all-requires-clause-here : goal.execute_all-requires-clause-here
+execute_all-requires-clause-here g c =
+    let s = c.requires.start in
+    let x : Recorded g.row.D.Denot = record { environment = c.args.environment; journal = c.journal_for.result } in
+    let none = sym c.journal_for.ensures in (
+      s.0,
+      started g.D.Disk.observable g.D.Disk.history g.D.Disk.faults s.0 x none s.1,
+      λ halted. starts_calm g.D.Disk.observable g.D.Disk.history g.D.Disk.faults s.0 x none s.1,
+    )
+
+pub end_sessions-requires-clause-here : goal.end_sessions-requires-clause-here
+end_sessions-requires-clause-here g c =
+    let s = c.requires.start in
+    let x : Recorded g.row.D.Denot = record { environment = c.args.environment; journal = c.journal_for.result } in
+    let none = sym c.journal_for.ensures in
+    let under = started g.D.Disk.observable g.D.Disk.history g.D.Disk.faults s.0 x none s.1 in
+    let calm = starts_calm g.D.Disk.observable g.D.Disk.history g.D.Disk.faults s.0 x none s.1 in
+    (s.0, c.execute_all.ensures.goes_on s.0 under (λ halted. calm), c.execute_all.ensures.calm s.0 under (λ halted. calm))
+
+pub returns-clause-goes_on : goal.returns-clause-goes_on
+returns-clause-goes_on g c = λ p begins.
+    let x : Recorded g.row.D.Denot = record { environment = c.args.environment; journal = c.journal_for.result } in
+    let none = sym c.journal_for.ensures in
+    let under = started g.D.Disk.observable g.D.Disk.history g.D.Disk.faults p x none begins in
+    let calm = starts_calm g.D.Disk.observable g.D.Disk.history g.D.Disk.faults p x none begins in
+    c.end_sessions.ensures.goes_on p (c.execute_all.ensures.goes_on p under (λ halted. calm)) (c.execute_all.ensures.calm p under (λ halted. calm))
+
+pub returns-clause-calm : goal.returns-clause-calm
+returns-clause-calm g c = λ p begins memory.
+    let x : Recorded g.row.D.Denot = record { environment = c.args.environment; journal = c.journal_for.result } in
+    let none = sym c.journal_for.ensures in
+    let under = started g.D.Disk.observable g.D.Disk.history g.D.Disk.faults p x none begins in
+    let calm = starts_calm g.D.Disk.observable g.D.Disk.history g.D.Disk.faults p x none begins in
+    c.end_sessions.ensures.calm p (c.execute_all.ensures.goes_on p under (λ halted. calm)) (c.execute_all.ensures.calm p under (λ halted. calm))
+    (not_ended c.end_sessions.new.self c.end_sessions.ensures.flags memory)

@@ -1,0 +1,4 @@
+pub mod Events
+pub mod UnderWay
+pub mod Lines
+pub mod Running

@@ -1,0 +1,37 @@
+-- A run of lines: what it has been given, and whom it gives no more.
+use Rattle.std.specs.Prelude.{ℕ, ◌≡◌, ◌<◌, [], List, None, Bool, true, false, length, slice_index_or}
+use Rattle.je_disk.specs.Moments.{History}
+use Rattle.je_answers.specs.Journal.{first_ready}
+use Rattle.store_model.specs.declared.plan.ScriptLine.{ScriptLine}
+use Rattle.environment.specs.declared.environment.Environment.{Environment}
+use Rattle.environment.specs.Whole.{IsGuarded, disk_of}
+use Rattle.script_run.specs.declared.running.Running.{Running}
+use Rattle.script_run.specs.Events.Awaited.{Nothing}
+use Rattle.script_run.specs.Lines.{HasGiven}
+use Rattle.script_run.specs.UnderWay.{Beginning, HasSettled, IsCalm, IsRunning}
+
+module _ {D : Type 0} where
+  -- each session has its flag; a run that was halted gives nothing more, and memory had run out
+  pub record AreFlags (x : Running D) : Type 0 where
+    pub sessions : length x.stopped ≡ 256
+    pub memory : x.halted ≡ true → x.memory_ended ≡ true
+    pub all : x.halted ≡ true → (session : ℕ) → session < 256 → slice_index_or x.stopped session false ≡ true
+
+  -- the lines of a script that it was given, the last of them left out where its session was ended
+  abbrev pub HasLines : Running D → List ScriptLine → Type 0
+  HasLines x lines = HasGiven x.recorded.journal.items x.memory_ended x.stopped lines
+
+  -- unless it was halted no call may go on
+  abbrev pub IsCalmOrHalted : Beginning → Running D → Type 0
+  IsCalmOrHalted p x = x.halted ≡ false → IsCalm p x.recorded
+
+  -- unless it was halted the calls that wait came nearer to rest
+  abbrev pub HasSettledOrHalted : Beginning → Running D → Running D → Type 0
+  HasSettledOrHalted p old new = new.halted ≡ false → HasSettled p old.recorded new.recorded
+
+module _ {D : Type 0} (observable : Bool) (history : D → History) (faults : D → ℕ) where
+  -- a run begins here with an environment in which no call may go on
+  pub record Begins (p : Beginning) (environment : Environment D) : Type 0 where
+    pub running : IsRunning observable history faults p Nothing environment []
+    pub guarded : observable ≡ true → IsGuarded p.most p.st p.start (history (disk_of environment)) environment []
+    pub calm : first_ready p.st ≡ None

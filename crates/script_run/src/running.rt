@@ -1,0 +1,280 @@
+// A run of a script's lines.
+ghost use Rattle.std.specs.Prelude.{◌≡◌, ◌≤◌, ◌<◌, ◌++◌, ◌∷◌, [], ℕ, List, length, true, false, slice_index_or, IfSome, IsNone};
+ghost use Rattle.std.specs.List.{list_all};
+ghost use Rattle.script_text.specs.Grammar.{has_line, is_line};
+ghost use Rattle.store_model.specs.declared.plan.ScriptLine.{ScriptLine as Line};
+ghost use Rattle.store_model.specs.declared.plan.ScriptLine.TheVariants.{Session};
+ghost use Rattle.script_run.specs.Events.Awaited.{Nothing};
+ghost use Rattle.script_run.specs.UnderWay.{Beginning, IsCalm, IsNext, IsUnderWay, MayEnd};
+ghost use Rattle.script_run.specs.Running.{AreFlags, Begins, HasLines, HasSettledOrHalted, IsCalmOrHalted};
+
+use crate::recorded::{ROOM, Recorded};
+use environment::Environment;
+use je_disk::Disk;
+use std::alloc::Global;
+use store_model::{Call, Event, ScriptLine};
+
+/// A run under way: its environment with the journal, whether a call found no memory, which sessions were
+/// ended by that, by their numbers, and whether it was halted since there was no room for even an end.
+pub struct Running<D> {
+    pub recorded: Recorded<D>,
+    pub memory_ended: bool,
+    pub stopped: [bool; 256],
+    pub halted: bool,
+}
+
+// No session was ended yet; or each was.
+fn all_sessions(stopped: bool) -> [bool; 256]
+    ensures each { (session : ℕ) → session < 256 → slice_index_or result session false ≡ stopped }
+    ensures past { (session : ℕ) → 256 ≤ session → slice_index_or result session false ≡ false }
+    ensures len { length result ≡ 256 }
+{
+    [stopped; 256]
+}
+
+// A journal that has room for one event of each line and for a sync behind the last. Where there is no
+// memory for so many, it grows as they come.
+fn journal_for(alloc: Global, lines: usize) -> Vec<Event>
+    ensures { result.items ≡ [] }
+{
+    let mut journal = Vec::new(alloc);
+    let _ = journal.reserve(lines.saturating_add(2));
+    journal
+}
+
+impl<D: Disk> Running<D> {
+    // Nothing is given any more.
+    fn halt(&mut self)
+        requires flags { AreFlags self.old }
+        ensures flags { AreFlags self.new }
+        ensures recorded { self.new.recorded ≡ self.old.recorded }
+        ensures halted { self.new.halted ≡ true }
+        ensures given { (lines : List Line) → HasLines self.old lines → HasLines self.new lines }
+    {
+        self.memory_ended = true;
+        self.halted = true;
+        self.stopped = all_sessions(true);
+    }
+
+    // A session gives no further line, since there was no memory.
+    fn stop(&mut self, session: u8)
+        requires flags { AreFlags self.old }
+        ensures flags { AreFlags self.new }
+        ensures recorded { self.new.recorded ≡ self.old.recorded }
+        ensures same { self.new.halted ≡ self.old.halted }
+        ensures stopped { slice_index_or self.new.stopped session false ≡ true }
+        ensures given { (lines : List Line) → HasLines self.old lines → HasLines self.new lines }
+    {
+        self.memory_ended = true;
+        self.stopped[session as usize] = true;
+    }
+
+    // Ends a session that may end; where the journal has no room for that, the run is halted.
+    fn end_session(&mut self, session: u8)
+        requires here { (p : Beginning) × IsUnderWay D.observable D.history D.faults p Nothing self.old.recorded }
+        requires flags { AreFlags self.old }
+        ensures flags { AreFlags self.new }
+        ensures goes_on { (p : Beginning) → IsUnderWay D.observable D.history D.faults p Nothing self.old.recorded → MayEnd p session self.old.recorded → IsUnderWay D.observable D.history D.faults p Nothing self.new.recorded }
+        ensures settles { (p : Beginning) (line : ℕ) → IsNext p session line self.old.recorded → HasSettledOrHalted p self.old self.new }
+        ensures stopped { slice_index_or self.old.stopped session false ≡ true → slice_index_or self.new.stopped session false ≡ true }
+        ensures given { (lines : List Line) → HasLines self.old lines → HasLines self.new lines }
+    {
+        if self.recorded.make_room(1).is_err() {
+            self.halt();
+        } else {
+            self.recorded.end_session(session);
+        }
+    }
+
+    // The first call that may go on, unless the run was halted.
+    fn next_ready(&self) -> Option<(u8, u32)>
+        requires here { (p : Beginning) × IsUnderWay D.observable D.history D.faults p Nothing self.now.recorded }
+        ensures next { (p : Beginning) → IsUnderWay D.observable D.history D.faults p Nothing self.now.recorded → IfSome result (λ q. IsNext p q.0 q.1 self.now.recorded) }
+        ensures works { IfSome result (λ q. self.now.halted ≡ false) }
+        ensures none { (p : Beginning) → IsUnderWay D.observable D.history D.faults p Nothing self.now.recorded → IsNone result → IsCalmOrHalted p self.now }
+    {
+        if self.halted {
+            return None;
+        }
+        self.recorded.environment.next_ready()
+    }
+
+    // Goes on with the first call that may.
+    fn go_on(&mut self, alloc: Global, session: u8, line: u32)
+        requires here { (p : Beginning) × IsUnderWay D.observable D.history D.faults p Nothing self.old.recorded × IsNext p session line self.old.recorded }
+        requires flags { AreFlags self.old }
+        ensures flags { AreFlags self.new }
+        ensures goes_on { (p : Beginning) → IsUnderWay D.observable D.history D.faults p Nothing self.old.recorded → IsNext p session line self.old.recorded → IsUnderWay D.observable D.history D.faults p Nothing self.new.recorded }
+        ensures settles { (p : Beginning) → IsUnderWay D.observable D.history D.faults p Nothing self.old.recorded → IsNext p session line self.old.recorded → HasSettledOrHalted p self.old self.new }
+        ensures given { (lines : List Line) → HasLines self.old lines → HasLines self.new lines }
+    {
+        if self.recorded.make_room(ROOM).is_err() {
+            self.stop(session);
+            self.end_session(session);
+            return;
+        }
+        if self.recorded.go_on(alloc, session, line).is_err() {
+            self.stop(session);
+        }
+    }
+
+    // Goes on with the calls that may, one after another. Each is answered, or waits again; so `waiting` falls, or
+    // `left`, which no fewer may go on than.
+    fn resume_ready(&mut self, alloc: Global)
+        requires here { (p : Beginning) × IsUnderWay D.observable D.history D.faults p Nothing self.old.recorded }
+        requires flags { AreFlags self.old }
+        ensures flags { AreFlags self.new }
+        ensures goes_on { (p : Beginning) → IsUnderWay D.observable D.history D.faults p Nothing self.old.recorded → IsUnderWay D.observable D.history D.faults p Nothing self.new.recorded }
+        ensures calm { (p : Beginning) → IsUnderWay D.observable D.history D.faults p Nothing self.old.recorded → IsCalmOrHalted p self.new }
+        ensures given { (lines : List Line) → HasLines self.old lines → HasLines self.new lines }
+    {
+        let mut waiting = self.recorded.environment.waiting_count();
+        let mut left = waiting;
+        while let Some((session, line)) = self.next_ready() {
+            self.go_on(alloc, session, line);
+            if self.halted {
+                return;
+            }
+            let now = self.recorded.environment.waiting_count();
+            left = if now < waiting { now } else { left - 1 };
+            waiting = now;
+        }
+    }
+
+    // Gives a line, unless its session was ended. A call that finds no memory ends its session.
+    fn give_line(&mut self, alloc: Global, session: u8, line: u32, call: Call)
+        requires here { (p : Beginning) × IsUnderWay D.observable D.history D.faults p Nothing self.old.recorded × IsCalmOrHalted p self.old }
+        requires flags { AreFlags self.old }
+        requires has_line { has_line call ≡ true }
+        ensures flags { AreFlags self.new }
+        ensures goes_on { (p : Beginning) → IsUnderWay D.observable D.history D.faults p Nothing self.old.recorded → IsCalmOrHalted p self.old → IsUnderWay D.observable D.history D.faults p Nothing self.new.recorded }
+        ensures given { (lines : List Line) → HasLines self.old lines → HasLines self.new (lines ++ Session session line call ∷ []) }
+    {
+        if self.stopped[session as usize] {
+            // let go by name, it is one step of a proof, and not one for each kind of call
+            drop(call);
+            return;
+        }
+        match self.recorded.execute(alloc, session, line, call) {
+            Ok(()) => {}
+            Err(_) => {
+                self.stop(session);
+                self.end_session(session);
+            }
+        }
+    }
+
+    // Gives a line; then the calls that may go on do.
+    fn execute_line(&mut self, alloc: Global, session: u8, line: u32, call: Call)
+        requires here { (p : Beginning) × IsUnderWay D.observable D.history D.faults p Nothing self.old.recorded × IsCalmOrHalted p self.old }
+        requires flags { AreFlags self.old }
+        requires has_line { has_line call ≡ true }
+        ensures flags { AreFlags self.new }
+        ensures goes_on { (p : Beginning) → IsUnderWay D.observable D.history D.faults p Nothing self.old.recorded → IsCalmOrHalted p self.old → IsUnderWay D.observable D.history D.faults p Nothing self.new.recorded }
+        ensures calm { (p : Beginning) → IsUnderWay D.observable D.history D.faults p Nothing self.old.recorded → IsCalmOrHalted p self.old → IsCalmOrHalted p self.new }
+        ensures given { (lines : List Line) → HasLines self.old lines → HasLines self.new (lines ++ Session session line call ∷ []) }
+    {
+        self.give_line(alloc, session, line, call);
+        self.resume_ready(alloc);
+    }
+
+    // Gives the next line.
+    fn execute_next(&mut self, alloc: Global, given: ScriptLine)
+        requires here { (p : Beginning) × IsUnderWay D.observable D.history D.faults p Nothing self.old.recorded × IsCalmOrHalted p self.old }
+        requires flags { AreFlags self.old }
+        requires line { is_line given ≡ true }
+        ensures flags { AreFlags self.new }
+        ensures goes_on { (p : Beginning) → IsUnderWay D.observable D.history D.faults p Nothing self.old.recorded → IsCalmOrHalted p self.old → IsUnderWay D.observable D.history D.faults p Nothing self.new.recorded }
+        ensures calm { (p : Beginning) → IsUnderWay D.observable D.history D.faults p Nothing self.old.recorded → IsCalmOrHalted p self.old → IsCalmOrHalted p self.new }
+        ensures given { (lines : List Line) → HasLines self.old lines → HasLines self.new (lines ++ given ∷ []) }
+    {
+        match given {
+            ScriptLine::Session {
+                session,
+                line,
+                call,
+            } => self.execute_line(alloc, session, line, call),
+            // no line of a script gives one
+            ScriptLine::Maintenance { line: _, step: _ } => unreachable!(),
+        }
+    }
+
+    // Ends a session that has a transaction; then the calls that may go on do.
+    fn end_if_open(&mut self, alloc: Global, session: u8)
+        requires here { (p : Beginning) × IsUnderWay D.observable D.history D.faults p Nothing self.old.recorded × IsCalmOrHalted p self.old }
+        requires flags { AreFlags self.old }
+        ensures flags { AreFlags self.new }
+        ensures goes_on { (p : Beginning) → IsUnderWay D.observable D.history D.faults p Nothing self.old.recorded → IsCalmOrHalted p self.old → IsUnderWay D.observable D.history D.faults p Nothing self.new.recorded }
+        ensures calm { (p : Beginning) → IsUnderWay D.observable D.history D.faults p Nothing self.old.recorded → IsCalmOrHalted p self.old → IsCalmOrHalted p self.new }
+        ensures given { (lines : List Line) → HasLines self.old lines → HasLines self.new lines }
+    {
+        if self.halted {
+            return;
+        }
+        if !self.recorded.environment.has_transaction(session) {
+            return;
+        }
+        self.end_session(session);
+        self.resume_ready(alloc);
+    }
+
+    // Ends each session that has a transaction, in the order of their numbers.
+    fn end_sessions(&mut self, alloc: Global)
+        requires here { (p : Beginning) × IsUnderWay D.observable D.history D.faults p Nothing self.old.recorded × IsCalmOrHalted p self.old }
+        requires flags { AreFlags self.old }
+        ensures flags { AreFlags self.new }
+        ensures goes_on { (p : Beginning) → IsUnderWay D.observable D.history D.faults p Nothing self.old.recorded → IsCalmOrHalted p self.old → IsUnderWay D.observable D.history D.faults p Nothing self.new.recorded }
+        ensures calm { (p : Beginning) → IsUnderWay D.observable D.history D.faults p Nothing self.old.recorded → IsCalmOrHalted p self.old → IsCalmOrHalted p self.new }
+        ensures given { (lines : List Line) → HasLines self.old lines → HasLines self.new lines }
+    {
+        for session in 0..=255u8 {
+            self.end_if_open(alloc, session);
+        }
+    }
+
+    // Gives lines, one after another.
+    fn execute_all(&mut self, alloc: Global, lines: Vec<ScriptLine>)
+        requires here { (p : Beginning) × IsUnderWay D.observable D.history D.faults p Nothing self.old.recorded × IsCalmOrHalted p self.old }
+        requires flags { AreFlags self.old }
+        requires lines { list_all is_line lines.items ≡ true }
+        requires given { HasLines self.old [] }
+        ensures flags { AreFlags self.new }
+        ensures goes_on { (p : Beginning) → IsUnderWay D.observable D.history D.faults p Nothing self.old.recorded → IsCalmOrHalted p self.old → IsUnderWay D.observable D.history D.faults p Nothing self.new.recorded }
+        ensures calm { (p : Beginning) → IsUnderWay D.observable D.history D.faults p Nothing self.old.recorded → IsCalmOrHalted p self.old → IsCalmOrHalted p self.new }
+        ensures given { HasLines self.new lines.items }
+    {
+        for given in lines {
+            self.execute_next(alloc, given);
+        }
+    }
+}
+
+/// Gives the lines in order. What a commit waits for is done at once; then each call that waited and may go
+/// on does, in the order in which they began to wait; then comes the next line. At the end each session that
+/// has a transaction is ended. A call that finds no memory is not in the journal, and ends its session, which
+/// gives no further line; the others go on.
+pub fn run<D: Disk>(
+    alloc: Global,
+    environment: Environment<D>,
+    lines: Vec<ScriptLine>,
+) -> Running<D>
+    requires start { (p : Beginning) × Begins D.observable D.history D.faults p environment }
+    requires lines { list_all is_line lines.items ≡ true }
+    ensures goes_on { (p : Beginning) → Begins D.observable D.history D.faults p environment → IsUnderWay D.observable D.history D.faults p Nothing result.recorded }
+    ensures calm { (p : Beginning) → Begins D.observable D.history D.faults p environment → result.memory_ended ≡ false → IsCalm p result.recorded }
+    ensures given { HasLines result lines.items }
+{
+    let recorded = Recorded {
+        environment,
+        journal: journal_for(alloc, lines.len()),
+    };
+    let mut running = Running {
+        recorded,
+        memory_ended: false,
+        stopped: all_sessions(false),
+        halted: false,
+    };
+    running.execute_all(alloc, lines);
+    running.end_sessions(alloc);
+    running
+}

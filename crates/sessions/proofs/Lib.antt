@@ -1,0 +1,20 @@
+-- A waiting call that is taken out.
+pub mod Waits
+-- Own changes that are put and cut off.
+pub mod Owns
+-- A wait that is forgotten.
+pub mod Forgetting
+-- Victims that end.
+pub mod Ends
+-- Victims that are told and marked, with copies of their cycles.
+pub mod Tells
+-- A call that begins to wait: where it leaves the sessions.
+pub mod Stops
+-- How many victims there are, and how long their cycles.
+pub mod Bounds
+-- A call that was made to wait has stopped as the model says.
+pub mod Waited
+-- A call that takes its needs.
+pub mod Takes
+-- Who uses a database.
+pub mod Users

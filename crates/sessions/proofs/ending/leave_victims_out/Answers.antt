@@ -1,0 +1,8 @@
+use Rattle.std.proofs.Common.{rules, not}
+use Rattle.std.proofs.lemmas.Fn.{filter_same}
+use Rattle.je_answers.specs.declared.wait.Wait.{Wait}
+use Rattle.je_answers.specs.After.{is_victim}
+use Rattle.sessions.proofs.ending.leave_victims_out.Goals as goal
+
+pub returns : goal.returns
+returns c = filter_same _ (λ (w : Wait). not (is_victim w.session c.args.victims.now)) _ (λ x b f k. search rules) _ _ c.retain.ensures.filtered

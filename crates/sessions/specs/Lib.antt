@@ -1,0 +1,4 @@
+pub mod AtStanding
+pub mod Taking
+pub mod Waiting
+pub mod Spares

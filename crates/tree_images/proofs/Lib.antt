@@ -1,0 +1,42 @@
+-- Sound images: how they are read, and that they stay.
+pub mod Images
+-- Trees that fit a log fit a longer one.
+pub mod Longer
+-- The lows of a level.
+pub mod Lows
+-- The roots of trees that fit a log.
+pub mod Roots
+-- Cells whose data stands where they say: how they are set.
+pub mod Recorded
+-- The nodes of a level one after another, and the bounds of their names.
+pub mod Neighbours
+-- The image of a node that is logged is sound.
+pub mod Logged
+-- The nodes of trees that fit a log, step by step.
+pub mod NodeSteps
+-- The image of a node that was made before its children were logged.
+pub mod Finished
+-- The nodes of a tree in which nodes are split for a name's slot.
+pub mod Grown
+-- The splits for a name's slot, and the nodes of a tree in which they were made.
+pub mod Splits
+-- The nodes that are logged for a name's slot: each behind its children.
+pub mod LogOrder
+-- The nodes over a name, level by level.
+pub mod Paths
+-- The nodes that are logged for a name's slot stand behind their children, which wait no more.
+pub mod PlaceOrder
+-- The order in which nodes are logged for a name's slot.
+pub mod Ordered
+-- A tree where a name got its slot.
+pub mod PlacedTrees
+-- Images of nodes that were made together are logged, one after another.
+pub mod DueImages
+-- Trees whose nodes have earlier marks.
+pub mod EarlierMarks
+-- Trees that are made of the images that were read.
+pub mod Read
+-- Each name's newest committed change while the log grows.
+pub mod Newest
+-- The trees of all databases where one of them took the place of another one.
+pub mod Forests

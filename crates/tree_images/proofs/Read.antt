@@ -1,0 +1,101 @@
+-- Trees that are made of the images that were read.
+use Rattle.std.proofs.Common.{◌≡◌, ◌⊎◌, ◌<◌, ◌&&◌, not, ℕ, suc, List, [], ◌∷◌, Bool, true, false, cond, Option, Some, map, refl, ap, ap₂, sym, subst, ◌∙◌, inl, arith, length, is_gt, Ordering, Less, Equal, Greater}
+use Rattle.std.specs.Ordering.{is_le}
+use Rattle.std.specs.Option.{option_and_then}
+use Rattle.std.specs.List.{AllByRecursion}
+use Rattle.std.proofs.lemmas.Option.{same_Some}
+use Rattle.je_order.specs.Order.{name_cmp}
+use Rattle.je_order.specs.Edges.{is_below, is_between}
+use Rattle.je_order.specs.Edges.Edge.{At}
+use Rattle.je_order.specs.declared.name.Name.{Name}
+use Rattle.log_entry.specs.declared.child_slot.ChildSlot.{ChildSlot}
+use Rattle.log_entry.specs.declared.entry.Entry.{Entry}
+use Rattle.record_map.specs.Cells.{value_at, upper_edge}
+use Rattle.tree_nodes.specs.declared.node.Node.{Node}
+use Rattle.tree_nodes.specs.Nodes.{NodeRow, IsOver, IsUpTo, low_behind}
+use Rattle.tree_nodes.specs.Levels.{row_of, AreParts}
+use Rattle.log_trees.specs.Sound.{Child, children, Home}
+use Rattle.log_trees.specs.Building.{child_shown}
+use Rattle.db_tree.specs.Content.{held_by}
+use Rattle.db_tree.specs.Images.{Placed, child_in, child_over, child_behind, shows, shown, IsRead}
+use Rattle.db_tree.proofs.Contents.{within}
+use Rattle.db_tree.proofs.Over.{over_once}
+use Rattle.db_tree.proofs.Within.{over_within}
+use Rattle.db_tree.specs.Trees.{IsBehind}
+use Rattle.tree_images.specs.ReadLaws.{IsChildNode, IsAsRead, ReadTreesFit}
+use Rattle.tree_images.proofs.Images.{images_are_read}
+use Rattle.tree_images.proofs.Neighbours.{sides_of}
+
+-- the child that an image shows for a name within its bounds, of what holds of all its children
+record IsFor (Q : Child → Type 0) (x : Name) (child : ℕ) : Type 0 where
+  found : Child
+  holds : Q found
+  at : child ≡ found.at
+  from : IsUpTo found.low x
+  upto : is_below (upper_edge found.high) x ≡ true
+
+le_gt : (o : Ordering) (t : Bool) → is_le o ≡ t → is_gt o ≡ not t
+le_gt Less true e = refl
+le_gt Equal true e = refl
+le_gt Greater true e = absurd cc
+le_gt Less false e = absurd cc
+le_gt Equal false e = absurd cc
+le_gt Greater false e = refl
+
+child_for : (Q : Child → Type 0) (x low : Name) (high : Option Name) (s : ChildSlot) (slots : List ChildSlot) → IsUpTo low x → is_below (upper_edge high) x ≡ true → AllByRecursion Q (children low high (map child_shown (s ∷ slots))) →
+    IsFor Q x (child_behind x s.child slots)
+child_for Q x low high s [] from upto all = record { found = record { low = low; high = high; at = s.child }; holds = all.0; at = refl; from = from; upto = upto }
+child_for Q x low high s (t ∷ slots) from upto all = by_test (is_le (name_cmp t.name x)) refl (λ up. child_for Q x t.name high t slots up upto all.1)
+  where
+    by_test : (b : Bool) → is_le (name_cmp t.name x) ≡ b → (IsUpTo t.name x → IsFor Q x (child_behind x t.child slots)) → IsFor Q x (cond b (child_behind x t.child slots) s.child)
+    by_test true is rest = rest (le_gt (name_cmp t.name x) true is)
+    by_test false is rest = record { found = record { low = low; high = Some t.name; at = s.child }; holds = all.0; at = refl; from = from; upto = le_gt (name_cmp t.name x) false is }
+
+over_for : (Q : Child → Type 0) (x low : Name) (high : Option Name) (slots : List ChildSlot) → 0 < length slots → IsUpTo low x → is_below (upper_edge high) x ≡ true → AllByRecursion Q (children low high (map child_shown slots)) →
+    (child : ℕ) × (child_over x slots ≡ Some child) × IsFor Q x child
+over_for Q x low high [] some from upto all = absurd (omega (arith, some))
+over_for Q x low high (s ∷ slots) some from upto all = (child_behind x s.child slots, refl, child_for Q x low high s slots from upto all)
+
+module _ (es : Placed) (home : ℕ → Home) (last d : ℕ) (rows : List NodeRow) (parts : AreParts rows) (each : (level : ℕ) (low : Name) (n : Node) → value_at low (row_of rows level) ≡ Some n → IsAsRead es home last d rows level low n) where
+  -- an IN's image shows what its child's does
+  inner_same : (k : ℕ) (x : Name) (e c : Name × Node) → IsOver (row_of rows (suc k)) x e → IsOver (row_of rows k) x c → shown es (suc k) e.1.last x ≡ shown es k c.1.last x
+  inner_same k x e c upper lower =
+      let a : IsAsRead es home last d rows (suc k) e.0 e.1 = each (suc k) e.0 e.1 upper.there in
+      let bounds = sides_of e.0 x (low_behind e.0 (row_of rows (suc k))) (within (row_of rows (suc k)) x e upper) in
+      let found = over_for (IsChildNode (row_of rows k)) x e.0 (low_behind e.0 (row_of rows (suc k))) a.sound.slots a.sound.entry.4 bounds.0 bounds.1 a.below in
+      by_child a.at a.image (ap (λ (o : Option Entry). option_and_then (λ child. shows es k child x) (child_in o x)) a.sound.image ∙ ap (option_and_then (λ child. shows es k child x)) found.1) found.2
+    where
+      by_child : {child : ℕ} (at : ℕ) → e.1.last ≡ Some at → shows es (suc k) at x ≡ shows es k child x → IsFor (IsChildNode (row_of rows k)) x child → shown es (suc k) e.1.last x ≡ shown es k c.1.last x
+      by_child {child} at image showing is_for =
+          let node : IsChildNode (row_of rows k) is_for.found = is_for.holds in
+          let inside : is_between (At is_for.found.low) (upper_edge (low_behind is_for.found.low (row_of rows k))) x ≡ true =
+          ap₂ (λ (a : Bool) (o : Option Name). not a && is_below (upper_edge o) x) is_for.from node.behind ∙ is_for.upto in
+          let over : IsOver (row_of rows k) x (is_for.found.low, node.node) = over_within (row_of rows k) x is_for.found.low node.node (parts.rising k) node.there inside in
+          let names : c.0 ≡ is_for.found.low = over_once (row_of rows k) x c (is_for.found.low, node.node) lower over in
+          let same : c.1 ≡ node.node = same_Some c.1 node.node (sym lower.there ∙ ap (λ (y : Name). value_at y (row_of rows k)) names ∙ node.there) in
+          ap (λ (o : Option ℕ). shown es (suc k) o x) image
+          ∙ showing
+          ∙ ap (λ (i : ℕ). shows es k i x) is_for.at
+          ∙ sym (ap (λ (n : Node). shown es k n.last x) same ∙ ap (λ (o : Option ℕ). shown es k o x) node.last)
+
+pub read_fit : ReadTreesFit
+read_fit es base newest home last d rows cells parts top each recorded held = record {
+  tree = record {
+    reads = λ level x e at over is. reads level x e at (each level e.0 e.1 over.there) is;
+    leaf = λ x e over. leaf x e over (each 0 e.0 e.1 over.there);
+    inner = λ level x e c upper lower. inl (inner_same es home last d rows parts each level x e c upper lower);
+  };
+  imaged = record {
+    numbers = λ level low n there. (let a : IsAsRead es home last d rows level low n = each level low n there in a.own);
+    images = λ level low n there waits among. (let a : IsAsRead es home last d rows level low n = each level low n there in inl (a.at, a.image, a.sound));
+    top = top;
+  };
+  recorded = recorded;
+}
+  where
+    reads : (level : ℕ) (x : Name) (e : Name × Node) (at : ℕ) → IsAsRead es home last d rows level e.0 e.1 → e.1.last ≡ Some at → IsRead es level at x
+    reads level x e at a is =
+        subst (λ (i : ℕ). IsRead es level i x) (same_Some a.at at (sym a.image ∙ is)) (images_are_read es home last d level e.0 (low_behind e.0 (row_of rows level)) a.at x a.sound)
+
+    leaf : (x : Name) (e : Name × Node) → IsOver (row_of rows 0) x e → IsAsRead es home last d rows 0 e.0 e.1 → (shown es 0 e.1.last x ≡ held_by cells x) ⊎ IsBehind base newest e.1 x
+    leaf x e over a = inl (ap (λ (o : Option ℕ). shown es 0 o x) a.image ∙ held x e a.at over a.image)

@@ -1,0 +1,9 @@
+pub mod Sound
+pub mod Fits
+pub mod Roots
+pub mod Laws
+pub mod NodeLaws
+pub mod PlaceLaws
+pub mod LogLaws
+pub mod ReadLaws
+pub mod NewestLaws

@@ -1,0 +1,43 @@
+-- Trees that are made of the images that were read.
+use Rattle.std.specs.Prelude.{◌≡◌, ℕ, zero, suc, List, Some, IsSome, length, map}
+use Rattle.std.specs.List.{AllByRecursion}
+use Rattle.je_order.specs.declared.name.Name.{Name}
+use Rattle.record_map.specs.declared.cell.Cell.{Cell}
+use Rattle.record_map.specs.Cells.{value_at}
+use Rattle.tree_nodes.specs.declared.node.Node.{Node}
+use Rattle.tree_nodes.specs.Nodes.{NodeRow, least, low_behind, IsOver}
+use Rattle.tree_nodes.specs.Levels.{row_of, AreParts}
+use Rattle.log_trees.specs.Sound.{Child, children, Home}
+use Rattle.log_trees.specs.Building.{child_shown}
+use Rattle.db_tree.specs.Content.{held_by}
+use Rattle.db_tree.specs.Images.{Placed, shows}
+use Rattle.tree_images.specs.Sound.{IsNumber, IsSoundImage}
+use Rattle.tree_images.specs.Fits.{AreRecorded, FitsTree}
+
+-- a child of an image is a node of a level: it has the child's image as its last one, and its bounds
+pub record IsChildNode (row : NodeRow) (c : Child) : Type 0 where
+  pub node : Node
+  pub there : value_at c.low row ≡ Some node
+  pub last : node.last ≡ Some c.at
+  pub behind : low_behind c.low row ≡ c.high
+
+-- so are all children of a sound image; a BIN's has none
+abbrev pub AreChildNodes : (es : Placed) (home : ℕ → Home) (last d : ℕ) (rows : List NodeRow) (level : ℕ) (low : Name) (at : ℕ) → IsSoundImage es home last d level low (low_behind low (row_of rows level)) at → Type 0
+AreChildNodes es home last d rows zero low at s = Unit {0}
+AreChildNodes es home last d rows (suc k) low at s = AllByRecursion (IsChildNode (row_of rows k)) (children low (low_behind low (row_of rows (suc k))) (map child_shown s.slots))
+
+-- a node is as its last image shows it
+pub record IsAsRead (es : Placed) (home : ℕ → Home) (last d : ℕ) (rows : List NodeRow) (level : ℕ) (low : Name) (n : Node) : Type 0 where
+  pub at : ℕ
+  pub image : n.last ≡ Some at
+  pub own : IsNumber home last d n.number level low
+  pub sound : IsSoundImage es home last d level low (low_behind low (row_of rows level)) at
+  pub below : AreChildNodes es home last d rows level low at sound
+
+-- a tree whose nodes are all as their images show them, and whose cells are as the BINs' images show them, fits the log
+abbrev pub ReadTreesFit : Type 0
+ReadTreesFit = (es : Placed) (base : ℕ) (newest : Name → ℕ) (home : ℕ → Home) (last d : ℕ) (rows : List NodeRow) (cells : List (Name × Cell)) → AreParts rows →
+    ((level : ℕ) (low : Name) → suc level ≡ length rows → IsSome (value_at low (row_of rows level)) → low ≡ least) →
+    ((level : ℕ) (low : Name) (n : Node) → value_at low (row_of rows level) ≡ Some n → IsAsRead es home last d rows level low n) →
+    AreRecorded es d cells → ((x : Name) (e : Name × Node) (at : ℕ) → IsOver (row_of rows 0) x e → e.1.last ≡ Some at → shows es 0 at x ≡ held_by cells x) →
+    FitsTree es base newest home last d rows cells

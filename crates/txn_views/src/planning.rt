@@ -1,0 +1,53 @@
+// What a call on records comes to, and which locks it needs.
+ghost use Rattle.std.specs.Prelude.{◌≡◌, map, true, None, IfOk};
+ghost use Rattle.std.specs.Map.{keys_of};
+ghost use Rattle.record_map.specs.Cells.{IsRising};
+ghost use Rattle.store_model.specs.Records.{evaluation};
+ghost use Rattle.store_model.specs.Needs.{needs_of};
+ghost use Rattle.log_replay.specs.Rows.{are_right, pair_of};
+ghost use Rattle.txn_views.specs.Seen.{seen_rows};
+
+use crate::AccessPlan;
+use crate::txn_rows::TxnRows;
+use crate::viewer::Viewer;
+use cursor_je::{needs, plan};
+use db_catalog::FoundDb;
+use je_order::TxnId;
+use record_tree::Records;
+use std::alloc::{AllocError, Global};
+use store_model::{Call, Isolation};
+
+/// What a call on the records of the database `found` comes to for a transaction at a level, and the locks that it needs
+/// there. Refusals are asked before; room in the log is not asked. It looks at the records and the occupied names that
+/// the call is about alone. The only error is out of memory.
+pub fn plan_access<T: Records>(
+    trees: &T,
+    alloc: Global,
+    txn: TxnId,
+    level: Isolation,
+    found: FoundDb,
+    call: &Call,
+) -> Result<AccessPlan, AllocError>
+    requires right { are_right found.kind (seen_rows level txn (T.cells trees.now found.number)) ≡ true }
+    requires rising { IsRising (T.cells trees.now found.number) }
+    ensures answer { IfOk result (λ p. p.answer ≡ (evaluation found.kind call.now None (map (pair_of found.kind) (seen_rows level txn (T.cells trees.now found.number)))).answer) }
+    ensures changes { IfOk result (λ p. p.changes ≡ (evaluation found.kind call.now None (map (pair_of found.kind) (seen_rows level txn (T.cells trees.now found.number)))).changes) }
+    ensures needs { IfOk result (λ p. p.needs.items ≡ needs_of level found.number found.kind call.now None (map (pair_of found.kind) (seen_rows level txn (T.cells trees.now found.number))) (keys_of (T.cells trees.now found.number))) }
+{
+    let view = TxnRows {
+        trees,
+        number: found.number,
+        kind: found.kind,
+        viewer: Viewer { txn, level },
+    };
+    let planned = plan(alloc, &view, call, None)?;
+    let needs = needs(alloc, &view, level, found.number, call, None, &planned)?;
+    let answer = planned.answer;
+    let changes = planned.changes;
+    drop(planned.place);
+    Ok(AccessPlan {
+        answer,
+        changes,
+        needs,
+    })
+}

@@ -1,0 +1,504 @@
+// Transactions side by side: what they wait for, who of a cycle must abort, and what commits wait for.
+use crate::fixture::{FIRST_LOG, RUN, assert_leaves, assert_ran, disk_with, run_args, run_script};
+use mem_disk::MemDisk;
+use std::alloc::{AllocError, Global};
+use std::process::Abort;
+use std::test::Fail;
+
+// A script over an empty folder writes this text.
+fn assert_writes(
+    rt: &impl Abort,
+    alloc: Global,
+    script: &[u8],
+    text: &str,
+) -> Result<(), AllocError> {
+    let ran = run_script(alloc, MemDisk::new(alloc), script)?;
+    assert_ran(rt, &ran, 0, text);
+    Ok(())
+}
+
+// Two sessions that wait for each other, for writes and for a read that is to be written; and three.
+static DEADLOCKS: [(&[u8], &str); 3] = [
+    (
+        b"s1 create t plain\n\
+s1 begin rr sync wait\n\
+s2 begin rr sync wait\n\
+s1 put t 61 31\n\
+s2 put t 62 31\n\
+s1 put t 62 32\n\
+s2 put t 61 32\n\
+s2 put t 63 33\n\
+s2 abort\n\
+s1 commit\n",
+        "1 s1 ok\n\
+2 s1 ok txn 2\n\
+3 s2 ok txn 3\n\
+4 s1 ok\n\
+5 s2 ok\n\
+6 s1 waiting t 62 by 3\n\
+7 s2 deadlock 2 3\n\
+8 s2 mustabort 2 3\n\
+9 s2 ok\n\
+6 s1 ok\n\
+10 s1 ok\n\
+end commits 2 databases 1 records 2\n",
+    ),
+    (
+        b"s1 create t plain\n\
+s1 put t 61 31\n\
+s1 begin rr sync wait\n\
+s2 begin rr sync wait\n\
+s1 get t 61\n\
+s2 get t 61\n\
+s1 put t 61 32\n\
+s2 put t 61 33\n\
+s2 abort\n\
+s1 commit\n",
+        "1 s1 ok\n\
+2 s1 ok\n\
+3 s1 ok txn 3\n\
+4 s2 ok txn 4\n\
+5 s1 ok 61 31\n\
+6 s2 ok 61 31\n\
+7 s1 waiting t 61 by 4\n\
+8 s2 deadlock 3 4\n\
+9 s2 ok\n\
+7 s1 ok\n\
+10 s1 ok\n\
+end commits 3 databases 1 records 1\n",
+    ),
+    (
+        b"s1 create t plain\n\
+s1 begin rr sync wait\n\
+s2 begin rr sync wait\n\
+s3 begin rr sync wait\n\
+s1 put t 61 31\n\
+s2 put t 62 32\n\
+s3 put t 63 33\n\
+s2 put t 63 34\n\
+s3 put t 61 35\n\
+s1 put t 62 36\n\
+s3 commit\n\
+s3 abort\n\
+s2 commit\n\
+s1 commit\n",
+        "1 s1 ok\n\
+2 s1 ok txn 2\n\
+3 s2 ok txn 3\n\
+4 s3 ok txn 4\n\
+5 s1 ok\n\
+6 s2 ok\n\
+7 s3 ok\n\
+8 s2 waiting t 63 by 4\n\
+9 s3 waiting t 61 by 2\n\
+10 s1 waiting t 62 by 3\n\
+9 s3 deadlock 2 3 4\n\
+11 s3 mustabort 2 3 4\n\
+12 s3 ok\n\
+8 s2 ok\n\
+13 s2 ok\n\
+10 s1 ok\n\
+14 s1 ok\n\
+end commits 3 databases 1 records 3\n",
+    ),
+];
+
+// In each cycle the youngest transaction is the victim.
+#[test]
+fn deadlocks(rt: HostRuntime) -> Result<(), Fail> {
+    for &(script, text) in &DEADLOCKS {
+        assert_writes(&rt, rt.alloc(), script, text)?;
+    }
+    Ok(())
+}
+
+// One wait that closes two cycles has two victims, in either order.
+const TWO_CYCLES: &[u8] = b"s1 create t plain\n\
+s1 put t 61 31\n\
+s3 begin rr sync wait\n\
+s1 begin rr sync wait\n\
+s2 begin rr sync wait\n\
+s1 get t 61\n\
+s2 get t 61\n\
+s3 put t 62 32\n\
+s1 put t 62 33\n\
+s2 put t 62 34\n\
+s3 put t 61 35\n\
+s1 abort\n\
+s2 abort\n\
+s3 commit\n";
+
+const BEFORE_VICTIMS: &str = "1 s1 ok\n\
+2 s1 ok\n\
+3 s3 ok txn 3\n\
+4 s1 ok txn 4\n\
+5 s2 ok txn 5\n\
+6 s1 ok 61 31\n\
+7 s2 ok 61 31\n\
+8 s3 ok\n\
+9 s1 waiting t 62 by 3\n\
+10 s2 waiting t 62 by 3\n\
+11 s3 waiting t 61 by 4\n";
+
+static VICTIMS: [&str; 2] = [
+    "9 s1 deadlock 3 4\n10 s2 deadlock 3 5\n",
+    "10 s2 deadlock 3 5\n9 s1 deadlock 3 4\n",
+];
+
+const BEHIND_VICTIMS: &str = "12 s1 ok\n\
+13 s2 ok\n\
+11 s3 ok\n\
+14 s3 ok\n\
+end commits 3 databases 1 records 2\n";
+
+// Whether a text is made of these three.
+fn is_made_of(text: &str, front: &str, middle: &str, end: &str) -> bool {
+    match text.strip_prefix(front) {
+        Some(rest) => match rest.strip_prefix(middle) {
+            Some(rest) => rest == end,
+            None => false,
+        },
+        None => false,
+    }
+}
+
+#[test]
+fn two_cycles_at_once(rt: HostRuntime) -> Result<(), Fail> {
+    let alloc = rt.alloc();
+    let ran = run_script(alloc, MemDisk::new(alloc), TWO_CYCLES)?;
+    let mut found = false;
+    for victims in &VICTIMS {
+        found = found || is_made_of(ran.text(), BEFORE_VICTIMS, victims, BEHIND_VICTIMS);
+    }
+    assert!(rt; found);
+    Ok(())
+}
+
+// Sessions in a row that wait for one record; a record that a range read keeps away; transactions that are left open,
+// and one that waits as they end.
+static WAITS: [(&[u8], &str); 4] = [
+    (
+        b"s1 create t plain\n\
+s1 begin rr sync wait\n\
+s1 put t 61 31\n\
+s2 begin rr sync wait\n\
+s2 put t 61 32\n\
+s3 begin rr sync wait\n\
+s3 put t 61 33\n\
+s4 get t 61\n\
+s1 commit\n\
+s2 commit\n\
+s3 commit\n",
+        "1 s1 ok\n\
+2 s1 ok txn 2\n\
+3 s1 ok\n\
+4 s2 ok txn 3\n\
+5 s2 waiting t 61 by 2\n\
+6 s3 ok txn 4\n\
+7 s3 waiting t 61 by 2\n\
+8 s4 waiting t 61 by 2\n\
+9 s1 ok\n\
+5 s2 ok\n\
+10 s2 ok\n\
+7 s3 ok\n\
+11 s3 ok\n\
+8 s4 ok 61 33\n\
+end commits 4 databases 1 records 1\n",
+    ),
+    (
+        b"s1 create t plain\n\
+s1 put t 61 31\n\
+s1 put t 63 33\n\
+s1 begin ser sync wait\n\
+s1 get t 62\n\
+s2 begin rr sync wait\n\
+s2 put t 62 32\n\
+s3 put t 64 34\n\
+s1 commit\n\
+s2 commit\n",
+        "1 s1 ok\n\
+2 s1 ok\n\
+3 s1 ok\n\
+4 s1 ok txn 4\n\
+5 s1 notfound\n\
+6 s2 ok txn 5\n\
+7 s2 waiting t 63 by 4\n\
+8 s3 ok\n\
+9 s1 ok\n\
+7 s2 ok\n\
+10 s2 ok\n\
+end commits 5 databases 1 records 4\n",
+    ),
+    (
+        b"s1 create t plain\n\
+s1 begin rr sync wait\n\
+s1 put t 61 31\n\
+s2 begin rr sync wait\n\
+s2 put t 61 32\n",
+        "1 s1 ok\n\
+2 s1 ok txn 2\n\
+3 s1 ok\n\
+4 s2 ok txn 3\n\
+5 s2 waiting t 61 by 2\n\
+5 s2 ok\n\
+end commits 1 databases 1 records 0\n",
+    ),
+    (
+        b"s1 create t plain\n\
+s2 begin rr sync wait\n\
+s2 put t 61 31\n\
+s1 begin rr sync wait\n\
+s1 put t 61 32\n",
+        "1 s1 ok\n\
+2 s2 ok txn 2\n\
+3 s2 ok\n\
+4 s1 ok txn 3\n\
+5 s1 waiting t 61 by 2\n\
+end commits 1 databases 1 records 0\n",
+    ),
+];
+
+#[test]
+fn waiting_sessions(rt: HostRuntime) -> Result<(), Fail> {
+    for &(script, text) in &WAITS {
+        assert_writes(&rt, rt.alloc(), script, text)?;
+    }
+    Ok(())
+}
+
+// Of two refusals that both apply the earlier one is answered: a session that waits, a victim, a call inside or outside
+// a transaction, a database that is not there or whose name is taken or that is in use, a lock that is not available, a
+// record that is there or is not.
+static REFUSALS: [(&[u8], &str); 2] = [
+    (
+        b"s1 create t plain\n\
+s1 commit\n\
+s1 abort\n\
+s1 begin rr sync wait\n\
+s1 begin rr sync wait\n\
+s1 create t plain\n\
+s1 remove u\n\
+s1 rename u t\n\
+s1 truncate u\n\
+s1 get u 61\n\
+s1 put t 61 31\n\
+s2 remove t\n\
+s2 rename t t\n\
+s2 truncate u\n\
+s2 truncate t\n\
+s2 get t 61\n\
+s2 get u 61\n\
+s2 begin rr sync wait\n\
+s2 commit\n\
+s3 begin rr sync nowait\n\
+s3 putno t 61 33\n\
+s1 commit\n\
+s3 putno t 61 33\n\
+s3 delete t 62\n\
+s3 commit\n",
+        "1 s1 ok\n\
+2 s1 notxn\n\
+3 s1 notxn\n\
+4 s1 ok txn 2\n\
+5 s1 intxn 2\n\
+6 s1 intxn 2\n\
+7 s1 intxn 2\n\
+8 s1 intxn 2\n\
+9 s1 intxn 2\n\
+10 s1 nodatabase\n\
+11 s1 ok\n\
+12 s2 inuse 2\n\
+13 s2 nametaken\n\
+14 s2 nodatabase\n\
+15 s2 inuse 2\n\
+16 s2 waiting t 61 by 2\n\
+17 s2 sessionwaits\n\
+18 s2 sessionwaits\n\
+19 s2 sessionwaits\n\
+20 s3 ok txn 8\n\
+21 s3 unavailable 2\n\
+22 s1 ok\n\
+16 s2 ok 61 31\n\
+23 s3 keyexist\n\
+24 s3 notfound\n\
+25 s3 ok\n\
+end commits 2 databases 1 records 1\n",
+    ),
+    (
+        b"s1 create t plain\n\
+s1 begin rr sync wait\n\
+s2 begin rr sync wait\n\
+s1 put t 61 31\n\
+s2 put t 62 32\n\
+s1 put t 62 33\n\
+s2 put t 61 34\n\
+s2 begin rr sync wait\n\
+s2 create u plain\n\
+s2 get u 61\n\
+s2 commit\n\
+s1 abort\n\
+s2 abort\n\
+s2 abort\n\
+s1 abort\n",
+        "1 s1 ok\n\
+2 s1 ok txn 2\n\
+3 s2 ok txn 3\n\
+4 s1 ok\n\
+5 s2 ok\n\
+6 s1 waiting t 62 by 3\n\
+7 s2 deadlock 2 3\n\
+8 s2 mustabort 2 3\n\
+9 s2 mustabort 2 3\n\
+10 s2 mustabort 2 3\n\
+11 s2 mustabort 2 3\n\
+12 s1 sessionwaits\n\
+13 s2 ok\n\
+6 s1 ok\n\
+14 s2 notxn\n\
+15 s1 ok\n\
+end commits 1 databases 1 records 0\n",
+    ),
+];
+
+#[test]
+fn refusals_in_order(rt: HostRuntime) -> Result<(), Fail> {
+    for &(script, text) in &REFUSALS {
+        assert_writes(&rt, rt.alloc(), script, text)?;
+    }
+    Ok(())
+}
+
+// What is not committed yet: read uncommitted sees it, read committed finds its lock not available; and commits that
+// wait for nothing, of which the one without changes is not counted.
+static LEVELS: [(&[u8], &str); 2] = [
+    (
+        b"s1 create t plain\n\
+s1 begin rr sync wait\n\
+s1 put t 61 31\n\
+s2 begin ru sync nowait\n\
+s2 get t 61\n\
+s3 begin rc sync nowait\n\
+s3 get t 61\n\
+s1 abort\n\
+s2 get t 61\n\
+s3 get t 61\n",
+        "1 s1 ok\n\
+2 s1 ok txn 2\n\
+3 s1 ok\n\
+4 s2 ok txn 3\n\
+5 s2 ok 61 31\n\
+6 s3 ok txn 4\n\
+7 s3 unavailable 2\n\
+8 s1 ok\n\
+9 s2 notfound\n\
+10 s3 notfound\n\
+end commits 1 databases 1 records 0\n",
+    ),
+    (
+        b"s1 create t plain\n\
+s1 begin rc nosync wait\n\
+s1 put t 61 31\n\
+s1 commit\n\
+s1 begin rc nosync wait\n\
+s1 get t 61\n\
+s1 commit\n",
+        "1 s1 ok\n\
+2 s1 ok txn 2\n\
+3 s1 ok\n\
+4 s1 ok\n\
+5 s1 ok txn 3\n\
+6 s1 ok 61 31\n\
+7 s1 ok\n\
+end commits 2 databases 1 records 1\n",
+    ),
+];
+
+#[test]
+fn levels_and_commits(rt: HostRuntime) -> Result<(), Fail> {
+    for &(script, text) in &LEVELS {
+        assert_writes(&rt, rt.alloc(), script, text)?;
+    }
+    Ok(())
+}
+
+// A transaction whose commit is written out and not synced. It leaves the log that a call of its own leaves.
+pub const WRITTEN: &[u8] =
+    b"s1 create t plain\ns1 begin rr wsync wait\ns1 put t 61 31\ns1 commit\n";
+
+const WRITTEN_TEXT: &str =
+    "1 s1 ok\n2 s1 ok txn 2\n3 s1 ok\n4 s1 ok\nend commits 2 databases 1 records 1\n";
+
+// How long the log is behind the database's commit.
+const CREATED_LEN: usize = 84;
+
+#[test]
+fn written_commit(rt: HostRuntime) -> Result<(), Fail> {
+    let alloc = rt.alloc();
+    let disk = MemDisk::new(alloc);
+    assert_leaves(
+        &rt,
+        alloc,
+        disk,
+        WRITTEN,
+        0,
+        WRITTEN_TEXT,
+        &[(0, FIRST_LOG)],
+    )?;
+    Ok(())
+}
+
+// Zeros where its entries were to be written: they are cut off, and there is no record.
+#[test]
+fn zeros_behind_a_commit(rt: HostRuntime) -> Result<(), Fail> {
+    let alloc = rt.alloc();
+    let mut image = Vec::from_slice(alloc, &FIRST_LOG[..CREATED_LEN])?;
+    image.resize(FIRST_LOG.len(), 0)?;
+    let text = "1 s1 notfound\nend commits 0 databases 1 records 0\n";
+    let left = &FIRST_LOG[..CREATED_LEN];
+    assert_leaves(
+        &rt,
+        alloc,
+        disk_with(alloc, &[(0, &image)])?,
+        b"s1 get t 61\n",
+        0,
+        text,
+        &[(0, left)],
+    )?;
+    Ok(())
+}
+
+// A transaction waits while another one's commit meets a fault of the disk: it is answered at once.
+const FAILING: &[u8] = b"s1 create t plain\n\
+s1 begin rr sync wait\n\
+s1 put t 61 31\n\
+s2 put t 61 32\n\
+s1 commit\n\
+s1 get t 61\n";
+
+const FAILING_TEXT: &str = "1 s1 ok\n\
+2 s1 ok txn 2\n\
+3 s1 ok\n\
+4 s2 waiting t 61 by 2\n\
+5 s1 diskfault\n\
+4 s2 invalid\n\
+6 s1 invalid\n\
+end commits 2 databases 1 records 1\n\
+fault disk\n";
+
+// Whether the script writes that with this call of the disk failing.
+fn fails_at(alloc: Global, call: u64) -> Result<bool, AllocError> {
+    let mut disk = MemDisk::new(alloc);
+    disk.fail_calls(alloc, &[call])?;
+    let ran = run_args(alloc, &RUN, disk, FAILING)?;
+    Ok(ran.status == 4 && ran.text() == FAILING_TEXT)
+}
+
+#[test]
+fn waits_as_the_disk_fails(rt: HostRuntime) -> Result<(), Fail> {
+    let mut found = false;
+    for call in 1..40u64 {
+        found = found || fails_at(rt.alloc(), call)?;
+    }
+    assert!(rt; found);
+    Ok(())
+}
