@@ -40,3 +40,5 @@ pub mod Read
 pub mod Newest
 -- The trees of all databases where one of them took the place of another one.
 pub mod Forests
+-- The LSNs of each name's changes while the log grows.
+pub mod Latest

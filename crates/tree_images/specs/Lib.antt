@@ -7,3 +7,4 @@ pub mod PlaceLaws
 pub mod LogLaws
 pub mod ReadLaws
 pub mod NewestLaws
+pub mod Forest
