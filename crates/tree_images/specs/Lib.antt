@@ -8,3 +8,4 @@ pub mod LogLaws
 pub mod ReadLaws
 pub mod NewestLaws
 pub mod Forest
+pub mod TreeSteps
