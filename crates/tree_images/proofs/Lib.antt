@@ -46,3 +46,5 @@ pub mod Latest
 pub mod ForestSteps
 -- One tree that fits its log, and its cells' changes, while a cell is set.
 pub mod ForestWrites
+-- A tree that fits its log, where a name got its slot: its images are due.
+pub mod ForestPlaces

@@ -2,8 +2,9 @@ use Rattle.std.proofs.Common.{◌∙◌, sym}
 use Rattle.db_tree.proofs.Ending.{ok_then}
 use Rattle.in_tree.specs.Placing.{count_images}
 use Rattle.in_tree.specs.Waits.{waits_in}
-use Rattle.in_tree.proofs.Checked.{tried_before, grew_since}
-use Rattle.in_tree.proofs.log_trees.LogTreesRecords.write_all.Goals as goal
+use Rattle.in_tree.proofs.Checked.{tried_before}
+use Rattle.in_tree.proofs.TreesGrown.{changes_grow}
+use Rattle.in_tree.proofs.logged_trees.LogTreesRecords.write_all.Goals as goal
 
 pub returns-then-has_failed-clause-tried : goal.returns-then-has_failed-clause-tried
 returns-then-has_failed-clause-tried g c = λ is. tried_before g.D.Disk.observable g.D.Disk.history g.D.Disk.sync_out g.D.Disk.read_out g.D.Disk.read_of g.D.Disk.faults c.args.txn c.args.changes.now c.args.self.now.log (sym c.has_failed.ensures ∙ c.if-has_failed.true)
@@ -11,7 +12,7 @@ returns-then-has_failed-clause-tried g c = λ is. tried_before g.D.Disk.observab
 pub returns-in-Ok-prepare-clause-grew : goal.returns-in-Ok-prepare-clause-grew
 returns-in-Ok-prepare-clause-grew g c =
     ok_then c.write_each.result
-    (grew_since g.D.Disk.observable g.D.Disk.history g.D.Disk.sync_out g.D.Disk.read_out g.D.Disk.read_of g.D.Disk.faults c.args.txn c.args.changes.now c.args.self.now.log c.prepare.new.self.log c.write_each.new.log
+    (changes_grow g.D.Disk.observable g.D.Disk.history g.D.Disk.sync_out g.D.Disk.read_out g.D.Disk.read_of g.D.Disk.faults c.args.txn c.args.changes.now c.in-Ok-prepare.rooms.items c.args.owed _ c.prepare.new.self c.write_each.new.log c.write_each.new.trees
     (count_images c.in-Ok-prepare.rooms.items) (waits_in c.args.self.now.trees.forest) (waits_in c.prepare.new.self.trees.forest) (waits_in c.write_each.new.trees)
-    c.prepare.ensures.log c.in-Ok-prepare.ensures.ready.few c.write_each.ensures.waits)
+    c.prepare.ensures.log c.requires.few c.in-Ok-prepare.ensures.ready c.in-Ok-prepare.ensures.ready.few c.write_each.ensures.waits)
     c.write_each.ensures.grew
