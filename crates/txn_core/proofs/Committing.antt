@@ -41,6 +41,17 @@ pub all_free : (txn : TxnId) (cells : AllCells) (changes : List TreeChange) → 
 all_free txn cells [] quiet = tt
 all_free txn cells (c ∷ changes) quiet = (subst (IsFreeFor txn) (sym (quiet c.db c.name)) tt, all_free txn cells changes quiet)
 
+-- behind a transaction's changes no other one has a change of their names
+pub written_free : (txn : TxnId) (changes left : List TreeChange) (old new : AllCells) → AreWritten txn changes old new → AllByRecursion (λ c. IsFreeFor txn (write_in (value_at c.name (old c.db)))) left →
+    AllByRecursion (λ n. IsFreeFor txn (write_in (value_at n.name (new n.db)))) (changed_names left)
+written_free txn changes [] old new written free = tt
+written_free txn changes (c ∷ left) old new written free =
+    (by_last (last_change c.db c.name changes) (written.writes c.db c.name), written_free txn changes left old new written free.1)
+  where
+    by_last : (o : Option TreeChange) → IsWritten o txn (write_in (value_at c.name (old c.db))) (write_in (value_at c.name (new c.db))) → IsFreeFor txn (write_in (value_at c.name (new c.db)))
+    by_last None same = subst (IsFreeFor txn) (sym same) free.0
+    by_last (Some last) is = subst (IsFreeFor txn) (sym is.1) refl
+
 value_kept : (v : Option (List ℕ)) → value_in (if_occupied (record { value = v; write = None })) ≡ v
 value_kept None = refl
 value_kept (Some value) = refl
