@@ -1,5 +1,5 @@
 -- Images that are due are logged, and changes behind them: the trees fit the longer log.
-use Rattle.std.proofs.Common.{◌≡◌, ◌≤◌, ◌<◌, ◌⊎◌, ◌==◌, ◌&&◌, ◌++◌, ℕ, Bool, true, false, cond, List, [], ◌∷◌, Option, None, Some, IsSome, refl, ap, ap₂, sym, subst, ◌∙◌, inl, inr, arith, is_eq}
+use Rattle.std.proofs.Common.{◌≡◌, ◌≤◌, ◌<◌, ◌⊎◌, ◌==◌, ◌&&◌, ◌++◌, ℕ, Bool, true, false, cond, List, [], ◌∷◌, Option, None, Some, IsSome, length, refl, ap, ap₂, sym, subst, ◌∙◌, inl, inr, arith, is_eq}
 use Rattle.std.specs.Prelude.{Box, IfSome}
 use Rattle.std.specs.Global.{Global}
 use Rattle.std.specs.List.{AllByRecursion}
@@ -48,7 +48,7 @@ use Rattle.tree_images.specs.Forest.{latest_at, latest_of, logged_at, AreLogged,
 use Rattle.tree_images.specs.LogLaws.{AreDue, IsNextLogged}
 use Rattle.tree_images.specs.TreeSteps.{HasWritten}
 use Rattle.tree_images.proofs.DueImages.{due_logged}
-use Rattle.tree_images.proofs.ForestSteps.{tree_stays, fits_stay, writes_stay, forest_step}
+use Rattle.tree_images.proofs.ForestSteps.{tree_stays, fits_stay, writes_stay, forest_here, forest_step}
 use Rattle.tree_images.proofs.ForestWrites.{written_fits, written_logged}
 use Rattle.tree_images.proofs.Latest.{latest_own, latest_behind}
 use Rattle.tree_images.proofs.Logged.{none_named}
@@ -105,6 +105,10 @@ due_here db images = cond-true (db == db) images [] (eq-eqb db db refl)
 pub due_there : (db : ℕ) (images : List NodeImage) (d : ℕ) → (d ≡ db → ⊥) → due_one db images d ≡ []
 due_there db images d away = cond-false (db == d) images [] (ne_eqb db d (λ same. away (sym same)))
 
+-- there is an entry
+pub some_entry : (e : Entry) → e ∷ [] ≡ [] → ⊥
+some_entry e none = absurd (omega (arith, ap length none))
+
 module _ {D : Type 0} (observable : Bool) (history : D → History) (sync_out read_out : D → Option ℕ) (read_of : D → ℕ) (faults : D → ℕ) where
   pub image_logged : (old new : LogBuffer D) (before after : DbTree) (image : NodeImage) (at : ℕ) → GrewFitting observable history sync_out read_out read_of faults old new ((finished before.levels image).entry ∷ []) →
       at ≡ pos_lsn (placed_at (file_max_of old) (end_of old) (size_of (finished before.levels image).entry)) → IsEntry (finished before.levels image).entry → HasNoted image at before after →
@@ -113,6 +117,7 @@ module _ {D : Type 0} (observable : Bool) (history : D → History) (sync_out re
     fitting = grew;
     fits = λ home last d rest log base has begun is. (let a = is_appended observable history sync_out read_out read_of faults old new (finished before.levels image).entry log base at grew at_is has begun in
         subst (λ (es : List Placed). FitsDue es base home last d after rest) (sym a.is) (image_noted (placed log) base home last d before after image rest at h a.behind entry is));
+    still = λ none. absurd (some_entry (finished before.levels image).entry none);
   }
 
   -- the same of the image as it was finished
@@ -132,9 +137,19 @@ module _ {D : Type 0} (observable : Bool) (history : D → History) (sync_out re
 
   pub room_logged : (old new : LogBuffer D) (before after : Forest) (db : ℕ) (tree next : DbTree) (images : List NodeImage) (entries : List Entry) → Some tree ≡ get nat_cmp before db → Replaces before after db (Some next) →
       next.cells ≡ tree.cells → GrewTree observable history sync_out read_out read_of faults old new tree next images [] entries → GrewSlot observable history sync_out read_out read_of faults old new before after db images entries
-  room_logged old new before after db tree next images entries was has cells grew due = record { fitting = grew.fitting; fits = λ last log base hl begun f. fits last log base hl begun f } where
+  room_logged old new before after db tree next images entries was has cells grew due = record { fitting = grew.fitting; fits = λ last log base hl begun f. fits last log base hl begun f; still = λ none es base last f. still none es base last f } where
     more : List Placed
     more = placed_by (file_max_of old) (end_of old) entries
+
+    still : entries ≡ [] → (es : List Placed) (base last : ℕ) → ForestDue es base last (trees_at before) (λ d. due_one db images d ++ due d) → ForestDue es base last (trees_at after) due
+    still none es base last f =
+        (forest_here es base last last db (trees_at before) (trees_at after) (λ d. due_one db images d ++ due d) due f.home f (λ number within. refl) (le_refl last)
+        (λ d away. others_away before after db (Some next) has d away) (λ d away. sym (ap (λ (l : List NodeImage). l ++ due d) (due_there db images d away)))
+        (λ t there. subst (λ (u : DbTree). FitsDue es base f.home last db u (due db)) (is_next before after db next t has there)
+        (grew.still none es base f.home last db (due db)
+        (subst (λ (l : List NodeImage). FitsDue es base f.home last db tree (l ++ due db)) (due_here db images) (f.fits db tree (sym was)))))
+        (λ t there. subst (λ (u : DbTree). AreLogged es base db u.cells) (is_next before after db next t has there)
+        (subst (λ (l : List (Name × Cell)). AreLogged es base db l) (sym cells) (f.writes db tree (sym was))))).0
 
     fits : (last : ℕ) (log : Log) (base : ℕ) → HasLog observable (now (history (disk_of old))) old log → base ≤ pos_lsn (end_of old) → ForestDue (placed log) base last (trees_at before) (λ d. due_one db images d ++ due d) →
         ForestDue (placed (longer old entries log)) base last (trees_at after) due
@@ -183,7 +198,7 @@ module _ {D : Type 0} (observable : Bool) (history : D → History) (sync_out re
       GrewFitting observable history sync_out read_out read_of faults old new (entry_for txn db name value ∷ []) → at ≡ pos_lsn (placed_at (file_max_of old) (end_of old) (size_of (entry_for txn db name value))) →
       IsStepIn db (HasWritten name write) before after → write.value ≡ record { txn = txn; at = at; value = value } → (due : ℕ → List NodeImage) →
       GrewForest observable history sync_out read_out read_of faults old new before after due due (entry_for txn db name value ∷ [])
-  change_written old new before after txn db name value write at grew at_is s write_is due = record { fitting = grew; fits = λ last log base hl begun f. fits last log base hl begun f } where
+  change_written old new before after txn db name value write at grew at_is s write_is due = record { fitting = grew; fits = λ last log base hl begun f. fits last log base hl begun f; still = λ none. absurd (some_entry (entry_for txn db name value) none) } where
     entry : Entry
     entry = entry_for txn db name value
 

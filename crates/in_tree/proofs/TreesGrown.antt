@@ -52,7 +52,7 @@ use Rattle.in_tree.specs.Observed.{trees_of, last_node_of}
 use Rattle.in_tree.specs.Placing.{due_of}
 use Rattle.in_tree.specs.Ready.{IsReady}
 use Rattle.in_tree.proofs.Appending.{is_appended}
-use Rattle.in_tree.proofs.DueLogging.{is_next}
+use Rattle.in_tree.proofs.DueLogging.{is_next, some_entry}
 use Rattle.in_tree.proofs.Forests.{others_away, replaced}
 use Rattle.in_tree.proofs.Preparation.{same_test}
 
@@ -176,6 +176,7 @@ module _ {D : Type 0} (observable : Bool) (history : D → History) (sync_out re
   trees_stay old new last later before after same trees last_is = record {
     fitting = fitting_unchanged observable history sync_out read_out read_of faults old new same;
     fits = λ log base has begun f. subst (λ (n : ℕ). ForestFits (placed log) base n (trees_at after)) (sym last_is) (forest_same (placed log) base last (trees_at before) (trees_at after) none_due trees f);
+    still = λ none es base f. subst (λ (n : ℕ). ForestFits es base n (trees_at after)) (sym last_is) (forest_same es base last (trees_at before) (trees_at after) none_due trees f);
   }
 
   -- changes were made ready, and logged
@@ -191,6 +192,7 @@ module _ {D : Type 0} (observable : Bool) (history : D → History) (sync_out re
       fitting = fitting_then observable history sync_out read_out read_of faults old.log mid.log new [] grew.0 kept grew.2.fitting;
       fits = carries_then observable history sync_out read_out read_of faults old.log mid.log [] grew.0 (IsForestDue (last_node_of old) old.trees.forest none_due) (IsForestDue (last_node_of mid) mid.trees.forest (due_of changes rooms))
           (IsForestDue (last_node_of mid) forest none_due) kept (λ log base has begun f. ready.fits (placed log) base new_few f) (grew.2.fits (last_node_of mid));
+      still = λ none es base f. grew.2.still none es base (last_node_of mid) (ready.fits es base new_few f);
     },
     (let count = grew.3 in omega (arith, few, less, count)),
   )
@@ -208,6 +210,7 @@ module _ {D : Type 0} (observable : Bool) (history : D → History) (sync_out re
         subst (λ (es : List Placed). ForestFits es base last (trees_at after)) (sym a.is)
         (commits_fit (placed log ++ (at, Commit t) ∷ []) base last at t names before after steps free (λ d x. commit_latest (placed log) base at t d x a.begun)
         (forest_stays (placed log) ((at, Commit t) ∷ []) base last last (trees_at before) (trees_at before) none_due (le_refl last) (λ d. refl) f)));
+    still = λ none. absurd (some_entry (Commit t) none);
   }
 
   -- names were given up
@@ -216,6 +219,7 @@ module _ {D : Type 0} (observable : Bool) (history : D → History) (sync_out re
   abort_grows names log last before after steps = record {
     fitting = fitting_none observable history sync_out read_out read_of faults log;
     fits = λ l base has begun f. aborts_fit (placed l) base last names before after steps f;
+    still = λ none es base f. aborts_fit es base last names before after steps f;
   }
 
   -- a tree was taken out
@@ -224,4 +228,5 @@ module _ {D : Type 0} (observable : Bool) (history : D → History) (sync_out re
   drop_grows db log last before after gone = record {
     fitting = fitting_none observable history sync_out read_out read_of faults log;
     fits = λ l base has begun f. drop_fits (placed l) base last db before after gone f;
+    still = λ none es base f. drop_fits es base last db before after gone f;
   }

@@ -212,7 +212,7 @@ module _ {D : Type 0} (observable : Bool) (history : D → History) (sync_out re
       images_more so_far.done.0 (logs.0 ∷ []) so_far.done.1 (logs.1, tt),
       (let count = length_more so_far.done.0 (logs.0 ∷ []) in omega (arith, count, so_far.done.2)),
       grew_tree_then observable history sync_out read_out read_of faults old log new before tree after images (i ∷ left) left so_far.done.0 (logs.0 ∷ []) so_far.done.3
-          (record { fitting = logs.2.fitting; fits = λ home last d rest. logs.2.fits home last d (left ++ rest) }),
+          (record { fitting = logs.2.fitting; fits = λ home last d rest. logs.2.fits home last d (left ++ rest); still = λ none es base home last d rest. logs.2.still none es base home last d (left ++ rest) }),
     );
     cells = cells ∙ so_far.cells;
     waits = le_trans waits so_far.waits;
