@@ -274,8 +274,8 @@ module _ {D : Type 0} (observable : Bool) (history : D → History) (sync_out re
         (λ limit. IsLogged (log_limit limit) (cond a.is_auto (Logged (st.commits + 1)) ev.answer) DiskFault × (◌≡◌ {A = List Victim} [] [])) (faulted st) DiskFault
     ends_unsettled s here w h stands owes =
         subst (λ (is : Bool).
-          HasStepped observable history sync_out read_out read_of most before (in_sessions s new) (owing_with (Some a) st) all_ (changes_closed is all_)
-          (λ limit. IsLogged (log_limit limit) (cond is (Logged (st.commits + 1)) ev.answer) DiskFault × (◌≡◌ {A = List Victim} [] [])) (faulted st) DiskFault) (sym auto) (record {
+        HasStepped observable history sync_out read_out read_of most before (in_sessions s new) (owing_with (Some a) st) all_ (changes_closed is all_)
+        (λ limit. IsLogged (log_limit limit) (cond is (Logged (st.commits + 1)) ev.answer) DiskFault × (◌≡◌ {A = List Victim} [] [])) (faulted st) DiskFault) (sym auto) (record {
           limit = None;
           has_limit = subst (λ (owed : ℕ). HasLimit before owed all_ None) owes w.2;
           answers = (inr refl, refl);

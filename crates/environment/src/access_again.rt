@@ -59,10 +59,12 @@ impl<D: Disk> Environment<D> {
             Ok(Taken::Ready) => {
                 self.finish_again(alloc, session, txn, level, found.number, answer, changes)
             }
-            Ok(Taken::Stopped {
-                answer: stop,
-                victims,
-            }) => {
+            Ok(
+                Taken::Stopped {
+                    answer: stop,
+                    victims,
+                },
+            ) => {
                 drop(answer);
                 drop(changes);
                 Ok(Outcome {

@@ -28,7 +28,11 @@ use std::collections::BTreeMap;
 use store_model::{Answer, Durability, Fault, RecordChange};
 
 // Commits what a transaction wrote.
-pub(crate) fn commit_taken<T: Records>(trees: &mut T, txn: TxnId, taken: Option<OwnNames>) -> Result<(), TreeErr>
+pub(crate) fn commit_taken<T: Records>(
+    trees: &mut T,
+    txn: TxnId,
+    taken: Option<OwnNames>,
+) -> Result<(), TreeErr>
     requires { (owed : ℕ) × T.has_room trees.old (suc owed) }
     ensures cells { OnOk result (HasChangedAll (T.cells trees.old) (T.cells trees.new) (option_map_or (λ o. o.names.items) taken []) after_commit) }
     ensures grew { OnOk result (T.grew trees.old trees.new (Committed txn ∷ [])) }

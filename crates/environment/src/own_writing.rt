@@ -101,13 +101,7 @@ pub(crate) fn undo_own(sessions: &mut Sessions, txn: TxnId, len: usize)
 }
 
 // Ends a call in the sessions, by what became of its changes.
-fn end_own(
-    sessions: &mut Sessions,
-    txn: TxnId,
-    level: Isolation,
-    len: usize,
-    wrote: Wrote,
-)
+fn end_own(sessions: &mut Sessions, txn: TxnId, level: Isolation, len: usize, wrote: Wrote)
     requires { (a : Transaction) × (needs : Lists Need) × (more : Lists (ℕ × Changed)) × (st : Standing) × (a.txn ≡ txn) × (a.level ≡ level) × HasPushed sessions.old a needs txn.0 more len st }
     ensures { (a : Transaction) (needs : Lists Need) (more : Lists (ℕ × Changed)) (st : Standing) → a.txn ≡ txn → a.level ≡ level → HasPushed sessions.old a needs txn.0 more len st → AreEndedBy wrote sessions.new a needs more st }
 {

@@ -23,8 +23,18 @@ end_again-requires g c =
     let r = c.requires.taken in
     let up = subst (IsTakenUp g.D.Disk.observable g.D.Disk.history r.1 r.0 c.args.self.now r.2 c.args.session r.3 r.4 r.5 r.6 r.7 r.8) (sym c.as_slice-2.ensures) r.9 in
     let pushed = c.in-Ok.ensures.writes r.0 r.1 c.args.session r.2 r.3 r.4 r.5 r.6 r.7 r.8 up r.10 r.12 in
-    record { written = (r.0, r.1, r.2, r.3, r.4, r.7, written_again g.D.Disk.observable g.D.Disk.history g.D.Disk.sync_out g.D.Disk.read_out g.D.Disk.read_of g.D.Disk.faults r.1 r.0 c.args.self.now c.push_and_log-pushed.new.self r.2 c.args.session c.args.txn c.args.level r.3 r.4 r.5 r.6 r.7 r.8 c.as_slice-2.result.now c.in-Some.all c.in-Ok.wrote up
-    (subst (λ (l : List RecordChange). l ≢ []) (sym c.as_slice-2.ensures) c.requires.some) r.10 r.11 r.13 r.14 pushed (c.in-Some.ensures.counted ∙ ap (λ (n : ℕ). c.args.self.now.engine.kept.totals.records + n) (c.count_sets-set.ensures ∙ ap (count_by is_set) (c.as_slice.ensures ∙ sym c.as_slice-2.ensures))) c.in-Some.ensures.fits c.in-Some.ensures.next) }
+    record {
+      written = (
+        r.0,
+        r.1,
+        r.2,
+        r.3,
+        r.4,
+        r.7,
+        written_again g.D.Disk.observable g.D.Disk.history g.D.Disk.sync_out g.D.Disk.read_out g.D.Disk.read_of g.D.Disk.faults r.1 r.0 c.args.self.now c.push_and_log-pushed.new.self r.2 c.args.session c.args.txn c.args.level r.3 r.4 r.5 r.6 r.7 r.8 c.as_slice-2.result.now c.in-Some.all c.in-Ok.wrote up
+            (subst (λ (l : List RecordChange). l ≢ []) (sym c.as_slice-2.ensures) c.requires.some) r.10 r.11 r.13 r.14 pushed (c.in-Some.ensures.counted ∙ ap (λ (n : ℕ). c.args.self.now.engine.kept.totals.records + n) (c.count_sets-set.ensures ∙ ap (count_by is_set) (c.as_slice.ensures ∙ sym c.as_slice-2.ensures))) c.in-Some.ensures.fits c.in-Some.ensures.next,
+      );
+    }
 
 pub undo_own-requires : goal.undo_own-requires
 undo_own-requires g c =
