@@ -1,5 +1,5 @@
 -- A call on records that is refused late, or goes on.
-use Rattle.std.proofs.Common.{◌≡◌, ◌∙◌, ℕ, Bool, true, false, Ok, ap, sym, arith, true≢false}
+use Rattle.std.proofs.Common.{◌≡◌, ◌∙◌, ℕ, Bool, true, Ok, ap, sym, arith, true≢false}
 use Rattle.store_model.specs.declared.answer.Answer.{Answer}
 use Rattle.je_answers.specs.Journal.{is_disk_fault}
 use Rattle.engine.proofs.CalmAnswers.{IsCalm, faultless}

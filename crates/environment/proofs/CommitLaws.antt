@@ -68,7 +68,6 @@ use Rattle.engine.specs.Environment.{RecoversStore}
 use Rattle.engine.specs.Limits.{IsWithin}
 use Rattle.engine.specs.Steps.{IsNumbered}
 use Rattle.engine.proofs.GuardedEvents.{commit_recovered_in, tried_commit_recovered_in}
-use Rattle.engine.proofs.TxnGives.{failed}
 use Rattle.environment.specs.declared.environment.Environment.{Environment}
 use Rattle.environment.specs.Committing.{HasNotSettled, HasSettled, is_set}
 use Rattle.environment.specs.Ending.{HasAbandoned}

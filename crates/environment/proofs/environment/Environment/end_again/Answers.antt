@@ -1,7 +1,6 @@
 use Rattle.std.proofs.Common.{refl, subst}
 use Rattle.je_answers.specs.Views.{needs_in}
-use Rattle.environment.specs.declared.wrote.Wrote.{Wrote}
-use Rattle.environment.specs.declared.wrote.Wrote.TheVariants.{Done, Full, NoNumbers, Failed}
+use Rattle.environment.specs.declared.wrote.Wrote.TheVariants.{Full, NoNumbers, Failed}
 use Rattle.environment.specs.Again.{HasWrittenAgain}
 use Rattle.environment.proofs.AgainEnds.{failed_again, full_again, numbers_again, pushed_again}
 use Rattle.environment.proofs.environment.Environment.end_again.Goals as goal
