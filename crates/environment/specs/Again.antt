@@ -17,7 +17,8 @@ use Rattle.environment.specs.Committing.{is_set}
 use Rattle.environment.specs.OwnEnds.{HasPushedAndLogged}
 
 module _ {D : Type 0} (observable : Bool) (history : D → History) (sync_out read_out : D → Option ℕ) (read_of : D → ℕ) where
-  -- its changes are its transaction's own, and came to this; with them there were so many records, and a commit more has a number
+  -- Its changes are its transaction's own, and logging them came to this. `all` counts the records, and each change that sets one as one more; another
+  -- commit has a number.
   pub record HasWrittenAgain (most : ℕ) (before now : Environment D) (st : Standing) (session : ℕ) (txn : TxnId) (level : Isolation) (a : Active) (call : Call) (g : Target) (all : ℕ) (wrote : Wrote) : Type 0 where
     pub old : Environment D
     pub db : List ℕ
