@@ -105,6 +105,13 @@ impl<D: Disk> Environment<D> {
         self.sessions.of_session(session).is_some()
     }
 
+    /// Why the environment is invalid, if it is.
+    pub fn fault(&self) -> Option<Fault>
+        ensures { (most : ℕ) (st : Standing) → IsAt most D.observable (now (D.history (disk_of self.now))) self.now st → result ≡ st.fault }
+    {
+        self.engine.kept.fault
+    }
+
     /// Begins a sync of the commits so far: the log is written out, and the job is to be run. None where
     /// the disk failed. It takes no memory.
     pub fn sync_begin(&mut self) -> Option<D::Job>
