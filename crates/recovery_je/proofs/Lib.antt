@@ -18,6 +18,8 @@ pub mod AnswerLaws
 pub mod LookupLaws
 -- Files that are missing from one on.
 pub mod FileGaps
+-- Nodes that are put while trees are read.
+pub mod PutLaws
 -- Reading trees.
 pub mod WalkLaws
 -- Reading the tree below an image.

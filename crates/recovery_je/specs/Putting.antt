@@ -1,5 +1,5 @@
 -- Nodes that are put while trees are read, and what the trees fit while a log is read again.
-use Rattle.std.specs.Prelude.{◌≡◌, ◌≤◌, ◌<◌, ℕ, zero, suc, Bool, true, false, List, Option, None, Some, not, ◌==◌}
+use Rattle.std.specs.Prelude.{◌≡◌, ◌≤◌, ◌<◌, ℕ, zero, suc, Bool, true, false, List, [], ◌∷◌, Option, None, Some, not, ◌==◌}
 use Rattle.std.specs.List.{AllByRecursion, flat_map, list_all}
 use Rattle.std.specs.Map.{lookup}
 use Rattle.je_order.specs.declared.name.Name.{Name}
@@ -27,15 +27,18 @@ are_whole es = list_all (λ p. not (is_delta p.1)) es
 pub record HasPut {T : Type 0} (nodes : T → AllNodes) (put : Bool → ℕ → AllNodes → AllNodes → Type 0) (old new : Walking T) : Type 0 where
   pub same : new.keeps ≡ old.keeps
   pub rises : old.node ≤ new.node
-  pub put : (most : ℕ) → new.node ≤ most → put old.keeps most (nodes old.trees) (nodes new.trees)
+  pub puts : (most : ℕ) → new.node ≤ most → put old.keeps most (nodes old.trees) (nodes new.trees)
 
 -- no node was put
 abbrev pub none_put : Bool → ℕ → AllNodes → AllNodes → Type 0
 none_put keeps most old new = AreNodesStill old new
 
--- the nodes of the trees of an IN's children were put
+-- the nodes of the tree of an IN's child were put, and those of the trees of children
+abbrev pub child_put : List Placed → ℕ → ℕ → Bool → ℕ → Child → AllNodes → AllNodes → Type 0
+child_put es d above keeps most c old new = ArePutBelow es keeps most d above c.low c.high c.at old new
+
 abbrev pub children_put : List Placed → ℕ → ℕ → List Child → Bool → ℕ → AllNodes → AllNodes → Type 0
-children_put es d above cs keeps most old new = ArePutEach (λ (c : Child). ArePutBelow es keeps most d above c.low c.high c.at) cs old new
+children_put es d above cs keeps most old new = ArePutEach (child_put es d above keeps most) cs old new
 
 -- what stands below a node was put: records alone, or its children's trees
 abbrev pub below_put : List Placed → ℕ → ℕ → Name → Option Name → List Marked → Bool → ℕ → AllNodes → AllNodes → Type 0
@@ -57,6 +60,11 @@ pub record AreRootsPut (es : List Placed) (roots : List Root) (node : ℕ) (begu
 -- a change stands in a log whose LSNs are below a base
 abbrev pub IsLogged : List Placed → ℕ → LoggedChange → Type 0
 IsLogged es base c = (c.written.at < base) × IsLoggedAt es c.db c.name c.written.at c.written.value
+
+-- where the first of changes was logged, 0 where there is none
+abbrev pub first_lsn : List LoggedChange → ℕ
+first_lsn [] = 0
+first_lsn (c ∷ changes) = c.written.at
 
 -- an entry stands in a log at an LSN below a base
 abbrev pub IsIn : List Placed → ℕ → Placed → Type 0
