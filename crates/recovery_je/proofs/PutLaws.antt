@@ -1,17 +1,24 @@
 -- Nodes that are put while trees are read.
-use Rattle.std.proofs.Common.{◌≡◌, ◌≤◌, ◌+◌, ◌-◌, ℕ, zero, suc, Bool, Some, Result, Ok, Err, OnOk, List, [], ◌∷◌, ◌++◌, Option, IsSome, refl, sym, subst, ◌∙◌, arith}
+use Rattle.std.proofs.Common.{◌≡◌, ◌<◌, ◌≤◌, ◌+◌, ◌-◌, length, drop, get_or, ℕ, zero, suc, Bool, Some, Result, Ok, Err, OnOk, true, false, not, None, ap, List, [], ◌∷◌, ◌++◌, Option, IsSome, refl, sym, subst, ◌∙◌, arith}
 use mathlib.Core.Path.{fun_ext}
-use Rattle.std.specs.List.{flat_map}
+use Rattle.std.proofs.lemmas.Bool.{and_parts, not-true}
+use Rattle.std.proofs.lemmas.List.{drop_more}
+use Rattle.std.specs.List.{AllByRecursion, flat_map}
 use Rattle.je_order.specs.declared.name.Name.{Name}
 use Rattle.node_core.specs.declared.node.Node.{Node}
 use Rattle.node_core.specs.declared.slot.Marked.{Marked}
 use Rattle.record_tree.specs.LoadedNodes.{AllNodes, node_read, HasPutNode, AreNodesStill}
 use Rattle.log_trees.specs.Placed.{Placed}
-use Rattle.log_trees.specs.Sound.{Child, children}
-use Rattle.log_trees.specs.Images.{slot_shown, node_at}
-use Rattle.log_meaning.specs.ReadNodes.{ArePutEach, ArePutBelow, IsNodePut}
+use Rattle.log_replay.specs.declared.corruption.Corruption.{Corruption}
+use Rattle.log_entry.specs.declared.root.Root.{Root}
+use Rattle.log_trees.proofs.Right.{read_image-is}
+use Rattle.log_trees.specs.Walk.{read_image}
+use Rattle.log_trees.specs.Sound.{Child, children, least_name}
+use Rattle.log_trees.specs.Images.{slot_shown, node_at, level_of, level_at}
+use Rattle.log_meaning.specs.ReadNodes.{is_delta, ArePutEach, ArePutBelow, IsNodePut, IsRootPut}
 use Rattle.recovery_je.specs.declared.walking.Walking.{Walking}
-use Rattle.recovery_je.specs.Putting.{HasPut, none_put, below_put}
+use Rattle.recovery_je.specs.Putting.{are_whole, HasPut, none_put, below_put, level_put}
+use Rattle.recovery_je.specs.Walking.{level_read}
 
 module _ {T : Type 0} (nodes : T → AllNodes) where
   -- nothing is put
@@ -153,3 +160,43 @@ module _ {T : Type 0} (nodes : T → AllNodes) where
       OnOk r (HasPut nodes (λ keeps most. ArePutEach (put keeps most) (x ∷ [])) a b)
   put_one put x a b (Err e) h = tt
   put_one put x a b (Ok v) h = put_so nodes (λ keeps most. put keeps most x) (λ keeps most. ArePutEach (put keeps most) (x ∷ [])) a b (λ keeps most. each_one (put keeps most) x) h
+
+-- ---- roots
+
+-- the level of the node that an image shows
+pub level_there : (files : List ℕ) (es : List Placed) (d at level : ℕ) → level_read (read_image files es d at) ≡ Ok level → level_at es at ≡ level
+level_there files es d at level is = by_image (read_image files es d at) refl is
+  where
+    by_image : (r : Result Node Corruption) → read_image files es d at ≡ r → level_read r ≡ Ok level → level_at es at ≡ level
+    by_image (Ok n) read h = ap level_of (read_image-is files es d at n read).0 ∙ same_level n.level level h
+      where
+        same_level : (a b : ℕ) → ◌≡◌ {A = Result ℕ Corruption} (Ok a) (Ok b) → a ≡ b
+        same_level a b e = cc
+    by_image (Err c) read h = absurd cc
+
+module _ {T : Type 0} (nodes : T → AllNodes) where
+  -- a tree whose topmost node is of a level
+  pub level_goes : {X Y : Type 0} (es : List Placed) (d level : ℕ) (low : Name) (at : ℕ) (a b : Walking T) (r : Result X Y) → (level ≡ 0 → ⊥) → low ≡ least_name →
+      OnOk r (HasPut nodes (λ keeps most. ArePutBelow es keeps most d (level - 1) low None at) a b) → OnOk r (HasPut nodes (level_put es d level at) a b)
+  level_goes es d level low at a b (Err e) some least h = tt
+  level_goes es d zero low at a b (Ok v) some least h = absurd (some refl)
+  level_goes es d (suc above) low at a b (Ok v) some least h =
+      let one : suc above - 1 ≡ above = omega arith in
+      put_so nodes (λ keeps most. ArePutBelow es keeps most d (suc above - 1) low None at) (level_put es d (suc above) at) a b
+      (λ keeps most x y p. (above, refl, subst (λ (n : Name). ArePutBelow es keeps most d above n None at x y) least (subst (λ (k : ℕ). ArePutBelow es keeps most d k low None at x y) one p))) h
+
+  pub root_goes : {X Y : Type 0} (files : List ℕ) (es : List Placed) (root : Root) (level : ℕ) (a b : Walking T) (r : Result X Y) → level_read (read_image files es root.db root.image) ≡ Ok level →
+      OnOk r (HasPut nodes (level_put es root.db level root.image) a b) → OnOk r (HasPut nodes (λ keeps most. IsRootPut es keeps most root) a b)
+  root_goes files es root level a b (Err e) is h = tt
+  root_goes files es root level a b (Ok v) is h =
+      put_so nodes (level_put es root.db level root.image) (λ keeps most. IsRootPut es keeps most root) a b
+      (λ keeps most x y p. (p.0, level_there files es root.db root.image level is ∙ p.1, p.2)) h
+
+-- no entry is a delta
+pub all_whole : (es : List Placed) → are_whole es ≡ true → AllByRecursion (λ p. is_delta p.1 ≡ false) es
+all_whole [] is = tt
+all_whole (p ∷ es) is = let both = and_parts (not (is_delta p.1)) (are_whole es) is in (not-true (is_delta p.1) both.0, all_whole es both.1)
+
+-- what is left of a list, with its next one in front
+pub next_left : {X : Type 0} (xs : List X) (i : ℕ) (x : X) → i < length xs → x ≡ get_or xs i x → drop i xs ≡ (x ∷ []) ++ drop (i + 1) xs
+next_left {X} xs i x within is = drop_more xs i x within ∙ ap (λ (y : X). y ∷ drop (i + 1) xs) (sym is)

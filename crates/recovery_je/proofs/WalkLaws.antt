@@ -91,6 +91,10 @@ one_goes_on f x walk P (Ok v) is = (is.0, ap (λ (s : Result Walk Corruption). a
 one_goes_on f x walk P (Err Memory) is = tt
 one_goes_on f x walk P (Err (Found c)) is = ap (λ (s : Result Walk Corruption). and_then s (each f [])) is
 
+-- a reading of one with no corruption
+pub one_is : {A : Type 0} (f : A → Walk → Result Walk Corruption) (x : A) (walk : Walk) (P : Walk → Type 0) → (w : Walk) × (f x walk ≡ Ok w) × P w → (w : Walk) × (each f (x ∷ []) walk ≡ Ok w) × P w
+one_is f x walk P is = (is.0, ap (λ (s : Result Walk Corruption). and_then s (each f [])) is.1, is.2)
+
 -- some were read, and these are left
 pub record IsWalkingOn {A : Type 0} (f : A → Walk → Result Walk Corruption) (all left : List A) (P : Walk → Type 0) (walk : Walk) : Type 0 where
   pub here : Walk
