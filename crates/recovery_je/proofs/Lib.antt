@@ -4,6 +4,8 @@ pub mod FilesRead
 pub mod WaitingLaws
 -- Records while a log is read again.
 pub mod RedoingLaws
+-- What trees fit while a log is read again.
+pub mod FitLaws
 -- The greatest numbers in the entries of a log.
 pub mod NumberLaws
 -- Records without their LSNs, and which of them is wrong.
