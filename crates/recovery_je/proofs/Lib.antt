@@ -26,5 +26,7 @@ pub mod PutLaws
 pub mod WalkLaws
 -- Reading the tree below an image.
 pub mod NodeWalks
+-- Trees that were read from a checkpoint's roots, and a redo over them.
+pub mod ReadAgain
 -- Reading the trees of a checkpoint's roots.
 pub mod RootWalks
