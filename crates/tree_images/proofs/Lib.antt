@@ -46,3 +46,5 @@ pub mod Latest
 pub mod ForestSteps
 -- One tree that fits its log, and its cells' changes, while a cell is set.
 pub mod ForestWrites
+-- The nodes of trees that were read: each image's node stands alone within its bounds.
+pub mod ReadNodes
