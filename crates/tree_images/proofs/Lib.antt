@@ -48,3 +48,5 @@ pub mod ForestSteps
 pub mod ForestWrites
 -- The nodes of trees that were read: each image's node stands alone within its bounds.
 pub mod ReadNodes
+-- The images that trees were read from, in a log without deltas: entries of BINs and of INs, which are sound.
+pub mod ReadImages
