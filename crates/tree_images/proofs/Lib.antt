@@ -50,3 +50,7 @@ pub mod ForestWrites
 pub mod ReadNodes
 -- The images that trees were read from, in a log without deltas: entries of BINs and of INs, which are sound.
 pub mod ReadImages
+-- A tree whose nodes are those that the images below its root show fits the log.
+pub mod ReadTrees
+-- The records of a tree that was read: they stand where the images below its root show them.
+pub mod ReadRecords

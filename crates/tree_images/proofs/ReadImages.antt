@@ -186,3 +186,9 @@ module _ (es : Placed) (keeps : Bool) (most : ℕ) (home : ℕ → Home) (last d
             (both_all (λ (c : Child). (c.at < at) × IsTreeAt es (at_home home d) d k c.low c.high c.at) (λ c. ShowsNodes es keeps most nodes k c.low c.high c.at) (children low high (slots_shown tree.node)) tree.right
             (subst (λ (n : Node). AllByRecursion (λ (c : Child). ShowsNodes es keeps most nodes k c.low c.high c.at) (children low high (slots_shown n))) is shown.2)));
       }
+
+  -- the slots of an IN's sound image are those that the node shows
+  pub slots_of_sound : (k : ℕ) (low : Name) (high : Option Name) (at : ℕ) (nodes : ℕ → Name → Option LoadedNode) (shown : ShowsNodes es keeps most nodes (suc k) low high at) (tree : IsTreeAt es (at_home home d) d (suc k) low high at) →
+      slots_shown tree.node ≡ map child_shown (sound (suc k) low high at nodes shown tree).slots
+  unfolding sound
+  slots_of_sound k low high at nodes shown tree = in_shown es at (suc (suc k)) tree.node (in_entry es at k tree.node entries tree.image tree.level_is)

@@ -109,7 +109,7 @@ pub still_same : (x y : AllNodes) → AreNodesStill x y → y ≡ x
 still_same x y same = fun_ext (λ d. fun_ext (λ k. fun_ext (λ q. same d k q)))
 
 -- a lower bound is below the name behind a slot
-slot_less : (low : Name) (s t : NamedLsn) → is_lt (name_cmp s.0 low) ≡ false → name_cmp s.0 t.0 ≡ Less → is_lt (name_cmp low t.0) ≡ true
+pub slot_less : (low : Name) (s t : NamedLsn) → is_lt (name_cmp s.0 low) ≡ false → name_cmp s.0 t.0 ≡ Less → is_lt (name_cmp low t.0) ≡ true
 slot_less low s t from less = by_case (same_or_other low s.0)
   where
     by_case : (low ≡ s.0) ⊎ (is_eq (name_cmp low s.0) ≡ false) → is_lt (name_cmp low t.0) ≡ true
