@@ -54,3 +54,5 @@ pub mod ReadImages
 pub mod ReadTrees
 -- The records of a tree that was read: they stand where the images below its root show them.
 pub mod ReadRecords
+-- The trees that reading a checkpoint's roots gives fit the log that was read.
+pub mod ReadForest

@@ -42,7 +42,7 @@ some_there row low some = by_option (value_at low row) some
     by_option None h = h
     by_option (Some n) h = refl
 
-there_some : (row : NodeRow) (low : Name) → IsSome (value_at low row) → IsSome (option_map loaded_by (value_at low row))
+pub there_some : (row : NodeRow) (low : Name) → IsSome (value_at low row) → IsSome (option_map loaded_by (value_at low row))
 there_some row low some = by_option (value_at low row) some
   where
     by_option : (o : Option Node) → IsSome o → IsSome (option_map loaded_by o)
@@ -92,7 +92,7 @@ module _ (es : Placed) (keeps : Bool) (most : ℕ) (home : ℕ → Home) (d : �
   top_of zero low high at s = (s.0, s.1)
   top_of (suc k) low high at s = (s.0, s.1)
 
-  low_there : (k : ℕ) (low : Name) (high : Option Name) (at : ℕ) → ShowsNodes es keeps most nodes k low high at → IsSome (value_at low (row_of rows k))
+  pub low_there : (k : ℕ) (low : Name) (high : Option Name) (at : ℕ) → ShowsNodes es keeps most nodes k low high at → IsSome (value_at low (row_of rows k))
   low_there k low high at s = let top = top_of k low high at s in some_there (row_of rows k) low (subst IsSome (sym top.1.here) refl)
 
   bound_below : (k : ℕ) (high : Option Name) → IsBound (suc k) high → IsBound k high
@@ -218,7 +218,7 @@ module _ (es : Placed) (keeps : Bool) (most : ℕ) (home : ℕ → Home) (d : �
       }
 
   module _ (last : ℕ) (le : most ≤ last) (kept : keeps ≡ true) (whole : AllByRecursion (λ p. is_delta p.1 ≡ false) es) where
-    last_is : (k : ℕ) (low : Name) (high : Option Name) (at : ℕ) (n : Node) → IsFound k low high at → value_at low (row_of rows k) ≡ Some n → n.last ≡ Some at
+    pub last_is : (k : ℕ) (low : Name) (high : Option Name) (at : ℕ) (n : Node) → IsFound k low high at → value_at low (row_of rows k) ≡ Some n → n.last ≡ Some at
     last_is k low high at n f there = ap (λ (l : LoadedNode). l.last) ((is_own last le k low high at n f there).loaded ∙ ap (node_read n.number at) kept)
 
     child_node : (k : ℕ) (c : Child) → IsFound k c.low c.high c.at → IsChildNode (row_of rows k) c
