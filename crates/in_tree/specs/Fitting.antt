@@ -22,7 +22,8 @@ all_both : (P : Entry → Type 0) (a b : List Entry) → AllByRecursion P a → 
 all_both P [] b first second = second
 all_both P (e ∷ a) b first second = (first.0, all_both P a b first.1 second)
 
-none_both : (a b : List Entry) → a ++ b ≡ [] → (a ≡ []) × (b ≡ [])
+-- where there are no entries of two parts, neither has any
+pub none_both : (a b : List Entry) → a ++ b ≡ [] → (a ≡ []) × (b ≡ [])
 none_both [] b e = (refl, e)
 none_both (x ∷ a) b e = cc
 

@@ -56,3 +56,5 @@ pub mod ReadTrees
 pub mod ReadRecords
 -- The trees that reading a checkpoint's roots gives fit the log that was read.
 pub mod ReadForest
+-- A tree that fits its log, where a name got its slot: its images are due.
+pub mod ForestPlaces

@@ -2,7 +2,9 @@ use Rattle.std.proofs.Common.{◌||◌, ◌∙◌, Bool, ap}
 use Rattle.record_tree.specs.Logged.{is_made}
 use Rattle.in_tree.proofs.Placings.{same_seen_of, placed_seen, placed_trees, placed_there, placed_loggable, placed_even, few_placed}
 use Rattle.in_tree.proofs.Checked.{all_back, few_back, few_then, limit_none, limit_met, none_still, seen_rise, there_still}
-use Rattle.in_tree.proofs.log_trees.LogTrees.prepare.Goals as goal
+use Rattle.in_tree.proofs.DueReady.{ready_fits}
+use Rattle.in_tree.proofs.Checked.{le_of}
+use Rattle.in_tree.proofs.logged_trees.LogTrees.prepare.Goals as goal
 
 pub invariant_of-self : goal.invariant_of-self
 invariant_of-self g c =
@@ -28,7 +30,7 @@ invariant_of-self-in-Err-make_ready g c =
       (trees.numbers, (trees.least, (trees.most, tt))),
       (
         seen_rise c.args.self.now.trees.forest c.take_back_all.new.trees (same_seen_of c.args.self.now.trees.forest c.take_back_all.new.trees (c.take_back_all.ensures c.args.self.now.trees.fanout c.args.self.now.trees.forest
-            (all_back c.args.self.now.trees.fanout c.args.changes.now c.in-Ok.placed.rooms.items c.as_slice.result.now c.args.self.now.trees.forest c.place_all.new.trees c.make_ready.new.self.trees.forest c.as_slice.ensures.value c.in-Ok.ensures.placed c.in-Err-make_ready.ensures.err))) c.args.self.now.ordered,
+            (all_back c.args.self.now.trees.fanout c.args.changes.now c.in-Ok.placed.rooms.items c.as_slice.result.now c.args.self.now.trees.forest c.place_all.new.trees c.make_ready.new.self.trees.forest c.as_slice.ensures.value c.in-Ok.ensures.placed c.in-Err-make_ready.ensures.err.0))) c.args.self.now.ordered,
         tt,
       ),
     )
@@ -43,6 +45,8 @@ returns-in-Ok-make_ready-clause-ready g c =
       loggable = placed_loggable c.args.self.now.trees.fanout c.args.changes.now c.in-Ok.placed.rooms.items c.args.self.now.trees.forest c.place_all.new.trees placed;
       paired = placed_even c.args.self.now.trees.fanout c.args.changes.now c.in-Ok.placed.rooms.items c.args.self.now.trees.forest c.place_all.new.trees placed;
       room = done.room;
+      fits = λ es base few f. ready_fits es base c.args.self.now.trees.fanout c.args.self.now.trees.last_node c.make_ready.new.self.trees.last_node c.args.changes.now c.in-Ok.placed.rooms.items c.args.self.now.trees.forest c.place_all.new.trees
+          c.make_ready.new.self.trees.forest c.in-Ok.ensures.fitted done.trees.0 c.requires.new (done.trees.1 ∙ c.in-Ok.ensures.last) (le_of done.trees.1 done.ids) few f;
       few = few_then _ _ _ _ (few_placed c.args.self.now.trees.fanout c.args.changes.now c.in-Ok.placed.rooms.items c.args.self.now.trees.forest c.place_all.new.trees placed) done.waits;
     }
 
@@ -56,11 +60,11 @@ returns-in-Ok-make_ready-clause-room g c =
 
 pub returns-in-Err-make_ready-clause-err : goal.returns-in-Err-make_ready-clause-err
 returns-in-Err-make_ready-clause-err g c = (c.take_back_all.ensures c.args.self.now.trees.fanout c.args.self.now.trees.forest
-    (all_back c.args.self.now.trees.fanout c.args.changes.now c.in-Ok.placed.rooms.items c.as_slice.result.now c.args.self.now.trees.forest c.place_all.new.trees c.make_ready.new.self.trees.forest c.as_slice.ensures.value c.in-Ok.ensures.placed c.in-Err-make_ready.ensures.err))
+    (all_back c.args.self.now.trees.fanout c.args.changes.now c.in-Ok.placed.rooms.items c.as_slice.result.now c.args.self.now.trees.forest c.place_all.new.trees c.make_ready.new.self.trees.forest c.as_slice.ensures.value c.in-Ok.ensures.placed c.in-Err-make_ready.ensures.err.0), c.in-Err-make_ready.ensures.err.1)
 
 pub returns-in-Err-make_ready-clause-same : goal.returns-in-Err-make_ready-clause-same
 returns-in-Err-make_ready-clause-same g c = same_seen_of c.args.self.now.trees.forest c.take_back_all.new.trees (c.take_back_all.ensures c.args.self.now.trees.fanout c.args.self.now.trees.forest
-    (all_back c.args.self.now.trees.fanout c.args.changes.now c.in-Ok.placed.rooms.items c.as_slice.result.now c.args.self.now.trees.forest c.place_all.new.trees c.make_ready.new.self.trees.forest c.as_slice.ensures.value c.in-Ok.ensures.placed c.in-Err-make_ready.ensures.err))
+    (all_back c.args.self.now.trees.fanout c.args.changes.now c.in-Ok.placed.rooms.items c.as_slice.result.now c.args.self.now.trees.forest c.place_all.new.trees c.make_ready.new.self.trees.forest c.as_slice.ensures.value c.in-Ok.ensures.placed c.in-Err-make_ready.ensures.err.0))
 
 pub returns-in-Err-make_ready-clause-limited : goal.returns-in-Err-make_ready-clause-limited
 returns-in-Err-make_ready-clause-limited g c =

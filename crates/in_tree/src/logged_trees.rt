@@ -32,6 +32,7 @@ impl<D: Disk> LogTrees<D> {
         ensures cells { (d : ℕ) → seen_in result.trees d ≡ map committed_cell (stored_within loaded d) }
         ensures trees { (d : ℕ) → has_tree_in result.trees d ≡ has_tree_in loaded d }
         ensures waits { waits_within result.trees ≡ waits_within loaded }
+        ensures forest { result.trees ≡ loaded }
     {
         LogTrees {
             log,
@@ -50,11 +51,11 @@ impl<D: Disk> LogTrees<D> {
 }
 
 impl<D: Disk> Records for LogTrees<D> {
-    ghost use Rattle.in_tree.specs.Fitting.{fitting_none, fitting_then, fitting_tried};
+    ghost use Rattle.in_tree.specs.Observed.{GrewTrees, grew_none as none_grew, grew_then as grew_on, tried_then as tried_on};
     ghost use Rattle.std.specs.Ordering.{nat_cmp};
     ghost use Rattle.std.specs.BTreeMap.{get};
     ghost use Rattle.in_tree.specs.Forest.{cells_seen, is_there, none_seen};
-    ghost use Rattle.in_tree.specs.Limits.{limit_of, commit_sizes, HasRoomFor, GrewFitting, TriedFitting};
+    ghost use Rattle.in_tree.specs.Limits.{limit_of, commit_sizes, HasRoomFor, TriedFitting};
     ghost use Rattle.in_tree.specs.Shapes.{shapes_of};
     ghost use Rattle.in_tree.specs.Waits.{waits_in};
 
@@ -62,7 +63,7 @@ impl<D: Disk> Records for LogTrees<D> {
 
     ghost has_tree = { λ x d. is_there x.trees.forest d };
 
-    ghost grew = { λ old new entries. GrewFitting D.observable D.history D.sync_out D.read_out D.read_of D.faults old.log new.log entries };
+    ghost grew = { λ old new entries. GrewTrees D.observable D.history D.sync_out D.read_out D.read_of D.faults old new entries };
 
     ghost tried = { λ old new entries. TriedFitting D.observable D.history D.sync_out D.read_out D.read_of D.faults old.log new.log entries };
 
@@ -74,11 +75,11 @@ impl<D: Disk> Records for LogTrees<D> {
 
     ghost no_cells = { λ x d none. none_seen (get nat_cmp x.trees.forest d) none };
 
-    ghost grew_none = { λ x. fitting_none D.observable D.history D.sync_out D.read_out D.read_of D.faults x.log };
+    ghost grew_none = { λ x. none_grew D.observable D.history D.sync_out D.read_out D.read_of D.faults x };
 
-    ghost grew_then = { λ x y z a b first rest. fitting_then D.observable D.history D.sync_out D.read_out D.read_of D.faults x.log y.log z.log a b first rest };
+    ghost grew_then = { λ x y z a b first rest. grew_on D.observable D.history D.sync_out D.read_out D.read_of D.faults x y z a b first rest };
 
-    ghost tried_then = { λ x y z a b first rest. fitting_tried D.observable D.history D.sync_out D.read_out D.read_of D.faults x.log y.log z.log a b first rest };
+    ghost tried_then = { λ x y z a b first rest. tried_on D.observable D.history D.sync_out D.read_out D.read_of D.faults x y z a b first rest };
 
     fn get(&self, db: u32, name: &SortKey) -> Result<Option<&Cell>, Lacks> {
         Ok(reading::get(&self.trees.forest, db, name))
