@@ -31,12 +31,16 @@ pub trait Loads {
     /// The node number that was allocated last, at most 2^63 - 1.
     ghost last_number: { Self → ℕ };
 
+    /// What holds of all such trees.
+    ghost well_formed: { Self → Type 0 };
+
     /// The trees fit a log, whose LSNs are all below a base, down to the images of their nodes.
     ghost fits: { Self → List (ℕ × Entry) → ℕ → Type 0 };
 
     /// A redo begins at the LSN `from`, from which on nodes that it splits are found again. Nodes that it
     /// makes take the numbers behind `last_node`.
     fn begin_redo(&mut self, last_node: u64, from: Lsn)
+        ensures formed { well_formed self.new }
         ensures nodes { AreNodesStill (nodes self.old) (nodes self.new) }
         ensures numbers { min last_node 0x7fffffffffffffff ≤ last_number self.new }
         ensures stored { AreStoredStill (stored self.old) (stored self.new) }

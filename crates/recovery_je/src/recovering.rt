@@ -134,7 +134,7 @@ pub(crate) fn recover_entries<T: Loads + Drop>(
     requires order { AreInOrder entries.items }
     requires entries { AllByRecursion (λ p. IsEntry p.1) entries.items }
     ensures meant { IfOk result (λ m. IsMeant (map (λ f. f.0) files.now) entries.items (record { store = m.settled.opening; last_txn = m.last_txn; last_node = m.last_node; last_db = m.last_db; checkpoint = m.checkpoint }) (T.has_tree m.settled.trees) (T.stored m.settled.trees) m.settled.databases m.settled.records) }
-    ensures fits { IfOk result (λ m. HasReadAgain T.nodes T.stored T.last_number T.fits m.settled.trees entries.items) }
+    ensures fits { IfOk result (λ m. HasReadAgain T.well_formed T.nodes T.stored T.last_number T.fits m.settled.trees entries.items) }
     ensures found { IfErr result (λ e. IsFoundBy e (λ c. meaning_in (map (λ f. f.0) files.now) entries.items ≡ Err c)) }
 {
     let end = last_end(alloc, &entries)?;

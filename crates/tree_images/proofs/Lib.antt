@@ -58,3 +58,5 @@ pub mod ReadRecords
 pub mod ReadForest
 -- A tree that fits its log, where a name got its slot: its images are due.
 pub mod ForestPlaces
+-- Trees where a change is redone.
+pub mod RedoneTrees

@@ -3,6 +3,7 @@ ghost use Rattle.tree_images.specs.Laws.{SoundImagesAreTrees, SoundImagesShow, S
 ghost use Rattle.tree_images.specs.NodeLaws.{MoreNodesAreDue, SameNodesAreImaged, ClearedNodesAreImaged, FinishedImagesAreWhole, LoggedImagesAreSound, LoggedImagesHaveContent, LoggedNodesAreImaged, FlushedNodesAreImaged, WaitingNodesAreImaged, NewTreesAreImaged, EarlierMarksKeepTrees};
 ghost use Rattle.tree_images.specs.LogLaws.{DueImagesAreLogged};
 ghost use Rattle.tree_images.specs.ReadLaws.{ReadTreesFit, UnreadTreesFit, ReadForestsFit};
+ghost use Rattle.tree_images.specs.RedoSteps.{RedoneTreesFit};
 ghost use Rattle.tree_images.specs.NewestLaws.{NewestStays, CommitsAreNewest};
 ghost use Rattle.tree_images.specs.PlaceLaws.{NewHomesAgree, NewRootsAreAtHome, SplitsAreOfNodes, GrownNodesAreImaged, OrdersStay, PlacedNodesAreInOrder, PlacedTreesAreImaged, UnloggedTreesAreImaged};
 
@@ -86,6 +87,11 @@ pub fn read_trees_fit()
     ensures read { ReadTreesFit }
     ensures unread { UnreadTreesFit }
     ensures forests { ReadForestsFit }
+{}
+
+/// A tree that fits a log fits it where a change of that log is redone: the nodes that were split for it wait.
+pub fn redone_trees_fit()
+    ensures { RedoneTreesFit }
 {}
 
 /// Entries that commit nothing leave each name's newest committed change; a Commit brings no older one, and none of its changes is newer.
