@@ -125,7 +125,7 @@ module _ {D : Type 0} where
           ends = subst (λ (n : ℕ). EndsAlone (limit_planned old planned) p session call (Logged n) after) (sym (logs.0 ∙ ap (λ n. n + 1) at.commits))
               (subst (λ (l : Option Answer). EndsAlone l p session call (Logged (p.commits + 1)) after) (sym logs.3)
               (logged_ends (known (contents_of old)) p session call planned none is (model most observable state old.trees.log (contents_of old) p at none below) log logs.2));
-          here = logged_at observable history sync_out read_out read_of most old.trees.log new.trees.log (contents_of old) (contents_of new) p session call planned at none below log logs.2 logs.1 logs.4;
+          here = logged_at observable history sync_out read_out read_of most old.trees.log new.trees.log (contents_of old) (contents_of new) p session call planned at none below log logs.2 logs.1 logs.4 logs.5;
           trees = λ valid. trees_named old.trees new.trees planned.changes.items planned.gone trees leaves.0 leaves.1
               (logged_databases (contents_of old) (contents_of new) p session call planned (sound_at most observable state old.trees.log (contents_of old) p at none) log (let few = logs.2 in omega (arith, few)) logs.1);
         }

@@ -21,8 +21,7 @@ use Rattle.record_map.specs.declared.write.Write.{Write}
 use Rattle.record_tree.specs.Occupied.{IsFreeFor, write_in}
 use Rattle.record_tree.specs.Logged.{LogsTransaction, is_made, last_change, makes_db, most_entries}
 use Rattle.in_tree.specs.declared.logged_trees.LogTrees.{LogTrees}
-use Rattle.in_tree.specs.Limits.{GrewFitting}
-use Rattle.in_tree.specs.Observed.{cells_of, has_tree_of, waits_of, limit_in}
+use Rattle.in_tree.specs.Observed.{cells_of, has_tree_of, waits_of, limit_in, GrewTrees, last_node_of, trees_of}
 use Rattle.log_buffer.specs.declared.log_pos.LogPos.{LogPos}
 use Rattle.log_buffer.specs.Buffer.{end_of, file_max_of, has_failed}
 use Rattle.log_entry.specs.Encoding.{size_of}
@@ -31,10 +30,16 @@ use Rattle.txn_core.specs.Known.{committed, has_number}
 use Rattle.txn_core.specs.Planning.{IsPlannedLog}
 use Rattle.txn_core.specs.Transactions.{HasCommitted, is_gone}
 use Rattle.engine.specs.declared.kept.Kept.{Kept}
+use Rattle.tree_images.specs.Forest.{ForestFits}
+use Rattle.in_tree.specs.Carrying.{Carries}
 use Rattle.engine.specs.Contents.{known, rows_after, IsSame, drawn_contents}
 use Rattle.engine.specs.Limits.{last_number, limit_by, numbers_for}
 use Rattle.engine.specs.Steps.{HasAppended, LogsChanges, refusal_by}
 use Rattle.engine.specs.Whole.{AreTrees, LeavesCells, LeavesTrees, contents, end_file, AreLeft}
+use Rattle.tree_images.proofs.ForestSteps.{forest_same}
+use Rattle.in_tree.specs.Growing.{none_due}
+use Rattle.record_tree.specs.Occupied.{AreSame}
+use Rattle.log_buffer.specs.Buffer.{IsUnchanged}
 use Rattle.in_tree.proofs.Far.{files_few}
 use Rattle.std.proofs.lemmas.List.{length-map}
 use Rattle.engine.proofs.ReachLaws.{file_within}
@@ -145,20 +150,27 @@ module _ {D : Type 0} where
   module _ (observable : Bool) (history : D → History) (sync_out read_out : D → Option ℕ) (read_of : D → ℕ) (faults : D → ℕ) where
     -- what a transaction logged
     abbrev pub Logs : LogTrees D → LogTrees D → TxnId → List TreeChange → Type 0
-    Logs old new txn changes = (entries : List Entry) × LogsTransaction txn changes entries × GrewFitting observable history sync_out read_out read_of faults old.log new.log entries
+    Logs old new txn changes = (entries : List Entry) × LogsTransaction txn changes entries × GrewTrees observable history sync_out read_out read_of faults old new entries
         × (length entries + waits_of new ≤ waits_of old + (most_entries (length changes) + 1))
 
     pub appended_all : (old new : LogTrees D) (txn : TxnId) (planned : PlannedChanges) (changes : List TreeChange) → changes ≡ planned.changes.items → Logs old new txn changes →
         HasAppended observable history sync_out read_out read_of old.log new.log txn planned.changes.items
     appended_all old new txn planned changes same grew =
         let logs : LogsTransaction txn planned.changes.items grew.0 = subst (λ (cs : List TreeChange). LogsTransaction txn cs grew.0) same grew.1 in
-        record { entries = grew.0; logs = logs; grew = grew.2.grew; fits = grew.2.fits }
+        record { entries = grew.0; logs = logs; grew = grew.2.fitting.grew; fits = grew.2.fitting.fits }
+
+    -- and trees that fitted the log fit it still
+    pub carried_all : (old new : LogTrees D) (txn : TxnId) (planned : PlannedChanges) (changes : List TreeChange) (same : changes ≡ planned.changes.items) (grew : Logs old new txn changes) →
+        Carries observable history old.log (appended_all old new txn planned changes same grew).entries (λ es base. ForestFits es base (last_node_of old) (trees_of old))
+        (λ es base. ForestFits es base (last_node_of new) (trees_of new))
+    unfolding appended_all
+    carried_all old new txn planned changes same grew = grew.2.fits
 
     -- the log does not end farther than its entries may take it
     pub near_logged : (old new : LogTrees D) (txn : TxnId) (planned : PlannedChanges) (changes : List TreeChange) → changes ≡ planned.changes.items → Logs old new txn changes →
         end_file new ≤ end_file old + (most_entries (length planned.changes.items) + 1)
     near_logged old new txn planned changes same grew =
-        let grown = grew.2.grew in
+        let grown = grew.2.fitting.grew in
         let ends = ap (λ (e : LogPos). e.file) grown.end in
         let files = files_few (file_max_of old.log) (end_of old.log) (map size_of grew.0) in
         let mapped = length-map grew.0 size_of in
@@ -166,6 +178,19 @@ module _ {D : Type 0} where
         let count = ap (λ (cs : List TreeChange). length cs) same in
         file_within (has_failed old.log) (has_failed new.log) ((end_of old.log).file + waits_of old) ((end_of new.log).file + waits_of new) (most_entries (length planned.changes.items) + 1)
         grown.failed (omega (arith, ends, files, mapped, few, count))
+
+  -- ---- trees as they were
+
+  -- trees that are left as they were fit as they did
+  pub trees_left_same : (old new : LogTrees D) → AreSame (cells_of old) (cells_of new) × ((d : ℕ) → has_tree_of new d ≡ has_tree_of old d) × (waits_of new ≡ waits_of old) × IsUnchanged old.log new.log →
+      ((d : ℕ) → trees_of new d ≡ trees_of old d) × (last_node_of new ≡ last_node_of old) → AreLeft old new
+  trees_left_same old new same trees = record {
+    cells = same.0;
+    made = same.1;
+    log = same.3;
+    waits = same.2;
+    fits = λ es base f. subst (λ (n : ℕ). ForestFits es base n (trees_of new)) (sym trees.1) (forest_same es base (last_node_of old) (trees_of old) (trees_of new) none_due trees.0 f);
+  }
 
   -- ---- where numbers may be lacking
 
@@ -179,6 +204,7 @@ module _ {D : Type 0} where
     last_node = ap (λ (k : Kept). k.last_node) is;
     commits = ap (λ (k : Kept). k.commits) is;
     fault = ap (λ (k : Kept). k.fault) is;
+    fits = left.fits;
   }
 
   module _ (observable : Bool) (history : D → History) (sync_out read_out : D → Option ℕ) (read_of : D → ℕ) where

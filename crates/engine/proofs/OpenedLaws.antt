@@ -36,8 +36,12 @@ use Rattle.crash_recovery.proofs.RisingLsns.{logs_lie_below}
 use Rattle.recovery_je.specs.Finishing.{is_kept}
 use Rattle.recovery_je.specs.declared.recovered.Recovered.{Recovered}
 use Rattle.in_tree.specs.declared.trees.Trees.{Trees}
-use Rattle.in_tree.specs.Observed.{cells_of}
-use Rattle.in_tree.specs.Whole.{has_tree_in, stored_within, waits_within}
+use Rattle.log_entry.specs.declared.entry.Entry.{Entry}
+use Rattle.tree_images.specs.Forest.{ForestFits}
+use Rattle.tree_images.proofs.ForestSteps.{forest_same}
+use Rattle.in_tree.specs.Growing.{none_due, trees_at}
+use Rattle.in_tree.specs.Observed.{cells_of, last_node_of, trees_of}
+use Rattle.in_tree.specs.Whole.{has_tree_in, last_number_of, stored_within, waits_within}
 use Rattle.txn_core.specs.Known.{committed}
 use Rattle.txn_core.proofs.RecordPlanLaws.{all_found}
 use Rattle.engine.specs.declared.engine.Engine.{Engine}
@@ -46,8 +50,9 @@ use Rattle.engine.specs.Contents.{Contents}
 use Rattle.engine.specs.Files.{end_file_in}
 use Rattle.engine.specs.Environment.{AreAlone, GivesRecords}
 use Rattle.engine.specs.Limits.{IsWithin, last_number, numbers_for, waiting_for}
-use Rattle.engine.specs.Opening.{AreNumbers, HasBegun, HasNoNumbers, StartsAt, WasRead, log_start_of, meaning_read, node_bound, reach_in}
+use Rattle.engine.specs.Opening.{AreNumbers, FitWhatWasRead, HasBegun, HasNoNumbers, StartsAt, WasRead, log_start_of, meaning_read, node_bound, reach_in}
 use Rattle.engine.specs.Whole.{AreTrees, IsAt, IsOpened, IsOpenedAt, IsOpenedSafely, contents_of, reach_of}
+use Rattle.engine.proofs.TransactionGrowth.{gives_moved}
 use Rattle.engine.proofs.WholeLaws.{file_is}
 use Rattle.engine.proofs.ClosedLaws.{guarded_none}
 use Rattle.engine.proofs.NumberLaws.{kept_numbers}
@@ -181,19 +186,20 @@ placed_found : (held : List File) → placed (log_in held) ≡ placed (found_log
 placed_found [] = refl
 placed_found (file ∷ held) = refl
 
--- no node's number is above this one, which a node may have
+-- no node's number is above this one, which a node may have; no more nodes wait than entries leave, and the trees fit the log
 pub record IsNodeBound (r : Recovered Trees) (bound : ℕ) : Type 0 where
   pub is : bound ≡ r.last_node + numbers_for (r.entries + 1)
   pub within : bound ≤ last_number
   pub waits : waits_within r.trees ≤ waiting_for r.entries
+  pub fits : FitWhatWasRead r
 
-pub bound_found : (r : Recovered Trees) (bound : ℕ) → waits_within r.trees ≤ waiting_for r.entries →
+pub bound_found : (r : Recovered Trees) (bound : ℕ) → FitWhatWasRead r → waits_within r.trees ≤ waiting_for r.entries →
     Some bound ≡ cond (nat_lt last_number (r.last_node + numbers_for (r.entries + 1))) None (Some (r.last_node + numbers_for (r.entries + 1))) → IsNodeBound r bound
-bound_found r bound waits h = by_test (nat_lt last_number (r.last_node + numbers_for (r.entries + 1))) refl h
+bound_found r bound fits waits h = by_test (nat_lt last_number (r.last_node + numbers_for (r.entries + 1))) refl h
   where
     by_test : (b : Bool) → nat_lt last_number (r.last_node + numbers_for (r.entries + 1)) ≡ b → Some bound ≡ cond b None (Some (r.last_node + numbers_for (r.entries + 1))) → IsNodeBound r bound
     by_test true test h = cc
-    by_test false test h = let is : bound ≡ r.last_node + numbers_for (r.entries + 1) = cc in record { is = is; within = grind (arith, nat_tests); waits = waits }
+    by_test false test h = let is : bound ≡ r.last_node + numbers_for (r.entries + 1) = cc in record { is = is; within = grind (arith, nat_tests); waits = waits; fits = fits }
 
 -- it is that of the files
 bound_held : (observable : Bool) (reads : Files) (r : Recovered Trees) (w : WasRead observable reads r) (bound : ℕ) → IsNodeBound r bound → bound ≡ node_bound w.held (meaning_read r)
@@ -265,10 +271,25 @@ module _ {D : Type 0} where
   opened_store most observable reads state r w bound engine is =
       recovered_store (restarted (placed (found_log 0 w.held))) (committed (cells_of engine.trees)) (recovered_rows most observable reads state r w bound engine is) ∙ (opened_log observable reads r w).begun.store
 
+  -- the trees fit it
+  opened_fits : (most : ℕ) (observable : Bool) (reads : Files) (state : State) (r : Recovered Trees) (w : WasRead observable reads r) (bound : ℕ) (engine : Engine D) →
+      IsBeginning most observable reads state r w bound engine → ForestFits (placed (found_log 0 w.held)) (pos_lsn (log_start_of r.tail) - 1) (last_node_of engine.trees) (trees_of engine.trees)
+  opened_fits most observable reads state r w bound engine is =
+      let files = files_read observable reads r w in
+      let ends = found_ends w.held r.tail files in
+      let base : ℕ = pos_lsn (log_start_of r.tail) - 1 in
+      let below : AllByRecursion (λ (p : ℕ × Entry). p.0 < base) (placed (found_log 0 w.held)) =
+      (logs_lie_below (found_log 0 w.held) (log_start_of r.tail) ends.0 (found_named w.held r.tail files).is_log ends.1).below in
+      subst (λ (es : List Placed). ForestFits es base (last_node_of engine.trees) (trees_of engine.trees)) (placed_found w.held)
+      (subst (λ (n : ℕ). ForestFits (placed (log_in w.held)) base n (trees_of engine.trees)) (sym is.begun.last)
+      (forest_same (placed (log_in w.held)) base (last_number_of r.trees) (trees_at r.trees.forest) (trees_of engine.trees) none_due is.begun.forest
+      (is.bound_is.fits observable reads w base (subst (λ (es : List Placed). AllByRecursion (λ (p : ℕ × Entry). p.0 < base) es) (sym (placed_found w.held)) below))))
+
   -- an environment that begins is where the model starts
   opened_alone : (most : ℕ) (observable : Bool) (reads : Files) (state : State) (r : Recovered Trees) (w : WasRead observable reads r) (bound : ℕ) (engine : Engine D) →
       IsBeginning most observable reads state r w bound engine →
       AreAlone most observable state engine.trees.log (contents_of engine) (start_alone r (committed (cells_of engine.trees)))
+  unfolding gives_records gives_opened
   opened_alone most observable reads state r w bound engine is =
       let found = opened_log observable reads r w in
       let make : ℕ → ℕ → Totals = λ d n. record { databases = d; records = n } in
@@ -284,9 +305,10 @@ module _ {D : Type 0} where
           log = found_log 0 w.held;
           has = is.ready.has;
           works = is.ready.works;
-          gives = subst (λ (end : LogPos). GivesRecords (found_log 0 w.held) end (contents_of engine)) (sym is.ready.end) (gives_opened most observable reads state r w bound engine is);
+          gives = gives_moved (found_log 0 w.held) (log_start_of r.tail) (end_of engine.trees.log) (contents_of engine) is.ready.end (gives_opened most observable reads state r w bound engine is);
           recovers = record { first = first_of_found 0 w.held; opening = r.opening; base = length (placed (found_log 0 w.held)); transactions = []; recovers = found.recovers; made = refl };
           made = opened_store most observable reads state r w bound engine is;
+          fits = opened_fits most observable reads state r w bound engine is;
         };
       }
 
@@ -379,7 +401,7 @@ module _ {D : Type 0} where
       IsReady most observable reads state r w buffer → HasBegun buffer r bound engine → IsNodeBound r bound → IsBeginning most observable reads state r w bound engine
   begins most observable reads state r w bound buffer engine ready begun bound_is = record {
     ready = subst (λ (b : LogBuffer D). IsReady most observable reads state r w b) (sym begun.log_is) ready;
-    begun = record { log_is = refl; cells = begun.cells; trees = begun.trees; waits = begun.waits; kept = begun.kept };
+    begun = record { log_is = refl; cells = begun.cells; trees = begun.trees; waits = begun.waits; kept = begun.kept; forest = begun.forest; last = begun.last };
     bound_is = bound_is;
   }
 

@@ -20,7 +20,7 @@ use Rattle.txn_core.specs.declared.planned_changes.PlannedChanges.{PlannedChange
 use Rattle.txn_core.specs.Planning.{IsPlannedLog}
 use Rattle.engine.specs.Contents.{Contents, HasLogged, IsSame, drawn_contents, known}
 use Rattle.engine.specs.Environment.{AreAlone}
-use Rattle.engine.specs.Steps.{HasAppended, txn_of}
+use Rattle.engine.specs.Steps.{CarriesTrees, HasAppended, txn_of}
 use Rattle.engine.proofs.PlannedCalls.{are_planned}
 use Rattle.engine.proofs.TransactionGrowth.{sound_of, valid_drawn, valid_on, valid_same}
 
@@ -75,9 +75,10 @@ module _ {D : Type 0} where
     pub logged_at : (most : ℕ) (buffer other : LogBuffer D) (old new : Contents) (p : Alone) (session : ℕ) (call : Call) (planned : PlannedChanges) →
         AreAlone most observable (now (history (disk_of buffer))) buffer old p → p.fault ≡ None → old.last_txn < LAST_TXN → (log : IsPlannedLog (known old) p session call planned) →
         planned.last_db ≤ LAST_DATABASE → HasLogged old new planned →
-        HasAppended observable history sync_out read_out read_of buffer other (txn_of (old.last_txn + 1)) planned.changes.items →
+        (appended : HasAppended observable history sync_out read_out read_of buffer other (txn_of (old.last_txn + 1)) planned.changes.items) →
+        CarriesTrees observable history sync_out read_out read_of buffer appended.entries old new →
         AreAlone most observable (now (history (disk_of other))) other new (committed_alone (log.change ∷ log.more) (drawn_alone p))
-    logged_at most buffer other old new p session call planned at none below log low has appended =
+    logged_at most buffer other old new p session call planned at none below log low has appended carries =
         let changes : List Change = log.change ∷ log.more in
         let v = at.valid none in
         record {
@@ -93,5 +94,5 @@ module _ {D : Type 0} where
               ∙ numbered_alike changes old.last_db (number_named old.rows)
               ∙ ap (λ (n : ℕ). all_numbered changes n (number_named old.rows)) at.last_db ∙ ap (all_numbered changes p.last_db) (at.numbers none);
           valid = λ again. valid_on observable history sync_out read_out read_of buffer other old new log.change log.more planned p.store v
-              (are_planned old p session call planned (sound_of v.log (end_of buffer) old v.gives) log (omega (arith, low))) log.last_db has appended;
+              (are_planned old p session call planned (sound_of v.log (end_of buffer) old v.gives) log (omega (arith, low))) log.last_db has appended carries;
         }

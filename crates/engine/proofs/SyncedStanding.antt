@@ -9,7 +9,8 @@ use Rattle.log_buffer.specs.declared.log_pos.LogPos.{LogPos}
 use Rattle.log_buffer.specs.Buffer.{end_of, file_max_of, has_failed}
 use Rattle.log_buffer.specs.Log.{HasLog}
 use Rattle.engine.specs.Contents.{Contents, HasFaulted}
-use Rattle.engine.specs.Environment.{AreAlone, GivesRecords}
+use Rattle.engine.specs.Environment.{AreAlone}
+use Rattle.engine.proofs.TransactionGrowth.{gives_moved}
 
 module _ {D : Type 0} where
   -- the disk failed
@@ -42,8 +43,9 @@ module _ {D : Type 0} where
       log = v.log;
       has = logs v.log v.has;
       works = works;
-      gives = subst (λ (e : LogPos). GivesRecords v.log e c) (sym end) v.gives;
+      gives = gives_moved v.log (end_of buffer) (end_of other) c end v.gives;
       recovers = v.recovers;
       made = v.made;
+      fits = v.fits;
     };
   }

@@ -49,7 +49,7 @@ use Rattle.txn_core.specs.Planning.{CanPlan, IsPlannedLog}
 use Rattle.engine.specs.Contents.{Contents, known, HasLogged, IsSame, drawn_contents, rows_after}
 use Rattle.txn_core.specs.Transactions.{is_gone}
 use Rattle.engine.specs.Environment.{GivesRecords, RecoversStore, IsValid}
-use Rattle.engine.specs.Steps.{HasAppended, HasTried, txn_of}
+use Rattle.engine.specs.Steps.{CarriesTrees, HasAppended, HasTried, txn_of}
 use Rattle.engine.proofs.PlannedRows.{ArePlanned, LeavesRows, planned_rows}
 use Rattle.engine.proofs.PlannedCalls.{are_planned}
 
@@ -75,6 +75,24 @@ can_plan log end c gives totals = record {
   unused = gives.unused;
   numbers = gives.numbers;
   totals = totals;
+}
+
+-- this life of the environment began at or before the log's end
+pub begun_at : (log : Log) (end : LogPos) (c : Contents) (gives : GivesRecords log end c) → gives.base ≤ pos_lsn end
+begun_at log end c gives = let low = gives.stands.begun in let below = gives.below in omega (arith, low, below)
+
+-- a log that ends elsewhere
+abbrev pub gives_moved : (log : Log) (end new_end : LogPos) (c : Contents) → new_end ≡ end → GivesRecords log end c → GivesRecords log new_end c
+gives_moved log end new_end c ends gives = record {
+  base = gives.base;
+  next = gives.next;
+  is_open = gives.is_open;
+  stands = gives.stands;
+  below = subst (λ (e : LogPos). gives.next < pos_lsn e) (sym ends) gives.below;
+  listed = gives.listed;
+  later = gives.later;
+  unused = gives.unused;
+  numbers = gives.numbers;
 }
 
 -- a later transaction is later than the last one but one
@@ -380,9 +398,10 @@ module _ {D : Type 0} (observable : Bool) (history : D → History) (sync_out re
   pub valid_on : (buffer longer_buffer : LogBuffer D) (c new : Contents) (change : Change) (later : List Change) (planned : PlannedChanges) (store : Store) →
       IsValid observable (now (history (disk_of buffer))) buffer c store → ArePlanned c.rows c.last_db change later planned.changes.items planned.gone →
       planned.last_db ≡ c.last_db + made_by (change ∷ later) → HasLogged c new planned →
-      HasAppended observable history sync_out read_out read_of buffer longer_buffer (txn_of (c.last_txn + 1)) planned.changes.items →
-      IsValid observable (now (history (disk_of longer_buffer))) longer_buffer new (all_changed (change ∷ later) store)
-  valid_on buffer longer_buffer c new change later planned store valid are last_db logged a =
+      (a : HasAppended observable history sync_out read_out read_of buffer longer_buffer (txn_of (c.last_txn + 1)) planned.changes.items) →
+      CarriesTrees observable history sync_out read_out read_of buffer a.entries c new → IsValid observable (now (history (disk_of longer_buffer))) longer_buffer new (all_changed (change ∷ later) store)
+  unfolding gives_longer gives_on
+  valid_on buffer longer_buffer c new change later planned store valid are last_db logged a carries =
       let may : MayGrow observable (now (history (disk_of buffer))) buffer valid.log c change later planned = record { has = valid.has; gives = valid.gives; are = are; last_db = last_db } in
       record {
         log = longer buffer a.entries valid.log;
@@ -391,10 +410,12 @@ module _ {D : Type 0} (observable : Bool) (history : D → History) (sync_out re
         gives = gives_on buffer longer_buffer valid.log c new change later planned may logged a;
         recovers = store_on buffer longer_buffer valid.log c change later planned may a store valid.recovers;
         made = made_on observable (now (history (disk_of buffer))) buffer valid.log c new change later planned may logged ∙ ap (all_changed (change ∷ later)) valid.made;
+        fits = carries valid.log valid.gives.base valid.has (begun_at valid.log (end_of buffer) c valid.gives) valid.fits;
       }
 
   -- so it is where a transaction number is allocated
   pub valid_drawn : (state : State) (buffer : LogBuffer D) (c : Contents) (store : Store) → IsValid observable state buffer c store → IsValid observable state buffer (drawn_contents c) store
+  unfolding gives_drawn
   valid_drawn state buffer c store valid = record {
     log = valid.log;
     has = valid.has;
@@ -402,11 +423,13 @@ module _ {D : Type 0} (observable : Bool) (history : D → History) (sync_out re
     gives = gives_drawn valid.log (end_of buffer) c valid.gives;
     recovers = valid.recovers;
     made = valid.made;
+    fits = valid.fits;
   }
 
   -- and where nothing changes
   pub valid_same : (old_buffer new_buffer : LogBuffer D) (old new : Contents) (store : Store) → IsUnchanged old_buffer new_buffer → IsSame old new →
       IsValid observable (now (history (disk_of old_buffer))) old_buffer old store → IsValid observable (now (history (disk_of new_buffer))) new_buffer new store
+  unfolding gives_same
   valid_same old_buffer new_buffer old new store unchanged same valid = record {
     log = valid.log;
     has = (grew_unchanged observable history sync_out read_out read_of old_buffer new_buffer unchanged).log valid.log valid.has;
@@ -414,4 +437,5 @@ module _ {D : Type 0} (observable : Bool) (history : D → History) (sync_out re
     gives = gives_same valid.log (end_of old_buffer) (end_of new_buffer) old new unchanged.kept.end same valid.gives;
     recovers = valid.recovers;
     made = ap store_of (fun_ext same.rows) ∙ valid.made;
+    fits = same.fits (placed valid.log) valid.gives.base valid.fits;
   }

@@ -29,7 +29,7 @@ use Rattle.engine.proofs.PlannedRows.{LeavesRows}
 use Rattle.engine.specs.Environment.{GivesRecords}
 
 -- where nobody is under way, a log that gives records gives them with nobody's changes
-pub gives_with_none : (log : Log) (end : LogPos) (c : Contents) → GivesRecords log end c → GivesRecordsWith log end c.rows c.last_txn c.last_db (λ t. false) (λ t. [])
+unfoldable pub gives_with_none : (log : Log) (end : LogPos) (c : Contents) → GivesRecords log end c → GivesRecordsWith log end c.rows c.last_txn c.last_db (λ t. false) (λ t. [])
 gives_with_none log end c gives = record {
   base = gives.base;
   next = gives.next;
@@ -50,7 +50,7 @@ gives_with_none log end c gives = record {
   or_none false is = is
 
 -- and back, whatever transactions are under way
-pub gives_alone : (log : Log) (end : LogPos) (c : Contents) (is_active : ℕ → Bool) (own : ℕ → List OwnChange) →
+unfoldable pub gives_alone : (log : Log) (end : LogPos) (c : Contents) (is_active : ℕ → Bool) (own : ℕ → List OwnChange) →
     GivesRecordsWith log end c.rows c.last_txn c.last_db is_active own → GivesRecords log end c
 gives_alone log end c is_active own gives = record {
   base = gives.base;

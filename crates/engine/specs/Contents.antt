@@ -4,7 +4,10 @@ use Rattle.store_model.specs.declared.answer.Fault.{Fault}
 use Rattle.store_model.specs.declared.answer.Fault.TheVariants.{Disk}
 use Rattle.store_model.specs.declared.totals.Totals.{Totals}
 use Rattle.log_replay.specs.Rows.{Rows, rows_changed}
+use Rattle.log_trees.specs.Placed.{Placed}
 use Rattle.record_tree.specs.declared.tree_change.TreeChange.{TreeChange}
+use Rattle.db_tree.specs.declared.tree.DbTree.{DbTree}
+use Rattle.tree_images.specs.Forest.{ForestFits}
 use Rattle.txn_core.specs.Known.{Known}
 use Rattle.txn_core.specs.Planning.{row_by}
 use Rattle.txn_core.specs.Transactions.{is_gone}
@@ -12,7 +15,8 @@ use Rattle.txn_core.specs.declared.planned_changes.PlannedChanges.{PlannedChange
 use Rattle.engine.specs.Limits.{numbers_for}
 
 -- the committed records of each database and how much their store holds; the transaction and the database number allocated last, and a number that
--- no node's number is above; how many transactions were committed since opening; the first fault
+-- no node's number is above; how many transactions were committed since opening; the first fault; and the trees, with the node number that was
+-- allocated last
 pub record Contents : Type 0 where
   pub rows : Rows
   pub totals : Totals
@@ -21,6 +25,12 @@ pub record Contents : Type 0 where
   pub last_node : ℕ
   pub commits : ℕ
   pub fault : Option Fault
+  pub trees : ℕ → Option DbTree
+  pub last_number : ℕ
+
+-- trees fit each log that others fitted
+abbrev pub FitsAs : Contents → Contents → Type 0
+FitsAs old new = (es : List Placed) (base : ℕ) → ForestFits es base old.last_number old.trees → ForestFits es base new.last_number new.trees
 
 -- what plans rest on
 abbrev pub known : Contents → Known
@@ -62,3 +72,4 @@ pub record IsSame (old new : Contents) : Type 0 where
   pub last_node : new.last_node ≡ old.last_node
   pub commits : new.commits ≡ old.commits
   pub fault : new.fault ≡ old.fault
+  pub fits : FitsAs old new

@@ -20,6 +20,7 @@ use Rattle.log_meaning.specs.Stands.{Stands}
 use Rattle.log_meaning.specs.Transactions.{AreListed}
 use Rattle.crash_recovery.specs.Recovery.{RecoversLog}
 use Rattle.txn_core.specs.Totals.{totals_of}
+use Rattle.tree_images.specs.Forest.{ForestFits}
 use Rattle.engine.specs.Contents.{Contents}
 
 -- a log that ends here, read again, gives these records; no change of a transaction with a later number waits in it, and no database has a later
@@ -46,7 +47,7 @@ pub record RecoversStore (log : Log) (store : Store) : Type 0 where
 
 module _ {D : Type 0} where
   -- a valid environment: its buffer works and has its log, with the disk's files if the disk is observable; the log gives its records and recovers
-  -- its store
+  -- its store, and the trees fit it
   pub record IsValid (observable : Bool) (state : State) (buffer : LogBuffer D) (c : Contents) (store : Store) : Type 0 where
     pub log : Log
     pub has : HasLog observable state buffer log
@@ -54,6 +55,7 @@ module _ {D : Type 0} where
     pub gives : GivesRecords log (end_of buffer) c
     pub recovers : RecoversStore log store
     pub made : store_of c.rows ≡ store
+    pub fits : ForestFits (placed log) gives.base c.last_number c.trees
 
   -- the environment, whose files have at most so many bytes, is where the model stands with nothing under way
   pub record AreAlone (most : ℕ) (observable : Bool) (state : State) (buffer : LogBuffer D) (c : Contents) (p : Alone) : Type 0 where

@@ -1,4 +1,5 @@
 -- Opening an environment.
+use Rattle.std.specs.List.{AllByRecursion}
 use Rattle.std.specs.Prelude.{ℕ, ◌≡◌, ◌≤◌, ◌<◌, ◌⊎◌, ◌==◌, ◌+◌, nat_lt, ◌∷◌, [], ◌++◌, take, length, map, Bool, true, false, Option, IsSome, None, Some, Ok, option_map, List, if◌then◌else◌}
 use Rattle.recovery_je.specs.declared.recover_err.RecoverErr.{RecoverErr}
 use Rattle.recovery_je.specs.declared.recover_err.RecoverErr.TheVariants.{Disk as NoDisk, Memory as NoMemory, Corrupt}
@@ -20,9 +21,11 @@ use Rattle.log_meaning.specs.Reading.{reading_of}
 use Rattle.recovery_je.specs.Answer.{HasFiles, IsRecoveredFrom}
 use Rattle.recovery_je.specs.declared.recovered.Recovered.{Recovered}
 use Rattle.in_tree.specs.declared.trees.Trees.{Trees}
-use Rattle.in_tree.specs.Observed.{cells_of, has_tree_of, waits_of}
+use Rattle.tree_images.specs.Forest.{ForestFits}
+use Rattle.in_tree.specs.Growing.{trees_at}
+use Rattle.in_tree.specs.Observed.{cells_of, has_tree_of, last_node_of, trees_of, waits_of}
 use Rattle.in_tree.specs.Stored.{committed_cell}
-use Rattle.in_tree.specs.Whole.{has_tree_in, stored_within, waits_within}
+use Rattle.in_tree.specs.Whole.{has_tree_in, last_number_of, stored_within, waits_within}
 use Rattle.engine.specs.declared.open_err.OpenErr.{OpenErr}
 use Rattle.engine.specs.declared.open_err.OpenErr.TheVariants.{Disk, Unreadable, Memory, IdsEnded}
 use Rattle.engine.specs.Files.{HasCorruption, end_file_in}
@@ -66,6 +69,15 @@ meaning_read r = record { store = r.opening; last_txn = r.last_txn; last_node = 
 -- the log of a disk with these files was read
 abbrev pub WasRead : Bool → Files → Recovered Trees → Type 0
 WasRead observable reads r = HasFiles observable reads (IsRecoveredFrom (meaning_read r) (has_tree_in r.trees) (stored_within r.trees) r.databases r.records r.entries r.tail)
+
+-- the trees that were made fit the log, where no LSN of it is of the life that begins
+abbrev pub FitFound : Recovered Trees → List (ℕ × List ℕ) → Type 0
+FitFound r held =
+    (base : ℕ) → AllByRecursion (λ p. p.0 < base) (placed (log_in held)) → ForestFits (placed (log_in held)) base (last_number_of r.trees) (trees_at r.trees.forest)
+
+-- so it is of whatever log was read
+abbrev pub FitWhatWasRead : Recovered Trees → Type 0
+FitWhatWasRead r = (observable : Bool) (reads : Files) (w : WasRead observable reads r) → FitFound r w.held
 
 -- what follows the valid prefix of the last file was cut off
 abbrev pub HasTornTailCut : Files → Files → Option LastFile → Type 0
@@ -132,3 +144,5 @@ pub record HasBegun {D : Type 0} (log : LogBuffer D) (r : Recovered Trees) (last
   pub trees : (db : ℕ) → has_tree_of engine.trees db ≡ has_tree_in r.trees db
   pub waits : waits_of engine.trees ≤ waits_within r.trees
   pub kept : engine.kept ≡ kept_at_start r last_node
+  pub forest : (db : ℕ) → trees_of engine.trees db ≡ trees_at r.trees.forest db
+  pub last : last_node_of engine.trees ≡ last_number_of r.trees

@@ -15,6 +15,8 @@ use Rattle.record_tree.specs.declared.tree_change.TreeChange.{TreeChange}
 use Rattle.record_tree.specs.declared.tree_err.TreeErr.{TreeErr}
 use Rattle.record_tree.specs.declared.tree_err.TreeErr.TheVariants.{Full}
 use Rattle.record_tree.specs.Logged.{LogsTransaction, IsFront}
+use Rattle.tree_images.specs.Forest.{ForestFits}
+use Rattle.in_tree.specs.Carrying.{Carries}
 use Rattle.in_tree.specs.Limits.{FitsLog}
 use Rattle.txn_core.specs.declared.planned_changes.PlannedChanges.{PlannedChanges}
 use Rattle.engine.specs.Contents.{Contents, HasFaulted, HasLogged, IsSame, drawn_contents}
@@ -46,12 +48,17 @@ module _ {D : Type 0} (observable : Bool) (history : D → History) (sync_out re
     pub tried : Tried observable history sync_out read_out read_of buffer longer front
     pub fits : FitsLog buffer front
 
+  -- trees that fitted the log fit the one with these entries more
+  abbrev pub CarriesTrees : LogBuffer D → List Entry → Contents → Contents → Type 0
+  CarriesTrees buffer entries old new =
+      Carries observable history buffer entries (λ es base. ForestFits es base old.last_number old.trees) (λ es base. ForestFits es base new.last_number new.trees)
+
   -- Changes were logged, which met no limit; or they met one, and nothing changed but that a transaction number was allocated; or the disk failed; or
   -- there was no memory, and nothing changed. `found` is the limit that the trees find for them.
   abbrev pub LogsChanges : LogBuffer D → LogBuffer D → Contents → Contents → PlannedChanges → Option TreeErr → Result Answer AllocError → Type 0
   LogsChanges buffer longer old new planned found (Ok (Logged commit)) =
       (commit ≡ old.commits + 1) × HasLogged old new planned × (planned.last_db ≤ LAST_DATABASE) × (limit_by found old.last_node (length planned.changes.items) ≡ None)
-      × HasAppended buffer longer (txn_of (old.last_txn + 1)) planned.changes.items
+      × (a : HasAppended buffer longer (txn_of (old.last_txn + 1)) planned.changes.items) × CarriesTrees buffer a.entries old new
   LogsChanges buffer longer old new planned found (Ok LogFull) =
       (limit_by found old.last_node (length planned.changes.items) ≡ Some LogFull) × IsSame (drawn_contents old) new × IsUnchanged buffer longer
   LogsChanges buffer longer old new planned found (Ok IdsEnded) =

@@ -18,7 +18,9 @@ use Rattle.log_replay.specs.Logging.{all_row_changes}
 use Rattle.log_replay.specs.Rows.{numbers_of}
 use Rattle.record_tree.specs.declared.tree_change.TreeChange.{TreeChange}
 use Rattle.in_tree.specs.declared.logged_trees.LogTrees.{LogTrees}
-use Rattle.in_tree.specs.Observed.{cells_of, has_tree_of, limit_in, waits_of}
+use Rattle.log_trees.specs.Placed.{Placed}
+use Rattle.tree_images.specs.Forest.{ForestFits}
+use Rattle.in_tree.specs.Observed.{cells_of, has_tree_of, last_node_of, limit_in, trees_of, waits_of}
 use Rattle.record_tree.specs.Logged.{is_made, most_entries}
 use Rattle.store_model.specs.Refusals.{made_by}
 use Rattle.txn_core.specs.Known.{committed, has_number, IsQuiet}
@@ -51,6 +53,8 @@ module _ {D : Type 0} where
     last_node = kept.last_node;
     commits = kept.commits;
     fault = kept.fault;
+    trees = trees_of trees;
+    last_number = last_node_of trees;
   }
 
   abbrev pub contents_of : Engine D → Contents
@@ -92,6 +96,7 @@ module _ {D : Type 0} where
     pub made : (db : ℕ) → has_tree_of new db ≡ has_tree_of old db
     pub log : IsUnchanged old.log new.log
     pub waits : waits_of new ≡ waits_of old
+    pub fits : (es : List Placed) (base : ℕ) → ForestFits es base (last_node_of old) (trees_of old) → ForestFits es base (last_node_of new) (trees_of new)
 
   -- the engine, whose files have at most so many bytes, is where the model stands
   pub record IsAt (most : ℕ) (observable : Bool) (state : State) (engine : Engine D) (st : Standing) : Type 0 where

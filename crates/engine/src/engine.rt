@@ -17,7 +17,7 @@ ghost use Rattle.log_buffer.specs.Buffer.{has_failed};
 ghost use Rattle.log_entry.specs.Body.{IsEntry};
 ghost use Rattle.record_map.specs.Cells.{value_at};
 ghost use Rattle.record_tree.specs.Logged.{entry_for};
-ghost use Rattle.record_tree.specs.Occupied.{IsFreeFor, write_in};
+ghost use Rattle.record_tree.specs.Occupied.{AreFewNew, IsFreeFor, write_in};
 ghost use Rattle.in_tree.specs.Observed.{cells_of, has_tree_of, limit_in};
 ghost use Rattle.txn_core.specs.Totals.{totals_of};
 ghost use Rattle.engine.specs.Limits.{IsWithin, last_number, numbers_for, reach_after};
@@ -84,6 +84,7 @@ impl<D: Disk> Engine<D> {
         if LAST_TXN <= self.kept.last_txn {
             return Ok(Answer::IdsEnded);
         }
+        self.trees.are_ordered();
         match plan(
             &self.trees,
             alloc,
@@ -146,6 +147,7 @@ impl<D: Disk> Engine<D> {
         requires works { has_failed self.old.trees.log ≡ false }
         requires trees { AreTrees self.old.trees }
         requires numbers { self.old.kept.last_txn < LAST_TXN }
+        requires few { AreFewNew (cells_of self.old.trees) planned.changes.items }
         requires there { AllByRecursion (λ c. has_tree_of self.old.trees c.db ≡ true) planned.changes.items }
         requires new { planned.last_db ≤ LAST_DATABASE → AllByRecursion (λ c. IfSome c.makes (λ d. has_tree_of self.old.trees d ≡ false)) planned.changes.items }
         requires entries { AllByRecursion (λ c. IsEntry (entry_for (txn_of (self.old.kept.last_txn + 1)) c.db c.name c.value)) planned.changes.items }
@@ -159,7 +161,8 @@ impl<D: Disk> Engine<D> {
     }
 
     /// Logs planned changes of a valid environment as one transaction, with room for as many Commits, that of these changes among
-    /// them; no other transaction has a change of their names. Running out of memory leaves the environment as it was.
+    /// them; no other transaction has a change of their names, and of those of each database at most one is of a name that is not
+    /// occupied. Running out of memory leaves the environment as it was.
     pub fn log_among(
         &mut self,
         alloc: Global,
@@ -171,6 +174,7 @@ impl<D: Disk> Engine<D> {
         requires free { AllByRecursion (λ c. IsFreeFor (txn_of (self.old.kept.last_txn + 1)) (write_in (value_at c.name (cells_of self.old.trees c.db)))) planned.changes.items }
         requires some { 1 ≤ owed }
         requires numbers { self.old.kept.last_txn < LAST_TXN }
+        requires few { AreFewNew (cells_of self.old.trees) planned.changes.items }
         requires there { AllByRecursion (λ c. has_tree_of self.old.trees c.db ≡ true) planned.changes.items }
         requires new { planned.last_db ≤ LAST_DATABASE → AllByRecursion (λ c. IfSome c.makes (λ d. has_tree_of self.old.trees d ≡ false)) planned.changes.items }
         requires entries { AllByRecursion (λ c. IsEntry (entry_for (txn_of (self.old.kept.last_txn + 1)) c.db c.name c.value)) planned.changes.items }

@@ -4,13 +4,13 @@ use Rattle.log_entry.specs.Body.{IsEntry}
 use Rattle.record_tree.specs.Logged.{entry_for}
 use Rattle.record_tree.specs.declared.tree_change.TreeChange.{TreeChange}
 use Rattle.record_map.specs.Cells.{value_at}
-use Rattle.record_tree.specs.Occupied.{IsFreeFor, write_in}
+use Rattle.record_tree.specs.Occupied.{AreFewNew, IsFreeFor, write_in}
 use Rattle.txn_core.specs.Transactions.{HasTreesAfter, LeavesWrites}
 use Rattle.in_tree.specs.Observed.{cells_of, has_tree_of, limit_in}
 use Rattle.store_model.specs.declared.store.TheConstants.{LAST_DATABASE}
 use Rattle.engine.specs.Limits.{last_number, numbers_for}
 use Rattle.engine.specs.Steps.{txn_of}
-use Rattle.engine.proofs.LogLaws.{appended_all, near_logged, neither, no_limit, refused_logs, rows_logged, within_last}
+use Rattle.engine.proofs.LogLaws.{appended_all, carried_all, near_logged, neither, no_limit, refused_logs, rows_logged, within_last}
 use Rattle.engine.proofs.engine.Engine.log_among.Goals as goal
 
 pub commit_changes-requires-clause-new : goal.commit_changes-requires-clause-new
@@ -47,6 +47,7 @@ returns-in-Ok-clause-logs g c =
       within_last planned.last_db left.0,
       no_limit _ kept.last_node count (subst (λ (cs : List TreeChange). limit_in old cs c.args.owed ≡ None) same c.in-Ok.ensures.room) left.1,
       appended_all D.observable D.history D.sync_out D.read_out D.read_of D.faults old new (txn_of (kept.last_txn + 1)) planned slice same c.in-Ok.ensures.grew,
+      carried_all D.observable D.history D.sync_out D.read_out D.read_of D.faults old new (txn_of (kept.last_txn + 1)) planned slice same c.in-Ok.ensures.grew,
     )
 
 pub returns-in-Ok-clause-near : goal.returns-in-Ok-clause-near
@@ -85,3 +86,6 @@ returns-in-Ok-clause-trees g c =
       trees = subst (λ (cs : List TreeChange). HasTreesAfter cs c.args.planned.gone (has_tree_of old) (has_tree_of new)) c.as_slice.ensures.value c.in-Ok.ensures.trees;
       room = c.in-Ok.ensures.left;
     }
+
+pub commit_changes-requires-clause-few : goal.commit_changes-requires-clause-few
+commit_changes-requires-clause-few g c = subst (λ (cs : List TreeChange). AreFewNew (cells_of c.args.self.now.trees) cs) (sym c.as_slice.ensures.value) c.requires.few

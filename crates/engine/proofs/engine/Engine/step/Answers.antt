@@ -7,7 +7,8 @@ use Rattle.je_answers.specs.Alone.{alone, drawn_alone}
 use Rattle.je_answers.specs.Journal.{changes_of, is_disk_fault}
 use Rattle.je_answers.specs.Refusals.{early_refusal}
 use Rattle.log_buffer.specs.Buffer.{disk_of}
-use Rattle.in_tree.specs.Observed.{limit_in}
+use Rattle.in_tree.specs.Observed.{cells_of, limit_in}
+use Rattle.txn_core.proofs.Committing.{few_new}
 use Rattle.txn_core.specs.declared.planned.Planned.{Planned}
 use Rattle.txn_core.specs.Planning.{IsPlanned}
 use Rattle.engine.specs.Contents.{known}
@@ -63,6 +64,17 @@ log-requires-clause-new g c = λ low.
     (c.in_ok-answer.ensures p c.args.session (model c.requires.here.0 g.D.Disk.observable state engine.trees.log (contents_of engine) p here.at.here none c.if-self-ge-LAST_TXN.false)) in
     trees_new engine.trees engine.kept p c.args.session c.args.call.now c.in-Logs.planned (here.trees (ap (λ (s : Standing). s.fault) here.at.st_is ∙ none))
     (here.at.here.valid none).gives.numbers planned low
+
+pub log-requires-clause-few : goal.log-requires-clause-few
+log-requires-clause-few g c =
+    let engine = c.args.self.now in
+    let here = c.requires.here.2 in
+    let p = here.at.alone_at in
+    let none = sym here.at.here.fault ∙ c.in_default.is in
+    let state = now (g.D.Disk.history (disk_of engine.trees.log)) in
+    let planned = subst (λ (x : Planned). IsPlanned (known (contents_of engine)) p c.args.session c.args.call.now x) c.in-Logs.is
+    (c.in_ok-answer.ensures p c.args.session (model c.requires.here.0 g.D.Disk.observable state engine.trees.log (contents_of engine) p here.at.here none c.if-self-ge-LAST_TXN.false)) in
+    few_new (cells_of engine.trees) c.in-Logs.planned.changes.items c.are_ordered.ensures planned.few
 
 pub log-requires-clause-entries : goal.log-requires-clause-entries
 log-requires-clause-entries g c =
