@@ -2,28 +2,25 @@
 use Rattle.std.proofs.Common.{◌≡◌, ◌≤◌, ◌<◌, ◌==◌, ◌+◌, ◌^◌, ◌⊎◌, ℕ, zero, suc, Bool, true, false, cond, List, [], Option, None, Some, IsSome, is_some, length, refl, ap, sym, subst, ◌∙◌, inl, inr, is_eq, arith, Result, Ok, Err, OnOk}
 use Rattle.std.specs.Prelude.{IfSome, option_map}
 use Rattle.std.specs.Option.{option_and_then}
-use Rattle.std.specs.Map.{lookup}
 use Rattle.std.specs.Ordering.{nat_cmp}
 use Rattle.std.specs.BTreeMap.{get}
-use Rattle.std.specs.List.{AllByRecursion}
-use Rattle.std.proofs.lemmas.Bool.{true≢false, cases_eq, eq-eqb}
+use Rattle.std.proofs.lemmas.Bool.{true≢false, cases_eq}
 use Rattle.std.proofs.lemmas.List.{get_or_past}
 use Rattle.std.proofs.lemmas.Option.{none-some, same_Some}
 use Rattle.je_order.specs.Order.{name_cmp}
 use Rattle.je_order.specs.declared.name.Name.{Name}
 use Rattle.log_entry.specs.declared.entry.Entry.{Entry}
 use Rattle.log_entry.specs.declared.entry.Entry.TheVariants.{Put, Migrated}
-use Rattle.record_map.specs.declared.cell.Cell.{Cell}
 use Rattle.record_map.specs.Cells.{value_at}
 use Rattle.record_map.proofs.NameLaws.{same_or_other}
-use Rattle.record_tree.specs.LoadedNodes.{LoadedNode, AllNodes, HasPutNode, AreNodesStill, IsLoggedAt, data_put}
+use Rattle.record_tree.specs.LoadedNodes.{LoadedNode, HasPutNode, AreNodesStill, IsLoggedAt, data_put}
 use Rattle.tree_nodes.specs.declared.node.Node.{Node}
 use Rattle.tree_nodes.specs.Nodes.{NodeRow, least}
 use Rattle.tree_nodes.specs.Levels.{row_of, AreParts}
 use Rattle.log_trees.specs.Placed.{Placed}
 use Rattle.log_trees.specs.Trees.{data_in, data_of}
 use Rattle.db_tree.specs.declared.tree.DbTree.{DbTree}
-use Rattle.db_tree.specs.Loading.{loaded_by, loaded_in, HasLoaded, IsLoaded}
+use Rattle.db_tree.specs.Loading.{loaded_by, loaded_in, IsLoaded}
 use Rattle.db_tree.specs.NodeSteps.{IsOneNode}
 use Rattle.db_tree.specs.Stored.{stored_under}
 use Rattle.tree_images.specs.Fits.{FitsTree}
@@ -40,7 +37,7 @@ use Rattle.in_tree.specs.Forest.{Forest, Replaces, IsStepIn, IsSameForest, cells
 use Rattle.in_tree.specs.Loaded.{AreAllParts, node_in, nodes_of, FitsUpTo}
 use Rattle.in_tree.specs.declared.trees.Trees.{Trees}
 use Rattle.in_tree.specs.LoadedFits.{LoadedTreesFit}
-use Rattle.in_tree.specs.LoadedNodes.{HasLoadedIn, IsMadeIn, IsEnsured}
+use Rattle.in_tree.specs.LoadedNodes.{HasLoadedIn, IsEnsured}
 use Rattle.in_tree.specs.Stored.{IsQuiet, stored_of}
 use Rattle.in_tree.proofs.Forests.{number_cases, number_same, replaced, others_away}
 use Rattle.in_tree.proofs.StoredLaws.{stored_at_name}

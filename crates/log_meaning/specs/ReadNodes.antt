@@ -14,7 +14,7 @@ use Rattle.node_core.specs.declared.node.Node.{Node}
 use Rattle.record_tree.specs.LoadedNodes.{AllNodes, node_read, HasPutNode, AreNodesStill}
 use Rattle.record_tree.specs.Stored.{Stored, AllStored, stored_at}
 use Rattle.log_trees.specs.Placed.{Placed}
-use Rattle.log_trees.specs.Changes.{Written, unwritten, LoggedChange, last_of}
+use Rattle.log_trees.specs.Changes.{Written, unwritten, last_of}
 use Rattle.log_trees.specs.Images.{slots_shown, node_at, level_at}
 use Rattle.log_trees.specs.Sound.{Child, children, least_name, Home, IsRootAt}
 use Rattle.log_trees.specs.Trees.{rows_of_roots}

@@ -1,17 +1,15 @@
 -- What trees fit while a log is read again.
-use Rattle.std.proofs.Common.{◌≡◌, ◌<◌, ◌==◌, ◌⊎◌, ℕ, Bool, true, false, cond, List, [], ◌∷◌, ◌++◌, Option, None, Some, Result, Ok, Err, OnOk, refl, ap, sym, subst, ◌∙◌, inl, inr, is_eq}
+use Rattle.std.proofs.Common.{◌≡◌, ◌<◌, ◌==◌, ℕ, Bool, true, false, cond, List, [], ◌∷◌, ◌++◌, None, Some, Result, Ok, Err, OnOk, refl, ap, sym, subst, is_eq}
 use Rattle.std.specs.Prelude.{◌&&◌}
 use Rattle.std.proofs.lemmas.Bool.{and_from, eq-eqb}
 use Rattle.std.specs.List.{AllByRecursion}
-use Rattle.std.specs.Map.{lookup}
 use Rattle.je_order.proofs.Lists.{all_append}
 use Rattle.je_order.specs.Order.{name_cmp}
 use Rattle.je_order.specs.declared.name.Name.{Name}
 use Rattle.je_order.specs.declared.txn_id.TxnId.{TxnId}
 use Rattle.node_core.proofs.NameOrder.{itself}
-use Rattle.log_entry.specs.declared.entry.Entry.{Entry}
 use Rattle.log_entry.specs.declared.entry.Entry.TheVariants.{Put, Delete, Migrated}
-use Rattle.log_trees.specs.Placed.{Placed, AreInOrder}
+use Rattle.log_trees.specs.Placed.{Placed}
 use Rattle.log_trees.specs.Changes.{LoggedChange}
 use Rattle.log_meaning.specs.Redo.{pushed, emptied, set_at, unset_at}
 use Rattle.recovery_je.specs.Putting.{IsLogged, IsIn, FitsRedo, first_lsn}

@@ -1,15 +1,13 @@
 -- Trees that were read from a checkpoint's roots, and a redo over them.
-use Rattle.std.proofs.Common.{◌≡◌, ◌≤◌, ◌<◌, ◌==◌, ◌∙◌, ℕ, Bool, true, false, cond, List, [], ◌∷◌, Option, None, Some, refl, ap, sym, subst, min, arith}
+use Rattle.std.proofs.Common.{◌≡◌, ◌≤◌, ◌<◌, ◌==◌, ◌∙◌, ℕ, Bool, true, false, cond, List, [], ◌∷◌, None, Some, refl, ap, sym, subst, min, arith}
 use Rattle.std.proofs.lemmas.Bool.{eq-eqb, ne_eqb}
 use Rattle.std.specs.List.{AllByRecursion}
 use Rattle.std.specs.Map.{lookup}
 use Rattle.je_order.specs.declared.name.Name.{Name}
 use Rattle.record_map.specs.Cells.{value_at}
 use Rattle.log_entry.specs.Body.{IsEntry}
-use Rattle.log_entry.specs.declared.entry.Entry.{Entry}
-use Rattle.log_entry.specs.declared.root.Root.{Root}
 use Rattle.record_tree.specs.LoadedNodes.{AllNodes, AreNodesStill}
-use Rattle.record_tree.specs.Stored.{Stored, AllStored, AreStoredStill}
+use Rattle.record_tree.specs.Stored.{AllStored, AreStoredStill}
 use Rattle.log_trees.specs.Placed.{Placed, AreInOrder}
 use Rattle.log_trees.specs.Changes.{LoggedChange, unwritten, last_of}
 use Rattle.log_entry.specs.Items.{rises, root_before}

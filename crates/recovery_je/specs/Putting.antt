@@ -3,7 +3,6 @@ use Rattle.std.specs.Prelude.{◌≡◌, ◌≤◌, ◌<◌, ℕ, zero, suc, Boo
 use Rattle.std.specs.List.{AllByRecursion, flat_map, list_all}
 use Rattle.std.specs.Map.{lookup}
 use Rattle.je_order.specs.declared.name.Name.{Name}
-use Rattle.log_entry.specs.declared.entry.Entry.{Entry}
 use Rattle.log_entry.specs.declared.root.Root.{Root}
 use Rattle.node_core.specs.declared.slot.Marked.{Marked}
 use Rattle.record_tree.specs.LoadedNodes.{AllNodes, AreNodesStill, IsLoggedAt}

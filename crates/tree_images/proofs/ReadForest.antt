@@ -4,7 +4,7 @@ use Rattle.std.specs.Prelude.{IfSome, find, option_map}
 use Rattle.std.specs.Option.{option_and_then}
 use mathlib.Core.Path.{fun_ext}
 use Rattle.std.proofs.lemmas.Bool.{true≢false, cases_order, ne_eqb, eq-eqb}
-use Rattle.std.proofs.lemmas.Option.{none-some, same_Some}
+use Rattle.std.proofs.lemmas.Option.{same_Some}
 use Rattle.std.specs.List.{AllByRecursion}
 use Rattle.je_order.specs.declared.name.Name.{Name}
 use Rattle.log_entry.specs.Body.{IsEntry}
@@ -12,19 +12,16 @@ use Rattle.log_entry.specs.declared.root.Root.{Root}
 use Rattle.record_map.specs.declared.cell.Cell.{Cell}
 use Rattle.record_map.specs.Cells.{value_at}
 use Rattle.record_tree.specs.LoadedNodes.{LoadedNode, AllNodes, least}
-use Rattle.record_tree.specs.Stored.{Stored, AllStored}
 use Rattle.tree_nodes.specs.declared.node.Node.{Node}
 use Rattle.tree_nodes.specs.Nodes.{NodeRow, IsOver}
 use Rattle.tree_nodes.specs.Levels.{row_of, AreParts}
 use Rattle.tree_nodes.proofs.LevelLaws.{is_level}
-use Rattle.log_trees.specs.Changes.{Written, unwritten, last_of}
-use Rattle.log_trees.specs.Images.{node_at, level_of, level_at}
-use Rattle.log_trees.specs.Trees.{shows as shows_slot, written_at, tree_shows, shows_by_level, root_of, rows_of_roots, roots_show, data_of}
-use Rattle.log_trees.specs.Sound.{is_within, least_name, Home, at_home, IsTreeAt, IsRootAt}
+use Rattle.log_trees.specs.Images.{level_of, level_at}
+use Rattle.log_trees.specs.Trees.{shows as shows_slot, written_at, tree_shows, shows_by_level, root_of}
+use Rattle.log_trees.specs.Sound.{least_name, Home, at_home, IsTreeAt, IsRootAt}
 use Rattle.log_trees.proofs.Bounds.{within_from, none_below_least}
 use Rattle.log_trees.proofs.Rooted.{RiseFrom, rise_of, roots_show_rows}
-use Rattle.log_meaning.specs.Checkpoint.{Checkpoint}
-use Rattle.log_meaning.specs.ReadNodes.{is_delta, stored_of, ArePutEach, IsRootPut, ArePutBelow, AreReadFrom}
+use Rattle.log_meaning.specs.ReadNodes.{is_delta, stored_of, ArePutEach, IsRootPut}
 use Rattle.db_tree.specs.declared.tree.DbTree.{DbTree}
 use Rattle.db_tree.specs.Content.{held_by}
 use Rattle.db_tree.specs.Images.{Placed, shown, shows}

@@ -1,6 +1,6 @@
 -- The images that trees were read from, in a log without deltas: entries of BINs and of INs, which are sound.
 use Rattle.std.proofs.Common.{◌≡◌, ◌≤◌, ◌<◌, ◌==◌, ℕ, zero, suc, Bool, true, false, cond, List, [], ◌∷◌, Option, None, Some, map, length, refl, ap, sym, subst, ◌∙◌, arith}
-use Rattle.std.specs.Prelude.{◌&&◌, nat_le, nat_lt, IfSome}
+use Rattle.std.specs.Prelude.{◌&&◌, nat_le, nat_lt}
 use Rattle.std.specs.Option.{option_and_then}
 use Rattle.std.proofs.lemmas.Bool.{true≢false, and_parts}
 use Rattle.std.proofs.lemmas.Option.{none-some, same_Some, cond_some}
@@ -11,7 +11,7 @@ use Rattle.node_core.specs.declared.node.Node.{Node}
 use Rattle.node_core.specs.declared.slot.Marked.{Marked}
 use Rattle.node_core.specs.Sorted.{put_all}
 use Rattle.node_core.specs.Changes.{set_now}
-use Rattle.node_log.specs.Images.{node_of, node_with, with_delta, bin_of}
+use Rattle.node_log.specs.Images.{node_with, with_delta, bin_of}
 use Rattle.node_log.specs.Slots.{fresh, slot_of_child, slot_of_record}
 use Rattle.log_entry.specs.Body.{IsEntry}
 use Rattle.log_entry.specs.declared.child_slot.ChildSlot.{ChildSlot}
@@ -24,9 +24,9 @@ use Rattle.log_trees.specs.Building.{child_shown, NamesRecord}
 use Rattle.log_trees.specs.Sound.{is_within, Child, children, Home, at_home, IsRecordAt, IsTreeAt}
 use Rattle.log_meaning.specs.ReadNodes.{is_delta}
 use Rattle.db_tree.specs.Images.{Placed, entry_at}
-use Rattle.tree_images.specs.Sound.{IsNumber, IsSoundImage}
+use Rattle.tree_images.specs.Sound.{IsSoundImage}
 use Rattle.tree_images.proofs.Neighbours.{both_all}
-use Rattle.tree_images.proofs.ReadNodes.{ShowsNodes, IsShown}
+use Rattle.tree_images.proofs.ReadNodes.{ShowsNodes}
 
 -- ---- entries
 

@@ -1,9 +1,9 @@
 -- The nodes of trees that were read: each image's node stands alone within its bounds.
-use Rattle.std.proofs.Common.{◌≡◌, ◌≤◌, ◌<◌, ◌⊎◌, ℕ, zero, suc, Bool, true, false, List, [], ◌∷◌, Option, None, Some, IsSome, refl, ap, sym, subst, ◌∙◌, inl, inr, arith, is_eq, is_lt, Ordering, Less, Equal, Greater}
+use Rattle.std.proofs.Common.{◌≡◌, ◌≤◌, ◌⊎◌, ℕ, zero, suc, Bool, true, false, List, [], ◌∷◌, Option, None, Some, IsSome, refl, ap, sym, subst, ◌∙◌, inl, inr, arith, is_eq, is_lt, Ordering, Less, Equal, Greater}
 use mathlib.Core.Path.{fun_ext}
 use Rattle.std.proofs.Math.Nat.{le_refl}
 use Rattle.std.proofs.lemmas.Bool.{true≢false, cases_eq}
-use Rattle.std.proofs.lemmas.Option.{none-some, same_Some}
+use Rattle.std.proofs.lemmas.Option.{same_Some}
 use Rattle.std.specs.List.{AllByRecursion}
 use Rattle.je_order.specs.Order.{name_cmp}
 use Rattle.je_order.specs.declared.name.Name.{Name}
@@ -173,7 +173,8 @@ module _ (es : List Placed) (keeps : Bool) (most : ℕ) where
     nodes_same zero old new low high at below same tree shown = (shown.0, shown_same old new 0 low high at shown.0 below same shown.1)
     nodes_same (suc k) old new low high at below same tree shown =
         let is : shown.0 ≡ tree.node = same_Some shown.0 tree.node (sym shown.1.image ∙ tree.image) in (
-          shown.0, shown_same old new (suc k) low high at shown.0 below same shown.1,
+          shown.0,
+          shown_same old new (suc k) low high at shown.0 below same shown.1,
           subst (λ (n : Node). AllByRecursion (λ (c : Child). ShowsNodes new k c.low c.high c.at) (children low high (slots_shown n))) (sym is)
               (all_same k old new (nodes_same k old new) low high (slots_shown tree.node) below (λ j q le inside. same j q (let e : j ≤ k = le in omega (arith, e)) inside) (node_within low high tree.node tree.within) tree.up
               (right_children es home d k low high at tree)
@@ -222,12 +223,15 @@ module _ (es : List Placed) (keeps : Bool) (most : ℕ) where
 
     pub nodes_put : (k : ℕ) → Goes k
     nodes_put zero low high at old new put tree below lows clear = record {
-      shown = (put.0, record {
-        image = put.1.image;
-        allocated = put.1.allocated;
-        here = put.1.put.here;
-        alone = λ q some within. put_clear old new d 0 low high _ put.1.put lows clear 0 (le_refl 0) q some within;
-      });
+      shown = (
+        put.0,
+        record {
+          image = put.1.image;
+          allocated = put.1.allocated;
+          here = put.1.put.here;
+          alone = λ q some within. put_clear old new d 0 low high _ put.1.put lows clear 0 (le_refl 0) q some within;
+        },
+      );
       same = put_same old new d 0 low high _ put.1.put lows below;
       stay = put_stays old new d 0 low _ put.1.put;
     }

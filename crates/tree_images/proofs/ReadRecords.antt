@@ -1,7 +1,6 @@
 -- The records of a tree that was read: they stand where the images below its root show them.
-use Rattle.std.proofs.Common.{◌≡◌, ◌<◌, ◌==◌, ℕ, zero, suc, Bool, true, false, cond, List, [], ◌∷◌, ◌++◌, Option, None, Some, refl, ap, sym, subst, ◌∙◌, is_eq}
+use Rattle.std.proofs.Common.{◌≡◌, ℕ, zero, suc, Bool, true, false, cond, List, [], ◌∷◌, Option, None, Some, refl, ap, sym, subst, ◌∙◌, is_eq}
 use Rattle.std.specs.Prelude.{IfSome, option_map}
-use Rattle.std.specs.Option.{option_and_then}
 use Rattle.std.proofs.lemmas.Option.{none-some, same_Some}
 use Rattle.std.specs.List.{AllByRecursion, flat_map}
 use Rattle.je_order.specs.Order.{name_cmp}
@@ -14,7 +13,6 @@ use Rattle.node_core.specs.declared.slot.Version.TheVariants.{There, Deleted, Un
 use Rattle.record_map.specs.declared.cell.Cell.{Cell}
 use Rattle.record_map.specs.Cells.{value_at}
 use Rattle.record_tree.specs.Stored.{Stored, stored_at}
-use Rattle.log_trees.specs.Changes.{Written, unwritten}
 use Rattle.log_trees.specs.Images.{NamedLsn, slots_shown}
 use Rattle.log_trees.specs.Trees.{slots_at, found, data_of, written_at, shows as shows_slot}
 use Rattle.log_trees.specs.Sound.{is_within, Child, children, IsRecordAt, IsTreeAt}

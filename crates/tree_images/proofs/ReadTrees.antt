@@ -1,5 +1,5 @@
 -- A tree whose nodes are those that the images below its root show fits the log.
-use Rattle.std.proofs.Common.{◌≡◌, ◌≤◌, ◌<◌, ◌==◌, ◌⊎◌, ℕ, zero, suc, Bool, true, false, not, List, [], ◌∷◌, Option, None, Some, IsSome, map, length, refl, ap, sym, subst, ◌∙◌, inl, inr, arith, is_eq, is_lt, is_gt, Ordering, Less, Equal, Greater}
+use Rattle.std.proofs.Common.{◌≡◌, ◌≤◌, ◌<◌, ◌⊎◌, ℕ, zero, suc, Bool, true, false, List, [], ◌∷◌, Option, None, Some, IsSome, map, length, refl, ap, sym, subst, ◌∙◌, inl, inr, arith, is_lt, Ordering, Less, Equal, Greater}
 use Rattle.std.specs.Prelude.{IfSome, option_map}
 use Rattle.std.proofs.lemmas.Bool.{true≢false, cases_order, eqb-true}
 use Rattle.std.proofs.lemmas.Option.{none-some, same_Some}
@@ -7,7 +7,6 @@ use Rattle.std.specs.List.{AllByRecursion}
 use Rattle.je_order.specs.Order.{name_cmp}
 use Rattle.je_order.specs.declared.name.Name.{Name}
 use Rattle.je_order.proofs.Lists.{all_weaker}
-use Rattle.node_core.proofs.NameOrder.{total}
 use Rattle.node_core.specs.declared.node.Node.{Node as Shown}
 use Rattle.record_map.specs.Cells.{value_at}
 use Rattle.record_map.proofs.NameLaws.{up_from_back}
@@ -24,12 +23,11 @@ use Rattle.log_trees.specs.Sound.{is_below, is_within, AreUp, Child, children, H
 use Rattle.log_trees.proofs.Bounds.{less_of, within_parts, within_from, not_below_itself, low_turned, within_next, none_below_least}
 use Rattle.log_trees.proofs.Shown.{node_within, right_children}
 use Rattle.log_meaning.specs.ReadNodes.{is_delta}
-use Rattle.db_tree.specs.Images.{Placed, entry_at}
+use Rattle.db_tree.specs.Images.{Placed}
 use Rattle.db_tree.specs.Loading.{loaded_by, loaded_in}
-use Rattle.db_tree.proofs.Over.{there_is}
-use Rattle.tree_images.specs.Sound.{IsNumber, IsSoundImage}
-use Rattle.tree_images.specs.ReadLaws.{IsChildNode, AreChildNodes, IsAsRead, IsUnread}
-use Rattle.tree_images.proofs.Neighbours.{both_all, next_is, none_is}
+use Rattle.tree_images.specs.Sound.{IsNumber}
+use Rattle.tree_images.specs.ReadLaws.{IsChildNode, IsAsRead, IsUnread}
+use Rattle.tree_images.proofs.Neighbours.{next_is, none_is}
 use Rattle.tree_images.proofs.ReadNodes.{ShowsNodes, IsShown, slot_less}
 use Rattle.tree_images.proofs.ReadImages.{IsInEntry, in_entry, in_shown, image_entry, entry_holds, sound, slots_of_sound}
 

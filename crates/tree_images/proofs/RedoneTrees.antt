@@ -1,5 +1,5 @@
 -- Trees where a change is redone.
-use Rattle.std.proofs.Common.{◌≡◌, ◌≤◌, ◌<◌, ◌⊎◌, ◌+◌, ◌^◌, ℕ, suc, List, [], Option, None, Some, refl, sym, subst, inl, inr, arith}
+use Rattle.std.proofs.Common.{◌≡◌, ◌≤◌, ◌<◌, ◌+◌, ◌^◌, ℕ, suc, List, [], Option, None, Some, refl, sym, subst, inl, inr, arith}
 use Rattle.std.specs.Prelude.{IfSome}
 use Rattle.std.proofs.lemmas.List.{append-nil}
 use Rattle.je_order.specs.declared.name.Name.{Name}
@@ -12,15 +12,15 @@ use Rattle.log_trees.specs.Sound.{Home}
 use Rattle.log_trees.specs.Trees.{data_of}
 use Rattle.db_tree.specs.declared.tree.DbTree.{DbTree}
 use Rattle.db_tree.specs.Images.{Placed}
-use Rattle.db_tree.specs.NodeSteps.{AreSplitWaiting, slot_splits}
+use Rattle.db_tree.specs.NodeSteps.{slot_splits}
 use Rattle.db_tree.specs.Shapes.{shape_in}
 use Rattle.db_tree.specs.Splits.{made_for}
 use Rattle.db_tree.specs.Stored.{with_logged, HasLogged}
 use Rattle.db_tree.specs.Trees.{cell_or_fresh}
-use Rattle.tree_images.specs.Fits.{IsRecorded, AreRecorded, AreImaged, FitsTree}
+use Rattle.tree_images.specs.Fits.{IsRecorded, AreRecorded, AreImaged}
 use Rattle.tree_images.specs.Laws.{AgreesUpTo}
 use Rattle.tree_images.specs.PlaceLaws.{home_with}
-use Rattle.tree_images.specs.RedoSteps.{IsSplitFor, HasRedone, FitsAfter, RedoneTreesFit}
+use Rattle.tree_images.specs.RedoSteps.{IsSplitFor, RedoneTreesFit}
 use Rattle.tree_images.proofs.Grown.{homes_agree}
 use Rattle.tree_images.proofs.Longer.{imaged_stays}
 use Rattle.tree_images.proofs.NodeSteps.{same_imaged}
@@ -44,9 +44,11 @@ split_home es home last later d fanout (Some number) x made old rows is few with
     subst (HasHome es home last later d) (sym split.0) (more_numbers es home last later d old.levels (omega (arith, few)) imaged)
 split_home es home last later d fanout (Some number) x made old rows is few within parts (inr split) imaged =
     let made_is : made ≡ made_for (slot_splits fanout x (shape_in old)) (lows_of old.levels) = split.1 in
-    let new : DbTree = record { cells = old.cells; levels = rows } in
-    (home_with home number d (slot_splits fanout x (shape_in old)), homes_agree home last number d (slot_splits fanout x (shape_in old)) (omega (arith, is)),
-     unlogged_imaged es home last d fanout x number later old new parts split.0 (omega (arith, is)) (omega (arith, is, few, made_is)) within imaged)
+    let new : DbTree = record { cells = old.cells; levels = rows } in (
+      home_with home number d (slot_splits fanout x (shape_in old)),
+      homes_agree home last number d (slot_splits fanout x (shape_in old)) (omega (arith, is)),
+      unlogged_imaged es home last d fanout x number later old new parts split.0 (omega (arith, is)) (omega (arith, is, few, made_is)) within imaged,
+    )
 
 recorded : (es : Placed) (d : ℕ) (old new : List (Name × Cell)) (x : Name) (value : Option (List ℕ)) (at : ℕ) → HasLogged old new x value at → IfSome value (λ v. data_of es d x at ≡ Some v) → AreRecorded es d old → AreRecorded es d new
 recorded es d old new x value at h data_is all =
@@ -60,7 +62,8 @@ recorded es d old new x value at h data_is all =
 pub redone_fit : RedoneTreesFit
 redone_fit es base newest home last later d fanout number x value first at made old new is few within less data_is h fits =
     let made_home = split_home es home last later d fanout number x made old h.mid is few within h.was_parts h.split fits.imaged in (
-      made_home.0, made_home.1,
+      made_home.0,
+      made_home.1,
       record {
         tree = h.keeps es base newest less fits.tree;
         imaged = same_imaged es made_home.0 later d [] h.mid new.levels h.nodes made_home.2;

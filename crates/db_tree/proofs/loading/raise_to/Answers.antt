@@ -1,4 +1,4 @@
-use Rattle.std.proofs.Common.{◌≡◌, ◌<◌, ◌≤◌, ◌+◌, ℕ, suc, length, arith}
+use Rattle.std.proofs.Common.{◌≡◌, ◌<◌, ◌≤◌, ◌+◌, suc, length, arith}
 use Rattle.db_tree.specs.Waiting.{waiting_of, count_lows}
 use Rattle.db_tree.proofs.LoadingLaws.{more_then}
 use Rattle.db_tree.proofs.loading.raise_to.Goals as goal

@@ -1,12 +1,9 @@
-use Rattle.std.proofs.Common.{◌+◌, ◌-◌, Some, map, drop, option_copied}
+use Rattle.std.proofs.Common.{◌+◌, Some, map, drop, option_copied}
 use Rattle.std.specs.List.{flat_map}
-use Rattle.std.proofs.lemmas.Result.{on_ok_weaker}
-use Rattle.log_meaning.specs.ReadNodes.{IsNodePut, ArePutBelow}
 use Rattle.log_trees.specs.Images.{slot_shown}
 use Rattle.log_trees.specs.Sound.{children}
 use Rattle.log_trees.specs.Walk.{read_child, read_node}
-use Rattle.record_tree.specs.LoadedNodes.{AllNodes}
-use Rattle.recovery_je.specs.Putting.{child_put, below_put}
+use Rattle.recovery_je.specs.Putting.{child_put}
 use Rattle.recovery_je.specs.Walking.{IsWalking, waiting}
 use Rattle.recovery_je.proofs.PutLaws.{putting_on, put_node_then, put_one}
 use Rattle.recovery_je.proofs.WalkLaws.{walking_on}

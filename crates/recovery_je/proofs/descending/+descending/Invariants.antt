@@ -25,10 +25,10 @@ decreases-read_below g l = l.above + l.above + l.above + l.above
 abbrev pub invariant-read_children-loop-marked : goal.invariant-read_children-loop-marked
 invariant-read_children-loop-marked g l = record {
   walk :
-    (walk : Walk) → IsWalking (g.T.Loads.stored l.initial.walking.trees) l.initial.walking.seen.keys l.initial.walking.node l.initial.walking.db walk →
-    IsWalkingOn (read_child (map (λ f. f.0) l.files) (read_node (map (λ f. f.0) l.files) l.entries l.d l.above) l.at) (children l.initial.low (option_copied l.high) (flat_map slot_shown l.slots))
-    (children_left l.low (option_copied l.high) (option_copied l.pending) (flat_map slot_shown (drop l.marked-index l.slots)))
-    (IsWalking (g.T.Loads.stored l.walking.trees) l.walking.seen.keys l.walking.node l.walking.db) walk;
+      (walk : Walk) → IsWalking (g.T.Loads.stored l.initial.walking.trees) l.initial.walking.seen.keys l.initial.walking.node l.initial.walking.db walk →
+      IsWalkingOn (read_child (map (λ f. f.0) l.files) (read_node (map (λ f. f.0) l.files) l.entries l.d l.above) l.at) (children l.initial.low (option_copied l.high) (flat_map slot_shown l.slots))
+      (children_left l.low (option_copied l.high) (option_copied l.pending) (flat_map slot_shown (drop l.marked-index l.slots)))
+      (IsWalking (g.T.Loads.stored l.walking.trees) l.walking.seen.keys l.walking.node l.walking.db) walk;
   nodes : IsPuttingOn g.T.Loads.nodes (child_put l.entries l.d l.above) (children l.initial.low (option_copied l.high) (flat_map slot_shown l.slots))
       (children_left l.low (option_copied l.high) (option_copied l.pending) (flat_map slot_shown (drop l.marked-index l.slots))) l.initial.walking l.walking;
 }

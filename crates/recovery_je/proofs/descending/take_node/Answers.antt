@@ -1,4 +1,4 @@
-use Rattle.std.proofs.Common.{◌≡◌, ◌≤◌, ◌-◌, ℕ, Bool, ◌∙◌, sym, map, option_copied}
+use Rattle.std.proofs.Common.{◌≤◌, ◌-◌, ℕ, Bool, ◌∙◌, sym, map, option_copied}
 use Rattle.log_meaning.specs.ReadNodes.{IsNodePut}
 use Rattle.log_trees.proofs.Right.{here-is}
 use Rattle.log_trees.specs.Walk.{read_here}

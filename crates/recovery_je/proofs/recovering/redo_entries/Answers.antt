@@ -1,4 +1,3 @@
-use Rattle.std.proofs.Common.{◌∙◌, ap, sym}
 use Rattle.log_meaning.specs.Redo.{nothing_redone}
 use Rattle.log_meaning.specs.Checkpoint.{behind}
 use Rattle.recovery_je.proofs.MeaningLaws.{redo_begins, redo_ends, same_stored}

@@ -2,7 +2,7 @@ use Rattle.std.proofs.Common.{subst}
 use Rattle.log_entry.specs.declared.entry.Entry.{Entry}
 use Rattle.recovery_je.specs.Putting.{IsIn}
 use Rattle.std.proofs.lemmas.Result.{on_ok_weaker}
-use Rattle.recovery_je.proofs.FitLaws.{fits_put, fits_made, fits_one, logged_put, logged_migrated, logged_delete}
+use Rattle.recovery_je.proofs.FitLaws.{fits_put, fits_made, fits_one, logged_put, logged_migrated}
 use Rattle.recovery_je.proofs.RedoingLaws.{committed, migrated}
 use Rattle.recovery_je.proofs.redoing.take_entry.Goals as goal
 

@@ -1,4 +1,4 @@
-use Rattle.std.proofs.Common.{◌≡◌, ◌≤◌, ℕ, max, refl, rules, arith}
+use Rattle.std.proofs.Common.{◌≡◌, ◌≤◌, max, refl, rules, arith}
 use Rattle.std.specs.BTreeSet.{insert_key}
 use Rattle.std.specs.Ordering.{nat_cmp}
 use Rattle.recovery_je.proofs.WalkLaws.{met_one}

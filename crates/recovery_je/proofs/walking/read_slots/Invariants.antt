@@ -11,8 +11,8 @@ use Rattle.recovery_je.proofs.walking.read_slots.Given as goal
 abbrev pub invariant-loop-marked : goal.invariant-loop-marked
 invariant-loop-marked g l = record {
   walk :
-    (walk : Walk) → IsWalking (g.T.Loads.stored l.initial.walking.trees) l.initial.walking.seen.keys l.initial.walking.node l.initial.walking.db walk →
-    IsWalkingOn (read_record (map (λ f. f.0) l.files) l.entries l.d l.at) (flat_map slot_shown l.slots) (flat_map slot_shown (drop l.marked-index l.slots))
-    (IsWalking (g.T.Loads.stored l.walking.trees) l.walking.seen.keys l.walking.node l.walking.db) walk;
+      (walk : Walk) → IsWalking (g.T.Loads.stored l.initial.walking.trees) l.initial.walking.seen.keys l.initial.walking.node l.initial.walking.db walk →
+      IsWalkingOn (read_record (map (λ f. f.0) l.files) l.entries l.d l.at) (flat_map slot_shown l.slots) (flat_map slot_shown (drop l.marked-index l.slots))
+      (IsWalking (g.T.Loads.stored l.walking.trees) l.walking.seen.keys l.walking.node l.walking.db) walk;
   nodes : (k : ℕ) (x : Name) → IsSome (g.T.Loads.nodes l.initial.walking.trees l.d k x) → HasPut g.T.Loads.nodes none_put l.initial.walking l.walking;
 }

@@ -1,4 +1,4 @@
-use Rattle.std.proofs.Common.{◌≡◌, ◌+◌, min, arith}
+use Rattle.std.proofs.Common.{arith}
 use Rattle.in_tree.proofs.LoadedLaws.{redo_fits}
 use Rattle.in_tree.proofs.trees.Trees.redo.Goals as goal
 
