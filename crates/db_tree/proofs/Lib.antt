@@ -64,3 +64,5 @@ pub mod Ending
 pub mod NodeSteps
 -- Nodes that are split without being logged wait to be logged.
 pub mod WaitingNodes
+-- Nodes that are put while a log is read again.
+pub mod LoadingLaws

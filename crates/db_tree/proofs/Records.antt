@@ -1,5 +1,5 @@
 -- Changes of a tree's records keep that it fits its log.
-use Rattle.std.proofs.Common.{◌≡◌, ◌≤◌, ◌⊎◌, ℕ, List, Bool, true, false, cond, Option, None, Some, IsSome, option_map, refl, ap, sym, subst, ◌∙◌, inl, inr, arith, is_eq}
+use Rattle.std.proofs.Common.{◌≡◌, ◌<◌, ◌≤◌, ◌⊎◌, ℕ, List, Bool, true, false, cond, Option, None, Some, IsSome, option_map, refl, ap, sym, subst, ◌∙◌, inl, inr, arith, is_eq}
 use Rattle.std.proofs.lemmas.Option.{same_Some}
 use Rattle.je_order.specs.Order.{name_cmp}
 use Rattle.je_order.specs.declared.name.Name.{Name}
@@ -65,20 +65,27 @@ over_marked old new level x from e m over =
 -- ---- commits
 
 -- a name's BIN is marked, and the name has other data
-pub commits : (es : Placed) (base : ℕ) (newest : Name → ℕ) (old new : List NodeRow) (held next : Name → Option ℕ) (name : Name) (from : ℕ) →
-    HasMarkedAt old new 0 name from → from ≤ newest name → ((x : Name) → is_eq (name_cmp name x) ≡ false → next x ≡ held x) →
+pub changes : (es : Placed) (base : ℕ) (newest : Name → ℕ) (old new : List NodeRow) (held next : Name → Option ℕ) (name : Name) (from : ℕ) →
+    HasMarkedAt old new 0 name from → (from ≤ newest name) ⊎ (from < base) → ((x : Name) → is_eq (name_cmp name x) ≡ false → next x ≡ held x) →
     IsTreeOf es base newest old held → IsTreeOf es base newest new next
-commits es base newest old new held next name from m le others tree =
+changes es base newest old new held next name from m marked others tree =
     committed es base newest new held next (λ x e over. by_name x e over (same_or_other name x)) (marks es base newest old new held 0 name from m tree)
   where
     behind : (e : Name × Node) → IsOver (row_of new 0) name e → IsBehind base newest e.1 name
-    behind e over =
-        let low : earlier m.e.1.from from ≤ from = earlier_below m.e.1.from from in
-        (earlier m.e.1.from from, ap (λ (n : Node). n.from) (over_marked old new 0 name from e m over), inl (omega arith))
+    behind e over = (earlier m.e.1.from from, ap (λ (n : Node). n.from) (over_marked old new 0 name from e m over), by_mark marked)
+      where
+        by_mark : (from ≤ newest name) ⊎ (from < base) → (earlier m.e.1.from from ≤ newest name) ⊎ (earlier m.e.1.from from < base)
+        by_mark (inl le) = let low : earlier m.e.1.from from ≤ from = earlier_below m.e.1.from from in inl (omega (arith, low, le))
+        by_mark (inr less) = let low : earlier m.e.1.from from ≤ from = earlier_below m.e.1.from from in inr (omega (arith, low, less))
 
     by_name : (x : Name) (e : Name × Node) → IsOver (row_of new 0) x e → (name ≡ x) ⊎ (is_eq (name_cmp name x) ≡ false) → (next x ≡ held x) ⊎ IsBehind base newest e.1 x
     by_name x e over (inl same) = inr (subst (λ (y : Name). IsBehind base newest e.1 y) same (behind e (subst (λ (y : Name). IsOver (row_of new 0) y e) (sym same) over)))
     by_name x e over (inr apart) = inl (others x apart)
+
+pub commits : (es : Placed) (base : ℕ) (newest : Name → ℕ) (old new : List NodeRow) (held next : Name → Option ℕ) (name : Name) (from : ℕ) →
+    HasMarkedAt old new 0 name from → from ≤ newest name → ((x : Name) → is_eq (name_cmp name x) ≡ false → next x ≡ held x) →
+    IsTreeOf es base newest old held → IsTreeOf es base newest new next
+commits es base newest old new held next name from m le others tree = changes es base newest old new held next name from m (inl le) others tree
 
 -- cells that differ at one name alone hold the same under the others
 pub held_apart : (old new : List (Name × Cell)) (name : Name) (o : Option Cell) → ((x : Name) → value_at x new ≡ cond (is_eq (name_cmp name x)) o (value_at x old)) →

@@ -12,3 +12,4 @@ pub mod Shapes
 pub mod Placing
 pub mod Numbers
 pub mod NodeSteps
+pub mod Loading

@@ -1,7 +1,10 @@
 // Records and nodes that a log has are put into a tree.
-ghost use Rattle.std.specs.Prelude.{◌≡◌, ◌<◌, ◌≤◌, ◌+◌, ℕ, suc, false, length, OnOk, OnErr, IsSome, IfOk};
+ghost use Rattle.std.specs.Prelude.{◌≡◌, ◌<◌, ◌≤◌, ◌+◌, ◌-◌, ℕ, suc, length, OnOk, OnErr, IsSome, IfOk};
+ghost use Rattle.je_order.specs.declared.name.Name.{Name};
 ghost use Rattle.record_map.specs.Cells.{value_at, IsRising};
 ghost use Rattle.tree_nodes.specs.Levels.{row_of};
+ghost use Rattle.record_tree.specs.LoadedNodes.{node_read};
+ghost use Rattle.db_tree.specs.Loading.{loaded_by, HasMore, HasLoaded, IsLoaded};
 ghost use Rattle.db_tree.specs.Trees.{HasCell};
 ghost use Rattle.db_tree.specs.Stored.{loaded_cell};
 ghost use Rattle.db_tree.specs.Shapes.{count_in};
@@ -41,23 +44,35 @@ fn count_there(slots: &[Marked]) -> u32
     count
 }
 
-// The node that its image at `at` shows.
-fn shown_node(image: &Image, at: Lsn) -> Node
-    ensures { result.forced ≡ false }
+// The node that its image at `at` shows. Where that is not to be kept as its last one, the node waits to be logged.
+fn shown_node(image: &Image, at: Lsn, keeps: bool) -> Node
+    ensures { loaded_by result ≡ node_read image.now.number at keeps }
 {
+    let slots = count_there(image.slots.as_slice());
+    if keeps {
+        return Node {
+            number: image.number,
+            last: Some(at),
+            from: None,
+            slots,
+            forced: false,
+            noted: false,
+        };
+    }
     Node {
         number: image.number,
-        last: Some(at),
-        from: None,
-        slots: count_there(image.slots.as_slice()),
-        forced: false,
+        last: None,
+        from: Some(at),
+        slots,
+        forced: true,
         noted: false,
     }
 }
 
 // The level of the node, the BINs first.
 fn level_of(image: &Image) -> usize
-    ensures { result < 256 }
+    ensures level { result ≡ image.now.level - 1 }
+    ensures few { result < 256 }
 {
     usize::from(image.level).saturating_sub(1)
 }
@@ -77,6 +92,7 @@ fn unlogged(number: u64) -> Node {
 // Puts a node without an image above the top.
 fn raise_one(levels: &mut Levels, alloc: Global, number: u64) -> Result<(), AllocError>
     ensures height { OnOk result (length levels.new ≡ suc (length levels.old)) }
+    ensures more { (level : ℕ) (low : Name) → length levels.old ≤ level → OnOk result (HasMore levels.old levels.new level low) }
     ensures few { count_lows (waiting_of levels.new) ≤ count_lows (waiting_of levels.old) + 1 }
 {
     levels.raise(alloc, unlogged(number))
@@ -91,6 +107,7 @@ fn raise_to(
 ) -> Result<usize, AllocError>
     requires { level < 256 }
     ensures height { OnOk result (level < length levels.new) }
+    ensures more { (low : Name) → OnOk result (HasMore levels.old levels.new level low) }
     ensures few { IfOk result (λ made. count_lows (waiting_of levels.new) ≤ count_lows (waiting_of levels.old) + made) }
     ensures made { IfOk result (λ made. made ≤ 256) }
     ensures most { count_lows (waiting_of levels.new) ≤ count_lows (waiting_of levels.old) + 256 }
@@ -115,6 +132,7 @@ fn put_low(
     requires nested { (k : ℕ) → level ≡ suc k → IsSome (value_at low.now (row_of levels.old k)) }
     ensures here { OnOk result (IsSome (value_at low.now (row_of levels.new level))) }
     ensures height { OnOk result (length levels.new ≡ length levels.old) }
+    ensures more { (top : ℕ) → level ≤ top → OnOk result (HasMore levels.old levels.new top low.now) }
     ensures few { IfOk result (λ made. count_lows (waiting_of levels.new) ≤ count_lows (waiting_of levels.old) + made) }
     ensures made { IfOk result (λ made. made ≤ 1) }
     ensures most { count_lows (waiting_of levels.new) ≤ count_lows (waiting_of levels.old) + 1 }
@@ -138,6 +156,7 @@ fn put_lows(
     requires there { level < length levels.old }
     requires level { level < 256 }
     ensures here { OnOk result (IsSome (value_at low.now (row_of levels.new level))) }
+    ensures more { OnOk result (HasMore levels.old levels.new level low.now) }
     ensures few { IfOk result (λ made. count_lows (waiting_of levels.new) ≤ count_lows (waiting_of levels.old) + made) }
     ensures made { IfOk result (λ made. made ≤ 256) }
     ensures most { count_lows (waiting_of levels.new) ≤ count_lows (waiting_of levels.old) + 256 }
@@ -151,7 +170,7 @@ fn put_lows(
 }
 
 // Puts a node of a level under its low. The lows of a level are among those of the level below, so the low is put there too, and
-// the nodes that it gets there come later.
+// the nodes that it gets there come later. It gives how many nodes wait for this at most, this one among them.
 fn put_node(
     levels: &mut Levels,
     alloc: Global,
@@ -160,34 +179,37 @@ fn put_node(
     node: Node,
 ) -> Result<usize, AllocError>
     requires level { level < 256 }
-    requires logged { node.forced ≡ false }
+    ensures loaded { OnOk result (HasLoaded levels.old levels.new level low.now node) }
     ensures few { IfOk result (λ made. count_lows (waiting_of levels.new) ≤ count_lows (waiting_of levels.old) + made) }
-    ensures made { IfOk result (λ made. made ≤ 512) }
-    ensures most { count_lows (waiting_of levels.new) ≤ count_lows (waiting_of levels.old) + 512 }
+    ensures made { IfOk result (λ made. made ≤ 513) }
+    ensures most { count_lows (waiting_of levels.new) ≤ count_lows (waiting_of levels.old) + 513 }
 {
     let raised = raise_to(levels, alloc, level, node.number)?;
     let made = put_lows(levels, alloc, level, low, node.number)?;
     let _height = levels.height();
     levels.set(level, low, node);
-    Ok(raised + made)
+    Ok(raised + made + 1)
 }
 
 impl DbTree {
-    /// Puts a node as its image at `at` shows it. No name in it is below the low. Where the levels had no such low, other nodes stand
-    /// there that wait to be logged, until their images come; it gives how many were made at most.
+    /// Puts a node as its image at `at` shows it. No name in it is below the low. Where that image is not to be kept as its last one, the
+    /// node waits to be logged. Where the levels had no such low, other nodes stand there that wait to be logged, until their images
+    /// come; it gives how many nodes wait more at most.
     pub fn load_node(
         &mut self,
         alloc: Global,
         image: &Image,
         low: &SortKey,
         at: Lsn,
+        keeps: bool,
     ) -> Result<usize, AllocError>
         ensures cells { self.new.cells ≡ self.old.cells }
+        ensures loaded { OnOk result (IsLoaded self.old.levels self.new.levels (image.now.level - 1) low.now (node_read image.now.number at keeps)) }
         ensures few { IfOk result (λ made. count_in self.new ≤ count_in self.old + made) }
-        ensures made { IfOk result (λ made. made ≤ 512) }
-        ensures most { count_in self.new ≤ count_in self.old + 512 }
+        ensures made { IfOk result (λ made. made ≤ 513) }
+        ensures most { count_in self.new ≤ count_in self.old + 513 }
     {
-        let node = shown_node(image, at);
+        let node = shown_node(image, at, keeps);
         put_node(&mut self.levels, alloc, level_of(image), low, node)
     }
 

@@ -1,5 +1,5 @@
 // The tree of one database.
-ghost use Rattle.std.specs.Prelude.{◌≡◌, ◌≤◌, ◌++◌, ◌∷◌, ℕ, true, [], Option, None, Some, IsSome, IfOk, IfSome, OnOk, OnErr, option_map, if◌then◌else◌};
+ghost use Rattle.std.specs.Prelude.{◌≡◌, ◌<◌, ◌≤◌, ◌⊎◌, ◌++◌, ◌∷◌, ℕ, true, [], Option, None, Some, IsSome, IfOk, IfSome, OnOk, OnErr, option_map, if◌then◌else◌};
 ghost use Rattle.std.specs.Ordering.{is_eq};
 ghost use Rattle.je_order.specs.Order.{name_cmp};
 ghost use Rattle.je_order.specs.declared.name.Name.{Name};
@@ -242,7 +242,7 @@ impl DbTree {
         ensures err { OnErr result (self.new.cells ≡ self.old.cells) }
         ensures waits { AreAlike self.old.levels self.new.levels }
         ensures nodes { AreSameNodes self.old.levels self.new.levels }
-        ensures tree { (es : Placed) (base : ℕ) (newest : Name → ℕ) → first ≤ newest name.now → IsTree es base newest self.old.levels self.old.cells → IsTree es base newest self.new.levels self.new.cells }
+        ensures tree { (es : Placed) (base : ℕ) (newest : Name → ℕ) → (first ≤ newest name.now) ⊎ (first < base) → IsTree es base newest self.old.levels self.old.cells → IsTree es base newest self.new.levels self.new.cells }
     {
         let _height = self.levels.height();
         let _before = self.cells.len();

@@ -24,7 +24,7 @@ use Rattle.log_replay.proofs.ListLaws.{all_to_map}
 use Rattle.log_replay.specs.Logging.{number_named}
 use Rattle.log_replay.specs.Rows.{Row, Rows, catalog_number, data_at, numbers_of, store_of}
 use Rattle.log_trees.specs.Placed.{Placed, placed}
-use Rattle.log_meaning.specs.Checkpoint.{restarted}
+use Rattle.log_meaning.specs.Checkpoint.{last_checkpoint, restarted}
 use Rattle.log_meaning.specs.Found.{IsBegun}
 use Rattle.log_meaning.specs.Meaning.{Meaning, rows_of}
 use Rattle.log_meaning.specs.Recovery.{IsOpened as IsOpenedWith}
@@ -41,6 +41,7 @@ use Rattle.tree_images.specs.Forest.{ForestFits}
 use Rattle.tree_images.proofs.ForestSteps.{forest_same}
 use Rattle.in_tree.specs.Growing.{none_due, trees_at}
 use Rattle.in_tree.specs.Observed.{cells_of, last_node_of, trees_of}
+use Rattle.in_tree.proofs.LoadedLaws.{read_fits}
 use Rattle.in_tree.specs.Whole.{has_tree_in, last_number_of, stored_within, waits_within}
 use Rattle.txn_core.specs.Known.{committed}
 use Rattle.txn_core.proofs.RecordPlanLaws.{all_found}
@@ -193,13 +194,16 @@ pub record IsNodeBound (r : Recovered Trees) (bound : ℕ) : Type 0 where
   pub waits : waits_within r.trees ≤ waiting_for r.entries
   pub fits : FitWhatWasRead r
 
+bound_is : (sum bound : ℕ) → Some bound ≡ cond (nat_lt last_number sum) None (Some sum) → (bound ≡ sum) × (bound ≤ last_number)
+bound_is sum bound h = by_test (nat_lt last_number sum) refl h
+  where
+    by_test : (b : Bool) → nat_lt last_number sum ≡ b → Some bound ≡ cond b None (Some sum) → (bound ≡ sum) × (bound ≤ last_number)
+    by_test true test h = cc
+    by_test false test h = let is : bound ≡ sum = cc in (is, grind (arith, nat_tests))
+
 pub bound_found : (r : Recovered Trees) (bound : ℕ) → FitWhatWasRead r → waits_within r.trees ≤ waiting_for r.entries →
     Some bound ≡ cond (nat_lt last_number (r.last_node + numbers_for (r.entries + 1))) None (Some (r.last_node + numbers_for (r.entries + 1))) → IsNodeBound r bound
-bound_found r bound fits waits h = by_test (nat_lt last_number (r.last_node + numbers_for (r.entries + 1))) refl h
-  where
-    by_test : (b : Bool) → nat_lt last_number (r.last_node + numbers_for (r.entries + 1)) ≡ b → Some bound ≡ cond b None (Some (r.last_node + numbers_for (r.entries + 1))) → IsNodeBound r bound
-    by_test true test h = cc
-    by_test false test h = let is : bound ≡ r.last_node + numbers_for (r.entries + 1) = cc in record { is = is; within = grind (arith, nat_tests); waits = waits; fits = fits }
+bound_found r bound fits waits h = let both = bound_is (r.last_node + numbers_for (r.entries + 1)) bound h in record { is = both.0; within = both.1; waits = waits; fits = fits }
 
 -- it is that of the files
 bound_held : (observable : Bool) (reads : Files) (r : Recovered Trees) (w : WasRead observable reads r) (bound : ℕ) → IsNodeBound r bound → bound ≡ node_bound w.held (meaning_read r)
@@ -218,6 +222,17 @@ no_numbers reads r w h = record {
   by_test : (b : Bool) → nat_lt last_number (r.last_node + numbers_for (r.entries + 1)) ≡ b → None ≡ cond b None (Some (r.last_node + numbers_for (r.entries + 1))) → last_number < r.last_node + numbers_for (r.entries + 1)
   by_test true test h = grind (arith, nat_tests)
   by_test false test h = cc
+
+-- the numbers of nodes have not ended
+pub more_left : (trees : Trees) (last : ℕ) → last ≡ last_number_of trees → last < last_number → last_number_of trees < last_number
+more_left trees last is more = subst (λ (n : ℕ). n < last_number) is more
+
+-- the trees fit the log that was read
+pub fit_read : (r : Recovered Trees) → last_number_of r.trees < last_number → FitWhatWasRead r
+fit_read r more observable reads w base below =
+    let again = w.is.fit in
+    let es = placed (log_in w.held) in
+    again.fit base below (read_fits again.read es (last_checkpoint es) base again.formed again.roots below) more
 
 -- ---- the environment
 

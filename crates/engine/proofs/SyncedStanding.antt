@@ -1,11 +1,10 @@
 -- Where an environment stands after a sync, and after a fault of the disk.
-use Rattle.std.proofs.Common.{◌≡◌, ℕ, ◌∙◌, Bool, false, Option, Some, sym, subst}
+use Rattle.std.proofs.Common.{◌≡◌, ℕ, ◌∙◌, Bool, false, Option, Some}
 use Rattle.je_disk.specs.States.{State}
 use Rattle.store_model.specs.declared.answer.Fault.TheVariants.{Disk}
 use Rattle.je_answers.specs.Alone.{Alone}
 use Rattle.log_file.specs.Log.{Log}
 use Rattle.log_buffer.specs.declared.buffer.LogBuffer.{LogBuffer}
-use Rattle.log_buffer.specs.declared.log_pos.LogPos.{LogPos}
 use Rattle.log_buffer.specs.Buffer.{end_of, file_max_of, has_failed}
 use Rattle.log_buffer.specs.Log.{HasLog}
 use Rattle.engine.specs.Contents.{Contents, HasFaulted}

@@ -19,10 +19,12 @@ use Rattle.log_trees.specs.Placed.{placed}
 use Rattle.log_meaning.specs.Meaning.{Meaning}
 use Rattle.log_meaning.specs.Reading.{reading_of}
 use Rattle.recovery_je.specs.Answer.{HasFiles, IsRecoveredFrom}
+use Rattle.recovery_je.specs.Putting.{HasReadAgain}
 use Rattle.recovery_je.specs.declared.recovered.Recovered.{Recovered}
 use Rattle.in_tree.specs.declared.trees.Trees.{Trees}
 use Rattle.tree_images.specs.Forest.{ForestFits}
 use Rattle.in_tree.specs.Growing.{trees_at}
+use Rattle.in_tree.specs.LoadedFits.{fits_within, formed_within, nodes_within}
 use Rattle.in_tree.specs.Observed.{cells_of, has_tree_of, last_node_of, trees_of, waits_of}
 use Rattle.in_tree.specs.Stored.{committed_cell}
 use Rattle.in_tree.specs.Whole.{has_tree_in, last_number_of, stored_within, waits_within}
@@ -68,7 +70,8 @@ meaning_read r = record { store = r.opening; last_txn = r.last_txn; last_node = 
 
 -- the log of a disk with these files was read
 abbrev pub WasRead : Bool → Files → Recovered Trees → Type 0
-WasRead observable reads r = HasFiles observable reads (IsRecoveredFrom (meaning_read r) (has_tree_in r.trees) (stored_within r.trees) r.databases r.records r.entries r.tail)
+WasRead observable reads r = HasFiles observable reads (IsRecoveredFrom (meaning_read r) (has_tree_in r.trees) (stored_within r.trees) r.databases r.records r.entries r.tail
+    (HasReadAgain formed_within nodes_within stored_within last_number_of fits_within r.trees))
 
 -- the trees that were made fit the log, where no LSN of it is of the life that begins
 abbrev pub FitFound : Recovered Trees → List (ℕ × List ℕ) → Type 0

@@ -12,7 +12,7 @@ ghost use Rattle.engine.specs.Untouched.{IsLeftAlone};
 ghost use Rattle.store_model.specs.Store.{no_databases};
 ghost use Rattle.in_tree.specs.Whole.{waits_within};
 ghost use Rattle.engine.specs.Limits.{last_number, numbers_for, waiting_for};
-ghost use Rattle.engine.specs.Opening.{FitWhatWasRead, HasBegun, HasTornTailCut, IsSettling, StartsLog, StopsBy, WasRead, cut_off, log_start_of};
+ghost use Rattle.engine.specs.Opening.{HasBegun, HasTornTailCut, IsSettling, StartsLog, StopsBy, WasRead, cut_off, log_start_of};
 ghost use Rattle.engine.specs.Whole.{CanGoOn, IsOpened, IsOpenedSafely, disk_of};
 ghost use Rattle.je_lsn.specs.declared.file_no.TheConstants.{LAST_FILE};
 
@@ -76,7 +76,6 @@ fn read_disk<D: Disk>(
     ensures moments { D.observable ≡ true → Passes (D.history disk.old) (D.history disk.new) (λ s. s ≡ now (D.history disk.old)) }
     ensures read { IfOk result (WasRead D.observable (now (D.history disk.old)).reads) }
     ensures waits { IfOk result (λ read. waits_within read.trees ≤ waiting_for read.entries) }
-    ensures fits { IfOk result FitWhatWasRead }
     ensures none_out { OnOk result (D.sync_out disk.new ≡ None) }
     ensures stops { IfErr result (λ error. StopsBy D.observable (now (D.history disk.old)).reads (D.faults disk.old) (D.faults disk.new) error) }
     ensures never_falls { D.faults disk.old ≤ D.faults disk.new }
@@ -195,7 +194,8 @@ fn begin<D: Disk>(log: LogBuffer<D>, read: Recovered<LoadedTrees>, last_node: u6
     }
 }
 
-// Opens the environment whose log was read.
+// Opens the environment whose log was read. Where its bound leaves numbers, those of nodes that were made have not ended; were it so,
+// this would run out of memory.
 fn go_on<D: Disk>(
     alloc: Global,
     disk: D,
@@ -206,7 +206,6 @@ fn go_on<D: Disk>(
     requires small { IfSome read.tail (λ last. last.file.0 ≤ LAST_FILE) }
     requires file_max { file_max ≤ 1073741824 }
     requires waits { waits_within read.trees ≤ waiting_for read.entries }
-    requires fits { FitWhatWasRead read }
     ensures opened { (reads : Reads) → WasRead D.observable reads read → (D.observable ≡ true → (now (D.history disk)).reads ≡ reads)
         → IfOk result (λ opened. IsOpened file_max D.observable reads (now (D.history (disk_of opened.engine))) opened.engine opened.opening) }
     ensures crash { D.observable ≡ true → (reads : Reads) → WasRead D.observable reads read → (now (D.history disk)).reads ≡ reads
@@ -227,6 +226,10 @@ fn go_on<D: Disk>(
             disk,
         });
     };
+    if read.trees.last_node() >= LAST_NODE {
+        let error = OpenErr::Memory;
+        return Err(Stopped { error, disk });
+    }
     let mut disk = disk;
     if settle(&mut disk, read.tail).is_err() {
         return Err(Stopped {

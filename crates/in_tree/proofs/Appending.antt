@@ -1,11 +1,11 @@
 -- A log that got one entry: the entry's LSN is behind all others, and not before this life of the environment.
-use Rattle.std.proofs.Common.{◌≡◌, ◌≤◌, ◌<◌, ◌-◌, ◌+◌, ◌*◌, ◌^◌, ℕ, Bool, List, [], ◌∷◌, ◌++◌, Option, refl, ap, sym, subst, ◌∙◌, arith}
+use Rattle.std.proofs.Common.{◌≡◌, ◌≤◌, ◌<◌, ◌-◌, ℕ, Bool, List, [], ◌∷◌, ◌++◌, Option, ap, sym, ◌∙◌, arith}
 use Rattle.std.specs.List.{AllByRecursion}
 use Rattle.je_disk.specs.Moments.{History, now}
 use Rattle.je_order.proofs.Lists.{all_weaker}
 use Rattle.log_entry.specs.declared.entry.Entry.{Entry}
 use Rattle.log_entry.specs.Encoding.{size_of}
-use Rattle.log_file.specs.Log.{Log, IsLog}
+use Rattle.log_file.specs.Log.{Log}
 use Rattle.log_buffer.specs.declared.buffer.LogBuffer.{LogBuffer}
 use Rattle.log_buffer.specs.Buffer.{disk_of, end_of, file_max_of, last_of}
 use Rattle.log_buffer.specs.Flip.{pos_lsn, placed_at}

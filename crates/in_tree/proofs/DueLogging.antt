@@ -1,5 +1,5 @@
 -- Images that are due are logged, and changes behind them: the trees fit the longer log.
-use Rattle.std.proofs.Common.{◌≡◌, ◌≤◌, ◌<◌, ◌⊎◌, ◌==◌, ◌&&◌, ◌++◌, ℕ, Bool, true, false, cond, List, [], ◌∷◌, Option, None, Some, IsSome, length, refl, ap, ap₂, sym, subst, ◌∙◌, inl, inr, arith, is_eq}
+use Rattle.std.proofs.Common.{◌≡◌, ◌≤◌, ◌<◌, ◌==◌, ◌&&◌, ◌++◌, ℕ, Bool, true, cond, List, [], ◌∷◌, Option, None, Some, IsSome, length, refl, ap, ap₂, sym, subst, ◌∙◌, arith, is_eq}
 use Rattle.std.specs.Prelude.{Box, IfSome}
 use Rattle.std.specs.Global.{Global}
 use Rattle.std.specs.List.{AllByRecursion}
@@ -16,7 +16,7 @@ use Rattle.je_order.specs.declared.txn_id.TxnId.{TxnId}
 use Rattle.log_entry.specs.Body.{IsEntry}
 use Rattle.log_entry.specs.Encoding.{size_of}
 use Rattle.log_entry.specs.declared.entry.Entry.{Entry}
-use Rattle.log_entry.specs.declared.entry.Entry.TheVariants.{Put, Delete}
+use Rattle.log_entry.specs.declared.entry.Entry.TheVariants.{Put}
 use Rattle.log_file.specs.Log.{Log}
 use Rattle.log_buffer.specs.declared.buffer.LogBuffer.{LogBuffer}
 use Rattle.log_buffer.specs.Buffer.{disk_of, end_of, file_max_of}
@@ -28,8 +28,7 @@ use Rattle.record_map.specs.declared.cell.Cell.{Cell}
 use Rattle.record_map.specs.declared.write.Write.{Write}
 use Rattle.record_map.specs.Cells.{value_at}
 use Rattle.record_map.proofs.NameLaws.{name_same}
-use Rattle.record_tree.specs.Logged.{entry_for, IsImage}
-use Rattle.tree_nodes.specs.Nodes.{NodeRow}
+use Rattle.record_tree.specs.Logged.{entry_for}
 use Rattle.tree_nodes.specs.Levels.{row_of, AreParts}
 use Rattle.tree_nodes.specs.declared.node.Node.{Node}
 use Rattle.log_trees.specs.Placed.{Placed, placed}
@@ -53,11 +52,11 @@ use Rattle.tree_images.proofs.ForestWrites.{written_fits, written_logged}
 use Rattle.tree_images.proofs.Latest.{latest_own, latest_behind}
 use Rattle.tree_images.proofs.Logged.{none_named}
 use Rattle.in_tree.specs.Forest.{Forest, Replaces, IsStepIn}
-use Rattle.in_tree.specs.Growing.{trees_at, IsForestDue, IsFitDue, GrewTree, GrewForest, GrewSlot}
+use Rattle.in_tree.specs.Growing.{trees_at, GrewTree, GrewForest, GrewSlot}
 use Rattle.in_tree.specs.Limits.{GrewFitting}
 use Rattle.in_tree.specs.Logging.{LogsImage}
 use Rattle.in_tree.specs.Placing.{due_one}
-use Rattle.in_tree.proofs.Appending.{more_placed, IsAppended, is_appended}
+use Rattle.in_tree.proofs.Appending.{more_placed, is_appended}
 use Rattle.in_tree.proofs.Forests.{others_away, replaced}
 
 -- ---- an image
@@ -126,7 +125,7 @@ module _ {D : Type 0} (observable : Bool) (history : D → History) (sync_out re
       LogsImage observable history sync_out read_out read_of faults image old new before after
   logs_image old new before after image done at is =
       subst (λ (i : NodeImage). IsLoggable i.entry → GrewFitting observable history sync_out read_out read_of faults old new (i.entry ∷ []) → at ≡ pos_lsn (placed_at (file_max_of old) (end_of old) (size_of i.entry)) →
-          HasNoted i at before after → LogsImage observable history sync_out read_out read_of faults image old new before after) (sym is)
+      HasNoted i at before after → LogsImage observable history sync_out read_out read_of faults image old new before after) (sym is)
       (λ loggable grew at_is h. (
         (finished before.levels image).entry,
         loggable.1,

@@ -1,40 +1,32 @@
 -- Names of changes got their slots, change by change: the trees fit their log but for the images of these slots.
-use Rattle.std.proofs.Common.{◌≡◌, ◌≤◌, ◌<◌, ◌+◌, ◌^◌, ◌==◌, ◌⊎◌, ◌++◌, ℕ, suc, min, Bool, true, false, cond, List, [], ◌∷◌, Option, None, Some, IsSome, is_some, map, length, refl, ap, ap₂, sym, subst, ◌∙◌, inl, inr, arith}
+use Rattle.std.proofs.Common.{◌≡◌, ◌≤◌, ◌+◌, ◌==◌, ◌⊎◌, ◌++◌, ℕ, Bool, true, false, cond, List, [], ◌∷◌, Option, None, Some, IsSome, is_some, map, length, refl, ap, ap₂, sym, subst, ◌∙◌, inl, inr, arith}
 use mathlib.Core.Path.{fun_ext}
 use Rattle.std.specs.Prelude.{IfSome}
-use Rattle.std.specs.List.{AllByRecursion}
-use Rattle.std.specs.Ordering.{nat_cmp}
-use Rattle.std.specs.BTreeMap.{get}
-use Rattle.std.proofs.lemmas.Bool.{true≢false, eq-eqb, ne_eqb, eqb-true, cases_Bool, cond-true, cond-false}
+use Rattle.std.proofs.lemmas.Bool.{true≢false}
 use Rattle.std.proofs.lemmas.List.{append_assoc, append-nil}
 use Rattle.std.proofs.Math.Nat.{le_refl}
 use Rattle.je_order.specs.declared.name.Name.{Name}
-use Rattle.log_entry.specs.declared.entry.Entry.{Entry}
 use Rattle.log_trees.specs.Placed.{Placed}
 use Rattle.log_trees.specs.Sound.{Home, at_home}
-use Rattle.record_map.specs.declared.cell.Cell.{Cell}
 use Rattle.record_map.specs.Cells.{value_at}
 use Rattle.record_tree.specs.declared.tree_change.TreeChange.{TreeChange}
-use Rattle.record_tree.specs.Occupied.{Occupied, AllCells, AreFewNew, AreSame}
 use Rattle.tree_nodes.specs.Nodes.{least}
 use Rattle.tree_nodes.specs.Lows.{lows_of}
-use Rattle.db_tree.specs.declared.node_at.NodeAt.{NodeAt}
 use Rattle.db_tree.specs.declared.node_image.NodeImage.{NodeImage}
 use Rattle.db_tree.specs.declared.slot_room.SlotRoom.{SlotRoom}
 use Rattle.db_tree.specs.declared.tree.DbTree.{DbTree}
 use Rattle.db_tree.specs.NodeImages.{node_of}
-use Rattle.db_tree.specs.Shapes.{IsCellMade, made_by, shape_in}
+use Rattle.db_tree.specs.Shapes.{made_by, shape_in}
 use Rattle.db_tree.specs.Splits.{has_slot, logged_by, made_for, splits_of}
 use Rattle.db_tree.proofs.SplitLaws.{level_cases}
 use Rattle.tree_images.specs.Forest.{AreLogged, FitsDue, ForestDue}
 use Rattle.tree_images.specs.Laws.{AgreesUpTo}
 use Rattle.tree_images.specs.PlaceLaws.{home_with}
-use Rattle.tree_images.specs.Sound.{IsNumber}
 use Rattle.tree_images.specs.TreeSteps.{HasSlot}
 use Rattle.tree_images.proofs.ForestPlaces.{placed_fits, placed_logged}
 use Rattle.tree_images.proofs.ForestSteps.{FitsWith, fits_here, forest_here}
 use Rattle.tree_images.proofs.Grown.{homes_agree, root_home}
-use Rattle.in_tree.specs.Forest.{Forest, IsSameForest}
+use Rattle.in_tree.specs.Forest.{Forest}
 use Rattle.in_tree.specs.Growing.{trees_at}
 use Rattle.in_tree.specs.Limits.{one_made}
 use Rattle.in_tree.specs.Placing.{IsFittedIn, first_behind, AreFitted, due_one, due_of, numbers_of}

@@ -1,12 +1,11 @@
 -- Changes that are ready to be logged: the trees fit their log but for the images of their names' slots.
-use Rattle.std.proofs.Common.{◌≡◌, ◌≤◌, ◌<◌, ◌+◌, ◌==◌, ◌⊎◌, ◌++◌, ℕ, min, Bool, true, false, cond, List, [], ◌∷◌, Option, None, Some, IsSome, is_some, refl, ap, ap₂, sym, subst, ◌∙◌, inl, inr, arith}
+use Rattle.std.proofs.Common.{◌≡◌, ◌≤◌, ◌+◌, ◌==◌, ◌⊎◌, ◌++◌, ℕ, min, Bool, true, false, cond, List, [], ◌∷◌, Option, None, Some, IsSome, is_some, refl, ap, ap₂, sym, subst, ◌∙◌, inl, inr, arith}
 use Rattle.std.specs.Prelude.{IfSome}
 use Rattle.std.specs.List.{AllByRecursion}
 use Rattle.std.specs.Ordering.{nat_cmp}
 use Rattle.std.specs.BTreeMap.{get}
 use Rattle.std.proofs.lemmas.Bool.{true≢false}
-use Rattle.std.proofs.lemmas.List.{append-nil}
-use Rattle.std.proofs.lemmas.Option.{none-some, same_Some}
+use Rattle.std.proofs.lemmas.Option.{none-some}
 use Rattle.je_order.specs.declared.name.Name.{Name}
 use Rattle.je_order.proofs.Lists.{all_weaker}
 use Rattle.log_trees.specs.Placed.{Placed}

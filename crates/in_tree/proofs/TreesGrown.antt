@@ -1,27 +1,24 @@
 -- What calls on the trees of an environment do to trees that fit their log.
-use Rattle.std.proofs.Common.{◌≡◌, ◌≤◌, ◌+◌, ◌*◌, ◌==◌, ◌&&◌, ◌⊎◌, ◌++◌, ℕ, Bool, true, false, cond, List, [], ◌∷◌, Option, None, Some, option_map, length, refl, ap, sym, subst, ◌∙◌, inl, inr, arith, is_eq}
+use Rattle.std.proofs.Common.{◌≡◌, ◌≤◌, ◌+◌, ◌*◌, ◌==◌, ◌&&◌, ◌++◌, ℕ, Bool, true, false, cond, List, [], ◌∷◌, Option, None, Some, option_map, length, refl, ap, sym, subst, ◌∙◌, inl, inr, arith, is_eq}
 use Rattle.std.specs.Prelude.{IfSome, Box}
 use Rattle.std.specs.Global.{Global}
 use Rattle.std.specs.List.{AllByRecursion}
 use Rattle.std.specs.Ordering.{nat_cmp}
 use Rattle.std.specs.BTreeMap.{get}
-use Rattle.std.proofs.lemmas.Bool.{true≢false, eq-eqb, cond-true}
+use Rattle.std.proofs.lemmas.Bool.{eq-eqb, cond-true}
 use Rattle.std.proofs.lemmas.List.{append-nil}
-use Rattle.std.proofs.lemmas.Option.{same_Some, none-some}
+use Rattle.std.proofs.lemmas.Option.{none-some}
 use Rattle.std.proofs.Math.Nat.{le_refl}
-use Rattle.je_disk.specs.Moments.{History, now}
+use Rattle.je_disk.specs.Moments.{History}
 use Rattle.je_order.specs.Order.{name_cmp}
 use Rattle.je_order.specs.declared.name.Name.{Name}
 use Rattle.je_order.specs.declared.txn_id.TxnId.{TxnId}
 use Rattle.log_entry.specs.Encoding.{size_of}
 use Rattle.log_entry.specs.declared.entry.Entry.{Entry}
 use Rattle.log_entry.specs.declared.entry.Entry.TheVariants.{Commit}
-use Rattle.log_file.specs.Log.{Log}
 use Rattle.log_buffer.specs.declared.buffer.LogBuffer.{LogBuffer}
-use Rattle.log_buffer.specs.Buffer.{disk_of, end_of, file_max_of, IsUnchanged}
+use Rattle.log_buffer.specs.Buffer.{end_of, file_max_of, IsUnchanged}
 use Rattle.log_buffer.specs.Flip.{pos_lsn, placed_at}
-use Rattle.log_buffer.specs.Growth.{longer}
-use Rattle.log_buffer.specs.Log.{HasLog}
 use Rattle.record_map.specs.declared.cell.Cell.{Cell}
 use Rattle.record_map.specs.declared.write.Write.{Write}
 use Rattle.record_map.specs.Cells.{value_at}
@@ -31,21 +28,20 @@ use Rattle.record_tree.specs.Logged.{LogsChanges, most_entries}
 use Rattle.record_tree.specs.Occupied.{Occupied, AreFewNew, IsFreeFor, if_occupied, write_in, value_after, after_commit, committed_value}
 use Rattle.log_trees.specs.Placed.{Placed, placed}
 use Rattle.log_trees.specs.Changes.{LoggedChange}
-use Rattle.log_meaning.specs.Redo.{Redo, redone, redo_entry, emptied}
+use Rattle.log_meaning.specs.Redo.{Redo, redone, redo_entry}
 use Rattle.log_meaning.proofs.RedoLaws.{redone-in}
 use Rattle.db_tree.specs.declared.slot_room.SlotRoom.{SlotRoom}
 use Rattle.db_tree.specs.declared.tree.DbTree.{DbTree}
-use Rattle.db_tree.specs.NodeSteps.{written_lsn}
 use Rattle.db_tree.specs.Seen.{occupied, seen}
 use Rattle.db_tree.proofs.Seen.{seen_at}
 use Rattle.tree_images.specs.Forest.{latest_at, latest_of, logged_at, AreLogged, FitsDue, ForestDue, ForestFits}
 use Rattle.tree_images.specs.TreeSteps.{HasCommitted, HasGivenUp}
-use Rattle.tree_images.proofs.ForestSteps.{fits_stay, forest_here, forest_same, forest_stays}
+use Rattle.tree_images.proofs.ForestSteps.{forest_here, forest_same, forest_stays}
 use Rattle.tree_images.proofs.ForestWrites.{commit_is_latest, committed_fits, committed_logged, given_up_fits, given_up_logged}
 use Rattle.in_tree.specs.declared.logged_trees.LogTrees.{LogTrees}
 use Rattle.in_tree.specs.Carrying.{carries_then}
 use Rattle.in_tree.specs.Fitting.{fitting_none, fitting_then, fitting_unchanged}
-use Rattle.in_tree.specs.Forest.{Forest, cells_of, cells_seen, HasChange, IsSameForest, IsStepIn, MayStepIn, MakesSteps, CommitsName, GivesUpName}
+use Rattle.in_tree.specs.Forest.{Forest, cells_of, cells_seen, HasChange, IsSameForest, MayStepIn, MakesSteps, CommitsName, GivesUpName}
 use Rattle.in_tree.specs.Growing.{trees_at, none_due, IsForestDue, GrewForest, TreesGrew}
 use Rattle.in_tree.specs.Limits.{GrewFitting}
 use Rattle.in_tree.specs.Observed.{trees_of, last_node_of}
@@ -53,8 +49,7 @@ use Rattle.in_tree.specs.Placing.{due_of}
 use Rattle.in_tree.specs.Ready.{IsReady}
 use Rattle.in_tree.proofs.Appending.{is_appended}
 use Rattle.in_tree.proofs.DueLogging.{is_next, some_entry}
-use Rattle.in_tree.proofs.Forests.{others_away, replaced}
-use Rattle.in_tree.proofs.Preparation.{same_test}
+use Rattle.in_tree.proofs.Forests.{others_away}
 
 -- ---- a Commit
 

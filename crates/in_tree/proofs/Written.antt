@@ -32,7 +32,7 @@ use Rattle.db_tree.specs.Shapes.{shape_in}
 use Rattle.db_tree.specs.NodeImages.{IsLoggable}
 use Rattle.db_tree.specs.Splits.{count_waiting}
 use Rattle.in_tree.specs.Forest.{Forest, cells_seen, HasSameTrees, KeepsCells, HasOne, HasChange, write_for}
-use Rattle.in_tree.specs.Limits.{change_size, commit_sizes, HasRoomFor, end_behind, FitsLog, GrewFitting, TriedFitting}
+use Rattle.in_tree.specs.Limits.{change_size, commit_sizes, HasRoomFor, end_behind, FitsLog, TriedFitting}
 use Rattle.in_tree.specs.Fitting.{fitting_tried}
 use Rattle.in_tree.specs.Growing.{GrewTree, GrewForest, grew_tree_none, grew_tree_then, grew_forest_none, grew_forest_then, none_due}
 use Rattle.in_tree.specs.Logging.{LogsImage, TriesImage, LogsImages, TriesImages, LogsRoom, LogsChange, TriesChange}

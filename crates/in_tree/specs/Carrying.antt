@@ -1,14 +1,13 @@
 -- What holds of a log's entries, and of where this life of the environment began, while the log grows.
-use Rattle.std.proofs.Common.{◌≡◌, ◌≤◌, ◌<◌, ℕ, zero, suc, Bool, List, [], ◌∷◌, ◌++◌, Option, map, refl, ap₂, sym, subst, ◌∙◌, arith}
+use Rattle.std.proofs.Common.{◌≡◌, ◌≤◌, ◌<◌, ℕ, zero, suc, Bool, List, [], ◌∷◌, ◌++◌, Option, ap₂, sym, subst, ◌∙◌, arith}
 use Rattle.je_disk.specs.Moments.{History, now}
 use Rattle.log_entry.specs.declared.entry.Entry.{Entry}
-use Rattle.log_entry.specs.Encoding.{size_of}
 use Rattle.log_file.specs.Log.{Log, IsLog}
 use Rattle.log_buffer.specs.declared.buffer.LogBuffer.{LogBuffer}
 use Rattle.log_buffer.specs.declared.log_pos.LogPos.{LogPos}
 use Rattle.log_buffer.specs.Buffer.{disk_of, end_of, file_max_of, last_of}
-use Rattle.log_buffer.specs.Flip.{pos_lsn, end_after_all}
-use Rattle.log_buffer.specs.Growth.{longer, log_with_all, Grew}
+use Rattle.log_buffer.specs.Flip.{pos_lsn}
+use Rattle.log_buffer.specs.Growth.{longer, log_with_all}
 use Rattle.log_buffer.specs.Laws.{placed_by}
 use Rattle.log_buffer.specs.Log.{HasLog}
 use Rattle.log_buffer.proofs.GrowthLaws.{with_all-append}

@@ -1,5 +1,5 @@
 -- Trees that fit their log while it grows.
-use Rattle.std.proofs.Common.{◌≡◌, ◌≤◌, ℕ, Bool, List, [], ◌∷◌, ◌++◌, Option}
+use Rattle.std.proofs.Common.{◌≡◌, ◌≤◌, ℕ, Bool, List, [], ◌++◌, Option}
 use Rattle.std.specs.Ordering.{nat_cmp}
 use Rattle.std.specs.BTreeMap.{get}
 use Rattle.je_disk.specs.Moments.{History, now}
@@ -45,8 +45,11 @@ module _ {D : Type 0} (observable : Bool) (history : D → History) (sync_out re
     pub still : entries ≡ [] → (es : List Placed) (base : ℕ) (home : ℕ → Home) (last d : ℕ) (rest : List NodeImage) → IsFitDue home last d before (images ++ rest) es base → IsFitDue home last d after (left ++ rest) es base
 
   pub grew_tree_none : (x : LogBuffer D) (tree : DbTree) (images : List NodeImage) → GrewTree x x tree tree images images []
-  grew_tree_none x tree images = record { fitting = fitting_none observable history sync_out read_out read_of faults x; fits = λ home last d rest. carries_here observable history x (IsFitDue home last d tree (images ++ rest)) (IsFitDue home last d tree (images ++ rest)) (λ es base h. h);
-    still = λ none es base home last d rest h. h }
+  grew_tree_none x tree images = record {
+    fitting = fitting_none observable history sync_out read_out read_of faults x;
+    fits = λ home last d rest. carries_here observable history x (IsFitDue home last d tree (images ++ rest)) (IsFitDue home last d tree (images ++ rest)) (λ es base h. h);
+    still = λ none es base home last d rest h. h;
+  }
 
   pub grew_tree_then : (x y z : LogBuffer D) (s t u : DbTree) (i j k : List NodeImage) (a b : List Entry) → GrewTree x y s t i j a → GrewTree y z t u j k b → GrewTree x z s u i k (a ++ b)
   grew_tree_then x y z s t u i j k a b first second = record {
@@ -63,8 +66,11 @@ module _ {D : Type 0} (observable : Bool) (history : D → History) (sync_out re
     pub still : entries ≡ [] → (es : List Placed) (base last : ℕ) → IsForestDue last before due es base → IsForestDue last after next_due es base
 
   pub grew_forest_none : (x : LogBuffer D) (forest : Forest) (due : ℕ → List NodeImage) → GrewForest x x forest forest due due []
-  grew_forest_none x forest due = record { fitting = fitting_none observable history sync_out read_out read_of faults x; fits = λ last. carries_here observable history x (IsForestDue last forest due) (IsForestDue last forest due) (λ es base h. h);
-    still = λ none es base last h. h }
+  grew_forest_none x forest due = record {
+    fitting = fitting_none observable history sync_out read_out read_of faults x;
+    fits = λ last. carries_here observable history x (IsForestDue last forest due) (IsForestDue last forest due) (λ es base h. h);
+    still = λ none es base last h. h;
+  }
 
   pub grew_forest_then : (x y z : LogBuffer D) (f g h : Forest) (i j k : ℕ → List NodeImage) (a b : List Entry) → GrewForest x y f g i j a → GrewForest y z g h j k b → GrewForest x z f h i k (a ++ b)
   grew_forest_then x y z f g h i j k a b first second = record {

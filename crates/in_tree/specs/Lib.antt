@@ -12,3 +12,5 @@ pub mod Observed
 pub mod Ready
 pub mod Carrying
 pub mod Growing
+pub mod LoadedNodes
+pub mod LoadedFits

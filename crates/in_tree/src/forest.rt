@@ -1,5 +1,5 @@
 // The trees of all databases, by their numbers.
-ghost use Rattle.std.specs.Prelude.{◌≡◌, ◌≤◌, ◌⊎◌, ◌+◌, ◌*◌, ℕ, true, false, [], Option, None, Some, IsSome, IfOk, IfErr, OnOk, OnErr, option_map, if◌then◌else◌, ◌==◌};
+ghost use Rattle.std.specs.Prelude.{◌≡◌, ◌≤◌, ◌<◌, ◌⊎◌, ◌+◌, ◌*◌, ℕ, true, false, [], Option, None, Some, IsSome, IfOk, IfErr, OnOk, OnErr, option_map, if◌then◌else◌, ◌==◌};
 ghost use Rattle.std.specs.Ordering.{is_eq, nat_cmp};
 ghost use Rattle.je_order.specs.Order.{name_cmp};
 ghost use Rattle.std.specs.BTreeMap.{get};
@@ -14,8 +14,13 @@ ghost use Rattle.db_tree.specs.Splits.{count_waiting};
 ghost use Rattle.db_tree.specs.Stored.{AreQuiet, HasLogged};
 ghost use Rattle.db_tree.specs.Splits.{passes_top};
 ghost use Rattle.db_tree.specs.declared.tree.DbTree.{DbTree as Kept};
+ghost use Rattle.tree_images.specs.RedoSteps.{IsSplitFor, HasRedone};
 ghost use Rattle.tree_images.specs.TreeSteps.{HasWritten, HasCommitted, HasGivenUp, HasSlot, IsNewTree};
 ghost use Rattle.in_tree.specs.Forest.{Forest, cells_at, cells_seen, is_there, HasChange, HasSameTrees, IsSameForest, IsStepIn, MayStepIn, KeepsCells, HasOne};
+ghost use Rattle.tree_nodes.specs.Levels.{AreParts};
+ghost use Rattle.db_tree.specs.Images.{Placed as Entries};
+ghost use Rattle.db_tree.specs.Trees.{IsTree};
+ghost use Rattle.in_tree.specs.Loaded.{AreAllParts};
 ghost use Rattle.in_tree.specs.Placing.{IsPlacedIn, IsFittedIn};
 ghost use Rattle.in_tree.specs.Shapes.{shapes_of};
 ghost use Rattle.in_tree.specs.Stored.{stored_of, IsQuiet, IsSlotFor};
@@ -155,12 +160,14 @@ pub(crate) fn make(
     ensures none { (d : ℕ) → cells_at trees.old d ≡ [] → cells_at trees.new d ≡ [] }
     ensures others { (d : ℕ) → d == db ≡ false → get nat_cmp trees.new d ≡ get nat_cmp trees.old d }
     ensures tree { OnOk result ((tree : Kept) × IsNewTree number tree × (get nat_cmp trees.new db ≡ Some tree)) }
+    ensures parts { AreAllParts trees.old → AreAllParts trees.new }
     ensures err { OnErr result (IsSameForest trees.old trees.new) }
     ensures waits { waits_in trees.new ≤ waits_in trees.old }
     ensures stored { AreStoredStill (stored_of trees.old) (stored_of trees.new) }
     ensures quiet { IsQuiet trees.old → IsQuiet trees.new }
 {
     let tree = DbTree::new(alloc, number)?;
+    let _height = tree.levels.height();
     drop(trees.insert(db, tree)?);
     Ok(())
 }
@@ -183,11 +190,14 @@ fn redo_in(
     ensures rising { IsRising tree.new.cells }
     ensures quiet { AreQuiet tree.old.cells → AreQuiet tree.new.cells }
     ensures same { OnErr result (occupied tree.new.cells ≡ occupied tree.old.cells) }
+    ensures step { IfOk result (λ made. HasRedone fanout number name.now value first at made tree.old tree.new) }
+    ensures parts { AreParts tree.new.levels }
     ensures few { IfOk result (λ made. made ≤ 64) }
     ensures waits { IfOk result (λ made. count_waiting (shape_in tree.new) ≤ count_waiting (shape_in tree.old) + 2 * made) }
     ensures most { count_waiting (shape_in tree.new) ≤ count_waiting (shape_in tree.old) + 128 }
 {
     let _before = tree.cells.len();
+    let _height = tree.levels.height();
     let made = match split_for(tree, alloc, fanout, number, name, first) {
         Ok(made) => made,
         Err(failed) => {
@@ -195,7 +205,9 @@ fn redo_in(
             return Err(failed);
         }
     };
-    tree.redo(alloc, name, value, first, at)?;
+    let done = tree.redo(alloc, name, value, first, at);
+    let _levels = tree.levels.height();
+    done?;
     Ok(made)
 }
 
@@ -211,11 +223,14 @@ fn split_for(
 ) -> Result<usize, AllocError>
     ensures same { occupied tree.new.cells ≡ occupied tree.old.cells }
     ensures slot { IsSlotFor name.now tree.old.cells tree.new.cells }
+    ensures split { IfOk result (λ made. IsSplitFor fanout number name.now made tree.old tree.new.levels) }
+    ensures keeps { (es : Entries) (base : ℕ) (newest : Name → ℕ) → mark < base → IsTree es base newest tree.old.levels tree.old.cells → IsTree es base newest tree.new.levels tree.new.cells }
     ensures rising { IsRising tree.old.cells → IsRising tree.new.cells }
     ensures few { IfOk result (λ made. made ≤ 64) }
     ensures waits { IfOk result (λ made. count_waiting (shape_in tree.new) ≤ count_waiting (shape_in tree.old) + 2 * made) }
     ensures err { OnErr result (tree.new ≡ tree.old) }
 {
+    let _height = tree.levels.height();
     let Some(first) = number else {
         return Ok(0);
     };
@@ -244,6 +259,8 @@ pub(crate) fn redo(
     ensures stored { OnOk result (HasStored (stored_of trees.old) (stored_of trees.new) db name.now (stored_at at value)) }
     ensures quiet { IsQuiet trees.old → IsQuiet trees.new }
     ensures same { OnErr result (AreSame (cells_seen trees.old) (cells_seen trees.new)) }
+    ensures step { IfOk result (λ made. IsStepIn db (HasRedone fanout number name.now value first at made) trees.old trees.new) }
+    ensures parts { AreAllParts trees.old → AreAllParts trees.new }
     ensures trees { HasSameTrees trees.old trees.new }
     ensures few { IfOk result (λ made. made ≤ 64) }
     ensures waits { IfOk result (λ made. waits_in trees.new ≤ waits_in trees.old + 2 * made) }
@@ -260,6 +277,7 @@ pub(crate) fn drop_db(trees: &mut BTreeMap<u32, DbTree>, db: u32)
     ensures cells { (d : ℕ) → cells_seen trees.new d ≡ (if d == db then [] else cells_seen trees.old d) }
     ensures trees { (d : ℕ) → is_there trees.new d ≡ (if d == db then false else is_there trees.old d) }
     ensures gone { (d : ℕ) → get nat_cmp trees.new d ≡ (if d == db then None else get nat_cmp trees.old d) }
+    ensures parts { AreAllParts trees.old → AreAllParts trees.new }
     ensures waits { waits_in trees.new ≤ waits_in trees.old }
     ensures stored { (d : ℕ) → stored_of trees.new d ≡ (if d == db then [] else stored_of trees.old d) }
     ensures quiet { IsQuiet trees.old → IsQuiet trees.new }

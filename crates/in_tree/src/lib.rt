@@ -5,6 +5,7 @@
 #![tactic(auto)]
 
 mod forest;
+pub mod laws;
 pub mod loaded_trees;
 mod loading;
 pub mod logged_trees;
@@ -17,6 +18,7 @@ mod stored;
 pub mod trees;
 mod writing;
 
+pub use laws::loaded_trees_fit;
 pub use loaded_trees::LoadedTrees;
 pub use logged_trees::LogTrees;
 pub(crate) use placed::Placed;

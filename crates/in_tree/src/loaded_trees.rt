@@ -1,9 +1,10 @@
 // The trees of an environment while its log is read again.
-ghost use Rattle.std.specs.Prelude.{◌≡◌, ◌≤◌, ℕ, [], false, map, OnOk};
+ghost use Rattle.std.specs.Prelude.{◌≡◌, ◌≤◌, ℕ, min, max, [], false, map, OnOk};
 ghost use Rattle.record_map.specs.Cells.{IsRising};
 ghost use Rattle.record_tree.specs.Stored.{AreStoredStill};
 ghost use Rattle.in_tree.specs.Stored.{committed_cell};
-ghost use Rattle.in_tree.specs.Whole.{has_tree_in, seen_in, stored_within, waits_within};
+ghost use Rattle.in_tree.specs.Loaded.{AreFormed};
+ghost use Rattle.in_tree.specs.Whole.{has_tree_in, last_number_of, seen_in, stored_within, waits_within};
 
 use crate::trees::LAST_NODE;
 use crate::{Trees, forest, loading, stored};
@@ -18,8 +19,8 @@ use std::marker::Model;
 // How many nodes wait at most where another one is loaded or a record redone. No memory holds as many.
 const MOST_WAITS: u64 = 0x7fff_ffff_ffff_ffff;
 
-// How many nodes wait at most that are to come for a node that is loaded.
-const MOST_TO_COME: u64 = 512;
+// How many nodes wait more at most where a node is loaded.
+const MOST_TO_COME: u64 = 513;
 
 // How many nodes wait at most that a redo splits or makes.
 const MOST_SPLIT: u64 = 128;
@@ -71,6 +72,13 @@ impl LoadedTrees {
         self.waits
     }
 
+    /// The node number that was allocated last; 2^63 - 1 where the numbers of nodes have ended.
+    pub fn last_node(&self) -> u64
+        ensures { result ≡ last_number_of self.now }
+    {
+        self.trees.last_node
+    }
+
     // The trees themselves, in which each record is as transactions see it.
     pub(crate) fn into_trees(self) -> Trees
         ensures trees { result ≡ self }
@@ -83,7 +91,9 @@ impl LoadedTrees {
 
     // Takes a node's number as allocated, up to the last one.
     fn take_number(&mut self, number: u64)
-        ensures { self.new.forest ≡ self.old.forest }
+        ensures same { self.new.forest ≡ self.old.forest }
+        ensures formed { AreFormed self.new.forest }
+        ensures number { self.new.last_node ≡ min (max self.old.last_node number) 0x7fffffffffffffff }
     {
         self.trees.last_node = self.trees.last_node.max(number).min(LAST_NODE);
     }
@@ -94,12 +104,25 @@ impl Loads for LoadedTrees {
     ghost use Rattle.std.specs.BTreeMap.{get};
     ghost use Rattle.in_tree.specs.Forest.{is_there};
     ghost use Rattle.in_tree.specs.Stored.{stored_of, none_stored};
+    ghost use Rattle.in_tree.specs.Whole.{last_number_of};
+    ghost use Rattle.in_tree.specs.LoadedFits.{formed_within, nodes_within, fits_within};
+    ghost use Rattle.in_tree.specs.LoadedNodes.{no_nodes};
 
     ghost stored = { λ x. stored_of x.forest };
 
     ghost has_tree = { λ x d. is_there x.forest d };
 
+    ghost well_formed = { formed_within };
+
+    ghost nodes = { nodes_within };
+
+    ghost last_number = { last_number_of };
+
+    ghost fits = { fits_within };
+
     ghost none_stored = { λ x d none. none_stored (get nat_cmp x.forest d) none };
+
+    ghost no_nodes = { λ x d k low none. no_nodes (get nat_cmp x.forest d) k low none };
 
     fn begin_redo(&mut self, last_node: u64, _from: Lsn) {
         self.take_number(last_node);
@@ -126,12 +149,13 @@ impl Loads for LoadedTrees {
         node: &Node,
         low: &Name,
         at: Lsn,
+        keeps: bool,
     ) -> Result<(), LoadErr> {
         self.take_number(node.number);
         if self.waits > MOST_WAITS {
             return Err(LoadErr::Memory);
         }
-        match loading::load_node(&mut self.trees.forest, alloc, node, low, at) {
+        match loading::load_node(&mut self.trees.forest, alloc, node, low, at, keeps) {
             Ok(more) => {
                 self.waits += more as u64;
                 Ok(())

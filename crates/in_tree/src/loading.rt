@@ -1,7 +1,13 @@
 // Records and nodes that a log has are put into trees.
-ghost use Rattle.std.specs.Prelude.{◌≡◌, ◌≤◌, ◌+◌, true, IfOk, OnOk, Some};
+ghost use Rattle.std.specs.Prelude.{◌≡◌, ◌≤◌, ◌+◌, ◌-◌, true, IfOk, OnOk, Some};
+ghost use Rattle.record_tree.specs.LoadedNodes.{node_read, HasPutNode, AreNodesStill};
 ghost use Rattle.record_tree.specs.Stored.{stored_at, HasStored, AreStoredStill};
-ghost use Rattle.in_tree.specs.Forest.{is_there};
+ghost use Rattle.tree_nodes.specs.Levels.{AreParts};
+ghost use Rattle.db_tree.specs.Loading.{IsLoaded};
+ghost use Rattle.db_tree.specs.Shapes.{count_in};
+ghost use Rattle.in_tree.specs.Forest.{is_there, IsStepIn};
+ghost use Rattle.in_tree.specs.Loaded.{AreAllParts, nodes_of};
+ghost use Rattle.in_tree.specs.LoadedNodes.{IsEnsured, HasLoadedIn};
 ghost use Rattle.in_tree.specs.Stored.{stored_of, IsQuiet};
 ghost use Rattle.in_tree.specs.Waits.{waits_in};
 
@@ -34,6 +40,8 @@ pub(crate) fn load(
     ensures stored { OnOk result (HasStored (stored_of trees.old) (stored_of trees.new) db name (stored_at at (Some value.now))) }
     ensures quiet { IsQuiet trees.old → IsQuiet trees.new }
     ensures waits { waits_in trees.new ≡ waits_in trees.old }
+    ensures nodes { AreNodesStill (nodes_of trees.old) (nodes_of trees.new) }
+    ensures parts { AreAllParts trees.old → AreAllParts trees.new }
 {
     match trees.get_mut(&db) {
         Some(tree) => tree.load(alloc, name, at, value),
@@ -49,6 +57,8 @@ fn ensure_tree(
     number: u64,
 ) -> Result<(), AllocError>
     ensures there { OnOk result (is_there trees.new db ≡ true) }
+    ensures made { OnOk result (IsEnsured db number trees.old trees.new) }
+    ensures parts { AreAllParts trees.old → AreAllParts trees.new }
     ensures stored { AreStoredStill (stored_of trees.old) (stored_of trees.new) }
     ensures quiet { IsQuiet trees.old → IsQuiet trees.new }
     ensures waits { waits_in trees.new ≤ waits_in trees.old }
@@ -59,7 +69,28 @@ fn ensure_tree(
     forest::make(trees, alloc, db, number)
 }
 
-// Puts a node of a database that has a tree. It gives how many nodes are still to come for it.
+// Puts a node of a tree. It gives how many nodes wait more at most.
+fn put_in(
+    tree: &mut DbTree,
+    alloc: Global,
+    image: &Image,
+    low: &SortKey,
+    at: Lsn,
+    keeps: bool,
+) -> Result<usize, AllocError>
+    ensures loaded { OnOk result (IsLoaded tree.old.levels tree.new.levels (image.now.level - 1) low.now (node_read image.now.number at keeps)) }
+    ensures parts { AreParts tree.new.levels }
+    ensures cells { tree.new.cells ≡ tree.old.cells }
+    ensures few { IfOk result (λ made. count_in tree.new ≤ count_in tree.old + made) }
+    ensures made { IfOk result (λ made. made ≤ 513) }
+    ensures most { count_in tree.new ≤ count_in tree.old + 513 }
+{
+    let made = tree.load_node(alloc, image, low, at, keeps);
+    let _height = tree.levels.height();
+    made
+}
+
+// Puts a node of a database that has a tree. It gives how many nodes wait more at most.
 fn put_image(
     trees: &mut BTreeMap<u32, DbTree>,
     alloc: Global,
@@ -67,37 +98,43 @@ fn put_image(
     image: &Image,
     low: &SortKey,
     at: Lsn,
+    keeps: bool,
 ) -> Result<usize, AllocError>
     requires { is_there trees.old db ≡ true }
+    ensures loaded { OnOk result (IsStepIn db (HasLoadedIn (image.now.level - 1) low.now (node_read image.now.number at keeps)) trees.old trees.new) }
+    ensures parts { AreAllParts trees.old → AreAllParts trees.new }
     ensures stored { AreStoredStill (stored_of trees.old) (stored_of trees.new) }
     ensures quiet { IsQuiet trees.old → IsQuiet trees.new }
-    ensures few { IfOk result (λ more. more ≤ 512) }
+    ensures few { IfOk result (λ more. more ≤ 513) }
     ensures waits { IfOk result (λ more. waits_in trees.new ≤ waits_in trees.old + more) }
-    ensures most { waits_in trees.new ≤ waits_in trees.old + 512 }
+    ensures most { waits_in trees.new ≤ waits_in trees.old + 513 }
 {
     match trees.get_mut(&db) {
-        Some(tree) => tree.load_node(alloc, image, low, at),
+        Some(tree) => put_in(tree, alloc, image, low, at, keeps),
         None => unreachable!(),
     }
 }
 
-// Puts a node as its image at `at` shows it. No name in it is below `low`. It gives how many nodes are still to come for it: they
-// wait to be logged until then.
+// Puts a node as its image at `at` shows it. No name in it is below `low`. It gives how many nodes wait more at most: those that are
+// still to come for it, and the node where that image is not to be kept as its last one.
 pub(crate) fn load_node(
     trees: &mut BTreeMap<u32, DbTree>,
     alloc: Global,
     image: &Image,
     low: &Name,
     at: Lsn,
+    keeps: bool,
 ) -> Result<usize, AllocError>
+    ensures nodes { OnOk result (HasPutNode (nodes_of trees.old) (nodes_of trees.new) image.now.db (image.now.level - 1) low.now (node_read image.now.number at keeps)) }
+    ensures parts { AreAllParts trees.old → AreAllParts trees.new }
     ensures stored { AreStoredStill (stored_of trees.old) (stored_of trees.new) }
     ensures quiet { IsQuiet trees.old → IsQuiet trees.new }
-    ensures few { IfOk result (λ more. more ≤ 512) }
+    ensures few { IfOk result (λ more. more ≤ 513) }
     ensures waits { IfOk result (λ more. waits_in trees.new ≤ waits_in trees.old + more) }
-    ensures most { waits_in trees.new ≤ waits_in trees.old + 512 }
+    ensures most { waits_in trees.new ≤ waits_in trees.old + 513 }
 {
     let copy = copy_of(low)?;
     let low = SortKey::new(alloc, copy)?;
     ensure_tree(trees, alloc, image.db, image.number)?;
-    put_image(trees, alloc, image.db, image, &low, at)
+    put_image(trees, alloc, image.db, image, &low, at, keeps)
 }

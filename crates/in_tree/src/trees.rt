@@ -1,11 +1,14 @@
 // The trees of an environment.
-ghost use Rattle.std.specs.Prelude.{◌≡◌, ◌≤◌, ◌<◌, ◌+◌, ◌*◌, ◌==◌, ℕ, [], true, false, if◌then◌else◌, IfOk, OnOk, OnErr, option_map};
+ghost use Rattle.std.specs.Prelude.{◌≡◌, ◌≤◌, ◌<◌, ◌+◌, ◌*◌, ◌==◌, ℕ, suc, List as Items, [], true, false, if◌then◌else◌, IfOk, IfSome, OnOk, OnErr, option_map};
 ghost use Rattle.record_map.specs.Cells.{value_at, IsRising, first_of, last_of, from_edge, below_edge, edge_of};
 ghost use Rattle.record_tree.specs.Logged.{IsEndOf};
 ghost use Rattle.record_tree.specs.Occupied.{AreSame, occupied_by};
 ghost use Rattle.record_tree.specs.declared.tree_err.TreeErr.{TreeErr as Reason};
 ghost use Rattle.record_tree.specs.Stored.{stored_at, HasStored, AreStoredStill};
 ghost use Rattle.in_tree.specs.Forest.{cells_seen, is_there, HasSameTrees, IsSameForest, HasChange};
+ghost use Rattle.record_tree.specs.LoadedNodes.{IsLoggedAt};
+ghost use Rattle.log_trees.specs.Placed.{Placed};
+ghost use Rattle.in_tree.specs.Loaded.{AreAllParts, FitsUpTo};
 ghost use Rattle.in_tree.specs.Waits.{waits_in};
 ghost use Rattle.db_tree.specs.Seen.{with_value};
 ghost use Rattle.in_tree.specs.Stored.{stored_of, IsQuiet};
@@ -114,12 +117,16 @@ impl Trees {
         ensures waits { waits_in self.new.forest ≤ waits_in self.old.forest }
         ensures stored { (d : ℕ) → stored_of self.new.forest d ≡ (if d == db then [] else stored_of self.old.forest d) }
         ensures quiet { IsQuiet self.old.forest → IsQuiet self.new.forest }
+        ensures parts { AreAllParts self.old.forest → AreAllParts self.new.forest }
+        ensures fits { (es : Items Placed) (base : ℕ) → FitsUpTo self.old.last_node self.old.forest es base → FitsUpTo self.new.last_node self.new.forest es base }
     {
         forest::drop_db(&mut self.forest, db);
     }
 
     // The number of the next node, where enough are left for the splits of a name's slot.
-    fn next_number(&self) -> Option<u64> {
+    fn next_number(&self) -> Option<u64>
+        ensures { IfSome result (λ n. n ≡ suc self.now.last_node) }
+    {
         if self.last_node < LAST_NODE - MOST_MADE {
             return Some(self.last_node + 1);
         }
@@ -144,6 +151,8 @@ impl Trees {
         ensures stored { OnOk result (HasStored (stored_of self.old.forest) (stored_of self.new.forest) db name.now (stored_at at value)) }
         ensures quiet { IsQuiet self.old.forest → IsQuiet self.new.forest }
         ensures same { OnErr result (AreSame (cells_seen self.old.forest) (cells_seen self.new.forest)) }
+        ensures fits { (es : Items Placed) (base : ℕ) → first < base → IsLoggedAt es db name.now at value → IsQuiet self.old.forest → FitsUpTo self.old.last_node self.old.forest es base → OnOk result (FitsUpTo self.new.last_node self.new.forest es base) }
+        ensures parts { AreAllParts self.old.forest → AreAllParts self.new.forest }
         ensures trees { HasSameTrees self.old.forest self.new.forest }
         ensures few { IfOk result (λ made. made ≤ 64) }
         ensures waits { IfOk result (λ made. waits_in self.new.forest ≤ waits_in self.old.forest + 2 * made) }

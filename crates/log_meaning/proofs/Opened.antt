@@ -65,7 +65,7 @@ end_rises (p ∷ es) c all h = by_end (last_end es) refl h (end_rises es c all.1
     by_end None made k rest = roots_of_entry p.0 p.1 c all.0 k
     by_end (Some e) made k rest = rest (made ∙ k)
 
-roots_rise : (es : List Placed) → AllByRecursion (λ p. IsEntry p.1) es → rises root_before (last_checkpoint es).roots ≡ true
+pub roots_rise : (es : List Placed) → AllByRecursion (λ p. IsEntry p.1) es → rises root_before (last_checkpoint es).roots ≡ true
 roots_rise es all = by_end (last_end es) refl
   where
     by_end : (o : Option Checkpoint) → last_end es ≡ o → rises root_before (unwrap_or o no_checkpoint).roots ≡ true

@@ -11,3 +11,4 @@ pub mod Found
 pub mod Ending
 pub mod Plain
 pub mod Worked
+pub mod ReadNodes

@@ -79,7 +79,7 @@ image_in-is files es d at (BinDelta db number full slots) n h = by_lower (nat_lt
     by_lower false k = not_ok (nowhere files full) n k
 image_in-is files es d at entry n h = node_read-is d at (node_of entry) n h
 
-read_image-is : (files : List ℕ) (es : List Placed) (d at : ℕ) (n : Node) → read_image files es d at ≡ Ok n → (node_at es at ≡ Some n) × (n.db ≡ d)
+pub read_image-is : (files : List ℕ) (es : List Placed) (d at : ℕ) (n : Node) → read_image files es d at ≡ Ok n → (node_at es at ≡ Some n) × (n.db ≡ d)
 read_image-is files es d at n h = by_entry (entry_at es at) h
   where
     by_entry : (o : Option Entry) → image_by files es d at o ≡ Ok n → (option_and_then (node_in es at) o ≡ Some n) × (n.db ≡ d)
@@ -87,14 +87,14 @@ read_image-is files es d at n h = by_entry (entry_at es at) h
     by_entry (Some entry) k = image_in-is files es d at entry n k
 
 -- a node that was read where it stands
-record IsHere (es : List Placed) (d level : ℕ) (low : Name) (high : Option Name) (at : ℕ) (seen : List ℕ) (n : Node) : Type 0 where
-  is : node_at es at ≡ Some n
-  db : n.db ≡ d
-  level_is : n.level ≡ level
-  new : list_any (λ m. m == n.number) seen ≡ false
-  within : are_within low high n ≡ true
+pub record IsHere (es : List Placed) (d level : ℕ) (low : Name) (high : Option Name) (at : ℕ) (seen : List ℕ) (n : Node) : Type 0 where
+  pub is : node_at es at ≡ Some n
+  pub db : n.db ≡ d
+  pub level_is : n.level ≡ level
+  pub new : list_any (λ m. m == n.number) seen ≡ false
+  pub within : are_within low high n ≡ true
 
-here-is : (files : List ℕ) (es : List Placed) (d level : ℕ) (low : Name) (high : Option Name) (at : ℕ) (seen : List ℕ) (n : Node) → read_here files es d level low high at seen ≡ Ok n →
+pub here-is : (files : List ℕ) (es : List Placed) (d level : ℕ) (low : Name) (high : Option Name) (at : ℕ) (seen : List ℕ) (n : Node) → read_here files es d level low high at seen ≡ Ok n →
     IsHere es d level low high at seen n
 here-is files es d level low high at seen n h =
     let first = then_parts (read_image files es d at) (node_standing level low high at seen) n h in

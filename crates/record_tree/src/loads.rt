@@ -1,7 +1,10 @@
 // Trees that are made of a log.
-ghost use Rattle.std.specs.Prelude.{◌≡◌, ◌==◌, ◌||◌, ◌&&◌, nat_le, ℕ, [], length, option_map, find, not, Some, OnOk, IfOk, Bool, true, false, if◌then◌else◌};
+ghost use Rattle.std.specs.Prelude.{◌≡◌, ◌≤◌, ◌<◌, ◌-◌, ◌==◌, ◌||◌, ◌&&◌, nat_le, min, ℕ, List, [], length, option_map, find, not, None, Some, IsSome, OnOk, IfOk, Bool, true, false, if◌then◌else◌};
 ghost use Rattle.std.specs.List.{list_any};
+ghost use Rattle.je_order.specs.declared.name.Name.{Name as Named};
+ghost use Rattle.log_entry.specs.declared.entry.Entry.{Entry};
 ghost use Rattle.record_map.specs.Cells.{IsRising, value_at};
+ghost use Rattle.record_tree.specs.LoadedNodes.{AllNodes, node_read, HasPutNode, AreNodesStill, IsLoggedAt};
 ghost use Rattle.record_tree.specs.Stored.{AllStored, stored_at, HasStored, AreStoredStill};
 
 use crate::{LoadErr, StoredRecord};
@@ -12,8 +15,8 @@ use record_map::SortKey;
 use std::alloc::{AllocError, Global};
 
 /// The trees of an environment in memory, while they are made of a log. No transaction is active, so
-/// each record is committed. A contract sees the records alone; what nodes are made of them is the
-/// implementation's. Node numbers are not refused here: where none is left, nodes are made with the last
+/// each record is committed. A contract sees the records, the nodes as they are put, and a relation that an
+/// implementation names: that the trees fit a log down to the images of their nodes. Node numbers are not refused here: where none is left, nodes are made with the last
 /// one, and whoever reads the log refuses it by the numbers that its entries may have allocated.
 pub trait Loads {
     /// The records of each database, with the LSNs at which they were logged.
@@ -22,9 +25,24 @@ pub trait Loads {
     /// Whether a database of that number has a tree.
     ghost has_tree: { Self → ℕ → Bool };
 
+    /// The nodes of each database.
+    ghost nodes: { Self → AllNodes };
+
+    /// The node number that was allocated last, at most 2^63 - 1.
+    ghost last_number: { Self → ℕ };
+
+    /// What holds of all such trees.
+    ghost well_formed: { Self → Type 0 };
+
+    /// The trees fit a log, whose LSNs are all below a base, down to the images of their nodes.
+    ghost fits: { Self → List (ℕ × Entry) → ℕ → Type 0 };
+
     /// A redo begins at the LSN `from`, from which on nodes that it splits are found again. Nodes that it
     /// makes take the numbers behind `last_node`.
     fn begin_redo(&mut self, last_node: u64, from: Lsn)
+        ensures formed { well_formed self.new }
+        ensures nodes { AreNodesStill (nodes self.old) (nodes self.new) }
+        ensures numbers { min last_node 0x7fffffffffffffff ≤ last_number self.new }
         ensures stored { AreStoredStill (stored self.old) (stored self.new) }
         ensures trees { (d : ℕ) → has_tree self.new d ≡ has_tree self.old d };
 
@@ -40,13 +58,23 @@ pub trait Loads {
     /// Makes an empty tree for a database without one. Its root takes the next node number.
     fn make(&mut self, alloc: Global, db: u32) -> Result<(), LoadErr>
         requires { has_tree self.old db ≡ false }
+        ensures fits { (es : List (ℕ × Entry)) (base : ℕ) → fits self.old es base → OnOk result (fits self.new es base) }
         ensures stored { OnOk result (AreStoredStill (stored self.old) (stored self.new)) }
         ensures trees { OnOk result ((d : ℕ) → has_tree self.new d ≡ ((d == db) || has_tree self.old d)) };
 
     /// Puts a node of a database's tree as the image at `at` shows it: no name in it is below `low`. The
-    /// nodes of a tree come from the left, each behind those above it, and a BIN before its records.
-    fn load_node(&mut self, alloc: Global, node: &Node, low: &Name, at: Lsn) -> Result<(), LoadErr>
-        ensures { OnOk result (AreStoredStill (stored self.old) (stored self.new)) };
+    /// nodes of a tree come from the left, each behind those above it, and a BIN before its records. Where the image is not
+    /// to be kept as the node's last one, the node waits to be logged.
+    fn load_node(
+        &mut self,
+        alloc: Global,
+        node: &Node,
+        low: &Name,
+        at: Lsn,
+        keeps: bool,
+    ) -> Result<(), LoadErr>
+        ensures stored { OnOk result (AreStoredStill (stored self.old) (stored self.new)) }
+        ensures nodes { OnOk result (HasPutNode (nodes self.old) (nodes self.new) node.now.db (node.now.level - 1) low.now (node_read node.now.number at keeps)) };
 
     /// Puts a record of the BIN that was put last, which was logged at `at`.
     fn load(
@@ -57,12 +85,14 @@ pub trait Loads {
         at: Lsn,
         value: &[u8],
     ) -> Result<(), LoadErr>
-        ensures { OnOk result (HasStored (stored self.old) (stored self.new) db name.now (stored_at at (Some value.now))) };
+        ensures stored { OnOk result (HasStored (stored self.old) (stored self.new) db name.now (stored_at at (Some value.now))) }
+        ensures nodes { (k : ℕ) (low : Named) → IsSome (nodes self.old db k low) → OnOk result (AreNodesStill (nodes self.old) (nodes self.new)) };
 
     /// Takes the tree of a database out, with its records. It takes no memory.
     fn drop_db(&mut self, db: u32)
         ensures stored { (d : ℕ) → stored self.new d ≡ (if d == db then [] else stored self.old d) }
-        ensures trees { (d : ℕ) → has_tree self.new d ≡ (if d == db then false else has_tree self.old d) };
+        ensures trees { (d : ℕ) → has_tree self.new d ≡ (if d == db then false else has_tree self.old d) }
+        ensures fits { (es : List (ℕ × Entry)) (base : ℕ) → fits self.old es base → fits self.new es base };
 
     /// Makes a committed change, which was logged at `at`: the record's new data, or none where it is
     /// deleted. A redo finds the change again from the LSN `first` on. Nodes that are split for it take the
@@ -77,6 +107,7 @@ pub trait Loads {
         value: Option<Octets>,
     ) -> Result<(), LoadErr>
         requires { has_tree self.old db ≡ true }
+        ensures fits { (es : List (ℕ × Entry)) (base : ℕ) → first < base → IsLoggedAt es db name at value → fits self.old es base → OnOk result (fits self.new es base) }
         ensures stored { OnOk result (HasStored (stored self.old) (stored self.new) db name (stored_at at value)) }
         ensures trees { OnOk result ((d : ℕ) → has_tree self.new d ≡ has_tree self.old d) };
 
@@ -104,4 +135,7 @@ pub trait Loads {
 
     /// A database without a tree has no records.
     ghost none_stored: { (x : Self) (d : ℕ) → has_tree x d ≡ false → stored x d ≡ [] };
+
+    /// And no nodes.
+    ghost no_nodes: { (x : Self) (d k : ℕ) (low : Named) → has_tree x d ≡ false → nodes x d k low ≡ None };
 }

@@ -4,6 +4,8 @@ pub mod FilesRead
 pub mod WaitingLaws
 -- Records while a log is read again.
 pub mod RedoingLaws
+-- What trees fit while a log is read again.
+pub mod FitLaws
 -- The greatest numbers in the entries of a log.
 pub mod NumberLaws
 -- Records without their LSNs, and which of them is wrong.
@@ -18,9 +20,13 @@ pub mod AnswerLaws
 pub mod LookupLaws
 -- Files that are missing from one on.
 pub mod FileGaps
+-- Nodes that are put while trees are read.
+pub mod PutLaws
 -- Reading trees.
 pub mod WalkLaws
 -- Reading the tree below an image.
 pub mod NodeWalks
+-- Trees that were read from a checkpoint's roots, and a redo over them.
+pub mod ReadAgain
 -- Reading the trees of a checkpoint's roots.
 pub mod RootWalks

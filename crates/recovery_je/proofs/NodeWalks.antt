@@ -1,20 +1,24 @@
 -- Reading the tree below an image.
-use Rattle.std.proofs.Common.{◌≡◌, ℕ, zero, suc, ◌==◌, ◌+◌, Bool, cond, List, ◌∷◌, Option, None, Some, Result, Ok, Err, refl, sym, ap, subst, ◌∙◌, arith}
+use Rattle.std.proofs.Common.{◌≡◌, ◌<◌, ℕ, zero, suc, ◌==◌, ◌+◌, Bool, cond, List, [], ◌∷◌, ◌++◌, length, drop, get_or, Option, None, Some, Result, Ok, Err, refl, sym, ap, subst, ◌∙◌, arith}
 use Rattle.std.specs.Prelude.{◌&&◌, not, IsErrAnd}
-use Rattle.std.specs.List.{list_any}
+use Rattle.std.proofs.lemmas.List.{drop_more}
+use Rattle.std.specs.List.{list_any, flat_map}
 use Rattle.je_order.specs.declared.name.Name.{Name}
 use Rattle.node_core.specs.declared.slot.Marked.{Marked}
+use Rattle.node_core.specs.declared.slot.Version.{Version}
+use Rattle.node_core.specs.declared.slot.Version.TheVariants.{There}
+use Rattle.node_log.specs.Slots.{lsn_in}
 use Rattle.node_core.specs.declared.node.Node.{Node}
 use Rattle.log_replay.specs.declared.corruption.Corruption.{Corruption}
 use Rattle.log_replay.specs.declared.corruption.Corruption.TheVariants.{Tree}
 use Rattle.log_trees.specs.Placed.{Placed}
-use Rattle.log_trees.specs.Images.{NamedLsn}
+use Rattle.log_trees.specs.Images.{NamedLsn, named, slot_shown}
 use Rattle.log_trees.specs.Sound.{Child, children, are_within}
 use Rattle.log_trees.specs.Walk.{Walk, and_then, met, read_image, node_standing, read_here, read_node}
 use Rattle.recovery_je.specs.declared.read_err.ReadErr.{ReadErr}
 use Rattle.recovery_je.specs.declared.read_err.ReadErr.TheVariants.{Memory, Found}
 use Rattle.recovery_je.specs.Recovering.{IsFoundBy}
-use Rattle.recovery_je.specs.Walking.{GoesOn, HasMet, read_below}
+use Rattle.recovery_je.specs.Walking.{GoesOn, HasMet, read_below, waiting, low_behind}
 
 -- ---- a node
 
@@ -69,3 +73,23 @@ node_fails files es d above low high at walk P (Err x) e is found = by_error x (
 abbrev pub children_left : Name → Option Name → Option ℕ → List NamedLsn → List Child
 children_left low high None slots = children low high slots
 children_left low high (Some at) slots = children low high ((low, at) ∷ slots)
+
+-- the slots that are left of a BIN or an IN, where one of them is next
+pub slot_step : (slots : List Marked) (i : ℕ) (m : Marked) → i < length slots → m ≡ get_or slots i m → flat_map slot_shown (drop i slots) ≡ slot_shown m ++ flat_map slot_shown (drop (i + 1) slots)
+slot_step slots i m within is = ap (flat_map slot_shown) (drop_more slots i m within ∙ ap (λ (n : Marked). n ∷ drop (i + 1) slots) (sym is))
+
+-- the children that are left, where the slot of a child is next: the one that waits goes
+child_left : (low : Name) (high : Option Name) (pending : Option ℕ) (name : Name) (child : ℕ) (rest : List NamedLsn) →
+    children_left low high pending ((name, child) ∷ rest) ≡ waiting low (Some name) pending ++ children_left (low_behind pending low name) high (Some child) rest
+child_left low high None name child [] = refl
+child_left low high None name child (s ∷ rest) = refl
+child_left low high (Some at) name child [] = refl
+child_left low high (Some at) name child (s ∷ rest) = refl
+
+pub child_step : (low next : Name) (high : Option Name) (pending : Option ℕ) (slots : List Marked) (i : ℕ) (m : Marked) (child : ℕ) → i < length slots → m ≡ get_or slots i m → m.slot.version ≡ There child →
+    next ≡ low_behind pending low m.slot.name →
+    children_left low high pending (flat_map slot_shown (drop i slots)) ≡ waiting low (Some m.slot.name) pending ++ children_left next high (Some child) (flat_map slot_shown (drop (i + 1) slots))
+child_step low next high pending slots i m child within is at next_is =
+    ap (children_left low high pending) (slot_step slots i m within is ∙ ap (λ (v : Version). named m.slot.name (lsn_in v) ++ flat_map slot_shown (drop (i + 1) slots)) at)
+    ∙ child_left low high pending m.slot.name child (flat_map slot_shown (drop (i + 1) slots))
+    ∙ ap (λ (n : Name). waiting low (Some m.slot.name) pending ++ children_left n high (Some child) (flat_map slot_shown (drop (i + 1) slots))) (sym next_is)

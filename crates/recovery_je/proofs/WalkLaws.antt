@@ -91,11 +91,30 @@ one_goes_on f x walk P (Ok v) is = (is.0, ap (λ (s : Result Walk Corruption). a
 one_goes_on f x walk P (Err Memory) is = tt
 one_goes_on f x walk P (Err (Found c)) is = ap (λ (s : Result Walk Corruption). and_then s (each f [])) is
 
+-- a reading of one with no corruption
+pub one_is : {A : Type 0} (f : A → Walk → Result Walk Corruption) (x : A) (walk : Walk) (P : Walk → Type 0) → (w : Walk) × (f x walk ≡ Ok w) × P w → (w : Walk) × (each f (x ∷ []) walk ≡ Ok w) × P w
+one_is f x walk P is = (is.0, ap (λ (s : Result Walk Corruption). and_then s (each f [])) is.1, is.2)
+
 -- some were read, and these are left
 pub record IsWalkingOn {A : Type 0} (f : A → Walk → Result Walk Corruption) (all left : List A) (P : Walk → Type 0) (walk : Walk) : Type 0 where
   pub here : Walk
   pub at : P here
   pub rest : each f left here ≡ each f all walk
+
+each_both : {A : Type 0} (f : A → Walk → Result Walk Corruption) (more left : List A) (walk new : Walk) → each f more walk ≡ Ok new → each f (more ++ left) walk ≡ each f left new
+each_both f [] left walk new is = ap (λ (r : Result Walk Corruption). and_then r (each f left)) is
+each_both f (x ∷ more) left walk new is = by_first (f x walk) is (λ w. each_both f more left w new)
+  where
+    by_first : (r : Result Walk Corruption) → and_then r (each f more) ≡ Ok new → ((w : Walk) → each f more w ≡ Ok new → each f (more ++ left) w ≡ each f left new) → and_then r (each f (more ++ left)) ≡ each f left new
+    by_first (Ok w) h rest = rest w h
+    by_first (Err c) h rest = absurd cc
+
+-- some more were read
+pub walking_on : {A : Type 0} (f : A → Walk → Result Walk Corruption) (all before more left : List A) (P Q : Walk → Type 0) (walk : Walk) → before ≡ more ++ left → IsWalkingOn f all before P walk →
+    ((here : Walk) → P here → (new : Walk) × (each f more here ≡ Ok new) × Q new) → IsWalkingOn f all left Q walk
+walking_on f all before more left P Q walk is on step =
+    let new = step on.here on.at in
+    record { here = new.0; at = new.2; rest = sym (each_both f more left on.here new.0 new.1) ∙ ap (λ (l : List _). each f l on.here) (sym is) ∙ on.rest }
 
 -- ---- one node
 

@@ -14,7 +14,7 @@ use Rattle.log_replay.specs.declared.corruption.Corruption.{Corruption}
 use Rattle.log_replay.specs.declared.last_file.LastFile.{LastFile}
 use Rattle.log_replay.specs.Reading.{files_read}
 use Rattle.log_replay.specs.UnderWay.{IsTailOf}
-use Rattle.log_trees.specs.Placed.{placed}
+use Rattle.log_trees.specs.Placed.{Placed, placed}
 use Rattle.log_meaning.specs.Checkpoint.{restarted}
 use Rattle.log_meaning.specs.Meaning.{Meaning}
 use Rattle.log_meaning.specs.Reading.{reading_of}
@@ -69,8 +69,8 @@ pub record HasFiles (observable : Bool) (reads : Files) (P : List (ℕ × List �
   pub are : observable ≡ true → AreFiles reads held
   pub is : P held
 
--- files with so many entries mean this, and the environment has these trees
-pub record IsRecoveredFrom (meaning : Meaning) (has : ℕ → Bool) (stored : AllStored) (databases records entries : ℕ) (tail : Option LastFile) (held : List (ℕ × List ℕ)) : Type 0 where
+-- files with so many entries mean this, and the environment has these trees, of which more is said of the files' entries
+pub record IsRecoveredFrom (meaning : Meaning) (has : ℕ → Bool) (stored : AllStored) (databases records entries : ℕ) (tail : Option LastFile) (fits : List Placed → Type 0) (held : List (ℕ × List ℕ)) : Type 0 where
   pub bytes : AllByRecursion (λ file. AreBytes file.1) held
   pub rising : IsStrictlyIncreasing (map (λ file. file.0) held)
   pub meaning_is : reading_of held ≡ Ok meaning
@@ -79,3 +79,4 @@ pub record IsRecoveredFrom (meaning : Meaning) (has : ℕ → Bool) (stored : Al
   pub records_are : records ≡ record_count meaning.store
   pub entries_are : entries ≡ length (placed (log_in held))
   pub tail_is : IsTailOf held tail
+  pub fit : fits (placed (log_in held))

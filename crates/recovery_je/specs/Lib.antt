@@ -6,3 +6,4 @@ pub mod Finishing
 pub mod Recovering
 pub mod Answer
 pub mod Walking
+pub mod Putting

@@ -1,5 +1,6 @@
 // The trees of the databases that the catalog names.
-ghost use Rattle.std.specs.Prelude.{◌≡◌, ℕ, true, length, sum_by, OnOk, IfOk};
+ghost use Rattle.std.specs.Prelude.{◌≡◌, ℕ, List as Items, true, length, sum_by, OnOk, IfOk};
+ghost use Rattle.log_trees.specs.Placed.{Placed};
 ghost use Rattle.record_tree.specs.Stored.{AreStoredStill};
 ghost use Rattle.recovery_je.specs.Finishing.{is_kept as is_kept_in, HaveTrees, HasDropped, IsFinished};
 
@@ -13,6 +14,7 @@ const CATALOG: u32 = 0;
 // Makes a tree for each of these databases that has none, in order.
 fn make_missing<T: Loads>(trees: &mut T, alloc: Global, numbers: &[u32]) -> Result<(), LoadErr>
     ensures stored { OnOk result (AreStoredStill (T.stored trees.old) (T.stored trees.new)) }
+    ensures fits { (es : Items Placed) (base : ℕ) → T.fits trees.old es base → OnOk result (T.fits trees.new es base) }
     ensures there { OnOk result (HaveTrees numbers.now (T.has_tree trees.new)) }
     ensures others { OnOk result ((d : ℕ) → T.has_tree trees.old d ≡ true → T.has_tree trees.new d ≡ true) }
 {
@@ -31,7 +33,8 @@ fn is_kept(numbers: &[u32], db: u32) -> bool
 
 // Takes out the tree of a database, if it is neither the catalog nor among these.
 fn drop_unnamed<T: Loads>(trees: &mut T, numbers: &[u32], db: u32)
-    ensures { HasDropped numbers.now db (T.has_tree trees.old) (T.has_tree trees.new) (T.stored trees.old) (T.stored trees.new) }
+    ensures dropped { HasDropped numbers.now db (T.has_tree trees.old) (T.has_tree trees.new) (T.stored trees.old) (T.stored trees.new) }
+    ensures fits { (es : Items Placed) (base : ℕ) → T.fits trees.old es base → T.fits trees.new es base }
 {
     if !is_kept(numbers, db) {
         trees.drop_db(db);
@@ -42,7 +45,8 @@ fn drop_unnamed<T: Loads>(trees: &mut T, numbers: &[u32], db: u32)
 fn drop_others<T: Loads>(trees: &mut T, alloc: Global, numbers: &[u32]) -> Result<(), AllocError>
     requires catalog { T.has_tree trees.old 0 ≡ true }
     requires there { HaveTrees numbers.now (T.has_tree trees.old) }
-    ensures { OnOk result (IsFinished numbers.now (T.has_tree trees.new) (T.stored trees.old) (T.stored trees.new)) }
+    ensures finished { OnOk result (IsFinished numbers.now (T.has_tree trees.new) (T.stored trees.old) (T.stored trees.new)) }
+    ensures fits { (es : Items Placed) (base : ℕ) → T.fits trees.old es base → OnOk result (T.fits trees.new es base) }
 {
     for db in trees.databases(alloc)? {
         drop_unnamed(trees, numbers, db);
@@ -57,7 +61,8 @@ pub(crate) fn finish<T: Loads>(
     alloc: Global,
     numbers: Vec<u32>,
 ) -> Result<(), LoadErr>
-    ensures { OnOk result (IsFinished numbers.items (T.has_tree trees.new) (T.stored trees.old) (T.stored trees.new)) }
+    ensures finished { OnOk result (IsFinished numbers.items (T.has_tree trees.new) (T.stored trees.old) (T.stored trees.new)) }
+    ensures fits { (es : Items Placed) (base : ℕ) → T.fits trees.old es base → OnOk result (T.fits trees.new es base) }
 {
     let mut numbers = numbers;
     numbers.sort_unstable();

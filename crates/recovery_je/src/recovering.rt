@@ -1,5 +1,5 @@
 // Recovery from the entries of a log.
-ghost use Rattle.std.specs.Prelude.{◌≡◌, ℕ, List as Items, false, None, Ok, Err, IfOk, IfErr, map};
+ghost use Rattle.std.specs.Prelude.{◌≡◌, ◌<◌, ℕ, List as Items, false, None, Ok, Err, IfOk, IfErr, map};
 ghost use Rattle.log_trees.specs.Walk.{Walk, and_then, read_roots as read_roots_of};
 ghost use Rattle.je_disk.specs.States.{AreRisingNumbers};
 ghost use Rattle.std.specs.List.{AllByRecursion};
@@ -10,6 +10,7 @@ ghost use Rattle.log_meaning.specs.Redo.{redone};
 ghost use Rattle.log_meaning.specs.Checkpoint.{behind};
 ghost use Rattle.log_meaning.specs.Meaning.{most};
 ghost use Rattle.log_meaning.specs.Reading.{redo_corruption as redo_corruption_of, unless, meaning_in};
+ghost use Rattle.recovery_je.specs.Putting.{AreRootsPut, HasReadAgain};
 ghost use Rattle.recovery_je.specs.Recovering.{HoldsChanges, HoldsRedo, IsWalked, IsMeant, IsFoundBy};
 
 use crate::checkpoint_end::{CheckpointEnd, last_end, or_none};
@@ -41,20 +42,18 @@ pub(crate) struct Meant<T: Loads> {
     pub(crate) checkpoint: u64,
 }
 
-// Redoes the entries from the redo LSN on over the trees of the roots. Nodes that are made take the
-// numbers behind `last_node`, and what is split is found again from `from` on.
+// Redoes the entries from the redo LSN on over the trees of the roots, of which a redo began.
 fn redo_entries<T: Loads + Drop>(
     alloc: Global,
     trees: T,
-    last_node: u64,
-    from: Lsn,
     redo: Lsn,
     entries: Vec<PlacedEntry>,
 ) -> Result<T, LoadErr>
-    ensures { (rows : Items LoggedChange) → HoldsChanges rows (T.stored trees) → IfOk result (λ made. HoldsRedo (behind rows (redone redo entries.items)) (T.stored made)) }
+    requires order { AreInOrder entries.items }
+    ensures redone { (rows : Items LoggedChange) → HoldsChanges rows (T.stored trees) → IfOk result (λ made. HoldsRedo (behind rows (redone redo entries.items)) (T.stored made)) }
+    ensures fits { (base : ℕ) → AllByRecursion (λ p. p.0 < base) entries.items → T.fits trees entries.items base → IfOk result (λ made. T.fits made entries.items base) }
 {
     let mut trees = trees;
-    trees.begin_redo(last_node, from);
     ensure_tree(&mut trees, alloc, CATALOG)?;
     let mut going = Redoing {
         trees,
@@ -109,6 +108,7 @@ fn read_trees<T: Loads + Drop>(
     requires order { AreInOrder entries.now }
     requires entries { AllByRecursion (λ p. IsEntry p.1) entries.now }
     ensures read { IfOk result (λ walked. (walk : Walk) × IsWalked (map (λ f. f.0) files.now) entries.now end.now walked.numbers (T.stored walked.trees) walk) }
+    ensures nodes { IfOk result (λ walked. AreRootsPut entries.now end.now.roots walked.numbers.node (T.nodes trees) (T.nodes walked.trees)) }
     ensures right { IfOk result (λ walked. corruption ≡ None) }
     ensures found { IfErr result (λ e. IsFoundBy e (λ c. and_then (read_roots_of (map (λ f. f.0) files.now) entries.now end.now.at end.now.roots) (λ walk. unless corruption (Ok walk)) ≡ Err c)) }
 {
@@ -134,6 +134,7 @@ pub(crate) fn recover_entries<T: Loads + Drop>(
     requires order { AreInOrder entries.items }
     requires entries { AllByRecursion (λ p. IsEntry p.1) entries.items }
     ensures meant { IfOk result (λ m. IsMeant (map (λ f. f.0) files.now) entries.items (record { store = m.settled.opening; last_txn = m.last_txn; last_node = m.last_node; last_db = m.last_db; checkpoint = m.checkpoint }) (T.has_tree m.settled.trees) (T.stored m.settled.trees) m.settled.databases m.settled.records) }
+    ensures fits { IfOk result (λ m. HasReadAgain T.well_formed T.nodes T.stored T.last_number T.fits m.settled.trees entries.items) }
     ensures found { IfErr result (λ e. IsFoundBy e (λ c. meaning_in (map (λ f. f.0) files.now) entries.items ≡ Err c)) }
 {
     let end = last_end(alloc, &entries)?;
@@ -141,13 +142,14 @@ pub(crate) fn recover_entries<T: Loads + Drop>(
     let end = or_none(alloc, end);
     let walked = read_trees(alloc, files, &entries, &end, corruption, trees)?;
     let Walked {
-        trees,
+        mut trees,
         numbers: in_trees,
     } = walked;
     let numbers = Numbers::of(&entries, end.redo);
     let from = redo_begin(files, end.redo);
     let last_node = end.last_node.max(in_trees.node.max(numbers.node));
-    let trees = redo_entries(alloc, trees, last_node, from, end.redo, entries)?;
+    trees.begin_redo(last_node, from);
+    let trees = redo_entries(alloc, trees, end.redo, entries)?;
     let settled = settle(alloc, trees)?;
     let roots_db = greatest_db(end.roots.as_slice());
     Ok(Meant {

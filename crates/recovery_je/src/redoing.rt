@@ -1,7 +1,10 @@
 // Reading the entries of a log again.
-ghost use Rattle.std.specs.Prelude.{◌≡◌, ℕ, [], ◌∷◌, Some, true, OnOk};
+ghost use Rattle.std.specs.Prelude.{◌≡◌, ◌<◌, ℕ, List as Items, [], ◌∷◌, Some, true, OnOk};
+ghost use Rattle.std.specs.List.{AllByRecursion};
 ghost use Rattle.log_meaning.specs.Redo.{Redo, redo_entry, redo_all, from};
 ghost use Rattle.record_tree.specs.Stored.{AreStoredStill};
+ghost use Rattle.log_trees.specs.Placed.{Placed};
+ghost use Rattle.recovery_je.specs.Putting.{IsLogged, IsIn, FitsRedo, first_lsn};
 ghost use Rattle.recovery_je.specs.Redoing.{HasMade, IsRedoAt, named_by};
 
 use crate::placed_entry::PlacedEntry;
@@ -49,6 +52,7 @@ fn named_db(db: u32, value: &Option<Octets>) -> u32
 /// Makes a tree for the database, if it has none.
 pub(crate) fn ensure_tree<T: Loads>(trees: &mut T, alloc: Global, db: u32) -> Result<(), LoadErr>
     ensures stored { OnOk result (AreStoredStill (T.stored trees.old) (T.stored trees.new)) }
+    ensures fits { (es : Items Placed) (base : ℕ) → T.fits trees.old es base → OnOk result (T.fits trees.new es base) }
     ensures here { OnOk result (T.has_tree trees.new db ≡ true) }
     ensures others { OnOk result ((d : ℕ) → T.has_tree trees.old d ≡ true → T.has_tree trees.new d ≡ true) }
 {
@@ -66,7 +70,8 @@ fn make_change<T: Loads>(
     first: Lsn,
     change: WaitingChange,
 ) -> Result<(), LoadErr>
-    ensures { OnOk result (HasMade (change ∷ []) (T.stored trees.old) (T.stored trees.new)) }
+    ensures made { OnOk result (HasMade (change ∷ []) (T.stored trees.old) (T.stored trees.new)) }
+    ensures fits { (es : Items Placed) (base : ℕ) → first < base → IsLogged es base change → T.fits trees.old es base → OnOk result (T.fits trees.new es base) }
 {
     let WaitingChange {
         db,
@@ -84,7 +89,9 @@ fn make_change<T: Loads>(
 }
 
 // The LSN of the first change, 0 where there is none.
-fn first_of(changes: &[WaitingChange]) -> Lsn {
+fn first_of(changes: &[WaitingChange]) -> Lsn
+    ensures { result ≡ first_lsn changes.now }
+{
     match changes {
         [first, ..] => first.at,
         [] => Lsn::from_u64(0),
@@ -97,7 +104,8 @@ fn make_changes<T: Loads>(
     alloc: Global,
     changes: List<WaitingChange>,
 ) -> Result<(), LoadErr>
-    ensures { OnOk result (HasMade changes (T.stored trees.old) (T.stored trees.new)) }
+    ensures made { OnOk result (HasMade changes (T.stored trees.old) (T.stored trees.new)) }
+    ensures fits { (es : Items Placed) (base : ℕ) → AllByRecursion (IsLogged es base) changes → T.fits trees.old es base → OnOk result (T.fits trees.new es base) }
 {
     let first = first_of(changes.as_slice());
     for change in changes.into_vec() {
@@ -115,7 +123,8 @@ fn take_entry<T: Loads>(
     at: Lsn,
     entry: Entry,
 ) -> Result<(), LoadErr>
-    ensures { (redo : Redo) → IsRedoAt (T.stored trees.old) waiting.old redo → OnOk result (IsRedoAt (T.stored trees.new) waiting.new (redo_entry at entry redo)) }
+    ensures redo { (redo : Redo) → IsRedoAt (T.stored trees.old) waiting.old redo → OnOk result (IsRedoAt (T.stored trees.new) waiting.new (redo_entry at entry redo)) }
+    ensures fits { (es : Items Placed) (base : ℕ) → IsIn es base (at, entry) → FitsRedo T.fits es base trees.old waiting.old → OnOk result (FitsRedo T.fits es base trees.new waiting.new) }
 {
     match entry {
         Entry::Put {
@@ -170,7 +179,8 @@ fn take_placed<T: Loads>(
     redo: Lsn,
     placed: PlacedEntry,
 ) -> Result<(), LoadErr>
-    ensures { (r : Redo) → IsRedoAt (T.stored going.old.trees) going.old.waiting r → OnOk result (IsRedoAt (T.stored going.new.trees) going.new.waiting (redo_all (from redo (placed ∷ [])) r)) }
+    ensures redo { (r : Redo) → IsRedoAt (T.stored going.old.trees) going.old.waiting r → OnOk result (IsRedoAt (T.stored going.new.trees) going.new.waiting (redo_all (from redo (placed ∷ [])) r)) }
+    ensures fits { (es : Items Placed) (base : ℕ) → IsIn es base placed → FitsRedo T.fits es base going.old.trees going.old.waiting → OnOk result (FitsRedo T.fits es base going.new.trees going.new.waiting) }
 {
     let PlacedEntry { at, entry } = placed;
     if at.as_u64() < redo.as_u64() {
@@ -187,7 +197,8 @@ pub(crate) fn take_all<T: Loads>(
     redo: Lsn,
     entries: Vec<PlacedEntry>,
 ) -> Result<(), LoadErr>
-    ensures { (r : Redo) → IsRedoAt (T.stored going.old.trees) going.old.waiting r → OnOk result (IsRedoAt (T.stored going.new.trees) going.new.waiting (redo_all (from redo entries.items) r)) }
+    ensures redo { (r : Redo) → IsRedoAt (T.stored going.old.trees) going.old.waiting r → OnOk result (IsRedoAt (T.stored going.new.trees) going.new.waiting (redo_all (from redo entries.items) r)) }
+    ensures fits { (es : Items Placed) (base : ℕ) → AllByRecursion (IsIn es base) entries.items → FitsRedo T.fits es base going.old.trees going.old.waiting → OnOk result (FitsRedo T.fits es base going.new.trees going.new.waiting) }
 {
     for placed in entries {
         take_placed(going, alloc, redo, placed)?;

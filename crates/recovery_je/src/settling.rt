@@ -1,6 +1,7 @@
 // The environment that records make.
-ghost use Rattle.std.specs.Prelude.{◌≡◌, ℕ, None, IfOk, IfErr};
+ghost use Rattle.std.specs.Prelude.{◌≡◌, ℕ, List as Items, None, IfOk, IfErr};
 ghost use Rattle.record_map.specs.Cells.{IsRising};
+ghost use Rattle.log_trees.specs.Placed.{Placed};
 ghost use Rattle.log_meaning.specs.Redo.{Redo};
 ghost use Rattle.recovery_je.specs.Recovering.{HoldsRedo, IsSettled, IsFoundBy, IsOtherErr, IsWrong};
 ghost use Rattle.recovery_je.specs.Checking.{wrong_lsn_in};
@@ -27,6 +28,7 @@ fn settle_right<T: Loads + Drop>(alloc: Global, trees: T) -> Result<Settled<T>, 
     requires right { wrong_lsn_in (T.stored trees) ≡ None }
     requires rising { (d : ℕ) → IsRising (T.stored trees d) }
     ensures settled { (redo : Redo) → HoldsRedo redo (T.stored trees) → IfOk result (λ s. IsSettled redo (T.has_tree s.trees) (T.stored s.trees) s.opening s.databases s.records) }
+    ensures fits { (es : Items Placed) (base : ℕ) → T.fits trees es base → IfOk result (λ s. T.fits s.trees es base) }
     ensures other { IfErr result IsOtherErr }
 {
     let opening = OpeningStore::of(&trees);
@@ -46,6 +48,7 @@ fn settle_right<T: Loads + Drop>(alloc: Global, trees: T) -> Result<Settled<T>, 
 /// The environment that the records of a redo make, or the first one that breaks a rule.
 pub(crate) fn settle<T: Loads + Drop>(alloc: Global, trees: T) -> Result<Settled<T>, ReadErr>
     ensures settled { (redo : Redo) → HoldsRedo redo (T.stored trees) → IfOk result (λ s. IsSettled redo (T.has_tree s.trees) (T.stored s.trees) s.opening s.databases s.records) }
+    ensures fits { (es : Items Placed) (base : ℕ) → T.fits trees es base → IfOk result (λ s. T.fits s.trees es base) }
     ensures found { (redo : Redo) → HoldsRedo redo (T.stored trees) → IfErr result (λ e. IsFoundBy e (IsWrong redo)) }
 {
     if let Some(lsn) = wrong_lsn(alloc, &trees)? {

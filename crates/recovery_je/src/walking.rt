@@ -1,6 +1,7 @@
 // Reading trees.
-ghost use Rattle.std.specs.Prelude.{◌≡◌, OnOk, map, option_map, option_copied};
+ghost use Rattle.std.specs.Prelude.{◌≡◌, ◌≤◌, ◌-◌, ℕ, not, IsSome, OnOk, map, option_map, option_copied};
 ghost use Rattle.std.specs.List.{AllByRecursion, flat_map, list_all};
+ghost use Rattle.je_order.specs.declared.name.Name.{Name as Named};
 ghost use Rattle.log_entry.specs.Body.{IsEntry};
 ghost use Rattle.node_log.specs.Slots.{lsn_in};
 ghost use Rattle.log_trees.specs.Images.{named, slot_shown};
@@ -8,6 +9,9 @@ ghost use Rattle.log_trees.specs.Sound.{is_within as is_name_within};
 ghost use Rattle.log_trees.specs.Placed.{AreInOrder};
 ghost use Rattle.log_trees.specs.Trees.{data_in};
 ghost use Rattle.log_trees.specs.Walk.{Walk, each, met, with_record, read_record as record_at, read_here as node_here, may_stand as node_may_stand};
+ghost use Rattle.record_tree.specs.LoadedNodes.{AllNodes, node_read, HasPutNode};
+ghost use Rattle.log_meaning.specs.ReadNodes.{is_delta};
+ghost use Rattle.recovery_je.specs.Putting.{HasPut, none_put, are_whole as are_all_whole};
 ghost use Rattle.recovery_je.specs.Walking.{Answers, IsWalking, GoesOn};
 
 use crate::images::{nowhere, read_image};
@@ -24,14 +28,37 @@ use record_tree::{LoadErr, Loads};
 use std::alloc::Global;
 use std::collections::BTreeSet;
 
-/// A reading of trees under way: the trees, the numbers of the nodes that were read, and the greatest
-/// numbers of a node and of a database in a catalog record.
+/// A reading of trees under way: the trees, whether the images that are read are kept as their nodes' last ones, the
+/// numbers of the nodes that were read, and the greatest numbers of a node and of a database in a catalog record.
 #[derive(Drop)]
 pub(crate) struct Walking<T> {
     pub(crate) trees: T,
+    pub(crate) keeps: bool,
     pub(crate) seen: BTreeSet<u64>,
     pub(crate) node: u64,
     pub(crate) db: u32,
+}
+
+// Whether an entry is whole: it is no delta.
+fn is_whole(entry: &Entry) -> bool
+    ensures { result ≡ not (is_delta entry.now) }
+{
+    match entry {
+        Entry::BinDelta { .. } => false,
+        _ => true,
+    }
+}
+
+/// Whether each entry is whole.
+pub(crate) fn are_whole(entries: &[PlacedEntry]) -> bool
+    ensures { result ≡ are_all_whole entries.now }
+{
+    for placed in entries {
+        if !is_whole(&placed.entry) {
+            return false;
+        }
+    }
+    true
 }
 
 /// Puts a node that was read.
@@ -42,9 +69,12 @@ pub(crate) fn meet<T: Loads>(
     low: &Name,
     at: Lsn,
 ) -> Result<(), LoadErr>
-    ensures { (walk : Walk) → IsWalking (T.stored walking.old.trees) walking.old.seen.keys walking.old.node walking.old.db walk → OnOk result (IsWalking (T.stored walking.new.trees) walking.new.seen.keys walking.new.node walking.new.db (met node.now walk)) }
+    ensures walk { (walk : Walk) → IsWalking (T.stored walking.old.trees) walking.old.seen.keys walking.old.node walking.old.db walk → OnOk result (IsWalking (T.stored walking.new.trees) walking.new.seen.keys walking.new.node walking.new.db (met node.now walk)) }
+    ensures nodes { OnOk result (HasPut T.nodes (λ keeps most old new. (node.now.number ≤ most) × HasPutNode old new node.now.db (node.now.level - 1) low.now (node_read node.now.number at keeps)) walking.old walking.new) }
 {
-    walking.trees.load_node(alloc, node, low, at)?;
+    walking
+        .trees
+        .load_node(alloc, node, low, at, walking.keeps)?;
     if walking.seen.insert(node.number).is_err() {
         return Err(LoadErr::Memory);
     }
@@ -61,7 +91,8 @@ fn put_record<T: Loads>(
     lsn: Lsn,
     value: &Octets,
 ) -> Result<(), LoadErr>
-    ensures { (walk : Walk) → IsWalking (T.stored walking.old.trees) walking.old.seen.keys walking.old.node walking.old.db walk → OnOk result (IsWalking (T.stored walking.new.trees) walking.new.seen.keys walking.new.node walking.new.db (with_record d (name.now, lsn) value.now walk)) }
+    ensures walk { (walk : Walk) → IsWalking (T.stored walking.old.trees) walking.old.seen.keys walking.old.node walking.old.db walk → OnOk result (IsWalking (T.stored walking.new.trees) walking.new.seen.keys walking.new.node walking.new.db (with_record d (name.now, lsn) value.now walk)) }
+    ensures nodes { (k : ℕ) (x : Named) → IsSome (T.nodes walking.old.trees d k x) → OnOk result (HasPut T.nodes none_put walking.old walking.new) }
 {
     walking.trees.load(alloc, d, name, lsn, value.as_slice())?;
     walking.db = walking.db.max(number_in(d, value));
@@ -106,7 +137,8 @@ fn read_record<T: Loads>(
     lsn: Lsn,
 ) -> Result<(), ReadErr>
     requires order { AreInOrder entries.now }
-    ensures { (walk : Walk) → IsWalking (T.stored walking.old.trees) walking.old.seen.keys walking.old.node walking.old.db walk → GoesOn (record_at (map (λ f. f.0) files.now) entries.now d at (name.now, lsn) walk) (IsWalking (T.stored walking.new.trees) walking.new.seen.keys walking.new.node walking.new.db) result }
+    ensures walk { (walk : Walk) → IsWalking (T.stored walking.old.trees) walking.old.seen.keys walking.old.node walking.old.db walk → GoesOn (record_at (map (λ f. f.0) files.now) entries.now d at (name.now, lsn) walk) (IsWalking (T.stored walking.new.trees) walking.new.seen.keys walking.new.node walking.new.db) result }
+    ensures nodes { (k : ℕ) (x : Named) → IsSome (T.nodes walking.old.trees d k x) → OnOk result (HasPut T.nodes none_put walking.old walking.new) }
 {
     if lsn.as_u64() >= at.as_u64() {
         return Err(ReadErr::Found(nowhere(files, lsn)));
@@ -132,7 +164,8 @@ fn read_slot<T: Loads>(
     slot: &Slot,
 ) -> Result<(), ReadErr>
     requires order { AreInOrder entries.now }
-    ensures { (walk : Walk) → IsWalking (T.stored walking.old.trees) walking.old.seen.keys walking.old.node walking.old.db walk → GoesOn (each (record_at (map (λ f. f.0) files.now) entries.now d at) (named slot.now.name (lsn_in slot.now.version)) walk) (IsWalking (T.stored walking.new.trees) walking.new.seen.keys walking.new.node walking.new.db) result }
+    ensures walk { (walk : Walk) → IsWalking (T.stored walking.old.trees) walking.old.seen.keys walking.old.node walking.old.db walk → GoesOn (each (record_at (map (λ f. f.0) files.now) entries.now d at) (named slot.now.name (lsn_in slot.now.version)) walk) (IsWalking (T.stored walking.new.trees) walking.new.seen.keys walking.new.node walking.new.db) result }
+    ensures nodes { (k : ℕ) (x : Named) → IsSome (T.nodes walking.old.trees d k x) → OnOk result (HasPut T.nodes none_put walking.old walking.new) }
 {
     match slot.version {
         Version::There(lsn) => {
@@ -153,7 +186,8 @@ pub(crate) fn read_slots<T: Loads>(
     slots: &[Marked],
 ) -> Result<(), ReadErr>
     requires order { AreInOrder entries.now }
-    ensures { (walk : Walk) → IsWalking (T.stored walking.old.trees) walking.old.seen.keys walking.old.node walking.old.db walk → GoesOn (each (record_at (map (λ f. f.0) files.now) entries.now d at) (flat_map slot_shown slots.now) walk) (IsWalking (T.stored walking.new.trees) walking.new.seen.keys walking.new.node walking.new.db) result }
+    ensures walk { (walk : Walk) → IsWalking (T.stored walking.old.trees) walking.old.seen.keys walking.old.node walking.old.db walk → GoesOn (each (record_at (map (λ f. f.0) files.now) entries.now d at) (flat_map slot_shown slots.now) walk) (IsWalking (T.stored walking.new.trees) walking.new.seen.keys walking.new.node walking.new.db) result }
+    ensures nodes { (k : ℕ) (x : Named) → IsSome (T.nodes walking.old.trees d k x) → OnOk result (HasPut T.nodes none_put walking.old walking.new) }
 {
     for marked in slots {
         read_slot(walking, alloc, files, entries, d, at, &marked.slot)?;

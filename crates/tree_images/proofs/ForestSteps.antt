@@ -17,7 +17,7 @@ use Rattle.db_tree.specs.NodeImages.{node_of}
 use Rattle.db_tree.specs.Trees.{IsTree}
 use Rattle.db_tree.proofs.Longer.{longer}
 use Rattle.db_tree.proofs.SplitLaws.{level_cases}
-use Rattle.tree_images.specs.Forest.{latest_at, logged_at, AreLogged, IsDue, FitsDue, ForestDue}
+use Rattle.tree_images.specs.Forest.{latest_at, logged_at, AreLogged, FitsDue, ForestDue}
 use Rattle.tree_images.specs.Laws.{AgreesUpTo}
 use Rattle.tree_images.specs.LogLaws.{AreDue}
 use Rattle.tree_images.proofs.Latest.{latest_rises, logged_rises}

@@ -1,5 +1,5 @@
 -- One tree that fits its log, and its cells' changes, while a cell is set.
-use Rattle.std.proofs.Common.{◌≡◌, ◌≤◌, ◌⊎◌, ◌++◌, ◌&&◌, ◌==◌, ℕ, zero, suc, List, [], ◌∷◌, Bool, true, false, cond, Option, None, Some, map, option_map, refl, ap, sym, subst, ◌∙◌, inl, inr, is_eq, filter}
+use Rattle.std.proofs.Common.{◌≡◌, ◌≤◌, ◌⊎◌, ◌++◌, ℕ, zero, suc, List, [], ◌∷◌, Bool, true, false, cond, Option, None, Some, option_map, refl, ap, sym, subst, ◌∙◌, inl, inr, is_eq, filter}
 use Rattle.std.specs.Prelude.{IfSome, Box}
 use Rattle.std.specs.Global.{Global}
 use Rattle.std.specs.List.{AllByRecursion}
@@ -10,7 +10,7 @@ use Rattle.std.proofs.lemmas.Option.{none-some, same_Some}
 use Rattle.std.proofs.Math.Nat.{le_trans}
 use Rattle.std.specs.List.Sorted.{IsStrictlySortedBy}
 use Rattle.node_core.specs.Changes.{is_committed}
-use Rattle.je_order.specs.Edges.{Edge, is_between}
+use Rattle.je_order.specs.Edges.{is_between}
 use Rattle.je_order.specs.Edges.Edge.{At}
 use Rattle.je_order.specs.Order.{name_cmp}
 use Rattle.je_order.specs.declared.name.Name.{Name}
@@ -34,7 +34,7 @@ use Rattle.db_tree.specs.NodeSteps.{written_lsn}
 use Rattle.db_tree.specs.Trees.{given_up}
 use Rattle.tree_images.specs.Sound.{IsNumber}
 use Rattle.tree_images.specs.Fits.{AreImaged, AreRecorded, IsRecorded}
-use Rattle.tree_images.specs.Forest.{latest_at, logged_at, AreLogged, FitsDue, IsDue}
+use Rattle.tree_images.specs.Forest.{latest_at, logged_at, AreLogged, FitsDue}
 use Rattle.tree_images.specs.Laws.{HasSet}
 use Rattle.tree_images.specs.LogLaws.{AreDue}
 use Rattle.tree_images.specs.TreeSteps.{HasWritten, HasCommitted, HasGivenUp, IsNewTree}

@@ -1,6 +1,6 @@
 -- The LSNs of each name's changes while the log grows.
-use Rattle.std.proofs.Common.{◌≡◌, ◌≤◌, ◌==◌, ◌++◌, ℕ, max, nat_le, List, [], ◌∷◌, Bool, true, false, cond, refl, ap, ap₂, sym, subst, ◌∙◌, arith}
-use Rattle.std.proofs.lemmas.Bool.{eqb-true, eq-eqb, le-leb, cond-true, cases_Bool}
+use Rattle.std.proofs.Common.{◌≡◌, ◌≤◌, ◌==◌, ◌++◌, ℕ, max, nat_le, List, [], ◌∷◌, Bool, true, false, cond, refl, ap, sym, subst, ◌∙◌, arith}
+use Rattle.std.proofs.lemmas.Bool.{eqb-true}
 use Rattle.std.proofs.lemmas.List.Elements.{filter-append}
 use Rattle.std.proofs.Math.Nat.{le_refl, le_trans}
 use Rattle.je_order.specs.declared.name.Name.{Name}
@@ -8,7 +8,7 @@ use Rattle.log_entry.specs.declared.entry.Entry.{Entry}
 use Rattle.log_entry.specs.declared.entry.Entry.TheVariants.{FileHeader, Put, Delete, Migrated, Commit, In, Bin, BinDelta, CkptStart, CkptEnd, FileSummary}
 use Rattle.log_trees.specs.Changes.{LoggedChange, is_of}
 use Rattle.log_meaning.specs.Redo.{Redo, nothing_redone, pushed, redo_entry, redo_all, from, redone}
-use Rattle.log_meaning.proofs.RedoLaws.{redo_all-append, redone-in}
+use Rattle.log_meaning.proofs.RedoLaws.{redo_all-append}
 use Rattle.db_tree.specs.Images.{Placed}
 use Rattle.tree_images.specs.Forest.{latest_of, latest_at, logged_at}
 

@@ -46,5 +46,17 @@ pub mod Latest
 pub mod ForestSteps
 -- One tree that fits its log, and its cells' changes, while a cell is set.
 pub mod ForestWrites
+-- The nodes of trees that were read: each image's node stands alone within its bounds.
+pub mod ReadNodes
+-- The images that trees were read from, in a log without deltas: entries of BINs and of INs, which are sound.
+pub mod ReadImages
+-- A tree whose nodes are those that the images below its root show fits the log.
+pub mod ReadTrees
+-- The records of a tree that was read: they stand where the images below its root show them.
+pub mod ReadRecords
+-- The trees that reading a checkpoint's roots gives fit the log that was read.
+pub mod ReadForest
 -- A tree that fits its log, where a name got its slot: its images are due.
 pub mod ForestPlaces
+-- Trees where a change is redone.
+pub mod RedoneTrees

@@ -1,9 +1,10 @@
 -- Trees that are made of the images that were read.
-use Rattle.std.proofs.Common.{◌≡◌, ◌⊎◌, ◌<◌, ◌&&◌, not, ℕ, suc, List, [], ◌∷◌, Bool, true, false, cond, Option, Some, map, refl, ap, ap₂, sym, subst, ◌∙◌, inl, arith, length, is_gt, Ordering, Less, Equal, Greater}
+use Rattle.std.proofs.Common.{◌≡◌, ◌⊎◌, ◌<◌, ◌&&◌, not, ℕ, suc, List, [], ◌∷◌, Bool, true, false, cond, Option, Some, map, refl, ap, ap₂, sym, subst, ◌∙◌, inl, inr, arith, length, is_gt, Ordering, Less, Equal, Greater}
 use Rattle.std.specs.Ordering.{is_le}
 use Rattle.std.specs.Option.{option_and_then}
 use Rattle.std.specs.List.{AllByRecursion}
-use Rattle.std.proofs.lemmas.Option.{same_Some}
+use Rattle.std.proofs.lemmas.Bool.{true≢false}
+use Rattle.std.proofs.lemmas.Option.{none-some, same_Some}
 use Rattle.je_order.specs.Order.{name_cmp}
 use Rattle.je_order.specs.Edges.{is_below, is_between}
 use Rattle.je_order.specs.Edges.Edge.{At}
@@ -22,7 +23,7 @@ use Rattle.db_tree.proofs.Contents.{within}
 use Rattle.db_tree.proofs.Over.{over_once}
 use Rattle.db_tree.proofs.Within.{over_within}
 use Rattle.db_tree.specs.Trees.{IsBehind}
-use Rattle.tree_images.specs.ReadLaws.{IsChildNode, IsAsRead, ReadTreesFit}
+use Rattle.tree_images.specs.ReadLaws.{IsChildNode, IsAsRead, ReadTreesFit, IsUnread, UnreadTreesFit}
 use Rattle.tree_images.proofs.Images.{images_are_read}
 use Rattle.tree_images.proofs.Neighbours.{sides_of}
 
@@ -58,7 +59,7 @@ over_for Q x low high (s ∷ slots) some from upto all = (child_behind x s.child
 
 module _ (es : Placed) (home : ℕ → Home) (last d : ℕ) (rows : List NodeRow) (parts : AreParts rows) (each : (level : ℕ) (low : Name) (n : Node) → value_at low (row_of rows level) ≡ Some n → IsAsRead es home last d rows level low n) where
   -- an IN's image shows what its child's does
-  inner_same : (k : ℕ) (x : Name) (e c : Name × Node) → IsOver (row_of rows (suc k)) x e → IsOver (row_of rows k) x c → shown es (suc k) e.1.last x ≡ shown es k c.1.last x
+  pub inner_same : (k : ℕ) (x : Name) (e c : Name × Node) → IsOver (row_of rows (suc k)) x e → IsOver (row_of rows k) x c → shown es (suc k) e.1.last x ≡ shown es k c.1.last x
   inner_same k x e c upper lower =
       let a : IsAsRead es home last d rows (suc k) e.0 e.1 = each (suc k) e.0 e.1 upper.there in
       let bounds = sides_of e.0 x (low_behind e.0 (row_of rows (suc k))) (within (row_of rows (suc k)) x e upper) in
@@ -99,3 +100,22 @@ read_fit es base newest home last d rows cells parts top each recorded held = re
 
     leaf : (x : Name) (e : Name × Node) → IsOver (row_of rows 0) x e → IsAsRead es home last d rows 0 e.0 e.1 → (shown es 0 e.1.last x ≡ held_by cells x) ⊎ IsBehind base newest e.1 x
     leaf x e over a = inl (ap (λ (o : Option ℕ). shown es 0 o x) a.image ∙ held x e a.at over a.image)
+
+-- a tree whose nodes all wait
+pub unread_fit : UnreadTreesFit
+unread_fit es base newest home last d rows cells top each recorded = record {
+  tree = record {
+    reads = λ level x e at over is. absurd (none-some at (sym (each level e.0 e.1 over.there).image ∙ is));
+    leaf = λ x e over. inr (behind (each 0 e.0 e.1 over.there));
+    inner = λ level x e c upper lower. inr (behind (each (suc level) e.0 e.1 upper.there));
+  };
+  imaged = record {
+    numbers = λ level low n there. (each level low n there).own;
+    images = λ level low n there waits among. absurd (true≢false (sym (each level low n there).waits ∙ waits));
+    top = top;
+  };
+  recorded = recorded;
+}
+  where
+    behind : {level : ℕ} {low x : Name} {n : Node} → IsUnread home last d base level low n → IsBehind base newest n x
+    behind u = (u.from, u.marked, inr u.older)

@@ -1,5 +1,5 @@
 -- Trees that are made of the images that were read.
-use Rattle.std.specs.Prelude.{◌≡◌, ℕ, zero, suc, List, Some, IsSome, length, map}
+use Rattle.std.specs.Prelude.{◌≡◌, ◌<◌, ℕ, zero, suc, true, List, Option, None, Some, IsSome, length, map}
 use Rattle.std.specs.List.{AllByRecursion}
 use Rattle.je_order.specs.declared.name.Name.{Name}
 use Rattle.record_map.specs.declared.cell.Cell.{Cell}
@@ -9,10 +9,18 @@ use Rattle.tree_nodes.specs.Nodes.{NodeRow, least, low_behind, IsOver}
 use Rattle.tree_nodes.specs.Levels.{row_of, AreParts}
 use Rattle.log_trees.specs.Sound.{Child, children, Home}
 use Rattle.log_trees.specs.Building.{child_shown}
+use Rattle.log_meaning.specs.Checkpoint.{Checkpoint}
+use Rattle.log_meaning.specs.ReadNodes.{AreReadFrom}
+use Rattle.record_tree.specs.LoadedNodes.{AllNodes}
+use Rattle.record_tree.specs.Stored.{AllStored}
+use Rattle.db_tree.specs.declared.tree.DbTree.{DbTree}
+use Rattle.db_tree.specs.Loading.{loaded_in}
+use Rattle.db_tree.specs.Stored.{stored_under}
 use Rattle.db_tree.specs.Content.{held_by}
 use Rattle.db_tree.specs.Images.{Placed, shows}
 use Rattle.tree_images.specs.Sound.{IsNumber, IsSoundImage}
 use Rattle.tree_images.specs.Fits.{AreRecorded, FitsTree}
+use Rattle.tree_images.specs.Forest.{ForestFits}
 
 -- a child of an image is a node of a level: it has the child's image as its last one, and its bounds
 pub record IsChildNode (row : NodeRow) (c : Child) : Type 0 where
@@ -41,3 +49,31 @@ ReadTreesFit = (es : Placed) (base : ℕ) (newest : Name → ℕ) (home : ℕ �
     ((level : ℕ) (low : Name) (n : Node) → value_at low (row_of rows level) ≡ Some n → IsAsRead es home last d rows level low n) →
     AreRecorded es d cells → ((x : Name) (e : Name × Node) (at : ℕ) → IsOver (row_of rows 0) x e → e.1.last ≡ Some at → shows es 0 at x ≡ held_by cells x) →
     FitsTree es base newest home last d rows cells
+
+-- a node has no image, and waits to be logged: what it lacks is older than this life of the environment, which begins at `base`
+pub record IsUnread (home : ℕ → Home) (last d base level : ℕ) (low : Name) (n : Node) : Type 0 where
+  pub own : IsNumber home last d n.number level low
+  pub image : n.last ≡ None
+  pub waits : n.forced ≡ true
+  pub from : ℕ
+  pub marked : n.from ≡ Some from
+  pub older : from < base
+
+-- a tree whose nodes all wait fits each log
+abbrev pub UnreadTreesFit : Type 0
+UnreadTreesFit = (es : Placed) (base : ℕ) (newest : Name → ℕ) (home : ℕ → Home) (last d : ℕ) (rows : List NodeRow) (cells : List (Name × Cell)) →
+    ((level : ℕ) (low : Name) → suc level ≡ length rows → IsSome (value_at low (row_of rows level)) → low ≡ least) →
+    ((level : ℕ) (low : Name) (n : Node) → value_at low (row_of rows level) ≡ Some n → IsUnread home last d base level low n) →
+    AreRecorded es d cells → FitsTree es base newest home last d rows cells
+
+-- a database's tree has the nodes and the records that were read, and no change
+pub record IsReadTree (nodes : AllNodes) (stored : AllStored) (d : ℕ) (tree : DbTree) : Type 0 where
+  pub parts : AreParts tree.levels
+  pub nodes_are : (level : ℕ) (low : Name) → nodes d level low ≡ loaded_in tree.levels level low
+  pub records_are : (x : Name) → value_at x (stored d) ≡ stored_under (value_at x tree.cells)
+  pub quiet : (x : Name) (cell : Cell) → value_at x tree.cells ≡ Some cell → cell.write ≡ None
+
+-- the trees that reading a checkpoint's roots gives fit the log that was read, in a life of the environment that begins behind it
+abbrev pub ReadForestsFit : Type 0
+ReadForestsFit = (es : Placed) (c : Checkpoint) (nodes : AllNodes) (stored : AllStored) (last base : ℕ) (trees : ℕ → Option DbTree) → AreReadFrom es c nodes stored last → last < 0x7fffffffffffffff →
+    AllByRecursion (λ p. p.0 < base) es → ((d : ℕ) (tree : DbTree) → trees d ≡ Some tree → IsReadTree nodes stored d tree) → ForestFits es base last trees

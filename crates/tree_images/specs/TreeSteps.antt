@@ -1,5 +1,5 @@
 -- How one tree changes, as far as it fits its log.
-use Rattle.std.specs.Prelude.{◌≡◌, ◌≤◌, ℕ, Bool, true, false, List, [], Option, Some, IfSome, Box, option_map}
+use Rattle.std.specs.Prelude.{◌≡◌, ◌≤◌, ℕ, true, false, [], Option, Some, IfSome, Box, option_map}
 use Rattle.std.specs.Global.{Global}
 use Rattle.std.specs.Map.{set_value}
 use Rattle.std.specs.BTreeMap.{is_at}

@@ -2,7 +2,8 @@
 ghost use Rattle.tree_images.specs.Laws.{SoundImagesAreTrees, SoundImagesShow, SoundImagesAreRead, SoundImagesStay, FittingTreesStay, ForestsStay, RootsOfFittingTreesAreRight, RootsOfFittingTreesAreRead, CellsAreSet, MadeCellsAreRecorded, WritesAreRecorded, CommittedCellsAreRecorded, GivenUpCellsAreRecorded, LoggedCellsAreRecorded, LoadedCellsAreRecorded};
 ghost use Rattle.tree_images.specs.NodeLaws.{MoreNodesAreDue, SameNodesAreImaged, ClearedNodesAreImaged, FinishedImagesAreWhole, LoggedImagesAreSound, LoggedImagesHaveContent, LoggedNodesAreImaged, FlushedNodesAreImaged, WaitingNodesAreImaged, NewTreesAreImaged, EarlierMarksKeepTrees};
 ghost use Rattle.tree_images.specs.LogLaws.{DueImagesAreLogged};
-ghost use Rattle.tree_images.specs.ReadLaws.{ReadTreesFit};
+ghost use Rattle.tree_images.specs.ReadLaws.{ReadTreesFit, UnreadTreesFit, ReadForestsFit};
+ghost use Rattle.tree_images.specs.RedoSteps.{RedoneTreesFit};
 ghost use Rattle.tree_images.specs.NewestLaws.{NewestStays, CommitsAreNewest};
 ghost use Rattle.tree_images.specs.PlaceLaws.{NewHomesAgree, NewRootsAreAtHome, SplitsAreOfNodes, GrownNodesAreImaged, OrdersStay, PlacedNodesAreInOrder, PlacedTreesAreImaged, UnloggedTreesAreImaged};
 
@@ -80,9 +81,17 @@ pub fn images_are_logged()
     ensures { DueImagesAreLogged }
 {}
 
-/// A tree whose nodes and cells are as the images show them that were read fits the log.
+/// A tree whose nodes and cells are as the images show them that were read fits the log, and so does one whose nodes all wait to be
+/// logged. The trees that reading a checkpoint's roots gives fit the log that was read.
 pub fn read_trees_fit()
-    ensures { ReadTreesFit }
+    ensures read { ReadTreesFit }
+    ensures unread { UnreadTreesFit }
+    ensures forests { ReadForestsFit }
+{}
+
+/// A tree that fits a log fits it where a change of that log is redone: the nodes that were split for it wait.
+pub fn redone_trees_fit()
+    ensures { RedoneTreesFit }
 {}
 
 /// Entries that commit nothing leave each name's newest committed change; a Commit brings no older one, and none of its changes is newer.

@@ -7,7 +7,7 @@ use Rattle.engine.specs.Crash.{KeepsEntry}
 use Rattle.engine.specs.Opening.{HasTornTailCut, StartsLog, WasRead}
 use Rattle.engine.proofs.EntryLaws.{entry_none, entry_settled}
 use Rattle.engine.proofs.ObservedLaws.{of_observed}
-use Rattle.engine.proofs.OpenedLaws.{bound_found, engine_opened, engine_opened_safely, files_read, no_numbers, on_ok_not_err}
+use Rattle.engine.proofs.OpenedLaws.{bound_found, engine_opened, engine_opened_safely, files_read, fit_read, more_left, no_numbers, on_ok_not_err}
 use Rattle.engine.proofs.OpeningLaws.{starts_log}
 use Rattle.engine.proofs.opening.go_on.Goals as goal
 
@@ -25,7 +25,7 @@ returns-in-Ok-clause-opened g c = λ reads w same.
     engine_opened c.args.file_max observable reads state (now (history (disk_of engine.trees.log))) read w c.in-Some.last_node c.in-Ok.log engine c.begin.result.opening
     (ap (λ d. now (history d)) (ap disk_of c.begin.ensures.begun.log_is ∙ c.in-Ok.ensures.disk)) c.begin.ensures.opening
     (record { has = c.in-Ok.ensures.log (found_log 0 w.held) starts; end = c.in-Ok.ensures.end; file_max = c.in-Ok.ensures.file_max; works = c.in-Ok.ensures.works })
-    c.begin.ensures.begun (bound_found read c.in-Some.last_node c.requires.fits c.requires.waits c.in-Some.ensures)
+    c.begin.ensures.begun (bound_found read c.in-Some.last_node (fit_read read (more_left read.trees c.last_node.result c.last_node.ensures c.if-last_node-ge-LAST_NODE.false)) c.requires.waits c.in-Some.ensures)
 
 pub returns-in-Ok-clause-crash : goal.returns-in-Ok-clause-crash
 returns-in-Ok-clause-crash g c = λ observed reads w_ same.
@@ -45,7 +45,7 @@ returns-in-Ok-clause-crash g c = λ observed reads w_ same.
     engine_opened_safely c.args.file_max reads (history c.settle.new.disk) (history (disk_of engine.trees.log)) read w c.in-Some.last_node c.in-Ok.log engine c.begin.result.opening
     (ap (λ d. history d) (ap disk_of c.begin.ensures.begun.log_is ∙ c.in-Ok.ensures.disk)) c.begin.ensures.opening
     (record { has = of_observed observable state c.in-Ok.log log observed (c.in-Ok.ensures.log log starts); end = c.in-Ok.ensures.end; file_max = c.in-Ok.ensures.file_max; works = c.in-Ok.ensures.works })
-    c.begin.ensures.begun (bound_found read c.in-Some.last_node c.requires.fits c.requires.waits c.in-Some.ensures) stable (c.in-Ok.ensures.holds observed log starts stable)
+    c.begin.ensures.begun (bound_found read c.in-Some.last_node (fit_read read (more_left read.trees c.last_node.result c.last_node.ensures c.if-last_node-ge-LAST_NODE.false)) c.requires.waits c.in-Some.ensures) stable (c.in-Ok.ensures.holds observed log starts stable)
 
 pub returns-in-Ok-clause-entry : goal.returns-in-Ok-clause-entry
 returns-in-Ok-clause-entry g c = λ observed reads w_ same.

@@ -13,6 +13,7 @@ loop-number-preserved g c =
           making_goes_on numbers (drop c.loop-number.number-index numbers) (drop (c.loop-number.number-index + 1) numbers) (get_or numbers c.loop-number.number-index 0)
           (g.T.Loads.has_tree c.loop-number.trees) (g.T.Loads.has_tree c.ensure_tree.new.trees) (number_at numbers c.loop-number.number-index c.loop-number-test.true) made.here made.others before.making;
       same = λ d. made.stored d ∙ before.same d;
+      fits = λ es base fit. made.fits es base (before.fits es base fit);
       others = λ d there. made.others d (before.others d there);
     }
 

@@ -1,4 +1,4 @@
-use Rattle.std.proofs.Common.{◌≡◌, ◌∙◌, ap, sym, subst, map, max, List, ℕ, unwrap_or, Option, Err}
+use Rattle.std.proofs.Common.{◌≡◌, ◌≤◌, ◌∙◌, ap, sym, subst, map, max, List, ℕ, unwrap_or, Option, Err, arith}
 use Rattle.log_trees.specs.Placed.{Placed}
 use Rattle.log_entry.specs.declared.root.Root.{Root}
 use Rattle.log_replay.specs.Replay.{txn_in}
@@ -7,7 +7,9 @@ use Rattle.log_meaning.specs.Checkpoint.{Checkpoint, no_checkpoint, last_checkpo
 use Rattle.log_meaning.specs.Meaning.{most, node_number, db_number}
 use Rattle.log_meaning.specs.Reading.{meaning_in, redo_corruption}
 use Rattle.recovery_je.specs.Recovering.{IsWalked, IsWrong}
-use Rattle.recovery_je.proofs.MeaningLaws.{meant, found_wrong, handed_on}
+use Rattle.recovery_je.specs.Putting.{AreRootsPut}
+use Rattle.recovery_je.proofs.ReadAgain.{are_read}
+use Rattle.recovery_je.proofs.MeaningLaws.{meant, found_wrong, handed_on, same_stored}
 use Rattle.recovery_je.proofs.recovering.recover_entries.Goals as goal
 
 pub returns-in_err-settled-clause-found : goal.returns-in_err-settled-clause-found
@@ -24,7 +26,7 @@ returns-in_err-settled-clause-found g c =
     (subst (λ (l : List Placed). IsWalked files l c.or_none-end.result c.in_ok-walked.walked.numbers before walk) c.deref-2.ensures.value c.in_ok-walked.ensures.read.1) in
     let redo = behind walk.rows (redone e.redo es) in
     handed_on (IsWrong redo) (λ f. meaning_in files es ≡ Err f) c.from_residual-in_err-settled.result c.in_err-settled.field-0.0 c.from_residual-in_err-settled.ensures.1
-    (c.in_err-settled.ensures.found redo (c.in_ok-trees.ensures walk.rows walked.records))
+    (c.in_err-settled.ensures.found redo (c.in_ok-trees.ensures.redone walk.rows (same_stored walk.rows before (g.T.Loads.stored c.begin_redo.new.self) c.begin_redo.ensures.stored walked.records)))
     (λ f wrong. found_wrong files es e c.redo_corruption-corruption.result walk f at right c.in_ok-walked.ensures.right walked.read wrong)
 
 pub returns-clause-meant : goal.returns-clause-meant
@@ -42,7 +44,7 @@ returns-clause-meant g c =
     let redo = behind walk.rows (redone e.redo es) in
     meant files es e c.redo_corruption-corruption.result c.in_ok-walked.walked.numbers before (g.T.Loads.stored c.in_ok-settled.settled.trees) (g.T.Loads.has_tree c.in_ok-settled.settled.trees) c.in_ok-settled.settled.opening
     c.in_ok-settled.settled.databases c.in_ok-settled.settled.records c.max-2.result c.max-last_node.result c.max-5.result walk at right c.in_ok-walked.ensures.right walked
-    (c.in_ok-settled.ensures.settled redo (c.in_ok-trees.ensures walk.rows walked.records))
+    (c.in_ok-settled.ensures.settled redo (c.in_ok-trees.ensures.redone walk.rows (same_stored walk.rows before (g.T.Loads.stored c.begin_redo.new.self) c.begin_redo.ensures.stored walked.records)))
     (c.max-2.ensures ∙ ap (λ (n : ℕ). max e.last_txn n) (c.of-numbers.ensures.txn ∙ ap (λ (l : List Placed). most (λ (p : Placed). txn_in p.1) (from e.redo l)) c.deref-3.ensures.value))
     (c.max-last_node.ensures ∙ ap (λ (n : ℕ). max e.last_node n) (c.max.ensures ∙ ap (λ (n : ℕ). max c.in_ok-walked.walked.numbers.node n)
     (c.of-numbers.ensures.node ∙ ap (λ (l : List Placed). most (λ (p : Placed). node_number p.1) (from e.redo l)) c.deref-3.ensures.value)))
@@ -50,3 +52,31 @@ returns-clause-meant g c =
     ∙ ap (λ (n : ℕ). max n c.max-3.result) (c.greatest_db-roots_db.ensures ∙ ap (most (λ (r : Root). r.db)) c.as_slice.ensures)
     ∙ ap (λ (n : ℕ). max (most (λ (r : Root). r.db) e.roots) n) (c.max-3.ensures ∙ ap (λ (n : ℕ). max c.in_ok-walked.walked.numbers.db n)
     (c.of-numbers.ensures.db ∙ ap (λ (l : List Placed). most (λ (p : Placed). db_number p.1) (from e.redo l)) c.deref-3.ensures.value))))
+
+pub returns-clause-fits : goal.returns-clause-fits
+returns-clause-fits g c =
+    let files = map (λ f. f.0) c.args.files.now in
+    let es = c.args.entries.items in
+    let e : Checkpoint = record { at = c.end.inside.at; number = c.end.inside.number; redo = c.end.inside.redo; last_txn = c.end.inside.last_txn; last_node = c.end.inside.last_node; last_db = c.end.inside.last_db; roots = c.end.inside.roots } in
+    let found_end : c.in_ok-end.end ≡ last_end es = c.in_ok-end.ensures ∙ ap last_end c.deref.ensures.value in
+    let at : e ≡ last_checkpoint es = c.end.view_is ∙ c.or_none-end.ensures ∙ ap (λ (o : Option Checkpoint). unwrap_or o no_checkpoint) found_end in
+    let walk = c.in_ok-walked.ensures.read.0 in
+    let numbers = c.in_ok-walked.walked.numbers in
+    let before = g.T.Loads.stored c.in_ok-walked.walked.trees in
+    let nodes = g.T.Loads.nodes c.in_ok-walked.walked.trees in
+    let begun = g.T.Loads.nodes c.args.trees in
+    let read = c.begin_redo.new.self in
+    let walked = subst (λ (k : Checkpoint). IsWalked files es k numbers before walk) (sym c.end.view_is)
+    (subst (λ (l : List Placed). IsWalked files l c.or_none-end.result numbers before walk) c.deref-2.ensures.value c.in_ok-walked.ensures.read.1) in
+    let put = subst (λ (k : Checkpoint). AreRootsPut es k.roots numbers.node begun nodes) (sym c.end.view_is)
+    (subst (λ (l : List Placed). AreRootsPut l c.or_none-end.result.roots numbers.node begun nodes) c.deref-2.ensures.value c.in_ok-walked.ensures.nodes) in
+    let first = c.max.ensures in
+    let next = c.max-last_node.ensures in
+    let le : numbers.node ≤ c.max-last_node.result = omega (arith, first, next) in
+    record {
+      read = read;
+      formed = c.begin_redo.ensures.formed;
+      roots = are_read files es e numbers begun nodes (g.T.Loads.nodes read) before (g.T.Loads.stored read) walk c.max-last_node.result (g.T.Loads.last_number read) c.requires.entries at walked put
+          (λ d k low. g.met.T.Loads.no_nodes c.args.trees d k low (c.requires.empty d)) c.begin_redo.ensures.nodes c.begin_redo.ensures.stored le c.begin_redo.ensures.numbers;
+      fit = λ base below fit. c.in_ok-settled.ensures.fits es base (c.in_ok-trees.ensures.fits base below fit);
+    }

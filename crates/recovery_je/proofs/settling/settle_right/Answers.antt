@@ -7,4 +7,4 @@ returns-clause-settled g c redo holds =
     let stored = g.T.Loads.stored c.args.trees in
     settled redo (g.T.Loads.has_tree c.finish.new.trees) stored (g.T.Loads.stored c.finish.new.trees) c.of-opening.result c.in_ok-numbers.numbers.items c.len-databases.result c.in_ok-records.records
     holds c.requires.rising c.requires.right
-    c.of-opening.ensures c.in_ok-numbers.ensures (c.len-databases.ensures ∙ sym c.deref.ensures.len ∙ ap length c.deref.ensures.value) (c.in_ok-records.ensures ∙ ap (sum_by (λ n. length (stored n))) c.deref.ensures.value) c.in_ok-finish.ensures
+    c.of-opening.ensures c.in_ok-numbers.ensures (c.len-databases.ensures ∙ sym c.deref.ensures.len ∙ ap length c.deref.ensures.value) (c.in_ok-records.ensures ∙ ap (sum_by (λ n. length (stored n))) c.deref.ensures.value) c.in_ok-finish.ensures.finished

@@ -4,7 +4,7 @@ use Rattle.db_tree.specs.Content.{held_by}
 use Rattle.db_tree.specs.Trees.{cell_or_fresh}
 use Rattle.db_tree.specs.Seen.{with_value}
 use Rattle.db_tree.specs.Stored.{with_logged}
-use Rattle.db_tree.proofs.Records.{holds, commits, held_apart, cell_there, made_and_changed}
+use Rattle.db_tree.proofs.Records.{holds, changes, held_apart, cell_there, made_and_changed}
 use Rattle.db_tree.proofs.Seen.{change_seen, logged_seen}
 use Rattle.db_tree.proofs.WaitLaws.{mark_alike}
 use Rattle.db_tree.proofs.NodeSteps.{nodes_marked}
@@ -35,7 +35,7 @@ pub returns-clause-tree : goal.returns-clause-tree
 returns-clause-tree c = λ es base newest le tree.
     let old = c.args.self.now.cells in
     let made = c.make_cell.new.cells in
-    commits es base newest c.args.self.now.levels c.mark.new.self (held_by made) (held_by c.set_logged.new.cells) c.args.name.now c.args.first c.mark.ensures.marked le
+    changes es base newest c.args.self.now.levels c.mark.new.self (held_by made) (held_by c.set_logged.new.cells) c.args.name.now c.args.first c.mark.ensures.marked le
     (held_apart made c.set_logged.new.cells c.args.name.now (option_map (with_logged c.args.value c.args.at c.behind-commit.result c.over.result.1.now.last) (value_at c.args.name.now made)) c.set_logged.ensures.others)
     (holds es base newest c.args.self.now.levels old made c.args.name.now (cell_or_fresh (value_at c.args.name.now old)) c.in_ok-make_cell.ensures.cell refl tree)
 

@@ -10,6 +10,6 @@ pub returns : goal.returns
 returns c = record {
   found =
       c.get.ensures
-      ∙ sym (stored_at_name (cells_at c.self.inside.trees.forest c.args.db) c.args.name.now (c.self.invariant.quiet c.args.db).rising)
+      ∙ sym (stored_at_name (cells_at c.self.inside.trees.forest c.args.db) c.args.name.now (c.self.invariant.formed.quiet c.args.db).rising)
       ∙ ap (λ (t : Trees). value_at c.args.name.now (stored_within t c.args.db)) c.self.view_is;
 }

@@ -6,4 +6,4 @@ use Rattle.in_tree.proofs.StoredLaws.{forest_rises}
 use Rattle.in_tree.proofs.loaded_trees.LoadedTreesLoads.records.Goals as goal
 
 pub returns-clause-rising : goal.returns-clause-rising
-returns-clause-rising c = subst (λ (t : Trees). (d : ℕ) → IsRising (stored_within t d)) c.self.view_is (forest_rises c.self.inside.trees.forest c.self.invariant.quiet)
+returns-clause-rising c = subst (λ (t : Trees). (d : ℕ) → IsRising (stored_within t d)) c.self.view_is (forest_rises c.self.inside.trees.forest c.self.invariant.formed.quiet)
