@@ -1,3 +1,5 @@
+-- Where the life of an environment began.
+pub mod Bases
 -- Where an environment stands when its log was written out or synced, or the disk failed.
 pub mod Standing
 -- The calls that wait.
@@ -78,3 +80,5 @@ pub mod AgainLaws
 pub mod CommitAgain
 -- How it ends, by what became of its changes.
 pub mod AgainEnds
+-- Whose the names are that a transaction wrote.
+pub mod OwnFree
