@@ -1,10 +1,12 @@
 -- The changes of a call that is a transaction of its own: what they leave of records, and of the own changes of others.
 use mathlib.Core.Path.{fun_ext}
+use Rattle.log_buffer.specs.Log.{HasLog}
+use Rattle.log_file.specs.Log.{Log}
 use Rattle.txn_log.proofs.Giving.{transaction_gives, transaction_on, still_gives}
 use Rattle.log_buffer.specs.Flip.{pos_lsn}
 use Rattle.log_trees.specs.Placed.{placed}
 use Rattle.environment.proofs.Bases.{begun_with}
-use Rattle.std.proofs.Common.{◌≡◌, ◌≢◌, ◌∙◌, ℕ, suc, ◌+◌, ◌==◌, Bool, true, false, true≢false, cond, ◌&&◌, List, [], ◌∷◌, ◌++◌, find, map, reverse, Option, None, Some, is_some, is_eq, refl, ap, ap₂, sym, subst, inl, inr, ⊎_elim, arith}
+use Rattle.std.proofs.Common.{◌≤◌, ◌≡◌, ◌≢◌, ◌∙◌, ℕ, suc, ◌+◌, ◌==◌, Bool, true, false, true≢false, cond, ◌&&◌, List, [], ◌∷◌, ◌++◌, find, map, reverse, Option, None, Some, is_some, is_eq, refl, ap, ap₂, sym, subst, inl, inr, ⊎_elim, arith}
 use Rattle.std.specs.List.{AllByRecursion}
 use Rattle.std.specs.Option.{option_or}
 use Rattle.std.proofs.lemmas.Bool.{eqb-true, eq-eqb, and_parts}

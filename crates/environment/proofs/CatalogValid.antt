@@ -1,5 +1,7 @@
 -- A valid environment goes on by a change of the catalog.
 use Rattle.std.proofs.Common.{◌≡◌, ◌≢◌, inl, inr, ℕ, suc, ◌+◌, ◌≤◌, ◌==◌, Bool, true, false, true≢false, cond, ◌&&◌, ◌||◌, List, [], ◌∷◌, find, reverse, Option, None, Some, is_some, is_eq, refl, ap, ap₂, sym, ◌∙◌, subst, arith}
+use Rattle.log_buffer.specs.Log.{HasLog}
+use Rattle.log_file.specs.Log.{Log}
 use Rattle.txn_log.proofs.Giving.{transaction_gives, transaction_on, still_gives}
 use Rattle.txn_log.proofs.BufferLaws.{transaction_is_given}
 use Rattle.log_buffer.specs.Flip.{pos_lsn}

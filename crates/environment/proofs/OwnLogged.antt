@@ -192,6 +192,14 @@ module _ {D : Type 0} (observable : Bool) (history : D → History) (sync_out re
         (log_at old st v) (may_add st txn g changes m active) (subst (AllByRecursion (MayBeCommitted rows_)) (sym (own_planned g.db changes)) may_own) a refl refl refl refl
         (λ u. ap (λ (l : List (ℕ × RecordChange)). with_at txn.0 (st.own txn.0 ++ l) st.own u) (sym (own_planned g.db changes)))
 
+    abbrev add_ : Written → Added
+    add_ w = record {
+      entries = w.logged.entries;
+      logs = w.logged.logs;
+      grew = w.logged.grew.grew;
+      room = record { max = old.engine.trees.log.max; entries_are = w.logged.grew.fits.entries_are; room = w.logged.grew.fits.room };
+    }
+
     base_on : (a : Added) → (log_on a).given.gives.base ≡ v.gives.base
     unfolding log_on log_at
     base_on a =
@@ -266,20 +274,18 @@ module _ {D : Type 0} (observable : Bool) (history : D → History) (sync_out re
 
     pub done : Written → owed ≡ owing after_ → WritesOwn observable history sync_out read_out read_of old new st txn.0 g changes owed (Ok Done)
     done w owes = (
-      done_valid w a w.logged.fits owes,
+      done_valid w (add_ w) w.logged.fits owes,
       record {
-        entries = a.entries;
-        grew = a.grew;
+        entries = (add_ w).entries;
+        grew = (add_ w).grew;
         recovers = changes_recovered_in observable history sync_out read_out read_of v.log old.engine.trees.log new.engine.trees.log rows_ st.last_txn st.last_db (active_number st.actives) st.own txn planned_ given
-            (may_add st txn g changes m active) a;
+            (may_add st txn g changes m active) (add_ w);
       },
       limit_for old st txn g changes owed None v m (sym (no_limit (limit_in old.engine.trees planned_ owed) old.engine.kept.last_node (length planned_) w.limit w.left)),
-      a.grew.max,
+      (add_ w).grew.max,
       w.kept ∙ ap (λ (n : ℕ). record old.engine.kept { last_node = old.engine.kept.last_node + numbers_for n }) (length-map changes (record_planned g.db)),
       near w,
-    ) where
-      a : Added
-      a = added observable history sync_out read_out read_of faults old.engine.trees.log new.engine.trees.log (LogsChanges txn planned_) w.logged.entries w.logged.logs w.logged.grew
+    )
 
     pub tried : WritesAll observable history sync_out read_out read_of faults old new txn planned_ (own_names own_) owed (Ok Failed) →
         WritesOwn observable history sync_out read_out read_of old new st txn.0 g changes owed (Ok Failed)
