@@ -78,3 +78,5 @@ pub mod AgainLaws
 pub mod CommitAgain
 -- How it ends, by what became of its changes.
 pub mod AgainEnds
+-- Whose the names are that a transaction wrote.
+pub mod OwnFree
