@@ -1,5 +1,5 @@
 -- Where this life of an environment began; and trees that fit a log of a valid environment.
-use Rattle.std.proofs.Common.{◌≡◌, ℕ, ◌≤◌, Bool, List, arith}
+use Rattle.std.proofs.Common.{ℕ, ◌≤◌, Bool, List, arith}
 use Rattle.je_disk.specs.States.{State}
 use Rattle.je_order.specs.declared.txn_id.TxnId.{TxnId}
 use Rattle.store_model.specs.declared.record_change.RecordChange.{RecordChange}

@@ -1,11 +1,10 @@
 -- Whose the names are that a transaction wrote, and of how many of some changes the names have no record.
-use Rattle.std.proofs.Common.{◌≡◌, ◌≢◌, ◌⊎◌, inl, inr, ℕ, suc, ◌==◌, ◌&&◌, ◌+◌, ◌≤◌, ◌∙◌, Bool, true, false, true≢false, cond, List, [], ◌∷◌, Option, None, Some, IsSome, is_some, is_eq, length, count_by, nat_lt, refl, ap, ap₂, sym, subst, arith}
+use Rattle.std.proofs.Common.{◌≡◌, ◌≢◌, ◌⊎◌, inl, inr, ℕ, ◌==◌, ◌&&◌, ◌+◌, ◌≤◌, ◌∙◌, Bool, true, false, true≢false, cond, List, [], ◌∷◌, Option, None, Some, IsSome, is_some, is_eq, length, count_by, nat_lt, refl, ap, ap₂, sym, subst, arith}
 use Rattle.std.specs.List.{AllByRecursion}
 use Rattle.std.specs.Option.{option_map_or, option_or}
 use Rattle.std.proofs.lemmas.Bool.{eq-eqb, ltb-false}
 use Rattle.std.proofs.lemmas.Bool.Decides.{eqb_tells}
 use Rattle.std.proofs.lemmas.List.Sums.{count_by-le-length, sum_by-cons}
-use Rattle.je_order.specs.Order.{name_cmp}
 use Rattle.je_order.specs.declared.name.Name.{Name}
 use Rattle.je_order.specs.declared.txn_id.TxnId.{TxnId}
 use Rattle.je_order.proofs.Lists.{all_weaker}

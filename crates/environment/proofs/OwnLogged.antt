@@ -56,7 +56,7 @@ use Rattle.engine.specs.Whole.{end_file}
 use Rattle.engine.proofs.GuardedEvents.{changes_recovered_in, tried_changes_recovered_in}
 use Rattle.engine.proofs.LogLaws.{no_limit}
 use Rattle.engine.proofs.ReachLaws.{file_within}
-use Rattle.engine.proofs.TxnGives.{added, failed}
+use Rattle.engine.proofs.TxnGives.{failed}
 use Rattle.environment.specs.declared.environment.Environment.{Environment}
 use Rattle.environment.specs.declared.wrote.Wrote.{Wrote}
 use Rattle.environment.specs.declared.wrote.Wrote.TheVariants.{Done, Full, NoNumbers, Failed}
