@@ -1,3 +1,4 @@
 pub mod Occupied
 pub mod Logged
 pub mod Stored
+pub mod Nodes
