@@ -8,14 +8,14 @@ use Rattle.je_order.specs.Order.{name_cmp}
 use Rattle.je_order.specs.declared.name.Name.{Name}
 use Rattle.record_map.specs.declared.cell.Cell.{Cell}
 use Rattle.record_map.specs.declared.write.Write.{Write}
-use Rattle.record_map.specs.Cells.{value_at, with_write, committed}
+use Rattle.record_map.specs.Cells.{value_at, with_write, committed, committed_by}
 use Rattle.record_map.proofs.NameLaws.{same_or_other, same_gets, other_stays}
 use Rattle.tree_nodes.specs.declared.node.Node.{Node}
 use Rattle.tree_nodes.specs.Nodes.{NodeRow, logged, marked}
 use Rattle.tree_nodes.specs.Levels.{row_of, AreParts, HasPutAt, HasMarkedAt}
 use Rattle.db_tree.specs.Content.{held_by, lsn_under}
 use Rattle.db_tree.specs.Images.{Placed}
-use Rattle.db_tree.specs.NodeSteps.{IsSameNode, WasThere, AreSameNodes, IsNoted}
+use Rattle.db_tree.specs.NodeSteps.{IsSameNode, WasThere, AreSameNodes, IsNoted, written_lsn}
 use Rattle.db_tree.specs.Trees.{IsTree}
 use Rattle.db_tree.specs.Waiting.{is_among}
 use Rattle.db_tree.proofs.ForcedLaws.{one_at, one_cases}
@@ -112,8 +112,16 @@ write_kept es base newest rows old new name w others tree = is_committed es base
         subst (λ (y : Name). held_by new y ≡ held_by old y) same
         (ap lsn_under (others name ∙ same_gets name (option_map (with_write w) (value_at name old)) (value_at name old)) ∙ held (value_at name old))
 
--- a name without a cell has none to commit
-pub none_committed : (cells : List (Name × Cell)) (name : Name) (at : ℕ) → value_at name cells ≡ None →
+-- a cell without a change has none to commit
+committed_none : (at : ℕ) (o : Option Cell) → written_lsn o ≡ None → option_map (committed at None) o ≡ o
+committed_none at None none = refl
+committed_none at (Some cell) none = ap Some (by_write cell.write none)
+  where
+    by_write : (w : Option (Box Write Global)) → option_map (λ w. w.value.at) w ≡ None → committed_by (option_map (λ w. w.value) w) at None cell ≡ cell
+    by_write None none = refl
+    by_write (Some w) none = absurd cc
+
+pub none_committed : (cells : List (Name × Cell)) (name : Name) (at : ℕ) → written_lsn (value_at name cells) ≡ None →
     (last : Option ℕ) × ((x : Name) → value_at x cells ≡ cond (is_eq (name_cmp name x)) (option_map (committed at last) (value_at name cells)) (value_at x cells))
 none_committed cells name at none = (None, λ x. by_name x (same_or_other name x))
   where
@@ -121,4 +129,4 @@ none_committed cells name at none = (None, λ x. by_name x (same_or_other name x
     by_name x (inr apart) = sym (other_stays name x (option_map (committed at None) (value_at name cells)) (value_at x cells) apart)
     by_name x (inl same) =
         subst (λ (y : Name). value_at y cells ≡ cond (is_eq (name_cmp name y)) (option_map (committed at None) (value_at name cells)) (value_at y cells)) same
-        (none ∙ sym (ap (option_map (committed at None)) none) ∙ sym (same_gets name (option_map (committed at None) (value_at name cells)) (value_at name cells)))
+        (sym (committed_none at (value_at name cells) none) ∙ sym (same_gets name (option_map (committed at None) (value_at name cells)) (value_at name cells)))

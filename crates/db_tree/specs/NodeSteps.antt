@@ -1,5 +1,5 @@
 -- How the nodes of a tree change, as far as their images go.
-use Rattle.std.specs.Prelude.{◌≡◌, ℕ, Bool, true, false, List, [], Option, None, Some, length, option_map, unwrap_or, ◌++◌, if◌then◌else◌}
+use Rattle.std.specs.Prelude.{◌≡◌, ℕ, Bool, true, false, List, [], Option, None, Some, length, option_map, option_and_then, ◌++◌, if◌then◌else◌}
 use Rattle.je_order.specs.declared.name.Name.{Name}
 use Rattle.record_map.specs.declared.cell.Cell.{Cell}
 use Rattle.record_map.specs.Cells.{value_at}
@@ -73,7 +73,6 @@ pub record IsOneNode (rows : List NodeRow) (number : ℕ) : Type 0 where
   pub number_is : root.number ≡ number
   pub last : root.last ≡ None
 
--- where the change of a cell was logged; a cell without one counts as changed by the Commit
-abbrev pub written_from : ℕ → Option Cell → ℕ
-written_from at None = at
-written_from at (Some cell) = unwrap_or (option_map (λ w. w.value.at) cell.write) at
+-- where the change of a cell was logged, if it has one
+abbrev pub written_lsn : Option Cell → Option ℕ
+written_lsn o = option_and_then (λ cell. option_map (λ w. w.value.at) cell.write) o

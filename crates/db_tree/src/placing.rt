@@ -140,6 +140,7 @@ impl DbTree {
         ensures images { IfOk result (λ room. AreNodeImages db self.new.levels self.new.cells (nodes_logged fanout name.now (shape_in self.old)) room.images.items) }
         ensures numbers { IfOk result (λ room. AreNewNumbered first room.splits.items room.is_raised self.new.levels) }
         ensures splits { IfOk result (λ room. room.is_new ≡ true → room.splits.items ≡ splits_of fanout name.now (shape_in self.old)) }
+        ensures idle { IfOk result (λ room. room.is_new ≡ false → self.new ≡ self.old) }
         ensures high { IfErr result (λ e. e ≡ Reason.IdsEnded → passes_top fanout name.now (shape_in self.old) ≡ true) }
         ensures errors { IfErr result (λ e. (e ≡ Reason.IdsEnded) ⊎ (e ≡ Reason.Memory)) }
         ensures err { OnErr result (self.new.levels ≡ self.old.levels) }

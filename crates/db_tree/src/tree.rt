@@ -15,7 +15,10 @@ ghost use Rattle.db_tree.specs.Seen.{occupied, seen, with_change, with_value};
 ghost use Rattle.db_tree.specs.Stored.{with_logged};
 ghost use Rattle.db_tree.specs.Stored.{HasLogged, loaded_cell};
 ghost use Rattle.record_tree.specs.Occupied.{after_commit, after_abort};
-ghost use Rattle.db_tree.specs.NodeSteps.{AreSameNodes, IsOneNode, written_from};
+ghost use Rattle.db_tree.specs.NodeSteps.{AreSameNodes, IsOneNode, written_lsn};
+ghost use Rattle.std.specs.Map.{set_value};
+ghost use Rattle.std.specs.BTreeMap.{is_at};
+ghost use Rattle.record_map.specs.declared.cell.Cell.{Cell as Kept};
 ghost use Rattle.db_tree.specs.Shapes.{shape_in, new_shape, AreAlike};
 
 use je_lsn::Lsn;
@@ -195,6 +198,7 @@ impl DbTree {
         requires { IsSome (value_at name.now self.old.cells) }
         ensures cells { (x : Name) → value_at x (occupied self.new.cells) ≡ (if is_eq (name_cmp name.now x) then with_change write.value (value_at x (occupied self.old.cells)) else value_at x (occupied self.old.cells)) }
         ensures written { (x : Name) → value_at x self.new.cells ≡ (if is_eq (name_cmp name.now x) then option_map (with_write (Some write)) (value_at name.now self.old.cells) else value_at x self.old.cells) }
+        ensures list { (c : Kept) → value_at name.now self.old.cells ≡ Some c → self.new.cells ≡ set_value (is_at (name_cmp name.now)) self.old.cells (with_write (Some write) c) }
         ensures kept { (x : Name) → IsSome (value_at x self.old.cells) → IsSome (value_at x self.new.cells) }
         ensures rising { IsRising (occupied self.new.cells) }
         ensures levels { self.new.levels ≡ self.old.levels }
@@ -204,17 +208,17 @@ impl DbTree {
         self.cells.set_write(name, Some(write));
     }
 
-    /// Commits the name's change, by the Commit at `at`.
+    /// Commits the name's change, by the Commit at `at`. Where it has none nothing changes.
     pub fn commit_write(&mut self, name: &SortKey, at: Lsn)
         ensures cells { (x : Name) → value_at x (occupied self.new.cells) ≡ (if is_eq (name_cmp name.now x) then after_commit (value_at x (occupied self.old.cells)) else value_at x (occupied self.old.cells)) }
         ensures rising { IsRising (occupied self.new.cells) }
         ensures waits { AreAlike self.old.levels self.new.levels }
         ensures nodes { AreSameNodes self.old.levels self.new.levels }
         ensures committed { (last : Option ℕ) × ((x : Name) → value_at x self.new.cells ≡ (if is_eq (name_cmp name.now x) then option_map (committed at last) (value_at name.now self.old.cells) else value_at x self.old.cells)) }
-        ensures tree { (es : Placed) (base : ℕ) (newest : Name → ℕ) → written_from at (value_at name.now self.old.cells) ≤ newest name.now → IsTree es base newest self.old.levels self.old.cells → IsTree es base newest self.new.levels self.new.cells }
+        ensures tree { (es : Placed) (base : ℕ) (newest : Name → ℕ) → IfSome (written_lsn (value_at name.now self.old.cells)) (λ from. from ≤ newest name.now) → IsTree es base newest self.old.levels self.old.cells → IsTree es base newest self.new.levels self.new.cells }
     {
         let _before = self.cells.len();
-        match self.written_at(name, at) {
+        match self.written_at(name) {
             Some(from) => self.commit(name, at, from),
             None => return,
         }
@@ -252,16 +256,15 @@ impl DbTree {
         Ok(())
     }
 
-    // The LSN of the name's change, where it has a cell.
-    fn written_at(&self, name: &SortKey, at: Lsn) -> Option<Lsn>
+    // The LSN of the name's change, where it has one.
+    fn written_at(&self, name: &SortKey) -> Option<Lsn>
         ensures there { IsSome result → IsSome (value_at name.now self.now.cells) }
-        ensures none { result ≡ None → value_at name.now self.now.cells ≡ None }
-        ensures from { IfSome result (λ from. from ≡ written_from at (value_at name.now self.now.cells)) }
+        ensures from { result ≡ written_lsn (value_at name.now self.now.cells) }
     {
         match self.cells.get(name) {
             Some(cell) => match &cell.write {
                 Some(write) => Some(write.at),
-                None => Some(at),
+                None => None,
             },
             None => None,
         }

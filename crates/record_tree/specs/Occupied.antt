@@ -1,6 +1,6 @@
 -- What a database has under the names that are occupied, and how a transaction changes it.
-use Rattle.std.specs.Prelude.{◌≡◌, ℕ, Bool, ◌&&◌, ◌||◌, ◌==◌, List, Option, Some, None, is_some, option_map, if◌then◌else◌}
-use Rattle.std.specs.List.{list_any}
+use Rattle.std.specs.Prelude.{◌≡◌, ◌⊎◌, ℕ, Bool, ◌&&◌, ◌||◌, ◌==◌, List, [], ◌∷◌, Option, Some, None, IsSome, is_some, option_map, if◌then◌else◌}
+use Rattle.std.specs.List.{list_any, AllByRecursion}
 use Rattle.std.specs.Ordering.{is_eq}
 use Rattle.je_order.specs.Order.{name_cmp}
 use Rattle.je_order.specs.declared.name.Name.{Name}
@@ -49,6 +49,12 @@ write_in (Some o) = o.write
 abbrev pub IsFreeFor : TxnId → Option Write → Type 0
 IsFreeFor txn None = Unit {0}
 IsFreeFor txn (Some write) = write.txn ≡ txn
+
+-- of the changes of each database at most one is of a name that is not occupied
+abbrev pub AreFewNew : (ℕ → List (Name × Occupied)) → List TreeChange → Type 0
+AreFewNew cells [] = Unit {0}
+AreFewNew cells (c ∷ changes) =
+    AllByRecursion (λ e. c.db ≡ e.db → IsSome (value_at c.name (cells c.db)) ⊎ IsSome (value_at e.name (cells e.db))) changes × AreFewNew cells changes
 
 -- a name's change after those of a transaction: its last one, at some LSN, or the one that it had
 abbrev pub IsWritten : Option TreeChange → TxnId → Option Write → Option Write → Type 0

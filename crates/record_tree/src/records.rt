@@ -5,7 +5,7 @@ ghost use Rattle.log_entry.specs.declared.entry.Entry.{Entry};
 ghost use Rattle.log_entry.specs.declared.entry.Entry.TheVariants.{Commit};
 ghost use Rattle.record_map.specs.Cells.{value_at, IsRising, first_of, last_of, from_edge, below_edge, edge_of};
 ghost use Rattle.record_tree.specs.declared.tree_err.TreeErr.{TreeErr as Reason};
-ghost use Rattle.record_tree.specs.Occupied.{AllCells, occupied_by, write_in, IsFreeFor, AreWritten, after_commit, after_abort, HasChangedAll, AreSame};
+ghost use Rattle.record_tree.specs.Occupied.{AllCells, occupied_by, write_in, IsFreeFor, AreFewNew, AreWritten, after_commit, after_abort, HasChangedAll, AreSame};
 ghost use Rattle.record_tree.specs.declared.tree_change.TreeChange.{TreeChange};
 ghost use Rattle.std.specs.List.{AllByRecursion};
 ghost use Rattle.log_entry.specs.Body.{IsEntry};
@@ -59,8 +59,8 @@ pub trait Records {
 
     /// Changes names for the transaction, and logs the changes in order, each behind the images of the nodes that
     /// are split for it. Room for `owed` Commits is left, that of the transaction among them. A database that a
-    /// change makes has an empty tree then. An image of a node that waited for it may be among the others. An error but
-    /// Fault leaves all as it was.
+    /// change makes has an empty tree then. An image of a node that waited for it may be among the others. Of the changes of
+    /// each database at most one is of a name that is not occupied. An error but Fault leaves all as it was.
     fn write_all(
         &mut self,
         alloc: Global,
@@ -70,6 +70,7 @@ pub trait Records {
     ) -> Result<(), TreeErr>
         requires trees { AllByRecursion (λ c. has_tree self.old c.db ≡ true) changes.now }
         requires free { AllByRecursion (λ c. IsFreeFor txn (write_in (value_at c.name (cells self.old c.db)))) changes.now }
+        requires few { AreFewNew (cells self.old) changes.now }
         requires new { AllByRecursion (λ c. IfSome c.makes (λ d. has_tree self.old d ≡ false)) changes.now }
         requires entries { AllByRecursion (λ c. IsEntry (entry_for txn c.db c.name c.value)) changes.now }
         ensures cells { OnOk result (AreWritten txn changes.now (cells self.old) (cells self.new)) }
@@ -83,9 +84,10 @@ pub trait Records {
         ensures same { IfErr result (λ e. IsUndone e → AreSame (cells self.old) (cells self.new) × ((d : ℕ) → has_tree self.new d ≡ has_tree self.old d) × grew self.old self.new [] × (waits self.new ≡ waits self.old)) };
 
     /// Commits the changes of these names, which are those of the transaction, and logs its Commit, for which
-    /// there is room. It takes no memory, and the one error is Fault.
+    /// there is room. No other transaction has a change of these names. It takes no memory, and the one error is Fault.
     fn commit(&mut self, txn: TxnId, names: &[TreeName]) -> Result<(), TreeErr>
-        requires { (owed : ℕ) × has_room self.old (suc owed) }
+        requires room { (owed : ℕ) × has_room self.old (suc owed) }
+        requires own { AllByRecursion (λ n. IsFreeFor txn (write_in (value_at n.name (cells self.old n.db)))) names.now }
         ensures cells { OnOk result (HasChangedAll (cells self.old) (cells self.new) names.now after_commit) }
         ensures grew { OnOk result (grew self.old self.new (Commit txn ∷ [])) }
         ensures left { (owed : ℕ) → has_room self.old (suc owed) → OnOk result (has_room self.new owed) }

@@ -40,3 +40,9 @@ pub mod Read
 pub mod Newest
 -- The trees of all databases where one of them took the place of another one.
 pub mod Forests
+-- The LSNs of each name's changes while the log grows.
+pub mod Latest
+-- The trees of all databases while the log grows and one of them changes.
+pub mod ForestSteps
+-- One tree that fits its log, and its cells' changes, while a cell is set.
+pub mod ForestWrites

@@ -7,3 +7,5 @@ pub mod PlaceLaws
 pub mod LogLaws
 pub mod ReadLaws
 pub mod NewestLaws
+pub mod Forest
+pub mod TreeSteps

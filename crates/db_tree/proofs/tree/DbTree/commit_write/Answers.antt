@@ -1,13 +1,16 @@
-use Rattle.std.proofs.Common.{option_map, refl}
+use Rattle.std.proofs.Common.{option_map, sym}
 use Rattle.record_map.specs.Cells.{value_at, committed}
 use Rattle.record_tree.specs.Occupied.{after_commit}
-use Rattle.db_tree.proofs.Seen.{change_seen, commit_seen, none_changes, occupied_rises}
+use Rattle.db_tree.proofs.Seen.{change_seen, commit_seen, occupied_rises}
 use Rattle.db_tree.proofs.NodeSteps.{none_committed}
 use Rattle.db_tree.proofs.tree.DbTree.commit_write.Goals as goal
 
 pub returns-in-None-clause-cells : goal.returns-in-None-clause-cells
 returns-in-None-clause-cells c =
-    none_changes c.args.self.now.cells c.args.name.now after_commit refl c.len-before.ensures.rising (c.in-None.ensures.none refl)
+    let old = c.args.self.now.cells in
+    let none = none_committed old c.args.name.now c.args.at (sym c.in-None.ensures.from) in
+    change_seen old old c.args.name.now (option_map (committed c.args.at none.0) (value_at c.args.name.now old)) after_commit
+    c.len-before.ensures.rising c.len-before.ensures.rising none.1 (commit_seen c.args.at none.0 (value_at c.args.name.now old))
 
 pub returns-in-None-clause-rising : goal.returns-in-None-clause-rising
 returns-in-None-clause-rising c = occupied_rises c.args.self.now.cells c.len-before.ensures.rising
@@ -23,4 +26,4 @@ returns-clause-cells c =
     c.len-before.ensures.rising c.len-after.ensures.rising c.commit.ensures.cells.1 (commit_seen c.args.at last (value_at c.args.name.now old))
 
 pub returns-in-None-clause-committed : goal.returns-in-None-clause-committed
-returns-in-None-clause-committed c = none_committed c.args.self.now.cells c.args.name.now c.args.at (c.in-None.ensures.none refl)
+returns-in-None-clause-committed c = none_committed c.args.self.now.cells c.args.name.now c.args.at (sym c.in-None.ensures.from)
