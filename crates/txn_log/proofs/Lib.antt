@@ -14,3 +14,5 @@ pub mod StayingLaws
 pub mod CountLaws
 -- the log beside the model
 pub mod AtStandingLaws
+-- a log that gets the entries of a checkpoint
+pub mod CheckpointLaws

@@ -10,6 +10,7 @@ ghost use Rattle.txn_log.specs.Gives.{StillGives, GivesSame};
 ghost use Rattle.txn_log.specs.Growth.{ChangesGive, ChangesRecoverSame, TransactionGives, TransactionIsRecovered};
 ghost use Rattle.txn_log.specs.Committing.{OwnMayBeCommitted, MayStay, MayStayElsewhere, RecordsAreCounted, HadGoOn, HadStay};
 ghost use Rattle.txn_log.specs.Buffers.{ChangesAreGiven, ChangesAreRecovered, TriedChangesAreRecovered, TransactionIsGiven, CommitIsRecovered, TriedCommitIsRecovered};
+ghost use Rattle.txn_log.specs.Checkpoints.{EndIsGiven, EndIsRecovered, NeutralsAreGiven, NeutralsAreRecovered, TriedEndIsRecovered, TriedNeutralsAreRecovered};
 ghost use Rattle.txn_log.specs.AtStanding.{ChangesLeaveLog, LoneCommitLeavesLog, NamedAreOn, OwnCommitLeavesLog, TransactionLeavesLog};
 
 use je_disk::Disk;
@@ -58,6 +59,17 @@ pub fn buffers_go_on<D: Disk>()
     ensures transaction { TransactionIsGiven D.observable D.history D.sync_out D.read_out D.read_of }
     ensures transaction_recovers { CommitIsRecovered D.observable D.history D.sync_out D.read_out D.read_of }
     ensures transaction_tried { TriedCommitIsRecovered D.observable D.history D.sync_out D.read_out D.read_of }
+{}
+
+/// The entries of a checkpoint, its beginning, images of nodes, its end: the log gives what it gave, and what is
+/// recovered is as it was, also where the disk fails on the way.
+pub fn checkpoints_go_on<D: Disk>()
+    ensures neutrals { NeutralsAreGiven D.observable D.history D.sync_out D.read_out D.read_of }
+    ensures neutrals_recover { NeutralsAreRecovered D.observable D.history D.sync_out D.read_out D.read_of }
+    ensures neutrals_tried { TriedNeutralsAreRecovered D.observable D.history D.sync_out D.read_out D.read_of }
+    ensures end { EndIsGiven D.observable D.history D.sync_out D.read_out D.read_of }
+    ensures end_recovers { EndIsRecovered D.observable D.history D.sync_out D.read_out D.read_of }
+    ensures end_tried { TriedEndIsRecovered D.observable D.history D.sync_out D.read_out D.read_of }
 {}
 
 /// The log of an environment beside the model: it goes on as the model does, by changes of a transaction, by its
