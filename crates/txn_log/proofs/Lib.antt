@@ -16,3 +16,5 @@ pub mod CountLaws
 pub mod AtStandingLaws
 -- a log that gets the entries of a checkpoint
 pub mod CheckpointLaws
+-- where a redo may begin
+pub mod RedoLsns
