@@ -46,3 +46,7 @@ pub mod Latest
 pub mod ForestSteps
 -- One tree that fits its log, and its cells' changes, while a cell is set.
 pub mod ForestWrites
+-- The change of a name with the greatest LSN.
+pub mod LatestNewest
+-- The end of a checkpoint that names the roots of trees that fit.
+pub mod ForestEnds

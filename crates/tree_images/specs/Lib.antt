@@ -9,3 +9,4 @@ pub mod ReadLaws
 pub mod NewestLaws
 pub mod Forest
 pub mod TreeSteps
+pub mod EndLaws
