@@ -117,7 +117,7 @@ all_taken Q xs i le all = subst (AllByRecursion Q) (take_all i xs le) all
 
 -- ---- marks
 
-marked_less : (from : Option ℕ) (a b : ℕ) → b ≤ a → is_marked_before from a ≡ false → is_marked_before from b ≡ false
+pub marked_less : (from : Option ℕ) (a b : ℕ) → b ≤ a → is_marked_before from a ≡ false → is_marked_before from b ≡ false
 marked_less None a b le none = refl
 marked_less (Some f) a b le none = let up : a ≤ f = ltb-false f a none in le-ltb f b (omega (arith, le, up))
 

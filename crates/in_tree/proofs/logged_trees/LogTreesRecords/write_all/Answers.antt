@@ -1,0 +1,18 @@
+use Rattle.std.proofs.Common.{◌∙◌, refl, sym}
+use Rattle.db_tree.proofs.Ending.{ok_then}
+use Rattle.in_tree.specs.Placing.{count_images}
+use Rattle.in_tree.specs.Waits.{waits_in}
+use Rattle.in_tree.proofs.Checked.{tried_before}
+use Rattle.in_tree.proofs.TreesGrown.{changes_grow}
+use Rattle.in_tree.proofs.logged_trees.LogTreesRecords.write_all.Goals as goal
+
+pub returns-then-has_failed-clause-tried : goal.returns-then-has_failed-clause-tried
+returns-then-has_failed-clause-tried g c = λ is. tried_before g.D.Disk.observable g.D.Disk.history g.D.Disk.sync_out g.D.Disk.read_out g.D.Disk.read_of g.D.Disk.faults c.args.txn c.args.changes.now c.args.self.now.log (sym c.has_failed.ensures ∙ c.if-has_failed.true)
+
+pub returns-in-Ok-prepare-clause-grew : goal.returns-in-Ok-prepare-clause-grew
+returns-in-Ok-prepare-clause-grew g c =
+    ok_then c.write_each.result
+    (changes_grow g.D.Disk.observable g.D.Disk.history g.D.Disk.sync_out g.D.Disk.read_out g.D.Disk.read_of g.D.Disk.faults c.args.txn c.args.changes.now c.in-Ok-prepare.rooms.items c.args.owed _ c.prepare.new.self _
+    (count_images c.in-Ok-prepare.rooms.items) (waits_in c.args.self.now.trees.forest) (waits_in c.prepare.new.self.trees.forest) (waits_in c.write_each.new.trees)
+    c.prepare.ensures.log c.requires.few c.in-Ok-prepare.ensures.ready refl c.in-Ok-prepare.ensures.ready.few c.write_each.ensures.waits)
+    c.write_each.ensures.grew

@@ -1,0 +1,65 @@
+-- Trees that fit their log while it grows.
+use Rattle.std.proofs.Common.{ℕ, Bool, List, [], ◌∷◌, ◌++◌, Option}
+use Rattle.std.specs.Ordering.{nat_cmp}
+use Rattle.std.specs.BTreeMap.{get}
+use Rattle.je_disk.specs.Moments.{History}
+use Rattle.log_entry.specs.declared.entry.Entry.{Entry}
+use Rattle.log_buffer.specs.declared.buffer.LogBuffer.{LogBuffer}
+use Rattle.log_trees.specs.Sound.{Home}
+use Rattle.db_tree.specs.declared.node_image.NodeImage.{NodeImage}
+use Rattle.db_tree.specs.declared.tree.DbTree.{DbTree}
+use Rattle.tree_images.specs.Forest.{FitsDue, ForestDue}
+use Rattle.in_tree.specs.Forest.{Forest}
+use Rattle.in_tree.specs.Placing.{due_one}
+use Rattle.in_tree.specs.Limits.{GrewFitting, TriedFitting}
+use Rattle.in_tree.specs.Fitting.{fitting_none, fitting_then, fitting_tried}
+use Rattle.in_tree.specs.Carrying.{LogFact, Carries, carries_here, carries_then}
+
+-- the trees, by their databases' numbers
+abbrev pub trees_at : Forest → ℕ → Option DbTree
+trees_at forest d = get nat_cmp forest d
+
+-- nothing is due
+abbrev pub none_due : ℕ → List NodeImage
+none_due d = []
+
+-- the trees of all databases fit a log but for images that are due, with node numbers up to a last one
+abbrev pub IsForestDue : ℕ → Forest → (ℕ → List NodeImage) → LogFact
+IsForestDue last forest due es base = ForestDue es base last (trees_at forest) due
+
+abbrev pub IsFitDue : (ℕ → Home) → ℕ → ℕ → DbTree → List NodeImage → LogFact
+IsFitDue home last d tree images es base = FitsDue es base home last d tree images
+
+module _ {D : Type 0} (observable : Bool) (history : D → History) (sync_out read_out : D → Option ℕ) (read_of : D → ℕ) (faults : D → ℕ) where
+  -- the log got images that were due of one tree: others are left
+  pub record GrewTree (old new : LogBuffer D) (before after : DbTree) (images left : List NodeImage) (entries : List Entry) : Type 0 where
+    pub fitting : GrewFitting observable history sync_out read_out read_of faults old new entries
+    pub fits : (home : ℕ → Home) (last d : ℕ) (rest : List NodeImage) → Carries observable history old entries (IsFitDue home last d before (images ++ rest)) (IsFitDue home last d after (left ++ rest))
+
+  pub grew_tree_none : (x : LogBuffer D) (tree : DbTree) (images : List NodeImage) → GrewTree x x tree tree images images []
+  grew_tree_none x tree images = record { fitting = fitting_none observable history sync_out read_out read_of faults x; fits = λ home last d rest. carries_here observable history x (IsFitDue home last d tree (images ++ rest)) (IsFitDue home last d tree (images ++ rest)) (λ es base h. h) }
+
+  pub grew_tree_then : (x y z : LogBuffer D) (s t u : DbTree) (i j k : List NodeImage) (a b : List Entry) → GrewTree x y s t i j a → GrewTree y z t u j k b → GrewTree x z s u i k (a ++ b)
+  grew_tree_then x y z s t u i j k a b first second = record {
+    fitting = fitting_then observable history sync_out read_out read_of faults x y z a b first.fitting second.fitting;
+    fits = λ home last d rest. carries_then observable history sync_out read_out read_of faults x y a b (IsFitDue home last d s (i ++ rest)) (IsFitDue home last d t (j ++ rest)) (IsFitDue home last d u (k ++ rest))
+        first.fitting (first.fits home last d rest) (second.fits home last d rest);
+  }
+
+  -- the log got entries: trees that fit it but for what was due fit the longer one but for what is due
+  pub record GrewForest (old new : LogBuffer D) (before after : Forest) (due next_due : ℕ → List NodeImage) (entries : List Entry) : Type 0 where
+    pub fitting : GrewFitting observable history sync_out read_out read_of faults old new entries
+    pub fits : (last : ℕ) → Carries observable history old entries (IsForestDue last before due) (IsForestDue last after next_due)
+
+  pub grew_forest_none : (x : LogBuffer D) (forest : Forest) (due : ℕ → List NodeImage) → GrewForest x x forest forest due due []
+  grew_forest_none x forest due = record { fitting = fitting_none observable history sync_out read_out read_of faults x; fits = λ last. carries_here observable history x (IsForestDue last forest due) (IsForestDue last forest due) (λ es base h. h) }
+
+  pub grew_forest_then : (x y z : LogBuffer D) (f g h : Forest) (i j k : ℕ → List NodeImage) (a b : List Entry) → GrewForest x y f g i j a → GrewForest y z g h j k b → GrewForest x z f h i k (a ++ b)
+  grew_forest_then x y z f g h i j k a b first second = record {
+    fitting = fitting_then observable history sync_out read_out read_of faults x y z a b first.fitting second.fitting;
+    fits = λ last. carries_then observable history sync_out read_out read_of faults x y a b (IsForestDue last f i) (IsForestDue last g j) (IsForestDue last h k) first.fitting (first.fits last) (second.fits last);
+  }
+
+  -- the log got images that were due of a database's tree, with others
+  abbrev pub GrewSlot : LogBuffer D → LogBuffer D → Forest → Forest → ℕ → List NodeImage → List Entry → Type 0
+  GrewSlot old new before after db images entries = (due : ℕ → List NodeImage) → GrewForest old new before after (λ d. due_one db images d ++ due d) due entries
