@@ -7,7 +7,7 @@ use Rattle.log_replay.proofs.MapRows.{rising_from_keys}
 use Rattle.record_tree.specs.declared.tree_change.TreeChange.{TreeChange}
 use Rattle.record_tree.specs.Logged.{is_made, last_change, value_changed}
 use Rattle.record_tree.specs.Occupied.{AllCells, AreSame}
-use Rattle.in_tree.specs.declared.log_trees.LogTrees.{LogTrees}
+use Rattle.in_tree.specs.declared.logged_trees.LogTrees.{LogTrees}
 use Rattle.in_tree.specs.Observed.{cells_of, has_tree_of}
 use Rattle.txn_core.specs.Known.{committed, committed_rows, has_number, IsQuiet}
 use Rattle.txn_core.specs.Transactions.{HasCommitted, HasTreesAfter, is_gone}

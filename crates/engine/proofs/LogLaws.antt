@@ -20,7 +20,7 @@ use Rattle.record_map.specs.Cells.{value_at}
 use Rattle.record_map.specs.declared.write.Write.{Write}
 use Rattle.record_tree.specs.Occupied.{IsFreeFor, write_in}
 use Rattle.record_tree.specs.Logged.{LogsTransaction, is_made, last_change, makes_db, most_entries}
-use Rattle.in_tree.specs.declared.log_trees.LogTrees.{LogTrees}
+use Rattle.in_tree.specs.declared.logged_trees.LogTrees.{LogTrees}
 use Rattle.in_tree.specs.Limits.{GrewFitting}
 use Rattle.in_tree.specs.Observed.{cells_of, has_tree_of, waits_of, limit_in}
 use Rattle.log_buffer.specs.declared.log_pos.LogPos.{LogPos}

@@ -18,7 +18,7 @@ use Rattle.record_tree.specs.declared.tree_change.TreeChange.{TreeChange}
 use Rattle.record_tree.specs.declared.tree_err.TreeErr.{TreeErr}
 use Rattle.record_tree.specs.declared.tree_err.TreeErr.TheVariants.{Fault, Full, IdsEnded as NoNumber, Memory}
 use Rattle.record_tree.specs.Logged.{is_made, most_entries}
-use Rattle.in_tree.specs.declared.log_trees.LogTrees.{LogTrees}
+use Rattle.in_tree.specs.declared.logged_trees.LogTrees.{LogTrees}
 use Rattle.in_tree.proofs.Far.{full_is_far}
 use Rattle.txn_core.specs.Known.{committed}
 use Rattle.in_tree.specs.Observed.{cells_of, limit_in, waits_of}

@@ -17,7 +17,7 @@ use Rattle.log_file.specs.Log.{Log, entries_of}
 use Rattle.log_replay.specs.Logging.{all_row_changes}
 use Rattle.log_replay.specs.Rows.{numbers_of}
 use Rattle.record_tree.specs.declared.tree_change.TreeChange.{TreeChange}
-use Rattle.in_tree.specs.declared.log_trees.LogTrees.{LogTrees}
+use Rattle.in_tree.specs.declared.logged_trees.LogTrees.{LogTrees}
 use Rattle.in_tree.specs.Observed.{cells_of, has_tree_of, limit_in, waits_of}
 use Rattle.record_tree.specs.Logged.{is_made, most_entries}
 use Rattle.store_model.specs.Refusals.{made_by}

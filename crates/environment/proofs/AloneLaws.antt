@@ -18,7 +18,7 @@ use Rattle.log_buffer.specs.declared.buffer.LogBuffer.{LogBuffer}
 use Rattle.log_buffer.specs.Buffer.{end_of, has_failed}
 use Rattle.log_replay.specs.Rows.{Rows}
 use Rattle.log_replay.specs.Logging.{number_named}
-use Rattle.in_tree.specs.declared.log_trees.LogTrees.{LogTrees}
+use Rattle.in_tree.specs.declared.logged_trees.LogTrees.{LogTrees}
 use Rattle.in_tree.specs.Observed.{cells_of, has_tree_of, waits_of}
 use Rattle.active_txns.specs.Own.{has_changes, own_of}
 use Rattle.record_map.specs.Cells.{value_at}

@@ -26,7 +26,7 @@ use Rattle.record_tree.specs.declared.tree_change.TreeChange.{TreeChange}
 use Rattle.record_tree.specs.declared.tree_err.TreeErr.{TreeErr}
 use Rattle.record_tree.specs.declared.tree_err.TreeErr.TheVariants.{Fault as NoDisk, Full, IdsEnded as NoNumber, Memory}
 use Rattle.record_tree.specs.Logged.{most_entries}
-use Rattle.in_tree.specs.declared.log_trees.LogTrees.{LogTrees}
+use Rattle.in_tree.specs.declared.logged_trees.LogTrees.{LogTrees}
 use Rattle.in_tree.specs.Observed.{cells_of, limit_in, waits_of}
 use Rattle.in_tree.proofs.Far.{full_is_far}
 use Rattle.active_txns.specs.Own.{has_changes}

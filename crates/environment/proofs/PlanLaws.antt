@@ -28,7 +28,7 @@ use Rattle.log_replay.proofs.ListLaws.{found}
 use Rattle.log_replay.proofs.StoreLaws.{database_of-numbered, environment_parts, row_named}
 use Rattle.standing_laws.specs.Right.{AreSound}
 use Rattle.in_tree.specs.Forest.{cells_at}
-use Rattle.in_tree.specs.declared.log_trees.LogTrees.{LogTrees}
+use Rattle.in_tree.specs.declared.logged_trees.LogTrees.{LogTrees}
 use Rattle.in_tree.specs.Observed.{cells_of}
 use Rattle.txn_core.specs.Known.{committed, committed_rows}
 use Rattle.txn_log.specs.Committing.{MakesStore, MayBeCommitted}

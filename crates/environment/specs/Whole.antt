@@ -17,7 +17,7 @@ use Rattle.log_file.specs.Log.{Log, entries_of}
 use Rattle.log_replay.specs.Logging.{all_row_changes}
 use Rattle.record_tree.specs.Logged.{is_made}
 use Rattle.record_tree.specs.declared.tree_change.TreeChange.{TreeChange}
-use Rattle.in_tree.specs.declared.log_trees.LogTrees.{LogTrees}
+use Rattle.in_tree.specs.declared.logged_trees.LogTrees.{LogTrees}
 use Rattle.in_tree.specs.Observed.{cells_of, has_tree_of, limit_in, waits_of}
 use Rattle.log_buffer.specs.Buffer.{end_of, has_failed}
 use Rattle.txn_core.specs.Known.{committed}

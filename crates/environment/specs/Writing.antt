@@ -20,7 +20,7 @@ use Rattle.store_model.specs.Needs.{changed_name}
 use Rattle.je_answers.specs.Standing.{Standing, database_at}
 use Rattle.je_answers.specs.Views.{Target, changes_at, changes_on}
 use Rattle.log_buffer.specs.Buffer.{IsUnchanged, disk_of as disk_below, file_max_of}
-use Rattle.in_tree.specs.declared.log_trees.LogTrees.{LogTrees}
+use Rattle.in_tree.specs.declared.logged_trees.LogTrees.{LogTrees}
 use Rattle.in_tree.specs.Limits.{GrewFitting, HasRoomFor, TriedFitting, commit_sizes}
 use Rattle.in_tree.specs.Observed.{cells_of, has_tree_of, limit_in, waits_of}
 use Rattle.record_tree.specs.Logged.{IsFront, LogsChanges, is_made, most_entries}

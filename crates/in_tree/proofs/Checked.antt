@@ -299,3 +299,7 @@ ok_any (Err y) h = tt
 pub limit_never : {X : Type 0} (r : Result X TreeErr) (Q : TreeErr → Type 0) → IfErr r (λ e. IsLimit e → ⊥) → IfErr r (λ e. IsLimit e → Q e)
 limit_never (Ok x) Q h = tt
 limit_never (Err e) Q h = λ limit. absurd (h limit)
+
+-- a number that is another one is not above what that is not above
+pub le_of : {a b c : ℕ} → a ≡ b → b ≤ c → a ≤ c
+le_of is le = omega (arith, is, le)

@@ -12,7 +12,7 @@ use Rattle.record_tree.specs.declared.tree_err.TreeErr.TheVariants.{Full, IdsEnd
 use Rattle.db_tree.specs.Splits.{count_waiting}
 use Rattle.db_tree.specs.Splits.{shape_with, image_sizes, passes_top}
 use Rattle.db_tree.proofs.FewSplits.{images_few}
-use Rattle.in_tree.specs.declared.log_trees.LogTrees.{LogTrees}
+use Rattle.in_tree.specs.declared.logged_trees.LogTrees.{LogTrees}
 use Rattle.in_tree.specs.Limits.{change_size, change_sizes, commit_sizes, sizes_for, end_behind, numbers_drawn, are_too_high, limit_behind}
 use Rattle.in_tree.specs.Observed.{limit_in, waits_of}
 use Rattle.in_tree.specs.Shapes.{Shapes, no_shape, shape_of, shapes_of, shapes_after}

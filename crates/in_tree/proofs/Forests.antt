@@ -32,6 +32,14 @@ replaced old new db o has = has db ∙ ap (λ (t : Bool). cond t o (get nat_cmp 
 pub others : (old new : Forest) (db : ℕ) (o : Option DbTree) → Replaces old new db o → (d : ℕ) → is_eq (nat_cmp db d) ≡ false → get nat_cmp new d ≡ get nat_cmp old d
 others old new db o has d apart = has d ∙ ap (λ (t : Bool). cond t o (get nat_cmp old d)) apart
 
+-- each other database has what it had
+pub others_away : (old new : Forest) (db : ℕ) (o : Option DbTree) → Replaces old new db o → (d : ℕ) → (d ≡ db → ⊥) → get nat_cmp new d ≡ get nat_cmp old d
+others_away old new db o has d away = by_number (number_cases db d)
+  where
+    by_number : (db ≡ d) ⊎ ((d == db ≡ false) × (is_eq (nat_cmp db d) ≡ false)) → get nat_cmp new d ≡ get nat_cmp old d
+    by_number (inl is) = absurd (away (sym is))
+    by_number (inr apart) = others old new db o has d apart.1
+
 -- what is seen of one database is the same
 pub forest_same : (old new : Forest) (db : ℕ) (o : Option DbTree) → Replaces old new db o → occupied (cells_of o) ≡ cells_seen old db → AreSame (cells_seen old) (cells_seen new)
 forest_same old new db o has same d = by_number (number_cases db d)

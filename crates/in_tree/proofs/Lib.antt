@@ -18,3 +18,13 @@ pub mod Checked
 pub mod StoredLaws
 -- Where the log has no room it ends far behind.
 pub mod Far
+-- A log that got one entry: the entry's LSN is behind all others, and not before this life of the environment.
+pub mod Appending
+-- Images that are due are logged, and changes behind them: the trees fit the longer log.
+pub mod DueLogging
+-- Names of changes got their slots, change by change: the trees fit their log but for the images of these slots.
+pub mod DuePlaces
+-- Changes that are ready to be logged: the trees fit their log but for the images of their names' slots.
+pub mod DueReady
+-- What calls on the trees of an environment do to trees that fit their log.
+pub mod TreesGrown

@@ -6,7 +6,7 @@ use Rattle.record_map.specs.declared.write.Write.{Write}
 use Rattle.record_map.specs.Cells.{value_at, IsRising}
 use Rattle.record_tree.specs.declared.tree_name.TreeName.{TreeName}
 use Rattle.record_tree.specs.Occupied.{Occupied, AllCells, HasChangedAll, is_among, after_commit, after_abort, if_occupied}
-use Rattle.in_tree.specs.Forest.{Forest, cells_seen, HasSameTrees, HasChange}
+use Rattle.in_tree.specs.Forest.{Forest, cells_seen, HasSameTrees, HasChange, MakesSteps}
 use Rattle.in_tree.specs.Waits.{waits_in}
 use Rattle.in_tree.proofs.Preparation.{same_test}
 
@@ -36,7 +36,8 @@ abort_once (Some o) = by_value o.value
     by_value (Some v) = refl
 
 -- some names changed, and those that are left did not
-pub record NamesLeft (before trees : Forest) (names left : List TreeName) (change : Option Occupied → Option Occupied) : Type 0 where
+pub record NamesLeft (Step : TreeName → Forest → Forest → Type 0) (before trees : Forest) (names left : List TreeName) (change : Option Occupied → Option Occupied) : Type 0 where
+  pub steps : (last : Forest) → MakesSteps Step left trees last → MakesSteps Step names before last
   pub cells : (last : AllCells) → HasChangedAll (cells_seen trees) last left change → HasChangedAll (cells_seen before) last names change
   pub same : HasSameTrees before trees
   pub rising : (d : ℕ) → IsRising (cells_seen before d) → IsRising (cells_seen trees d)
@@ -48,10 +49,11 @@ by_tests change once true true o = once o
 by_tests change once true false o = refl
 by_tests change once false among o = refl
 
-pub names_step : (before trees after : Forest) (names left : List TreeName) (e : TreeName) (change : Option Occupied → Option Occupied) → IsOnce change →
-    NamesLeft before trees names (e ∷ left) change → HasChange (cells_seen trees) (cells_seen after) e.db e.name change → HasSameTrees trees after →
-    ((d : ℕ) → IsRising (cells_seen trees d) → IsRising (cells_seen after d)) → waits_in after ≡ waits_in trees → NamesLeft before after names left change
-names_step before trees after names left e change once so_far has same rising waits = record {
+pub names_step : (Step : TreeName → Forest → Forest → Type 0) (before trees after : Forest) (names left : List TreeName) (e : TreeName) (change : Option Occupied → Option Occupied) → IsOnce change →
+    NamesLeft Step before trees names (e ∷ left) change → Step e trees after → HasChange (cells_seen trees) (cells_seen after) e.db e.name change → HasSameTrees trees after →
+    ((d : ℕ) → IsRising (cells_seen trees d) → IsRising (cells_seen after d)) → waits_in after ≡ waits_in trees → NamesLeft Step before after names left change
+names_step Step before trees after names left e change once so_far made has same rising waits = record {
+  steps = λ last steps. so_far.steps last (after, made, steps);
   cells = λ last changed. so_far.cells last (λ d x. step last changed d x);
   same = λ d. same d ∙ so_far.same d;
   rising = λ d up. rising d (so_far.rising d up);
@@ -67,5 +69,5 @@ names_step before trees after names left e change once so_far has same rising wa
         ∙ ap (λ (o : Option Occupied). cond (is_among d x left) (change o) o) here
         ∙ by_tests change once (e.db == d && is_eq (name_cmp e.name x)) (is_among d x left) (value_at x (cells_seen trees d))
 
-pub names_begin : (trees : Forest) (names : List TreeName) (change : Option Occupied → Option Occupied) → NamesLeft trees trees names names change
-names_begin trees names change = record { cells = λ last changed. changed; same = λ d. refl; rising = λ d up. up; waits = refl }
+pub names_begin : (Step : TreeName → Forest → Forest → Type 0) (trees : Forest) (names : List TreeName) (change : Option Occupied → Option Occupied) → NamesLeft Step trees trees names names change
+names_begin Step trees names change = record { steps = λ last steps. steps; cells = λ last changed. changed; same = λ d. refl; rising = λ d up. up; waits = refl }

@@ -25,7 +25,8 @@ use Rattle.db_tree.proofs.FewSplits.{images_few}
 use Rattle.in_tree.specs.declared.placed.Placed.{Placed}
 use Rattle.in_tree.specs.Forest.{Forest, Replaces, IsSameForest, cells_of, cells_seen, is_there, HasSameTrees, KeepsCells, HasOne}
 use Rattle.in_tree.specs.Limits.{change_size, one_made, change_sizes, numbers_drawn, are_too_high}
-use Rattle.in_tree.specs.Placing.{IsPlacedIn, ArePlaced, IsPlacedNext, placed_sizes, numbers_of, count_images, AreLoggable}
+use Rattle.tree_images.specs.TreeSteps.{HasSlot}
+use Rattle.in_tree.specs.Placing.{IsPlacedIn, ArePlaced, IsFittedIn, AreFitted, first_behind, IsPlacedNext, placed_sizes, numbers_of, count_images, AreLoggable}
 use Rattle.in_tree.specs.Shapes.{Shapes, shape_of, shapes_of, shapes_after}
 use Rattle.in_tree.specs.Waits.{waits_in}
 use Rattle.in_tree.proofs.Forests.{number_cases, replaced, others, forest_back, forest_same, forest_trees, forest_kept}
@@ -243,6 +244,18 @@ few_placed fanout (c ∷ changes) (r ∷ rooms) old new placed =
 
 -- ---- loops
 
+-- one more that fits, at the end
+fitted_more : (fanout last : ℕ) (changes : List TreeChange) (rooms : List SlotRoom) (c : TreeChange) (room : SlotRoom) (old mid new : Forest) → length changes ≡ length rooms → AreFitted fanout last changes rooms old mid →
+    IsFittedIn fanout (first_behind (last + numbers_of changes rooms)) c.db c.name room mid new → AreFitted fanout last (changes ++ c ∷ []) (rooms ++ room ∷ []) old new
+fitted_more fanout last [] [] c room old mid new even same p =
+    (new, record { tree = p.tree; next = p.next; was = sym (same c.db) ∙ p.was; has = λ d. p.has d ∙ ap (λ (o : Option DbTree). cond (is_eq (nat_cmp c.db d)) (Some p.next) o) (same d);
+        slot = subst (λ (n : ℕ). HasSlot fanout (first_behind n) c.db c.name room p.tree p.next) (omega arith) p.slot }, λ d. refl)
+fitted_more fanout last [] (r ∷ rooms) c room old mid new even same p = absurd same
+fitted_more fanout last (e ∷ changes) [] c room old mid new even same p = absurd same
+fitted_more fanout last (e ∷ changes) (r ∷ rooms) c room old mid new even so_far p =
+    (so_far.0, so_far.1, fitted_more fanout (last + (made_by r + one_made e.makes)) changes rooms c room so_far.0 mid new (omega (arith, even)) so_far.2
+        (subst (λ (n : ℕ). IsFittedIn fanout (first_behind n) c.db c.name room mid new) (omega arith) p))
+
 pub placed_same : (fanout : ℕ) (changes : List TreeChange) (rooms : List SlotRoom) (old mid new : Forest) → ArePlaced fanout changes rooms old mid → IsSameForest mid new → ArePlaced fanout changes rooms old new
 placed_same fanout [] [] old mid new placed same = λ d. same d ∙ placed d
 placed_same fanout [] (r ∷ rooms) old mid new placed same = absurd placed
@@ -281,6 +294,7 @@ back_end fanout changes rooms before old n none placed = none_placed changes roo
 -- some changes have their slots, and those that are left have their trees
 pub record PlacesLeft (fanout last : ℕ) (old new : Forest) (done todo : List TreeChange) (slots : Placed) : Type 0 where
   pub placed : ArePlaced fanout done slots.rooms.items old new
+  pub fitted : AreFitted fanout last done slots.rooms.items old new
   pub numbers : slots.last ≡ min (last + numbers_of done slots.rooms.items) 0xffffffffffffffff
   pub left : AllByRecursion (λ c. is_there old c.db ≡ true) todo
 
@@ -288,6 +302,7 @@ pub places_begin : (fanout last : ℕ) (old : Forest) (changes : List TreeChange
     PlacesLeft fanout last old old [] changes placed
 places_begin fanout last old changes placed none is bound all = record {
   placed = subst (λ (rs : List SlotRoom). ArePlaced fanout [] rs old old) (sym none) (λ d. refl);
+  fitted = subst (λ (rs : List SlotRoom). AreFitted fanout last [] rs old old) (sym none) (λ d. refl);
   numbers = (let empty : numbers_of [] placed.rooms.items ≡ 0 = refl in omega (arith, is, bound, empty));
   left = all;
 }
@@ -298,6 +313,11 @@ places_step fanout last old mid new changes i c before after within is so_far ne
   placed =
       subst (λ (cs : List TreeChange). ArePlaced fanout cs after.rooms.items old new) (sym (take_next changes i c within is))
       (subst (λ (rs : List SlotRoom). ArePlaced fanout (take i changes ++ c ∷ []) rs old new) (sym next.rooms) (placed_more fanout (take i changes) before.rooms.items c next.room old mid new so_far.placed next.placed));
+  fitted =
+      subst (λ (cs : List TreeChange). AreFitted fanout last cs after.rooms.items old new) (sym (take_next changes i c within is))
+      (subst (λ (rs : List SlotRoom). AreFitted fanout last (take i changes ++ c ∷ []) rs old new) (sym next.rooms)
+      (fitted_more fanout last (take i changes) before.rooms.items c next.room old mid new (sym (placed_even fanout (take i changes) before.rooms.items old mid so_far.placed)) so_far.fitted
+      (subst (λ (n : ℕ). IsFittedIn fanout n c.db c.name next.room mid new) (firsts before.last (numbers_of (take i changes) before.rooms.items) so_far.numbers) next.fitted)));
   numbers = (let more : numbers_of (take (i + 1) changes) after.rooms.items ≡ numbers_of (take i changes) before.rooms.items + (made_by next.room + one_made c.makes) =
       ap₂ (λ (cs : List TreeChange) (rs : List SlotRoom). numbers_of cs rs) (take_next changes i c within is) next.rooms
       ∙ numbers_more (take i changes) before.rooms.items c next.room (sym (placed_even fanout (take i changes) before.rooms.items old mid so_far.placed)) in
@@ -305,6 +325,9 @@ places_step fanout last old mid new changes i c before after within is so_far ne
   left = rest_all (subst (λ (cs : List TreeChange). AllByRecursion (λ c. is_there old c.db ≡ true) cs) (next_left changes i c within is) so_far.left);
 }
   where
+    firsts : (b n : ℕ) → b ≡ min (last + n) 0xffffffffffffffff → first_behind b ≡ first_behind (last + n)
+    firsts b n is = omega (arith, is)
+
     sums : (a b n k m : ℕ) → a ≡ min (b + k) 0xffffffffffffffff → b ≡ min (last + n) 0xffffffffffffffff → m ≡ n + k → a ≡ min (last + m) 0xffffffffffffffff
     sums a b n k m first second third = omega (arith, first, second, third)
 

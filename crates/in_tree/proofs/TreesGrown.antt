@@ -44,11 +44,11 @@ use Rattle.tree_images.proofs.ForestSteps.{fits_stay, forest_here, forest_same, 
 use Rattle.tree_images.proofs.ForestWrites.{commit_is_latest, committed_fits, committed_logged, given_up_fits, given_up_logged}
 use Rattle.in_tree.specs.declared.logged_trees.LogTrees.{LogTrees}
 use Rattle.in_tree.specs.Carrying.{carries_then}
-use Rattle.in_tree.specs.Fitting.{fitting_then, fitting_unchanged}
+use Rattle.in_tree.specs.Fitting.{fitting_none, fitting_then, fitting_unchanged}
 use Rattle.in_tree.specs.Forest.{Forest, cells_of, cells_seen, HasChange, IsSameForest, IsStepIn, MayStepIn, MakesSteps, CommitsName, GivesUpName}
-use Rattle.in_tree.specs.Growing.{trees_at, none_due, IsForestDue, GrewForest}
+use Rattle.in_tree.specs.Growing.{trees_at, none_due, IsForestDue, GrewForest, TreesGrew}
 use Rattle.in_tree.specs.Limits.{GrewFitting}
-use Rattle.in_tree.specs.Observed.{GrewTrees, trees_of, last_node_of}
+use Rattle.in_tree.specs.Observed.{trees_of, last_node_of}
 use Rattle.in_tree.specs.Placing.{due_of}
 use Rattle.in_tree.specs.Ready.{IsReady}
 use Rattle.in_tree.proofs.Appending.{is_appended}
@@ -171,26 +171,26 @@ drop_fits es base last db old new gone f = record {
 
 module _ {D : Type 0} (observable : Bool) (history : D → History) (sync_out read_out : D → Option ℕ) (read_of : D → ℕ) (faults : D → ℕ) where
   -- trees and their log are as they were
-  pub trees_stay : (old new : LogTrees D) → IsUnchanged old.log new.log → ((d : ℕ) → trees_of new d ≡ trees_of old d) → last_node_of new ≡ last_node_of old → GrewTrees observable history sync_out read_out read_of faults old new []
-  trees_stay old new same trees last = record {
-    fitting = fitting_unchanged observable history sync_out read_out read_of faults old.log new.log same;
-    fits = λ log base has begun f. subst (λ (n : ℕ). ForestDue (placed log) base n (trees_of new) none_due) (sym last) (forest_same (placed log) base (last_node_of old) (trees_of old) (trees_of new) none_due trees f);
+  pub trees_stay : (old new : LogBuffer D) (last later : ℕ) (before after : Forest) → IsUnchanged old new → IsSameForest before after → later ≡ last →
+      TreesGrew observable history sync_out read_out read_of faults old new last later (trees_at before) (trees_at after) []
+  trees_stay old new last later before after same trees last_is = record {
+    fitting = fitting_unchanged observable history sync_out read_out read_of faults old new same;
+    fits = λ log base has begun f. subst (λ (n : ℕ). ForestFits (placed log) base n (trees_at after)) (sym last_is) (forest_same (placed log) base last (trees_at before) (trees_at after) none_due trees f);
   }
 
   -- changes were made ready, and logged
-  pub changes_grow : (txn : TxnId) (changes : List TreeChange) (rooms : List SlotRoom) (owed : ℕ) (old mid new : LogTrees D) (images before between after : ℕ) → IsUnchanged old.log mid.log → AreFewNew (cells_seen old.trees.forest) changes →
-      IsReady old mid changes rooms owed → last_node_of new ≡ last_node_of mid → images + between ≤ before + 129 * length changes → after ≤ between →
-      (a : List Entry) × LogsChanges txn changes a × GrewForest observable history sync_out read_out read_of faults mid.log new.log mid.trees.forest new.trees.forest (due_of changes rooms) none_due a × (length a ≡ images + length changes) →
-      (a : List Entry) × LogsChanges txn changes a × GrewTrees observable history sync_out read_out read_of faults old new a × (length a + after ≤ before + most_entries (length changes))
-  changes_grow txn changes rooms owed old mid new images before between after same new_few ready last few less grew = (
+  pub changes_grow : (txn : TxnId) (changes : List TreeChange) (rooms : List SlotRoom) (owed : ℕ) (old mid : LogTrees D) (new : LogBuffer D) (forest : Forest) (images before between after : ℕ) → IsUnchanged old.log mid.log →
+      AreFewNew (cells_seen old.trees.forest) changes → IsReady old mid changes rooms owed → images + between ≤ before + 129 * length changes → after ≤ between →
+      (a : List Entry) × LogsChanges txn changes a × GrewForest observable history sync_out read_out read_of faults mid.log new mid.trees.forest forest (due_of changes rooms) none_due a × (length a ≡ images + length changes) →
+      (a : List Entry) × LogsChanges txn changes a × TreesGrew observable history sync_out read_out read_of faults old.log new (last_node_of old) (last_node_of mid) (trees_of old) (trees_at forest) a
+      × (length a + after ≤ before + most_entries (length changes))
+  changes_grow txn changes rooms owed old mid new forest images before between after same new_few ready few less grew = (
     grew.0,
     grew.1,
     record {
-      fitting = fitting_then observable history sync_out read_out read_of faults old.log mid.log new.log [] grew.0 kept grew.2.fitting;
-      fits = subst (λ (n : ℕ). (log : Log) (base : ℕ) → HasLog observable (now (history (disk_of old.log))) old.log log → base ≤ pos_lsn (end_of old.log) → ForestFits (placed log) base (last_node_of old) (trees_of old) →
-          ForestFits (placed (longer old.log grew.0 log)) base n (trees_of new)) (sym last)
-          (carries_then observable history sync_out read_out read_of faults old.log mid.log [] grew.0 (IsForestDue (last_node_of old) old.trees.forest none_due) (IsForestDue (last_node_of mid) mid.trees.forest (due_of changes rooms))
-          (IsForestDue (last_node_of mid) new.trees.forest none_due) kept (λ log base has begun f. ready.fits (placed log) base new_few f) (grew.2.fits (last_node_of mid)));
+      fitting = fitting_then observable history sync_out read_out read_of faults old.log mid.log new [] grew.0 kept grew.2.fitting;
+      fits = carries_then observable history sync_out read_out read_of faults old.log mid.log [] grew.0 (IsForestDue (last_node_of old) old.trees.forest none_due) (IsForestDue (last_node_of mid) mid.trees.forest (due_of changes rooms))
+          (IsForestDue (last_node_of mid) forest none_due) kept (λ log base has begun f. ready.fits (placed log) base new_few f) (grew.2.fits (last_node_of mid));
     },
     (let count = grew.3 in omega (arith, few, less, count)),
   )
@@ -199,30 +199,29 @@ module _ {D : Type 0} (observable : Bool) (history : D → History) (sync_out re
       kept = fitting_unchanged observable history sync_out read_out read_of faults old.log mid.log same
 
   -- a Commit was logged, and its names committed
-  pub commit_grows : (t : TxnId) (at : ℕ) (names : List TreeName) (old new : LogTrees D) → GrewFitting observable history sync_out read_out read_of faults old.log new.log (Commit t ∷ []) →
-      at ≡ pos_lsn (placed_at (file_max_of old.log) (end_of old.log) (size_of (Commit t))) → AreFree t old.trees.forest names → MakesSteps (CommitsName at) names old.trees.forest new.trees.forest → last_node_of new ≡ last_node_of old →
-      GrewTrees observable history sync_out read_out read_of faults old new (Commit t ∷ [])
-  commit_grows t at names old new grew at_is free steps last = record {
+  pub commit_grows : (t : TxnId) (at : ℕ) (names : List TreeName) (old new : LogBuffer D) (last : ℕ) (before after : Forest) → GrewFitting observable history sync_out read_out read_of faults old new (Commit t ∷ []) →
+      at ≡ pos_lsn (placed_at (file_max_of old) (end_of old) (size_of (Commit t))) → AreFree t before names → MakesSteps (CommitsName at) names before after →
+      TreesGrew observable history sync_out read_out read_of faults old new last last (trees_at before) (trees_at after) (Commit t ∷ [])
+  commit_grows t at names old new last before after grew at_is free steps = record {
     fitting = grew;
-    fits = λ log base has begun f. (let a = is_appended observable history sync_out read_out read_of faults old.log new.log (Commit t) log base at grew at_is has begun in
-        subst (λ (n : ℕ). ForestDue (placed (longer old.log (Commit t ∷ []) log)) base n (trees_of new) none_due) (sym last)
-        (subst (λ (es : List Placed). ForestDue es base (last_node_of old) (trees_of new) none_due) (sym a.is)
-        (commits_fit (placed log ++ (at, Commit t) ∷ []) base (last_node_of old) at t names old.trees.forest new.trees.forest steps free (λ d x. commit_latest (placed log) base at t d x a.begun)
-        (forest_stays (placed log) ((at, Commit t) ∷ []) base (last_node_of old) (last_node_of old) (trees_of old) (trees_of old) none_due (le_refl (last_node_of old)) (λ d. refl) f))));
+    fits = λ log base has begun f. (let a = is_appended observable history sync_out read_out read_of faults old new (Commit t) log base at grew at_is has begun in
+        subst (λ (es : List Placed). ForestFits es base last (trees_at after)) (sym a.is)
+        (commits_fit (placed log ++ (at, Commit t) ∷ []) base last at t names before after steps free (λ d x. commit_latest (placed log) base at t d x a.begun)
+        (forest_stays (placed log) ((at, Commit t) ∷ []) base last last (trees_at before) (trees_at before) none_due (le_refl last) (λ d. refl) f)));
   }
 
   -- names were given up
-  pub abort_grows : (names : List TreeName) (old new : LogTrees D) → IsUnchanged old.log new.log → MakesSteps GivesUpName names old.trees.forest new.trees.forest → last_node_of new ≡ last_node_of old →
-      GrewTrees observable history sync_out read_out read_of faults old new []
-  abort_grows names old new same steps last = record {
-    fitting = fitting_unchanged observable history sync_out read_out read_of faults old.log new.log same;
-    fits = λ log base has begun f. subst (λ (n : ℕ). ForestDue (placed log) base n (trees_of new) none_due) (sym last) (aborts_fit (placed log) base (last_node_of old) names old.trees.forest new.trees.forest steps f);
+  pub abort_grows : (names : List TreeName) (log : LogBuffer D) (last : ℕ) (before after : Forest) → MakesSteps GivesUpName names before after →
+      TreesGrew observable history sync_out read_out read_of faults log log last last (trees_at before) (trees_at after) []
+  abort_grows names log last before after steps = record {
+    fitting = fitting_none observable history sync_out read_out read_of faults log;
+    fits = λ l base has begun f. aborts_fit (placed l) base last names before after steps f;
   }
 
   -- a tree was taken out
-  pub drop_grows : (db : ℕ) (old new : LogTrees D) → IsUnchanged old.log new.log → ((d : ℕ) → get nat_cmp new.trees.forest d ≡ cond (d == db) None (get nat_cmp old.trees.forest d)) → last_node_of new ≡ last_node_of old →
-      GrewTrees observable history sync_out read_out read_of faults old new []
-  drop_grows db old new same gone last = record {
-    fitting = fitting_unchanged observable history sync_out read_out read_of faults old.log new.log same;
-    fits = λ log base has begun f. subst (λ (n : ℕ). ForestDue (placed log) base n (trees_of new) none_due) (sym last) (drop_fits (placed log) base (last_node_of old) db old.trees.forest new.trees.forest gone f);
+  pub drop_grows : (db : ℕ) (log : LogBuffer D) (last : ℕ) (before after : Forest) → ((d : ℕ) → get nat_cmp after d ≡ cond (d == db) None (get nat_cmp before d)) →
+      TreesGrew observable history sync_out read_out read_of faults log log last last (trees_at before) (trees_at after) []
+  drop_grows db log last before after gone = record {
+    fitting = fitting_none observable history sync_out read_out read_of faults log;
+    fits = λ l base has begun f. drop_fits (placed l) base last db before after gone f;
   }

@@ -33,9 +33,10 @@ use Rattle.db_tree.specs.NodeImages.{IsLoggable}
 use Rattle.db_tree.specs.Splits.{count_waiting}
 use Rattle.in_tree.specs.Forest.{Forest, cells_seen, HasSameTrees, KeepsCells, HasOne, HasChange, write_for}
 use Rattle.in_tree.specs.Limits.{change_size, commit_sizes, HasRoomFor, end_behind, FitsLog, GrewFitting, TriedFitting}
-use Rattle.in_tree.specs.Fitting.{fitting_none, fitting_then, fitting_tried}
-use Rattle.in_tree.specs.Logging.{LogsImage, TriesImage, LogsImages, TriesImages, LogsChange, TriesChange}
-use Rattle.in_tree.specs.Placing.{room_sizes, placed_sizes, count_images, AreLoggable}
+use Rattle.in_tree.specs.Fitting.{fitting_tried}
+use Rattle.in_tree.specs.Growing.{GrewTree, GrewForest, grew_tree_none, grew_tree_then, grew_forest_none, grew_forest_then, none_due}
+use Rattle.in_tree.specs.Logging.{LogsImage, TriesImage, LogsImages, TriesImages, LogsRoom, LogsChange, TriesChange}
+use Rattle.in_tree.specs.Placing.{room_sizes, placed_sizes, count_images, AreLoggable, due_one, due_of}
 use Rattle.in_tree.specs.Waits.{waits_in}
 use Rattle.in_tree.proofs.Preparation.{same_test}
 
@@ -186,7 +187,7 @@ module _ {D : Type 0} (observable : Bool) (history : D → History) (sync_out re
     pub loggable : AllByRecursion (λ i. IsLoggable i.entry) left
     pub some_room : (sizes : List ℕ) × HasRoomFor log (map (λ i. size_of i.entry) left ++ sizes)
     pub room : (sizes : List ℕ) → HasRoomFor old (map (λ i. size_of i.entry) images ++ sizes) → HasRoomFor log (map (λ i. size_of i.entry) left ++ sizes)
-    pub done : (a : List Entry) × AreImages a × (length a + length left ≡ length images) × GrewFitting observable history sync_out read_out read_of faults old log a
+    pub done : (a : List Entry) × AreImages a × (length a + length left ≡ length images) × GrewTree observable history sync_out read_out read_of faults old log before tree images left a
     pub cells : tree.cells ≡ before.cells
     pub waits : count_waiting (shape_in tree) ≤ count_waiting (shape_in before)
 
@@ -194,13 +195,13 @@ module _ {D : Type 0} (observable : Bool) (history : D → History) (sync_out re
       ImagesLeft log log tree tree images left
   images_begin log tree images left is loggable some =
       subst (λ (l : List NodeImage). ImagesLeft log log tree tree images l) (sym is)
-      (record { loggable = loggable; some_room = some; room = λ sizes for. for; done = ([], tt, omega arith, fitting_none observable history sync_out read_out read_of faults log); cells = refl; waits = le_refl (count_waiting (shape_in tree)) })
+      (record { loggable = loggable; some_room = some; room = λ sizes for. for; done = ([], tt, omega arith, grew_tree_none observable history sync_out read_out read_of faults log tree images); cells = refl; waits = le_refl (count_waiting (shape_in tree)) })
 
   pub images_turn : (old log : LogBuffer D) (before tree : DbTree) (images left more : List NodeImage) → ImagesLeft old log before tree images left → left ≡ more → ImagesLeft old log before tree images more
   images_turn old log before tree images left more so_far is = subst (λ (l : List NodeImage). ImagesLeft old log before tree images l) is so_far
 
   pub images_step : (old log new : LogBuffer D) (before tree after : DbTree) (images left : List NodeImage) (i : NodeImage) → ImagesLeft old log before tree images (i ∷ left) →
-      LogsImage observable history sync_out read_out read_of faults log new → ((sizes : List ℕ) → HasRoomFor log (size_of i.entry ∷ sizes) → HasRoomFor new sizes) →
+      LogsImage observable history sync_out read_out read_of faults i log new tree after → ((sizes : List ℕ) → HasRoomFor log (size_of i.entry ∷ sizes) → HasRoomFor new sizes) →
       after.cells ≡ tree.cells → count_waiting (shape_in after) ≤ count_waiting (shape_in tree) → ImagesLeft old new before after images left
   images_step old log new before tree after images left i so_far logs room cells waits = record {
     loggable = so_far.loggable.1;
@@ -210,7 +211,8 @@ module _ {D : Type 0} (observable : Bool) (history : D → History) (sync_out re
       so_far.done.0 ++ logs.0 ∷ [],
       images_more so_far.done.0 (logs.0 ∷ []) so_far.done.1 (logs.1, tt),
       (let count = length_more so_far.done.0 (logs.0 ∷ []) in omega (arith, count, so_far.done.2)),
-      fitting_then observable history sync_out read_out read_of faults old log new so_far.done.0 (logs.0 ∷ []) so_far.done.3 logs.2,
+      grew_tree_then observable history sync_out read_out read_of faults old log new before tree after images (i ∷ left) left so_far.done.0 (logs.0 ∷ []) so_far.done.3
+          (record { fitting = logs.2.fitting; fits = λ home last d rest. logs.2.fits home last d (left ++ rest) }),
     );
     cells = cells ∙ so_far.cells;
     waits = le_trans waits so_far.waits;
@@ -221,30 +223,34 @@ module _ {D : Type 0} (observable : Bool) (history : D → History) (sync_out re
   images_fail old log new before tree images left so_far tries = (
     so_far.done.0 ++ tries.0 ∷ [],
     images_more so_far.done.0 (tries.0 ∷ []) so_far.done.1 (tries.1, tt),
-    fitting_tried observable history sync_out read_out read_of faults old log new so_far.done.0 (tries.0 ∷ []) so_far.done.3 tries.2,
+    fitting_tried observable history sync_out read_out read_of faults old log new so_far.done.0 (tries.0 ∷ []) so_far.done.3.fitting tries.2,
   )
 
-  pub images_end : (old log : LogBuffer D) (before tree : DbTree) (images : List NodeImage) → ImagesLeft old log before tree images [] → LogsImages observable history sync_out read_out read_of faults (length images) old log
+  pub images_end : (old log : LogBuffer D) (before tree : DbTree) (images : List NodeImage) → ImagesLeft old log before tree images [] → LogsImages observable history sync_out read_out read_of faults images old log before tree
   images_end old log before tree images so_far = (so_far.done.0, so_far.done.1, (let count = so_far.done.2 in omega (arith, count)), so_far.done.3)
 
   -- ---- a change behind its images
 
-  pub change_logged : (count : ℕ) (txn : TxnId) (c : TreeChange) (old mid new : LogBuffer D) → LogsImages observable history sync_out read_out read_of faults count old mid →
-      GrewFitting observable history sync_out read_out read_of faults mid new (entry_for txn c.db c.name c.value ∷ []) → LogsChange observable history sync_out read_out read_of faults count txn c old new
-  change_logged count txn c old mid new images entry =
-      (images.0, images.1, images.2, fitting_then observable history sync_out read_out read_of faults old mid new images.0 (entry_for txn c.db c.name c.value ∷ []) images.3 entry)
+  pub change_logged : (due : List NodeImage) (txn : TxnId) (c : TreeChange) (old mid new : LogBuffer D) (before between after : Forest) → LogsRoom observable history sync_out read_out read_of faults c.db due old mid before between →
+      ((more : ℕ → List NodeImage) → GrewForest observable history sync_out read_out read_of faults mid new between after more more (entry_for txn c.db c.name c.value ∷ [])) → LogsChange observable history sync_out read_out read_of faults due txn c old new before after
+  change_logged due txn c old mid new before between after images entry = (
+    images.0,
+    images.1,
+    images.2,
+    λ more. grew_forest_then observable history sync_out read_out read_of faults old mid new before between after (λ d. due_one c.db due d ++ more d) more more images.0 (entry_for txn c.db c.name c.value ∷ []) (images.3 more) (entry more),
+  )
 
   pub images_tried : (txn : TxnId) (c : TreeChange) (old new : LogBuffer D) → TriesImages observable history sync_out read_out read_of faults old new → TriesChange observable history sync_out read_out read_of faults txn c old new
   images_tried txn c old new tries = (tries.0, tries.0, tries.1, (entry_for txn c.db c.name c.value ∷ [], refl), tries.2)
 
-  pub entry_tried : (count : ℕ) (txn : TxnId) (c : TreeChange) (old mid new : LogBuffer D) → LogsImages observable history sync_out read_out read_of faults count old mid →
+  pub entry_tried : (due : List NodeImage) (txn : TxnId) (c : TreeChange) (old mid new : LogBuffer D) (before between : Forest) → LogsRoom observable history sync_out read_out read_of faults c.db due old mid before between →
       TriedFitting observable history sync_out read_out read_of faults mid new (entry_for txn c.db c.name c.value ∷ []) → TriesChange observable history sync_out read_out read_of faults txn c old new
-  entry_tried count txn c old mid new images entry = (
+  entry_tried due txn c old mid new before between images entry = (
     images.0,
     images.0 ++ entry_for txn c.db c.name c.value ∷ [],
     images.1,
     ([], append-nil (images.0 ++ entry_for txn c.db c.name c.value ∷ [])),
-    fitting_tried observable history sync_out read_out read_of faults old mid new images.0 (entry_for txn c.db c.name c.value ∷ []) images.3 entry,
+    fitting_tried observable history sync_out read_out read_of faults old mid new images.0 (entry_for txn c.db c.name c.value ∷ []) (images.3 none_due).fitting entry,
   )
 
   -- ---- changes
@@ -258,8 +264,8 @@ module _ {D : Type 0} (observable : Bool) (history : D → History) (sync_out re
     pub writes_are : writes ≡ map (write_for txn) left
     pub some_room : (owed : ℕ) × HasRoomFor log (placed_sizes left slots ++ commit_sizes owed)
     pub room : (owed : ℕ) → HasRoomFor old (placed_sizes changes rooms ++ commit_sizes owed) → HasRoomFor log (placed_sizes left slots ++ commit_sizes owed)
-    pub grew : (last : LogBuffer D) (b : List Entry) → LogsChanges txn left b → GrewFitting observable history sync_out read_out read_of faults log last b → length b ≡ count_images slots + length left →
-        (a : List Entry) × LogsChanges txn changes a × GrewFitting observable history sync_out read_out read_of faults old last a × (length a ≡ count_images rooms + length changes)
+    pub grew : (last : LogBuffer D) (forest : Forest) (b : List Entry) → LogsChanges txn left b → GrewForest observable history sync_out read_out read_of faults log last trees forest (due_of left slots) none_due b → length b ≡ count_images slots + length left →
+        (a : List Entry) × LogsChanges txn changes a × GrewForest observable history sync_out read_out read_of faults old last before forest (due_of changes rooms) none_due a × (length a ≡ count_images rooms + length changes)
     pub tried : (last : LogBuffer D) (b f : List Entry) → LogsChanges txn left b → IsFront f b → TriedFitting observable history sync_out read_out read_of faults log last f →
         (a : List Entry) × (g : List Entry) × LogsChanges txn changes a × IsFront g a × TriedFitting observable history sync_out read_out read_of faults old last g
     pub cells : (last : AllCells) → AreWritten txn left (cells_seen trees) last → AreWritten txn changes (cells_seen before) last
@@ -280,7 +286,7 @@ module _ {D : Type 0} (observable : Bool) (history : D → History) (sync_out re
         writes_are = are;
         some_room = room;
         room = λ owed for. for;
-        grew = λ last b logs grew count. (b, logs, grew, count);
+        grew = λ last forest b logs grew count. (b, logs, grew, count);
         tried = λ last b f logs front tried. (b, f, logs, front, tried);
         cells = λ last written. written;
         same = λ d. refl;
@@ -307,7 +313,7 @@ module _ {D : Type 0} (observable : Bool) (history : D → History) (sync_out re
 
   pub writes_step : (txn : TxnId) (old log new : LogBuffer D) (before trees after : Forest) (changes left : List TreeChange) (c : TreeChange) (rooms slots : List SlotRoom) (slot : SlotRoom) (write : Write) (writes : List Write) →
       WritesLeft txn old log before trees changes (c ∷ left) rooms (slot ∷ slots) (write ∷ writes) → writes ≡ map (write_for txn) left →
-      LogsChange observable history sync_out read_out read_of faults (length slot.images.items) txn c log new → ((sizes : List ℕ) → HasRoomFor log (room_sizes slot ++ change_size c ∷ sizes) → HasRoomFor new sizes) →
+      LogsChange observable history sync_out read_out read_of faults slot.images.items txn c log new trees after → ((sizes : List ℕ) → HasRoomFor log (room_sizes slot ++ change_size c ∷ sizes) → HasRoomFor new sizes) →
       (at : ℕ) × HasChange (cells_seen trees) (cells_seen after) c.db c.name (with_change (record { txn = txn; at = at; value = c.value })) → KeepsCells trees after → HasSameTrees trees after →
       ((d : ℕ) → IsRising (cells_seen trees d) → IsRising (cells_seen after d)) → waits_in after ≤ waits_in trees → WritesLeft txn old new before after changes left rooms slots writes
   writes_step txn old log new before trees after changes left c rooms slots slot write writes so_far are logs room change kept same rising waits = record {
@@ -318,13 +324,13 @@ module _ {D : Type 0} (observable : Bool) (history : D → History) (sync_out re
     writes_are = are;
     some_room = (so_far.some_room.0, room (placed_sizes left slots ++ commit_sizes so_far.some_room.0) (room_of_next log c left slot slots so_far.some_room.0 so_far.some_room.1));
     room = λ owed for. room (placed_sizes left slots ++ commit_sizes owed) (room_of_next log c left slot slots owed (so_far.room owed for));
-    grew = λ last b of_left more count. so_far.grew last (logs.0 ++ entry ∷ b) (logs.0, b, logs.1, refl, of_left)
-        (subst (λ (l : List Entry). GrewFitting observable history sync_out read_out read_of faults log last l) (append_assoc logs.0 (entry ∷ []) b)
-        (fitting_then observable history sync_out read_out read_of faults log new last (logs.0 ++ entry ∷ []) b logs.3 more))
+    grew = λ last forest b of_left more count. so_far.grew last forest (logs.0 ++ entry ∷ b) (logs.0, b, logs.1, refl, of_left)
+        (subst (λ (l : List Entry). GrewForest observable history sync_out read_out read_of faults log last trees forest (due_of (c ∷ left) (slot ∷ slots)) none_due l) (append_assoc logs.0 (entry ∷ []) b)
+        (grew_forest_then observable history sync_out read_out read_of faults log new last trees after forest (due_of (c ∷ left) (slot ∷ slots)) (due_of left slots) none_due (logs.0 ++ entry ∷ []) b (logs.3 (due_of left slots)) more))
         (let whole = length_more logs.0 (entry ∷ b) in let front = logs.2 in omega (arith, whole, front, count));
     tried = λ last b f of_left front more. so_far.tried last (logs.0 ++ entry ∷ b) ((logs.0 ++ entry ∷ []) ++ f) (logs.0, b, logs.1, refl, of_left)
         (front.0, append_assoc (logs.0 ++ entry ∷ []) f front.0 ∙ ap (λ (l : List Entry). (logs.0 ++ entry ∷ []) ++ l) front.1 ∙ append_assoc logs.0 (entry ∷ []) b)
-        (fitting_tried observable history sync_out read_out read_of faults log new last (logs.0 ++ entry ∷ []) f logs.3 more);
+        (fitting_tried observable history sync_out read_out read_of faults log new last (logs.0 ++ entry ∷ []) f (logs.3 none_due).fitting more);
     cells = λ last written. so_far.cells last (written_step txn c left (cells_seen trees) (cells_seen after) last change.0 change.1 written);
     same = λ d. same d ∙ so_far.same d;
     rising = λ d up. rising d (so_far.rising d up);
@@ -347,7 +353,7 @@ module _ {D : Type 0} (observable : Bool) (history : D → History) (sync_out re
 
   -- all changes were written
   pub record AllWritten (txn : TxnId) (old log : LogBuffer D) (before trees : Forest) (changes : List TreeChange) (rooms : List SlotRoom) : Type 0 where
-    pub grew : (a : List Entry) × LogsChanges txn changes a × GrewFitting observable history sync_out read_out read_of faults old log a × (length a ≡ count_images rooms + length changes)
+    pub grew : (a : List Entry) × LogsChanges txn changes a × GrewForest observable history sync_out read_out read_of faults old log before trees (due_of changes rooms) none_due a × (length a ≡ count_images rooms + length changes)
     pub left : (owed : ℕ) → HasRoomFor old (placed_sizes changes rooms ++ commit_sizes owed) → HasRoomFor log (commit_sizes owed)
     pub cells : AreWritten txn changes (cells_seen before) (cells_seen trees)
 
@@ -359,7 +365,7 @@ module _ {D : Type 0} (observable : Bool) (history : D → History) (sync_out re
     where
       by_slots : (l : List SlotRoom) → WritesLeft txn old log before trees changes [] rooms l writes → AllWritten txn old log before trees changes rooms
       by_slots [] ended = record {
-        grew = ended.grew log [] refl (fitting_none observable history sync_out read_out read_of faults log) refl;
+        grew = ended.grew log trees [] refl (grew_forest_none observable history sync_out read_out read_of faults log trees none_due) refl;
         left = ended.room;
         cells = ended.cells (cells_seen trees) (nothing_written txn (cells_seen trees));
       }

@@ -1,5 +1,5 @@
 -- The trees of all databases, and what transactions see in them.
-use Rattle.std.specs.Prelude.{◌≡◌, ◌==◌, ◌&&◌, ℕ, Bool, false, refl, List, [], Option, Some, None, IsSome, is_some, if◌then◌else◌}
+use Rattle.std.specs.Prelude.{◌≡◌, ◌⊎◌, ◌==◌, ◌&&◌, ℕ, Bool, false, refl, List, [], ◌∷◌, Option, Some, None, IsSome, is_some, if◌then◌else◌}
 use Rattle.std.specs.Ordering.{is_eq, nat_cmp}
 use Rattle.std.specs.BTreeMap.{BTreeMap, get}
 use Rattle.std.proofs.lemmas.Map.Keys.{IsStrictlySortedBy-prop}
@@ -10,10 +10,12 @@ use Rattle.je_order.specs.declared.txn_id.TxnId.{TxnId}
 use Rattle.record_map.specs.declared.cell.Cell.{Cell}
 use Rattle.record_map.specs.declared.write.Write.{Write}
 use Rattle.record_map.specs.Cells.{value_at, IsRising}
-use Rattle.record_tree.specs.Occupied.{Occupied, AllCells}
+use Rattle.record_tree.specs.Occupied.{Occupied, AllCells, after_commit}
 use Rattle.record_tree.specs.declared.tree_change.TreeChange.{TreeChange}
+use Rattle.record_tree.specs.declared.tree_name.TreeName.{TreeName}
 use Rattle.db_tree.specs.declared.tree.DbTree.{DbTree}
 use Rattle.db_tree.specs.Seen.{occupied}
+use Rattle.tree_images.specs.TreeSteps.{HasCommitted, HasGivenUp}
 
 -- the trees by their databases' numbers
 abbrev pub Forest : Type 0
@@ -50,9 +52,34 @@ HasChange old new db name change =
 abbrev pub Replaces : Forest → Forest → ℕ → Option DbTree → Type 0
 Replaces old new db o = (d : ℕ) → get nat_cmp new d ≡ (if is_eq (nat_cmp db d) then o else get nat_cmp old d)
 
+-- a database's tree made a step, and all else is as before
+pub record IsStepIn (db : ℕ) (Step : DbTree → DbTree → Type 0) (old new : Forest) : Type 0 where
+  pub tree : DbTree
+  pub next : DbTree
+  pub was : get nat_cmp old db ≡ Some tree
+  pub has : Replaces old new db (Some next)
+  pub step : Step tree next
+
 -- each database has the same tree, or none as before
 abbrev pub IsSameForest : Forest → Forest → Type 0
 IsSameForest old new = (d : ℕ) → get nat_cmp new d ≡ get nat_cmp old d
+
+-- a database's tree made a step, if it has one
+abbrev pub MayStepIn : ℕ → (DbTree → DbTree → Type 0) → Forest → Forest → Type 0
+MayStepIn db Step old new = IsSameForest old new ⊎ IsStepIn db Step old new
+
+-- each of some names made a step of the trees, one after the other
+abbrev pub MakesSteps : (TreeName → Forest → Forest → Type 0) → List TreeName → Forest → Forest → Type 0
+MakesSteps Step [] old new = IsSameForest old new
+MakesSteps Step (n ∷ names) old new = (mid : Forest) × Step n old mid × MakesSteps Step names mid new
+
+-- a name's change is committed by the Commit at an LSN, or given up
+pub record CommitsName (at : ℕ) (n : TreeName) (old new : Forest) : Type 0 where
+  pub step : MayStepIn n.db (HasCommitted n.name at) old new
+  pub seen : HasChange (cells_seen old) (cells_seen new) n.db n.name after_commit
+
+abbrev pub GivesUpName : TreeName → Forest → Forest → Type 0
+GivesUpName n old new = MayStepIn n.db (HasGivenUp n.name) old new
 
 -- each database has a tree as before
 abbrev pub HasSameTrees : Forest → Forest → Type 0

@@ -1,14 +1,20 @@
 -- Trees that fit their log while it grows.
-use Rattle.std.proofs.Common.{ℕ, Bool, List, [], ◌∷◌, ◌++◌, Option}
+use Rattle.std.proofs.Common.{◌≤◌, ℕ, Bool, List, [], ◌∷◌, ◌++◌, Option}
 use Rattle.std.specs.Ordering.{nat_cmp}
 use Rattle.std.specs.BTreeMap.{get}
-use Rattle.je_disk.specs.Moments.{History}
+use Rattle.je_disk.specs.Moments.{History, now}
 use Rattle.log_entry.specs.declared.entry.Entry.{Entry}
 use Rattle.log_buffer.specs.declared.buffer.LogBuffer.{LogBuffer}
+use Rattle.log_file.specs.Log.{Log}
+use Rattle.log_buffer.specs.Buffer.{disk_of, end_of}
+use Rattle.log_buffer.specs.Flip.{pos_lsn}
+use Rattle.log_buffer.specs.Growth.{longer}
+use Rattle.log_buffer.specs.Log.{HasLog}
+use Rattle.log_trees.specs.Placed.{placed}
 use Rattle.log_trees.specs.Sound.{Home}
 use Rattle.db_tree.specs.declared.node_image.NodeImage.{NodeImage}
 use Rattle.db_tree.specs.declared.tree.DbTree.{DbTree}
-use Rattle.tree_images.specs.Forest.{FitsDue, ForestDue}
+use Rattle.tree_images.specs.Forest.{FitsDue, ForestDue, ForestFits}
 use Rattle.in_tree.specs.Forest.{Forest}
 use Rattle.in_tree.specs.Placing.{due_one}
 use Rattle.in_tree.specs.Limits.{GrewFitting, TriedFitting}
@@ -63,3 +69,18 @@ module _ {D : Type 0} (observable : Bool) (history : D → History) (sync_out re
   -- the log got images that were due of a database's tree, with others
   abbrev pub GrewSlot : LogBuffer D → LogBuffer D → Forest → Forest → ℕ → List NodeImage → List Entry → Type 0
   GrewSlot old new before after db images entries = (due : ℕ → List NodeImage) → GrewForest old new before after (λ d. due_one db images d ++ due d) due entries
+
+  -- The log got these entries, which fit it; trees that fitted it fit the longer one.
+  pub record TreesGrew (old new : LogBuffer D) (last later : ℕ) (before after : ℕ → Option DbTree) (entries : List Entry) : Type 0 where
+    pub fitting : GrewFitting observable history sync_out read_out read_of faults old new entries
+    pub fits : (log : Log) (base : ℕ) → HasLog observable (now (history (disk_of old))) old log → base ≤ pos_lsn (end_of old) → ForestFits (placed log) base last before →
+        ForestFits (placed (longer old entries log)) base later after
+
+  pub trees_grew_none : (x : LogBuffer D) (last : ℕ) (trees : ℕ → Option DbTree) → TreesGrew x x last last trees trees []
+  trees_grew_none x last trees = record { fitting = fitting_none observable history sync_out read_out read_of faults x; fits = λ log base has begun fits. fits }
+
+  pub trees_grew_then : (x y z : LogBuffer D) (k m n : ℕ) (s t u : ℕ → Option DbTree) (a b : List Entry) → TreesGrew x y k m s t a → TreesGrew y z m n t u b → TreesGrew x z k n s u (a ++ b)
+  trees_grew_then x y z k m n s t u a b first second = record {
+    fitting = fitting_then observable history sync_out read_out read_of faults x y z a b first.fitting second.fitting;
+    fits = carries_then observable history sync_out read_out read_of faults x y a b (λ es base. ForestFits es base k s) (λ es base. ForestFits es base m t) (λ es base. ForestFits es base n u) first.fitting first.fits second.fits;
+  }

@@ -10,3 +10,5 @@ pub mod Loaded
 pub mod Whole
 pub mod Observed
 pub mod Ready
+pub mod Carrying
+pub mod Growing

@@ -6,27 +6,38 @@ use Rattle.log_entry.specs.declared.entry.Entry.{Entry}
 use Rattle.log_buffer.specs.declared.buffer.LogBuffer.{LogBuffer}
 use Rattle.record_tree.specs.declared.tree_change.TreeChange.{TreeChange}
 use Rattle.record_tree.specs.Logged.{entry_for, IsImage, AreImages, IsFront}
-use Rattle.in_tree.specs.Limits.{GrewFitting, TriedFitting}
+use Rattle.db_tree.specs.declared.node_image.NodeImage.{NodeImage}
+use Rattle.db_tree.specs.declared.tree.DbTree.{DbTree}
+use Rattle.in_tree.specs.Forest.{Forest}
+use Rattle.in_tree.specs.Growing.{GrewTree, GrewSlot}
+use Rattle.in_tree.specs.Limits.{TriedFitting}
 
 module _ {D : Type 0} (observable : Bool) (history : D → History) (sync_out read_out : D → Option ℕ) (read_of : D → ℕ) (faults : D → ℕ) where
-  -- the log got an image, or failed with one
-  abbrev pub LogsImage : LogBuffer D → LogBuffer D → Type 0
-  LogsImage old new = (e : Entry) × IsImage e × GrewFitting observable history sync_out read_out read_of faults old new (e ∷ [])
+  -- the log got an image that was due, or failed with one
+  abbrev pub LogsImage : NodeImage → LogBuffer D → LogBuffer D → DbTree → DbTree → Type 0
+  LogsImage image old new before after = (e : Entry) × IsImage e × GrewTree observable history sync_out read_out read_of faults old new before after (image ∷ []) [] (e ∷ [])
 
   abbrev pub TriesImage : LogBuffer D → LogBuffer D → Type 0
   TriesImage old new = (e : Entry) × IsImage e × TriedFitting observable history sync_out read_out read_of faults old new (e ∷ [])
 
-  -- the log got so many images, or failed with some
-  abbrev pub LogsImages : ℕ → LogBuffer D → LogBuffer D → Type 0
-  LogsImages count old new = (images : List Entry) × AreImages images × (length images ≡ count) × GrewFitting observable history sync_out read_out read_of faults old new images
+  -- the log got the images that were due of a tree, or failed with some
+  abbrev pub LogsImages : List NodeImage → LogBuffer D → LogBuffer D → DbTree → DbTree → Type 0
+  LogsImages due old new before after =
+      (images : List Entry) × AreImages images × (length images ≡ length due) × GrewTree observable history sync_out read_out read_of faults old new before after due [] images
 
   abbrev pub TriesImages : LogBuffer D → LogBuffer D → Type 0
   TriesImages old new = (images : List Entry) × AreImages images × TriedFitting observable history sync_out read_out read_of faults old new images
 
-  -- the log got a change's entry behind so many images, or failed with some of these
-  abbrev pub LogsChange : ℕ → TxnId → TreeChange → LogBuffer D → LogBuffer D → Type 0
-  LogsChange count txn c old new =
-      (images : List Entry) × AreImages images × (length images ≡ count) × GrewFitting observable history sync_out read_out read_of faults old new (images ++ entry_for txn c.db c.name c.value ∷ [])
+  -- the log got the images that were due for a slot of a database
+  abbrev pub LogsRoom : ℕ → List NodeImage → LogBuffer D → LogBuffer D → Forest → Forest → Type 0
+  LogsRoom db due old new before after =
+      (images : List Entry) × AreImages images × (length images ≡ length due) × GrewSlot observable history sync_out read_out read_of faults old new before after db due images
+
+  -- the log got a change's entry behind the images that were due for its slot, or failed with some of these
+  abbrev pub LogsChange : List NodeImage → TxnId → TreeChange → LogBuffer D → LogBuffer D → Forest → Forest → Type 0
+  LogsChange due txn c old new before after =
+      (images : List Entry) × AreImages images × (length images ≡ length due)
+      × GrewSlot observable history sync_out read_out read_of faults old new before after c.db due (images ++ entry_for txn c.db c.name c.value ∷ [])
 
   abbrev pub TriesChange : TxnId → TreeChange → LogBuffer D → LogBuffer D → Type 0
   TriesChange txn c old new =

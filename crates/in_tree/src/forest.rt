@@ -13,8 +13,10 @@ ghost use Rattle.db_tree.specs.Shapes.{shape_in};
 ghost use Rattle.db_tree.specs.Splits.{count_waiting};
 ghost use Rattle.db_tree.specs.Stored.{AreQuiet, HasLogged};
 ghost use Rattle.db_tree.specs.Splits.{passes_top};
-ghost use Rattle.in_tree.specs.Forest.{Forest, cells_at, cells_seen, is_there, HasChange, HasSameTrees, IsSameForest, KeepsCells, HasOne};
-ghost use Rattle.in_tree.specs.Placing.{IsPlacedIn};
+ghost use Rattle.db_tree.specs.declared.tree.DbTree.{DbTree as Kept};
+ghost use Rattle.tree_images.specs.TreeSteps.{HasWritten, HasCommitted, HasGivenUp, HasSlot, IsNewTree};
+ghost use Rattle.in_tree.specs.Forest.{Forest, cells_at, cells_seen, is_there, HasChange, HasSameTrees, IsSameForest, IsStepIn, MayStepIn, KeepsCells, HasOne};
+ghost use Rattle.in_tree.specs.Placing.{IsPlacedIn, IsFittedIn};
 ghost use Rattle.in_tree.specs.Shapes.{shapes_of};
 ghost use Rattle.in_tree.specs.Stored.{stored_of, IsQuiet, IsSlotFor};
 ghost use Rattle.in_tree.specs.Waits.{waits_in};
@@ -29,8 +31,34 @@ use std::alloc::{AllocError, Global};
 use std::collections::BTreeMap;
 
 // The LSN before all entries.
-fn beginning() -> Lsn {
+fn beginning() -> Lsn
+    ensures { result ≡ 0 }
+{
     Lsn::new(FileNo(0), 0)
+}
+
+// Makes a slot for the name in a tree, as `place` does.
+fn place_in(
+    tree: &mut DbTree,
+    alloc: Global,
+    db: u32,
+    fanout: u32,
+    name: &SortKey,
+    first: u64,
+) -> Result<SlotRoom, TreeErr>
+    ensures slot { IfOk result (λ room. HasSlot fanout first db name.now room tree.old tree.new) }
+    ensures high { IfErr result (λ e. e ≡ Reason.IdsEnded → passes_top fanout name.now (shape_in tree.old) ≡ true) }
+    ensures errors { IfErr result (λ e. (e ≡ Reason.IdsEnded) ⊎ (e ≡ Reason.Memory)) }
+    ensures err { OnErr result (tree.new ≡ tree.old) }
+{
+    let _before = tree.levels.height();
+    let room = match tree.place(alloc, db, fanout, name, first, beginning()) {
+        Ok(room) => room,
+        Err(error) => return Err(error),
+    };
+    let _levels = tree.levels.height();
+    let _cells = tree.cells.len();
+    Ok(room)
 }
 
 // Makes a slot for the name where it has none, in its half of a BIN that is split for it. The nodes that this makes have the
@@ -45,12 +73,13 @@ pub(crate) fn place(
 ) -> Result<SlotRoom, TreeErr>
     requires { is_there trees.old db ≡ true }
     ensures placed { IfOk result (λ room. IsPlacedIn fanout db name.now room trees.old trees.new) }
+    ensures fitted { IfOk result (λ room. IsFittedIn fanout first db name.now room trees.old trees.new) }
     ensures high { IsEndOf Reason.IdsEnded result (passes_top fanout name.now (shapes_of trees.old db) ≡ true) }
     ensures errors { IfErr result (λ e. (e ≡ Reason.IdsEnded) ⊎ (e ≡ Reason.Memory)) }
     ensures err { OnErr result (IsSameForest trees.old trees.new) }
 {
     match trees.get_mut(&db) {
-        Some(tree) => tree.place(alloc, db, fanout, name, first, beginning()),
+        Some(tree) => place_in(tree, alloc, db, fanout, name, first),
         None => unreachable!(),
     }
 }
@@ -72,6 +101,7 @@ pub(crate) fn set_write(
     write: Box<Write>,
 )
     requires { HasOne trees.old db name.now }
+    ensures step { IsStepIn db (HasWritten name.now write) trees.old trees.new }
     ensures cells { HasChange (cells_seen trees.old) (cells_seen trees.new) db name.now (with_change write.value) }
     ensures kept { KeepsCells trees.old trees.new }
     ensures trees { HasSameTrees trees.old trees.new }
@@ -86,18 +116,21 @@ pub(crate) fn set_write(
 
 // Commits the name's change, by the Commit at `at`.
 pub(crate) fn commit(trees: &mut BTreeMap<u32, DbTree>, db: u32, name: &SortKey, at: Lsn)
+    ensures step { MayStepIn db (HasCommitted name.now at) trees.old trees.new }
     ensures cells { HasChange (cells_seen trees.old) (cells_seen trees.new) db name.now after_commit }
     ensures trees { HasSameTrees trees.old trees.new }
     ensures rising { (d : ℕ) → IsRising (cells_seen trees.old d) → IsRising (cells_seen trees.new d) }
     ensures waits { waits_in trees.new ≡ waits_in trees.old }
 {
     if let Some(tree) = trees.get_mut(&db) {
+        let _len = tree.cells.len();
         tree.commit_write(name, at);
     }
 }
 
 // Gives the name's change up.
 pub(crate) fn abort(trees: &mut BTreeMap<u32, DbTree>, db: u32, name: &SortKey)
+    ensures step { MayStepIn db (HasGivenUp name.now) trees.old trees.new }
     ensures cells { HasChange (cells_seen trees.old) (cells_seen trees.new) db name.now after_abort }
     ensures trees { HasSameTrees trees.old trees.new }
     ensures rising { (d : ℕ) → IsRising (cells_seen trees.old d) → IsRising (cells_seen trees.new d) }
@@ -121,6 +154,7 @@ pub(crate) fn make(
     ensures kept { KeepsCells trees.old trees.new }
     ensures none { (d : ℕ) → cells_at trees.old d ≡ [] → cells_at trees.new d ≡ [] }
     ensures others { (d : ℕ) → d == db ≡ false → get nat_cmp trees.new d ≡ get nat_cmp trees.old d }
+    ensures tree { OnOk result ((tree : Kept) × IsNewTree number tree × (get nat_cmp trees.new db ≡ Some tree)) }
     ensures err { OnErr result (IsSameForest trees.old trees.new) }
     ensures waits { waits_in trees.new ≤ waits_in trees.old }
     ensures stored { AreStoredStill (stored_of trees.old) (stored_of trees.new) }

@@ -7,7 +7,7 @@
 mod forest;
 pub mod loaded_trees;
 mod loading;
-pub mod log_trees;
+pub mod logged_trees;
 mod making_ready;
 pub mod observed;
 mod placed;
@@ -18,6 +18,6 @@ pub mod trees;
 mod writing;
 
 pub use loaded_trees::LoadedTrees;
-pub use log_trees::LogTrees;
+pub use logged_trees::LogTrees;
 pub(crate) use placed::Placed;
 pub use trees::Trees;

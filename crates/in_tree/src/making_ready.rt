@@ -10,7 +10,7 @@ ghost use Rattle.record_tree.specs.declared.tree_err.TreeErr.{TreeErr as Reason}
 ghost use Rattle.in_tree.specs.Forest.{cells_seen, is_there, IsSameForest, KeepsCells};
 ghost use Rattle.in_tree.specs.Limits.{commit_sizes, end_behind, HasRoomFor};
 ghost use Rattle.in_tree.specs.Observed.{limit_in};
-ghost use Rattle.in_tree.specs.Placing.{placed_sizes, AreLoggable};
+ghost use Rattle.in_tree.specs.Placing.{placed_sizes, AreLoggable, AreMadeBy};
 ghost use Rattle.in_tree.specs.Ready.{IsReady};
 ghost use Rattle.in_tree.specs.Waits.{waits_in};
 
@@ -81,7 +81,8 @@ impl<D: Disk> LogTrees<D> {
         ensures waits { OnOk result (waits_in self.new.trees.forest ≤ waits_in self.old.trees.forest) }
         ensures room { OnOk result (has_failed self.old.log ≡ false → end_behind self.old.log sizes.now ≤ last_file → HasRoomFor self.new.log sizes.now) }
         ensures log { IsUnchanged self.old.log self.new.log }
-        ensures err { OnErr result (IsSameForest self.old.trees.forest self.new.trees.forest) }
+        ensures trees { OnOk result (AreMadeBy self.old.trees.last_node changes.now placed.now.rooms.items self.old.trees.forest self.new.trees.forest × (self.new.trees.last_node ≡ placed.now.last)) }
+        ensures err { OnErr result (IsSameForest self.old.trees.forest self.new.trees.forest × (self.new.trees.last_node ≡ self.old.trees.last_node)) }
     {
         let Ok(()) = self.log.reserve(sizes) else {
             return Err(AllocError);
@@ -125,7 +126,8 @@ impl<D: Disk> LogTrees<D> {
         ensures full { IsEndOf Reason.Full result (nat_lt last_file (end_behind self.old.log (placed_sizes changes.now placed.now.rooms.items ++ commit_sizes owed)) ≡ true) }
         ensures ended { IsEndOf Reason.IdsEnded result ((nat_lt last_file (end_behind self.old.log (placed_sizes changes.now placed.now.rooms.items ++ commit_sizes owed)) ≡ false) × (0x7fffffffffffffff < placed.now.last)) }
         ensures no_fault { IsEndOf Reason.Fault result ⊥ }
-        ensures err { OnErr result (IsSameForest self.old.trees.forest self.new.trees.forest) }
+        ensures trees { OnOk result (AreMadeBy self.old.trees.last_node changes.now placed.now.rooms.items self.old.trees.forest self.new.trees.forest × (self.new.trees.last_node ≡ placed.now.last)) }
+        ensures err { OnErr result (IsSameForest self.old.trees.forest self.new.trees.forest × (self.new.trees.last_node ≡ self.old.trees.last_node)) }
     {
         match self.check(alloc, txn, changes, placed, owed) {
             Ok(sizes) => match self.take_room(alloc, changes, placed, sizes.as_slice()) {
@@ -155,7 +157,7 @@ impl<D: Disk> LogTrees<D> {
         ensures room { OnOk result (limit_in self.old changes.now owed ≡ None) }
         ensures limited { IfErr result (λ e. IsLimit e → limit_in self.old changes.now owed ≡ Some e) }
         ensures no_fault { IsEndOf Reason.Fault result ⊥ }
-        ensures err { OnErr result (IsSameForest self.old.trees.forest self.new.trees.forest) }
+        ensures err { OnErr result (IsSameForest self.old.trees.forest self.new.trees.forest × (self.new.trees.last_node ≡ self.old.trees.last_node)) }
     {
         let fanout = self.trees.fanout;
         let last = self.trees.last_node;

@@ -7,7 +7,7 @@ ghost use Rattle.record_map.specs.Cells.{IsRising};
 ghost use Rattle.record_tree.specs.Logged.{entry_for};
 ghost use Rattle.record_tree.specs.Occupied.{AreSame};
 ghost use Rattle.in_tree.specs.Limits.{commit_sizes, limit_behind};
-ghost use Rattle.in_tree.specs.Observed.{cells_of, has_tree_of, limit_in, waits_of};
+ghost use Rattle.in_tree.specs.Observed.{cells_of, has_tree_of, last_node_of, limit_in, trees_of, waits_of};
 ghost use Rattle.in_tree.specs.Placing.{placed_sizes, AreLoggable};
 
 use crate::preparing::{place_all, take_back_all};
@@ -39,6 +39,7 @@ impl<D: Disk> LogTrees<D> {
         requires works { has_failed self.old.log ≡ false }
         ensures limit { IfOk result (λ limit. limit ≡ limit_in self.old changes.now owed) }
         ensures same { AreSame (cells_of self.old) (cells_of self.new) × ((d : ℕ) → has_tree_of self.new d ≡ has_tree_of self.old d) × (waits_of self.new ≡ waits_of self.old) × IsUnchanged self.old.log self.new.log }
+        ensures trees { ((d : ℕ) → trees_of self.new d ≡ trees_of self.old d) × (last_node_of self.new ≡ last_node_of self.old) }
     {
         let fanout = self.trees.fanout;
         let last = self.trees.last_node;

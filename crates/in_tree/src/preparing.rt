@@ -9,7 +9,9 @@ ghost use Rattle.record_tree.specs.declared.tree_err.TreeErr.{TreeErr as Reason}
 ghost use Rattle.db_tree.specs.Splits.{passes_top};
 ghost use Rattle.in_tree.specs.Forest.{Forest, cells_at, cells_seen, is_there, IsSameForest, KeepsCells, write_for};
 ghost use Rattle.in_tree.specs.Limits.{one_made, are_too_high};
-ghost use Rattle.in_tree.specs.Placing.{ArePlaced, IsPlacedNext, numbers_of};
+ghost use Rattle.db_tree.specs.declared.tree.DbTree.{DbTree as Kept};
+ghost use Rattle.tree_images.specs.TreeSteps.{IsNewTree};
+ghost use Rattle.in_tree.specs.Placing.{ArePlaced, AreFitted, AreMadeBy, IsPlacedNext, numbers_of};
 ghost use Rattle.in_tree.specs.Shapes.{shapes_of};
 ghost use Rattle.in_tree.specs.Waits.{waits_in};
 
@@ -131,6 +133,7 @@ pub(crate) fn place_all(
 ) -> Result<Placed, TreeErr>
     requires { AllByRecursion (λ c. is_there trees.old c.db ≡ true) changes.now }
     ensures placed { IfOk result (λ placed. ArePlaced fanout changes.now placed.rooms.items trees.old trees.new) }
+    ensures fitted { IfOk result (λ placed. AreFitted fanout last changes.now placed.rooms.items trees.old trees.new) }
     ensures same { AreSame (cells_seen trees.old) (cells_seen trees.new) }
     ensures last { IfOk result (λ placed. placed.last ≡ min (last + numbers_of changes.now placed.rooms.items) 0xffffffffffffffff) }
     ensures high { IsEndOf Reason.IdsEnded result (are_too_high fanout (shapes_of trees.old) changes.now ≡ true) }
@@ -164,6 +167,7 @@ fn make_one(
     requires { IfSome change.now.makes (λ d. cells_at trees.old d ≡ []) }
     ensures same { AreSame (cells_seen trees.old) (cells_seen trees.new) }
     ensures made { OnOk result ((d : ℕ) → is_there trees.new d ≡ (makes_db d change.now.makes || is_there trees.old d)) }
+    ensures tree { OnOk result (IfSome change.now.makes (λ d. (tree : Kept) × IsNewTree number tree × (get nat_cmp trees.new d ≡ Some tree))) }
     ensures stay { (d : ℕ) → makes_db d change.now.makes ≡ false → get nat_cmp trees.new d ≡ get nat_cmp trees.old d }
     ensures kept { KeepsCells trees.old trees.new }
     ensures none { (d : ℕ) → cells_at trees.old d ≡ [] → cells_at trees.new d ≡ [] }
@@ -187,6 +191,7 @@ pub(crate) fn make_all(
     requires paired { length rooms.now ≡ length changes.now }
     ensures same { AreSame (cells_seen trees.old) (cells_seen trees.new) }
     ensures made { OnOk result ((d : ℕ) → is_there trees.new d ≡ (is_made d changes.now || is_there trees.old d)) }
+    ensures trees { OnOk result (AreMadeBy last changes.now rooms.now trees.old trees.new) }
     ensures stay { (d : ℕ) → is_made d changes.now ≡ false → get nat_cmp trees.new d ≡ get nat_cmp trees.old d }
     ensures kept { KeepsCells trees.old trees.new }
     ensures waits { waits_in trees.new ≤ waits_in trees.old }

@@ -14,10 +14,14 @@ ghost use Rattle.db_tree.specs.Seen.{with_change};
 ghost use Rattle.db_tree.specs.Shapes.{shape_in};
 ghost use Rattle.db_tree.specs.NodeImages.{IsLoggable};
 ghost use Rattle.db_tree.specs.Splits.{count_waiting};
-ghost use Rattle.in_tree.specs.Forest.{cells_seen, is_there, HasSameCells, HasSameTrees, KeepsCells, HasOne, HasChange, write_for};
+ghost use Rattle.in_tree.specs.Forest.{cells_seen, is_there, HasSameCells, HasSameTrees, KeepsCells, HasOne, HasChange, MakesSteps, CommitsName, GivesUpName, write_for};
 ghost use Rattle.in_tree.specs.Limits.{change_size, commit_size, commit_sizes, HasRoomFor, GrewFitting, TriedFitting};
-ghost use Rattle.in_tree.specs.Logging.{LogsImage, TriesImage, LogsImages, TriesImages, LogsChange, TriesChange};
-ghost use Rattle.in_tree.specs.Placing.{room_sizes, placed_sizes, count_images, AreLoggable};
+ghost use Rattle.log_buffer.specs.Buffer.{end_of, file_max_of};
+ghost use Rattle.log_buffer.specs.Flip.{placed_at, pos_lsn};
+ghost use Rattle.db_tree.specs.declared.node_image.NodeImage.{NodeImage as Due};
+ghost use Rattle.in_tree.specs.Growing.{GrewForest, none_due};
+ghost use Rattle.in_tree.specs.Logging.{LogsImage, TriesImage, LogsImages, TriesImages, LogsRoom, LogsChange, TriesChange};
+ghost use Rattle.in_tree.specs.Placing.{room_sizes, placed_sizes, count_images, AreLoggable, due_of};
 ghost use Rattle.in_tree.specs.Waits.{waits_in};
 
 use crate::forest;
@@ -125,6 +129,7 @@ pub(crate) fn sizes_for(
 fn append_image<D: Disk>(log: &mut LogBuffer<D>, entry: &Entry) -> Result<Lsn, TreeErr>
     requires loggable { IsLoggable entry.now }
     requires room { (sizes : List ℕ) × HasRoomFor log.old (size_of entry.now ∷ sizes) }
+    ensures at { IfOk result (λ at. at ≡ pos_lsn (placed_at (file_max_of log.old) (end_of log.old) (size_of entry.now))) }
     ensures grew { OnOk result (GrewFitting D.observable D.history D.sync_out D.read_out D.read_of D.faults log.old log.new (entry.now ∷ [])) }
     ensures left { (sizes : List ℕ) → HasRoomFor log.old (size_of entry.now ∷ sizes) → OnOk result (HasRoomFor log.new sizes) }
     ensures tried { OnErr result (TriedFitting D.observable D.history D.sync_out D.read_out D.read_of D.faults log.old log.new (entry.now ∷ [])) }
@@ -144,7 +149,7 @@ fn log_image<D: Disk>(
 ) -> Result<(), TreeErr>
     requires loggable { IsLoggable image.entry }
     requires room { (sizes : List ℕ) × HasRoomFor log.old (size_of image.entry ∷ sizes) }
-    ensures grew { OnOk result (LogsImage D.observable D.history D.sync_out D.read_out D.read_of D.faults log.old log.new) }
+    ensures grew { OnOk result (LogsImage D.observable D.history D.sync_out D.read_out D.read_of D.faults image log.old log.new tree.old tree.new) }
     ensures left { (sizes : List ℕ) → HasRoomFor log.old (size_of image.entry ∷ sizes) → OnOk result (HasRoomFor log.new sizes) }
     ensures tried { OnErr result (TriesImage D.observable D.history D.sync_out D.read_out D.read_of D.faults log.old log.new) }
     ensures by_fault { IfErr result (λ e. e ≡ Reason.Fault) }
@@ -154,6 +159,7 @@ fn log_image<D: Disk>(
     let image = tree.finish_image(image);
     let at = append_image(log, &image.entry)?;
     tree.note_image(image.level, &image.low, at);
+    let _height = tree.levels.height();
     Ok(())
 }
 
@@ -165,7 +171,7 @@ fn log_images<D: Disk>(
 ) -> Result<(), TreeErr>
     requires loggable { AllByRecursion (λ i. IsLoggable i.entry) images.items }
     requires room { (sizes : List ℕ) × HasRoomFor log.old (map (λ i. size_of i.entry) images.items ++ sizes) }
-    ensures grew { OnOk result (LogsImages D.observable D.history D.sync_out D.read_out D.read_of D.faults (length images.items) log.old log.new) }
+    ensures grew { OnOk result (LogsImages D.observable D.history D.sync_out D.read_out D.read_of D.faults images.items log.old log.new tree.old tree.new) }
     ensures left { (sizes : List ℕ) → HasRoomFor log.old (map (λ i. size_of i.entry) images.items ++ sizes) → OnOk result (HasRoomFor log.new sizes) }
     ensures tried { OnErr result (TriesImages D.observable D.history D.sync_out D.read_out D.read_of D.faults log.old log.new) }
     ensures by_fault { IfErr result (λ e. e ≡ Reason.Fault) }
@@ -188,7 +194,7 @@ fn log_room<D: Disk>(
     requires loggable { AllByRecursion (λ i. IsLoggable i.entry) room.images.items }
     requires room { (sizes : List ℕ) × HasRoomFor log.old (room_sizes room ++ sizes) }
     requires there { is_there trees.old db ≡ true }
-    ensures grew { OnOk result (LogsImages D.observable D.history D.sync_out D.read_out D.read_of D.faults (length room.images.items) log.old log.new) }
+    ensures grew { OnOk result (LogsRoom D.observable D.history D.sync_out D.read_out D.read_of D.faults db room.images.items log.old log.new trees.old trees.new) }
     ensures left { (sizes : List ℕ) → HasRoomFor log.old (room_sizes room ++ sizes) → OnOk result (HasRoomFor log.new sizes) }
     ensures tried { OnErr result (TriesImages D.observable D.history D.sync_out D.read_out D.read_of D.faults log.old log.new) }
     ensures by_fault { IfErr result (λ e. e ≡ Reason.Fault) }
@@ -206,6 +212,7 @@ fn log_room<D: Disk>(
 fn log_one<D: Disk>(log: &mut LogBuffer<D>, txn: TxnId, change: &TreeChange) -> Result<Lsn, TreeErr>
     requires entry { IsEntry (entry_for txn change.now.db change.now.name change.now.value) }
     requires room { (sizes : List ℕ) × HasRoomFor log.old (change_size change.now ∷ sizes) }
+    ensures at { IfOk result (λ at. at ≡ pos_lsn (placed_at (file_max_of log.old) (end_of log.old) (size_of (entry_for txn change.now.db change.now.name change.now.value)))) }
     ensures grew { OnOk result (GrewFitting D.observable D.history D.sync_out D.read_out D.read_of D.faults log.old log.new (entry_for txn change.now.db change.now.name change.now.value ∷ [])) }
     ensures left { (sizes : List ℕ) → HasRoomFor log.old (change_size change.now ∷ sizes) → OnOk result (HasRoomFor log.new sizes) }
     ensures tried { OnErr result (TriedFitting D.observable D.history D.sync_out D.read_out D.read_of D.faults log.old log.new (entry_for txn change.now.db change.now.name change.now.value ∷ [])) }
@@ -229,7 +236,7 @@ fn write_entry<D: Disk>(
     requires room { (sizes : List ℕ) × HasRoomFor log.old (change_size change.now ∷ sizes) }
     requires there { HasOne trees.old change.now.db change.now.name }
     requires write { write.value ≡ write_for txn change.now }
-    ensures grew { OnOk result (GrewFitting D.observable D.history D.sync_out D.read_out D.read_of D.faults log.old log.new (entry_for txn change.now.db change.now.name change.now.value ∷ [])) }
+    ensures grew { OnOk result ((due : ℕ → List Due) → GrewForest D.observable D.history D.sync_out D.read_out D.read_of D.faults log.old log.new trees.old trees.new due due (entry_for txn change.now.db change.now.name change.now.value ∷ [])) }
     ensures left { (sizes : List ℕ) → HasRoomFor log.old (change_size change.now ∷ sizes) → OnOk result (HasRoomFor log.new sizes) }
     ensures tried { OnErr result (TriedFitting D.observable D.history D.sync_out D.read_out D.read_of D.faults log.old log.new (entry_for txn change.now.db change.now.name change.now.value ∷ [])) }
     ensures by_fault { IfErr result (λ e. e ≡ Reason.Fault) }
@@ -260,7 +267,7 @@ fn write_one<D: Disk>(
     requires room { (sizes : List ℕ) × HasRoomFor log.old (room_sizes room ++ change_size change.now ∷ sizes) }
     requires there { HasOne trees.old change.now.db change.now.name }
     requires write { write.value ≡ write_for txn change.now }
-    ensures grew { OnOk result (LogsChange D.observable D.history D.sync_out D.read_out D.read_of D.faults (length room.images.items) txn change.now log.old log.new) }
+    ensures grew { OnOk result (LogsChange D.observable D.history D.sync_out D.read_out D.read_of D.faults room.images.items txn change.now log.old log.new trees.old trees.new) }
     ensures left { (sizes : List ℕ) → HasRoomFor log.old (room_sizes room ++ change_size change.now ∷ sizes) → OnOk result (HasRoomFor log.new sizes) }
     ensures tried { OnErr result (TriesChange D.observable D.history D.sync_out D.read_out D.read_of D.faults txn change.now log.old log.new) }
     ensures by_fault { IfErr result (λ e. e ≡ Reason.Fault) }
@@ -294,7 +301,7 @@ pub(crate) fn write_each<D: Disk>(
     requires room { (owed : ℕ) × HasRoomFor log.old (placed_sizes changes.now rooms.items ++ commit_sizes owed) }
     requires there { AllByRecursion (λ c. HasOne trees.old c.db c.name) changes.now }
     requires writes { map (λ b. b.value) writes.items ≡ map (write_for txn) changes.now }
-    ensures grew { OnOk result ((entries : List Entry) × LogsChanges txn changes.now entries × GrewFitting D.observable D.history D.sync_out D.read_out D.read_of D.faults log.old log.new entries × (length entries ≡ count_images rooms.items + length changes.now)) }
+    ensures grew { OnOk result ((entries : List Entry) × LogsChanges txn changes.now entries × GrewForest D.observable D.history D.sync_out D.read_out D.read_of D.faults log.old log.new trees.old trees.new (due_of changes.now rooms.items) none_due entries × (length entries ≡ count_images rooms.items + length changes.now)) }
     ensures left { (owed : ℕ) → HasRoomFor log.old (placed_sizes changes.now rooms.items ++ commit_sizes owed) → OnOk result (HasRoomFor log.new (commit_sizes owed)) }
     ensures tried { OnErr result ((entries : List Entry) × (front : List Entry) × LogsChanges txn changes.now entries × IsFront front entries × TriedFitting D.observable D.history D.sync_out D.read_out D.read_of D.faults log.old log.new front) }
     ensures by_fault { IfErr result (λ e. e ≡ Reason.Fault) }
@@ -320,6 +327,7 @@ pub(crate) fn write_each<D: Disk>(
 // Logs a Commit, for which there is room.
 pub(crate) fn log_commit<D: Disk>(log: &mut LogBuffer<D>, txn: TxnId) -> Result<Lsn, TreeErr>
     requires { (sizes : List ℕ) × HasRoomFor log.old (commit_size ∷ sizes) }
+    ensures at { IfOk result (λ at. at ≡ pos_lsn (placed_at (file_max_of log.old) (end_of log.old) commit_size)) }
     ensures grew { OnOk result (GrewFitting D.observable D.history D.sync_out D.read_out D.read_of D.faults log.old log.new (Committed txn ∷ [])) }
     ensures left { (sizes : List ℕ) → HasRoomFor log.old (commit_size ∷ sizes) → OnOk result (HasRoomFor log.new sizes) }
     ensures tried { OnErr result (TriedFitting D.observable D.history D.sync_out D.read_out D.read_of D.faults log.old log.new (Committed txn ∷ [])) }
@@ -334,6 +342,7 @@ pub(crate) fn log_commit<D: Disk>(log: &mut LogBuffer<D>, txn: TxnId) -> Result<
 
 // Commits the changes of names, by the Commit at `at`.
 pub(crate) fn commit_each(trees: &mut BTreeMap<u32, DbTree>, names: &[TreeName], at: Lsn)
+    ensures steps { MakesSteps (CommitsName at) names.now trees.old trees.new }
     ensures cells { HasChangedAll (cells_seen trees.old) (cells_seen trees.new) names.now after_commit }
     ensures trees { HasSameTrees trees.old trees.new }
     ensures rising { (d : ℕ) → IsRising (cells_seen trees.old d) → IsRising (cells_seen trees.new d) }
@@ -346,6 +355,7 @@ pub(crate) fn commit_each(trees: &mut BTreeMap<u32, DbTree>, names: &[TreeName],
 
 // Gives the changes of names up.
 pub(crate) fn abort_each(trees: &mut BTreeMap<u32, DbTree>, names: &[TreeName])
+    ensures steps { MakesSteps GivesUpName names.now trees.old trees.new }
     ensures cells { HasChangedAll (cells_seen trees.old) (cells_seen trees.new) names.now after_abort }
     ensures trees { HasSameTrees trees.old trees.new }
     ensures rising { (d : ℕ) → IsRising (cells_seen trees.old d) → IsRising (cells_seen trees.new d) }

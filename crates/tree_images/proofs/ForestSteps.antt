@@ -61,17 +61,30 @@ writes_stay es more base d cells all x cell there = by_write cell.write (all x c
     by_write None h = h
     by_write (Some w) h = le_trans h (logged_rises base es more d x w.value.txn.0)
 
+-- the same where nothing is logged
+pub fits_here : (es : Placed) (base : ℕ) (home other : ℕ → Home) (last later d : ℕ) (tree : DbTree) (images : List NodeImage) → AgreesUpTo last home other → last ≤ later →
+    FitsDue es base home last d tree images → FitsDue es base other later d tree images
+fits_here es base home other last later d tree images agrees le fits =
+    subst (λ (l : Placed). FitsDue l base other later d tree images) (append-nil es) (fits_stay es [] base home other last later d tree images agrees le fits)
+
 -- ---- one tree changes
+
+-- trees fit with these homes
+abbrev pub FitsWith : Placed → ℕ → (ℕ → Home) → ℕ → (ℕ → Option DbTree) → (ℕ → List NodeImage) → Type 0
+FitsWith es base home last trees due = (f : ForestDue es base last trees due) × (f.home ≡ home)
 
 pub forest_step : (es more : Placed) (base last later d : ℕ) (old new : ℕ → Option DbTree) (due next_due : ℕ → List NodeImage) (other : ℕ → Home) (f : ForestDue es base last old due) →
     AgreesUpTo last f.home other → last ≤ later → ((b : ℕ) → (b ≡ d → ⊥) → new b ≡ old b) → ((b : ℕ) → (b ≡ d → ⊥) → next_due b ≡ due b) →
     ((tree : DbTree) → new d ≡ Some tree → FitsDue (es ++ more) base other later d tree (next_due d)) → ((tree : DbTree) → new d ≡ Some tree → AreLogged (es ++ more) base d tree.cells) →
-    ForestDue (es ++ more) base later new next_due
-forest_step es more base last later d old new due next_due other f agrees le others same_due here writes = record {
-  home = other;
-  fits = λ b tree there. fits_by b tree there (level_cases b d);
-  writes = λ b tree there. writes_by b tree there (level_cases b d);
-}
+    FitsWith (es ++ more) base other later new next_due
+forest_step es more base last later d old new due next_due other f agrees le others same_due here writes = (
+  record {
+    home = other;
+    fits = λ b tree there. fits_by b tree there (level_cases b d);
+    writes = λ b tree there. writes_by b tree there (level_cases b d);
+  },
+  refl,
+)
   where
     fits_by : (b : ℕ) (tree : DbTree) → new b ≡ Some tree → (b ≡ d) ⊎ (b ≡ d → ⊥) → FitsDue (es ++ more) base other later b tree (next_due b)
     fits_by b tree there (inl same) =
@@ -89,9 +102,9 @@ forest_step es more base last later d old new due next_due other f agrees le oth
 pub forest_here : (es : Placed) (base last later d : ℕ) (old new : ℕ → Option DbTree) (due next_due : ℕ → List NodeImage) (other : ℕ → Home) (f : ForestDue es base last old due) →
     AgreesUpTo last f.home other → last ≤ later → ((b : ℕ) → (b ≡ d → ⊥) → new b ≡ old b) → ((b : ℕ) → (b ≡ d → ⊥) → next_due b ≡ due b) →
     ((tree : DbTree) → new d ≡ Some tree → FitsDue es base other later d tree (next_due d)) → ((tree : DbTree) → new d ≡ Some tree → AreLogged es base d tree.cells) →
-    ForestDue es base later new next_due
+    FitsWith es base other later new next_due
 forest_here es base last later d old new due next_due other f agrees le others same_due here writes =
-    subst (λ (l : Placed). ForestDue l base later new next_due) (append-nil es)
+    subst (λ (l : Placed). FitsWith l base other later new next_due) (append-nil es)
     (forest_step es [] base last later d old new due next_due other f agrees le others same_due
     (λ tree there. subst (λ (l : Placed). FitsDue l base other later d tree (next_due d)) (sym (append-nil es)) (here tree there))
     (λ tree there. subst (λ (l : Placed). AreLogged l base d tree.cells) (sym (append-nil es)) (writes tree there)))

@@ -50,3 +50,5 @@ pub mod ForestWrites
 pub mod LatestNewest
 -- The end of a checkpoint that names the roots of trees that fit.
 pub mod ForestEnds
+-- A tree that fits its log, where a name got its slot: its images are due.
+pub mod ForestPlaces

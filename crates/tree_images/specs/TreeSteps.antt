@@ -35,6 +35,7 @@ pub record HasWritten (x : Name) (write : Box Write Global) (old new : DbTree) :
 
 -- a name's change, if it had one, was committed by the Commit at an LSN
 pub record HasCommitted (x : Name) (at : ℕ) (old new : DbTree) : Type 0 where
+  pub rising : IsRising old.cells
   pub nodes : AreSameNodes old.levels new.levels
   pub last : Option ℕ
   pub set : HasSet old.cells new.cells x (option_map (committed at last) (value_at x old.cells))

@@ -54,3 +54,7 @@ returns-in-Err-clause-same c =
     (subst (λ (rs : List SlotRoom). ArePlaced c.args.fanout (take (length rs) c.args.changes.now) rs c.args.trees.now c.place_next.new.trees) (sym c.as_slice.ensures.value)
     (places_fail c.args.fanout c.args.last c.args.trees.now c.loop-change.trees c.place_next.new.trees c.args.changes.now c.loop-change.change-index c.loop-change.placed c.place_next.new.placed c.loop-change-test.true c.loop-change.invariant
     c.in-Err.ensures.err c.in-Err.ensures.rooms)))
+
+pub returns-clause-fitted : goal.returns-clause-fitted
+returns-clause-fitted c =
+    (places_end c.args.fanout c.args.last c.args.trees.now c.loop-change.trees c.args.changes.now c.loop-change.change-index c.loop-change.placed c.loop-change-test.false c.loop-change.invariant).fitted

@@ -43,3 +43,10 @@ returns-in-Ok-clause-same g c =
     let back = (c.take_back_all.ensures c.args.self.now.trees.fanout c.args.self.now.trees.forest
     (all_back c.args.self.now.trees.fanout c.args.changes.now c.in-Ok.placed.rooms.items c.as_slice.result.now c.args.self.now.trees.forest c.place_all.new.trees c.place_all.new.trees c.as_slice.ensures.value c.in-Ok.ensures.placed (λ d. refl))) in
     (same_seen_of old c.take_back_all.new.trees back, same_trees_of old c.take_back_all.new.trees back, same_waits old c.take_back_all.new.trees back, unchanged_itself c.args.self.now.log)
+
+pub returns-in-Ok-clause-trees : goal.returns-in-Ok-clause-trees
+returns-in-Ok-clause-trees g c = (
+  (c.take_back_all.ensures c.args.self.now.trees.fanout c.args.self.now.trees.forest
+      (all_back c.args.self.now.trees.fanout c.args.changes.now c.in-Ok.placed.rooms.items c.as_slice.result.now c.args.self.now.trees.forest c.place_all.new.trees c.place_all.new.trees c.as_slice.ensures.value c.in-Ok.ensures.placed (λ d. refl))),
+  refl,
+)
