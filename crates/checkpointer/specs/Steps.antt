@@ -46,15 +46,15 @@ module _ {T : Type 0} (is_dirty : T → NodePlace → Bool) (is_since is_mark : 
   Flushes w since owed old new (Err IdsEnded) = ⊥
   Flushes w since owed old new (Err Memory) = gets old new []
 
-  -- an entry is the end of the checkpoint under way
-  abbrev pub IsEnd : Finish → UnderWay → T → Entry → Type 0
-  IsEnd f w x entry = NamesEnd is_since is_mark may_end last_node (end_of f w) (earlier_of w.start f.first) x entry
+  -- an entry is the end of the checkpoint under way, with a redo LSN
+  abbrev pub IsEnd : Finish → UnderWay → T → ℕ → Entry → Type 0
+  IsEnd f w x redo entry = NamesEnd is_since is_mark may_end last_node (end_of f w) (earlier_of w.start f.first) x redo entry
 
   -- its end was logged, where nothing is left; or so many nodes are left; or the disk failed, there is no room, or no memory
   abbrev pub Finishes : Finish → UnderWay → T → T → Result Ended TreeErr → Type 0
-  Finishes f w old new (Ok Done) = NoneLeft old w.noted.items f.since × ((entry : Entry) × IsEnd f w old entry × gets old new (entry ∷ [])) × has_room new f.owed
+  Finishes f w old new (Ok (Done redo)) = NoneLeft old w.noted.items f.since × ((entry : Entry) × IsEnd f w old redo entry × gets old new (entry ∷ [])) × has_room new f.owed
   Finishes f w old new (Ok (Left n)) = (new ≡ old) × (0 < n) × ((n ≡ count_by (is_dirty old) w.noted.items) ⊎ (count_by (is_dirty old) w.noted.items ≡ 0))
-  Finishes f w old new (Err Fault) = (entry : Entry) × (front : List Entry) × IsEnd f w old entry × IsFront front (entry ∷ []) × fails old new front
-  Finishes f w old new (Err Full) = ((entry : Entry) × IsEnd f w old entry × is_full old (entry ∷ []) f.owed) × gets old new []
+  Finishes f w old new (Err Fault) = (entry : Entry) × (front : List Entry) × ((redo : ℕ) × IsEnd f w old redo entry) × IsFront front (entry ∷ []) × fails old new front
+  Finishes f w old new (Err Full) = ((entry : Entry) × ((redo : ℕ) × IsEnd f w old redo entry) × is_full old (entry ∷ []) f.owed) × gets old new []
   Finishes f w old new (Err IdsEnded) = ⊥
   Finishes f w old new (Err Memory) = gets old new []

@@ -130,8 +130,8 @@ impl Checkpointer {
     ) -> Result<Ended, TreeErr>
         requires some { is_some self.old.under_way ≡ true }
         ensures ends { (w : Begun) → self.old.under_way ≡ Some w → Finishes T.is_dirty T.is_since T.is_mark T.may_end T.last_node T.grew T.tried T.has_room T.is_full finish.now w trees.old trees.new result }
-        ensures done { result ≡ Ok Ended.Done → (self.new.under_way ≡ None) × ((w : Begun) → self.old.under_way ≡ Some w → self.new.last ≡ w.number) }
-        ensures stays { (result ≡ Ok Ended.Done → ⊥) → (self.new.under_way ≡ self.old.under_way) × (self.new.last ≡ self.old.last) }
+        ensures done { (redo : ℕ) → result ≡ Ok (Ended.Done redo) → (self.new.under_way ≡ None) × ((w : Begun) → self.old.under_way ≡ Some w → self.new.last ≡ w.number) }
+        ensures stays { ((redo : ℕ) → result ≡ Ok (Ended.Done redo) → ⊥) → (self.new.under_way ≡ self.old.under_way) × (self.new.last ≡ self.old.last) }
         ensures cells { AreSame (T.cells trees.old) (T.cells trees.new) }
         ensures trees { (d : ℕ) → T.has_tree trees.new d ≡ T.has_tree trees.old d }
         ensures waits { T.waits trees.new ≤ T.waits trees.old }
@@ -140,13 +140,11 @@ impl Checkpointer {
             unreachable!()
         };
         let number = under_way.number;
-        match try_finish(trees, alloc, under_way, finish) {
-            Ok(Ended::Done) => {
-                self.under_way = None;
-                self.last = number;
-                Ok(Ended::Done)
-            }
-            other => other,
+        let ended = try_finish(trees, alloc, under_way, finish);
+        if let Ok(Ended::Done(_)) = ended {
+            self.under_way = None;
+            self.last = number;
         }
+        ended
     }
 }

@@ -148,7 +148,7 @@ pub(crate) fn try_finish<T: Nodes>(
     };
     let bound = earlier_of(under_way.start, finish.first);
     match trees.log_end(alloc, &end, bound, finish.owed) {
-        Ok(()) => Ok(Ended::Done),
+        Ok(redo) => Ok(Ended::Done(redo)),
         Err(error) => Err(error),
     }
 }

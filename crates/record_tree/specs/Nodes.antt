@@ -18,8 +18,7 @@ ends_at end redo last_node roots = CkptEnd end.number end.start redo (record { 0
 
 -- A checkpoint's end names the roots of trees that it may name. Its redo LSN is at or below a bound: it is that one, or one from which on a node's
 -- image lacks something; and where no image lacks what was logged before an LSN up to the bound, it is not before that one.
-pub record NamesEnd {T : Type 0} (is_since is_mark : T → ℕ → Type 0) (may_end : T → ℕ → List Root → Type 0) (last_node : T → ℕ) (end : CheckpointEnd) (bound : ℕ) (x : T) (entry : Entry) : Type 0 where
-  pub redo : ℕ
+pub record NamesEnd {T : Type 0} (is_since is_mark : T → ℕ → Type 0) (may_end : T → ℕ → List Root → Type 0) (last_node : T → ℕ) (end : CheckpointEnd) (bound : ℕ) (x : T) (redo : ℕ) (entry : Entry) : Type 0 where
   pub roots : List Root
   pub entry_is : entry ≡ ends_at end redo (last_node x) roots
   pub upto : redo ≤ bound

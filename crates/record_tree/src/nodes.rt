@@ -76,7 +76,7 @@ pub trait Nodes: Records {
         ensures numbers { IsEndOf Reason.IdsEnded result ⊥ }
         ensures same { IfErr result (λ e. IsUndone e → Self.grew self.old self.new []) };
 
-    /// Logs a checkpoint's end, with the roots of all trees. Its redo LSN is the least of `bound` and of the LSNs from which on a
+    /// Logs a checkpoint's end, with the roots of all trees, and gives its redo LSN: the least of `bound` and of the LSNs from which on a
     /// node's image lacks something. Room for so many Commits is left. An error but Fault leaves all as it was.
     fn log_end(
         &mut self,
@@ -84,15 +84,15 @@ pub trait Nodes: Records {
         end: &CheckpointEnd,
         bound: Lsn,
         owed: u32,
-    ) -> Result<(), TreeErr>
+    ) -> Result<Lsn, TreeErr>
         requires { (since : ℕ) × is_since self.old since }
         ensures cells { AreSame (Self.cells self.old) (Self.cells self.new) }
         ensures trees { (d : ℕ) → Self.has_tree self.new d ≡ Self.has_tree self.old d }
         ensures waits { Self.waits self.new ≤ Self.waits self.old }
-        ensures grew { OnOk result ((entry : Entry) × NamesEnd is_since is_mark may_end last_node end.now bound self.old entry × Self.grew self.old self.new (entry ∷ [])) }
+        ensures grew { IfOk result (λ redo. (entry : Entry) × NamesEnd is_since is_mark may_end last_node end.now bound self.old redo entry × Self.grew self.old self.new (entry ∷ [])) }
         ensures left { OnOk result (Self.has_room self.new owed) }
-        ensures tried { IsEndOf Reason.Fault result ((entry : Entry) × (front : List Entry) × NamesEnd is_since is_mark may_end last_node end.now bound self.old entry × IsFront front (entry ∷ []) × Self.tried self.old self.new front) }
-        ensures full { IsEndOf Reason.Full result ((entry : Entry) × NamesEnd is_since is_mark may_end last_node end.now bound self.old entry × is_full self.old (entry ∷ []) owed) }
+        ensures tried { IsEndOf Reason.Fault result ((entry : Entry) × (front : List Entry) × ((redo : ℕ) × NamesEnd is_since is_mark may_end last_node end.now bound self.old redo entry) × IsFront front (entry ∷ []) × Self.tried self.old self.new front) }
+        ensures full { IsEndOf Reason.Full result ((entry : Entry) × ((redo : ℕ) × NamesEnd is_since is_mark may_end last_node end.now bound self.old redo entry) × is_full self.old (entry ∷ []) owed) }
         ensures numbers { IsEndOf Reason.IdsEnded result ⊥ }
         ensures same { IfErr result (λ e. IsUndone e → Self.grew self.old self.new []) };
 }
