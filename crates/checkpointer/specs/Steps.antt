@@ -1,5 +1,5 @@
 -- What the steps of a checkpoint come to.
-use Rattle.std.specs.Prelude.{ℕ, ◌≡◌, ◌<◌, ◌⊎◌, Bool, true, false, List, [], ◌∷◌, Option, None, Some, Result, Ok, Err}
+use Rattle.std.specs.Prelude.{ℕ, ◌≡◌, ◌<◌, ◌≤◌, ◌⊎◌, Bool, true, false, List, [], ◌∷◌, Option, None, Some, Result, Ok, Err}
 use Rattle.std.specs.List.{count_by}
 use Rattle.log_entry.specs.declared.entry.Entry.{Entry}
 use Rattle.log_entry.specs.declared.root.Root.{Root}
@@ -46,9 +46,9 @@ module _ {T : Type 0} (is_dirty : T → NodePlace → Bool) (is_since is_mark : 
   Flushes w since owed old new (Err IdsEnded) = ⊥
   Flushes w since owed old new (Err Memory) = gets old new []
 
-  -- an entry is the end of the checkpoint under way, with a redo LSN
+  -- an entry is the end of the checkpoint under way, with a redo LSN that is at or above the one from which images lack something
   abbrev pub IsEnd : Finish → UnderWay → T → ℕ → Entry → Type 0
-  IsEnd f w x redo entry = NamesEnd is_since is_mark may_end last_node (end_of f w) (earlier_of w.start f.first) x redo entry
+  IsEnd f w x redo entry = NamesEnd is_since is_mark may_end last_node (end_of f w) (earlier_of w.start f.first) x redo entry × (f.since ≤ redo)
 
   -- its end was logged, where nothing is left; or so many nodes are left; or the disk failed, there is no room, or no memory
   abbrev pub Finishes : Finish → UnderWay → T → T → Result Ended TreeErr → Type 0

@@ -147,6 +147,9 @@ pub(crate) fn try_finish<T: Nodes>(
         last_db: finish.last_db,
     };
     let bound = earlier_of(under_way.start, finish.first);
+    if bound < finish.since {
+        return Err(TreeErr::Memory);
+    }
     match trees.log_end(alloc, &end, bound, finish.owed) {
         Ok(redo) => Ok(Ended::Done(redo)),
         Err(error) => Err(error),
