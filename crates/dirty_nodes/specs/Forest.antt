@@ -1,10 +1,12 @@
 -- The nodes of the trees of all databases.
 use Rattle.std.specs.Prelude.{◌≡◌, ◌⊎◌, ◌++◌, ℕ, Bool, false, List, [], ◌∷◌, Option, None, Some}
+use Rattle.std.specs.List.{AllByRecursion}
 use Rattle.std.specs.Ordering.{nat_cmp}
 use Rattle.std.specs.BTreeMap.{BTreeMap, get}
 use Rattle.log_entry.specs.declared.root.Root.{Root}
 use Rattle.record_tree.specs.declared.node_place.NodePlace.{NodePlace}
 use Rattle.db_tree.specs.declared.tree.DbTree.{DbTree}
+use Rattle.tree_nodes.specs.Levels.{AreParts}
 use Rattle.dirty_nodes.specs.Marks.{AllFrom, AllSince, HaveDirtyPlaces, IsMark, is_dirty_at}
 
 -- whether the node at a place is there and dirty
@@ -21,11 +23,11 @@ IsNotedIn forest places = (d : ℕ) (tree : DbTree) → get nat_cmp forest d ≡
 
 -- no node waits to be logged, and no image lacks what was logged before an LSN
 abbrev pub IsSince : BTreeMap ℕ DbTree → ℕ → Type 0
-IsSince forest since = (d : ℕ) (tree : DbTree) → get nat_cmp forest d ≡ Some tree → AllSince since tree.levels
+IsSince forest since = AllByRecursion (λ e. AllSince since e.1.levels) forest.entries
 
--- no image lacks what was logged before an LSN
+-- the parts of each tree fit each other, and no image lacks what was logged before an LSN
 abbrev pub IsFrom : BTreeMap ℕ DbTree → ℕ → Type 0
-IsFrom forest least = (d : ℕ) (tree : DbTree) → get nat_cmp forest d ≡ Some tree → AllFrom least tree.levels
+IsFrom forest least = (d : ℕ) (tree : DbTree) → get nat_cmp forest d ≡ Some tree → AllFrom least tree.levels × AreParts tree.levels
 
 -- the image of a node of one of the trees lacks what was logged from an LSN on
 pub record IsMarkIn (forest : BTreeMap ℕ DbTree) (lsn : ℕ) : Type 0 where

@@ -121,7 +121,7 @@ module _ {D : Type 0} (observable : Bool) (history : D → History) (sync_out re
       LogsImage observable history sync_out read_out read_of faults image old new before after
   logs_image old new before after image done at is =
       subst (λ (i : NodeImage). IsLoggable i.entry → GrewFitting observable history sync_out read_out read_of faults old new (i.entry ∷ []) → at ≡ pos_lsn (placed_at (file_max_of old) (end_of old) (size_of i.entry)) →
-          HasNoted i at before after → LogsImage observable history sync_out read_out read_of faults image old new before after) (sym is)
+      HasNoted i at before after → LogsImage observable history sync_out read_out read_of faults image old new before after) (sym is)
       (λ loggable grew at_is h. (
         (finished before.levels image).entry,
         loggable.1,

@@ -247,14 +247,25 @@ few_placed fanout (c ∷ changes) (r ∷ rooms) old new placed =
 -- one more that fits, at the end
 fitted_more : (fanout last : ℕ) (changes : List TreeChange) (rooms : List SlotRoom) (c : TreeChange) (room : SlotRoom) (old mid new : Forest) → length changes ≡ length rooms → AreFitted fanout last changes rooms old mid →
     IsFittedIn fanout (first_behind (last + numbers_of changes rooms)) c.db c.name room mid new → AreFitted fanout last (changes ++ c ∷ []) (rooms ++ room ∷ []) old new
-fitted_more fanout last [] [] c room old mid new even same p =
-    (new, record { tree = p.tree; next = p.next; was = sym (same c.db) ∙ p.was; has = λ d. p.has d ∙ ap (λ (o : Option DbTree). cond (is_eq (nat_cmp c.db d)) (Some p.next) o) (same d);
-        slot = subst (λ (n : ℕ). HasSlot fanout (first_behind n) c.db c.name room p.tree p.next) (omega arith) p.slot }, λ d. refl)
+fitted_more fanout last [] [] c room old mid new even same p = (
+  new,
+  record {
+    tree = p.tree;
+    next = p.next;
+    was = sym (same c.db) ∙ p.was;
+    has = λ d. p.has d ∙ ap (λ (o : Option DbTree). cond (is_eq (nat_cmp c.db d)) (Some p.next) o) (same d);
+    slot = subst (λ (n : ℕ). HasSlot fanout (first_behind n) c.db c.name room p.tree p.next) (omega arith) p.slot;
+  },
+  λ d. refl,
+)
 fitted_more fanout last [] (r ∷ rooms) c room old mid new even same p = absurd same
 fitted_more fanout last (e ∷ changes) [] c room old mid new even same p = absurd same
-fitted_more fanout last (e ∷ changes) (r ∷ rooms) c room old mid new even so_far p =
-    (so_far.0, so_far.1, fitted_more fanout (last + (made_by r + one_made e.makes)) changes rooms c room so_far.0 mid new (omega (arith, even)) so_far.2
-        (subst (λ (n : ℕ). IsFittedIn fanout (first_behind n) c.db c.name room mid new) (omega arith) p))
+fitted_more fanout last (e ∷ changes) (r ∷ rooms) c room old mid new even so_far p = (
+  so_far.0,
+  so_far.1,
+  fitted_more fanout (last + (made_by r + one_made e.makes)) changes rooms c room so_far.0 mid new (omega (arith, even)) so_far.2
+      (subst (λ (n : ℕ). IsFittedIn fanout (first_behind n) c.db c.name room mid new) (omega arith) p),
+)
 
 pub placed_same : (fanout : ℕ) (changes : List TreeChange) (rooms : List SlotRoom) (old mid new : Forest) → ArePlaced fanout changes rooms old mid → IsSameForest mid new → ArePlaced fanout changes rooms old new
 placed_same fanout [] [] old mid new placed same = λ d. same d ∙ placed d

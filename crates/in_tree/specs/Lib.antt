@@ -12,3 +12,4 @@ pub mod Observed
 pub mod Ready
 pub mod Carrying
 pub mod Growing
+pub mod Checkpoints

@@ -1,4 +1,4 @@
-use Rattle.dirty_nodes.proofs.Forests.{all_since_in, done_ended, done_next, each_get}
+use Rattle.dirty_nodes.proofs.Forests.{all_since_in, done_ended, done_next}
 use Rattle.dirty_nodes.proofs.Marking.{front_none}
 use Rattle.dirty_nodes.proofs.forest.early_in.Goals as goal
 
@@ -9,4 +9,4 @@ loop-db-preserved c = λ none.
 
 pub returns : goal.returns
 returns c = λ none.
-    each_get (all_since_in c.args.since) c.args.forest.now (done_ended (all_since_in c.args.since) c.args.forest.now.entries c.loop-db.db-iterator c.in-None.ensures.steps.0 (c.loop-db.invariant none))
+    done_ended (all_since_in c.args.since) c.args.forest.now.entries c.loop-db.db-iterator c.in-None.ensures.steps.0 (c.loop-db.invariant none)

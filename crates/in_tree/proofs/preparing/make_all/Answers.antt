@@ -15,13 +15,14 @@ loop-i-preserved c =
     let i = c.loop-i.i in
     let changes = c.args.changes.now in
     let one = c.make_one.ensures in (
-    makes_step c.args.trees.now c.loop-i.trees c.make_one.new.trees changes (drop (i + 1) changes) c.index-changes-i.result
-    (makes_turn c.args.trees.now c.loop-i.trees changes i c.index-changes-i.result c.loop-i-test.true c.index-changes-i.is c.loop-i.invariant.0)
-    (record { same = one.same; stay = one.stay; none = one.none; kept = one.kept; waits = one.waits })
-    c.in_ok-make_one.ensures.made,
-    roots_step c.args.last c.args.trees.now c.loop-i.trees c.make_one.new.trees changes (drop (i + 1) changes) c.index-changes-i.result c.args.rooms.now (drop (i + 1) c.args.rooms.now) c.index-rooms-i.result c.loop-i.last _
-    (roots_turn c.args.last c.args.trees.now c.loop-i.trees changes c.args.rooms.now i c.index-changes-i.result c.index-rooms-i.result c.loop-i.last c.loop-i-test.true c.index-changes-i.is (within_rooms c.requires.paired c.loop-i-test.true) c.index-rooms-i.is c.loop-i.invariant.1)
-    (c.last_behind-last.ensures ∙ ap (λ (n : ℕ). min (c.loop-i.last + (n + one_made c.index-changes-i.result.makes)) 0xffffffffffffffff) c.made.ensures) c.in_ok-make_one.ensures.tree one.stay)
+      makes_step c.args.trees.now c.loop-i.trees c.make_one.new.trees changes (drop (i + 1) changes) c.index-changes-i.result
+          (makes_turn c.args.trees.now c.loop-i.trees changes i c.index-changes-i.result c.loop-i-test.true c.index-changes-i.is c.loop-i.invariant.0)
+          (record { same = one.same; stay = one.stay; none = one.none; kept = one.kept; waits = one.waits })
+          c.in_ok-make_one.ensures.made,
+      roots_step c.args.last c.args.trees.now c.loop-i.trees c.make_one.new.trees changes (drop (i + 1) changes) c.index-changes-i.result c.args.rooms.now (drop (i + 1) c.args.rooms.now) c.index-rooms-i.result c.loop-i.last _
+          (roots_turn c.args.last c.args.trees.now c.loop-i.trees changes c.args.rooms.now i c.index-changes-i.result c.index-rooms-i.result c.loop-i.last c.loop-i-test.true c.index-changes-i.is (within_rooms c.requires.paired c.loop-i-test.true) c.index-rooms-i.is c.loop-i.invariant.1)
+          (c.last_behind-last.ensures ∙ ap (λ (n : ℕ). min (c.loop-i.last + (n + one_made c.index-changes-i.result.makes)) 0xffffffffffffffff) c.made.ensures) c.in_ok-make_one.ensures.tree one.stay,
+    )
 
 pub returns-clause-made : goal.returns-clause-made
 returns-clause-made c = makes_end c.args.trees.now c.loop-i.trees c.args.changes.now c.loop-i.i c.loop-i-test.false c.loop-i.invariant.0

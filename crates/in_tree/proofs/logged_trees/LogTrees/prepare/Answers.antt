@@ -59,8 +59,11 @@ returns-in-Ok-make_ready-clause-room g c =
     c.requires.works c.in-Ok.ensures.placed c.in-Ok.ensures.last c.in-Ok-make_ready.ensures.files c.in-Ok-make_ready.ensures.ids
 
 pub returns-in-Err-make_ready-clause-err : goal.returns-in-Err-make_ready-clause-err
-returns-in-Err-make_ready-clause-err g c = (c.take_back_all.ensures c.args.self.now.trees.fanout c.args.self.now.trees.forest
-    (all_back c.args.self.now.trees.fanout c.args.changes.now c.in-Ok.placed.rooms.items c.as_slice.result.now c.args.self.now.trees.forest c.place_all.new.trees c.make_ready.new.self.trees.forest c.as_slice.ensures.value c.in-Ok.ensures.placed c.in-Err-make_ready.ensures.err.0), c.in-Err-make_ready.ensures.err.1)
+returns-in-Err-make_ready-clause-err g c = (
+  c.take_back_all.ensures c.args.self.now.trees.fanout c.args.self.now.trees.forest
+      (all_back c.args.self.now.trees.fanout c.args.changes.now c.in-Ok.placed.rooms.items c.as_slice.result.now c.args.self.now.trees.forest c.place_all.new.trees c.make_ready.new.self.trees.forest c.as_slice.ensures.value c.in-Ok.ensures.placed c.in-Err-make_ready.ensures.err.0),
+  c.in-Err-make_ready.ensures.err.1,
+)
 
 pub returns-in-Err-make_ready-clause-same : goal.returns-in-Err-make_ready-clause-same
 returns-in-Err-make_ready-clause-same g c = same_seen_of c.args.self.now.trees.forest c.take_back_all.new.trees (c.take_back_all.ensures c.args.self.now.trees.fanout c.args.self.now.trees.forest
