@@ -159,7 +159,7 @@ tree_may_end tree since redo parts all from = record {
 }
 
 module _ {D : Type 0} where
-  end_names : (x : LogTrees D) (end : CheckpointEnd) (bound redo since : ℕ) (entry : Entry) → IsSince x.trees.forest since → IsEndEntry x.log x.trees end bound redo entry →
+  pub end_names : (x : LogTrees D) (end : CheckpointEnd) (bound redo since : ℕ) (entry : Entry) → IsSince x.trees.forest since → IsEndEntry x.log x.trees end bound redo entry →
       NamesEnd (λ (y : LogTrees D) n. IsSince y.trees.forest n) (λ (y : LogTrees D) n. IsMarkIn y.trees.forest n) (λ (y : LogTrees D) n roots. MayEndTrees y.log y.trees.forest n roots) (λ (y : LogTrees D). y.trees.last_node) end bound x redo entry
   end_names x end bound redo since entry all e = record {
     roots = e.roots;
@@ -209,7 +209,7 @@ module _ {D : Type 0} (observable : Bool) (history : D → History) (sync_out re
         fitting = fitting_then observable history sync_out read_out read_of faults old mid new [] (e ∷ []) kept grew;
         fits = carries_then observable history sync_out read_out read_of faults old mid [] (e ∷ []) Fits Fits Fits kept (λ log base has begun f. f)
             (λ log base has begun f. (let a = is_appended observable history sync_out read_out read_of faults mid new e log base at grew at_is has begun in
-                subst (λ (es : List Placed). Fits es base) (sym a.is) (forest_stays (placed log) ((at, e) ∷ []) base before.last_node before.last_node (trees_at before.forest) (trees_at before.forest) none_due (le_refl before.last_node) (λ d. refl) f)));
+            subst (λ (es : List Placed). Fits es base) (sym a.is) (forest_stays (placed log) ((at, e) ∷ []) base before.last_node before.last_node (trees_at before.forest) (trees_at before.forest) none_due (le_refl before.last_node) (λ d. refl) f)));
       }
 
   -- ---- an image of a node by itself
@@ -240,7 +240,7 @@ module _ {D : Type 0} (observable : Bool) (history : D → History) (sync_out re
       (e : Entry) × IsImage e × TreesGrew observable history sync_out read_out read_of faults old new before.last_node after.last_node (trees_at before.forest) (trees_at forest) (e ∷ [])
   alone_grows old mid new place image before after forest same alone trees_same logs =
       subst (λ (t : Trees). LogsRoom observable history sync_out read_out read_of faults place.db (image ∷ []) mid new t.forest forest →
-          (e : Entry) × IsImage e × TreesGrew observable history sync_out read_out read_of faults old new before.last_node t.last_node (trees_at before.forest) (trees_at forest) (e ∷ [])) (sym trees_same) by_logs logs
+      (e : Entry) × IsImage e × TreesGrew observable history sync_out read_out read_of faults old new before.last_node t.last_node (trees_at before.forest) (trees_at forest) (e ∷ [])) (sym trees_same) by_logs logs
     where
       kept : GrewFitting observable history sync_out read_out read_of faults old mid []
       kept = fitting_unchanged observable history sync_out read_out read_of faults old mid same
@@ -276,7 +276,7 @@ module _ {D : Type 0} (observable : Bool) (history : D → History) (sync_out re
       by_logs l =
           let one = one_of l.0 l.2 in
           let grew : GrewForest observable history sync_out read_out read_of faults mid new before.forest forest due none_due (one.0 ∷ []) =
-              subst (GrewForest observable history sync_out read_out read_of faults mid new before.forest forest due none_due) one.1 (l.3 none_due) in (
+          subst (GrewForest observable history sync_out read_out read_of faults mid new before.forest forest due none_due) one.1 (l.3 none_due) in (
             one.0,
             (subst AreImages one.1 l.1).0,
             one_grows one.0 grew,

@@ -28,5 +28,4 @@ pub mod DuePlaces
 pub mod DueReady
 -- What calls on the trees of an environment do to trees that fit their log.
 pub mod TreesGrown
-
 pub mod Checkpoints

@@ -1,6 +1,9 @@
 // The nodes of the trees of an environment over its log.
-ghost use Rattle.std.specs.Prelude.{◌≡◌, ◌<◌, ◌∷◌, [], ℕ, List, true, IfOk, IfSome};
+ghost use Rattle.std.specs.Prelude.{◌≡◌, ◌<◌, ◌∷◌, [], ℕ, List, true, None, IfOk, IfSome};
+ghost use Rattle.std.specs.List.{AllByRecursion};
 ghost use Rattle.log_entry.specs.Body.{IsEntry};
+ghost use Rattle.log_entry.specs.Items.{AreRising, IsRoot, root_before};
+ghost use Rattle.log_entry.specs.declared.entry.Entry.TheVariants.{CkptEnd};
 ghost use Rattle.record_tree.specs.declared.checkpoint_end.CheckpointEnd.{CheckpointEnd as End};
 ghost use Rattle.record_tree.specs.Nodes.{ends_at};
 ghost use Rattle.in_tree.specs.Checkpoints.{IsEndEntry};
@@ -11,12 +14,57 @@ use dirty_nodes::{early_in, is_dirty_in, least_mark_in, noted_in, roots_in};
 use je_disk::Disk;
 use je_lsn::Lsn;
 use je_order::{List, TxnId};
-use log_entry::{Entry, EntryRef, ref_size};
+use log_entry::{Entry, EntryRef, Root, ref_size};
 use record_tree::{CheckpointEnd, NodePlace, Nodes, TreeErr};
 use std::alloc::{AllocError, Global};
 
 // The most roots that a checkpoint's end names.
 const MOST_ROOTS: usize = 65535;
+
+// A root's numbers are within their widths.
+fn see_root(root: &Root)
+    ensures { IsRoot root.now }
+{
+    let _db = root.db;
+    let _image = root.image.as_u64();
+}
+
+// The numbers of each root are within their widths.
+fn see_roots(roots: &[Root])
+    ensures { AllByRecursion IsRoot roots.now }
+{
+    for root in roots {
+        see_root(root);
+    }
+}
+
+// The entry of a checkpoint's end.
+fn entry_of(
+    number: u64,
+    start: Lsn,
+    redo: Lsn,
+    last_txn: u64,
+    last_node: u64,
+    last_db: u32,
+    roots: Vec<Root>,
+) -> Entry
+    requires { AreRising IsRoot root_before 65535 roots.items }
+    ensures entry { result ≡ CkptEnd number start redo (record { 0 = last_txn }) last_node last_db None roots.items }
+    ensures is_entry { IsEntry result }
+{
+    let _start = start.as_u64();
+    let _redo = redo.as_u64();
+    Entry::CkptEnd {
+        number,
+        start,
+        redo,
+        last_txn: TxnId(last_txn),
+        last_node,
+        last_db,
+        summary: None,
+        roots: List::from_vec(roots),
+    }
+}
 
 impl<D: Disk> LogTrees<D> {
     // The end of a checkpoint, with a redo LSN at or below `bound`.
@@ -37,16 +85,17 @@ impl<D: Disk> LogTrees<D> {
             drop(roots);
             return Err(AllocError);
         }
-        let entry = Entry::CkptEnd {
-            number: end.number,
-            start: end.start,
+        see_roots(roots.as_slice());
+        let last_node = self.trees.last_node;
+        let entry = entry_of(
+            end.number,
+            end.start,
             redo,
-            last_txn: TxnId(end.last_txn),
-            last_node: self.trees.last_node,
-            last_db: end.last_db,
-            summary: None,
-            roots: List::from_vec(roots),
-        };
+            end.last_txn,
+            last_node,
+            end.last_db,
+            roots,
+        );
         Ok((redo, entry))
     }
 }
@@ -110,9 +159,10 @@ impl<D: Disk> Nodes for LogTrees<D> {
         bound: Lsn,
         owed: u32,
     ) -> Result<Lsn, TreeErr> {
-        let Ok((redo, entry)) = self.end_entry(alloc, end, bound) else {
+        let Ok(made) = self.end_entry(alloc, end, bound) else {
             return Err(TreeErr::Memory);
         };
+        let (redo, entry) = made;
         match self.log_plain(alloc, &entry, owed) {
             Ok(_) => {
                 drop(entry);

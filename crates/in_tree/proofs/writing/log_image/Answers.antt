@@ -20,6 +20,6 @@ returns-clause-clean g c = λ there.
     subst (λ (k : ℕ). IsClean c.note_image.new.self.levels k c.args.image.low) level
     (subst (λ (x : Name). IsClean c.note_image.new.self.levels c.finish_image-image.result.level x) low
     (let here = subst (λ (x : Name). IsSome (value_at x (row_of c.args.tree.now.levels c.finish_image-image.result.level))) (sym low)
-        (subst (λ (k : ℕ). IsSome (value_at c.args.image.low (row_of c.args.tree.now.levels k))) (sym level) there) in
+    (subst (λ (k : ℕ). IsSome (value_at c.args.image.low (row_of c.args.tree.now.levels k))) (sym level) there) in
     noted_clean c.args.tree.now.levels c.note_image.new.self.levels c.finish_image-image.result.level c.finish_image-image.result.low c.in_ok-at.at here (c.note_image.ensures.noted here)
     (λ less n is. c.note_image.ensures.cleared n less is)))
