@@ -68,12 +68,12 @@ rise_behind at (e ∷ entries) =
 
 module _ {D : Type 0} (observable : Bool) (history : D → History) where
   -- the LSNs of entries that the log has room for rise behind it
-  rises : (buffer : LogBuffer D) (log : Log) (rows : Rows) (last_txn last_db : ℕ) (is_active : Flags) (own : Owns) (entries : List Entry) (h : HasGiven observable history buffer log rows last_txn last_db is_active own) →
+  pub rises : (buffer : LogBuffer D) (log : Log) (rows : Rows) (last_txn last_db : ℕ) (is_active : Flags) (own : Owns) (entries : List Entry) (h : HasGiven observable history buffer log rows last_txn last_db is_active own) →
       IsLog (longer buffer entries log) → AreAppendedBehind (file_max_of buffer) (end_of buffer) entries h.gives.next
   rises buffer log rows last_txn last_db is_active own entries h long =
       appended_rise log (end_of buffer) (last_of buffer) (file_max_of buffer) entries h.gives.next h.has.is_log h.has.ends long h.gives.below
 
-  longer_placed : (buffer : LogBuffer D) (log : Log) (entries : List Entry) → HasLog observable (now (history (disk_of buffer))) buffer log →
+  pub longer_placed : (buffer : LogBuffer D) (log : Log) (entries : List Entry) → HasLog observable (now (history (disk_of buffer))) buffer log →
       placed (longer buffer entries log) ≡ placed log ++ placed_by (file_max_of buffer) (end_of buffer) entries
   longer_placed buffer log entries has = appended_are_placed log (end_of buffer) (last_of buffer) (file_max_of buffer) entries has.is_log has.ends
 
