@@ -54,6 +54,7 @@ use Rattle.in_tree.specs.Limits.{GrewFitting, TriedFitting}
 use Rattle.in_tree.specs.Logging.{LogsRoom, TriesImage}
 use Rattle.in_tree.specs.Placing.{due_one}
 use Rattle.in_tree.proofs.Appending.{is_appended}
+use Rattle.in_tree.proofs.DueLogging.{some_entry}
 use Rattle.in_tree.specs.Forest.{Forest}
 
 -- ---- dirty nodes
@@ -210,6 +211,7 @@ module _ {D : Type 0} (observable : Bool) (history : D → History) (sync_out re
         fits = carries_then observable history sync_out read_out read_of faults old mid [] (e ∷ []) Fits Fits Fits kept (λ log base has begun f. f)
             (λ log base has begun f. (let a = is_appended observable history sync_out read_out read_of faults mid new e log base at grew at_is has begun in
             subst (λ (es : List Placed). Fits es base) (sym a.is) (forest_stays (placed log) ((at, e) ∷ []) base before.last_node before.last_node (trees_at before.forest) (trees_at before.forest) none_due (le_refl before.last_node) (λ d. refl) f)));
+        still = λ none. absurd (some_entry e none);
       }
 
   -- ---- an image of a node by itself
@@ -269,6 +271,7 @@ module _ {D : Type 0} (observable : Bool) (history : D → History) (sync_out re
         fitting = fitting_then observable history sync_out read_out read_of faults old mid new [] (e ∷ []) kept grew.fitting;
         fits = carries_then observable history sync_out read_out read_of faults old mid [] (e ∷ []) Fits (λ es base. ForestDue es base before.last_node (trees_at before.forest) due) After kept (λ log base has begun f. owes (placed log) base f)
             (grew.fits before.last_node);
+        still = λ none. absurd (some_entry e none);
       }
 
       by_logs : LogsRoom observable history sync_out read_out read_of faults place.db (image ∷ []) mid new before.forest forest →
