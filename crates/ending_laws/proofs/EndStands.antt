@@ -1,26 +1,21 @@
 -- The end of a checkpoint may stand behind a log that the trees fit.
-use Rattle.std.proofs.Common.{ℕ, ◌≡◌, ◌≤◌, ◌<◌, ◌-◌, Bool, true, List, Option, refl, arith}
-use Rattle.std.specs.List.{AllByRecursion}
+use Rattle.std.proofs.Common.{ℕ, ◌≤◌, ◌<◌, ◌-◌, Bool, List, Option, refl, arith}
 use Rattle.std.proofs.Math.Nat.{le_trans}
 use Rattle.je_disk.specs.Moments.{History}
 use Rattle.je_order.proofs.Lists.{all_weaker}
 use Rattle.je_order.specs.declared.name.Name.{Name}
 use Rattle.log_entry.specs.Encoding.{size_of}
-use Rattle.log_file.specs.Log.{Log}
 use Rattle.log_file.proofs.PlacedLaws.{placed_are_in_order}
-use Rattle.log_buffer.specs.declared.buffer.LogBuffer.{LogBuffer}
 use Rattle.log_buffer.specs.Buffer.{end_of, file_max_of, last_of}
 use Rattle.log_buffer.specs.Flip.{placed_at, pos_lsn}
-use Rattle.log_replay.specs.Rows.{Rows, data_at}
+use Rattle.log_replay.specs.Rows.{data_at}
 use Rattle.log_trees.specs.Placed.{Placed, placed}
 use Rattle.log_trees.specs.Changes.{LoggedChange}
 use Rattle.log_meaning.specs.Stands.{Stands}
 use Rattle.crash_recovery.proofs.RisingLsns.{behind_end, logs_lie_below}
 use Rattle.tree_images.proofs.ForestEnds.{forests_may_end}
-use Rattle.txn_log.specs.Buffers.{HasGiven}
 use Rattle.txn_log.specs.Checkpoints.{end_entry}
-use Rattle.txn_log.specs.Gives.{GivesRecordsWith}
-use Rattle.txn_log.specs.Own.{OwnChange, is_live}
+use Rattle.txn_log.specs.Own.{is_live}
 use Rattle.txn_log.proofs.RedoLsns.{redo_is_needed}
 use Rattle.ending_laws.specs.Ends.{EndsMayStand}
 
