@@ -1,5 +1,5 @@
 -- The trees of all databases, one after another.
-use Rattle.std.proofs.Common.{◌≡◌, ◌≤◌, ◌<◌, Ordering, Less, Equal, Greater, ◌⊎◌, inl, inr, ◌++◌, ℕ, Bool, true, false, cond, List, [], ◌∷◌, Option, None, Some, append_assoc, arith, is_eq, refl, sym, ap, ap₂, subst, ◌∙◌}
+use Rattle.std.proofs.Common.{◌≡◌, ◌≤◌, ◌<◌, Ordering, Less, Equal, Greater, inl, inr, ◌++◌, ℕ, Bool, true, false, cond, List, [], ◌∷◌, Option, None, Some, append_assoc, arith, is_eq, refl, sym, ap, ap₂, subst, ◌∙◌}
 use Rattle.std.specs.List.{AllByRecursion}
 use Rattle.std.specs.Ordering.{nat_cmp}
 use Rattle.std.specs.BTreeMap.{BTreeMap, get, is_at}
@@ -13,7 +13,7 @@ use Rattle.record_tree.specs.declared.node_place.NodePlace.{NodePlace}
 use Rattle.db_tree.specs.declared.tree.DbTree.{DbTree}
 use Rattle.tree_nodes.specs.Levels.{AreParts}
 use Rattle.dirty_nodes.specs.Marks.{AllFrom, AllSince, HaveDirtyPlaces, IsInFront, IsMarkOr}
-use Rattle.dirty_nodes.specs.Forest.{IsMarkIn, IsMarkOrIn}
+use Rattle.dirty_nodes.specs.Forest.{IsMarkOrIn}
 use Rattle.dirty_nodes.proofs.Marking.{marked_less, marked_more}
 
 abbrev Entries : Type 0

@@ -1,6 +1,6 @@
 -- The nodes of a level, listed by the slots that they make.
-use Rattle.std.proofs.Common.{◌≡◌, ◌<◌, ◌≤◌, ◌+◌, nat_le, ◌⊎◌, inl, inr, ◌++◌, ◌&&◌, not, ℕ, Bool, true, false, cond, List, [], ◌∷◌, Option, None, Some, IsSome, Result, Ok, Err, OnOk, map, length, is_eq, refl, sym, ap, subst, ◌∙◌, arith}
-use Rattle.std.specs.List.{AllByRecursion, flat_map}
+use Rattle.std.proofs.Common.{◌≡◌, ◌<◌, ◌≤◌, ◌+◌, nat_le, ◌⊎◌, inl, inr, ◌++◌, ◌&&◌, not, ℕ, Bool, true, false, List, [], ◌∷◌, Option, None, Some, IsSome, Result, Ok, Err, OnOk, map, length, is_eq, refl, sym, ap, subst, ◌∙◌, arith}
+use Rattle.std.specs.List.{flat_map}
 use Rattle.std.specs.declared.alloc.AllocError.{AllocError}
 use Rattle.std.proofs.lemmas.Bool.{cond-true, cond-false, leb-true, leb-false}
 use Rattle.je_order.specs.Edges.{is_between}
@@ -9,14 +9,14 @@ use Rattle.je_order.specs.Order.{name_cmp}
 use Rattle.je_order.specs.declared.name.Name.{Name}
 use Rattle.node_core.specs.declared.slot.Slot.{Slot}
 use Rattle.record_map.specs.Cells.{value_at, between_edges}
-use Rattle.record_map.proofs.NameLaws.{same_or_other, name_same}
+use Rattle.record_map.proofs.NameLaws.{same_or_other}
 use Rattle.tree_nodes.specs.declared.node.Node.{Node}
 use Rattle.tree_nodes.proofs.LevelLaws.{is_level}
 use Rattle.tree_nodes.specs.Nodes.{NodeRow, least}
 use Rattle.tree_nodes.specs.Levels.{row_of, slot_of}
 use Rattle.db_tree.proofs.Order.{least_up}
 use Rattle.dirty_nodes.specs.declared.tree_node.TreeNode.{TreeNode}
-use Rattle.dirty_nodes.specs.Walks.{AreAllNodes, AreNodesOf, HasAllOf, IsNodeOf, Passes, PassesAt, found, found_at}
+use Rattle.dirty_nodes.specs.Walks.{AreAllNodes, AreNodesOf, HasAllOf, Passes, PassesAt, found, found_at}
 
 abbrev founds : ℕ → NodeRow → List Slot → List TreeNode
 founds level row slots = flat_map (λ slot. found_at level row slot.name) slots

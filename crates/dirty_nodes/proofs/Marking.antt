@@ -1,14 +1,11 @@
 -- What is said of each node that was listed.
-use Rattle.std.proofs.Common.{◌≡◌, ◌≤◌, ◌<◌, ◌+◌, ◌==◌, ◌||◌, ◌&&◌, ◌++◌, ◌⊎◌, inl, inr, Option, None, Some, not, ℕ, take, drop, get_or, length, append_assoc, arith, Bool, true, false, cond, List, [], ◌∷◌, Result, Ok, Err, OnOk, is_eq, refl, sym, ap, ap₂, subst, ◌∙◌}
+use Rattle.std.proofs.Common.{◌≡◌, ◌≤◌, ◌<◌, ◌+◌, ◌||◌, ◌&&◌, ◌++◌, ◌⊎◌, inl, inr, Option, None, Some, not, ℕ, take, drop, get_or, length, append_assoc, arith, Bool, true, false, List, [], ◌∷◌, Result, Ok, Err, OnOk, is_eq, refl, sym, ap, ap₂, subst, ◌∙◌}
 use Rattle.std.specs.List.{AllByRecursion, list_any}
 use Rattle.std.specs.declared.alloc.AllocError.{AllocError}
 use Rattle.std.proofs.lemmas.Bool.{true≢false, eq-eqb, ltb-false, le-ltb}
 use Rattle.std.proofs.lemmas.List.{take_more, take_all, take-append-drop}
 use Rattle.je_order.proofs.Lists.{all_push, all_weaker}
 use Rattle.std.proofs.lemmas.List.Folds.{list_any-append}
-use Rattle.je_order.specs.Order.{name_cmp}
-use Rattle.je_order.specs.declared.name.Name.{Name}
-use Rattle.record_map.specs.Cells.{value_at}
 use Rattle.record_map.proofs.NameLaws.{name_same}
 use Rattle.record_tree.specs.Nodes.{is_place}
 use Rattle.record_tree.specs.declared.node_place.NodePlace.{NodePlace}

@@ -1,5 +1,5 @@
 -- Which nodes are dirty, and from which LSN on their images lack something.
-use Rattle.std.specs.Prelude.{◌≡◌, ◌≤◌, ◌==◌, ◌||◌, ◌&&◌, ◌⊎◌, ◌++◌, ℕ, nat_lt, Bool, true, false, List, Option, None, Some, is_some, not}
+use Rattle.std.specs.Prelude.{◌≡◌, ◌==◌, ◌||◌, ◌&&◌, ◌⊎◌, ◌++◌, ℕ, nat_lt, Bool, true, false, List, Option, None, Some, is_some, not}
 use Rattle.std.specs.List.{list_any}
 use Rattle.je_order.specs.declared.name.Name.{Name}
 use Rattle.record_map.specs.Cells.{value_at}

@@ -1,4 +1,4 @@
-use Rattle.dirty_nodes.proofs.Forests.{dirty_more, done_all, done_ended, done_next, each_get, has_dirty_places}
+use Rattle.dirty_nodes.proofs.Forests.{dirty_more, done_ended, done_next, each_get, has_dirty_places}
 use Rattle.dirty_nodes.proofs.forest.noted_in.Goals as goal
 
 pub loop-db-preserved : goal.loop-db-preserved

@@ -1,5 +1,4 @@
-use Rattle.std.proofs.Common.{◌≡◌, false}
-use Rattle.dirty_nodes.specs.Marks.{is_before, place_of}
+use Rattle.dirty_nodes.specs.Marks.{place_of}
 use Rattle.dirty_nodes.proofs.Marking.{pushed_none, pushed_on}
 use Rattle.dirty_nodes.proofs.places.push_if_before.Goals as goal
 

@@ -1,4 +1,4 @@
-use Rattle.std.proofs.Common.{◌<◌, sym, subst, arith}
+use Rattle.std.proofs.Common.{sym, subst, arith}
 use Rattle.dirty_nodes.specs.Walks.{AreNodesOf}
 use Rattle.dirty_nodes.proofs.Listing.{upto_all, upto_next, upto_none}
 use Rattle.dirty_nodes.proofs.walking.all_nodes.Goals as goal

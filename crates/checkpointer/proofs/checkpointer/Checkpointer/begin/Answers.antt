@@ -1,4 +1,4 @@
-use Rattle.std.proofs.Common.{◌≡◌, ◌∙◌, sym}
+use Rattle.std.proofs.Common.{◌∙◌, sym}
 use Rattle.std.proofs.lemmas.List.Sorted.{list_any-IsPermutation}
 use Rattle.record_tree.specs.Nodes.{is_place}
 use Rattle.checkpointer.proofs.checkpointer.Checkpointer.begin.Goals as goal
