@@ -1,5 +1,5 @@
 -- What a call on the catalog comes to is what the model says of it.
-use Rattle.std.proofs.Common.{◌≡◌, ◌≢◌, ℕ, ◌+◌, ◌-◌, ◌<◌, ◌≤◌, ◌^◌, List, [], ◌∷◌, ◌++◌, Bool, true, false, cond, not, ◌&&◌, ◌==◌, nat_le, nat_lt, ◌||◌, Option, None, Some, map, filter, length, sum_by, option_map, is_some, refl, ap, ap₂, sym, ◌∙◌, subst, ⊎_elim, ◌⊎◌, arith, length-append, Ordering, Less, Equal, Greater, is_eq, is_lt, is_gt, Result, IfOk}
+use Rattle.std.proofs.Common.{◌≡◌, ◌≢◌, ℕ, ◌+◌, ◌-◌, ◌<◌, ◌≤◌, ◌^◌, List, [], ◌∷◌, ◌++◌, Bool, true, false, cond, not, ◌&&◌, ◌==◌, nat_le, nat_lt, ◌||◌, Option, None, Some, map, filter, length, sum_by, option_map, is_some, refl, ap, ap₂, sym, ◌∙◌, subst, ⊎_elim, ◌⊎◌, inl, arith, length-append, Ordering, Less, Equal, Greater, is_eq, is_lt, is_gt, Result, IfOk}
 use Rattle.std.specs.List.{AllByRecursion, list_all}
 use Rattle.std.specs.Int.{w32, to_be_bytes}
 use Rattle.std.proofs.lemmas.Bool.{cases_Bool, and_parts, true≢false, false≢true, eqb-true, eqb-false, leb-true, leb-false, lt-ltb}
@@ -35,8 +35,8 @@ use Rattle.store_model.specs.Store.{database_of, changed, with_pairs, with_name,
 use Rattle.store_model.specs.Evaluation.{Outcome, answers, changes_by, evaluation, evaluation_in, plain_name}
 use Rattle.store_model.specs.Refusals.{made_by, or_refusal, creation_refusal, access_refusal, taken_refusal}
 use Rattle.je_answers.specs.Alone.{Alone}
-use Rattle.log_replay.specs.Rows.{Row, Rows, RowChange, catalog_number, is_catalog_row, is_environment, IsRising, pair_of, database_in, store_of, numbers_of}
-use Rattle.log_replay.specs.Logging.{record_named, number_named, kind_named, catalog_row_change, all_row_changes}
+use Rattle.log_replay.specs.Rows.{Row, Rows, RowChange, data_at, catalog_number, is_catalog_row, is_environment, IsRising, pair_of, database_in, store_of, numbers_of}
+use Rattle.log_replay.specs.Logging.{record_in, record_named, number_named, kind_named, catalog_row_change, all_row_changes}
 use Rattle.log_replay.specs.Kept.{MayBeLogged}
 use Rattle.log_replay.proofs.ListLaws.{filter-map, found, none_found}
 use Rattle.log_replay.proofs.RowLaws.{name_cmp-plain}
@@ -48,7 +48,7 @@ use Rattle.txn_core.specs.declared.planned.Planned.TheVariants.{Answered, Logs}
 use Rattle.txn_core.specs.declared.planned_changes.PlannedChanges.{PlannedChanges}
 use Rattle.record_tree.specs.declared.tree_change.TreeChange.{TreeChange}
 use Rattle.txn_core.specs.Totals.{totals_of}
-use Rattle.txn_core.specs.Planning.{outcome_alone, row_by, CanPlan, HasModel, IsPlannedLog, IsPlanned}
+use Rattle.txn_core.specs.Planning.{outcome_alone, row_by, CanPlan, HasModel, HaveFewNew, IsPlannedLog, IsPlanned}
 use Rattle.txn_core.specs.Plans.{catalog_planned, totals_by, IsNamed, number_made, LogsCatalog, IsCatalogPlan}
 use Rattle.txn_core.proofs.ViewLaws.{one_found}
 use Rattle.txn_core.proofs.PlanParts.{sound_plan}
@@ -445,6 +445,24 @@ outcome_known : (known : Known) (p : Alone) (session : ℕ) (call : Call) → Ca
 outcome_known known p session call can has is =
     outcome_catalog p session call is has.below ∙ ap (outcome_of call) (sym has.store)
 
+-- of a database's records and the catalog's that are logged for a change at most one is new: a renamed database had its record
+catalog_few : (makes : Option ℕ) (number : ℕ) (rows : Rows) (change : Change) → HaveFewNew rows (map (catalog_planned makes) (logged_as (record_named rows) number change))
+catalog_few makes number rows (Set db at value) = tt
+catalog_few makes number rows (Unset db at) = tt
+catalog_few makes number rows (Make db kind) = (tt, tt)
+catalog_few makes number rows (Remove db) = (tt, tt)
+catalog_few makes number rows (Rename db to) = by_record (data_at (plain_name db) (rows 0)) refl (record_named rows db) refl
+  where
+    by_record : (data_ : Option (List ℕ)) → data_at (plain_name db) (rows 0) ≡ data_ → (o : Option DbRecord) → record_in data_ ≡ o → HaveFewNew rows (map (catalog_planned makes) (moved db to o))
+    by_record d is None found = tt
+    by_record None is (Some r) found = absurd (none-some r found)
+    by_record (Some bytes) is (Some r) found = ((λ same. inl (ap is_some is), tt), (tt, tt))
+catalog_few makes number rows (Empty db) = by_record (record_named rows db)
+  where
+    by_record : (o : Option DbRecord) → HaveFewNew rows (map (catalog_planned makes) (renewed db number o))
+    by_record None = tt
+    by_record (Some r) = (tt, tt)
+
 catalog_logged : (known : Known) (p : Alone) (session : ℕ) (call : Call) (planned : PlannedChanges) (change : Change) → CanPlan known → HasModel known p →
     (outcome_alone p session call).changes ≡ change ∷ [] → CanChange known.rows change → LogsCatalog known change planned → IsPlannedLog known p session call planned
 catalog_logged known p session call planned change can has is may log =
@@ -466,6 +484,7 @@ catalog_logged known p session call planned change can has is may log =
           ∙ catalog_made log.makes known.last_db rows change may (log.is_next (subst (λ n. n < 2 ^ 32) log.last_db low)) d
           ∙ ap (λ (n : ℕ). nat_lt known.last_db n && (d == n)) (sym log.last_db);
       gone_is = log.gone;
+      few = subst (HaveFewNew rows) (sym log.rows) (catalog_few log.makes (known.last_db + 1) rows change);
     }
 
 -- a call on the catalog comes to what the model says

@@ -1,5 +1,5 @@
 -- The names of changes, and what they have once these are committed.
-use Rattle.std.proofs.Common.{◌≡◌, ◌||◌, ◌∙◌, ℕ, zero, suc, List, [], ◌∷◌, ◌++◌, Bool, true, false, cond, Option, None, Some, is_some, find, reverse, refl, ap, sym, subst, Result, Ok, Err, OnOk, OnErr, ◌+◌, ◌≤◌, length, arith}
+use Rattle.std.proofs.Common.{◌≡◌, ◌⊎◌, inl, inr, IsSome, ◌||◌, ◌∙◌, ℕ, zero, suc, List, [], ◌∷◌, ◌++◌, Bool, true, false, cond, Option, None, Some, is_some, find, reverse, refl, ap, sym, subst, Result, Ok, Err, OnOk, OnErr, ◌+◌, ◌≤◌, length, arith}
 use Rattle.std.specs.List.{AllByRecursion}
 use Rattle.std.specs.Option.{option_or}
 use Rattle.std.proofs.lemmas.List.{reverse-append, append_assoc, length-append}
@@ -8,12 +8,16 @@ use Rattle.je_order.specs.declared.name.Name.{Name}
 use Rattle.je_order.specs.declared.txn_id.TxnId.{TxnId}
 use Rattle.log_entry.specs.declared.entry.Entry.{Entry}
 use Rattle.log_entry.specs.declared.entry.Entry.TheVariants.{Commit}
-use Rattle.record_map.specs.Cells.{value_at}
+use Rattle.je_order.proofs.Lists.{all_weaker}
+use Rattle.record_map.specs.Cells.{value_at, IsRising}
+use Rattle.log_replay.specs.Rows.{data_at}
 use Rattle.record_tree.specs.declared.tree_change.TreeChange.{TreeChange}
 use Rattle.record_tree.specs.declared.tree_err.TreeErr.{TreeErr}
 use Rattle.record_tree.specs.Logged.{IsEndOf, LogsChanges, LogsTransaction, IsFront, is_change_of, last_change, value_changed}
-use Rattle.record_tree.specs.Occupied.{Occupied, AllCells, AreWritten, IsWritten, IsFreeFor, value_in, write_in, value_after, after_commit, if_occupied, is_among}
-use Rattle.txn_core.specs.Known.{IsQuiet}
+use Rattle.record_tree.specs.Occupied.{Occupied, AllCells, AreFewNew, AreWritten, IsWritten, IsFreeFor, value_in, write_in, value_after, after_commit, if_occupied, is_among}
+use Rattle.txn_core.specs.Known.{IsQuiet, committed}
+use Rattle.txn_core.specs.Planning.{HaveFewNew}
+use Rattle.txn_core.proofs.ReadingLaws.{committed_at}
 use Rattle.txn_core.specs.Transactions.{is_gone, changed_names, IsCommittedAmong, HasCommitted, LeavesWrites}
 
 -- ---- the names of changes
@@ -40,6 +44,33 @@ among_changes d x (c ∷ changes) =
 pub all_free : (txn : TxnId) (cells : AllCells) (changes : List TreeChange) → IsQuiet cells → AllByRecursion (λ c. IsFreeFor txn (write_in (value_at c.name (cells c.db)))) changes
 all_free txn cells [] quiet = tt
 all_free txn cells (c ∷ changes) quiet = (subst (IsFreeFor txn) (sym (quiet c.db c.name)) tt, all_free txn cells changes quiet)
+
+-- behind a transaction's changes no other one has a change of their names
+pub written_free : (txn : TxnId) (changes left : List TreeChange) (old new : AllCells) → AreWritten txn changes old new → AllByRecursion (λ c. IsFreeFor txn (write_in (value_at c.name (old c.db)))) left →
+    AllByRecursion (λ n. IsFreeFor txn (write_in (value_at n.name (new n.db)))) (changed_names left)
+written_free txn changes [] old new written free = tt
+written_free txn changes (c ∷ left) old new written free =
+    (by_last (last_change c.db c.name changes) (written.writes c.db c.name), written_free txn changes left old new written free.1)
+  where
+    by_last : (o : Option TreeChange) → IsWritten o txn (write_in (value_at c.name (old c.db))) (write_in (value_at c.name (new c.db))) → IsFreeFor txn (write_in (value_at c.name (new c.db)))
+    by_last None same = subst (IsFreeFor txn) (sym same) free.0
+    by_last (Some last) is = subst (IsFreeFor txn) (sym is.1) refl
+
+-- names that have records are occupied
+some_value : (o : Option Occupied) → IsSome (value_in o) → IsSome o
+some_value None some = some
+some_value (Some o) some = refl
+
+pub few_new : (cells : AllCells) (changes : List TreeChange) → ((d : ℕ) → IsRising (cells d)) → HaveFewNew (committed cells) changes → AreFewNew cells changes
+few_new cells [] up few = tt
+few_new cells (c ∷ changes) up few = (all_weaker _ _ (λ e h same. occupied e (h same)) changes few.0, few_new cells changes up few.1)
+  where
+    is_there : (d : ℕ) (x : Name) → IsSome (data_at x (committed cells d)) → IsSome (value_at x (cells d))
+    is_there d x some = some_value (value_at x (cells d)) (subst (λ (o : Option (List ℕ)). IsSome o) (committed_at x (cells d) (up d)) some)
+
+    occupied : (e : TreeChange) → IsSome (data_at c.name (committed cells c.db)) ⊎ IsSome (data_at e.name (committed cells e.db)) → IsSome (value_at c.name (cells c.db)) ⊎ IsSome (value_at e.name (cells e.db))
+    occupied e (inl some) = inl (is_there c.db c.name some)
+    occupied e (inr some) = inr (is_there e.db e.name some)
 
 value_kept : (v : Option (List ℕ)) → value_in (if_occupied (record { value = v; write = None })) ≡ v
 value_kept None = refl

@@ -1,5 +1,5 @@
 -- What the plan of a call on records comes to is what the model says.
-use Rattle.std.proofs.Common.{◌≡◌, ◌≢◌, ℕ, ◌+◌, ◌-◌, ◌<◌, ◌≤◌, ◌^◌, ◌==◌, ◌&&◌, nat_lt, nat_le, List, [], ◌∷◌, Bool, true, false, cond, not, IsTrue, Option, None, Some, map, filter, length, option_map, refl, ap, ap₂, sym, ◌∙◌, subst, arith, Ordering, Less, Equal, Greater, is_eq, is_gt}
+use Rattle.std.proofs.Common.{◌≡◌, ◌⊎◌, inl, IsSome, is_some, ◌≢◌, ℕ, ◌+◌, ◌-◌, ◌<◌, ◌≤◌, ◌^◌, ◌==◌, ◌&&◌, nat_lt, nat_le, List, [], ◌∷◌, Bool, true, false, cond, not, IsTrue, Option, None, Some, map, filter, length, option_map, refl, ap, ap₂, sym, ◌∙◌, subst, arith, Ordering, Less, Equal, Greater, is_eq, is_gt}
 use Rattle.std.specs.Ordering.{is_ge, ordering_then}
 use Rattle.std.specs.List.{AllByRecursion}
 use Rattle.std.specs.List.Sorted.{IsStrictlySortedBy}
@@ -61,7 +61,7 @@ use Rattle.txn_core.specs.declared.planned.Planned.TheVariants.{Answered, Logs}
 use Rattle.txn_core.specs.declared.planned_changes.PlannedChanges.{PlannedChanges}
 use Rattle.record_tree.specs.declared.tree_change.TreeChange.{TreeChange}
 use Rattle.txn_core.specs.Totals.{totals_of}
-use Rattle.txn_core.specs.Planning.{row_by, gone_by, CanPlan, HasModel, IsPlannedLog, IsPlanned, outcome_alone}
+use Rattle.txn_core.specs.Planning.{row_by, gone_by, CanPlan, HasModel, HaveFewNew, IsPlannedLog, IsPlanned, outcome_alone}
 use Rattle.txn_core.specs.Plans.{record_planned, records_with, records_by, LogsRecords, IsRecordPlan, IsFoundPlan}
 use Rattle.txn_core.proofs.OutcomeLaws.{outcome_by, outcome_get, outcome_get_both, outcome_put, outcome_delete, answered_is}
 use Rattle.txn_core.proofs.NumberLaws.{number_there, not_under}
@@ -264,11 +264,28 @@ unset_count last_db db kind (t ∷ ts) rows sound has is up right there =
 record AreGood (rows : Rows) (db : List ℕ) (kind : Kind) (number : ℕ) (cs : List RecordChange) : Type 0 where
   right : AllByRecursion (IsRightChange kind) cs
   fits : AllByRecursion Fits cs
+  few : HaveFewNew rows (map (record_planned number) cs)
   count : cs ≢ [] → record_count (all_changed (map (λ c. change_in db c) cs) (store_of rows)) ≡ records_by (record_count (store_of rows)) (rows number) cs
+
+-- one change is of one name
+few_set : (rows : Rows) (number : ℕ) (kind : Kind) (key value : List ℕ) → HaveFewNew rows (map (record_planned number) (set kind key value ∷ []))
+few_set rows number kind key value = (tt, tt)
+
+-- names that are taken out have records
+few_unset : (rows : Rows) (number : ℕ) (ts : List Row) → AllByRecursion (λ (t : Row). data_at t.0 (rows number) ≡ Some t.1) ts → HaveFewNew rows (map (record_planned number) (map (λ (t : Row). Unset t.0) ts))
+few_unset rows number [] there = tt
+few_unset rows number (t ∷ ts) there = (each (map (record_planned number) (map (λ (u : Row). Unset u.0) ts)), few_unset rows number ts there.1)
+  where
+    some : IsSome (data_at t.0 (rows number))
+    some = ap is_some there.0
+
+    each : (cs : List TreeChange) → AllByRecursion (λ e. number ≡ e.db → IsSome (data_at t.0 (rows number)) ⊎ IsSome (data_at e.name (rows e.db))) cs
+    each [] = tt
+    each (e ∷ cs) = (λ same. inl some, each cs)
 
 -- no changes
 none_good : (rows : Rows) (db : List ℕ) (kind : Kind) (number : ℕ) → AreGood rows db kind number []
-none_good rows db kind number = record { right = tt; fits = tt; count = λ some. absurd (some refl) }
+none_good rows db kind number = record { right = tt; fits = tt; few = tt; count = λ some. absurd (some refl) }
 
 -- a set
 set_right : (kind : Kind) (key value : List ℕ) → length value ≤ data_limit kind → is_right_row kind (name_of kind (key, value), data_of kind value) ≡ true
@@ -289,6 +306,7 @@ set_good last_db rows db kind number key value sound is has same none =
     record {
       right = (right, tt);
       fits = (set_fits kind key value low few, tt);
+      few = few_set rows number kind key value;
       count = λ some. set_counts last_db db kind (name_of kind (key, value)) (data_of kind value) rows sound has same right
           ∙ ap (λ (n : ℕ). records_with (record_count (store_of rows)) (data_at (name_of kind (key, value)) (rows n))) (sym is);
     }
@@ -325,6 +343,7 @@ delete_good last_db rows db kind number key ts sound is has same low taken =
     record {
       right = deletes_right kind key (rows number) ts taken;
       fits = deletes_fit kind key (rows number) ts low taken;
+      few = few_unset rows number ts taken.there;
       count = λ some. omega (arith, counts, by);
     }
 
@@ -369,6 +388,7 @@ log_is known p session call planned db found (c ∷ cs) can has is changes some 
       made = λ few d. ap (is_made d) logs.rows ∙ none_made found.number (c ∷ cs) d
           ∙ sym (ap (λ (b : Bool). b && (d == planned.last_db)) (ap (nat_lt known.last_db) last ∙ not_under known.last_db));
       gone_is = logs.none_gone ∙ none_goes rows db c;
+      few = subst (HaveFewNew rows) (sym logs.rows) good.few;
     }
 
 abbrev evaluated_in : Known → FoundDb → Call → Evaluated

@@ -1,5 +1,5 @@
 -- What a call of a valid environment that is a transaction of its own comes to, from the committed records of its trees.
-use Rattle.std.specs.Prelude.{ℕ, ◌≡◌, ◌==◌, ◌&&◌, ◌<◌, ◌≤◌, ◌+◌, ◌^◌, ◌∷◌, [], List, Option, Some, None, true, map, nat_lt}
+use Rattle.std.specs.Prelude.{ℕ, ◌≡◌, ◌⊎◌, IsSome, ◌==◌, ◌&&◌, ◌<◌, ◌≤◌, ◌+◌, ◌^◌, ◌∷◌, [], List, Option, Some, None, true, map, nat_lt}
 use Rattle.std.specs.List.{AllByRecursion}
 use Rattle.je_order.specs.declared.txn_id.TxnId.{TxnId}
 use Rattle.store_model.specs.declared.store.TheConstants.{LAST_TXN}
@@ -16,7 +16,7 @@ use Rattle.je_answers.specs.Views.{Target, target_of, changes_on}
 use Rattle.je_answers.specs.Refusals.{late_refusal}
 use Rattle.je_answers.specs.Alone.{Alone, alone, evaluated_on}
 use Rattle.log_entry.specs.Body.{IsEntry}
-use Rattle.log_replay.specs.Rows.{Rows, RowChange, store_of, numbers_of, is_environment, IsRising}
+use Rattle.log_replay.specs.Rows.{Rows, data_at, RowChange, store_of, numbers_of, is_environment, IsRising}
 use Rattle.log_replay.specs.Kept.{AllMayBeLogged}
 use Rattle.log_replay.specs.Logging.{all_row_changes, number_named}
 use Rattle.record_tree.specs.declared.tree_change.TreeChange.{TreeChange}
@@ -74,6 +74,12 @@ pub record HasModel (known : Known) (p : Alone) : Type 0 where
   pub last_db : known.last_db ≡ p.last_db
   pub below : p.last_txn < LAST_TXN
 
+-- of the changes of each database at most one is of a name that has no record
+abbrev pub HaveFewNew : Rows → List TreeChange → Type 0
+HaveFewNew rows [] = Unit {0}
+HaveFewNew rows (c ∷ changes) =
+    AllByRecursion (λ e. c.db ≡ e.db → IsSome (data_at c.name (rows c.db)) ⊎ IsSome (data_at e.name (rows e.db))) changes × HaveFewNew rows changes
+
 -- what a call may log: its changes of the store, at least one, as the changes of trees that log them by whatever transaction, in order. Each
 -- makes an entry that can be encoded, in a database that is there. The numbers and the totals are those after them. Where the last number has
 -- its width, they make the database of that number, if a number is allocated, and no other. The tree that goes is the one of the first change
@@ -89,6 +95,7 @@ pub record IsPlannedLog (known : Known) (p : Alone) (session : ℕ) (call : Call
   pub there : AllByRecursion (λ c. has_number (numbers_of known.rows) c.db ≡ true) planned.changes.items
   pub made : planned.last_db < 2 ^ 32 → (d : ℕ) → is_made d planned.changes.items ≡ (nat_lt known.last_db planned.last_db && (d == planned.last_db))
   pub gone_is : planned.gone ≡ gone_by known.rows change
+  pub few : HaveFewNew known.rows planned.changes.items
 
 -- what a call comes to is what the model says: an answer that changes nothing, or changes to be logged
 abbrev pub IsPlanned : Known → Alone → ℕ → Call → Planned → Type 0

@@ -6,7 +6,7 @@ ghost use Rattle.log_entry.specs.declared.entry.Entry.{Entry};
 ghost use Rattle.log_entry.specs.declared.entry.Entry.TheVariants.{Commit};
 ghost use Rattle.record_map.specs.Cells.{value_at};
 ghost use Rattle.record_tree.specs.Logged.{entry_for, most_entries, IsLimit, IsUndone, IsEndOf, IsFront, LogsTransaction};
-ghost use Rattle.record_tree.specs.Occupied.{AreSame, IsFreeFor, write_in};
+ghost use Rattle.record_tree.specs.Occupied.{AreFewNew, AreSame, IsFreeFor, write_in};
 ghost use Rattle.record_tree.specs.declared.tree_err.TreeErr.{TreeErr as Reason};
 ghost use Rattle.txn_core.specs.Known.{IsQuiet};
 ghost use Rattle.txn_core.specs.Transactions.{is_gone, changed_names, IsCommittedAmong, HasCommitted, HasTreesAfter, LeavesWrites};
@@ -50,7 +50,8 @@ fn commit_names<T: Records>(
     names: &[TreeName],
     gone: Option<u32>,
 ) -> Result<(), TreeErr>
-    requires { (owed : ℕ) × T.has_room trees.old (suc owed) }
+    requires room { (owed : ℕ) × T.has_room trees.old (suc owed) }
+    requires own { AllByRecursion (λ n. IsFreeFor txn (write_in (value_at n.name (T.cells trees.old n.db)))) names.now }
     ensures left { (owed : ℕ) → T.has_room trees.old (suc owed) → OnOk result (T.has_room trees.new owed) }
     ensures cells { OnOk result (IsCommittedAmong names.now gone (T.cells trees.old) (T.cells trees.new)) }
     ensures trees { OnOk result ((d : ℕ) → T.has_tree trees.new d ≡ (if is_gone d gone then false else T.has_tree trees.old d)) }
@@ -66,7 +67,8 @@ fn commit_names<T: Records>(
 
 /// Makes changes as one transaction: writes them, logs its Commit, and then drops the tree of the database `gone` with its
 /// records. `owed` Commits have room in the log before and behind it, that of this transaction among them. No other
-/// transaction has a change of the names that are changed, and after it they have none.
+/// transaction has a change of the names that are changed, and after it they have none. Of the changes of each database at
+/// most one is of a name that is not occupied.
 ///
 /// Full and IdsEnded: the log, or the numbers of nodes, have no room for the changes and the Commits. Neither these nor Memory
 /// change anything. Fault: the disk failed; the log may have a front of the transaction, and what the trees have is not
@@ -80,6 +82,7 @@ pub fn commit_changes<T: Records>(
     owed: u32,
 ) -> Result<(), TreeErr>
     requires free { AllByRecursion (λ c. IsFreeFor txn (write_in (value_at c.name (T.cells trees.old c.db)))) changes.now }
+    requires few { AreFewNew (T.cells trees.old) changes.now }
     requires some { 1 ≤ owed }
     requires trees { AllByRecursion (λ c. T.has_tree trees.old c.db ≡ true) changes.now }
     requires new { AllByRecursion (λ c. IfSome c.makes (λ d. T.has_tree trees.old d ≡ false)) changes.now }

@@ -1,11 +1,14 @@
-use Rattle.std.proofs.Common.{rules, [], ◌∷◌, ◌++◌, ◌∙◌, ◌≡◌, subst, ℕ, List, length}
+use Rattle.std.proofs.Common.{rules, [], ◌∷◌, ◌++◌, ◌∙◌, ◌≡◌, subst, sym, ℕ, List, length}
+use Rattle.std.specs.List.{AllByRecursion}
+use Rattle.record_map.specs.Cells.{value_at}
+use Rattle.record_tree.specs.Occupied.{IsFreeFor, write_in}
 use Rattle.log_entry.specs.declared.entry.Entry.{Entry}
 use Rattle.log_entry.specs.declared.entry.Entry.TheVariants.{Commit}
 use Rattle.record_tree.specs.declared.tree_name.TreeName.{TreeName}
 use Rattle.record_tree.specs.declared.tree_err.TreeErr.{TreeErr as Reason}
 use Rattle.record_tree.specs.Logged.{LogsTransaction, IsFront, most_entries}
 use Rattle.txn_core.specs.Transactions.{IsCommittedAmong}
-use Rattle.txn_core.proofs.Committing.{entries_few, values_then, writes_then, quiet_then, room_then, more_than, logs_commit, tried_with, front_behind, ok_then, ends_by}
+use Rattle.txn_core.proofs.Committing.{written_free, entries_few, values_then, writes_then, quiet_then, room_then, more_than, logs_commit, tried_with, front_behind, ok_then, ends_by}
 use Rattle.txn_core.proofs.transaction.commit_changes.Goals as goal
 
 pub returns-in_err-write_all-clause-tried : goal.returns-in_err-write_all-clause-tried
@@ -14,10 +17,15 @@ returns-in_err-write_all-clause-tried g c =
     = (λ is. tried_with g.T.Records.tried c.args.trees.now c.write_all.new.self c.args.txn c.args.changes.now (c.in_err-write_all.ensures.tried is)) in
     search rules
 
-pub commit_names-requires : goal.commit_names-requires
-commit_names-requires g c =
+pub commit_names-requires-clause-room : goal.commit_names-requires-clause-room
+commit_names-requires-clause-room g c =
     let more = more_than c.args.owed c.requires.some in
     (more.0, subst (λ (n : ℕ). g.T.Records.has_room c.write_all.new.self n) more.1 c.in_ok-write_all.ensures.left)
+
+pub commit_names-requires-clause-own : goal.commit_names-requires-clause-own
+commit_names-requires-clause-own g c =
+    subst (λ (names : List TreeName). AllByRecursion (λ n. IsFreeFor c.args.txn (write_in (value_at n.name (g.T.Records.cells c.write_all.new.self n.db)))) names) (sym (c.as_slice.ensures.value ∙ c.in-Ok.ensures))
+    (written_free c.args.txn c.args.changes.now c.args.changes.now (g.T.Records.cells c.args.trees.now) (g.T.Records.cells c.write_all.new.self) c.in_ok-write_all.ensures.cells c.requires.free)
 
 pub returns-clause-values : goal.returns-clause-values
 returns-clause-values g c =
