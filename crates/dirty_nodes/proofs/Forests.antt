@@ -9,6 +9,7 @@ use Rattle.std.proofs.lemmas.Bool.{true≢false}
 use Rattle.std.proofs.lemmas.Cmp.{ranked}
 use Rattle.std.specs.Ordering.{MatchOrdering}
 use Rattle.je_order.proofs.Lists.{all_push, all_weaker}
+use Rattle.record_map.specs.Cells.{IsRising}
 use Rattle.record_tree.specs.declared.node_place.NodePlace.{NodePlace}
 use Rattle.db_tree.specs.declared.tree.DbTree.{DbTree}
 use Rattle.tree_nodes.specs.Levels.{AreParts}
@@ -32,7 +33,7 @@ abbrev pub all_since_in : ℕ → ℕ × DbTree → Type 0
 all_since_in since e = AllSince since e.1.levels
 
 abbrev pub all_from_in : ℕ → ℕ × DbTree → Type 0
-all_from_in least e = AllFrom least e.1.levels × AreParts e.1.levels
+all_from_in least e = AllFrom least e.1.levels × AreParts e.1.levels × IsRising e.1.cells
 
 pub done_next : (P Q : ℕ × DbTree → Type 0) (entries rest next : Entries) (e : ℕ × DbTree) → ((x : ℕ × DbTree) → P x → Q x) → rest ≡ e ∷ next → Q e → IsDone P entries rest → IsDone Q entries next
 done_next P Q entries rest next e weaker is own d = record {
@@ -90,7 +91,7 @@ pub dirty_more : (front whole : List NodePlace) → IsInFront front whole → (x
 dirty_more front whole in_front x have level low n there = marked_more x.0 front whole (record { level = level; low = low; node = n }) in_front (have level low n there)
 
 pub from_less : (a b : ℕ) → b ≤ a → (x : ℕ × DbTree) → all_from_in a x → all_from_in b x
-from_less a b le x all = (λ level low n there. marked_less n.from a b le (all.0 level low n there), all.1)
+from_less a b le x all = (λ level low n there. marked_less n.from a b le (all.0 level low n there), all.1, all.2)
 
 -- a mark of one of the trees
 pub mark_in : (forest : BTreeMap ℕ DbTree) (bound least next : ℕ) (Q : ℕ × DbTree → Type 0) (rest more : Entries) (e : ℕ × DbTree) → IsDone Q forest.entries rest → rest ≡ e ∷ more → IsMarkOr least e.1.levels next →

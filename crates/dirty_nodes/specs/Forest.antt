@@ -4,6 +4,7 @@ use Rattle.std.specs.List.{AllByRecursion}
 use Rattle.std.specs.Ordering.{nat_cmp}
 use Rattle.std.specs.BTreeMap.{BTreeMap, get}
 use Rattle.log_entry.specs.declared.root.Root.{Root}
+use Rattle.record_map.specs.Cells.{IsRising}
 use Rattle.record_tree.specs.declared.node_place.NodePlace.{NodePlace}
 use Rattle.db_tree.specs.declared.tree.DbTree.{DbTree}
 use Rattle.tree_nodes.specs.Levels.{AreParts}
@@ -25,9 +26,9 @@ IsNotedIn forest places = (d : ℕ) (tree : DbTree) → get nat_cmp forest d ≡
 abbrev pub IsSince : BTreeMap ℕ DbTree → ℕ → Type 0
 IsSince forest since = AllByRecursion (λ e. AllSince since e.1.levels) forest.entries
 
--- the parts of each tree fit each other, and no image lacks what was logged before an LSN
+-- the parts of each tree fit each other, its names rise, and no image lacks what was logged before an LSN
 abbrev pub IsFrom : BTreeMap ℕ DbTree → ℕ → Type 0
-IsFrom forest least = (d : ℕ) (tree : DbTree) → get nat_cmp forest d ≡ Some tree → AllFrom least tree.levels × AreParts tree.levels
+IsFrom forest least = (d : ℕ) (tree : DbTree) → get nat_cmp forest d ≡ Some tree → AllFrom least tree.levels × AreParts tree.levels × IsRising tree.cells
 
 -- the image of a node of one of the trees lacks what was logged from an LSN on
 pub record IsMarkIn (forest : BTreeMap ℕ DbTree) (lsn : ℕ) : Type 0 where

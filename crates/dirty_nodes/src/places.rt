@@ -1,6 +1,7 @@
 // The places of dirty nodes.
 ghost use Rattle.std.specs.Prelude.{◌≡◌, ◌≤◌, ◌⊎◌, ◌++◌, ◌∷◌, [], Some, false, IfOk, OnOk};
 ghost use Rattle.std.specs.List.{AllByRecursion, list_any};
+ghost use Rattle.record_map.specs.Cells.{IsRising};
 ghost use Rattle.record_tree.specs.Nodes.{is_place};
 ghost use Rattle.tree_nodes.specs.Levels.{AreParts, row_of};
 ghost use Rattle.dirty_nodes.specs.Marks.{AllFrom, AllSince, HaveDirtyPlaces, IsInFront, IsMarkOr, IsMarkedIn, is_before, is_dirty_at, is_marked_before, place_of};
@@ -157,8 +158,10 @@ pub fn least_mark(tree: &DbTree, alloc: Global, bound: Lsn) -> Result<Lsn, Alloc
     ensures all { IfOk result (λ least. AllFrom least tree.now.levels) }
     ensures some { IfOk result (λ least. IsMarkOr bound tree.now.levels least) }
     ensures parts { AreParts tree.now.levels }
+    ensures rising { IsRising tree.now.cells }
 {
     let _height = tree.levels.height();
+    let _len = tree.cells.len();
     let nodes = all_nodes(tree, alloc)?;
     let mut least = bound;
     for node in nodes.as_slice() {

@@ -1,29 +1,31 @@
 -- Where the end of a checkpoint may stand behind a log.
-use Rattle.std.specs.Prelude.{ℕ, ◌≡◌, ◌≤◌, ◌<◌, Bool, true, List, Option, Some}
+use Rattle.std.specs.Prelude.{ℕ, ◌≡◌, ◌≤◌, Bool, true, List, Option, Some}
 use Rattle.std.specs.List.{AllByRecursion}
 use Rattle.je_disk.specs.Moments.{History}
 use Rattle.store_model.specs.declared.change.Change.{Change}
 use Rattle.store_model.specs.declared.store.Store.{Store}
 use Rattle.log_entry.specs.declared.root.Root.{Root}
+use Rattle.record_map.specs.Cells.{IsRising}
+use Rattle.db_tree.specs.Seen.{occupied}
+use Rattle.in_tree.specs.Checkpoints.{MayEndTrees}
+use Rattle.in_tree.specs.Forest.{cells_of}
+use Rattle.txn_core.specs.Known.{committed}
 use Rattle.log_file.specs.Log.{Log}
 use Rattle.log_buffer.specs.declared.buffer.LogBuffer.{LogBuffer}
-use Rattle.log_buffer.specs.Buffer.{end_of}
-use Rattle.log_buffer.specs.Flip.{pos_lsn}
 use Rattle.log_replay.specs.Rows.{Rows, data_at}
 use Rattle.log_trees.specs.Placed.{placed}
 use Rattle.db_tree.specs.declared.tree.DbTree.{DbTree}
 use Rattle.crash_recovery.specs.Recovery.{RecoversLog}
 use Rattle.tree_images.specs.Forest.{ForestFits}
-use Rattle.tree_images.specs.Roots.{AreRootsOf, AreRowsOf, MayBeRoot}
+use Rattle.tree_images.specs.Roots.{AreRowsOf}
 use Rattle.txn_log.specs.Buffers.{HasGiven}
 use Rattle.txn_log.specs.Checkpoints.{EndParts, EndsFrom, MayHaveEnd}
 use Rattle.txn_log.specs.Own.{OwnChange, is_live}
 
--- roots are those of trees, each of which an end may name with a redo from an LSN on, which is before the log's end
-pub record MayNameTrees (trees : ℕ → Option DbTree) (end redo : ℕ) (roots : List Root) : Type 0 where
-  pub roots_are : AreRootsOf trees roots
-  pub each : (d : ℕ) (tree : DbTree) → trees d ≡ Some tree → MayBeRoot redo tree.levels
-  pub below : redo < end
+-- the data that transactions find committed in the cells of trees is that of the trees
+abbrev pub CellsAreRecords : Type 0
+CellsAreRecords = (is_open : ℕ → Bool) (trees : ℕ → Option DbTree) → ((d : ℕ) (tree : DbTree) → trees d ≡ Some tree → IsRising tree.cells)
+    → AreRowsOf is_open (λ d x. data_at x (committed (λ b. occupied (cells_of (trees b))) d)) trees
 
 module _ {D : Type 0} (observable : Bool) (history : D → History) (buffer : LogBuffer D) (log : Log) (rows : Rows) (last_txn last_db : ℕ) (is_active : ℕ → Bool) (own : ℕ → List OwnChange) where
   -- the log gives the same as before, of the same life, and such an end may stand behind it
@@ -37,7 +39,7 @@ module _ {D : Type 0} (observable : Bool) (history : D → History) (buffer : Lo
   pub record HasRedo (h : HasGiven observable history buffer log rows last_txn last_db is_active own) (since redo last : ℕ) (trees : ℕ → Option DbTree) (roots : List Root) : Type 0 where
     pub from : EndsFrom log h.gives.base since
     pub since_low : since ≤ redo
-    pub names : MayNameTrees trees (pos_lsn (end_of buffer)) redo roots
+    pub names : MayEndTrees buffer trees redo roots
     pub fits : ForestFits (placed log) h.gives.base last trees
     pub records : AreRowsOf h.gives.is_open (λ d x. data_at x (rows d)) trees
     pub firsts : (t : ℕ) → is_live last_txn is_active t ≡ true → AllByRecursion (λ c. redo ≤ c.written.at) (h.gives.logged t)

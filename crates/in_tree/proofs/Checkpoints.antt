@@ -161,7 +161,7 @@ tree_may_end tree since redo parts all from = record {
 
 module _ {D : Type 0} where
   pub end_names : (x : LogTrees D) (end : CheckpointEnd) (bound redo since : ℕ) (entry : Entry) → IsSince x.trees.forest since → IsEndEntry x.log x.trees end bound redo entry →
-      NamesEnd (λ (y : LogTrees D) n. IsSince y.trees.forest n) (λ (y : LogTrees D) n. IsMarkIn y.trees.forest n) (λ (y : LogTrees D) n roots. MayEndTrees y.log y.trees.forest n roots) (λ (y : LogTrees D). y.trees.last_node) end bound x redo entry
+      NamesEnd (λ (y : LogTrees D) n. IsSince y.trees.forest n) (λ (y : LogTrees D) n. IsMarkIn y.trees.forest n) (λ (y : LogTrees D) n roots. MayEndTrees y.log (trees_at y.trees.forest) n roots) (λ (y : LogTrees D). y.trees.last_node) end bound x redo entry
   end_names x end bound redo since entry all e = record {
     roots = e.roots;
     entry_is = e.entry_is;
@@ -171,6 +171,7 @@ module _ {D : Type 0} where
     may = record {
       roots_are = e.roots_are;
       each = λ d tree there. tree_may_end tree since redo (e.all d tree there).1 (each_get (all_since_in since) x.trees.forest all d tree there) (e.all d tree there).0;
+      rising = λ d tree there. (e.all d tree there).2;
       below = (let upto = e.upto in let below = e.below in omega (arith, upto, below));
     };
   }

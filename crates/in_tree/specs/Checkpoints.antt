@@ -1,5 +1,5 @@
 -- What a checkpoint logs of the trees.
-use Rattle.std.specs.Prelude.{◌≡◌, ◌≤◌, ◌<◌, ◌++◌, ℕ, Bool, false, List, [], ◌∷◌, Some, IsSome, map}
+use Rattle.std.specs.Prelude.{◌≡◌, ◌≤◌, ◌<◌, ◌++◌, ℕ, Bool, false, List, [], ◌∷◌, Option, Some, IsSome, map}
 use Rattle.std.specs.Ordering.{nat_cmp}
 use Rattle.std.specs.BTreeMap.{get}
 use Rattle.je_lsn.specs.Naming.{last_file}
@@ -45,10 +45,11 @@ module _ {D : Type 0} where
   abbrev pub IsFullFor : LogBuffer D → List Entry → ℕ → Type 0
   IsFullFor log entries owed = last_file < end_behind log (map size_of entries ++ commit_sizes owed)
 
-  -- a checkpoint's end may name these roots of the trees, with a redo from an LSN on, which is before the log's end
-  pub record MayEndTrees (log : LogBuffer D) (forest : Forest) (redo : ℕ) (roots : List Root) : Type 0 where
-    pub roots_are : AreRootsOf (trees_at forest) roots
-    pub each : (d : ℕ) (tree : DbTree) → trees_at forest d ≡ Some tree → MayBeRoot redo tree.levels
+  -- a checkpoint's end may name these roots of trees, with a redo from an LSN on, which is before the log's end
+  pub record MayEndTrees (log : LogBuffer D) (trees : ℕ → Option DbTree) (redo : ℕ) (roots : List Root) : Type 0 where
+    pub roots_are : AreRootsOf trees roots
+    pub each : (d : ℕ) (tree : DbTree) → trees d ≡ Some tree → MayBeRoot redo tree.levels
+    pub rising : (d : ℕ) (tree : DbTree) → trees d ≡ Some tree → IsRising tree.cells
     pub below : redo < pos_lsn (end_of log)
 
 -- An image is that of the node at a place, none of whose children waits; it may be logged.
@@ -76,4 +77,3 @@ pub record IsEndEntry {D : Type 0} (log : LogBuffer D) (trees : Trees) (end : Ch
   pub some : IsMarkOrIn bound trees.forest redo
   pub roots_are : AreRootsOf (trees_at trees.forest) roots
   pub below : bound < pos_lsn (end_of log)
-  pub parts : (d : ℕ) (tree : DbTree) → trees_at trees.forest d ≡ Some tree → AreParts tree.levels

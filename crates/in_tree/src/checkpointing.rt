@@ -103,6 +103,7 @@ impl<D: Disk> LogTrees<D> {
 impl<D: Disk> Nodes for LogTrees<D> {
     ghost use Rattle.dirty_nodes.specs.Forest.{IsMarkIn, IsSince, is_dirty_in};
     ghost use Rattle.in_tree.specs.Checkpoints.{IsFullFor, MayEndTrees};
+    ghost use Rattle.in_tree.specs.Growing.{trees_at};
 
     ghost is_dirty = { λ x p. is_dirty_in x.trees.forest p };
 
@@ -110,7 +111,7 @@ impl<D: Disk> Nodes for LogTrees<D> {
 
     ghost is_mark = { λ x lsn. IsMarkIn x.trees.forest lsn };
 
-    ghost may_end = { λ x redo roots. MayEndTrees x.log x.trees.forest redo roots };
+    ghost may_end = { λ x redo roots. MayEndTrees x.log (trees_at x.trees.forest) redo roots };
 
     ghost last_node = { λ x. x.trees.last_node };
 

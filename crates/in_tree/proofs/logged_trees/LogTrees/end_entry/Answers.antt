@@ -20,5 +20,4 @@ returns g c = record {
   some = c.in_ok-redo.ensures.some;
   roots_are = c.in_ok-roots.ensures;
   below = search rules;
-  parts = λ d tree there. (c.in_ok-redo.ensures.all d tree there).1;
 }
