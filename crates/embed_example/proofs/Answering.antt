@@ -1,0 +1,27 @@
+-- An environment answers calls on behind a call and behind a sync.
+use Rattle.std.proofs.Common.{◌≡◌, ℕ, Bool, true, false, true≢false, None, Result, Ok, Err, sym, if◌then◌else◌}
+use Rattle.std.specs.declared.alloc.AllocError.{AllocError}
+use Rattle.je_disk.specs.Moments.{History, now}
+use Rattle.store_model.specs.declared.answer.Answer.TheVariants.{Done, DiskFault}
+use Rattle.store_model.specs.declared.event.Event.{Event}
+use Rattle.store_model.specs.declared.event.Event.TheVariants.{SyncBegin}
+use Rattle.je_answers.specs.Standing.{Standing}
+use Rattle.je_answers.specs.After.{after_event}
+use Rattle.environment.specs.declared.environment.Environment.{Environment}
+use Rattle.environment.specs.declared.outcome.Outcome.{Outcome}
+use Rattle.environment.specs.Whole.{CanGoOn, GoesOn, IsAt, disk_of}
+use Rattle.embed_example.specs.Usable.{IsUsable}
+
+pub usable_at : {D : Type 0} {observable : Bool} {history : D → History} {environment : Environment D} {most : ℕ} {st : Standing} →
+    IsAt most observable (now (history (disk_of environment))) environment st → CanGoOn environment → IsUsable observable history environment
+usable_at {most = most} {st = st} here bounds = record { most = most; st = st; here = here; bounds = bounds }
+
+pub begun_valid : (st : Standing) (began : Bool) → began ≡ true → st.fault ≡ None → (after_event st (SyncBegin (if began then Done else DiskFault))).fault ≡ None
+begun_valid st true is valid = valid
+begun_valid st false is valid = absurd (true≢false (sym is))
+
+-- it does so behind a call too, and where there was no memory for one
+pub usable_after : {D : Type 0} {observable : Bool} {history : D → History} {new : Environment D} (old : Environment D) (most : ℕ) (st left : Standing) (event : Outcome → Event) (result : Result Outcome AllocError) →
+    GoesOn most observable (now (history (disk_of new))) old new st event left result → CanGoOn new → IsUsable observable history new
+usable_after old most st left event (Ok o) goes bounds = usable_at goes.here bounds
+usable_after old most st left event (Err error) goes bounds = usable_at goes bounds
