@@ -1,1 +1,14 @@
-
+-- Lists that rise by name, and what is among their items.
+pub mod Rising
+-- A read depends on the names that it passes.
+pub mod Locality
+-- A change is of one name.
+pub mod Changing
+-- Locks of a sort, which a transaction holds until it ends, and whom they stop.
+pub mod Holding
+-- Occupied names: those that have a record, or that a transaction under way wrote.
+pub mod Occupied
+-- Edges and names.
+pub mod EdgeOrder
+-- Ranges that a transaction's locks shut.
+pub mod Shut
