@@ -12,3 +12,5 @@ pub mod Occupied
 pub mod EdgeOrder
 -- Ranges that a transaction's locks shut.
 pub mod Shut
+-- Databases by name and by number, and how changes of records change a store.
+pub mod Stores
