@@ -14,3 +14,5 @@ pub mod EdgeOrder
 pub mod Shut
 -- Databases by name and by number, and how changes of records change a store.
 pub mod Stores
+-- What holds of each transaction's calls, and of the environment that they were answered in.
+pub mod Keeping
