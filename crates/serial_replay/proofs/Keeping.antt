@@ -112,9 +112,6 @@ pub record IsKept (t : TxnId) (st new : Standing) : Type 0 where
 -- ---- calls without a cursor
 
 -- read upwards
-upward_key : (kind : Kind) (key : List ℕ) (call : Call) → call ≡ Get [] key true → IsUpward (look_of kind call None).way → Unit {0}
-upward_key kind key call e h = tt
-
 pub is_upward : (kind : Kind) (call : Call) → MayWait call → IsUpward (look_of kind call None).way
 is_upward Plain (Get db key rmw) may = tt
 is_upward Dup (Get db key rmw) may = tt
@@ -144,9 +141,6 @@ module _ (t : TxnId) (st new : Standing) (stable : IsStable st new) (kept : IsKe
     shut = shut_new;
   }
     where
-      b : Base
-      b = base_of_call s
-
       there_new : base_at s.db new ≡ Some (base_of_call s)
       there_new = stable t s.db (base_of_call s) h.used h.there
 

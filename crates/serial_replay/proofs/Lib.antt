@@ -16,3 +16,5 @@ pub mod Shut
 pub mod Stores
 -- What holds of each transaction's calls, and of the environment that they were answered in.
 pub mod Keeping
+-- A transaction ends.
+pub mod Ending
