@@ -16,5 +16,7 @@ pub mod Shut
 pub mod Stores
 -- What holds of each transaction's calls, and of the environment that they were answered in.
 pub mod Keeping
+-- The calls on records, one by one.
+pub mod Calls
 -- A transaction ends.
 pub mod Ending
