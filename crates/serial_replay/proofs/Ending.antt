@@ -12,6 +12,7 @@ use Rattle.lock_table.specs.declared.record_id.RecordId.{RecordId}
 use Rattle.lock_table.specs.declared.lock.Lock.{Lock}
 use Rattle.lock_table.specs.Locks.{after_release}
 use Rattle.store_model.specs.declared.kind.Kind.{Kind}
+use Rattle.store_model.specs.declared.isolation.Isolation.{Isolation}
 use Rattle.store_model.specs.declared.store.Database.{Database}
 use Rattle.store_model.specs.declared.store.Store.{Store}
 use Rattle.store_model.specs.declared.change.Change.{Change}
@@ -168,14 +169,14 @@ module _ (st : Standing) (a : Active) (cs : List (ℕ × RecordChange)) (new : S
       (λ e. record { txn = w.txn; change = w.change; there = subst (IsAmong (n, w.change)) (end.own w.txn ∙ cond-false (w.txn == a.txn.0) [] (st.own w.txn) e) w.there; named = w.named })
       (cases_Bool (w.txn == a.txn.0))
 
-  pub kept_end : (t : TxnId) → (t ≡ a.txn → ⊥) → IsKept t st new
-  kept_end t apart = record {
+  pub kept_end : (t : TxnId) (level : Isolation) → (t ≡ a.txn → ⊥) → IsKept t level st new
+  kept_end t level apart = record {
     locks = λ sort s r h. subst (λ (q : List Lock × List Lock). Holds sort t q.0) (sym (end.locks r)) (release_keeps sort s a.txn t (st.locks.at r) other h);
     alike = λ n b x used e. ⊎_elim
         (λ c. let w = written n b x c.0 e c.1 c.2 in inr (inr (record { txn = a.txn.0; change = c.0; there = w.0; named = w.1 }), nobody t n x c.0 apart w.0 w.1))
         (λ none. inl (same n b x e none))
         (one_or_none b.1 x (of_db n cs));
-    occupied = λ n b x used e o. inl (before n b x e o);
+    occupied = λ ser n b x used e o. inl (before n b x e o);
     stays = λ n b x used e h o. after n b x e h o;
   }
     where
@@ -222,7 +223,7 @@ module _ (st : Standing) (a : Active) (cs : List (ℕ × RecordChange)) (new : S
 
   pub known_end : EachBut a.txn st told st.actives → IsKnown new told
   known_end each = record { ground = ground_end; each = λ b k keep. let f = filter_among (λ (c : Active). not (c.session == a.session)) st.actives b (subst (IsAmong b) end.actives k) in
-      keeps_kept b.txn b.level st new told told stable_end ground.store right_end (kept_end b.txn (apart b f.0 f.1)) (λ c i. own_same st new b.txn sound (ground.fits b.txn.0) stable_end c i)
+      keeps_kept b.txn b.level st new told told stable_end ground.store right_end (kept_end b.txn b.level (apart b f.0 f.1)) (λ c i. own_same st new b.txn sound (ground.fits b.txn.0) stable_end c i)
       (own_others b.txn.0 (λ e. apart b f.0 f.1 (ap (λ (m : ℕ). txn_id m) e))) refl (each b f.0 (apart b f.0 f.1) keep) }
     where
       same_number : (m : ℕ) → (m == m) ≡ true

@@ -101,11 +101,11 @@ abbrev pub IsStable : Standing → Standing → Type 0
 IsStable st new = (t : TxnId) (n : ℕ) (b : Base) → IsUsedBy st t n → base_at n st ≡ Some b → base_at n new ≡ Some b
 
 -- its locks stay; a record changes only under a name that it has no lock on, and a name is occupied anew only outside its ranges; what it has a lock on stays occupied
-pub record IsKept (t : TxnId) (st new : Standing) : Type 0 where
+pub record IsKept (t : TxnId) (level : Isolation) (st new : Standing) : Type 0 where
   pub locks : (sort : Sort) → IsSort sort → (r : RecordId) → Holds sort t (st.locks.at r).0 → Holds sort t (new.locks.at r).0
   pub alike : (n : ℕ) (b : Base) (x : Name) → IsUsedBy st t n → base_at n st ≡ Some b →
       (at_name b.1 x (pairs_at n st) ≡ at_name b.1 x (pairs_at n new)) ⊎ (occupied_at st n b.1 x × (Holds can_be_held t (st.locks.at (place n (On x))).0 → ⊥))
-  pub occupied : (n : ℕ) (b : Base) (x : Name) → IsUsedBy st t n → base_at n st ≡ Some b → occupied_at new n b.1 x →
+  pub occupied : level ≡ Serializable → (n : ℕ) (b : Base) (x : Name) → IsUsedBy st t n → base_at n st ≡ Some b → occupied_at new n b.1 x →
       occupied_at st n b.1 x ⊎ ((c : Closed) → IsShut st.locks.at (occupied_at st n b.1) t n c → is_inside c x ≡ true → Holds is_range t (new.locks.at (place n (On x))).0)
   pub stays : (n : ℕ) (b : Base) (x : Name) → IsUsedBy st t n → base_at n st ≡ Some b → Holds can_be_held t (st.locks.at (place n (On x))).0 → occupied_at st n b.1 x → occupied_at new n b.1 x
 
@@ -124,12 +124,12 @@ is_upward Plain (Delete db key) may = tt
 is_upward Dup (Delete db key) may = tt
 is_upward kind call may = absurd may
 
-module _ (t : TxnId) (st new : Standing) (stable : IsStable st new) (kept : IsKept t st new) (right : IsStore st.store) (right_new : IsStore new.store) where
+module _ (t : TxnId) (level : Isolation) (st new : Standing) (stable : IsStable st new) (kept : IsKept t level st new) (right : IsStore st.store) (right_new : IsStore new.store) where
   used_kept : (n : ℕ) → IsUsedBy st t n → IsUsedBy new t n
   used_kept n u = record { its = u.its; there = u.there; held = kept.locks can_be_held any_lock u.its u.held }
 
-  pub ser_kept : (s : Said) → IsSer st t s → IsSer new t s
-  ser_kept s h = record {
+  pub ser_kept : level ≡ Serializable → (s : Said) → IsSer st t s → IsSer new t s
+  ser_kept ser s h = record {
     may = h.may;
     covers = h.covers;
     there = there_new;
@@ -157,7 +157,7 @@ module _ (t : TxnId) (st new : Standing) (stable : IsStable st new) (kept : IsKe
 
       shut_new : (c : Closed) → s.closed ≡ Some c → IsShut new.locks.at (occupied_at new s.db s.kind) t s.db c
       shut_new c e = record {
-        inside = λ x o i. ⊎_elim (λ old. kept.locks is_range ranges (place s.db (On x)) (k.inside x old i)) (λ f. f c k i) (kept.occupied s.db (base_of_call s) x h.used h.there o);
+        inside = λ x o i. ⊎_elim (λ old. kept.locks is_range ranges (place s.db (On x)) (k.inside x old i)) (λ f. f c k i) (kept.occupied ser s.db (base_of_call s) x h.used h.there o);
         top = kept.locks is_range ranges (place s.db c.top) k.top;
         stays = by c.top k.top k.stays;
       }
@@ -234,14 +234,14 @@ same_calls st new t own same (s ∷ said) h =
     (same_calls st new t own same said h.1)
 
 module _ (t : TxnId) (level : Isolation) (st new : Standing) (told told_new : List AnsweredCall) (stable : IsStable st new) (right : IsStore st.store) (right_new : IsStore new.store) where
-  pub keeps_kept : IsKept t st new → ((c : ℕ × RecordChange) → IsAmong c (st.own t.0) → base_at c.0 st ≡ base_at c.0 new) → new.own t.0 ≡ st.own t.0 → calls_of t told_new ≡ calls_of t told
+  pub keeps_kept : IsKept t level st new → ((c : ℕ × RecordChange) → IsAmong c (st.own t.0) → base_at c.0 st ≡ base_at c.0 new) → new.own t.0 ≡ st.own t.0 → calls_of t told_new ≡ calls_of t told
       → KeepsOf st told t level → KeepsOf new told_new t level
   keeps_kept kept same own calls k = record {
     said = k.said;
     calls = calls ∙ (k.calls ∙ same_calls st new t (st.own t.0) same k.said (before_own [] k.said (st.own t.0) k.follows));
     follows = subst (λ (l : List (ℕ × RecordChange)). Follows [] k.said l) (sym own) k.follows;
-    ser = λ e. all_each (IsSer st t) (IsSer new t) (λ s h. ser_kept t st new stable kept right right_new s h) k.said (k.ser e);
-    repeatable = λ e. all_each (IsRepeatable st t) (IsRepeatable new t) (λ s h. repeatable_kept t st new stable kept right right_new s (came_to s).answer h) k.said (k.repeatable e);
+    ser = λ e. all_each (IsSer st t) (IsSer new t) (λ s h. ser_kept t level st new stable kept right right_new e s h) k.said (k.ser e);
+    repeatable = λ e. all_each (IsRepeatable st t) (IsRepeatable new t) (λ s h. repeatable_kept t level st new stable kept right right_new s (came_to s).answer h) k.said (k.repeatable e);
   }
 
 -- ---- a standing

@@ -20,3 +20,5 @@ pub mod Keeping
 pub mod Calls
 -- A transaction ends.
 pub mod Ending
+-- A call gets its locks and is evaluated.
+pub mod Calling

@@ -98,6 +98,10 @@ first_taken (q ∷ l) p ps e = inl (head e)
     head : q ∷ [] ≡ p ∷ ps → q ≡ p
     head k = cc (k)
 
+-- the first of a range is there, and within it
+pub lowest_there : (kind : Kind) (r : Range) (view : List Pair) (p : Pair) (ps : List Pair) → seen kind Lowest r view ≡ p ∷ ps → IsAmong p view × (is_within r (name_of kind p) ≡ true)
+lowest_there kind r view p ps e = filter_among (λ (q : Pair). is_within r (name_of kind q)) view p (first_taken (filter (λ q. is_within r (name_of kind q)) view) p ps e)
+
 pub ended_by : (kind : Kind) (way : Way) (r : Range) (view : List Pair) (answered : Bool) (taken : List Pair) → seen kind way r view ≡ taken → ends way answered taken ≡ true → IsEndedBy kind view r (passed_to kind way r taken)
 ended_by kind Lowest r view answered [] e h = absurd (cc (h))
 ended_by kind Lowest r view answered (p ∷ ps) e h =
