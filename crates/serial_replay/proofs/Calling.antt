@@ -173,7 +173,7 @@ module _ (st : Standing) (a : Active) (call : Call) (g : Target) (told : List An
   pub outcome_is : outcome_of st a call g ≡ comes_to
   outcome_is = evaluation_is g.database.kind call g.at (view_of st a g) may nowhere
 
-  base_is : base_at g.db st ≡ Some base
+  pub base_is : base_at g.db st ≡ Some base
   base_is = ap base_of here
 
   pairs_are : pairs_at g.db st ≡ g.database.pairs
@@ -262,7 +262,7 @@ module _ (st : Standing) (a : Active) (call : Call) (g : Target) (told : List An
     pub locks : (r : RecordId) → new.locks.at r ≡ given_back a.level a.txn (all_got a.txn (needs_in st a call g) st.locks.at) r
 
   module _ (new : Standing) (step : IsCallOf new) where
-    base_new : (n : ℕ) → base_at n new ≡ base_at n st
+    pub base_new : (n : ℕ) → base_at n new ≡ base_at n st
     base_new n = ap₂ (λ (m : Numbers) (s : Store). base_in m n s) step.numbers step.store
 
     pairs_new : (n : ℕ) → pairs_at n new ≡ pairs_at n st
@@ -271,7 +271,7 @@ module _ (st : Standing) (a : Active) (call : Call) (g : Target) (told : List An
     pub stable_call : IsStable st new
     stable_call t n b used e = base_new n ∙ e
 
-    own_other : (t : ℕ) → (t ≡ a.txn.0 → ⊥) → new.own t ≡ st.own t
+    pub own_other : (t : ℕ) → (t ≡ a.txn.0 → ⊥) → new.own t ≡ st.own t
     own_other t apart = step.own t ∙ cond-false (t == a.txn.0) (st.own a.txn.0 ++ changes_at g.db comes_to.changes) (st.own t) (⊎_elim (λ e. absurd (apart (eqb-true t a.txn.0 e))) (λ e. e) (cases_Bool (t == a.txn.0)))
 
     pub own_its : new.own a.txn.0 ≡ st.own a.txn.0 ++ changes_at g.db comes_to.changes
@@ -364,7 +364,7 @@ module _ (st : Standing) (a : Active) (call : Call) (g : Target) (told : List An
     new_held_at ser n x o = subst (λ (m : ℕ). Holds is_range a.txn (new.locks.at (place m (On x))).0) (sym o.0)
         (subst (λ (m : Name). Holds is_range a.txn (new.locks.at (place g.db (On m))).0) o.1.2 (new_held ser o.1.0 o.1.1))
 
-    kept_own : keeps a.level ≡ true → IsKept a.txn a.level st new
+    pub kept_own : keeps a.level ≡ true → IsKept a.txn a.level st new
     kept_own k = record {
       locks = λ sort s r h. subst (λ (q : List Lock × List Lock). Holds sort a.txn q.0) (sym (locks_new k r)) (all_got_keeps sort s a.txn a.txn (front ++ back) st.locks.at r h);
       alike = λ n b x used e. inl (same_at n b x);
@@ -395,7 +395,7 @@ module _ (st : Standing) (a : Active) (call : Call) (g : Target) (told : List An
     there_now : base_at g.db new ≡ Some (base_of_call said_now)
     there_now = base_new g.db ∙ (base_is ∙ ap (λ (n : List ℕ). Some (n, kind)) named)
 
-    ser_now : a.level ≡ Serializable → IsSer new a.txn said_now
+    pub ser_now : a.level ≡ Serializable → IsSer new a.txn said_now
     ser_now ser = by (ser_part kind call may)
       where
         k : keeps a.level ≡ true
@@ -463,7 +463,7 @@ module _ (st : Standing) (a : Active) (call : Call) (g : Target) (told : List An
             no_closed : (d : Closed) → said_now.closed ≡ None → said_now.closed ≡ Some d → ⊥
             no_closed d e f = let h = sym e ∙ f in absurd (cc (h))
 
-    repeatable_now : a.level ≡ RepeatableRead → IsRepeatable new a.txn said_now
+    pub repeatable_now : a.level ≡ RepeatableRead → IsRepeatable new a.txn said_now
     repeatable_now level = by comes_to.answer refl
       where
         k : keeps a.level ≡ true

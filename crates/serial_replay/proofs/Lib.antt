@@ -22,3 +22,5 @@ pub mod Calls
 pub mod Ending
 -- A call gets its locks and is evaluated.
 pub mod Calling
+-- A call that was evaluated is told.
+pub mod Told
