@@ -94,13 +94,13 @@ at_is kind v p up a = same_items (name_of kind) (filter test v) (p ∷ []) (rise
 -- ---- locks given back
 
 -- another transaction's locks stay; and at the levels that keep theirs, the transaction's own
-back_keeps : (sort : Sort) → IsSort sort → (level : Isolation) (t u : TxnId) (at : Queues) (r : RecordId) → is_same_txn t u ≡ false → Holds sort u (at r).0 → Holds sort u (given_back level t at r).0
+pub back_keeps : (sort : Sort) → IsSort sort → (level : Isolation) (t u : TxnId) (at : Queues) (r : RecordId) → is_same_txn t u ≡ false → Holds sort u (at r).0 → Holds sort u (given_back level t at r).0
 back_keeps sort s ReadUncommitted t u at r apart h = h
 back_keeps sort s ReadCommitted t u at r apart h = read_keeps sort s t u (at r) apart h
 back_keeps sort s RepeatableRead t u at r apart h = h
 back_keeps sort s Serializable t u at r apart h = h
 
-back_none : (level : Isolation) (t : TxnId) (at : Queues) (r : RecordId) → keeps level ≡ true → given_back level t at r ≡ at r
+pub back_none : (level : Isolation) (t : TxnId) (at : Queues) (r : RecordId) → keeps level ≡ true → given_back level t at r ≡ at r
 back_none ReadUncommitted t at r k = absurd (both_ways false refl k)
 back_none ReadCommitted t at r k = absurd (both_ways false refl k)
 back_none RepeatableRead t at r k = refl

@@ -24,3 +24,7 @@ pub mod Ending
 pub mod Calling
 -- A call that was evaluated is told.
 pub mod Told
+-- Steps that change locks alone.
+pub mod Quiet
+-- Changes of the catalog.
+pub mod CatalogSteps
