@@ -37,14 +37,14 @@ use Rattle.je_answers.specs.declared.active.Active.{Active}
 use Rattle.je_answers.specs.Standing.{Standing, database_at, with_at}
 use Rattle.je_answers.specs.Views.{Target, of_db, all_own, seen_changes, view_of, occupied, changes_at, changes_named, needs_in, outcome_of}
 use Rattle.je_answers.specs.Locking.{Queues, record_of, all_got, first_blocked, given_back}
-use Rattle.standing_laws.specs.Right.{AreSound, AreNumbered as AreRising, MayWait}
+use Rattle.standing_laws.specs.Right.{AreSound, HoldsWrite, MayWait}
 use Rattle.standing_laws.proofs.Among.{IsAmong, all_at, all_of, among_map, among_filter, filter_among, among_append, among_first}
 use Rattle.standing_laws.proofs.Writers.{write_is}
 use Rattle.serial_replay.specs.Replay.{AnsweredCall, database_of_call, calls_of}
 use Rattle.serial_replay.proofs.Rising.{RisesBy, one_of_name, rises_kept, same_items, same_names, equal_if_same}
 use Rattle.serial_replay.proofs.Locality.{same_there, within_behind}
 use Rattle.serial_replay.proofs.Changing.{name_in, IsNoneOf, unchanged, one_or_none, rises_changed}
-use Rattle.serial_replay.proofs.Holding.{Sort, IsSort, Holds, ranges, any_lock, range_can, write_can, weaker, all_got_keeps, all_got_gets, read_keeps, IsFreeNeed, free_needs}
+use Rattle.serial_replay.proofs.Holding.{Sort, IsSort, Holds, writes, to_write, ranges, any_lock, range_can, write_can, weaker, all_got_keeps, all_got_gets, read_keeps, IsFreeNeed, free_needs}
 use Rattle.serial_replay.proofs.Occupied.{HasRecord, IsWritten, IsOccupied, of_db_is, occupied_is, occupied_has, occupied_rises, owner_is_active}
 use Rattle.serial_replay.proofs.Shut.{Closed, is_inside, place, IsThere, IsShut, MayWrite, no_phantom, closed_by, IsEndedBy, ended_by, lowest_there, covers, shuts}
 use Rattle.serial_replay.proofs.Stores.{Base, Numbers, base_of, pairs_of, base_in, pairs_in, base_at, pairs_at, IsFit, pairs_rise, named_in}
@@ -355,6 +355,11 @@ module _ (st : Standing) (a : Active) (call : Call) (g : Target) (told : List An
         all_each : (P Q : Need → Type 0) → ((m : Need) → P m → Q m) → (l : List Need) → AllByRecursion P l → AllByRecursion Q l
         all_each P Q f [] h = tt
         all_each P Q f (m ∷ l) h = (f m h.0, all_each P Q f l h.1)
+
+    -- what it changes it then holds for writing
+    pub writes_held : keeps a.level ≡ true → AllByRecursion (λ c. HoldsWrite new.locks.at a.txn (g.db, c)) comes_to.changes
+    writes_held k = all_of (λ c. HoldsWrite new.locks.at a.txn (g.db, c)) comes_to.changes (λ c i.
+        to_write a.txn (new.locks.at (place g.db (On (changed_name c)))).0 ((of_change (λ m. is_write m.asked ≡ true → Holds is_write a.txn (new.locks.at (record_of m)).0) c i (gets is_write writes k)).0 (write_is a.level)))
 
     new_held : a.level ≡ Serializable → (c : RecordChange) → IsAmong c comes_to.changes → Holds is_range a.txn (new.locks.at (place g.db (On (changed_name c)))).0
     new_held ser c k = (of_change (λ m. is_range m.asked ≡ true → Holds is_range a.txn (new.locks.at (record_of m)).0) c k (gets is_range ranges (keeps_ser a.level ser))).0

@@ -100,6 +100,35 @@ can_gets Write m e = can_up Write m refl
 can_gets RangeRead m e = can_up RangeRead m refl
 can_gets RangeWrite m e = refl
 
+write_up : (h m : LockType) → is_write h ≡ true → is_write (upgraded h m) ≡ true
+write_up Read m e = absurd (cc (e))
+write_up RangeRead m e = absurd (cc (e))
+write_up RangeInsert m e = absurd (cc (e))
+write_up Write Read e = refl
+write_up Write Write e = refl
+write_up Write RangeRead e = refl
+write_up Write RangeWrite e = refl
+write_up Write RangeInsert e = refl
+write_up RangeWrite m e = refl
+
+write_gets : (h m : LockType) → is_write m ≡ true → is_write (upgraded h m) ≡ true
+write_gets h Read e = absurd (cc (e))
+write_gets h RangeRead e = absurd (cc (e))
+write_gets h RangeInsert e = absurd (cc (e))
+write_gets Read Write e = refl
+write_gets Read RangeWrite e = refl
+write_gets Write Write e = refl
+write_gets Write RangeWrite e = refl
+write_gets RangeRead Write e = refl
+write_gets RangeRead RangeWrite e = refl
+write_gets RangeWrite Write e = refl
+write_gets RangeWrite RangeWrite e = refl
+write_gets RangeInsert Write e = refl
+write_gets RangeInsert RangeWrite e = refl
+
+pub writes : IsSort is_write
+writes = record { up = write_up; gets = write_gets; can = write_can }
+
 pub ranges : IsSort is_range
 ranges = record { up = range_up; gets = range_gets; can = range_can }
 

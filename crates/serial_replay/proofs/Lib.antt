@@ -28,3 +28,7 @@ pub mod Told
 pub mod Quiet
 -- Changes of the catalog.
 pub mod CatalogSteps
+-- Which answers evaluation gives, and which it never gives.
+pub mod Replies
+-- Each step of an event keeps what holds of the calls.
+pub mod EventSteps
