@@ -37,7 +37,8 @@ use Rattle.je_answers.specs.declared.active.Active.{Active}
 use Rattle.je_answers.specs.Standing.{Standing, database_at, with_at}
 use Rattle.je_answers.specs.Views.{Target, of_db, all_own, seen_changes, view_of, occupied, changes_at, changes_named, needs_in, outcome_of}
 use Rattle.je_answers.specs.Locking.{Queues, record_of, all_got, first_blocked, given_back}
-use Rattle.standing_laws.specs.Right.{AreSound, HoldsWrite, MayWait}
+use Rattle.standing_laws.specs.Right.{AreSound, HasWrite, HoldsWrite, MayWait}
+use Rattle.standing_laws.proofs.Owners.{read_keeps as write_stays}
 use Rattle.standing_laws.proofs.Among.{IsAmong, all_at, all_of, among_map, among_filter, filter_among, among_append, among_first}
 use Rattle.standing_laws.proofs.Writers.{write_is}
 use Rattle.serial_replay.specs.Replay.{AnsweredCall, database_of_call, calls_of}
@@ -99,6 +100,12 @@ back_keeps sort s ReadUncommitted t u at r apart h = h
 back_keeps sort s ReadCommitted t u at r apart h = read_keeps sort s t u (at r) apart h
 back_keeps sort s RepeatableRead t u at r apart h = h
 back_keeps sort s Serializable t u at r apart h = h
+
+write_back : (level : Isolation) (t u : TxnId) (at : Queues) (r : RecordId) → HasWrite u (at r).0 → HasWrite u (given_back level t at r).0
+write_back ReadUncommitted t u at r h = h
+write_back ReadCommitted t u at r h = write_stays t u (at r) h
+write_back RepeatableRead t u at r h = h
+write_back Serializable t u at r h = h
 
 pub back_none : (level : Isolation) (t : TxnId) (at : Queues) (r : RecordId) → keeps level ≡ true → given_back level t at r ≡ at r
 back_none ReadUncommitted t at r k = absurd (both_ways false refl k)
@@ -357,9 +364,13 @@ module _ (st : Standing) (a : Active) (call : Call) (g : Target) (told : List An
         all_each P Q f (m ∷ l) h = (f m h.0, all_each P Q f l h.1)
 
     -- what it changes it then holds for writing
-    pub writes_held : keeps a.level ≡ true → AllByRecursion (λ c. HoldsWrite new.locks.at a.txn (g.db, c)) comes_to.changes
-    writes_held k = all_of (λ c. HoldsWrite new.locks.at a.txn (g.db, c)) comes_to.changes (λ c i.
-        to_write a.txn (new.locks.at (place g.db (On (changed_name c)))).0 ((of_change (λ m. is_write m.asked ≡ true → Holds is_write a.txn (new.locks.at (record_of m)).0) c i (gets is_write writes k)).0 (write_is a.level)))
+    pub writes_held : AllByRecursion (λ c. HoldsWrite new.locks.at a.txn (g.db, c)) comes_to.changes
+    writes_held = all_of (λ c. HoldsWrite new.locks.at a.txn (g.db, c)) comes_to.changes (λ c i.
+        let r : RecordId = place g.db (On (changed_name c)) in
+        let h = (of_change (λ m. is_write m.asked ≡ true → Holds is_write a.txn (all_got a.txn (front ++ back) st.locks.at (record_of m)).0) c i (all_got_gets is_write writes a.txn (front ++ back) st.locks.at free_parts)).0 (write_is a.level) in
+        subst (λ (q : List Lock × List Lock). HasWrite a.txn q.0) (sym (step.locks r))
+        (write_back a.level a.txn a.txn (all_got a.txn (needs_in st a call g) st.locks.at) r
+        (subst (λ (l : List Need). HasWrite a.txn (all_got a.txn l st.locks.at r).0) (sym needs_parts) (to_write a.txn (all_got a.txn (front ++ back) st.locks.at r).0 h))))
 
     new_held : a.level ≡ Serializable → (c : RecordChange) → IsAmong c comes_to.changes → Holds is_range a.txn (new.locks.at (place g.db (On (changed_name c)))).0
     new_held ser c k = (of_change (λ m. is_range m.asked ≡ true → Holds is_range a.txn (new.locks.at (record_of m)).0) c k (gets is_range ranges (keeps_ser a.level ser))).0

@@ -84,7 +84,7 @@ module _ (st new : Standing) (told : List AnsweredCall) (sound : AreSound st) (s
 -- ---- databases
 
 -- a database that is there under its number is found
-found_there : (numbers : Numbers) (last n : ℕ) (store : Store) (d : Database) → IsStore store → AreNumbered numbers last store.databases → IsAmong d store.databases → numbers d.name ≡ n → numbered_in numbers n store ≡ Some d
+pub found_there : (numbers : Numbers) (last n : ℕ) (store : Store) (d : Database) → IsStore store → AreNumbered numbers last store.databases → IsAmong d store.databases → numbers d.name ≡ n → numbered_in numbers n store ≡ Some d
 found_there numbers last n store d right k there is =
     let test : Database → Bool = λ e. numbers e.name == n in
     let f = find_some test store.databases (any_from test store.databases d there (ap (λ (m : ℕ). m == n) is ∙ same_number n)) in
@@ -126,7 +126,7 @@ number_its : (name : List ℕ) (number : ℕ) (numbers : Numbers) (other : List 
 number_its name number numbers other e = cond-true (is_same_bytes other name) number (numbers other) (ap (λ (m : List ℕ). is_same_bytes m name) e ∙ same_bytes name)
 
 -- a used database has another number than one that nobody uses
-used_other : (st : Standing) (t : TxnId) (n m : ℕ) → IsUsedBy st t n → IsUnused st m → n ≡ m → ⊥
+pub used_other : (st : Standing) (t : TxnId) (n m : ℕ) → IsUsedBy st t n → IsUnused st m → n ≡ m → ⊥
 used_other st t n m used unused e = nothing (subst (λ (q : List Lock × List Lock). Holds can_be_held t q.0)
     (ap (λ (k : ℕ). st.locks.at (record { db = k; at = used.its.at })) (used.there ∙ e) ∙ unused.locks used.its.at) used.held)
   where

@@ -200,6 +200,10 @@ module _ (st : Standing) (a : Active) (call : Call) (g : Target) (told : List An
     came_is : outcome_of st a call g ≡ came
     came_is = outcome_is st a call g told may m.right.sound known.ground on.nowhere on.here on.named free
 
+    -- it is an answer of evaluation
+    pub came_evaluated : is_evaluated (outcome_of st a call g).answer ≡ true
+    came_evaluated = ap (λ (e : Evaluated). is_evaluated e.answer) came_is ∙ comes_evaluated g.database.kind call _ may
+
     step : IsCallOf st a call g told may m.right.sound known.ground on.nowhere on.here on.named free done
     step = record {
       store = refl;
@@ -228,53 +232,52 @@ module _ (st : Standing) (a : Active) (call : Call) (g : Target) (told : List An
         by false = known_locks (needs_in st a call g)
 
     -- a transaction of one call, which is committed and ends
-    module _ (keep : keeps a.level ≡ true) where
-      held : AllByRecursion (λ c. HoldsWrite (given_back a.level a.txn (all_got a.txn (needs_in st a call g) st.locks.at)) a.txn (g.db, c)) (outcome_of st a call g).changes
-      held = subst (λ (e : Evaluated). AllByRecursion (λ c. HoldsWrite (given_back a.level a.txn (all_got a.txn (needs_in st a call g) st.locks.at)) a.txn (g.db, c)) e.changes) (sym came_is)
-          (writes_held st a call g told may m.right.sound known.ground on.nowhere on.here on.named free done step keep)
+    held : AllByRecursion (λ c. HoldsWrite (given_back a.level a.txn (all_got a.txn (needs_in st a call g) st.locks.at)) a.txn (g.db, c)) (outcome_of st a call g).changes
+    held = subst (λ (e : Evaluated). AllByRecursion (λ c. HoldsWrite (given_back a.level a.txn (all_got a.txn (needs_in st a call g) st.locks.at)) a.txn (g.db, c)) e.changes) (sym came_is)
+        (writes_held st a call g told may m.right.sound known.ground on.nowhere on.here on.named free done step)
 
-      not_moved : (c : Call) (at : Option Name) (places : List Place) → MayWait c → moved c at places ≡ places
-      not_moved (Get db key rmw) at places w = refl
-      not_moved (GetBoth db key value rmw) at places w = refl
-      not_moved (Put db key value mode) at places w = refl
-      not_moved (Delete db key) at places w = refl
-      not_moved c at places w = absurd w
+    not_moved : (c : Call) (at : Option Name) (places : List Place) → MayWait c → moved c at places ≡ places
+    not_moved (Get db key rmw) at places w = refl
+    not_moved (GetBoth db key value rmw) at places w = refl
+    not_moved (Put db key value mode) at places w = refl
+    not_moved (Delete db key) at places w = refl
+    not_moved c at places w = absurd w
 
-      sound_done : AreSound done
-      sound_done =
-          let s = sound_own st.last_txn st.actives st.own st.places st.waiting (answered a call g st).locks a.txn g.db (outcome_of st a call g).changes sound_answered active held in
-          record {
-            numbers = s.numbers;
-            waits = s.waits;
-            tables = s.tables;
-            owners = s.owners;
-            own_active = s.own_active;
-            own_locked = s.own_locked;
-            places = λ session. ⊎_elim
-                (λ e. cond-true (session == a.session) (moved call (outcome_of st a call g).place (st.places a.session)) (st.places session) e
-                ∙ (not_moved call (outcome_of st a call g).place (st.places a.session) may ∙ sound.places a.session))
-                (λ e. cond-false (session == a.session) (moved call (outcome_of st a call g).place (st.places a.session)) (st.places session) e ∙ sound.places session)
-                (cases_Bool (session == a.session));
-          }
+    sound_done : AreSound done
+    sound_done =
+        let s = sound_own st.last_txn st.actives st.own st.places st.waiting (answered a call g st).locks a.txn g.db (outcome_of st a call g).changes sound_answered active held in
+        record {
+          numbers = s.numbers;
+          waits = s.waits;
+          tables = s.tables;
+          owners = s.owners;
+          own_active = s.own_active;
+          own_locked = s.own_locked;
+          places = λ session. ⊎_elim
+              (λ e. cond-true (session == a.session) (moved call (outcome_of st a call g).place (st.places a.session)) (st.places session) e
+              ∙ (not_moved call (outcome_of st a call g).place (st.places a.session) may ∙ sound.places a.session))
+              (λ e. cond-false (session == a.session) (moved call (outcome_of st a call g).place (st.places a.session)) (st.places session) e ∙ sound.places session)
+              (cases_Bool (session == a.session));
+        }
 
-      -- its changes are named by the database that it is on
-      on_named : (cs : List RecordChange) → changes_on g cs ≡ changes_named done (changes_at g.db cs)
-      on_named [] = refl
-      on_named (c ∷ cs) =
-          ap (λ (l : List Change). change_in g.database.name c ∷ l) (on_named cs)
-          ∙ ap (λ (o : Option Database). changes_in o c ++ changes_named done (changes_at g.db cs)) (sym on.here)
+    -- its changes are named by the database that it is on
+    on_named : (cs : List RecordChange) → changes_on g cs ≡ changes_named done (changes_at g.db cs)
+    on_named [] = refl
+    on_named (c ∷ cs) =
+        ap (λ (l : List Change). change_in g.database.name c ∷ l) (on_named cs)
+        ∙ ap (λ (o : Option Database). changes_in o c ++ changes_named done (changes_at g.db cs)) (sym on.here)
 
-      among_behind : (xs ys : List (ℕ × RecordChange)) (c : ℕ × RecordChange) → IsAmong c ys → IsAmong c (xs ++ ys)
-      among_behind [] ys c k = k
-      among_behind (x ∷ xs) ys c k = inr (among_behind xs ys c k)
+    among_behind : (xs ys : List (ℕ × RecordChange)) (c : ℕ × RecordChange) → IsAmong c ys → IsAmong c (xs ++ ys)
+    among_behind [] ys c k = k
+    among_behind (x ∷ xs) ys c k = inr (among_behind xs ys c k)
 
-      its : (c : ℕ × RecordChange) → IsAmong c (changes_at g.db (outcome_of st a call g).changes) → IsAmong c (done.own a.txn.0)
-      its c k = subst (IsAmong c) (sym (own_its st a call g told may m.right.sound known.ground on.nowhere on.here on.named free done step))
-          (among_behind (st.own a.txn.0) (changes_at g.db came.changes) c (subst (λ (e : Evaluated). IsAmong c (changes_at g.db e.changes)) came_is k))
+    its : (c : ℕ × RecordChange) → IsAmong c (changes_at g.db (outcome_of st a call g).changes) → IsAmong c (done.own a.txn.0)
+    its c k = subst (IsAmong c) (sym (own_its st a call g told may m.right.sound known.ground on.nowhere on.here on.named free done step))
+        (among_behind (st.own a.txn.0) (changes_at g.db came.changes) c (subst (λ (e : Evaluated). IsAmong c (changes_at g.db e.changes)) came_is k))
 
-      pub known_committed : IsKnown (ended a (committed_if_any (changes_on g (outcome_of st a call g).changes) done)) told
-      known_committed =
-          known_end done a (changes_at g.db (outcome_of st a call g).changes) (ended a (committed_if_any (changes_on g (outcome_of st a call g).changes) done)) told sound_done (there_is st a m)
-          (ground_call st a call g told may m.right.sound known.ground on.nowhere on.here on.named free done step) its
-          (end_named done a (changes_at g.db (outcome_of st a call g).changes) (changes_on g (outcome_of st a call g).changes) (on_named (outcome_of st a call g).changes))
-          (others_call st a call g told may m.right.sound known.ground on.nowhere on.here on.named free done step (λ b k apart. known.each b k))
+    pub known_committed : IsKnown (ended a (committed_if_any (changes_on g (outcome_of st a call g).changes) done)) told
+    known_committed =
+        known_end done a (changes_at g.db (outcome_of st a call g).changes) (ended a (committed_if_any (changes_on g (outcome_of st a call g).changes) done)) told sound_done (there_is st a m)
+        (ground_call st a call g told may m.right.sound known.ground on.nowhere on.here on.named free done step) its
+        (end_named done a (changes_at g.db (outcome_of st a call g).changes) (changes_on g (outcome_of st a call g).changes) (on_named (outcome_of st a call g).changes))
+        (others_call st a call g told may m.right.sound known.ground on.nowhere on.here on.named free done step (λ b k apart. known.each b k))

@@ -32,3 +32,5 @@ pub mod CatalogSteps
 pub mod Replies
 -- Each step of an event keeps what holds of the calls.
 pub mod EventSteps
+-- Each event keeps what holds of the calls.
+pub mod EventsKeep

@@ -82,7 +82,7 @@ follows_push : (before : List (ℕ × RecordChange)) (said : List Said) (own : L
 follows_push before [] own s h e = (e ∙ h, ap (λ (l : List (ℕ × RecordChange)). l ++ changes_at s.db (came_to s).changes) h)
 follows_push before (r ∷ said) own s h e = (h.0, follows_push (before ++ changes_at r.db (came_to r).changes) said own s h.1 e)
 
-numbered_le : (last : ℕ) (as_ : List Active) (a : Active) → AreRising last as_ → IsAmong a as_ → a.txn.0 ≤ last
+pub numbered_le : (last : ℕ) (as_ : List Active) (a : Active) → AreRising last as_ → IsAmong a as_ → a.txn.0 ≤ last
 numbered_le last [] a h k = absurd k
 numbered_le last (b ∷ bs) a h (inl e) = subst (λ (x : Active). x.txn.0 ≤ last) e h.0
 numbered_le last (b ∷ bs) a h (inr k) = numbered_le last bs a h.2 k
