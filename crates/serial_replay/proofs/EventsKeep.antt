@@ -1,5 +1,5 @@
 -- Each event keeps what holds of the calls: by cases of the event, cut as after_event is.
-use Rattle.std.proofs.Common.{◌≡◌, ◌≤◌, ◌<◌, ◌+◌, ◌⊎◌, inl, inr, ℕ, ◌==◌, Bool, true, false, cond, not, List, [], ◌∷◌, ◌++◌, Option, None, Some, refl, ap, ap₂, sym, ◌∙◌, subst, ⊎_elim, arith, nat_lt, is_some, length}
+use Rattle.std.proofs.Common.{◌≡◌, ◌≤◌, ◌<◌, ◌+◌, ◌⊎◌, inl, inr, ℕ, ◌==◌, Bool, true, false, cond, not, ◌&&◌, List, [], ◌∷◌, ◌++◌, Option, None, Some, refl, ap, ap₂, sym, ◌∙◌, subst, ⊎_elim, arith, nat_lt, is_some, length}
 use Rattle.std.specs.List.{AllByRecursion}
 use Rattle.std.proofs.lemmas.Bool.{cases_Bool, cond-true, cond-false, both_ways, eqb-true}
 use Rattle.je_order.specs.declared.txn_id.TxnId.{TxnId}
@@ -30,7 +30,7 @@ use Rattle.store_model.specs.declared.event.Event.TheVariants.{Call as Called, R
 use Rattle.store_model.specs.Store.{IsStore, database_of, changed}
 use Rattle.store_model.proofs.StoreLaws.{changed_is_right}
 use Rattle.store_model.specs.Records.{Evaluated}
-use Rattle.store_model.specs.Evaluation.{evaluation, evaluation_in}
+use Rattle.store_model.specs.Evaluation.{Outcome, evaluation, evaluation_in}
 use Rattle.store_model.specs.Refusals.{or_refusal, creation_refusal, access_refusal, taken_refusal, next_txn}
 use Rattle.je_answers.specs.declared.active.Active.{Active}
 use Rattle.je_answers.specs.declared.wait.Wait.{Wait}
@@ -46,7 +46,7 @@ use Rattle.standing_laws.specs.Laws.{IsPlainCall, IsPlainEvent}
 use Rattle.standing_laws.proofs.Among.{IsAmong, any_some, all_at, among_append, found_is, its_session}
 use Rattle.standing_laws.proofs.Moves.{begun_found, drawn_untold}
 use Rattle.standing_laws.proofs.StandingsStay.{MayRun, there_is, may_run, early_parts, has_number, late_number, next_is, begun_is-right, resumed_is-right, no_active, plain}
-use Rattle.serial_replay.specs.Replay.{AnsweredCall, is_on_records, is_evaluated, told_if, told_of, told_by, with_told}
+use Rattle.serial_replay.specs.Replay.{AnsweredCall, is_on_records, is_evaluated, told_if, told_within, told_of, told_resumed, told_by, with_told}
 use Rattle.serial_replay.proofs.Stores.{Numbers, numbered_in, number_of_found, AreNumbered}
 use Rattle.serial_replay.proofs.Keeping.{IsUsedBy, keeps, KeepsOf, IsGround, IsKnown}
 use Rattle.serial_replay.proofs.Ending.{IsEndOf, end_is, known_end}
@@ -247,6 +247,202 @@ known_fate Faults changes o st told sound known done = faulted_known st told sou
 unused_stays : (st : Standing) (db : List ℕ) → IsUnused st (st.numbers db) → (d : Database) (t : TxnId) (n : ℕ) → IsUsedBy st t n → database_at n st ≡ Some d → d.name ≡ db → ⊥
 unused_stays st db unused d t n used e is = used_other st t n (st.numbers db) used unused (sym (number_of_found st.numbers n st.store d e) ∙ ap st.numbers is)
 
-same_numbers : (numbers : Numbers) (o : Option Active) (st : Standing) → (drawn_by o st).numbers ≡ st.numbers
-same_numbers numbers None st = refl
-same_numbers numbers (Some a) st = refl
+known_made : (o : Option Active) (st : Standing) (db : List ℕ) (kind : Kind) (told : List AnsweredCall) → AreSound st → IsKnown st told → database_of db st.store ≡ None → IsKnown (committed_if_any (Make db kind ∷ []) (drawn_by o st)) told
+known_made None st db kind told sound known none =
+    known_catalog st (committed_if_any (Make db kind ∷ []) (drawn_by None st)) told sound
+    (step_from None st (Make db kind) (λ d. Unit {0}) known.ground.store (λ d t n used e. tt) (made_done st.numbers st.last_db st.store db kind known.ground.numbers none)) known
+known_made (Some a) st db kind told sound known none =
+    known_catalog st (committed_if_any (Make db kind ∷ []) st) told sound
+    (step_from (Some a) st (Make db kind) (λ d. Unit {0}) known.ground.store (λ d t n used e. tt) (made_done st.numbers st.last_db st.store db kind known.ground.numbers none)) known
+
+known_removed : (o : Option Active) (st : Standing) (db : List ℕ) (told : List AnsweredCall) → AreSound st → IsKnown st told → IsUnused st (st.numbers db) → IsKnown (committed_if_any (Removed db ∷ []) (drawn_by o st)) told
+known_removed None st db told sound known unused =
+    known_catalog st (committed_if_any (Removed db ∷ []) (drawn_by None st)) told sound
+    (step_from None st (Removed db) (λ d. d.name ≡ db → ⊥) known.ground.store (unused_stays st db unused) (removed_done st.numbers st.last_db st.store db known.ground.numbers)) known
+known_removed (Some a) st db told sound known unused =
+    known_catalog st (committed_if_any (Removed db ∷ []) st) told sound
+    (step_from (Some a) st (Removed db) (λ d. d.name ≡ db → ⊥) known.ground.store (unused_stays st db unused) (removed_done st.numbers st.last_db st.store db known.ground.numbers)) known
+
+known_renamed : (o : Option Active) (st : Standing) (db to : List ℕ) (d : Database) (told : List AnsweredCall) → AreSound st → IsKnown st told → database_of db st.store ≡ Some d → database_of to st.store ≡ None → IsUnused st (st.numbers db)
+    → IsKnown (committed_if_any (Renamed db to ∷ []) (drawn_by o st)) told
+known_renamed None st db to d told sound known found none unused =
+    known_catalog st (committed_if_any (Renamed db to ∷ []) (drawn_by None st)) told sound
+    (step_from None st (Renamed db to) (λ x. x.name ≡ db → ⊥) known.ground.store (unused_stays st db unused) (renamed_done st.numbers st.last_db st.store db to d known.ground.numbers found none)) known
+known_renamed (Some a) st db to d told sound known found none unused =
+    known_catalog st (committed_if_any (Renamed db to ∷ []) st) told sound
+    (step_from (Some a) st (Renamed db to) (λ x. x.name ≡ db → ⊥) known.ground.store (unused_stays st db unused) (renamed_done st.numbers st.last_db st.store db to d known.ground.numbers found none)) known
+
+known_emptied : (o : Option Active) (st : Standing) (db : List ℕ) (told : List AnsweredCall) → AreSound st → IsKnown st told → IsUnused st (st.numbers db) → IsKnown (committed_if_any (Empty db ∷ []) (drawn_by o st)) told
+known_emptied None st db told sound known unused =
+    known_catalog st (committed_if_any (Empty db ∷ []) (drawn_by None st)) told sound
+    (step_from None st (Empty db) (λ d. d.name ≡ db → ⊥) known.ground.store (unused_stays st db unused) (emptied_done st.numbers st.last_db st.store db known.ground.numbers)) known
+known_emptied (Some a) st db told sound known unused =
+    known_catalog st (committed_if_any (Empty db ∷ []) st) told sound
+    (step_from (Some a) st (Empty db) (λ d. d.name ≡ db → ⊥) known.ground.store (unused_stays st db unused) (emptied_done st.numbers st.last_db st.store db known.ground.numbers)) known
+
+-- one of a database that is there, unless somebody uses it
+known_exclusive : (n : ℕ) (outcome : Outcome) (limit : Option Answer) (o : Option Active) (st : Standing) (answer : Answer) (told : List AnsweredCall) → AreSound st → IsKnown st told
+    → (IsUnused st n → IsKnown (committed_if_any outcome.changes (drawn_by o st)) told) → IsExclusive n outcome limit st answer → IsKnown (after_catalog (fate_of answer) outcome.changes o st) told
+known_exclusive n outcome limit o st answer told sound known f (inl p) = known_fate (fate_of answer) outcome.changes o st told sound known (f p.0)
+known_exclusive n outcome limit o st answer told sound known f (inr (inl p)) =
+    subst (λ (x : Fate). IsKnown (after_catalog x outcome.changes o st) told) (sym (ap fate_of p.2)) (known_drawn o st told sound known)
+known_exclusive n outcome limit o st answer told sound known f (inr (inr p)) =
+    subst (λ (x : Fate). IsKnown (after_catalog x outcome.changes o st) told) (sym (ap fate_of p.2)) (known_drawn o st told sound known)
+
+-- the refusals behind the numbers
+late_parts : (st : Standing) (session : ℕ) (call : Call) → late_refusal st session call ≡ None → (there_refusal st session call ≡ None) × (name_refusal st session call ≡ None)
+late_parts st session call h =
+    let a = or_none (number_refusal st.last_txn (active_of session st.actives)) (or_refusal (there_refusal st session call) (or_refusal (name_refusal st session call) (target_refusal call (target_of st session call)))) h in
+    let b = or_none (there_refusal st session call) (or_refusal (name_refusal st session call) (target_refusal call (target_of st session call))) a.1 in
+    (b.0, (or_none (name_refusal st session call) (target_refusal call (target_of st session call)) b.1).0)
+
+-- ---- a call
+
+known_performed : (call : Call) (limit : Option Answer) (st : Standing) (session line : ℕ) (answer : Answer) (vs : List Victim) (told : List AnsweredCall) → IsPlainCall call → AreRight st → IsKnown st told
+    → waits_refusal st (active_of session st.actives) ≡ None → txn_refusal call (active_of session st.actives) ≡ None → late_refusal st session call ≡ None → IsPerformed call limit st session line answer vs
+    → IsKnown (after_performed call st session line answer vs) (with_told (told_of (active_of session st.actives) st call answer) told)
+known_performed (Begin level durability wait) limit st session line answer vs told p r known free txn late is =
+    let none = no_active (active_of session st.actives) (Begin level durability wait) (λ a h. absurd (cc (h))) txn in
+    as_told st _ (told_of (active_of session st.actives) st (Begin level durability wait) answer) told (not_on_records (active_of session st.actives) st (Begin level durability wait) answer refl)
+    (known_with st (record { txn = record { 0 = next_txn st.last_txn }; session = session; level = level; durability = durability; waits = wait; is_auto = false; deadlock = None }) told r.sound known refl
+    (has_number st.last_txn (subst (λ (o : Option Active). number_refusal st.last_txn o ≡ None) none (late_number st session (Begin level durability wait) late))))
+known_performed Commit limit st session line answer vs told p r known free txn late is =
+    as_told st _ (told_of (active_of session st.actives) st Commit answer) told (not_on_records (active_of session st.actives) st Commit answer refl) (known_ending (active_of session st.actives) st session answer told r.sound known refl)
+known_performed Abort limit st session line answer vs told p r known free txn late is =
+    as_told st _ (told_of (active_of session st.actives) st Abort answer) told (not_on_records (active_of session st.actives) st Abort answer refl) (known_abort (active_of session st.actives) st session told r.sound known refl)
+known_performed Lists limit st session line answer vs told p r known free txn late is =
+    as_told st _ (told_of (active_of session st.actives) st Lists answer) told (not_on_records (active_of session st.actives) st Lists answer refl) (known_drawn (active_of session st.actives) st told r.sound known)
+known_performed (Create db kind) limit st session line answer vs told p r known free txn late is =
+    as_told st _ (told_of (active_of session st.actives) st (Create db kind) answer) told (not_on_records (active_of session st.actives) st (Create db kind) answer refl)
+    (known_fate (fate_of answer) (Make db kind ∷ []) (active_of session st.actives) st told r.sound known
+    (known_made (active_of session st.actives) st db kind told r.sound known (not_created (database_of db st.store) _ (late_parts st session (Create db kind) late).1)))
+known_performed (Remove db) limit st session line answer vs told p r known free txn late is =
+    let d = is_there (database_of db st.store) (late_parts st session (Remove db) late).0 in
+    as_told st _ (told_of (active_of session st.actives) st (Remove db) answer) told (not_on_records (active_of session st.actives) st (Remove db) answer refl)
+    (known_exclusive (st.numbers db) (evaluation (Remove db) st.store) limit (active_of session st.actives) st answer told r.sound known
+    (λ unused. subst (λ (x : Option Database). IsKnown (committed_if_any (evaluation_in (Remove db) st.store x).changes (drawn_by (active_of session st.actives) st)) told) (sym d.1)
+    (known_removed (active_of session st.actives) st db told r.sound known unused)) is.0)
+known_performed (Rename db to) limit st session line answer vs told p r known free txn late is =
+    let k = late_parts st session (Rename db to) late in
+    let d = is_there (database_of db st.store) k.0 in
+    as_told st _ (told_of (active_of session st.actives) st (Rename db to) answer) told (not_on_records (active_of session st.actives) st (Rename db to) answer refl)
+    (known_exclusive (st.numbers db) (evaluation (Rename db to) st.store) limit (active_of session st.actives) st answer told r.sound known
+    (λ unused. subst (λ (x : Option Database). IsKnown (committed_if_any (evaluation_in (Rename db to) st.store x).changes (drawn_by (active_of session st.actives) st)) told) (sym d.1)
+    (known_renamed (active_of session st.actives) st db to d.0 told r.sound known d.1 (not_taken (database_of to st.store) k.1) unused)) is.0)
+known_performed (Truncate db) limit st session line answer vs told p r known free txn late is =
+    let d = is_there (database_of db st.store) (late_parts st session (Truncate db) late).0 in
+    as_told st _ (told_of (active_of session st.actives) st (Truncate db) answer) told (not_on_records (active_of session st.actives) st (Truncate db) answer refl)
+    (known_exclusive (st.numbers db) (evaluation (Truncate db) st.store) limit (active_of session st.actives) st answer told r.sound known
+    (λ unused. subst (λ (x : Option Database). IsKnown (committed_if_any (evaluation_in (Truncate db) st.store x).changes (drawn_by (active_of session st.actives) st)) told) (sym d.1)
+    (known_emptied (active_of session st.actives) st db told r.sound known unused)) is.0)
+known_performed (Get db key rmw) limit st session line answer vs told p r known free txn late is =
+    known_run (active_of session st.actives) limit st session line (Get db key rmw) answer vs told tt r known refl free (late_number st session (Get db key rmw) late) is
+known_performed (GetBoth db key value rmw) limit st session line answer vs told p r known free txn late is =
+    known_run (active_of session st.actives) limit st session line (GetBoth db key value rmw) answer vs told tt r known refl free (late_number st session (GetBoth db key value rmw) late) is
+known_performed (Put db key value mode) limit st session line answer vs told p r known free txn late is =
+    known_run (active_of session st.actives) limit st session line (Put db key value mode) answer vs told tt r known refl free (late_number st session (Put db key value mode) late) is
+known_performed (Delete db key) limit st session line answer vs told p r known free txn late is =
+    known_run (active_of session st.actives) limit st session line (Delete db key) answer vs told tt r known refl free (late_number st session (Delete db key) late) is
+known_performed call limit st session line answer vs told p r known free txn late is = absurd p
+
+-- a call is on records, or is not told
+on_or_not : (call : Call) → IsPlainCall call → MayWait call ⊎ (is_on_records call ≡ false)
+on_or_not (Get db key rmw) p = inl tt
+on_or_not (GetBoth db key value rmw) p = inl tt
+on_or_not (Put db key value mode) p = inl tt
+on_or_not (Delete db key) p = inl tt
+on_or_not call p = inr refl
+
+-- a refusal is not told
+refused_untold : (st : Standing) (session : ℕ) (call : Call) (answer refusal : Answer) → IsPlainCall call → answer ≡ refusal → late_refusal st session call ≡ Some refusal → told_of (active_of session st.actives) st call answer ≡ None
+refused_untold st session call answer refusal p is late = ⊎_elim
+    (λ may. not_told (active_of session st.actives) st call answer (ap is_evaluated is ∙ (late_other st session call refusal may late).evaluated))
+    (λ e. not_on_records (active_of session st.actives) st call answer e)
+    (on_or_not call p)
+
+known_evaluated : (o : Option Answer) (limit : Option Answer) (st : Standing) (session line : ℕ) (call : Call) (answer : Answer) (vs : List Victim) (told : List AnsweredCall) → IsPlainCall call → AreRight st → IsKnown st told
+    → early_refusal st session call ≡ None → late_refusal st session call ≡ o → IsEvaluated o limit st session line call answer vs
+    → IsKnown (after_evaluated o st session line call answer vs) (with_told (told_of (active_of session st.actives) st call answer) told)
+known_evaluated (Some refusal) limit st session line call answer vs told p r known early late is =
+    as_told st (drawn_by (active_of session st.actives) st) (told_of (active_of session st.actives) st call answer) told (refused_untold st session call answer refusal p is.0 late)
+    (known_drawn (active_of session st.actives) st told r.sound known)
+known_evaluated None limit st session line call answer vs told p r known early late is =
+    let e = early_parts st session call early in known_performed call limit st session line answer vs told p r known e.0 e.1 late is
+
+pub known_call_answered : (o : Option Answer) (limit : Option Answer) (st : Standing) (session line : ℕ) (call : Call) (answer : Answer) (vs : List Victim) (told : List AnsweredCall) → IsPlainCall call → AreRight st → IsKnown st told
+    → early_refusal st session call ≡ o → IsCallAnswered o limit st session line call answer vs
+    → IsKnown (after_call o st session line call answer vs) (with_told (told_of (active_of session st.actives) st call answer) told)
+known_call_answered (Some refusal) limit st session line call answer vs told p r known early is =
+    as_told st st (told_of (active_of session st.actives) st call answer) told
+    (not_told (active_of session st.actives) st call answer (ap is_evaluated is.0 ∙ (early_other st session call refusal early).evaluated)) known
+known_call_answered None limit st session line call answer vs told p r known early is =
+    known_evaluated (late_refusal st session call) limit st session line call answer vs told p r known early refl is
+
+-- ---- the other events
+
+told_going : (o : Option Active) (st : Standing) (w : Wait) (call : Call) (answer : Answer) → told_of o (resumed st w) call answer ≡ told_of o st call answer
+told_going None st w call answer = refl
+told_going (Some a) st w call answer = within a.is_auto
+  where
+    if_it : (b : Bool) → told_if b a (resumed st w) call answer ≡ told_if b a st call answer
+    if_it true = refl
+    if_it false = refl
+
+    within : (b : Bool) → told_within b a (resumed st w) call answer ≡ told_within b a st call answer
+    within true = refl
+    within false = if_it (is_on_records call && is_evaluated answer)
+
+known_resumed : (o : Option Wait) (limit : Option Answer) (st : Standing) (session line : ℕ) (answer : Answer) (vs : List Victim) (told : List AnsweredCall) → st.fault ≡ None → AreRight st → IsKnown st told → wait_of session st.waiting ≡ o
+    → IsResumed o limit st session line answer vs → IsKnown (after_resumed o st session line answer vs) (with_told (told_resumed o st session answer) told)
+known_resumed None limit st session line answer vs told fault r known its is = absurd is
+known_resumed (Some w) limit st session line answer vs told fault r known its is =
+    let f = found_is (λ (v : Wait). v.session == session) st.waiting w its in
+    let same : w.session ≡ session = eqb-true w.session session f.1 in
+    let p : IsPlainCall w.call = plain w.call (all_at (λ (v : Wait). MayWait v.call) st.waiting w r.calls f.0) in
+    subst (λ (x : Option AnsweredCall). IsKnown (after_call (early_refusal (resumed st w) session w.call) (resumed st w) session line w.call answer vs) (with_told x told)) (told_going (active_of session st.actives) st w w.call answer)
+    (known_call_answered (early_refusal (resumed st w) session w.call) limit (resumed st w) session line w.call answer vs told p
+    (resumed_is-right st w r (ap (λ (n : ℕ). wait_of n st.waiting) same ∙ its) (subst (λ (x : Option Fault). IsReady x st w.txn) fault is.1))
+    (same_known st (resumed st w) told r.sound (record { store = refl; numbers = refl; last_db = refl; last_txn = (omega arith); own = λ t. refl }) (λ x. refl) refl known) refl is.2)
+
+-- a session ends, and its waiting call with it
+known_session : (o : Option Active) (st : Standing) (session : ℕ) (told : List AnsweredCall) → AreRight st → IsKnown st told → active_of session st.actives ≡ o → IsKnown (ended_if_any o (record st { waiting = without_wait session st.waiting })) told
+known_session None st session told r known its =
+    same_known st (record st { waiting = without_wait session st.waiting }) told r.sound (record { store = refl; numbers = refl; last_db = refl; last_txn = (omega arith); own = λ t. refl }) (λ x. refl) refl known
+known_session (Some a) st session told r known its =
+    known_end st a [] (ended a (record st { waiting = without_wait session st.waiting })) told r.sound (its_session session st.actives a its).0 known.ground (λ c k. absurd k)
+    (record { store = refl; numbers = refl; last_db = refl; last_txn = refl; actives = refl; own = λ t. refl; locks = λ x. refl }) (λ b k apart. known.each b k)
+
+-- marks of syncs, checkpoints and faults
+known_mark : (st new : Standing) (told : List AnsweredCall) → AreSound st → IsKnown st told → new.store ≡ st.store → new.numbers ≡ st.numbers → new.last_db ≡ st.last_db → new.last_txn ≡ st.last_txn → ((t : ℕ) → new.own t ≡ st.own t)
+    → ((x : RecordId) → new.locks.at x ≡ st.locks.at x) → new.actives ≡ st.actives → IsKnown new told
+known_mark st new told sound known a b c d e f g = same_known st new told sound (record { store = a; numbers = b; last_db = c; last_txn = omega (arith, d); own = e }) f g known
+
+known_faulted : (answer : Answer) (st : Standing) (told : List AnsweredCall) → AreSound st → IsKnown st told → IsKnown (faulted_if answer st) told
+known_faulted DiskFault st told sound known = faulted_known st told sound known
+known_faulted answer st told sound known = known
+
+known_sync : (answer : Answer) (st : Standing) (told : List AnsweredCall) → AreSound st → IsKnown st told → IsKnown (after_begin st answer) told
+known_sync Done st told sound known = known_mark st (record st { begun = Some st.commits }) told sound known refl refl refl refl (λ t. refl) (λ x. refl) refl
+known_sync DiskFault st told sound known = faulted_known st told sound known
+known_sync answer st told sound known = known
+
+known_synced : (answer : Answer) (st : Standing) (told : List AnsweredCall) → AreSound st → IsKnown st told → IsKnown (after_end st answer) told
+known_synced answer st told sound known = known_faulted answer (record st { begun = None }) told sound (known_mark st (record st { begun = None }) told sound known refl refl refl refl (λ t. refl) (λ x. refl) refl)
+
+known_turn : (step : Step) (answer : Answer) (st : Standing) (told : List AnsweredCall) → AreSound st → IsKnown st told → IsKnown (after_turn step st answer) told
+known_turn BeginStep Done st told sound known = known_mark st (record st { in_checkpoint = true }) told sound known refl refl refl refl (λ t. refl) (λ x. refl) refl
+known_turn Finish Done st told sound known = known_mark st (record st { in_checkpoint = false }) told sound known refl refl refl refl (λ t. refl) (λ x. refl) refl
+known_turn BeginStep answer st told sound known = known_faulted answer st told sound known
+known_turn Finish answer st told sound known = known_faulted answer st told sound known
+known_turn Flush answer st told sound known = known_faulted answer st told sound known
+known_turn SyncStep answer st told sound known = known_faulted answer st told sound known
+
+pub event_known : (limit : Option Answer) (st : Standing) (event : Event) (told : List AnsweredCall) → st.fault ≡ None → AreRight st → IsKnown st told → IsAnswered limit st event → IsPlainEvent event
+    → IsKnown (after_event st event) (with_told (told_by st event) told)
+event_known limit st (Called session line call answer victims) told fault r known is p = known_call_answered (early_refusal st session call) limit st session line call answer victims told p r known refl is
+event_known limit st (Resume session line answer victims) told fault r known is p = known_resumed (wait_of session st.waiting) limit st session line answer victims told fault r known refl is
+event_known limit st (End session) told fault r known is p = known_session (active_of session st.actives) st session told r known refl
+event_known limit st (WriteOut answer) told fault r known is p = known_faulted answer st told r.sound known
+event_known limit st (SyncBegin answer) told fault r known is p = known_sync answer st told r.sound known
+event_known limit st (SyncEnd answer) told fault r known is p = known_synced answer st told r.sound known
+event_known limit st (Turn line step answer) told fault r known is p = known_turn step answer st told r.sound known
