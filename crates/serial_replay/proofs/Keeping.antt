@@ -211,7 +211,7 @@ keeps RepeatableRead = true
 keeps Serializable = true
 
 -- the changes before a call are among the transaction's
-follows_from : (before : List (ℕ × RecordChange)) (said : List Said) (own : List (ℕ × RecordChange)) (c : ℕ × RecordChange) → Follows before said own → IsAmong c before → IsAmong c own
+pub follows_from : (before : List (ℕ × RecordChange)) (said : List Said) (own : List (ℕ × RecordChange)) (c : ℕ × RecordChange) → Follows before said own → IsAmong c before → IsAmong c own
 follows_from before [] own c h a = subst (IsAmong c) (sym h) a
 follows_from before (s ∷ said) own c h a = follows_from (before ++ changes_at s.db (came_to s).changes) said own c h.1 (among_first before (changes_at s.db (came_to s).changes) c a)
 

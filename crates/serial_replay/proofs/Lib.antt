@@ -34,3 +34,5 @@ pub mod Replies
 pub mod EventSteps
 -- Each event keeps what holds of the calls.
 pub mod EventsKeep
+-- What is owed at a commit, and journals.
+pub mod Replaying

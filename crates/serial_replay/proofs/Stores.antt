@@ -195,7 +195,7 @@ named_same numbers more store other (c ∷ cs) same =
     (in_based (numbered_in numbers c.0 store) c.1 ∙ (ap (λ (o : Option Base). changes_based o c.1) (same c (inl refl)) ∙ sym (in_based (numbered_in more c.0 other) c.1)))
     (named_same numbers more store other cs (λ d a. same d (inr a)))
 
-named_one : (numbers : Numbers) (store : Store) (c : ℕ × RecordChange) (b : Base) → base_in numbers c.0 store ≡ Some b → changes_in (numbered_in numbers c.0 store) c.1 ≡ change_in b.0 c.1 ∷ []
+pub named_one : (numbers : Numbers) (store : Store) (c : ℕ × RecordChange) (b : Base) → base_in numbers c.0 store ≡ Some b → changes_in (numbered_in numbers c.0 store) c.1 ≡ change_in b.0 c.1 ∷ []
 named_one numbers store c b e = in_based (numbered_in numbers c.0 store) c.1 ∙ ap (λ (o : Option Base). changes_based o c.1) e
 
 pub named_append : (numbers : Numbers) (store : Store) (cs ds : List (ℕ × RecordChange)) → named_in numbers store (cs ++ ds) ≡ named_in numbers store cs ++ named_in numbers store ds
