@@ -36,3 +36,7 @@ pub mod EventSteps
 pub mod EventsKeep
 -- What is owed at a commit, and journals.
 pub mod Replaying
+-- Who waits for whom after each step of the locks.
+pub mod WaitCycles
+-- No cycle stands after an event.
+pub mod CycleEvents

@@ -9,6 +9,7 @@ use Rattle.je_answers.specs.Alone.{Alone, alone}
 use Rattle.je_answers.specs.After.{AnswersAsModel}
 use Rattle.standing_laws.specs.Laws.{IsPlainEvent}
 use Rattle.serial_replay.specs.Replay.{ReplaysSerially}
+use Rattle.serial_replay.specs.Cycles.{NeverWaitInCycle}
 
 -- numbers of databases: 0 where the store has none of that name; else allocated before, and no two alike
 pub record HaveNumbers (store : Store) (last_db : ℕ) (numbers : List ℕ → ℕ) : Type 0 where
@@ -20,3 +21,7 @@ pub record HaveNumbers (store : Store) (last_db : ℕ) (numbers : List ℕ → �
 abbrev pub JournalsReplay : Type 0
 JournalsReplay = (p : Alone) (limits : List (Option Answer)) (journal : List Event) → IsStore p.store → HaveNumbers p.store p.last_db p.numbers →
     AnswersAsModel (alone p) limits journal → AllByRecursion IsPlainEvent journal → ReplaysSerially (alone p) journal
+
+-- and after no event does anybody wait in a cycle
+abbrev pub CyclesNeverStand : Type 0
+CyclesNeverStand = (p : Alone) (limits : List (Option Answer)) (journal : List Event) → AnswersAsModel (alone p) limits journal → AllByRecursion IsPlainEvent journal → NeverWaitInCycle (alone p) journal

@@ -1,5 +1,5 @@
 // What holds of every journal.
-ghost use Rattle.serial_replay.specs.Laws.{JournalsReplay};
+ghost use Rattle.serial_replay.specs.Laws.{CyclesNeverStand, JournalsReplay};
 
 /// Each committed transaction of a journal that answers as the model is as its level promises: a
 /// serializable one gives the same answers and changes where its calls are made again right before its
@@ -7,4 +7,9 @@ ghost use Rattle.serial_replay.specs.Laws.{JournalsReplay};
 /// calls by a cursor.
 pub fn journals_replay()
     ensures { JournalsReplay }
+{}
+
+/// After no event of such a journal do transactions wait for one another in a cycle.
+pub fn cycles_never_stand()
+    ensures { CyclesNeverStand }
 {}

@@ -1,0 +1,1 @@
+-- No cycle stands after an event.
