@@ -55,6 +55,7 @@ use Rattle.serial_replay.proofs.Ending.{end_is, end_named, known_end}
 use Rattle.serial_replay.proofs.Calling.{comes_to, outcome_is, IsCallOf, own_its, writes_held}
 use Rattle.serial_replay.proofs.Told.{told_now, ground_call, others_call, known_call}
 use Rattle.serial_replay.proofs.Quiet.{IsQuiet, KeepsLocks, GoesOn, known_quiet, same_locks, locks_with}
+use Rattle.serial_replay.proofs.Victims.{victims_keep}
 use Rattle.serial_replay.proofs.Replies.{IsLimit, limit_is, comes_evaluated, evaluated_succeeds, not_told, auto_untold, is_told}
 
 -- ---- nothing more is told
@@ -105,15 +106,6 @@ no_own c own k = absurd k
 pub known_ended : (st : Standing) (a : Active) (told : List AnsweredCall) → AreSound st → IsAmong a st.actives → IsKnown st told → IsKnown (ended a st) told
 known_ended st a told sound there known = known_end st a [] (ended a st) told sound there known.ground (λ c k. no_own c (st.own a.txn.0) k) (end_is st a []) (λ b k apart. known.each b k)
 
-known_all_ended : (l : List Active) (st : Standing) (told : List AnsweredCall) → HaveOwnSessions l → AllByRecursion (λ a. IsAmong a st.actives) l → AllByRecursion (λ a. AllByRecursion (λ w. (w.session == a.session) ≡ false) st.waiting) l
-    → AreRight st → IsKnown st told → IsKnown (all_ended l st) told
-known_all_ended [] st told own there others r known = known
-known_all_ended (a ∷ as_) st told own there others r known =
-    known_all_ended as_ (ended a st) told own.1
-    (all_of (λ b. IsAmong b (without_session a.session st.actives)) as_ (λ b k. among_filter (λ (c : Active). not (c.session == a.session)) st.actives b (all_at (λ c. IsAmong c st.actives) as_ b there.1 k)
-    (ap not (all_at (λ (c : Active). (c.session == a.session) ≡ false) as_ b own.0 k))))
-    others.1 (right_ended st a r there.0 others.0) (known_ended st a told r.sound there.0 known)
-
 -- ---- a call on records, of a transaction that may run it
 
 module _ (st : Standing) (a : Active) (call : Call) (g : Target) (told : List AnsweredCall) (may : MayWait call) (m : MayRun st a) (known : IsKnown st told) (on : IsTargetOf st call g) where
@@ -154,39 +146,9 @@ module _ (st : Standing) (a : Active) (call : Call) (g : Target) (told : List An
         sym (same_level (find (λ (v : Victim). v.session == c.0.session) vs) c.0) ∙ ap (λ (x : Active). x.level) c.2,
         λ sort s r h. wait_keeps sort s a.txn b.txn n (txns_of vs st.actives) (locks_before st a call g) r (all_got_keeps sort s a.txn b.txn (granted_part a.txn (needs_in st a call g) st.locks.at) st.locks.at r h)))
 
-  right_waiting : (line : ℕ) (n : Need) (vs : List Victim) → first_blocked a.txn (needs_in st a call g) st.locks.at ≡ Some n → AreRight (stopped_at line n vs)
-  right_waiting line n vs stopped = right_stays st.last_txn st.actives st.own st.places st.waiting (locks_before st a call g) a (asking a line call) n vs
-      (record {
-        sound = sound_all_got st.last_txn st.actives st.own st.places st.waiting st.locks a.txn (granted_part a.txn (needs_in st a call g) st.locks.at) sound active m.told (granted_free a.txn (needs_in st a call g) st.locks.at);
-        its = m.its;
-        session = refl;
-        txn = refl;
-        told = m.told;
-        others = untold_has-no_wait st a m.right m.its m.told;
-        stopped = stopped_behind a.txn (needs_in st a call g) st.locks.at n stopped;
-      }) m.right.waiting m.right.calls may
-
-  not_true : (b : Bool) → not b ≡ true → b ≡ false
-  not_true true h = absurd (cc (h))
-  not_true false h = refl
-
-  apart_victims : (vs : List Victim) (w : Wait) (b : Active) → is_victim b.session vs ≡ true → is_victim w.session vs ≡ false → (w.session == b.session) ≡ false
-  apart_victims vs w b h k = ⊎_elim
-      (λ e. absurd (both_ways (is_victim w.session vs) k (ap (λ (n : ℕ). is_victim n vs) (eqb-true w.session b.session e) ∙ h)))
-      (λ e. e)
-      (cases_Bool (w.session == b.session))
-
   pub known_stop : (b : Bool) (line : ℕ) (n : Need) (vs : List Victim) → first_blocked a.txn (needs_in st a call g) st.locks.at ≡ Some n → IsKnown (after_stop b st a line call g n vs) told
   known_stop false line n vs stopped = known_locks (granted_part a.txn (needs_in st a call g) st.locks.at)
-  known_stop true line n vs stopped =
-      let after : Standing = stopped_at line n vs in
-      subst (λ (x : Standing). IsKnown x told) (ends_marked vs vs st.actives after)
-      (known_all_ended (autos_in vs (marked vs st.actives)) after told
-      (own_filter (is_auto_victim vs) (marked vs st.actives) (marked_own vs st.actives sound.waits.sessions))
-      (all_of (λ b. IsAmong b after.actives) (autos_in vs (marked vs st.actives)) (λ b k. (filter_among (is_auto_victim vs) (marked vs st.actives) b k).0))
-      (all_of (λ b. AllByRecursion (λ w. (w.session == b.session) ≡ false) after.waiting) (autos_in vs (marked vs st.actives)) (λ b k. all_of (λ w. (w.session == b.session) ≡ false) after.waiting (λ w h.
-      apart_victims vs w b (and_parts b.is_auto (is_victim b.session vs) (filter_among (is_auto_victim vs) (marked vs st.actives) b k).1).1 (not_true (is_victim w.session vs) (filter_among (kept_by vs) (st.waiting ++ asking a line call ∷ []) w h).1))))
-      (right_waiting line n vs stopped) (known_waiting line n vs))
+  known_stop true line n vs stopped = victims_keep st a line call g n vs may m stopped (λ x. IsKnown x told) (λ x b r k h. known_ended x b told r.sound k h) (known_waiting line n vs)
 
   -- ---- it gets its locks
 

@@ -30,6 +30,8 @@ pub mod Quiet
 pub mod CatalogSteps
 -- Which answers evaluation gives, and which it never gives.
 pub mod Replies
+-- A call that waits, and its victims that end.
+pub mod Victims
 -- Each step of an event keeps what holds of the calls.
 pub mod EventSteps
 -- Each event keeps what holds of the calls.

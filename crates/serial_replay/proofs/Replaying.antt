@@ -220,7 +220,7 @@ owed_event limit st event told known is = tt
 
 -- ---- after a fault
 
-faulted_refusal : (st : Standing) (session : ℕ) (call : Call) (first : Fault) → st.fault ≡ Some first → early_refusal st session call ≡ Some (Invalid first)
+pub faulted_refusal : (st : Standing) (session : ℕ) (call : Call) (first : Fault) → st.fault ≡ Some first → early_refusal st session call ≡ Some (Invalid first)
 faulted_refusal st session call first e =
     ap (λ (o : Option Fault). or_refusal (fault_refusal o) (or_refusal (waits_refusal st (active_of session st.actives)) (or_refusal (abort_refusal call (active_of session st.actives)) (txn_refusal call (active_of session st.actives))))) e
 
@@ -232,7 +232,7 @@ owed_faulted limit st (Called session line Commit answer vs) told first e is =
 owed_faulted limit st event told first e is = tt
 
 -- and the fault stays
-abbrev HasFault : Standing → Type 0
+abbrev pub HasFault : Standing → Type 0
 HasFault st = (first : Fault) × (st.fault ≡ Some first)
 
 fault_called : (st : Standing) (session line : ℕ) (call : Call) (answer : Answer) (vs : List Victim) → HasFault st → HasFault (after_call (early_refusal st session call) st session line call answer vs)
@@ -263,7 +263,7 @@ fault_turned Finish answer st f = fault_if answer st f
 fault_turned Flush answer st f = fault_if answer st f
 fault_turned SyncStep answer st f = fault_if answer st f
 
-fault_stays : (st : Standing) (event : Event) → HasFault st → HasFault (after_event st event)
+pub fault_stays : (st : Standing) (event : Event) → HasFault st → HasFault (after_event st event)
 fault_stays st (Called session line call answer victims) f = fault_called st session line call answer victims f
 fault_stays st (Resume session line answer victims) f = fault_resumed (wait_of session st.waiting) st session line answer victims f
 fault_stays st (End session) f = fault_ended (active_of session st.actives) (record st { waiting = without_wait session st.waiting }) f
