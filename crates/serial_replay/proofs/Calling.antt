@@ -1,5 +1,5 @@
 -- A call gets its locks and is evaluated: it comes into no range of another transaction, and what it read is shut from then on.
-use Rattle.std.proofs.Common.{◌≡◌, ◌≤◌, ◌⊎◌, inl, inr, ℕ, ◌==◌, Bool, true, false, cond, not, List, [], ◌∷◌, ◌++◌, map, filter, Option, None, Some, refl, ap, ap₂, sym, ◌∙◌, subst, ⊎_elim, arith, is_eq}
+use Rattle.std.proofs.Common.{◌≡◌, ◌⊎◌, inl, inr, ℕ, ◌==◌, Bool, true, false, List, [], ◌∷◌, ◌++◌, map, filter, Option, None, Some, refl, ap, ap₂, sym, ◌∙◌, subst, ⊎_elim, arith, is_eq}
 use Rattle.std.specs.List.{flat_map, AllByRecursion}
 use Rattle.std.proofs.lemmas.Bool.{cases_Bool, cond-true, cond-false, both_ways, eqb-true}
 use Rattle.std.proofs.lemmas.Bool.Decides.{nat_tests}
@@ -10,10 +10,10 @@ use Rattle.je_order.specs.declared.bound.Bound.{Bound}
 use Rattle.je_order.specs.declared.bound.Bound.TheVariants.{At as On}
 use Rattle.je_order.specs.declared.txn_id.TxnId.{TxnId}
 use Rattle.je_order.specs.Transactions.{is_same_txn}
-use Rattle.je_order.proofs.TxnIds.{same_is, same_itself}
+use Rattle.je_order.proofs.TxnIds.{same_is}
 use Rattle.je_order.proofs.Orderings.{name_exact, equal_from_test}
 use Rattle.lock_mode.specs.declared.lock_type.LockType.{LockType}
-use Rattle.lock_mode.specs.declared.lock_type.LockType.TheVariants.{RangeInsert, RangeWrite}
+use Rattle.lock_mode.specs.declared.lock_type.LockType.TheVariants.{RangeInsert}
 use Rattle.lock_mode.specs.Modes.{can_be_held}
 use Rattle.lock_table.specs.declared.lock.Lock.{Lock}
 use Rattle.lock_table.specs.declared.record_id.RecordId.{RecordId}
@@ -23,34 +23,33 @@ use Rattle.store_model.specs.declared.isolation.Isolation.{Isolation}
 use Rattle.store_model.specs.declared.isolation.Isolation.TheVariants.{ReadUncommitted, ReadCommitted, RepeatableRead, Serializable}
 use Rattle.store_model.specs.declared.call.Call.{Call}
 use Rattle.store_model.specs.declared.need.Need.{Need}
-use Rattle.store_model.specs.declared.store.Database.{Database}
 use Rattle.store_model.specs.declared.store.Store.{Store}
 use Rattle.store_model.specs.declared.answer.Answer.{Answer}
 use Rattle.store_model.specs.declared.answer.Answer.TheVariants.{Rec}
 use Rattle.store_model.specs.declared.record_change.RecordChange.{RecordChange}
-use Rattle.store_model.specs.Store.{Pair, name_of, all_pairs_changed, IsStore}
+use Rattle.store_model.specs.Store.{Pair, name_of, all_pairs_changed}
 use Rattle.store_model.specs.Reads.{Look, Range, is_within, seen, passed_to, at_name}
 use Rattle.store_model.specs.Reads.Way.{Lowest}
 use Rattle.store_model.specs.Records.{Evaluated, look_of, conclude}
-use Rattle.store_model.specs.Needs.{Part, need, part_of, part_needs, ends, write_type, write_needs, insert_needs, first_from, needs_of, changed_name}
+use Rattle.store_model.specs.Needs.{Part, need, part_of, part_needs, ends, write_type, write_needs, insert_needs, first_from, changed_name}
 use Rattle.je_answers.specs.declared.active.Active.{Active}
 use Rattle.je_answers.specs.Standing.{Standing, database_at, with_at}
-use Rattle.je_answers.specs.Views.{Target, of_db, all_own, seen_changes, view_of, occupied, changes_at, changes_named, needs_in, outcome_of}
+use Rattle.je_answers.specs.Views.{Target, of_db, seen_changes, view_of, occupied, changes_at, needs_in, outcome_of}
 use Rattle.je_answers.specs.Locking.{Queues, record_of, all_got, first_blocked, given_back}
 use Rattle.standing_laws.specs.Right.{AreSound, HasWrite, HoldsWrite, MayWait}
 use Rattle.standing_laws.proofs.Owners.{read_keeps as write_stays}
 use Rattle.standing_laws.proofs.Among.{IsAmong, all_at, all_of, among_map, among_filter, filter_among, among_append, among_first}
 use Rattle.standing_laws.proofs.Writers.{write_is}
-use Rattle.serial_replay.specs.Replay.{AnsweredCall, database_of_call, calls_of}
-use Rattle.serial_replay.proofs.Rising.{RisesBy, one_of_name, rises_kept, same_items, same_names, equal_if_same}
+use Rattle.serial_replay.specs.Replay.{AnsweredCall, database_of_call}
+use Rattle.serial_replay.proofs.Rising.{RisesBy, one_of_name, rises_kept, same_items, same_names}
 use Rattle.serial_replay.proofs.Locality.{same_there, within_behind}
-use Rattle.serial_replay.proofs.Changing.{name_in, IsNoneOf, unchanged, one_or_none, rises_changed}
-use Rattle.serial_replay.proofs.Holding.{Sort, IsSort, Holds, writes, to_write, ranges, any_lock, range_can, write_can, weaker, all_got_keeps, all_got_gets, read_keeps, IsFreeNeed, free_needs}
-use Rattle.serial_replay.proofs.Occupied.{HasRecord, IsWritten, IsOccupied, of_db_is, occupied_is, occupied_has, occupied_rises, owner_is_active}
+use Rattle.serial_replay.proofs.Changing.{name_in, unchanged, one_or_none, rises_changed}
+use Rattle.serial_replay.proofs.Holding.{Sort, IsSort, Holds, writes, to_write, ranges, any_lock, range_can, weaker, all_got_keeps, all_got_gets, read_keeps, IsFreeNeed, free_needs}
+use Rattle.serial_replay.proofs.Occupied.{HasRecord, IsWritten, IsOccupied, of_db_is, occupied_is, occupied_has, occupied_rises}
 use Rattle.serial_replay.proofs.Shut.{Closed, is_inside, place, IsThere, IsShut, MayWrite, no_phantom, closed_by, IsEndedBy, ended_by, lowest_there, covers, shuts}
-use Rattle.serial_replay.proofs.Stores.{Base, Numbers, base_of, pairs_of, base_in, pairs_in, base_at, pairs_at, IsFit, pairs_rise, named_in}
-use Rattle.serial_replay.proofs.Keeping.{Said, look_in, came_to, view_in, occupied_at, IsUsedBy, base_of_call, IsSer, IsHeldRecord, IsRepeatableAs, IsRepeatable, IsStable, IsKept, own_same, fits_kept, ser_kept, repeatable_kept, Follows, call_by, KeepsOf, keeps, before_own, same_calls, keeps_kept, IsGround, EachBut}
-use Rattle.serial_replay.proofs.Calls.{evaluation_is, needs_are, IsSerPart, ser_part, nothing_seen, IsProper, changes_proper, AnswersRecord, answers_record}
+use Rattle.serial_replay.proofs.Stores.{Base, Numbers, base_of, pairs_of, base_in, pairs_in, base_at, pairs_at, IsFit, pairs_rise}
+use Rattle.serial_replay.proofs.Keeping.{Said, view_in, occupied_at, base_of_call, IsSer, IsHeldRecord, IsRepeatableAs, IsRepeatable, IsStable, IsKept, keeps, IsGround}
+use Rattle.serial_replay.proofs.Calls.{evaluation_is, needs_are, IsSerPart, ser_part, nothing_seen, AnswersRecord, answers_record}
 
 -- ---- lists
 
@@ -143,7 +142,7 @@ seen_owned Serializable st txn c k = (txn, k)
 -- ---- the call
 
 module _ (st : Standing) (a : Active) (call : Call) (g : Target) (told : List AnsweredCall) (may : MayWait call) (sound : AreSound st) (ground : IsGround st told) (nowhere : g.at ≡ None) (here : database_at g.db st ≡ Some g.database)
-      (named : g.database.name ≡ database_of_call call) (free : first_blocked a.txn (needs_in st a call g) st.locks.at ≡ None) where
+    (named : g.database.name ≡ database_of_call call) (free : first_blocked a.txn (needs_in st a call g) st.locks.at ≡ None) where
   abbrev kind : Kind
   kind = g.database.kind
 
@@ -210,10 +209,13 @@ module _ (st : Standing) (a : Active) (call : Call) (g : Target) (told : List An
       (λ c. let o = seen_owned a.level st a.txn.0 (g.db, c.0) (of_db_is g.db (seen_changes a.level st a.txn.0) c.0 c.1) in
       let f = all_at (IsFit st) (st.own o.0) (g.db, c.0) (ground.fits o.0) o.1 in
       inr (record { txn = o.0; change = c.0; there = o.1; named = proper_is c.0 f.base (some_base f.base base (sym f.there ∙ base_is)) f.its c.2 }))
-      (λ none. inl (record { pair = r.pair; named = r.named;
+      (λ none. inl (record {
+        pair = r.pair;
+        named = r.named;
         there = subst (IsAmong r.pair) (sym pairs_are)
             (same_there kind view g.database.pairs r.pair
-            (subst (λ (m : Name). at_name kind m view ≡ at_name kind m g.database.pairs) (sym r.named) (unchanged kind (of_db g.db (seen_changes a.level st a.txn.0)) x g.database.pairs none)) r.there) }))
+            (subst (λ (m : Name). at_name kind m view ≡ at_name kind m g.database.pairs) (sym r.named) (unchanged kind (of_db g.db (seen_changes a.level st a.txn.0)) x g.database.pairs none)) r.there);
+      }))
       (one_or_none kind x (of_db g.db (seen_changes a.level st a.txn.0)))
     where
       proper_is : (c : RecordChange) (q : Base) → q ≡ base → name_in q.1 c ≡ changed_name c → name_in kind c ≡ x → changed_name c ≡ x
@@ -292,8 +294,12 @@ module _ (st : Standing) (a : Active) (call : Call) (g : Target) (told : List An
     written_now n x w = ⊎_elim
         (λ e. its (among_append (st.own a.txn.0) (changes_at g.db comes_to.changes) (n, w.change)
         (subst (IsAmong (n, w.change)) (step.own w.txn ∙ cond-true (w.txn == a.txn.0) (st.own a.txn.0 ++ changes_at g.db comes_to.changes) (st.own w.txn) e) w.there)))
-        (λ e. inl (record { txn = w.txn; change = w.change; named = w.named;
-          there = subst (IsAmong (n, w.change)) (step.own w.txn ∙ cond-false (w.txn == a.txn.0) (st.own a.txn.0 ++ changes_at g.db comes_to.changes) (st.own w.txn) e) w.there }))
+        (λ e. inl (record {
+          txn = w.txn;
+          change = w.change;
+          named = w.named;
+          there = subst (IsAmong (n, w.change)) (step.own w.txn ∙ cond-false (w.txn == a.txn.0) (st.own a.txn.0 ++ changes_at g.db comes_to.changes) (st.own w.txn) e) w.there;
+        }))
         (cases_Bool (w.txn == a.txn.0))
       where
         its : IsAmong (n, w.change) (st.own a.txn.0) ⊎ IsAmong (n, w.change) (changes_at g.db comes_to.changes) → IsWritten st.own n x ⊎ IsNewAt n x
@@ -302,11 +308,19 @@ module _ (st : Standing) (a : Active) (call : Call) (g : Target) (told : List An
 
     written_still : (n : ℕ) (x : Name) → IsWritten st.own n x → IsWritten new.own n x
     written_still n x w = ⊎_elim
-        (λ e. record { txn = w.txn; change = w.change; named = w.named;
+        (λ e. record {
+          txn = w.txn;
+          change = w.change;
+          named = w.named;
           there = subst (IsAmong (n, w.change)) (sym (step.own w.txn ∙ cond-true (w.txn == a.txn.0) (st.own a.txn.0 ++ changes_at g.db comes_to.changes) (st.own w.txn) e))
-              (among_first (st.own a.txn.0) (changes_at g.db comes_to.changes) (n, w.change) (subst (λ (m : ℕ). IsAmong (n, w.change) (st.own m)) (eqb-true w.txn a.txn.0 e) w.there)) })
-        (λ e. record { txn = w.txn; change = w.change; named = w.named;
-          there = subst (IsAmong (n, w.change)) (sym (step.own w.txn ∙ cond-false (w.txn == a.txn.0) (st.own a.txn.0 ++ changes_at g.db comes_to.changes) (st.own w.txn) e)) w.there })
+              (among_first (st.own a.txn.0) (changes_at g.db comes_to.changes) (n, w.change) (subst (λ (m : ℕ). IsAmong (n, w.change) (st.own m)) (eqb-true w.txn a.txn.0 e) w.there));
+        })
+        (λ e. record {
+          txn = w.txn;
+          change = w.change;
+          named = w.named;
+          there = subst (IsAmong (n, w.change)) (sym (step.own w.txn ∙ cond-false (w.txn == a.txn.0) (st.own a.txn.0 ++ changes_at g.db comes_to.changes) (st.own w.txn) e)) w.there;
+        })
         (cases_Bool (w.txn == a.txn.0))
 
     occupied_now : (n : ℕ) (k : Kind) (x : Name) → occupied_at new n k x → occupied_at st n k x ⊎ IsNewAt n x

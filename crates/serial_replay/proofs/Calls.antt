@@ -1,5 +1,5 @@
 -- The calls on records, one by one: what each needs, changes and answers.
-use Rattle.std.proofs.Common.{◌≡◌, ◌⊎◌, inl, inr, ℕ, Bool, true, false, cond, List, [], ◌∷◌, ◌++◌, map, filter, Option, None, Some, refl, ap, ap₂, sym, ◌∙◌, subst, ⊎_elim}
+use Rattle.std.proofs.Common.{◌≡◌, ◌⊎◌, inl, inr, ℕ, Bool, true, false, List, [], ◌∷◌, ◌++◌, map, Option, None, Some, refl, ap, ap₂, sym, ◌∙◌, ⊎_elim}
 use Rattle.std.specs.List.{flat_map, AllByRecursion}
 use Rattle.std.proofs.lemmas.Bool.{cases_Bool, cond-true, cond-false}
 use Rattle.je_order.specs.Order.{is_same_bytes}
@@ -11,20 +11,19 @@ use Rattle.lock_table.specs.Locks.{is_range}
 use Rattle.store_model.specs.declared.kind.Kind.{Kind}
 use Rattle.store_model.specs.declared.kind.Kind.TheVariants.{Plain, Dup}
 use Rattle.store_model.specs.declared.isolation.Isolation.{Isolation}
-use Rattle.store_model.specs.declared.isolation.Isolation.TheVariants.{ReadUncommitted, ReadCommitted, RepeatableRead, Serializable}
-use Rattle.store_model.specs.declared.put_mode.PutMode.{PutMode}
+use Rattle.store_model.specs.declared.isolation.Isolation.TheVariants.{RepeatableRead, Serializable}
 use Rattle.store_model.specs.declared.put_mode.PutMode.TheVariants.{Overwrite, NoOverwrite, NoDupData}
 use Rattle.store_model.specs.declared.call.Call.{Call}
 use Rattle.store_model.specs.declared.call.Call.TheVariants.{Get, GetBoth, Put, Delete}
 use Rattle.store_model.specs.declared.need.Need.{Need}
 use Rattle.store_model.specs.declared.record_change.RecordChange.{RecordChange}
-use Rattle.store_model.specs.declared.record_change.RecordChange.TheVariants.{Set, Unset}
+use Rattle.store_model.specs.declared.record_change.RecordChange.TheVariants.{Unset}
 use Rattle.store_model.specs.declared.answer.Answer.{Answer}
-use Rattle.store_model.specs.declared.answer.Answer.TheVariants.{Rec, NotFound, KeyExist, Done}
+use Rattle.store_model.specs.declared.answer.Answer.TheVariants.{Rec}
 use Rattle.store_model.specs.Store.{Pair, name_of, proper}
-use Rattle.store_model.specs.Reads.{Way, Range, is_within, empty_range, seen, passed_to}
-use Rattle.store_model.specs.Reads.Way.{Lowest, Highest, Each}
-use Rattle.store_model.specs.Records.{Evaluated, look_of, early_of, conclude, evaluation, found, deleted, put_unless, with_data, tested_for, unless_early, set}
+use Rattle.store_model.specs.Reads.{empty_range, seen, passed_to}
+use Rattle.store_model.specs.Reads.Way.{Lowest, Each}
+use Rattle.store_model.specs.Records.{look_of, early_of, conclude, evaluation, found, deleted, put_unless, with_data, tested_for, unless_early, set}
 use Rattle.store_model.specs.Needs.{Part, part_of, part_needs, ends, write_needs, needs_unless, needs_of, changed_name}
 use Rattle.standing_laws.specs.Right.{MayWait}
 
@@ -53,7 +52,7 @@ needs_are level db kind call at pairs names may e =
     let taken = seen kind (look_of kind call None).way (look_of kind call None).range pairs in
     let ev = conclude kind call None taken in
     let all : List Need = part_needs db (part_of level call) (passed_to kind (look_of kind call None).way (look_of kind call None).range taken) (ends (look_of kind call None).way ev.answered taken) names
-        ++ flat_map (write_needs level db kind pairs names) ev.changes in
+    ++ flat_map (write_needs level db kind pairs names) ev.changes in
     ap (λ (x : Option Name). needs_of level db kind call x pairs names) e ∙ ap (λ (o : Option Answer). needs_unless o all) (not_early kind call pairs may)
 
 -- ---- what a serializable call locks of what it reads

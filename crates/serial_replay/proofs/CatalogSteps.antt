@@ -1,11 +1,9 @@
 -- Changes of the catalog: a database that is in use stays as it is.
-use Rattle.std.proofs.Common.{◌≡◌, ◌≤◌, ◌<◌, ◌+◌, ◌⊎◌, inl, inr, ℕ, ◌==◌, Bool, true, false, cond, not, List, [], ◌∷◌, ◌++◌, map, filter, find, Option, None, Some, refl, ap, ap₂, sym, ◌∙◌, subst, ⊎_elim, arith, Ordering, Less, Equal, Greater, is_lt, is_gt, is_eq}
+use Rattle.std.proofs.Common.{◌≡◌, ◌≤◌, ◌+◌, ◌⊎◌, inl, inr, ℕ, ◌==◌, Bool, true, false, cond, not, List, [], ◌∷◌, map, filter, Option, None, Some, refl, ap, sym, ◌∙◌, subst, ⊎_elim, arith, Ordering, Less, Equal, Greater, is_lt, is_gt, is_eq}
 use Rattle.std.specs.List.{AllByRecursion}
 use Rattle.std.proofs.lemmas.Bool.{cases_Bool, cond-true, cond-false, both_ways, eqb-true}
 use Rattle.je_order.specs.Order.{bytes_cmp, is_same_bytes}
 use Rattle.je_order.specs.declared.name.Name.{Name}
-use Rattle.je_order.specs.declared.bound.Bound.{Bound}
-use Rattle.je_order.specs.declared.bound.Bound.TheVariants.{At as On}
 use Rattle.je_order.specs.declared.txn_id.TxnId.{TxnId}
 use Rattle.lock_mode.specs.Modes.{can_be_held}
 use Rattle.lock_table.specs.declared.record_id.RecordId.{RecordId}
@@ -14,22 +12,18 @@ use Rattle.store_model.specs.declared.kind.Kind.{Kind}
 use Rattle.store_model.specs.declared.isolation.Isolation.{Isolation}
 use Rattle.store_model.specs.declared.store.Store.{Store}
 use Rattle.store_model.specs.declared.store.Database.{Database}
-use Rattle.store_model.specs.declared.change.Change.{Change}
-use Rattle.store_model.specs.declared.change.Change.TheVariants.{Set, Unset, Make, Remove, Rename, Empty}
-use Rattle.store_model.specs.Store.{Pair, IsStore, database_of, with_pairs, with_name, in_database, databases_with, databases_without, databases_renamed, changed}
+use Rattle.store_model.specs.declared.change.Change.TheVariants.{Make, Remove, Rename, Empty}
+use Rattle.store_model.specs.Store.{IsStore, database_of, with_pairs, with_name, databases_with, databases_without, databases_renamed, changed}
 use Rattle.store_model.specs.Reads.{at_name}
-use Rattle.store_model.proofs.StoreLaws.{changed_is_right}
-use Rattle.je_answers.specs.declared.active.Active.{Active}
 use Rattle.je_answers.specs.Standing.{Standing, database_at, with_number, numbered}
 use Rattle.je_answers.specs.Locking.{IsUnused}
 use Rattle.standing_laws.specs.Right.{AreSound}
 use Rattle.standing_laws.proofs.Among.{IsAmong, among_map, mapped_among, among_append, among_first, among_second, among_filter, filter_among, any_from, find_some, found_is}
 use Rattle.serial_replay.specs.Replay.{AnsweredCall}
 use Rattle.serial_replay.proofs.Rising.{none_passes}
-use Rattle.serial_replay.proofs.Holding.{Sort, IsSort, Holds}
-use Rattle.serial_replay.proofs.Occupied.{IsWritten}
-use Rattle.serial_replay.proofs.Stores.{Base, Numbers, base_of, pairs_of, based, base_at, pairs_at, numbered_in, number_of_found, same_number, same_bytes, bytes_exact, IsFit, AreNumbered, one_database}
-use Rattle.serial_replay.proofs.Keeping.{IsUsedBy, occupied_at, IsStable, IsKept, own_same, fits_kept, keeps_kept, IsGround, IsKnown}
+use Rattle.serial_replay.proofs.Holding.{Holds}
+use Rattle.serial_replay.proofs.Stores.{Base, Numbers, base_of, pairs_of, based, base_at, pairs_at, numbered_in, same_number, same_bytes, bytes_exact, IsFit, AreNumbered, one_database}
+use Rattle.serial_replay.proofs.Keeping.{IsUsedBy, occupied_at, IsStable, IsKept, own_same, fits_kept, keeps_kept, IsKnown}
 
 -- ---- a step that leaves each database in use as it is
 
@@ -250,8 +244,10 @@ emptied_done numbers last store db k = record {
         let q : n.0.name ≡ e.name = sym (cond_name (is_same_bytes n.0.name db) n.0) ∙ ap (λ (x : Database). x.name) n.2 in
         sym p ∙ (by_apart m.0 n.0 m.1 n.1 (ap (with_number db (last + 1) numbers) p ∙ (h ∙ ap (with_number db (last + 1) numbers) (sym q))) ∙ q);
   };
-  there = λ d a other. (subst (λ (x : Database). IsAmong x (map f store.databases)) (cond-false (is_same_bytes d.name db) (with_pairs d []) d (other_bytes d.name db other)) (among_map f store.databases d a),
-    number_other db (last + 1) numbers d.name other);
+  there = λ d a other. (
+    subst (λ (x : Database). IsAmong x (map f store.databases)) (cond-false (is_same_bytes d.name db) (with_pairs d []) d (other_bytes d.name db other)) (among_map f store.databases d a),
+    number_other db (last + 1) numbers d.name other,
+  );
 }
   where
     f : Database → Database

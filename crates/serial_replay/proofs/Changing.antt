@@ -1,5 +1,5 @@
 -- A change is of one name: the records of another name are as before, and those of its own are the one that is set, or none.
-use Rattle.std.proofs.Common.{◌≡◌, ◌⊎◌, inl, inr, ℕ, Bool, true, false, cond, not, List, [], ◌∷◌, ◌++◌, filter, refl, ap, ap₂, sym, ◌∙◌, subst, ⊎_elim, Ordering, Less, Equal, Greater, is_lt, is_gt, is_eq}
+use Rattle.std.proofs.Common.{◌≡◌, ◌⊎◌, inl, inr, Bool, true, false, not, List, [], ◌∷◌, ◌++◌, filter, refl, ap, ap₂, sym, ◌∙◌, subst, ⊎_elim, Ordering, Less, Equal, Greater, is_lt, is_gt, is_eq}
 use Rattle.std.specs.List.{AllByRecursion}
 use Rattle.std.proofs.lemmas.Bool.{cases_Bool, cond-true, cond-false, both_ways}
 use Rattle.je_order.specs.Order.{name_cmp}

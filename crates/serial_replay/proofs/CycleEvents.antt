@@ -1,7 +1,7 @@
 -- No cycle stands after an event: by cases of the event, cut as after_event is.
-use Rattle.std.proofs.Common.{◌≡◌, ◌⊎◌, inl, inr, ℕ, ◌==◌, Bool, true, false, List, [], ◌∷◌, ◌++◌, map, Option, None, Some, refl, ap, sym, ◌∙◌, subst, ⊎_elim}
+use Rattle.std.proofs.Common.{◌≡◌, ◌⊎◌, inl, inr, ℕ, ◌==◌, Bool, true, false, List, [], ◌∷◌, ◌++◌, map, Option, None, Some, refl, ap, sym, ◌∙◌, subst}
 use Rattle.std.specs.List.{AllByRecursion}
-use Rattle.std.proofs.lemmas.Bool.{both_ways, eqb-true}
+use Rattle.std.proofs.lemmas.Bool.{eqb-true}
 use Rattle.je_order.specs.declared.txn_id.TxnId.{TxnId}
 use Rattle.je_order.specs.Transactions.{is_same_txn}
 use Rattle.je_order.proofs.TxnIds.{same_itself}
@@ -9,8 +9,6 @@ use Rattle.je_order.proofs.Lists.{all_append}
 use Rattle.waits_for.specs.Cycles.{is_in}
 use Rattle.lock_table.specs.Locks.{lock_of}
 use Rattle.lock_mgr.specs.Deadlock.{HasNoCycle, AreVictims}
-use Rattle.store_model.specs.declared.isolation.Isolation.{Isolation}
-use Rattle.store_model.specs.declared.durability.Durability.{Durability}
 use Rattle.store_model.specs.declared.call.Call.{Call}
 use Rattle.store_model.specs.declared.call.Call.TheVariants.{Begin, Commit, Abort, List as Lists, Create, Remove, Rename, Truncate, Get, GetBoth, Put, Delete}
 use Rattle.store_model.specs.declared.change.Change.{Change}
@@ -29,15 +27,15 @@ use Rattle.je_answers.specs.declared.active.Active.{Active}
 use Rattle.je_answers.specs.declared.wait.Wait.{Wait}
 use Rattle.je_answers.specs.Standing.{LockState, Standing, active_of, wait_of, without_wait}
 use Rattle.je_answers.specs.Views.{Target, target_of, changes_on, changes_named, needs_in, outcome_of}
-use Rattle.je_answers.specs.Refusals.{waits_refusal, txn_refusal, early_refusal, late_refusal, number_refusal}
-use Rattle.je_answers.specs.Locking.{Queues, record_of, all_got, granted_part, first_blocked, owner_before, released, waits_in}
+use Rattle.je_answers.specs.Refusals.{waits_refusal, early_refusal, late_refusal, number_refusal}
+use Rattle.je_answers.specs.Locking.{record_of, all_got, granted_part, first_blocked, owner_before, released, waits_in}
 use Rattle.je_answers.specs.Events.{auto_active, begun, asking, told_in, queues_before, locks_before, resumed, IsWaiting, IsStopped, IsTaken, IsOn, IsRun, IsPerformed, IsEvaluated, IsCallAnswered, IsReady, IsResumed, IsAnswered}
-use Rattle.je_answers.specs.After.{Fate, fate_of, drawn_by, faulted, committed_if_any, ended, ended_if_any, closed, with_outcome, answered, with_locks, after_fate, after_changes, txns_of, after_stop, after_taking, after_on, after_run, after_commit, after_ending, after_catalog, after_performed, after_evaluated, after_call, after_resumed, faulted_if, after_begin, after_turn, after_event, AnswersAsModel}
+use Rattle.je_answers.specs.After.{Fate, fate_of, drawn_by, committed_if_any, ended, ended_if_any, closed, with_outcome, answered, with_locks, after_fate, after_changes, txns_of, after_stop, after_taking, after_on, after_run, after_commit, after_ending, after_catalog, after_performed, after_evaluated, after_call, after_resumed, faulted_if, after_begin, after_turn, after_event, AnswersAsModel}
 use Rattle.je_answers.specs.After.Fate.{Succeeds, IsRefused, Faults}
-use Rattle.je_answers.specs.Alone.{Alone, alone}
-use Rattle.standing_laws.specs.Right.{AreSound, AreRight, IsSoundAt, IsWaitIn, MayWait, is_active}
+use Rattle.je_answers.specs.Alone.{alone}
+use Rattle.standing_laws.specs.Right.{AreRight, IsSoundAt, IsWaitIn, MayWait, is_active}
 use Rattle.standing_laws.specs.Laws.{IsPlainCall, IsPlainEvent}
-use Rattle.standing_laws.proofs.Among.{IsAmong, any_from, all_at, found_is}
+use Rattle.standing_laws.proofs.Among.{any_from, all_at, found_is}
 use Rattle.standing_laws.proofs.Steps.{state, sound_all_got, granted_free, stopped_behind, sound_back, waits_nowhere}
 use Rattle.standing_laws.proofs.Moves.{begun_found, drawn_untold}
 use Rattle.standing_laws.proofs.Victims.{txns, victims_in, all_wait}

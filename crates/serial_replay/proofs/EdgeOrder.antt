@@ -1,5 +1,5 @@
 -- Edges and names: what is below an edge is below all that is not.
-use Rattle.std.proofs.Common.{◌≡◌, ◌⊎◌, inl, inr, Bool, true, false, refl, ap, sym, ◌∙◌, Ordering, Less, Equal, Greater, is_gt, is_ge}
+use Rattle.std.proofs.Common.{◌≡◌, ◌⊎◌, inl, inr, true, false, refl, ap, sym, ◌∙◌, Ordering, Less, Equal, Greater, is_gt, is_ge}
 use Rattle.std.proofs.lemmas.Bool.{both_ways}
 use Rattle.je_order.specs.Edges.{Edge, is_below}
 use Rattle.je_order.specs.Edges.Edge.{First, At, Behind, End}

@@ -1,5 +1,5 @@
 -- A transaction ends: what it leaves agrees with what was there at all names that it did not write, and it wrote none that another one read.
-use Rattle.std.proofs.Common.{◌≡◌, ◌≤◌, ◌+◌, ◌⊎◌, inl, inr, ℕ, ◌==◌, Bool, true, false, cond, not, List, [], ◌∷◌, ◌++◌, Option, None, Some, refl, ap, ap₂, sym, ◌∙◌, subst, ⊎_elim, arith}
+use Rattle.std.proofs.Common.{◌≡◌, ◌≤◌, ◌+◌, inl, inr, ℕ, ◌==◌, Bool, true, false, not, List, [], ◌∷◌, ◌++◌, Option, None, Some, refl, ap, ap₂, sym, ◌∙◌, subst, ⊎_elim, arith}
 use Rattle.std.specs.List.{AllByRecursion}
 use Rattle.std.proofs.lemmas.Bool.{cases_Bool, cond-true, cond-false, both_ways, eqb-true}
 use Rattle.je_order.specs.declared.name.Name.{Name}
@@ -11,7 +11,6 @@ use Rattle.lock_mode.specs.Modes.{can_be_held}
 use Rattle.lock_table.specs.declared.record_id.RecordId.{RecordId}
 use Rattle.lock_table.specs.declared.lock.Lock.{Lock}
 use Rattle.lock_table.specs.Locks.{after_release}
-use Rattle.store_model.specs.declared.kind.Kind.{Kind}
 use Rattle.store_model.specs.declared.isolation.Isolation.{Isolation}
 use Rattle.store_model.specs.declared.store.Database.{Database}
 use Rattle.store_model.specs.declared.store.Store.{Store}
@@ -19,7 +18,7 @@ use Rattle.store_model.specs.declared.change.Change.{Change}
 use Rattle.store_model.specs.declared.change.Change.TheVariants.{Set, Unset, Make, Remove, Rename, Empty}
 use Rattle.store_model.specs.declared.record_change.RecordChange.{RecordChange}
 use Rattle.store_model.specs.declared.record_change.RecordChange.TheVariants.{Set as SetRecord, Unset as UnsetRecord}
-use Rattle.store_model.specs.Store.{Pair, name_of, all_pairs_changed, all_changed, change_in, IsStore}
+use Rattle.store_model.specs.Store.{all_pairs_changed, all_changed, change_in, IsStore}
 use Rattle.store_model.specs.Reads.{at_name}
 use Rattle.store_model.specs.Refusals.{made_by}
 use Rattle.store_model.specs.Needs.{changed_name}
@@ -27,17 +26,17 @@ use Rattle.je_answers.specs.declared.active.Active.{Active}
 use Rattle.je_answers.specs.Standing.{Standing, with_at, all_numbered}
 use Rattle.je_answers.specs.Views.{of_db, changes_in, changes_named}
 use Rattle.je_answers.specs.After.{committed_if_any, ended, without_session}
-use Rattle.standing_laws.specs.Right.{AreSound, HoldsWrite, HasWrite, place_of, txn_id}
+use Rattle.standing_laws.specs.Right.{AreSound, HoldsWrite, HasWrite, txn_id}
 use Rattle.standing_laws.proofs.Among.{IsAmong, all_at, all_of, filter_among}
 use Rattle.standing_laws.proofs.Stays.{same_active}
 use Rattle.serial_replay.specs.Replay.{AnsweredCall}
 use Rattle.serial_replay.proofs.Locality.{same_there}
 use Rattle.serial_replay.proofs.Changing.{name_in, IsNoneOf, unchanged, one_or_none}
-use Rattle.serial_replay.proofs.Holding.{Holds, any_lock, release_keeps, clash}
-use Rattle.serial_replay.proofs.Occupied.{HasRecord, IsWritten, of_db_is}
+use Rattle.serial_replay.proofs.Holding.{Holds, release_keeps, clash}
+use Rattle.serial_replay.proofs.Occupied.{IsWritten, of_db_is}
 use Rattle.serial_replay.proofs.Shut.{place}
-use Rattle.serial_replay.proofs.Stores.{Base, Numbers, base_in, pairs_in, base_at, pairs_at, IsFit, AreNumbered, named_in, all_base, all_pairs, all_right, numbered_all}
-use Rattle.serial_replay.proofs.Keeping.{IsUsedBy, occupied_at, IsStable, IsKept, own_same, fits_kept, keeps_kept, IsGround, EachBut, IsKnown}
+use Rattle.serial_replay.proofs.Stores.{Base, Numbers, base_in, pairs_in, base_at, pairs_at, IsFit, AreNumbered, all_base, all_pairs, all_right, numbered_all}
+use Rattle.serial_replay.proofs.Keeping.{occupied_at, IsStable, IsKept, own_same, fits_kept, keeps_kept, IsGround, EachBut, IsKnown}
 
 -- ---- a commit changes records alone
 
@@ -125,7 +124,7 @@ pub end_named : (st : Standing) (a : Active) (cs : List (ℕ × RecordChange)) (
 end_named st a cs changes e = end_by st a cs changes e (subst (AllByRecursion IsOfRecords) (sym e) (named_of_records st cs))
 
 module _ (st : Standing) (a : Active) (cs : List (ℕ × RecordChange)) (new : Standing) (told : List AnsweredCall) (sound : AreSound st) (there : IsAmong a st.actives) (ground : IsGround st told)
-      (its : (c : ℕ × RecordChange) → IsAmong c cs → IsAmong c (st.own a.txn.0)) (end : IsEndOf st a cs new) where
+    (its : (c : ℕ × RecordChange) → IsAmong c cs → IsAmong c (st.own a.txn.0)) (end : IsEndOf st a cs new) where
   fit : AllByRecursion (IsFit st) cs
   fit = all_of (IsFit st) cs (λ c k. all_at (IsFit st) (st.own a.txn.0) c (ground.fits a.txn.0) (its c k))
 
@@ -198,8 +197,12 @@ module _ (st : Standing) (a : Active) (cs : List (ℕ × RecordChange)) (new : S
           (λ c. let w = written n b x c.0 e c.1 c.2 in absurd (nobody t n x c.0 apart w.0 w.1 h))
           (λ none. inl (record { pair = r.pair; there = same_there b.1 (pairs_at n st) (pairs_at n new) r.pair (subst (λ (m : Name). at_name b.1 m (pairs_at n st) ≡ at_name b.1 m (pairs_at n new)) (sym r.named) (same n b x e none)) r.there; named = r.named }))
           (one_or_none b.1 x (of_db n cs))
-      after n b x e h (inr w) = inr (record { txn = w.txn; change = w.change; named = w.named;
-        there = subst (IsAmong (n, w.change)) (sym (own_others w.txn (λ k. nobody t n x w.change apart (subst (λ (m : ℕ). IsAmong (n, w.change) (st.own m)) k w.there) w.named h))) w.there })
+      after n b x e h (inr w) = inr (record {
+        txn = w.txn;
+        change = w.change;
+        named = w.named;
+        there = subst (IsAmong (n, w.change)) (sym (own_others w.txn (λ k. nobody t n x w.change apart (subst (λ (m : ℕ). IsAmong (n, w.change) (st.own m)) k w.there) w.named h))) w.there;
+      })
 
   fits_end : (t : ℕ) → AllByRecursion (IsFit new) (new.own t)
   fits_end t = ⊎_elim
@@ -222,9 +225,12 @@ module _ (st : Standing) (a : Active) (cs : List (ℕ × RecordChange)) (new : S
   }
 
   pub known_end : EachBut a.txn st told st.actives → IsKnown new told
-  known_end each = record { ground = ground_end; each = λ b k keep. let f = filter_among (λ (c : Active). not (c.session == a.session)) st.actives b (subst (IsAmong b) end.actives k) in
-      keeps_kept b.txn b.level st new told told stable_end ground.store right_end (kept_end b.txn b.level (apart b f.0 f.1)) (λ c i. own_same st new b.txn sound (ground.fits b.txn.0) stable_end c i)
-      (own_others b.txn.0 (λ e. apart b f.0 f.1 (ap (λ (m : ℕ). txn_id m) e))) refl (each b f.0 (apart b f.0 f.1) keep) }
+  known_end each = record {
+    ground = ground_end;
+    each = λ b k keep. let f = filter_among (λ (c : Active). not (c.session == a.session)) st.actives b (subst (IsAmong b) end.actives k) in
+        keeps_kept b.txn b.level st new told told stable_end ground.store right_end (kept_end b.txn b.level (apart b f.0 f.1)) (λ c i. own_same st new b.txn sound (ground.fits b.txn.0) stable_end c i)
+        (own_others b.txn.0 (λ e. apart b f.0 f.1 (ap (λ (m : ℕ). txn_id m) e))) refl (each b f.0 (apart b f.0 f.1) keep);
+  }
     where
       same_number : (m : ℕ) → (m == m) ≡ true
       same_number m = by (m == m) refl

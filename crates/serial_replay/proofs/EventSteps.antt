@@ -1,20 +1,12 @@
 -- Each step of an event keeps what holds of the calls: a call on records.
-use Rattle.std.proofs.Common.{◌≡◌, ◌≤◌, ◌<◌, ◌⊎◌, inl, inr, ℕ, ◌==◌, Bool, true, false, cond, not, ◌&&◌, List, [], ◌∷◌, ◌++◌, map, filter, find, Option, None, Some, refl, ap, ap₂, sym, ◌∙◌, subst, ⊎_elim, arith, nat_lt, append-nil}
-use Rattle.std.specs.List.{flat_map, AllByRecursion}
+use Rattle.std.proofs.Common.{◌≡◌, inl, inr, ℕ, ◌==◌, Bool, true, false, List, [], ◌∷◌, ◌++◌, find, Option, None, Some, refl, ap, sym, ◌∙◌, subst, ⊎_elim, arith}
+use Rattle.std.specs.List.{AllByRecursion}
 use Rattle.std.specs.Option.{option_map}
-use Rattle.std.proofs.lemmas.Bool.{cases_Bool, cond-true, cond-false, both_ways, eqb-true, and_parts}
+use Rattle.std.proofs.lemmas.Bool.{cases_Bool, cond-true, cond-false}
 use Rattle.je_order.specs.declared.name.Name.{Name}
-use Rattle.je_order.specs.declared.bound.Bound.TheVariants.{At as On}
-use Rattle.je_order.specs.declared.txn_id.TxnId.{TxnId}
 use Rattle.je_order.specs.Transactions.{is_same_txn}
-use Rattle.je_order.proofs.TxnIds.{same_is, same_itself}
+use Rattle.je_order.proofs.TxnIds.{same_itself}
 use Rattle.lock_table.specs.declared.record_id.RecordId.{RecordId}
-use Rattle.lock_table.specs.declared.lock.Lock.{Lock}
-use Rattle.lock_table.specs.Locks.{is_write}
-use Rattle.store_model.specs.declared.store.TheConstants.{LAST_TXN}
-use Rattle.store_model.specs.declared.kind.Kind.{Kind}
-use Rattle.store_model.specs.declared.isolation.Isolation.{Isolation}
-use Rattle.store_model.specs.declared.durability.Durability.{Durability}
 use Rattle.store_model.specs.declared.call.Call.{Call}
 use Rattle.store_model.specs.declared.call.Call.TheVariants.{Get, GetBoth, Put, Delete}
 use Rattle.store_model.specs.declared.store.Database.{Database}
@@ -24,39 +16,32 @@ use Rattle.store_model.specs.declared.need.Need.{Need}
 use Rattle.store_model.specs.declared.place.Place.{Place}
 use Rattle.store_model.specs.declared.victim.Victim.{Victim}
 use Rattle.store_model.specs.declared.answer.Answer.{Answer}
-use Rattle.store_model.specs.declared.answer.Answer.TheVariants.{Logged, DiskFault, Waiting, NotAvailable, Deadlock}
 use Rattle.je_order.specs.Order.{is_same_bytes}
 use Rattle.store_model.specs.Store.{database_of, change_in}
 use Rattle.store_model.specs.Records.{Evaluated}
-use Rattle.store_model.specs.Needs.{changed_name}
-use Rattle.store_model.specs.Refusals.{next_txn}
-use Rattle.lock_mgr.specs.Deadlock.{AreVictims}
 use Rattle.je_answers.specs.declared.active.Active.{Active}
-use Rattle.je_answers.specs.declared.wait.Wait.{Wait}
-use Rattle.je_answers.specs.Standing.{LockState, Standing, active_of, database_at, with_at}
+use Rattle.je_answers.specs.Standing.{Standing, database_at, with_at}
 use Rattle.je_answers.specs.Views.{Target, target, named_target, target_of, changes_at, changes_on, changes_in, changes_named, needs_in, outcome_of}
-use Rattle.je_answers.specs.Locking.{Queues, all_got, granted_part, first_blocked, owner_before, given_back, with_wait}
-use Rattle.je_answers.specs.Events.{log_limit, auto_active, begun, due, asking, waiting_answer, cycle_of, lock_target, queues_before, locks_before, IsLogged, IsDone, IsWaiting, IsStopped, IsTaken, IsOn}
-use Rattle.je_answers.specs.After.{Fate, fate_of, drawn_by, faulted, ended, all_ended, committed_if_any, moved, with_locks, answered, with_outcome, closed, after_fate, after_changes, marked, marked_by, is_victim, autos_in, without_session, without_waits_of, with_victims, with_waiting, txns_of, after_stop, after_taking, after_on}
-use Rattle.je_answers.specs.After.Fate.{Succeeds, IsRefused, Faults}
-use Rattle.active_txns.specs.Marks.{HaveOwnSessions}
-use Rattle.standing_laws.specs.Right.{AreSound, AreRight, IsSoundAt, MayWait, HoldsWrite, is_active, txn_id}
-use Rattle.standing_laws.proofs.Among.{IsAmong, any_from, all_at, all_of, mapped_among, among_filter, filter_among, found_is, its_session}
-use Rattle.standing_laws.proofs.Steps.{state, sound_all_got, granted_free, stopped_behind, sound_back}
-use Rattle.standing_laws.proofs.Moves.{own_filter, sound_own}
-use Rattle.standing_laws.proofs.Marks.{is_auto_victim, marked_own, ends_marked, same_txn}
-use Rattle.standing_laws.proofs.Stays.{same_active, right_ended, right_all_ended, kept_by, IsAsking, right_stays}
-use Rattle.standing_laws.proofs.StandingsStay.{MayRun, there_is, untold_has-no_wait}
-use Rattle.serial_replay.specs.Replay.{AnsweredCall, database_of_call, is_evaluated, told_if, told_of, with_told}
-use Rattle.serial_replay.proofs.Holding.{IsSort, all_got_keeps, wait_keeps}
-use Rattle.serial_replay.proofs.Stores.{base_at, by_number, bytes_exact, numbered_in}
-use Rattle.serial_replay.proofs.Keeping.{keeps, KeepsOf, IsGround, EachBut, IsKnown}
+use Rattle.je_answers.specs.Locking.{Queues, all_got, granted_part, first_blocked, given_back}
+use Rattle.je_answers.specs.Events.{locks_before}
+use Rattle.je_answers.specs.After.{faulted, ended, committed_if_any, moved, with_locks, answered, with_outcome, closed, marked_by, without_waits_of, with_waiting, txns_of, after_stop}
+use Rattle.standing_laws.specs.Right.{AreSound, MayWait, HoldsWrite, is_active}
+use Rattle.standing_laws.proofs.Among.{IsAmong, any_from, mapped_among, found_is}
+use Rattle.standing_laws.proofs.Steps.{state, sound_all_got, sound_back}
+use Rattle.standing_laws.proofs.Moves.{sound_own}
+use Rattle.standing_laws.proofs.Marks.{same_txn}
+use Rattle.standing_laws.proofs.Stays.{same_active}
+use Rattle.standing_laws.proofs.StandingsStay.{MayRun, there_is}
+use Rattle.serial_replay.specs.Replay.{AnsweredCall, database_of_call, is_evaluated, with_told}
+use Rattle.serial_replay.proofs.Holding.{all_got_keeps, wait_keeps}
+use Rattle.serial_replay.proofs.Stores.{by_number, bytes_exact}
+use Rattle.serial_replay.proofs.Keeping.{keeps, IsGround, IsKnown}
 use Rattle.serial_replay.proofs.Ending.{end_is, end_named, known_end}
 use Rattle.serial_replay.proofs.Calling.{comes_to, outcome_is, IsCallOf, own_its, writes_held}
-use Rattle.serial_replay.proofs.Told.{told_now, ground_call, others_call, known_call}
-use Rattle.serial_replay.proofs.Quiet.{IsQuiet, KeepsLocks, GoesOn, known_quiet, same_locks, locks_with}
+use Rattle.serial_replay.proofs.Told.{ground_call, others_call, known_call}
+use Rattle.serial_replay.proofs.Quiet.{IsQuiet, known_quiet, same_locks, locks_with}
 use Rattle.serial_replay.proofs.Victims.{victims_keep}
-use Rattle.serial_replay.proofs.Replies.{IsLimit, limit_is, comes_evaluated, evaluated_succeeds, not_told, auto_untold, is_told}
+use Rattle.serial_replay.proofs.Replies.{comes_evaluated}
 
 -- ---- nothing more is told
 
@@ -141,10 +126,13 @@ module _ (st : Standing) (a : Active) (call : Call) (g : Target) (told : List An
   known_waiting line n vs =
       known_quiet st (stopped_at line n vs) told sound (record { store = refl; numbers = refl; last_db = refl; last_txn = (omega arith); own = λ t. refl }) known
       (λ b k keep. let c = mapped_among (λ (x : Active). marked_by (find (λ (v : Victim). v.session == x.session) vs) x) st.actives b k in
-      inl (c.0, c.1,
+      inl (
+        c.0,
+        c.1,
         sym (same_txn (find (λ (v : Victim). v.session == c.0.session) vs) c.0) ∙ ap (λ (x : Active). x.txn) c.2,
         sym (same_level (find (λ (v : Victim). v.session == c.0.session) vs) c.0) ∙ ap (λ (x : Active). x.level) c.2,
-        λ sort s r h. wait_keeps sort s a.txn b.txn n (txns_of vs st.actives) (locks_before st a call g) r (all_got_keeps sort s a.txn b.txn (granted_part a.txn (needs_in st a call g) st.locks.at) st.locks.at r h)))
+        λ sort s r h. wait_keeps sort s a.txn b.txn n (txns_of vs st.actives) (locks_before st a call g) r (all_got_keeps sort s a.txn b.txn (granted_part a.txn (needs_in st a call g) st.locks.at) st.locks.at r h),
+      ))
 
   pub known_stop : (b : Bool) (line : ℕ) (n : Need) (vs : List Victim) → first_blocked a.txn (needs_in st a call g) st.locks.at ≡ Some n → IsKnown (after_stop b st a line call g n vs) told
   known_stop false line n vs stopped = known_locks (granted_part a.txn (needs_in st a call g) st.locks.at)

@@ -1,20 +1,15 @@
 -- Each event keeps what holds of the calls: by cases of the event, cut as after_event is.
-use Rattle.std.proofs.Common.{◌≡◌, ◌≤◌, ◌<◌, ◌+◌, ◌⊎◌, inl, inr, ℕ, ◌==◌, Bool, true, false, cond, not, ◌&&◌, List, [], ◌∷◌, ◌++◌, Option, None, Some, refl, ap, ap₂, sym, ◌∙◌, subst, ⊎_elim, arith, nat_lt, is_some, length}
-use Rattle.std.specs.List.{AllByRecursion}
+use Rattle.std.proofs.Common.{◌≡◌, ◌≤◌, ◌<◌, ◌+◌, ◌⊎◌, inl, inr, ℕ, ◌==◌, Bool, true, false, cond, ◌&&◌, List, [], ◌∷◌, ◌++◌, Option, None, Some, refl, ap, sym, ◌∙◌, subst, ⊎_elim, arith, nat_lt, is_some}
 use Rattle.std.proofs.lemmas.Bool.{cases_Bool, cond-true, cond-false, both_ways, eqb-true}
 use Rattle.je_order.specs.declared.txn_id.TxnId.{TxnId}
 use Rattle.je_order.specs.Transactions.{is_same_txn}
 use Rattle.je_order.proofs.TxnIds.{same_is}
 use Rattle.lock_table.specs.declared.record_id.RecordId.{RecordId}
-use Rattle.store_model.specs.declared.store.TheConstants.{LAST_TXN, MOST_DATABASES}
+use Rattle.store_model.specs.declared.store.TheConstants.{LAST_TXN}
 use Rattle.store_model.specs.declared.kind.Kind.{Kind}
-use Rattle.store_model.specs.declared.isolation.Isolation.{Isolation}
-use Rattle.store_model.specs.declared.isolation.Isolation.TheVariants.{RepeatableRead}
-use Rattle.store_model.specs.declared.durability.Durability.{Durability}
 use Rattle.store_model.specs.declared.call.Call.{Call}
 use Rattle.store_model.specs.declared.call.Call.TheVariants.{Begin, Commit, Abort, List as Lists, Create, Remove, Rename, Truncate, Get, GetBoth, Put, Delete}
 use Rattle.store_model.specs.declared.store.Database.{Database}
-use Rattle.store_model.specs.declared.store.Store.{Store}
 use Rattle.store_model.specs.declared.change.Change.{Change}
 use Rattle.store_model.specs.declared.change.Change.TheVariants.{Make, Remove as Removed, Rename as Renamed, Empty}
 use Rattle.store_model.specs.declared.record_change.RecordChange.{RecordChange}
@@ -24,36 +19,35 @@ use Rattle.store_model.specs.declared.step.Step.{Step}
 use Rattle.store_model.specs.declared.step.Step.TheVariants.{Begin as BeginStep, Flush, Finish, Sync as SyncStep}
 use Rattle.store_model.specs.declared.answer.Fault.{Fault}
 use Rattle.store_model.specs.declared.answer.Answer.{Answer}
-use Rattle.store_model.specs.declared.answer.Answer.TheVariants.{Done, Logged, DiskFault, Waiting, NotAvailable, Deadlock, DatabaseInUse, TooMany, NameTaken, NoDatabase}
+use Rattle.store_model.specs.declared.answer.Answer.TheVariants.{Done, Logged, DiskFault}
 use Rattle.store_model.specs.declared.event.Event.{Event}
 use Rattle.store_model.specs.declared.event.Event.TheVariants.{Call as Called, Resume, End, WriteOut, SyncBegin, SyncEnd, Turn}
 use Rattle.store_model.specs.Store.{IsStore, database_of, changed}
 use Rattle.store_model.proofs.StoreLaws.{changed_is_right}
-use Rattle.store_model.specs.Records.{Evaluated}
 use Rattle.store_model.specs.Evaluation.{Outcome, evaluation, evaluation_in}
 use Rattle.store_model.specs.Refusals.{or_refusal, creation_refusal, access_refusal, taken_refusal, next_txn}
 use Rattle.je_answers.specs.declared.active.Active.{Active}
 use Rattle.je_answers.specs.declared.wait.Wait.{Wait}
-use Rattle.je_answers.specs.Standing.{Standing, active_of, wait_of, without_wait, database_at, numbered}
+use Rattle.je_answers.specs.Standing.{Standing, active_of, wait_of, without_wait, database_at}
 use Rattle.je_answers.specs.Views.{Target, target_of, changes_on, changes_named, needs_in, outcome_of}
-use Rattle.je_answers.specs.Refusals.{fault_refusal, waits_refusal, abort_refusal, txn_refusal, early_refusal, late_refusal, number_refusal, there_refusal, name_refusal, target_refusal}
-use Rattle.je_answers.specs.Locking.{IsUnused, IsLeastUser, IsAwaited, first_blocked, owner_before, granted_part, all_got}
-use Rattle.je_answers.specs.Events.{log_limit, auto_active, begun, due, waiting_answer, cycle_of, lock_target, queues_before, resumed, IsLogged, IsDone, IsWaiting, IsStopped, IsTaken, IsOn, IsRun, IsChanged, IsExclusive, IsPerformed, IsEvaluated, IsCallAnswered, IsReady, IsResumed, IsAnswered}
-use Rattle.je_answers.specs.After.{Fate, fate_of, drawn_by, faulted, committed, committed_if_any, ended, ended_if_any, closed, with_outcome, answered, after_fate, after_changes, after_taking, after_on, after_run, begun_by, after_commit, after_ending, after_catalog, after_performed, after_evaluated, after_call, after_resumed, after_session, faulted_if, after_begin, after_end, after_turn, after_event}
+use Rattle.je_answers.specs.Refusals.{waits_refusal, txn_refusal, early_refusal, late_refusal, number_refusal, there_refusal, name_refusal, target_refusal}
+use Rattle.je_answers.specs.Locking.{IsUnused, first_blocked, owner_before}
+use Rattle.je_answers.specs.Events.{log_limit, auto_active, begun, due, waiting_answer, cycle_of, lock_target, queues_before, resumed, IsLogged, IsDone, IsWaiting, IsStopped, IsTaken, IsOn, IsRun, IsExclusive, IsPerformed, IsEvaluated, IsCallAnswered, IsReady, IsResumed, IsAnswered}
+use Rattle.je_answers.specs.After.{Fate, fate_of, drawn_by, faulted, committed_if_any, ended, ended_if_any, closed, with_outcome, answered, after_fate, after_changes, after_taking, after_on, after_run, after_commit, after_ending, after_catalog, after_performed, after_evaluated, after_call, after_resumed, faulted_if, after_begin, after_end, after_turn, after_event}
 use Rattle.je_answers.specs.After.Fate.{Succeeds, IsRefused, Faults}
 use Rattle.standing_laws.specs.Right.{AreSound, AreRight, MayWait, is_active, txn_id}
 use Rattle.standing_laws.specs.Laws.{IsPlainCall, IsPlainEvent}
 use Rattle.standing_laws.proofs.Among.{IsAmong, any_some, all_at, among_append, found_is, its_session}
 use Rattle.standing_laws.proofs.Moves.{begun_found, drawn_untold}
-use Rattle.standing_laws.proofs.StandingsStay.{MayRun, there_is, may_run, early_parts, has_number, late_number, next_is, begun_is-right, resumed_is-right, no_active, plain}
+use Rattle.standing_laws.proofs.StandingsStay.{MayRun, may_run, early_parts, has_number, late_number, next_is, begun_is-right, resumed_is-right, no_active, plain}
 use Rattle.serial_replay.specs.Replay.{AnsweredCall, is_on_records, is_evaluated, told_if, told_within, told_of, told_resumed, told_by, with_told}
-use Rattle.serial_replay.proofs.Stores.{Numbers, numbered_in, number_of_found, AreNumbered}
-use Rattle.serial_replay.proofs.Keeping.{IsUsedBy, keeps, KeepsOf, IsGround, IsKnown}
-use Rattle.serial_replay.proofs.Ending.{IsEndOf, end_is, known_end}
+use Rattle.serial_replay.proofs.Stores.{number_of_found}
+use Rattle.serial_replay.proofs.Keeping.{IsUsedBy, KeepsOf, IsKnown}
+use Rattle.serial_replay.proofs.Ending.{end_is, known_end}
 use Rattle.serial_replay.proofs.Told.{none_told, numbered_le}
-use Rattle.serial_replay.proofs.Quiet.{IsQuiet, known_quiet, same_locks}
+use Rattle.serial_replay.proofs.Quiet.{known_quiet, same_locks}
 use Rattle.serial_replay.proofs.CatalogSteps.{IsCatalogStep, known_catalog, found_there, used_other, IsDone as IsCatalogDone, made_done, removed_done, renamed_done, emptied_done}
-use Rattle.serial_replay.proofs.Replies.{IsOther, IsLimit, early_other, late_other, limit_is, comes_evaluated, evaluated_succeeds, not_told, not_on_records, auto_untold, is_told}
+use Rattle.serial_replay.proofs.Replies.{early_other, late_other, limit_is, evaluated_succeeds, not_told, not_on_records, auto_untold, is_told}
 use Rattle.serial_replay.proofs.EventSteps.{as_told, same_known, faulted_known, IsTargetOf, target_facts, known_ended, known_stop, known_done, known_refused, known_committed, came_evaluated}
 
 -- ---- what a call that is stopped answers
@@ -73,7 +67,7 @@ stopped_other (Some owner) b st a line call g n answer vs e is = by b (subst (λ
 -- ---- a call on records
 
 module _ (limit : Option Answer) (old st : Standing) (a : Active) (line : ℕ) (call : Call) (g : Target) (told : List AnsweredCall) (answer : Answer) (vs : List Victim) (o : Option AnsweredCall) (may : MayWait call) (m : MayRun st a) (known : IsKnown st told)
-      (on : IsTargetOf st call g) (sound_old : AreSound old) (known_old : IsKnown old told) (o_is : o ≡ told_of (Some a) st call answer) where
+    (on : IsTargetOf st call g) (sound_old : AreSound old) (known_old : IsKnown old told) (o_is : o ≡ told_of (Some a) st call answer) where
   untold : is_evaluated answer ≡ false → (new : Standing) → IsKnown new told → IsKnown new (with_told o told)
   untold e new k = as_told st new o told (o_is ∙ not_told (Some a) st call answer e) k
 

@@ -1,8 +1,8 @@
 -- Locks of a sort: whoever asks, gives back or ends, another transaction holds what it held; and whom they stop.
-use Rattle.std.proofs.Common.{◌≡◌, ◌⊎◌, inl, inr, Bool, true, false, cond, not, ◌&&◌, ◌||◌, List, [], ◌∷◌, ◌++◌, map, Some, None, Option, refl, ap, ap₂, sym, ◌∙◌, subst, ⊎_elim}
+use Rattle.std.proofs.Common.{◌≡◌, Bool, true, false, cond, not, ◌&&◌, ◌||◌, List, [], ◌∷◌, ◌++◌, map, Some, None, Option, refl, ap, ap₂, sym, ◌∙◌, subst, ⊎_elim}
 use Rattle.std.specs.List.{find, AllByRecursion}
 use Rattle.std.specs.Option.{option_map}
-use Rattle.std.proofs.lemmas.Bool.{cases_Bool, cond-true, cond-false, or_left, or_right, or_parts, both_ways}
+use Rattle.std.proofs.lemmas.Bool.{cases_Bool, cond-true, cond-false, or_left, or_right, both_ways}
 use Rattle.std.proofs.lemmas.Option.{none-some, same_Some}
 use Rattle.je_order.specs.declared.txn_id.TxnId.{TxnId}
 use Rattle.je_order.specs.Transactions.{is_same_txn}
@@ -14,7 +14,6 @@ use Rattle.lock_table.specs.declared.lock.Lock.{Lock}
 use Rattle.lock_table.specs.declared.record_id.RecordId.{RecordId}
 use Rattle.lock_table.specs.Locks.{lock_of, is_of, is_write, is_range, has_lock, without_txn, held_by, is_blocked, is_blocking, upgraded_by, with_lock, waits_still, granted, after_ask, after_cancel, after_release, read_given_back, after_read, AreOwners}
 use Rattle.lock_table.specs.Records.{is_record}
-use Rattle.lock_table.proofs.QueueMaps.{record_is}
 use Rattle.lock_table.proofs.CallSteps.{record_same}
 use Rattle.lock_mgr.specs.Deadlock.{without_waits}
 use Rattle.store_model.specs.declared.need.Need.{Need}

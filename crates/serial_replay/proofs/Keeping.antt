@@ -1,7 +1,6 @@
 -- What holds of each transaction's calls between two events, and how it stays where others go on.
-use Rattle.std.proofs.Common.{◌≡◌, ◌≤◌, ◌⊎◌, inl, inr, ℕ, Bool, true, false, List, [], ◌∷◌, ◌++◌, map, filter, Option, None, Some, refl, ap, ap₂, sym, ◌∙◌, subst, ⊎_elim}
+use Rattle.std.proofs.Common.{◌≡◌, ◌≤◌, ◌⊎◌, inl, inr, ℕ, Bool, true, false, List, [], ◌∷◌, ◌++◌, map, Option, None, Some, refl, ap, ap₂, sym, ◌∙◌, subst, ⊎_elim}
 use Rattle.std.specs.List.{AllByRecursion}
-use Rattle.std.proofs.lemmas.Bool.{cases_Bool, cond-true, cond-false}
 use Rattle.je_order.specs.declared.name.Name.{Name}
 use Rattle.je_order.specs.declared.bound.Bound.{Bound}
 use Rattle.je_order.specs.declared.bound.Bound.TheVariants.{At as On, End as AtEnd}
@@ -13,7 +12,6 @@ use Rattle.store_model.specs.declared.kind.Kind.{Kind}
 use Rattle.store_model.specs.declared.kind.Kind.TheVariants.{Plain, Dup}
 use Rattle.store_model.specs.declared.isolation.Isolation.{Isolation}
 use Rattle.store_model.specs.declared.isolation.Isolation.TheVariants.{ReadUncommitted, ReadCommitted, RepeatableRead, Serializable}
-use Rattle.store_model.specs.declared.put_mode.PutMode.{PutMode}
 use Rattle.store_model.specs.declared.put_mode.PutMode.TheVariants.{Overwrite, NoOverwrite, NoDupData}
 use Rattle.store_model.specs.declared.call.Call.{Call}
 use Rattle.store_model.specs.declared.call.Call.TheVariants.{Get, GetBoth, Put, Delete}
@@ -29,13 +27,12 @@ use Rattle.je_answers.specs.Views.{of_db, changes_at, changes_named}
 use Rattle.standing_laws.specs.Right.{MayWait, AreSound, HoldsWrite, place_of, txn_id}
 use Rattle.standing_laws.proofs.Among.{IsAmong, all_at, all_of, among_first}
 use Rattle.serial_replay.specs.Replay.{AnsweredCall, database_of_call, calls_of}
-use Rattle.serial_replay.proofs.Rising.{RisesBy}
 use Rattle.serial_replay.proofs.Locality.{AgreeWithin, IsUpward, read_is_local}
 use Rattle.serial_replay.proofs.Changing.{alike, rises_changed}
 use Rattle.serial_replay.proofs.Holding.{Sort, IsSort, Holds, ranges, any_lock, range_can, weaker, from_write}
 use Rattle.serial_replay.proofs.Occupied.{IsOccupied}
 use Rattle.serial_replay.proofs.Shut.{Closed, is_inside, place, IsThere, IsShut}
-use Rattle.serial_replay.proofs.Stores.{Base, Numbers, base_at, pairs_at, IsFit, AreNumbered, pairs_rise, named_same}
+use Rattle.serial_replay.proofs.Stores.{Base, base_at, pairs_at, IsFit, AreNumbered, pairs_rise, named_same}
 
 -- ---- a call that was answered
 

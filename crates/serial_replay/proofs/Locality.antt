@@ -1,7 +1,7 @@
 -- A read depends on the names that it passes alone.
-use Rattle.std.proofs.Common.{◌≡◌, ◌⊎◌, inl, inr, Bool, true, false, not, ◌&&◌, List, [], ◌∷◌, filter, find, Option, None, Some, refl, ap, sym, ◌∙◌, subst, ⊎_elim, Ordering, Less, Equal, Greater, is_eq, is_ge}
-use Rattle.std.proofs.lemmas.Bool.{cases_Bool, cond-true, cond-false, both_ways}
-use Rattle.je_order.specs.Edges.{Edge, is_below}
+use Rattle.std.proofs.Common.{◌≡◌, ◌⊎◌, inl, inr, Bool, true, false, not, ◌&&◌, List, [], ◌∷◌, filter, find, Option, None, Some, refl, ap, sym, ◌∙◌, subst, ⊎_elim, Less, is_eq, is_ge}
+use Rattle.std.proofs.lemmas.Bool.{cases_Bool, cond-true, cond-false}
+use Rattle.je_order.specs.Edges.{is_below}
 use Rattle.je_order.specs.Edges.Edge.{Behind}
 use Rattle.je_order.specs.Order.{name_cmp}
 use Rattle.je_order.specs.declared.name.Name.{Name}
@@ -10,7 +10,7 @@ use Rattle.store_model.specs.Store.{Pair, name_of}
 use Rattle.store_model.specs.Reads.{Way, Range, is_within, range, seen, passed, passed_to, taken_by, at_name}
 use Rattle.store_model.specs.Reads.Way.{Lowest, Highest, Each}
 use Rattle.standing_laws.proofs.Among.{IsAmong, filter_among, among_filter, found_is}
-use Rattle.serial_replay.proofs.Rising.{RisesBy, rises_kept, found_least, none_passes, one_of_name, same_items, same_names, turned_less, never_both}
+use Rattle.serial_replay.proofs.Rising.{RisesBy, rises_kept, found_least, none_passes, same_items, same_names, turned_less, never_both}
 
 -- records that are the same at each name of a range
 abbrev pub AgreeWithin : Kind → Range → List Pair → List Pair → Type 0

@@ -1,7 +1,7 @@
 -- Occupied names: those that have a record, or that a transaction under way wrote.
-use Rattle.std.proofs.Common.{◌≡◌, ◌⊎◌, inl, inr, ℕ, ◌==◌, Bool, true, false, cond, not, List, [], ◌∷◌, ◌++◌, map, filter, find, Option, None, Some, refl, ap, ap₂, sym, ◌∙◌, subst, ⊎_elim, arith, Ordering, Less, Equal, Greater, is_lt, is_gt}
+use Rattle.std.proofs.Common.{◌≡◌, ◌⊎◌, inl, inr, ℕ, ◌==◌, Bool, true, false, List, [], ◌∷◌, ◌++◌, map, filter, refl, ap, ap₂, sym, ◌∙◌, subst, ⊎_elim, arith, Ordering, Less, Equal, Greater, is_lt, is_gt}
 use Rattle.std.specs.List.{flat_map, AllByRecursion}
-use Rattle.std.proofs.lemmas.Bool.{cases_Bool, cond-true, cond-false, both_ways, eqb-true}
+use Rattle.std.proofs.lemmas.Bool.{cases_Bool, cond-true, cond-false, eqb-true}
 use Rattle.std.proofs.lemmas.Bool.Decides.{nat_tests}
 use Rattle.je_order.specs.Order.{name_cmp}
 use Rattle.je_order.specs.declared.name.Name.{Name}
@@ -17,7 +17,7 @@ use Rattle.je_answers.specs.Standing.{Standing}
 use Rattle.je_answers.specs.Views.{Target, of_db, all_own, names_with, names_with_all, occupied}
 use Rattle.standing_laws.specs.Right.{AreSound, is_active, txn_id}
 use Rattle.standing_laws.proofs.Among.{IsAmong, among_append, among_first, among_second, among_filter, filter_among, among_map, mapped_among, any_some}
-use Rattle.serial_replay.proofs.Rising.{RisesBy, rises_put, same_names}
+use Rattle.serial_replay.proofs.Rising.{RisesBy, rises_put}
 
 -- ---- what is occupied
 

@@ -1,33 +1,27 @@
 -- Steps that change neither records nor own changes: locks that are got, given back and waited for, and transactions that begin.
-use Rattle.std.proofs.Common.{◌≡◌, ◌≤◌, ◌⊎◌, inl, inr, ℕ, Bool, true, false, List, [], ◌∷◌, ◌++◌, Option, None, Some, refl, ap, ap₂, sym, ◌∙◌, subst, ⊎_elim, arith}
+use Rattle.std.proofs.Common.{◌≡◌, ◌≤◌, ◌⊎◌, inl, inr, ℕ, true, List, [], ◌∷◌, refl, ap, ap₂, sym, ◌∙◌, subst, ⊎_elim, arith}
 use Rattle.std.specs.List.{AllByRecursion}
-use Rattle.std.proofs.lemmas.Bool.{cases_Bool, both_ways}
+use Rattle.std.proofs.lemmas.Bool.{cases_Bool}
 use Rattle.je_order.specs.declared.name.Name.{Name}
-use Rattle.je_order.specs.declared.bound.Bound.TheVariants.{At as On}
 use Rattle.je_order.specs.declared.txn_id.TxnId.{TxnId}
 use Rattle.je_order.specs.Transactions.{is_same_txn}
 use Rattle.je_order.proofs.TxnIds.{same_is}
-use Rattle.lock_mode.specs.Modes.{can_be_held}
 use Rattle.lock_table.specs.declared.record_id.RecordId.{RecordId}
 use Rattle.store_model.specs.declared.kind.Kind.{Kind}
 use Rattle.store_model.specs.declared.isolation.Isolation.{Isolation}
-use Rattle.store_model.specs.declared.isolation.Isolation.TheVariants.{ReadUncommitted, ReadCommitted, RepeatableRead, Serializable}
 use Rattle.store_model.specs.declared.need.Need.{Need}
 use Rattle.store_model.specs.declared.store.Store.{Store}
-use Rattle.store_model.specs.declared.record_change.RecordChange.{RecordChange}
 use Rattle.store_model.specs.Store.{IsStore}
 use Rattle.store_model.specs.Reads.{at_name}
 use Rattle.je_answers.specs.declared.active.Active.{Active}
 use Rattle.je_answers.specs.Standing.{Standing}
-use Rattle.je_answers.specs.Locking.{Queues, all_got, given_back}
+use Rattle.je_answers.specs.Locking.{all_got, given_back}
 use Rattle.standing_laws.specs.Right.{AreSound}
 use Rattle.standing_laws.proofs.Among.{IsAmong}
 use Rattle.serial_replay.specs.Replay.{AnsweredCall}
 use Rattle.serial_replay.proofs.Holding.{Sort, IsSort, Holds, all_got_keeps}
-use Rattle.serial_replay.proofs.Occupied.{IsWritten, HasRecord}
-use Rattle.serial_replay.proofs.Shut.{place}
-use Rattle.serial_replay.proofs.Stores.{Base, Numbers, base_in, pairs_in, base_at, pairs_at, IsFit, AreNumbered}
-use Rattle.serial_replay.proofs.Keeping.{IsUsedBy, occupied_at, IsStable, IsKept, own_same, fits_kept, KeepsOf, keeps, keeps_kept, IsGround, KeepsIf, IsKnown}
+use Rattle.serial_replay.proofs.Stores.{Numbers, base_in, pairs_in, base_at, pairs_at, IsFit, AreNumbered}
+use Rattle.serial_replay.proofs.Keeping.{occupied_at, IsStable, IsKept, own_same, fits_kept, KeepsOf, keeps, keeps_kept, IsGround, IsKnown}
 use Rattle.serial_replay.proofs.Calling.{back_keeps, back_none}
 
 -- ---- what stays

@@ -1,7 +1,6 @@
 -- What is owed at a commit follows from what holds of the calls; and so journals replay.
-use Rattle.std.proofs.Common.{◌≡◌, ◌≤◌, ◌<◌, ◌⊎◌, inl, inr, ℕ, ◌==◌, Bool, true, false, cond, List, [], ◌∷◌, ◌++◌, map, find, Option, None, Some, refl, ap, ap₂, sym, ◌∙◌, subst, ⊎_elim, IsSome, append_assoc, append-nil}
+use Rattle.std.proofs.Common.{◌≡◌, ◌⊎◌, inl, inr, ℕ, Bool, true, false, List, [], ◌∷◌, ◌++◌, map, Option, None, Some, refl, ap, ap₂, sym, ◌∙◌, subst, IsSome, append_assoc, append-nil}
 use Rattle.std.specs.List.{flat_map, AllByRecursion}
-use Rattle.std.proofs.lemmas.Bool.{cases_Bool, cond-true, cond-false, both_ways}
 use Rattle.je_order.specs.Order.{is_same_bytes}
 use Rattle.je_order.specs.declared.txn_id.TxnId.{TxnId}
 use Rattle.store_model.specs.declared.kind.Kind.{Kind}
@@ -23,8 +22,8 @@ use Rattle.store_model.specs.declared.answer.Answer.TheVariants.{Done, Rec, Disk
 use Rattle.store_model.specs.declared.event.Event.{Event}
 use Rattle.store_model.specs.declared.event.Event.TheVariants.{Call as Called, Resume, End, WriteOut, SyncBegin, SyncEnd, Turn}
 use Rattle.store_model.specs.Store.{Pair, name_of, IsStore, database_of, change_in, all_changed, all_pairs_changed}
-use Rattle.store_model.specs.Reads.{seen, at_name}
-use Rattle.store_model.specs.Records.{Evaluated, look_of, conclude, evaluation}
+use Rattle.store_model.specs.Reads.{at_name}
+use Rattle.store_model.specs.Records.{Evaluated, conclude, evaluation}
 use Rattle.store_model.specs.Evaluation.{Outcome}
 use Rattle.store_model.specs.Refusals.{or_refusal}
 use Rattle.je_answers.specs.declared.active.Active.{Active}
@@ -32,19 +31,19 @@ use Rattle.je_answers.specs.declared.wait.Wait.{Wait}
 use Rattle.je_answers.specs.Standing.{Standing, active_of, wait_of, without_wait}
 use Rattle.je_answers.specs.Views.{of_db, changes_at, changes_named}
 use Rattle.je_answers.specs.Refusals.{fault_refusal, waits_refusal, abort_refusal, txn_refusal, early_refusal, late_refusal, number_refusal}
-use Rattle.je_answers.specs.Events.{resumed, IsEvaluated, IsCallAnswered, IsAnswered}
+use Rattle.je_answers.specs.Events.{resumed, IsCallAnswered, IsAnswered}
 use Rattle.je_answers.specs.After.{ended_if_any, faulted_if, after_begin, after_turn, after_call, after_resumed, after_event, AnswersAsModel}
 use Rattle.je_answers.specs.Journal.{changes_ended, changes_evaluated, changes_of, changes_by}
 use Rattle.je_answers.specs.Alone.{Alone, alone}
-use Rattle.standing_laws.specs.Right.{AreSound, AreRight}
-use Rattle.standing_laws.specs.Laws.{IsPlainCall, IsPlainEvent}
-use Rattle.standing_laws.proofs.Among.{IsAmong, all_at, all_of, find_some, any_from, found_is, its_session}
+use Rattle.standing_laws.specs.Right.{AreRight}
+use Rattle.standing_laws.specs.Laws.{IsPlainEvent}
+use Rattle.standing_laws.proofs.Among.{IsAmong, all_at, all_of, find_some, any_from, its_session}
 use Rattle.standing_laws.proofs.StandingsStay.{standings_stay-right}
 use Rattle.standing_laws.proofs.AloneRight.{alone-is_right}
-use Rattle.serial_replay.specs.Replay.{AnsweredCall, database_of_call, calls_of, comes_to, on_store, replayed, GivesAgain, IsRecordOf, StandsAgain, IsOwedTo, is_committed, IsOwedBy, IsOwedAt, told_by, with_told, ReplaysFrom, ReplaysSerially}
+use Rattle.serial_replay.specs.Replay.{AnsweredCall, database_of_call, calls_of, comes_to, on_store, replayed, GivesAgain, IsRecordOf, StandsAgain, IsOwedTo, is_committed, IsOwedBy, IsOwedAt, told_by, with_told, ReplaysFrom}
 use Rattle.serial_replay.specs.Laws.{HaveNumbers, JournalsReplay}
-use Rattle.serial_replay.proofs.Stores.{Base, Numbers, IsBased, pairs_of, base_in, pairs_in, base_at, pairs_at, based, numbered_in, same_bytes, IsFit, AreNumbered, named_append, named_one, all_append, all_base, all_pairs, numbered_all, by_found}
-use Rattle.serial_replay.proofs.Keeping.{Said, look_in, came_to, view_in, base_of_call, IsSer, IsHeldRecord, IsRepeatableAs, IsRepeatable, Follows, follows_from, before_own, call_by, KeepsOf, keeps, IsGround, IsKnown}
+use Rattle.serial_replay.proofs.Stores.{Numbers, IsBased, pairs_of, base_at, pairs_at, based, numbered_in, same_bytes, IsFit, AreNumbered, named_append, named_one, all_append, all_base, all_pairs, numbered_all, by_found}
+use Rattle.serial_replay.proofs.Keeping.{Said, came_to, view_in, base_of_call, IsSer, IsRepeatableAs, IsRepeatable, Follows, follows_from, before_own, call_by, KeepsOf, keeps, IsGround, IsKnown}
 use Rattle.serial_replay.proofs.Calls.{evaluation_is}
 use Rattle.serial_replay.proofs.Replies.{early_other}
 use Rattle.serial_replay.proofs.EventsKeep.{event_known}

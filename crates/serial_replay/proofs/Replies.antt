@@ -1,6 +1,6 @@
 -- Which answers evaluation gives, and which it never gives: refusals, waits and limits of the log.
-use Rattle.std.proofs.Common.{◌≡◌, ◌⊎◌, inl, inr, ℕ, Bool, true, false, cond, not, ◌&&◌, List, [], ◌∷◌, map, Option, None, Some, refl, ap, sym, ◌∙◌, subst, ⊎_elim, is_some, nat_lt, length}
-use Rattle.std.proofs.lemmas.Bool.{cases_Bool, cond-true, cond-false, both_ways, and_right}
+use Rattle.std.proofs.Common.{◌≡◌, ℕ, Bool, true, false, cond, ◌&&◌, List, [], ◌∷◌, Option, None, Some, refl, ap, ◌∙◌, subst, is_some, nat_lt, length}
+use Rattle.std.proofs.lemmas.Bool.{both_ways, and_right}
 use Rattle.je_order.specs.declared.txn_id.TxnId.{TxnId}
 use Rattle.je_order.specs.declared.limits.TheConstants.{KEY_LIMIT}
 use Rattle.store_model.specs.declared.store.TheConstants.{LAST_TXN}
@@ -9,22 +9,22 @@ use Rattle.store_model.specs.declared.kind.Kind.TheVariants.{Plain, Dup}
 use Rattle.store_model.specs.declared.put_mode.PutMode.{PutMode}
 use Rattle.store_model.specs.declared.put_mode.PutMode.TheVariants.{Overwrite, NoOverwrite, NoDupData}
 use Rattle.store_model.specs.declared.call.Call.{Call}
-use Rattle.store_model.specs.declared.call.Call.TheVariants.{Begin, Commit, Abort, List as Lists, Create, Remove, Rename, Truncate, Get, GetBoth, Put, Delete, Open, Close, Dup as Duplicate, Count as Counts, Cur, CPutCur, CDel, CPut}
+use Rattle.store_model.specs.declared.call.Call.TheVariants.{Begin, Commit, Abort, Create, Remove, Rename, Truncate, Get, GetBoth, Put, Delete, Open}
 use Rattle.store_model.specs.declared.answer.Answer.{Answer}
-use Rattle.store_model.specs.declared.answer.Answer.TheVariants.{Done, Txn, Logged, Durable, Rec, Count, Names, NotFound, KeyExist, KeyEmpty, NoPosition, Waiting, NotAvailable, Deadlock, MustAbort, SessionWaits, NoTxn, InTxn, NoDatabase, NoCursor, NameTaken, TooMany, DatabaseInUse, NotOnDuplicates, OnlyOnDuplicates, TooLong, Flushed, Nothing, InCheckpoint, NoCheckpoint, NodesLeft, LogFull, IdsEnded, DiskFault, Invalid}
+use Rattle.store_model.specs.declared.answer.Answer.TheVariants.{Done, Rec, Count, NotFound, KeyExist, KeyEmpty, MustAbort, SessionWaits, NoTxn, InTxn, NoDatabase, OnlyOnDuplicates, TooLong, LogFull, IdsEnded, Invalid}
 use Rattle.store_model.specs.declared.answer.Fault.{Fault}
 use Rattle.store_model.specs.Store.{Pair, database_of}
 use Rattle.store_model.specs.Records.{conclude, found, deleted, put_unless, tested_for}
-use Rattle.store_model.specs.Refusals.{or_refusal, access_refusal, database_refuses, kind_refusal, size_refusal, pair_refusal, too_long, data_limit}
+use Rattle.store_model.specs.Refusals.{or_refusal, database_refuses, kind_refusal, pair_refusal, too_long, data_limit}
 use Rattle.je_answers.specs.declared.active.Active.{Active}
 use Rattle.je_answers.specs.Standing.{Standing, active_of}
 use Rattle.je_answers.specs.Views.{Target, target_of}
-use Rattle.je_answers.specs.Refusals.{fault_refusal, waits_refusal, victim_refusal, abort_refusal, txn_refusal, early_refusal, number_refusal, database_refusal, there_refusal, name_refusal, target_refusal, late_refusal}
-use Rattle.je_answers.specs.Events.{no_room, no_numbers, log_limit}
-use Rattle.je_answers.specs.After.{Fate, fate_of}
-use Rattle.je_answers.specs.After.Fate.{Succeeds, IsRefused, Faults}
+use Rattle.je_answers.specs.Refusals.{fault_refusal, waits_refusal, victim_refusal, abort_refusal, txn_refusal, early_refusal, number_refusal, there_refusal, name_refusal, target_refusal, late_refusal}
+use Rattle.je_answers.specs.Events.{log_limit}
+use Rattle.je_answers.specs.After.{fate_of}
+use Rattle.je_answers.specs.After.Fate.{Succeeds, IsRefused}
 use Rattle.standing_laws.specs.Right.{MayWait}
-use Rattle.serial_replay.specs.Replay.{AnsweredCall, is_on_records, is_evaluated, is_committed, told_if, told_within, told_of}
+use Rattle.serial_replay.specs.Replay.{is_on_records, is_evaluated, is_committed, told_if, told_within, told_of}
 
 -- ---- refusals
 

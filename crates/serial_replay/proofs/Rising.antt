@@ -1,15 +1,14 @@
 -- Lists that rise by name: what is among their items tells them apart.
-use Rattle.std.proofs.Common.{◌≡◌, ◌⊎◌, inl, inr, Bool, true, false, cond, not, List, [], ◌∷◌, ◌++◌, filter, find, Option, None, Some, refl, ap, sym, ◌∙◌, subst, ⊎_elim, Ordering, Less, Equal, Greater, is_lt, is_gt, is_eq}
+use Rattle.std.proofs.Common.{◌≡◌, ◌⊎◌, inl, inr, Bool, true, false, List, [], ◌∷◌, ◌++◌, filter, find, None, Some, refl, ap, sym, ◌∙◌, subst, ⊎_elim, Ordering, Less, Equal, Greater, is_lt, is_gt}
 use Rattle.std.specs.List.{AllByRecursion}
 use Rattle.std.specs.List.Sorted.{IsStrictlySortedBy}
 use Rattle.std.specs.Ordering.{ordering_reverse, on}
 use Rattle.std.proofs.lemmas.Bool.{cases_Bool, cond-true, cond-false, both_ways}
-use Rattle.std.proofs.lemmas.List.Kept.{IsStrictlySortedBy-filter}
 use Rattle.je_order.specs.Order.{name_cmp}
 use Rattle.je_order.specs.declared.name.Name.{Name}
-use Rattle.je_order.proofs.Orderings.{name_exact, less_from_test, equal_from_test, greater_from_test}
+use Rattle.je_order.proofs.Orderings.{less_from_test, greater_from_test}
 use Rattle.store_model.proofs.StoreLaws.{names_total}
-use Rattle.standing_laws.proofs.Among.{IsAmong, all_at, all_of, filter_among, among_filter, found_is}
+use Rattle.standing_laws.proofs.Among.{IsAmong, all_at, all_of, filter_among}
 
 -- ---- name order
 

@@ -1,7 +1,7 @@
 -- Ranges that a transaction's locks shut: each occupied name in it is locked, and so is its upper end, which stays occupied.
-use Rattle.std.proofs.Common.{◌≡◌, ◌⊎◌, inl, inr, ℕ, Bool, true, false, not, ◌&&◌, List, [], ◌∷◌, ◌++◌, map, filter, find, Option, None, Some, refl, ap, sym, ◌∙◌, subst, ⊎_elim, Ordering, Less, is_ge}
+use Rattle.std.proofs.Common.{◌≡◌, ◌⊎◌, inl, inr, ℕ, Bool, true, false, not, ◌&&◌, List, [], ◌∷◌, map, filter, find, Option, None, Some, refl, ap, sym, ◌∙◌, subst, ⊎_elim, Less, is_ge}
 use Rattle.std.specs.List.{AllByRecursion}
-use Rattle.std.proofs.lemmas.Bool.{cases_Bool, cond-true, cond-false, both_ways}
+use Rattle.std.proofs.lemmas.Bool.{cases_Bool, both_ways}
 use Rattle.je_order.specs.Edges.{Edge, is_below}
 use Rattle.je_order.specs.Edges.Edge.{First, At, Behind, End}
 use Rattle.je_order.specs.Order.{name_cmp}
@@ -136,9 +136,9 @@ module _ (kind : Kind) (view : List Pair) (r passed : Range) (ended : Bool) (nam
           (subst (λ (d : Bool). is_upto (top_of d passed.upto names) x ≡ true) (sym e) (upto b e))
 
   module _ (at : Queues) (t : TxnId) (n : ℕ) (inside behind : LockType) (part : Part) (part_is : part ≡ record { inside = inside; behind = Some behind }) (in_range : is_range inside ≡ true) (behind_range : is_range behind ≡ true)
-        (got : AllByRecursion (λ (m : Need). is_range m.asked ≡ true → Holds is_range t (at (record_of m)).0) (part_needs n (Some part) passed ended names)) (occupied : Name → Type 0)
-        (listed : (x : Name) → IsAmong x names → occupied x) (has : (x : Name) → occupied x → IsAmong x names) (up : RisesBy (λ m. m) names)
-        (seen_there : (x : Name) → HasRecord kind view x → occupied x) where
+      (got : AllByRecursion (λ (m : Need). is_range m.asked ≡ true → Holds is_range t (at (record_of m)).0) (part_needs n (Some part) passed ended names)) (occupied : Name → Type 0)
+      (listed : (x : Name) → IsAmong x names → occupied x) (has : (x : Name) → occupied x → IsAmong x names) (up : RisesBy (λ m. m) names)
+      (seen_there : (x : Name) → HasRecord kind view x → occupied x) where
     all_at_need : (m : Need) → IsAmong m (part_needs n (Some part) passed ended names) → is_range m.asked ≡ true → Holds is_range t (at (record_of m)).0
     all_at_need m a h = all_at (λ (k : Need). is_range k.asked ≡ true → Holds is_range t (at (record_of k)).0) (part_needs n (Some part) passed ended names) m got a h
 
@@ -231,7 +231,7 @@ pub record MayWrite (at : Queues) (occupied : Name → Type 0) (names : List Nam
   pub comes : occupied x ⊎ IsFreeNeed u at (need n (first_from (Behind x) names) RangeInsert)
 
 module _ (at : Queues) (occupied : Name → Type 0) (names : List Name) (listed : (x : Name) → IsAmong x names → occupied x) (has : (x : Name) → occupied x → IsAmong x names) (up : RisesBy (λ m. m) names)
-      (t u : TxnId) (apart : is_same_txn t u ≡ false) (n : ℕ) (c : Closed) (shut : IsShut at occupied t n c) (x : Name) (may : MayWrite at occupied names u n x) where
+    (t u : TxnId) (apart : is_same_txn t u ≡ false) (n : ℕ) (c : Closed) (shut : IsShut at occupied t n c) (x : Name) (may : MayWrite at occupied names u n x) where
   -- the writer meets no lock of the other at the name
   met : Holds is_range t (at (place n (On x))).0 → ⊥
   met h = may.free t h.mode apart h.held (conflicts_write h.mode may.asked (range_can h.mode h.its) may.writes)

@@ -1,8 +1,8 @@
 -- Databases by name and by number, and how changes of records change a store.
-use Rattle.std.proofs.Common.{◌≡◌, ◌≤◌, ◌⊎◌, inl, inr, ℕ, ◌==◌, Bool, true, false, cond, not, List, [], ◌∷◌, ◌++◌, map, filter, find, Option, None, Some, refl, ap, ap₂, sym, ◌∙◌, subst, ⊎_elim, arith, Ordering, Less, Equal, Greater, is_eq}
+use Rattle.std.proofs.Common.{◌≡◌, ◌≤◌, inl, inr, ℕ, ◌==◌, Bool, true, false, cond, List, [], ◌∷◌, ◌++◌, map, find, Option, None, Some, refl, ap, ap₂, sym, ◌∙◌, subst, ⊎_elim, arith, Ordering, Less, Equal, Greater, is_eq}
 use Rattle.std.specs.List.{flat_map, AllByRecursion}
 use Rattle.std.specs.List.Sorted.{IsStrictlySortedBy}
-use Rattle.std.specs.Option.{option_map, option_map_or}
+use Rattle.std.specs.Option.{option_map}
 use Rattle.std.specs.Ordering.{on, ordering_then}
 use Rattle.std.proofs.lemmas.Bool.{cases_Bool, cond-true, cond-false, both_ways, eqb-true}
 use Rattle.std.proofs.lemmas.Bool.Decides.{nat_tests}
@@ -15,12 +15,12 @@ use Rattle.store_model.specs.declared.kind.Kind.{Kind}
 use Rattle.store_model.specs.declared.change.Change.{Change}
 use Rattle.store_model.specs.declared.record_change.RecordChange.{RecordChange}
 use Rattle.store_model.specs.declared.record_change.RecordChange.TheVariants.{Set, Unset}
-use Rattle.store_model.specs.Store.{Pair, named, name_of, proper, HasRisingNames, IsStore, database_of, pairs_changed, all_pairs_changed, with_pairs, in_database, changed, change_in, all_changed}
+use Rattle.store_model.specs.Store.{Pair, named, name_of, proper, HasRisingNames, IsStore, database_of, pairs_changed, all_pairs_changed, with_pairs, changed, change_in, all_changed}
 use Rattle.store_model.specs.Needs.{changed_name}
 use Rattle.store_model.proofs.StoreLaws.{changed_is_right}
-use Rattle.je_answers.specs.Standing.{Standing, database_at}
-use Rattle.je_answers.specs.Views.{of_db, changes_in, changes_named}
-use Rattle.standing_laws.proofs.Among.{IsAmong, all_at, among_map, mapped_among, found_is, find_some, any_from, filter_among, among_filter}
+use Rattle.je_answers.specs.Standing.{Standing}
+use Rattle.je_answers.specs.Views.{of_db, changes_in}
+use Rattle.standing_laws.proofs.Among.{IsAmong, all_at, mapped_among, found_is}
 use Rattle.serial_replay.proofs.Rising.{RisesBy, rises, one_of_name, same_names}
 
 -- ---- finding

@@ -1,29 +1,25 @@
 -- A call that was evaluated is told: what holds of the calls holds with it too.
-use Rattle.std.proofs.Common.{◌≡◌, ◌≤◌, ◌<◌, ◌⊎◌, inl, inr, ℕ, ◌==◌, Bool, true, false, cond, List, [], ◌∷◌, ◌++◌, map, filter, Option, None, Some, refl, ap, ap₂, sym, ◌∙◌, subst, ⊎_elim, arith}
+use Rattle.std.proofs.Common.{◌≡◌, ◌≤◌, ◌<◌, inl, inr, ℕ, ◌==◌, true, false, List, [], ◌∷◌, ◌++◌, map, None, Some, refl, ap, ap₂, sym, ◌∙◌, subst, ⊎_elim, arith}
 use Rattle.std.specs.List.{AllByRecursion}
 use Rattle.std.proofs.lemmas.Bool.{cases_Bool, cond-true, cond-false, both_ways, eqb-true}
 use Rattle.je_order.specs.declared.txn_id.TxnId.{TxnId}
 use Rattle.je_order.specs.Transactions.{is_same_txn}
 use Rattle.je_order.proofs.TxnIds.{same_is, same_itself}
-use Rattle.store_model.specs.declared.kind.Kind.{Kind}
 use Rattle.store_model.specs.declared.isolation.Isolation.{Isolation}
-use Rattle.store_model.specs.declared.isolation.Isolation.TheVariants.{Serializable, RepeatableRead}
 use Rattle.store_model.specs.declared.call.Call.{Call}
-use Rattle.store_model.specs.declared.store.Database.{Database}
 use Rattle.store_model.specs.declared.store.Store.{Store}
 use Rattle.store_model.specs.declared.change.Change.{Change}
 use Rattle.store_model.specs.declared.record_change.RecordChange.{RecordChange}
 use Rattle.store_model.specs.Store.{IsStore}
-use Rattle.store_model.specs.Needs.{changed_name}
 use Rattle.je_answers.specs.declared.active.Active.{Active}
 use Rattle.je_answers.specs.Standing.{Standing, database_at}
 use Rattle.je_answers.specs.Views.{Target, changes_at, changes_named, needs_in}
 use Rattle.je_answers.specs.Locking.{first_blocked}
 use Rattle.standing_laws.specs.Right.{AreSound, AreNumbered as AreRising, MayWait, txn_id}
-use Rattle.standing_laws.proofs.Among.{IsAmong, all_at}
+use Rattle.standing_laws.proofs.Among.{IsAmong}
 use Rattle.standing_laws.proofs.Stays.{same_active}
 use Rattle.serial_replay.specs.Replay.{AnsweredCall, database_of_call, calls_of}
-use Rattle.serial_replay.proofs.Stores.{Base, Numbers, base_at, IsFit, AreNumbered, named_same}
+use Rattle.serial_replay.proofs.Stores.{Numbers, base_at, IsFit, AreNumbered, named_same}
 use Rattle.serial_replay.proofs.Keeping.{Said, came_to, IsSer, IsRepeatable, IsStable, IsKept, own_same, fits_kept, ser_kept, repeatable_kept, Follows, call_by, KeepsOf, keeps, before_own, same_calls, keeps_kept, IsGround, EachBut, KeepsIf, IsKnown}
 use Rattle.serial_replay.proofs.Calls.{IsProper, changes_proper}
 use Rattle.serial_replay.proofs.Calling.{IsCallOf, comes_to, said_now, stable_call, kept_other, kept_own, own_other, own_its, base_new, base_is, ser_now, repeatable_now}
@@ -90,8 +86,8 @@ numbered_le last (b ∷ bs) a h (inr k) = numbered_le last bs a h.2 k
 -- ---- where a call leaves what holds
 
 module _ (st : Standing) (a : Active) (call : Call) (g : Target) (told : List AnsweredCall) (may : MayWait call) (sound : AreSound st) (ground : IsGround st told) (nowhere : g.at ≡ None) (here : database_at g.db st ≡ Some g.database)
-      (named : g.database.name ≡ database_of_call call) (free : first_blocked a.txn (needs_in st a call g) st.locks.at ≡ None) (new : Standing)
-      (step : IsCallOf st a call g told may sound ground nowhere here named free new) where
+    (named : g.database.name ≡ database_of_call call) (free : first_blocked a.txn (needs_in st a call g) st.locks.at ≡ None) (new : Standing)
+    (step : IsCallOf st a call g told may sound ground nowhere here named free new) where
   abbrev its : List RecordChange
   its = (comes_to st a call g told may sound ground nowhere here named free).changes
 
@@ -103,11 +99,14 @@ module _ (st : Standing) (a : Active) (call : Call) (g : Target) (told : List An
 
   fit_now : (cs : List RecordChange) → AllByRecursion (IsProper g.database.kind) cs → AllByRecursion (IsFit new) (changes_at g.db cs)
   fit_now [] h = tt
-  fit_now (c ∷ cs) h = (record {
-    base = (g.database.name, g.database.kind);
-    there = base_new st a call g told may sound ground nowhere here named free new step g.db ∙ base_is st a call g told may sound ground nowhere here named free;
-    its = h.0;
-  }, fit_now cs h.1)
+  fit_now (c ∷ cs) h = (
+    record {
+      base = (g.database.name, g.database.kind);
+      there = base_new st a call g told may sound ground nowhere here named free new step g.db ∙ base_is st a call g told may sound ground nowhere here named free;
+      its = h.0;
+    },
+    fit_now cs h.1,
+  )
 
   fits_new : (t : ℕ) → AllByRecursion (IsFit new) (new.own t)
   fits_new t = ⊎_elim

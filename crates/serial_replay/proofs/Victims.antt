@@ -1,5 +1,5 @@
 -- A call that waits, and its victims that are transactions of one call and end.
-use Rattle.std.proofs.Common.{◌≡◌, ℕ, ◌==◌, Bool, true, false, not, List, [], ◌∷◌, ◌++◌, Option, None, Some, refl, ap, sym, ◌∙◌, subst, ⊎_elim}
+use Rattle.std.proofs.Common.{◌≡◌, ℕ, ◌==◌, Bool, true, false, not, List, [], ◌∷◌, ◌++◌, Some, refl, ap, ◌∙◌, subst, ⊎_elim}
 use Rattle.std.specs.List.{AllByRecursion}
 use Rattle.std.proofs.lemmas.Bool.{cases_Bool, both_ways, eqb-true, and_parts}
 use Rattle.je_order.proofs.TxnIds.{same_itself}
@@ -15,7 +15,7 @@ use Rattle.je_answers.specs.Locking.{granted_part, first_blocked}
 use Rattle.je_answers.specs.Events.{asking, locks_before}
 use Rattle.je_answers.specs.After.{ended, all_ended, marked, is_victim, autos_in, without_session, without_waits_of, with_victims, with_waiting}
 use Rattle.active_txns.specs.Marks.{HaveOwnSessions}
-use Rattle.standing_laws.specs.Right.{AreRight, IsSoundAt, MayWait, is_active}
+use Rattle.standing_laws.specs.Right.{AreRight, IsSoundAt, MayWait}
 use Rattle.standing_laws.proofs.Among.{IsAmong, any_from, all_at, all_of, among_filter, filter_among}
 use Rattle.standing_laws.proofs.Steps.{sound_all_got, granted_free, stopped_behind}
 use Rattle.standing_laws.proofs.Moves.{own_filter}

@@ -1,6 +1,5 @@
 -- Who waits for whom after each step of the locks: no step closes a cycle, and the victims of a wait break those that it closes.
-use Rattle.std.proofs.Common.{◌≡◌, ◌⊎◌, inl, inr, ℕ, Bool, true, false, cond, not, ◌||◌, List, [], ◌∷◌, ◌++◌, map, filter, find, Option, None, Some, refl, ap, sym, ◌∙◌, subst, ⊎_elim}
-use Rattle.std.specs.List.{AllByRecursion}
+use Rattle.std.proofs.Common.{◌≡◌, ◌⊎◌, inl, inr, ℕ, Bool, true, false, cond, List, [], ◌∷◌, ◌++◌, map, filter, find, Option, None, Some, refl, ap, sym, ◌∙◌, subst, ⊎_elim}
 use Rattle.std.specs.Option.{option_map_or}
 use Rattle.std.proofs.lemmas.Bool.{cases_Bool, cond-true, cond-false, both_ways, or_left, or_right, or_parts, false_from_ne_true}
 use Rattle.je_order.specs.declared.txn_id.TxnId.{TxnId}
@@ -9,12 +8,12 @@ use Rattle.je_order.proofs.TxnIds.{same_is, same_itself, same_either}
 use Rattle.waits_for.specs.Cycles.{is_in}
 use Rattle.lock_table.specs.declared.lock.Lock.{Lock}
 use Rattle.lock_table.specs.declared.record_id.RecordId.{RecordId}
-use Rattle.lock_table.specs.Locks.{lock_of, is_of, has_lock, held_by, is_blocking, is_blocked, waited_for, with_lock, after_ask, after_release, after_read, IsSettled}
+use Rattle.lock_table.specs.Locks.{lock_of, is_of, has_lock, held_by, is_blocking, is_blocked, waited_for, with_lock, after_ask, after_read, IsSettled}
 use Rattle.lock_table.specs.Records.{is_record}
 use Rattle.lock_table.proofs.QueueMaps.{record_is}
 use Rattle.lock_table.proofs.CallSteps.{record_same}
 use Rattle.lock_table.proofs.RecordCalls.{settled_release, waits_release as has_release}
-use Rattle.lock_mgr.specs.Deadlock.{HasNoCycle, AreVictims, without_waits}
+use Rattle.lock_mgr.specs.Deadlock.{HasNoCycle, AreVictims}
 use Rattle.lock_mgr.proofs.CycleLaws.{Waits, GrowsFrom, still_none, within_none, none_after}
 use Rattle.lock_mgr.proofs.WaitsForLaws.{Queue, waits_on, wait_parts, waits_release, waits_read, waits_taken}
 use Rattle.lock_mgr.proofs.NoDeadlockLaws.{waits_less}
@@ -24,7 +23,7 @@ use Rattle.store_model.specs.declared.need.Need.{Need}
 use Rattle.je_answers.specs.declared.active.Active.{Active}
 use Rattle.je_answers.specs.declared.wait.Wait.{Wait}
 use Rattle.je_answers.specs.Standing.{LockState}
-use Rattle.je_answers.specs.Locking.{Queues, record_of, got, all_got, is_stopped, first_blocked, given_back, released, forgotten, with_wait, waits_for_in, waits_in}
+use Rattle.je_answers.specs.Locking.{record_of, got, all_got, is_stopped, first_blocked, given_back, released, forgotten, with_wait, waits_for_in, waits_in}
 use Rattle.standing_laws.specs.Right.{AreTables, IsSoundAt, is_active}
 use Rattle.standing_laws.proofs.Steps.{Changes, Cursors, state, IsGotAt, got_is, sound_got}
 
@@ -217,7 +216,7 @@ module _ (t : TxnId) (n : Need) (gone : List TxnId) (locks : LockState) (stopped
       by true e =
           let r : record_of n ≡ k.at = some_is (record_of n) k.at (sym (cond-true (is_same_txn t x) (Some (record_of n)) (locks.pending x) e) ∙ told) in
           let on : waits_on x y ((locks.at (record_of n)).0, (locks.at (record_of n)).1 ++ asks ∷ []) ≡ true =
-              subst (λ (q : Queue). waits_on x y q ≡ true) (put_at (record_of n) (itself (record_of n))) (subst (λ (p : RecordId). waits_on x y (got t n locks.at p) ≡ true) (sym r) m.1) in
+          subst (λ (q : Queue). waits_on x y q ≡ true) (put_at (record_of n) (itself (record_of n))) (subst (λ (p : RecordId). waits_on x y (got t n locks.at p) ≡ true) (sym r) m.1) in
           cond-true (is_same_txn t x) (is_in y (map (λ (o : Lock). o.txn) (filter (is_blocking asks) (locks.at (record_of n)).0))) (is_in y (waits_for_in locks x)) e
           ∙ (sym (ap (listed (locks.at (record_of n)).0) (ap (λ (u : TxnId). find (is_of u) ((locks.at (record_of n)).1 ++ asks ∷ [])) (sym (same_is t x e)) ∙ put_own asks (locks.at (record_of n)).1 (nowhere (record_of n)))) ∙ on)
         where
