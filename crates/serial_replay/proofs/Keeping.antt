@@ -9,12 +9,9 @@ use Rattle.lock_mode.specs.Modes.{can_be_held}
 use Rattle.lock_table.specs.declared.record_id.RecordId.{RecordId}
 use Rattle.lock_table.specs.Locks.{is_range}
 use Rattle.store_model.specs.declared.kind.Kind.{Kind}
-use Rattle.store_model.specs.declared.kind.Kind.TheVariants.{Plain, Dup}
 use Rattle.store_model.specs.declared.isolation.Isolation.{Isolation}
 use Rattle.store_model.specs.declared.isolation.Isolation.TheVariants.{ReadUncommitted, ReadCommitted, RepeatableRead, Serializable}
-use Rattle.store_model.specs.declared.put_mode.PutMode.TheVariants.{Overwrite, NoOverwrite, NoDupData}
 use Rattle.store_model.specs.declared.call.Call.{Call}
-use Rattle.store_model.specs.declared.call.Call.TheVariants.{Get, GetBoth, Put, Delete}
 use Rattle.store_model.specs.declared.record_change.RecordChange.{RecordChange}
 use Rattle.store_model.specs.declared.answer.Answer.{Answer}
 use Rattle.store_model.specs.declared.answer.Answer.TheVariants.{Rec}
@@ -27,7 +24,7 @@ use Rattle.je_answers.specs.Views.{of_db, changes_at, changes_named}
 use Rattle.standing_laws.specs.Right.{MayWait, AreSound, HoldsWrite, place_of, txn_id}
 use Rattle.standing_laws.proofs.Among.{IsAmong, all_at, all_of, among_first}
 use Rattle.serial_replay.specs.Replay.{AnsweredCall, database_of_call, calls_of}
-use Rattle.serial_replay.proofs.Locality.{AgreeWithin, IsUpward, read_is_local}
+use Rattle.serial_replay.proofs.Locality.{AgreeWithin, read_is_local}
 use Rattle.serial_replay.proofs.Changing.{alike, rises_changed}
 use Rattle.serial_replay.proofs.Holding.{Sort, IsSort, Holds, ranges, any_lock, range_can, weaker, from_write}
 use Rattle.serial_replay.proofs.Occupied.{IsOccupied}
@@ -106,21 +103,6 @@ pub record IsKept (t : TxnId) (level : Isolation) (st new : Standing) : Type 0 w
       occupied_at st n b.1 x ⊎ ((c : Closed) → IsShut st.locks.at (occupied_at st n b.1) t n c → is_inside c x ≡ true → Holds is_range t (new.locks.at (place n (On x))).0)
   pub stays : (n : ℕ) (b : Base) (x : Name) → IsUsedBy st t n → base_at n st ≡ Some b → Holds can_be_held t (st.locks.at (place n (On x))).0 → occupied_at st n b.1 x → occupied_at new n b.1 x
 
--- ---- calls without a cursor
-
--- read upwards
-pub is_upward : (kind : Kind) (call : Call) → MayWait call → IsUpward (look_of kind call None).way
-is_upward Plain (Get db key rmw) may = tt
-is_upward Dup (Get db key rmw) may = tt
-is_upward kind (GetBoth db key value rmw) may = tt
-is_upward kind (Put db key value Overwrite) may = tt
-is_upward Plain (Put db key value NoOverwrite) may = tt
-is_upward Dup (Put db key value NoOverwrite) may = tt
-is_upward kind (Put db key value NoDupData) may = tt
-is_upward Plain (Delete db key) may = tt
-is_upward Dup (Delete db key) may = tt
-is_upward kind call may = absurd may
-
 module _ (t : TxnId) (level : Isolation) (st new : Standing) (stable : IsStable st new) (kept : IsKept t level st new) (right : IsStore st.store) (right_new : IsStore new.store) where
   used_kept : (n : ℕ) → IsUsedBy st t n → IsUsedBy new t n
   used_kept n u = record { its = u.its; there = u.there; held = kept.locks can_be_held any_lock u.its u.held }
@@ -131,7 +113,7 @@ module _ (t : TxnId) (level : Isolation) (st new : Standing) (stable : IsStable 
     covers = h.covers;
     there = there_new;
     used = used_kept s.db h.used;
-    seen_is = sym (read_is_local s.kind (look_in s).way (look_in s).range (view_in st s) (view_in new s) (is_upward s.kind s.call h.may)
+    seen_is = sym (read_is_local s.kind (look_in s).way (look_in s).range (view_in st s) (view_in new s)
         (rises_changed s.kind (of_db s.db s.before) (pairs_at s.db st) (pairs_rise st.numbers s.db st.store (base_of_call s) right h.there))
         (rises_changed s.kind (of_db s.db s.before) (pairs_at s.db new) (pairs_rise new.numbers s.db new.store (base_of_call s) right_new there_new))
         agree) ∙ h.seen_is;
