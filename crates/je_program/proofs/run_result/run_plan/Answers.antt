@@ -76,6 +76,10 @@ returns-in-Ok-clause-run g c = λ is_opened.
       synced_at_once = synced;
       in_order = under.running.ordered;
       only = under.running.only;
+      stopped = ran.result.stopped;
+      in_place = ran.ensures.ends p starts;
+      none_stopped = λ other. ran.ensures.given.none_stopped (memory_left ran.result.memory_ended cause f.ensures.memory other);
+      ended = λ other. ran.ensures.ended p starts (memory_left ran.result.memory_ended cause f.ensures.memory other);
       rests = λ other. ran.ensures.calm p starts (memory_left ran.result.memory_ended cause f.ensures.memory other);
       acknowledged = λ done. done_acknowledged st journal cause done
           (ends_by journal ran.result.memory_ended cause f.ensures.memory f.ensures.ends (done_is_no_memory cause done)) synced;
