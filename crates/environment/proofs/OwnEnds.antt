@@ -525,7 +525,7 @@ module _ {D : Type 0} (observable : Bool) (history : D → History) (sync_out re
           right = subst (AllByRecursion (λ c. is_right_change g.database.kind c ≡ true)) (sym up.changes_are)
               (subst (λ (o : Option Name). AllByRecursion (λ c. is_right_change g.database.kind c ≡ true) (evaluation g.database.kind call o (view_of st a g)).changes) (sym up.on.at)
               (subst (λ (p : List Pair). AllByRecursion (λ c. is_right_change g.database.kind c ≡ true) (evaluation g.database.kind call None p).changes) its.pairs
-              (changes-are_right g.database.kind call (seen_rows a.level a.txn (cells_of e.engine.trees g.db)) up.plain its.right)));
+              (changes-are_right g.database.kind call None (seen_rows a.level a.txn (cells_of e.engine.trees g.db)) up.plain its.right)));
           free = subst (AllByRecursion (λ c. Rattle.standing_laws.specs.Laws.IsOnlyOf g.db (Rattle.store_model.specs.Needs.changed_name c) a.txn.0 st.own)) (sym up.changes_are) (writers-are_free st a call g up.sound up.taken.free);
           apart = (loggable rising).apart;
         }
