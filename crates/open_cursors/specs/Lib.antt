@@ -1,0 +1,2 @@
+-- The open cursors, as each session's list of places.
+pub mod Places
