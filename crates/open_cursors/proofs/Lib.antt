@@ -4,3 +4,5 @@ mod PlaceLaws
 mod NumberLaws
 -- A cursor is moved: the walk along the cursors.
 mod MoveSteps
+-- What holds of each open cursor goes on to hold.
+mod EachCursor

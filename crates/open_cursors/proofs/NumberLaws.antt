@@ -40,10 +40,8 @@ own_and : (cs : List OpenCursor) (c : OpenCursor) → HaveOwnNumbers cs → AllB
 own_and [] c h none = (tt, tt)
 own_and (d ∷ ds) c h none = (all_and (λ x. is_of d.session d.place.cursor x ≡ false) ds c h.0 (turned_of c d none.0), own_and ds c h.1 none.1)
 
-pub opened_own : (session : ℕ) (place : Place) (cs : List OpenCursor) (places : ℕ → List Place) → ((s : ℕ) → places_of cs s ≡ places s) → place_at place.cursor (places session) ≡ None → HaveOwnNumbers cs
-    → HaveOwnNumbers (cs ++ record { session = session; place = place } ∷ [])
-opened_own session place cs places each free own =
-    own_and cs (record { session = session; place = place }) own (none_of session place.cursor cs (ap (place_at place.cursor) (each session) ∙ free))
+pub opened_own : (c : OpenCursor) (cs : List OpenCursor) (places : ℕ → List Place) → ((s : ℕ) → places_of cs s ≡ places s) → place_at c.place.cursor (places c.session) ≡ None → HaveOwnNumbers cs → HaveOwnNumbers (cs ++ c ∷ [])
+opened_own c cs places each free own = own_and cs c own (none_of c.session c.place.cursor cs (ap (place_at c.place.cursor) (each c.session) ∙ free))
 
 -- ---- closed
 

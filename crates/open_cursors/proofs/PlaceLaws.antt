@@ -69,10 +69,9 @@ opened_each c (d ∷ ds) s = by (s == d.session) (opened_each c ds s)
     by true h = ap (λ (l : List Place). d.place ∷ l) h ∙ cons_cond d.place (s == c.session) (places_of ds s ++ c.place ∷ []) (places_of ds s)
     by false h = h
 
-pub opened_places : (session : ℕ) (place : Place) (cs : List OpenCursor) (places : ℕ → List Place) → ((s : ℕ) → places_of cs s ≡ places s) → (s : ℕ)
-    → places_of (cs ++ record { session = session; place = place } ∷ []) s ≡ with_at session (places session ++ place ∷ []) places s
-opened_places session place cs places each =
-    changed_at (λ (l : List Place). l ++ place ∷ []) session cs (cs ++ record { session = session; place = place } ∷ []) places each (opened_each (record { session = session; place = place }) cs)
+pub opened_places : (c : OpenCursor) (cs : List OpenCursor) (places : ℕ → List Place) → ((s : ℕ) → places_of cs s ≡ places s) → (s : ℕ)
+    → places_of (cs ++ c ∷ []) s ≡ with_at c.session (places c.session ++ c.place ∷ []) places s
+opened_places c cs places each = changed_at (λ (l : List Place). l ++ c.place ∷ []) c.session cs (cs ++ c ∷ []) places each (opened_each c cs)
 
 -- ---- closed
 

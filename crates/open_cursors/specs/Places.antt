@@ -2,7 +2,9 @@
 use Rattle.std.specs.Prelude.{ℕ, ◌≡◌, ◌==◌, ◌&&◌, ◌∷◌, [], List, Option, Bool, false, if◌then◌else◌}
 use Rattle.std.specs.List.{AllByRecursion}
 use Rattle.je_order.specs.declared.name.Name.{Name}
+use Rattle.store_model.specs.declared.store.Store.{Store}
 use Rattle.store_model.specs.declared.place.Place.{Place}
+use Rattle.open_cursors.specs.Under.{IsUnderIn}
 use Rattle.open_cursors.specs.declared.open_cursor.OpenCursor.{OpenCursor}
 use Rattle.open_cursors.specs.declared.open_cursors.OpenCursors.{OpenCursors}
 
@@ -25,13 +27,17 @@ pub record AreCursorsAt (open_ : OpenCursors) (places : ℕ → List Place) : Ty
   pub each : (session : ℕ) → places_of open_.cursors.items session ≡ places session
   pub apart : HaveOwnNumbers open_.cursors.items
 
+-- each open cursor's database goes by its name in a store, with its number and its kind
+abbrev pub AreUnder : Store → (List ℕ → ℕ) → OpenCursors → Type 0
+AreUnder store numbers open_ = AllByRecursion (λ c. IsUnderIn store numbers c.place.db c.name c.kind) open_.cursors.items
+
 -- ---- inside
 -- a cursor stands elsewhere
 abbrev pub moved_place : Option Name → Place → Place
 moved_place at p = record { cursor = p.cursor; db = p.db; at = at }
 
 abbrev pub moved_cursor : Option Name → OpenCursor → OpenCursor
-moved_cursor at c = record { session = c.session; place = moved_place at c.place }
+moved_cursor at c = record { session = c.session; place = moved_place at c.place; name = c.name; kind = c.kind }
 
 -- the first cursor of a session and number does
 abbrev pub moved_in : ℕ → ℕ → Option Name → List OpenCursor → List OpenCursor

@@ -1,12 +1,14 @@
 // The open cursors.
 ghost use Rattle.std.specs.Prelude.{ℕ, ◌≡◌, ◌==◌, ◌&&◌, ◌++◌, ◌∷◌, [], List, None, Some, not, find, filter, option_map, IfOk, OnOk, OnErr};
 ghost use Rattle.std.specs.List.{list_any};
-ghost use Rattle.std.specs.Option.{option_copied};
+ghost use Rattle.std.specs.Option.{option_copied, IfSome};
+ghost use Rattle.store_model.specs.declared.store.Store.{Store as Records};
 ghost use Rattle.store_model.specs.declared.place.Place.{Place as Stand};
 ghost use Rattle.je_answers.specs.Standing.{place_at, with_at};
 ghost use Rattle.je_answers.specs.Locking.{has_cursor_on};
 ghost use Rattle.je_answers.specs.After.{moved_to};
-ghost use Rattle.open_cursors.specs.Places.{AreCursorsAt, is_of, moved_in};
+ghost use Rattle.open_cursors.specs.Places.{AreCursorsAt, AreUnder, is_of, moved_in};
+ghost use Rattle.open_cursors.specs.Under.{IsUnderIn};
 
 use crate::OpenCursor;
 use je_order::{Name, copy_of};
@@ -65,14 +67,20 @@ fn copy_of_position(at: &Option<Name>) -> Result<Option<Name>, AllocError>
     }
 }
 
-// A copy of where a cursor stands, for another number.
-fn copy_of_place(place: &Place, to: u8) -> Result<Place, AllocError>
-    ensures { IfOk result (λ copy. copy ≡ record { cursor = to; db = place.now.db; at = place.now.at }) }
+// A copy of a cursor, with another number.
+fn copy_of_cursor(opened: &OpenCursor, to: u8) -> Result<OpenCursor, AllocError>
+    ensures { IfOk result (λ copy. copy ≡ record { session = opened.now.session; place = record { cursor = to; db = opened.now.place.db; at = opened.now.place.at }; name = opened.now.name; kind = opened.now.kind }) }
 {
-    Ok(Place {
+    let place = Place {
         cursor: to,
-        db: place.db,
-        at: copy_of_position(&place.at)?,
+        db: opened.place.db,
+        at: copy_of_position(&opened.place.at)?,
+    };
+    Ok(OpenCursor {
+        session: opened.session,
+        place,
+        name: copy_of(&opened.name)?,
+        kind: opened.kind,
     })
 }
 
@@ -99,7 +107,8 @@ fn move_one(cursors: &mut Vec<OpenCursor>, session: u8, cursor: u8, at: Option<N
 impl OpenCursors {
     /// No cursor. It takes no memory.
     pub fn new(alloc: Global) -> OpenCursors
-        ensures { AreCursorsAt result (λ session. []) }
+        ensures none { AreCursorsAt result (λ session. []) }
+        ensures under { (store : Records) (numbers : List ℕ → ℕ) → AreUnder store numbers result }
     {
         OpenCursors {
             cursors: Vec::new(alloc),
@@ -115,14 +124,13 @@ impl OpenCursors {
             .find(|opened| is_of(session, cursor, opened))
     }
 
-    /// Where a session's cursor stands, if it is open.
-    pub fn place(&self, session: u8, cursor: u8) -> Option<&Place>
-        ensures { (places : ℕ → List Stand) → AreCursorsAt self.now places → option_copied result ≡ place_at cursor (places session) }
+    /// A session's cursor, if it is open.
+    pub fn cursor(&self, session: u8, cursor: u8) -> Option<&OpenCursor>
+        ensures place { (places : ℕ → List Stand) → AreCursorsAt self.now places → option_map (λ c. c.place) (option_copied result) ≡ place_at cursor (places session) }
+        ensures its { IfSome result (λ c. c.now.session ≡ session) }
+        ensures under { (store : Records) (numbers : List ℕ → ℕ) → AreUnder store numbers self.now → IfSome result (λ c. IsUnderIn store numbers c.now.place.db c.now.name c.now.kind) }
     {
-        match self.found(session, cursor) {
-            None => None,
-            Some(opened) => Some(&opened.place),
-        }
+        self.found(session, cursor)
     }
 
     /// Whether a session has a cursor on that database.
@@ -132,55 +140,50 @@ impl OpenCursors {
         is_used(self.cursors.as_slice(), session, db)
     }
 
-    /// Opens a session's cursor, whose number is not open. The only error is out of memory, and nothing is
+    /// Opens a cursor, whose number its session has not open. The only error is out of memory, and nothing is
     /// changed by it.
-    pub fn open(&mut self, session: u8, place: Place) -> Result<(), AllocError>
-        ensures opened { OnOk result ((places : ℕ → List Stand) → AreCursorsAt self.old places → place_at place.cursor (places session) ≡ None → AreCursorsAt self.new (with_at session (places session ++ place ∷ []) places)) }
+    pub fn open(&mut self, opened: OpenCursor) -> Result<(), AllocError>
+        ensures opened { OnOk result ((places : ℕ → List Stand) → AreCursorsAt self.old places → place_at opened.place.cursor (places opened.session) ≡ None → AreCursorsAt self.new (with_at opened.session (places opened.session ++ opened.place ∷ []) places)) }
+        ensures under { OnOk result ((store : Records) (numbers : List ℕ → ℕ) → IsUnderIn store numbers opened.place.db opened.name opened.kind → AreUnder store numbers self.old → AreUnder store numbers self.new) }
         ensures err { OnErr result ((places : ℕ → List Stand) → AreCursorsAt self.old places → AreCursorsAt self.new places) }
+        ensures err_under { OnErr result ((store : Records) (numbers : List ℕ → ℕ) → AreUnder store numbers self.old → AreUnder store numbers self.new) }
     {
-        self.cursors.push(OpenCursor { session, place })?;
+        self.cursors.push(opened)?;
         Ok(())
     }
 
-    // Where a session's cursor stands, for another number.
-    fn copied(&self, session: u8, cursor: u8, to: u8) -> Result<Option<Place>, AllocError>
-        ensures { IfOk result (λ copy. (places : ℕ → List Stand) → AreCursorsAt self.now places → copy ≡ option_map (λ p. record { cursor = to; db = p.db; at = p.at }) (place_at cursor (places session))) }
+    /// A copy of a session's cursor with the number `to`, if it is open. The only error is out of memory.
+    pub fn copied(&self, session: u8, cursor: u8, to: u8) -> Result<Option<OpenCursor>, AllocError>
+        ensures place { IfOk result (λ copy. (places : ℕ → List Stand) → AreCursorsAt self.now places → option_map (λ c. c.place) copy ≡ option_map (λ p. record { cursor = to; db = p.db; at = p.at }) (place_at cursor (places session))) }
+        ensures its { IfOk result (λ copy. IfSome copy (λ c. c.session ≡ session)) }
+        ensures under { IfOk result (λ copy. (store : Records) (numbers : List ℕ → ℕ) → AreUnder store numbers self.now → IfSome copy (λ c. IsUnderIn store numbers c.place.db c.name c.kind)) }
     {
-        match self.place(session, cursor) {
+        match self.cursor(session, cursor) {
             None => Ok(None),
-            Some(place) => Ok(Some(copy_of_place(place, to)?)),
-        }
-    }
-
-    /// Opens a session's cursor `to`, whose number is not open, where its cursor `cursor` stands. The only error
-    /// is out of memory, and nothing is changed by it.
-    pub fn duplicate(&mut self, session: u8, cursor: u8, to: u8) -> Result<(), AllocError>
-        ensures opened { OnOk result ((places : ℕ → List Stand) (p : Stand) → AreCursorsAt self.old places → place_at cursor (places session) ≡ Some p → place_at to (places session) ≡ None → AreCursorsAt self.new (with_at session (places session ++ record { cursor = to; db = p.db; at = p.at } ∷ []) places)) }
-        ensures err { OnErr result ((places : ℕ → List Stand) → AreCursorsAt self.old places → AreCursorsAt self.new places) }
-    {
-        match self.copied(session, cursor, to)? {
-            None => Ok(()),
-            Some(place) => self.open(session, place),
+            Some(opened) => Ok(Some(copy_of_cursor(opened, to)?)),
         }
     }
 
     /// Closes a session's cursor. It takes no memory.
     pub fn close(&mut self, session: u8, cursor: u8)
-        ensures { (places : ℕ → List Stand) → AreCursorsAt self.old places → AreCursorsAt self.new (with_at session (filter (λ p. not (p.cursor == cursor)) (places session)) places) }
+        ensures closed { (places : ℕ → List Stand) → AreCursorsAt self.old places → AreCursorsAt self.new (with_at session (filter (λ p. not (p.cursor == cursor)) (places session)) places) }
+        ensures under { (store : Records) (numbers : List ℕ → ℕ) → AreUnder store numbers self.old → AreUnder store numbers self.new }
     {
         leave_out(&mut self.cursors, session, cursor);
     }
 
     /// Moves a session's cursor to a record. It takes no memory.
     pub fn move_to(&mut self, session: u8, cursor: u8, at: Option<Name>)
-        ensures { (places : ℕ → List Stand) → AreCursorsAt self.old places → AreCursorsAt self.new (with_at session (moved_to cursor at (places session)) places) }
+        ensures moved { (places : ℕ → List Stand) → AreCursorsAt self.old places → AreCursorsAt self.new (with_at session (moved_to cursor at (places session)) places) }
+        ensures under { (store : Records) (numbers : List ℕ → ℕ) → AreUnder store numbers self.old → AreUnder store numbers self.new }
     {
         move_one(&mut self.cursors, session, cursor, at);
     }
 
     /// Closes all cursors of a session. It takes no memory.
     pub fn close_all(&mut self, session: u8)
-        ensures { (places : ℕ → List Stand) → AreCursorsAt self.old places → AreCursorsAt self.new (with_at session [] places) }
+        ensures closed { (places : ℕ → List Stand) → AreCursorsAt self.old places → AreCursorsAt self.new (with_at session [] places) }
+        ensures under { (store : Records) (numbers : List ℕ → ℕ) → AreUnder store numbers self.old → AreUnder store numbers self.new }
     {
         leave_session_out(&mut self.cursors, session);
     }
