@@ -1,5 +1,5 @@
--- What holds of every standing that a run reaches without a fault, where no session has a cursor.
-use Rattle.std.specs.Prelude.{ℕ, ◌≡◌, ◌<◌, ◌≤◌, ◌==◌, ◌∷◌, [], List, Option, Some, Bool, true, false}
+-- What holds of every standing that a run reaches without a fault.
+use Rattle.std.specs.Prelude.{ℕ, ◌≡◌, ◌<◌, ◌≤◌, ◌==◌, ◌∷◌, [], List, Option, None, Some, Bool, true, false}
 use Rattle.std.specs.List.{list_any, AllByRecursion}
 use Rattle.std.specs.Option.{is_some}
 use Rattle.je_order.specs.declared.txn_id.TxnId.{TxnId}
@@ -12,7 +12,7 @@ use Rattle.lock_table.specs.declared.record_id.RecordId.{RecordId}
 use Rattle.lock_table.specs.Locks.{has_lock, held_by, is_write, IsSettled}
 use Rattle.store_model.specs.declared.place.Place.{Place}
 use Rattle.store_model.specs.declared.call.Call.{Call}
-use Rattle.store_model.specs.declared.call.Call.TheVariants.{Get, GetBoth, Put, Delete}
+use Rattle.store_model.specs.declared.call.Call.TheVariants.{Get, GetBoth, Put, Delete, Count, Cur, CPutCur, CDel, CPut}
 use Rattle.store_model.specs.declared.record_change.RecordChange.{RecordChange}
 use Rattle.store_model.specs.Needs.{changed_name}
 use Rattle.je_answers.specs.declared.active.Active.{Active}
@@ -66,6 +66,11 @@ MayWait (Get db key rmw) = Unit {0}
 MayWait (GetBoth db key value rmw) = Unit {0}
 MayWait (Put db key value mode) = Unit {0}
 MayWait (Delete db key) = Unit {0}
+MayWait (Count cursor) = Unit {0}
+MayWait (Cur cursor motion rmw) = Unit {0}
+MayWait (CPutCur cursor value) = Unit {0}
+MayWait (CDel cursor) = Unit {0}
+MayWait (CPut cursor key value mode) = Unit {0}
 MayWait call = ⊥
 
 -- ---- locks
@@ -95,7 +100,8 @@ HoldsWrite at t c = HasWrite t (at (place_of c)).0
 
 -- ---- the standing
 
--- what holds in the middle of a call too: transactions up to this number, with these own changes, cursors, waits and locks
+-- what holds in the middle of a call too: transactions up to this number, with these own changes, cursors, waits and locks; a session has cursors in a
+-- transaction alone
 pub record IsSoundAt (last : ℕ) (as_ : List Active) (changes : ℕ → List (ℕ × RecordChange)) (cursors : ℕ → List Place) (ws : List Wait) (state : LockState) : Type 0 where
   pub numbers : AreNumbered last as_
   pub waits : HaveWaits as_ ws state.pending
@@ -103,7 +109,7 @@ pub record IsSoundAt (last : ℕ) (as_ : List Active) (changes : ℕ → List (�
   pub owners : (t : TxnId) (r : RecordId) → has_lock t (state.at r).0 ≡ true → is_active t as_ ≡ true
   pub own_active : (n : ℕ) → is_active (txn_id n) as_ ≡ false → changes n ≡ []
   pub own_locked : (n : ℕ) → AllByRecursion (HoldsWrite state.at (txn_id n)) (changes n)
-  pub places : (session : ℕ) → cursors session ≡ []
+  pub places : (session : ℕ) → active_of session as_ ≡ None → cursors session ≡ []
 
 abbrev pub AreSound : Standing → Type 0
 AreSound st = IsSoundAt st.last_txn st.actives st.own st.places st.waiting st.locks
