@@ -30,7 +30,7 @@ use Rattle.je_answers.specs.Locking.{first_blocked}
 use Rattle.je_answers.specs.Events.{auto_active, begun, resumed, IsReady, IsResumed}
 use Rattle.je_answers.specs.After.{marked_by, Fate, fate_of, drawn_by, without_session, ended, ended_if_any, committed_if_any, answered, with_outcome, opened_at, closed, after_fate, after_changes, marked, all_ended, autos_in, without_waits_of, with_waiting, after_stop, after_taking, after_on, after_run, after_commit, after_ending, after_catalog, after_performed, after_evaluated, after_call, after_resumed, faulted_if, after_begin, after_turn}
 use Rattle.je_answers.specs.After.Fate.{Succeeds, IsRefused, Faults}
-use Rattle.standing_laws.specs.Right.{AreNumbered, MayWait, is_active, AreRight}
+use Rattle.standing_laws.specs.Right.{AreNumbered, is_active, AreRight}
 use Rattle.standing_laws.specs.Laws.{AreBare, StandingsStayBare, BegunIsBare}
 use Rattle.standing_laws.proofs.Among.{IsAmong, any_some, all_at, all_of, found_is}
 use Rattle.standing_laws.proofs.Steps.{Changes}

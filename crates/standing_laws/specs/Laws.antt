@@ -4,6 +4,7 @@ use Rattle.std.specs.List.{AllByRecursion}
 use Rattle.std.specs.Ordering.{is_eq}
 use Rattle.je_order.specs.Order.{name_cmp}
 use Rattle.je_order.specs.declared.name.Name.{Name}
+use Rattle.store_model.specs.declared.kind.Kind.{Kind}
 use Rattle.store_model.specs.declared.call.Call.{Call}
 use Rattle.store_model.specs.declared.record_change.RecordChange.{RecordChange}
 use Rattle.store_model.specs.declared.answer.Answer.{Answer}
@@ -22,7 +23,7 @@ use Rattle.je_answers.specs.Events.{IsAnswered, begun, resumed}
 use Rattle.je_answers.specs.After.{after_event}
 use Rattle.je_answers.specs.Alone.{Alone, alone}
 use Rattle.je_answers.specs.Journal.{IsSettling}
-use Rattle.standing_laws.specs.Right.{AreSound, AreRight}
+use Rattle.standing_laws.specs.Right.{AreSound, AreRight, IsUnder, HasCursorOn}
 
 -- ---- own changes
 
@@ -90,3 +91,10 @@ StandingsStayBare = (limit : Option Answer) (st : Standing) (event : Event) → 
 -- and when a call of its own begins, its transaction has changed nothing
 abbrev pub BegunIsBare : Type 0
 BegunIsBare = (st : Standing) (session : ℕ) → AreRight st → AreBare st → nat_lt st.last_txn LAST_TXN ≡ true → AreBare (begun st session)
+
+-- ---- cursors
+
+-- a database on which a session has a cursor goes on under its name, with its number and its kind
+abbrev pub CursorsKeepDatabases : Type 0
+CursorsKeepDatabases = (limit : Option Answer) (st : Standing) (event : Event) (number : ℕ) (name : List ℕ) (kind : Kind) → HasCursorOn st number → IsAnswered limit st event →
+    IsUnder st number name kind → IsUnder (after_event st event) number name kind
