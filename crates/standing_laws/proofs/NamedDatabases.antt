@@ -15,7 +15,7 @@ use Rattle.store_model.specs.declared.change.Change.TheVariants.{Set, Unset, Mak
 use Rattle.store_model.specs.Store.{Pair, pairs_with, pairs_without, with_pairs, with_name, in_database, databases_with, databases_without, databases_renamed, database_of, changed, all_changed}
 use Rattle.store_model.specs.Refusals.{made_by}
 use Rattle.je_answers.specs.Standing.{with_number, all_numbered}
-use Rattle.standing_laws.specs.Right.{IsUnderIn}
+use Rattle.open_cursors.specs.Under.{IsUnderIn}
 use Rattle.standing_laws.proofs.Among.{found_is}
 
 -- ---- names

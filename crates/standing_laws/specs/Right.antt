@@ -10,10 +10,7 @@ use Rattle.lock_mode.specs.declared.lock_type.LockType.TheVariants.{Read}
 use Rattle.lock_table.specs.declared.lock.Lock.{Lock}
 use Rattle.lock_table.specs.declared.record_id.RecordId.{RecordId}
 use Rattle.lock_table.specs.Locks.{has_lock, held_by, is_write, IsSettled}
-use Rattle.store_model.specs.declared.store.Store.{Store}
-use Rattle.store_model.specs.declared.store.Database.{Database}
 use Rattle.store_model.specs.declared.kind.Kind.{Kind}
-use Rattle.store_model.specs.Store.{database_of}
 use Rattle.store_model.specs.declared.place.Place.{Place}
 use Rattle.store_model.specs.declared.call.Call.{Call}
 use Rattle.store_model.specs.declared.call.Call.TheVariants.{Get, GetBoth, Put, Delete, Count, Cur, CPutCur, CDel, CPut}
@@ -23,6 +20,7 @@ use Rattle.je_answers.specs.declared.active.Active.{Active}
 use Rattle.je_answers.specs.declared.wait.Wait.{Wait}
 use Rattle.je_answers.specs.Standing.{LockState, Standing, active_of}
 use Rattle.je_answers.specs.Locking.{Queues, has_cursor_on}
+use Rattle.open_cursors.specs.Under.{IsUnderIn}
 use Rattle.active_txns.specs.Marks.{HaveOwnSessions}
 
 -- ---- transactions
@@ -129,13 +127,7 @@ AreRight st = IsRightAt st.last_txn st.actives st.own st.places st.waiting st.lo
 
 -- ---- cursors
 
--- a database with this number and of this kind is under a name
-pub record IsUnderIn (store : Store) (numbers : List ℕ → ℕ) (number : ℕ) (name : List ℕ) (kind : Kind) : Type 0 where
-  pub database : Database
-  pub its : database_of name store ≡ Some database
-  pub kind_is : database.kind ≡ kind
-  pub number_is : numbers name ≡ number
-
+-- a database with this number and of this kind goes by a name
 abbrev pub IsUnder : Standing → ℕ → List ℕ → Kind → Type 0
 IsUnder st number name kind = IsUnderIn st.store st.numbers number name kind
 
