@@ -1,5 +1,5 @@
 -- The places of cursors that are found, opened, closed and moved.
-mod PlaceLaws
+pub mod PlaceLaws
 -- No two cursors of a session have one number.
 mod NumberLaws
 -- A cursor is moved: the walk along the cursors.

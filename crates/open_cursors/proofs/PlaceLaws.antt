@@ -9,7 +9,8 @@ use Rattle.je_answers.specs.Standing.{place_at, with_at}
 use Rattle.je_answers.specs.Locking.{has_cursor_on}
 use Rattle.je_answers.specs.After.{moved_to}
 use Rattle.open_cursors.specs.declared.open_cursor.OpenCursor.{OpenCursor}
-use Rattle.open_cursors.specs.Places.{places_of, is_of, HaveOwnNumbers, moved_place, moved_cursor, moved_in}
+use Rattle.open_cursors.specs.declared.open_cursors.OpenCursors.{OpenCursors}
+use Rattle.open_cursors.specs.Places.{AreCursorsAt, places_of, is_of, HaveOwnNumbers, moved_place, moved_cursor, moved_in}
 
 -- ---- found
 
@@ -196,3 +197,13 @@ moved_places session cursor at cs places own each =
     (λ s. by_session (moved_to cursor at) session cs (moved_in session cursor at cs) s
     (λ e. subst (λ (x : ℕ). places_of (moved_in x cursor at cs) s ≡ moved_to cursor at (places_of cs s)) e (moved_here s cursor at cs own))
     (λ n. moved_there s session cursor at cs n))
+
+-- where one session's places are what they were, all are
+pub same_places : (o : OpenCursors) (places : ℕ → List Place) (session : ℕ) → AreCursorsAt o places → AreCursorsAt o (with_at session (places session) places)
+same_places o places session at = record {
+  each = λ s. at.each s ∙ ⊎_elim
+      (λ e. ap places (eqb-true s session e) ∙ sym (cond-true (s == session) (places session) (places s) e))
+      (λ e. sym (cond-false (s == session) (places session) (places s) e))
+      (cases_Bool (s == session));
+  apart = at.apart;
+}

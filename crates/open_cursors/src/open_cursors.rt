@@ -135,7 +135,8 @@ impl OpenCursors {
 
     /// Whether a session has a cursor on that database.
     pub fn is_used_by(&self, session: u8, db: u32) -> bool
-        ensures { (places : ℕ → List Stand) → AreCursorsAt self.now places → result ≡ has_cursor_on db (places session) }
+        ensures used { (places : ℕ → List Stand) → AreCursorsAt self.now places → result ≡ has_cursor_on db (places session) }
+        ensures exact { result ≡ list_any (λ c. (session == c.session) && (c.place.db == db)) self.now.cursors.items }
     {
         is_used(self.cursors.as_slice(), session, db)
     }
