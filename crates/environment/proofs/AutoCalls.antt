@@ -1,5 +1,5 @@
 -- A call on records that is a transaction of its own: what it may ask.
-use Rattle.std.proofs.Common.{◌≡◌, ◌∙◌, ℕ, ◌≤◌, ◌<◌, ◌+◌, nat_lt, Bool, true, false, cond, List, ◌∷◌, ◌++◌, [], Option, None, Some, refl, ap, sym, subst, arith}
+use Rattle.std.proofs.Common.{◌≡◌, ◌∙◌, ℕ, ◌<◌, ◌+◌, Bool, true, List, None, Some, ap, sym, subst, arith}
 use Rattle.std.proofs.lemmas.Bool.{ltb-true}
 use Rattle.je_disk.specs.Moments.{History}
 use Rattle.store_model.specs.declared.call.Call.{Call}
@@ -11,7 +11,7 @@ use Rattle.je_answers.specs.Standing.{Standing, active_of}
 use Rattle.je_answers.specs.Views.{Target, needs_in}
 use Rattle.je_answers.specs.Alone.{IsAutoCommitted}
 use Rattle.je_answers.specs.Events.{auto_active, begun}
-use Rattle.je_answers.specs.Refusals.{early_refusal, number_refusal}
+use Rattle.je_answers.specs.Refusals.{number_refusal}
 use Rattle.in_tree.specs.Observed.{cells_of}
 use Rattle.txn_core.specs.Known.{committed, known_of}
 use Rattle.txn_core.specs.Planning.{CanPlan, HasModel}

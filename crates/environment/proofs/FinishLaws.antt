@@ -1,6 +1,6 @@
 -- A call of a transaction under way that changes nothing.
 use mathlib.Core.Path.{fun_ext}
-use Rattle.std.proofs.Common.{◌≡◌, ◌≢◌, ◌∙◌, ℕ, ◌==◌, ◌+◌, Bool, true, false, cond, List, [], ◌∷◌, ◌++◌, filter, length, Option, None, Some, inl, inr, ◌⊎◌, ap, refl, sym, subst}
+use Rattle.std.proofs.Common.{◌≡◌, ◌≢◌, ◌∙◌, ℕ, ◌==◌, Bool, true, false, cond, List, [], ◌∷◌, ◌++◌, filter, length, Option, None, Some, inl, inr, ◌⊎◌, ap, refl, sym, subst}
 use Rattle.std.proofs.lemmas.Bool.Decides.{eqb_tells}
 use Rattle.std.proofs.lemmas.List.{append-nil}
 use Rattle.je_disk.specs.States.{State}

@@ -1,9 +1,9 @@
 -- Where an environment stands once a call of a transaction that changes something has ended.
-use Rattle.std.proofs.Common.{◌≡◌, ◌≢◌, ◌∙◌, ◌⊎◌, inl, inr, ℕ, suc, ◌≤◌, ◌<◌, ◌+◌, ◌*◌, ◌^◌, ◌==◌, Bool, true, false, true≢false, cond, ◌||◌, List, [], ◌∷◌, ◌++◌, filter, length, map, Option, None, Some, Result, Ok, Err, OnErr, refl, ap, sym, subst, arith}
+use Rattle.std.proofs.Common.{◌≡◌, ◌≢◌, ◌∙◌, ◌⊎◌, inl, inr, ℕ, ◌≤◌, ◌<◌, ◌+◌, ◌*◌, ◌^◌, ◌==◌, Bool, true, false, true≢false, cond, ◌||◌, List, [], ◌∷◌, ◌++◌, filter, length, map, Option, None, Some, Result, Ok, Err, OnErr, refl, ap, sym, subst, arith}
 use Rattle.std.specs.Prelude.{IfOk, OnOk}
 use Rattle.std.specs.List.{AllByRecursion}
 use Rattle.std.specs.declared.alloc.AllocError.{AllocError}
-use Rattle.std.proofs.lemmas.Bool.{cond-true, cond-false, eq-eqb}
+use Rattle.std.proofs.lemmas.Bool.{cond-true, eq-eqb}
 use Rattle.std.proofs.lemmas.Bool.Decides.{eqb_tells}
 use Rattle.std.proofs.lemmas.List.{length-map}
 use Rattle.je_disk.specs.Moments.{History, now}
@@ -17,7 +17,6 @@ use Rattle.record_tree.specs.declared.tree_name.TreeName.{TreeName}
 use Rattle.record_map.specs.Cells.{IsRising as CellsRise}
 use Rattle.store_model.specs.declared.answer.Answer.{Answer}
 use Rattle.store_model.specs.declared.answer.Answer.TheVariants.{Logged, LogFull, IdsEnded, DiskFault}
-use Rattle.store_model.specs.declared.answer.Fault.{Fault}
 use Rattle.store_model.specs.declared.answer.Fault.TheVariants.{Disk}
 use Rattle.store_model.specs.declared.call.Call.{Call}
 use Rattle.store_model.specs.declared.call.Call.TheVariants.{Get, GetBoth, Put, Delete}
@@ -32,21 +31,19 @@ use Rattle.store_model.specs.Refusals.{made_by}
 use Rattle.store_model.specs.Store.{Pair, change_in}
 use Rattle.db_catalog.specs.declared.found_db.FoundDb.{FoundDb}
 use Rattle.je_answers.specs.declared.active.Active.{Active}
-use Rattle.je_answers.specs.Standing.{Standing, active_of, with_at}
+use Rattle.je_answers.specs.Standing.{Standing, with_at}
 use Rattle.je_answers.specs.Views.{Target, changes_at, changes_on, needs_in, outcome_of, view_of}
-use Rattle.je_answers.specs.Locking.{all_got, first_blocked}
+use Rattle.je_answers.specs.Locking.{all_got}
 use Rattle.je_answers.specs.Events.{IsDone, IsLogged, IsTaken, log_limit}
 use Rattle.je_answers.specs.After.{Fate, after_changes, after_fate, after_taking, answered, closed, fate_of, faulted, with_locks, with_outcome}
 use Rattle.je_answers.specs.After.Fate.{Succeeds}
 use Rattle.je_answers.specs.Journal.{changes_closed, changes_taken, is_disk_fault}
 use Rattle.log_buffer.specs.Buffer.{IsUnchanged, disk_of as disk_below, end_of, file_max_of, has_failed}
 use Rattle.log_replay.specs.Logging.{all_row_changes}
-use Rattle.in_tree.specs.declared.log_trees.LogTrees.{LogTrees}
 use Rattle.in_tree.specs.Observed.{cells_of, has_tree_of, limit_in, waits_of}
 use Rattle.txn_core.specs.Known.{committed}
 use Rattle.txn_core.specs.Planning.{row_by}
 use Rattle.txn_core.specs.Plans.{record_planned}
-use Rattle.txn_core.specs.Totals.{totals_of}
 use Rattle.txn_views.specs.Laws.{AreSeenBy}
 use Rattle.txn_views.specs.Seen.{is_right_change, seen_rows}
 use Rattle.txn_views.proofs.RightLaws.{changes-are_right}
@@ -55,7 +52,7 @@ use Rattle.active_txns.specs.Own.{has_changes}
 use Rattle.sessions.specs.declared.all_sessions.Sessions.{Sessions}
 use Rattle.sessions.specs.AtStanding.{AreSessionsAt, owing, with_own}
 use Rattle.sessions.specs.Taking.{HasTaken}
-use Rattle.standing_laws.specs.Right.{AreNumbered, is_active, txn_id}
+use Rattle.standing_laws.specs.Right.{AreNumbered}
 use Rattle.standing_laws.proofs.Writers.{writers-are_free}
 use Rattle.engine.specs.declared.engine.Engine.{Engine}
 use Rattle.engine.specs.declared.kept.Kept.{Kept}
@@ -70,16 +67,15 @@ use Rattle.environment.specs.declared.wrote.Wrote.TheVariants.{Done, Full, NoNum
 use Rattle.environment.specs.Access.{AccessesTo, HasAccessed, IsTakenUp}
 use Rattle.environment.specs.Calls.{HasCause, IsOnRecords}
 use Rattle.environment.specs.Limits.{owing_with, written_taken}
-use Rattle.environment.specs.OwnEnds.{AreEndedBy, HasPushed, HasPushedAndLogged, WritesAs, WritesUp, after_wrote, answer_for}
+use Rattle.environment.specs.OwnEnds.{AreEndedBy, HasPushed, HasPushedAndLogged, WritesAs, WritesUp, answer_for}
 use Rattle.environment.specs.Steps.{HasNotCome, HasStepped, IsLogStep, StandsAt}
 use Rattle.environment.specs.Valid.{active_number, owed_by}
-use Rattle.environment.specs.Whole.{CanGoOn, HasLimit, end_file, reach_of}
-use Rattle.environment.specs.Writing.{HasTriedAll, IsLeft, IsValidAt, MayWrite, WritesAll, WritesOwn}
+use Rattle.environment.specs.Whole.{CanGoOn, HasLimit, reach_of}
+use Rattle.environment.specs.Writing.{IsLeft, IsValidAt, MayWrite, WritesAll, WritesOwn}
 use Rattle.environment.proofs.Answering.{owed_is, owed_with}
 use Rattle.environment.proofs.CatalogValid.{low}
 use Rattle.environment.proofs.CommitLaws.{is_under_way}
 use Rattle.environment.proofs.EarlyLaws.{same_buffer, told_so}
-use Rattle.environment.proofs.EndingLaws.{found_session}
 use Rattle.environment.proofs.FinishLaws.{calm_outcome, in_sessions, same_own, valid_elsewhere}
 use Rattle.environment.proofs.LoggableLaws.{AreLoggable, entries_fit, own_loggable}
 use Rattle.environment.proofs.PlanLaws.{seen_at}
@@ -210,7 +206,7 @@ well_evaluated kind (Put name key value mode) db pairs on = well_put kind None N
 well_evaluated kind (Delete name key) db pairs on = well_deleted kind None (seen kind (all_of_key kind key).way (all_of_key kind key).range pairs)
 well_evaluated kind call db pairs on = absurd on
 
-well_outcome : (st : Standing) (a : Active) (call : Call) (db : List ℕ) (g : Target) → IsOnRecords db call → g.at ≡ None → fate_of (outcome_of st a call g).answer ≡ Succeeds
+pub well_outcome : (st : Standing) (a : Active) (call : Call) (db : List ℕ) (g : Target) → IsOnRecords db call → g.at ≡ None → fate_of (outcome_of st a call g).answer ≡ Succeeds
 well_outcome st a call db g on at =
     subst (λ (o : Option Name). fate_of (evaluation g.database.kind call o (view_of st a g)).answer ≡ Succeeds) (sym at) (well_evaluated g.database.kind call db (view_of st a g) on)
 

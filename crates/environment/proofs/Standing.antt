@@ -1,9 +1,8 @@
 -- Where an environment stands when its log was written out or synced, or the disk failed.
-use Rattle.std.proofs.Common.{◌≡◌, ℕ, suc, ◌∙◌, Bool, false, true, List, Option, None, Some, refl, ap, sym, subst, ◌≤◌, cond}
+use Rattle.std.proofs.Common.{◌≡◌, ℕ, suc, ◌∙◌, Bool, false, List, Option, None, Some, refl, sym, subst, ◌≤◌}
 use Rattle.je_disk.specs.States.{State}
 use Rattle.je_order.specs.declared.txn_id.TxnId.{TxnId}
 use Rattle.je_lsn.specs.Naming.{last_file}
-use Rattle.store_model.specs.declared.answer.Fault.{Fault}
 use Rattle.store_model.specs.declared.answer.Fault.TheVariants.{Disk}
 use Rattle.je_answers.specs.Standing.{Standing}
 use Rattle.log_file.specs.Log.{Log}
@@ -16,7 +15,7 @@ use Rattle.in_tree.specs.Limits.{HasRoomFor, commit_sizes}
 use Rattle.record_tree.specs.Occupied.{AllCells}
 use Rattle.sessions.specs.declared.all_sessions.Sessions.{Sessions}
 use Rattle.sessions.specs.AtStanding.{AreSessionsAt}
-use Rattle.standing_laws.specs.Right.{AreRight, AreSound}
+use Rattle.standing_laws.specs.Right.{AreRight}
 use Rattle.txn_core.specs.Known.{committed}
 use Rattle.txn_log.specs.Gives.{GivesRecordsWith}
 use Rattle.engine.specs.declared.kept.Kept.{Kept}
