@@ -1,5 +1,5 @@
 -- The abort of a transaction.
-use Rattle.std.proofs.Common.{◌≡◌, ◌≤◌, ◌∙◌, ℕ, Bool, Bor, List, [], Option, None, Some, Ok, ap, refl, sym, subst, inl, arith}
+use Rattle.std.proofs.Common.{◌≡◌, ◌≤◌, ◌∙◌, ℕ, Bool, Bor, [], Option, None, Some, Ok, ap, refl, sym, subst, inl, arith}
 use Rattle.std.specs.Option.{option_copied}
 use Rattle.je_disk.specs.Moments.{History}
 use Rattle.store_model.specs.declared.answer.Answer.{Answer}
@@ -8,8 +8,7 @@ use Rattle.store_model.specs.declared.call.Call.TheVariants.{Abort}
 use Rattle.store_model.specs.Refusals.{or_refusal}
 use Rattle.je_answers.specs.declared.active.Active.{Active}
 use Rattle.je_answers.specs.Standing.{Standing, active_of}
-use Rattle.je_answers.specs.Refusals.{early_refusal, late_refusal, name_refusal, number_refusal, target_refusal, there_refusal, txn_refusal}
-use Rattle.je_answers.specs.Views.{target_of}
+use Rattle.je_answers.specs.Refusals.{early_refusal, late_refusal, number_refusal, txn_refusal}
 use Rattle.je_answers.specs.Events.{IsEvaluated}
 use Rattle.je_answers.specs.After.{after_evaluated, ended_if_any}
 use Rattle.je_answers.specs.Journal.{changes_evaluated}

@@ -1,9 +1,6 @@
 -- A call on records that is refused late, or goes on.
-use Rattle.std.proofs.Common.{◌≡◌, ◌∙◌, ℕ, ◌≤◌, Bool, true, false, List, [], Option, None, Some, Result, Ok, Err, OnErr, refl, ap, sym, subst, arith, true≢false}
-use Rattle.std.specs.declared.alloc.AllocError.{AllocError}
+use Rattle.std.proofs.Common.{◌≡◌, ◌∙◌, ℕ, Bool, true, Ok, ap, sym, arith, true≢false}
 use Rattle.store_model.specs.declared.answer.Answer.{Answer}
-use Rattle.store_model.specs.declared.answer.Answer.TheVariants.{DiskFault}
-use Rattle.je_order.specs.Counts.{HasRisen}
 use Rattle.je_answers.specs.Journal.{is_disk_fault}
 use Rattle.engine.proofs.CalmAnswers.{IsCalm, faultless}
 use Rattle.environment.specs.declared.outcome.Outcome.{Outcome}

@@ -1,20 +1,16 @@
 -- Where no transaction is under way: what an environment is beside its engine.
-use Rattle.std.proofs.Common.{◌≡◌, ℕ, ◌+◌, ◌<◌, ◌≤◌, suc, inl, inr, Bool, true, false, true≢false, cond, List, [], ◌∷◌, ◌++◌, Option, None, Some, filter, length, refl, ap, sym, ◌∙◌, subst, arith}
+use Rattle.std.proofs.Common.{◌≡◌, ℕ, ◌+◌, suc, Bool, true, false, cond, List, [], Option, None, Some, filter, length, refl, ap, sym, ◌∙◌, subst, arith}
 use mathlib.Core.Path.{fun_ext}
 use Rattle.std.proofs.lemmas.Option.{none-some}
-use Rattle.std.specs.List.{AllByRecursion}
 use Rattle.je_disk.specs.States.{Files, State}
 use Rattle.je_disk.specs.Moments.{History, now}
 use Rattle.je_order.specs.declared.txn_id.TxnId.{TxnId}
 use Rattle.store_model.specs.declared.answer.Fault.{Fault}
-use Rattle.store_model.specs.declared.record_change.RecordChange.{RecordChange}
 use Rattle.store_model.specs.declared.store.Store.{Store}
 use Rattle.je_answers.specs.declared.active.Active.{Active}
 use Rattle.je_answers.specs.Alone.{Alone, alone}
 use Rattle.je_answers.specs.Standing.{LockState, Standing}
 use Rattle.lock_table.specs.Table.{Locks}
-use Rattle.log_file.specs.Log.{Log}
-use Rattle.log_buffer.specs.declared.buffer.LogBuffer.{LogBuffer}
 use Rattle.log_buffer.specs.Buffer.{end_of, has_failed}
 use Rattle.log_replay.specs.Rows.{Rows}
 use Rattle.log_replay.specs.Logging.{number_named}
@@ -26,17 +22,14 @@ use Rattle.record_map.specs.declared.write.Write.{Write}
 use Rattle.record_tree.specs.Occupied.{AllCells, write_in}
 use Rattle.sessions.specs.declared.all_sessions.Sessions.{Sessions}
 use Rattle.sessions.specs.AtStanding.{AreLocksAt, AreSessionsAt, owing}
-use Rattle.standing_laws.specs.Right.{AreRight, AreSound}
+use Rattle.standing_laws.specs.Right.{AreRight}
 use Rattle.standing_laws.proofs.AloneRight.{alone-is_right, no_transactions-is_alone}
 use Rattle.txn_core.specs.Known.{IsQuiet, committed}
-use Rattle.txn_log.specs.Committing.{MakesStore}
 use Rattle.txn_log.specs.Gives.{GivesRecordsWith}
-use Rattle.txn_log.specs.Own.{OwnChange}
 use Rattle.txn_views.specs.Seen.{HasWrites, IsWriteOf}
 use Rattle.engine.specs.declared.engine.Engine.{Engine}
 use Rattle.engine.specs.declared.kept.Kept.{Kept}
-use Rattle.engine.specs.Contents.{Contents}
-use Rattle.engine.specs.Environment.{AreAlone, AreAt as AreAloneAt, GivesRecords, IsValid}
+use Rattle.engine.specs.Environment.{IsValid}
 use Rattle.engine.specs.Limits.{IsWithin, Reach}
 use Rattle.engine.specs.Opening.{reach_in}
 use Rattle.engine.specs.Whole.{AreTrees, IsAt as EngineIsAt, IsOpened as EngineIsOpened, IsOpenedSafely as EngineIsOpenedSafely, contents, reach_of as engine_reach}
@@ -76,7 +69,7 @@ locks_alone None (Some fault) v state none at = tt
 locks_alone (Some fault) g v state none at = absurd cc
 
 pub sessions_alone : (s : Sessions) (p q : Alone) → p.fault ≡ None → AreSessionsAt s (alone p) → AreSessionsAt s (alone q)
-sessions_alone s p q none at = record { actives = at.actives; own = at.own; waiting = at.waiting; locks = locks_alone p.fault q.fault s.locks.locks (alone p).locks none at.locks }
+sessions_alone s p q none at = record { actives = at.actives; own = at.own; places = at.places; waiting = at.waiting; locks = locks_alone p.fault q.fault s.locks.locks (alone p).locks none at.locks }
 
 -- and sessions owe none
 none_owed : (s : Sessions) (p : Alone) → AreSessionsAt s (alone p) → owed_by s ≡ 0

@@ -1,5 +1,5 @@
 -- A call where no transaction is under way: what the engine says of it is what the environment says.
-use Rattle.std.proofs.Common.{◌≡◌, ℕ, Bool, true, List, [], ◌∷◌, ◌++◌, Option, None, Some, Result, Ok, Err, IfOk, refl, ap, ap₂, sym, ◌∙◌, subst, arith, ◌≤◌}
+use Rattle.std.proofs.Common.{◌≡◌, ℕ, Bool, true, List, [], ◌∷◌, ◌++◌, Option, None, Some, Result, Ok, Err, IfOk, refl, ap₂, sym, ◌∙◌, subst, arith}
 use Rattle.std.specs.declared.alloc.AllocError.{AllocError}
 use Rattle.je_disk.specs.Moments.{History, now}
 use Rattle.store_model.specs.declared.answer.Answer.{Answer}
@@ -24,13 +24,13 @@ use Rattle.txn_core.specs.Known.{committed}
 use Rattle.in_tree.specs.Observed.{cells_of}
 use Rattle.engine.specs.Limits.{IsBounded, IsWithin, Reach, reach_after}
 use Rattle.engine.specs.Steps.{IsNumbered}
-use Rattle.engine.specs.Whole.{GoesOn as EngineGoesOn, GoesOnSafely as EngineGoesOnSafely, HasLimit as EngineHasLimit, IsAt as EngineIsAt, IsGuarded as EngineIsGuarded, disk_of as engine_disk, reach_of as engine_reach}
+use Rattle.engine.specs.Whole.{GoesOn as EngineGoesOn, GoesOnSafely as EngineGoesOnSafely, HasLimit as EngineHasLimit, IsAt as EngineIsAt, IsGuarded as EngineIsGuarded, reach_of as engine_reach}
 use Rattle.environment.specs.declared.environment.Environment.{Environment}
 use Rattle.environment.specs.declared.outcome.Outcome.{Outcome}
 use Rattle.environment.specs.declared.written.Written.{Written}
 use Rattle.environment.specs.Answering.{AnswersCall}
 use Rattle.environment.specs.Calls.{called}
-use Rattle.environment.specs.Limits.{owing_after, written_by, written_call, written_evaluated, written_on, written_performed, written_taken, written_unless}
+use Rattle.environment.specs.Limits.{owing_after, written_call, written_evaluated, written_on, written_performed, written_taken, written_unless}
 use Rattle.environment.specs.Whole.{HasDone, HasLimit, IsAt, IsGuarded, disk_of, reach_of}
 use Rattle.environment.specs.Written.{AreNamesOf}
 use Rattle.environment.proofs.AloneLaws.{IsNarrow, names_of_none, narrow, reach_alone, wide}

@@ -1,12 +1,11 @@
 -- An environment goes on by a step.
-use Rattle.std.proofs.Common.{◌≡◌, ℕ, ◌≤◌, ◌+◌, ◌⊎◌, inl, inr, Bool, true, false, true≢false, cond, nat_lt, List, [], ◌∷◌, ◌++◌, Option, None, Some, Result, Ok, Err, IfOk, OnErr, length, filter, refl, ap, sym, ◌∙◌, subst, arith}
+use Rattle.std.proofs.Common.{◌≡◌, ℕ, ◌≤◌, ◌+◌, ◌⊎◌, inl, inr, Bool, true, false, cond, nat_lt, List, [], ◌∷◌, ◌++◌, Option, None, Some, Result, Ok, Err, OnErr, length, filter, refl, ap, sym, ◌∙◌, subst, arith}
 use Rattle.std.specs.declared.alloc.AllocError.{AllocError}
 use Rattle.std.proofs.lemmas.Bool.{ltb-true}
 use Rattle.std.proofs.lemmas.List.{append-nil}
 use Rattle.je_disk.specs.Moments.{History, now}
 use Rattle.store_model.specs.declared.answer.Answer.{Answer}
 use Rattle.store_model.specs.declared.answer.Answer.TheVariants.{IdsEnded}
-use Rattle.store_model.specs.declared.answer.Fault.{Fault}
 use Rattle.store_model.specs.declared.answer.Fault.TheVariants.{Disk}
 use Rattle.store_model.specs.declared.call.Call.{Call}
 use Rattle.store_model.specs.declared.change.Change.{Change}
@@ -15,13 +14,12 @@ use Rattle.store_model.specs.declared.event.Event.TheVariants.{Call as Called}
 use Rattle.store_model.specs.declared.victim.Victim.{Victim}
 use Rattle.je_answers.specs.declared.active.Active.{Active}
 use Rattle.je_answers.specs.Standing.{Standing, active_of}
-use Rattle.je_answers.specs.Events.{IsAnswered}
 use Rattle.je_answers.specs.After.{after_event, after_events}
 use Rattle.je_answers.specs.Journal.{answers_some, attempt_of, is_disk_fault}
 use Rattle.je_answers.specs.Written.{written_by as written_out}
 use Rattle.log_file.specs.Log.{Log}
 use Rattle.log_buffer.specs.declared.buffer.LogBuffer.{LogBuffer}
-use Rattle.log_buffer.specs.Buffer.{IsUnchanged, disk_of as disk_below, end_of}
+use Rattle.log_buffer.specs.Buffer.{disk_of as disk_below, end_of}
 use Rattle.record_tree.specs.declared.tree_change.TreeChange.{TreeChange}
 use Rattle.record_tree.specs.declared.tree_err.TreeErr.{TreeErr}
 use Rattle.record_tree.specs.declared.tree_err.TreeErr.TheVariants.{Fault as NoDisk, Full, IdsEnded as NoNumber, Memory}
@@ -34,7 +32,6 @@ use Rattle.sessions.specs.declared.all_sessions.Sessions.{Sessions}
 use Rattle.sessions.specs.AtStanding.{AreSessionsAt, owing}
 use Rattle.store_model.specs.declared.call.Call.TheVariants.{Open, Close, Dup, Count, Cur, CPutCur, CDel, CPut}
 use Rattle.standing_laws.specs.Laws.{IsPlainCall}
-use Rattle.standing_laws.specs.Right.{AreRight}
 use Rattle.standing_laws.proofs.StandingsStay.{standings_stay-right}
 use Rattle.standing_laws.proofs.StandingsBare.{standings_stay-bare}
 use Rattle.txn_core.specs.Known.{committed}
@@ -47,20 +44,20 @@ use Rattle.environment.specs.declared.environment.Environment.{Environment}
 use Rattle.environment.specs.declared.outcome.Outcome.{Outcome}
 use Rattle.environment.specs.Answering.{AnswersCall}
 use Rattle.environment.specs.Calls.{HasNoCursor, called}
-use Rattle.environment.specs.Limits.{owing_after, owing_with, written_by, written_call}
+use Rattle.environment.specs.Limits.{owing_after, owing_with, written_call}
 use Rattle.log_buffer.specs.Growth.{longer}
 use Rattle.log_buffer.specs.Log.{HasLog}
 use Rattle.crash_recovery.specs.Recovery.{RecoversLog}
 use Rattle.store_model.specs.declared.record_change.RecordChange.{RecordChange}
-use Rattle.environment.specs.Steps.{CallsTo, HasCalled, HasNotCome, IsLogStep, RecoversWith}
+use Rattle.environment.specs.Steps.{CallsTo, HasCalled, IsLogStep, RecoversWith}
 use Rattle.environment.specs.Valid.{owed_by}
-use Rattle.environment.specs.Whole.{GoesOn, GoesOnSafely, HasDone, HasLimit, IsAt, IsGuarded, disk_of, end_file, reach_of}
+use Rattle.environment.specs.Whole.{HasDone, HasLimit, IsAt, disk_of, end_file, reach_of}
 
 -- a call on no cursor is one that scripts have
 pub plain_call : (call : Call) → HasNoCursor call → IsPlainCall call
-plain_call (Open cursor db) is = is
-plain_call (Close cursor) is = is
-plain_call (Dup cursor to) is = is
+plain_call (Open cursor db) is = absurd is
+plain_call (Close cursor) is = absurd is
+plain_call (Dup cursor to) is = absurd is
 plain_call (Count cursor) is = is
 plain_call (Cur cursor motion rmw) is = is
 plain_call (CPutCur cursor value) is = is

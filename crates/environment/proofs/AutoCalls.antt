@@ -1,5 +1,5 @@
 -- A call on records that is a transaction of its own: what it may ask.
-use Rattle.std.proofs.Common.{◌≡◌, ◌∙◌, ℕ, ◌≤◌, ◌<◌, ◌+◌, nat_lt, Bool, true, false, cond, List, ◌∷◌, ◌++◌, [], Option, None, Some, refl, ap, sym, subst, arith}
+use Rattle.std.proofs.Common.{◌≡◌, ◌∙◌, ℕ, ◌<◌, ◌+◌, Bool, true, List, None, Some, ap, sym, subst, arith}
 use Rattle.std.proofs.lemmas.Bool.{ltb-true}
 use Rattle.je_disk.specs.Moments.{History}
 use Rattle.store_model.specs.declared.call.Call.{Call}
@@ -11,7 +11,7 @@ use Rattle.je_answers.specs.Standing.{Standing, active_of}
 use Rattle.je_answers.specs.Views.{Target, needs_in}
 use Rattle.je_answers.specs.Alone.{IsAutoCommitted}
 use Rattle.je_answers.specs.Events.{auto_active, begun}
-use Rattle.je_answers.specs.Refusals.{early_refusal, number_refusal}
+use Rattle.je_answers.specs.Refusals.{number_refusal}
 use Rattle.in_tree.specs.Observed.{cells_of}
 use Rattle.txn_core.specs.Known.{committed, known_of}
 use Rattle.txn_core.specs.Planning.{CanPlan, HasModel}
@@ -123,7 +123,7 @@ module _ {D : Type 0} (most : ℕ) (observable : Bool) (history : D → History)
         let same : (record { txn = t; session = session; level = RepeatableRead; durability = Sync; waits = true; is_auto = true; deadlock = None }) ≡ a =
         ap (λ (n : ℕ). let b : Active = record { txn = record { 0 = n }; session = session; level = RepeatableRead; durability = Sync; waits = true; is_auto = true; deadlock = None } in b) (is ∙ number_is) in
         let there : AreSessionsAt s (with_active a st) = subst (λ (b : Active). AreSessionsAt s (with_active b st)) same at in
-        record { actives = there.actives; own = there.own; waiting = there.waiting; locks = there.locks }
+        record { actives = there.actives; own = there.own; places = there.places; waiting = there.waiting; locks = there.locks }
 
     -- its needs
     pub needs_auto : (needs : List Need) (db : List ℕ) (kind : Kind) → g.database.name ≡ db → g.database.kind ≡ kind → needs ≡ needs_in (begun st session) a call g → AreNeedsOf (begun st session) session call db kind needs a g

@@ -1,34 +1,29 @@
 -- A call on records that is a transaction of its own, among others: it waits, or changes nothing.
-use Rattle.std.proofs.Common.{◌≡◌, ◌∙◌, ℕ, ◌≤◌, ◌<◌, ◌+◌, ◌==◌, nat_lt, Bool, true, false, true≢false, cond, List, [], ◌∷◌, ◌++◌, map, length, Option, None, Some, Result, Ok, Err, OnErr, IfOk, IsErr, refl, ap, ap₂, sym, subst, inl, inr, arith}
-use Rattle.std.specs.List.{AllByRecursion}
+use Rattle.std.proofs.Common.{◌≡◌, ◌∙◌, ℕ, ◌≤◌, ◌+◌, Bool, true, true≢false, cond, List, [], ◌∷◌, ◌++◌, Option, None, Some, Result, Ok, Err, OnErr, IsErr, refl, ap, ap₂, sym, subst, inl, arith}
 use Rattle.std.specs.declared.alloc.AllocError.{AllocError}
 use Rattle.je_disk.specs.Moments.{History, now}
 use Rattle.je_order.specs.declared.txn_id.TxnId.{TxnId}
 use Rattle.store_model.specs.declared.answer.Answer.{Answer}
-use Rattle.store_model.specs.declared.answer.Answer.TheVariants.{DiskFault}
 use Rattle.store_model.specs.declared.answer.Fault.TheVariants.{Disk}
 use Rattle.store_model.specs.declared.call.Call.{Call}
 use Rattle.store_model.specs.declared.call.Call.TheVariants.{Get, GetBoth, Put, Delete}
-use Rattle.store_model.specs.declared.change.Change.{Change}
 use Rattle.store_model.specs.declared.need.Need.{Need}
 use Rattle.store_model.specs.declared.record_change.RecordChange.{RecordChange}
-use Rattle.store_model.specs.declared.store.TheConstants.{LAST_TXN}
 use Rattle.store_model.specs.declared.victim.Victim.{Victim}
 use Rattle.store_model.specs.Evaluation.{Outcome, answers}
 use Rattle.store_model.specs.Records.{Evaluated, evaluation}
 use Rattle.store_model.specs.Refusals.{next_txn, or_refusal}
-use Rattle.store_model.specs.Store.{Pair, all_pairs_changed}
+use Rattle.store_model.specs.Store.{all_pairs_changed}
 use Rattle.db_catalog.specs.Planning.{outcome_unless}
 use Rattle.je_answers.specs.declared.active.Active.{Active}
 use Rattle.je_answers.specs.Standing.{Standing, active_of}
 use Rattle.je_answers.specs.Views.{Target, changes_on, needs_in, of_db, outcome_of, target_of}
 use Rattle.je_answers.specs.Refusals.{late_refusal, name_refusal, number_refusal, target_refusal, there_refusal}
-use Rattle.je_answers.specs.Alone.{Alone, alone, evaluated_on}
+use Rattle.je_answers.specs.Alone.{alone, evaluated_on}
 use Rattle.je_answers.specs.Locking.{all_got}
 use Rattle.je_answers.specs.Events.{IsStopped, auto_active, begun, waiting_answer}
-use Rattle.je_answers.specs.After.{after_stop, answered, ended, with_locks, with_outcome}
-use Rattle.je_answers.specs.Journal.{is_disk_fault, tried}
-use Rattle.je_answers.specs.After.{fate_of}
+use Rattle.je_answers.specs.After.{after_stop, answered, ended, moved, with_locks, with_outcome}
+use Rattle.je_answers.specs.Journal.{is_disk_fault}
 use Rattle.log_buffer.specs.Buffer.{disk_of as disk_below}
 use Rattle.in_tree.specs.Observed.{cells_of, has_tree_of}
 use Rattle.txn_core.specs.Planning.{outcome_alone, outcome_on}
@@ -36,22 +31,22 @@ use Rattle.txn_core.specs.Totals.{totals_of}
 use Rattle.sessions.specs.declared.all_sessions.Sessions.{Sessions}
 use Rattle.sessions.specs.AtStanding.{AreSessionsAt, owing}
 use Rattle.sessions.specs.Taking.{HasStopped}
-use Rattle.standing_laws.specs.Right.{AreSound, HaveOwnWaits}
 use Rattle.standing_laws.proofs.Each.{all_append}
 use Rattle.standing_laws.proofs.Stopped.{LeavesSame, victims_apart, victims_leave}
 use Rattle.engine.specs.Limits.{IsWithin}
 use Rattle.engine.proofs.CalmAnswers.{IsCalm, faultless, unnumbered}
+use Rattle.environment.proofs.PlacesLaws.{gone_again}
 use Rattle.environment.specs.declared.environment.Environment.{Environment}
 use Rattle.environment.specs.declared.outcome.Outcome.{Outcome as Told}
 use Rattle.environment.specs.Auto.{IsAutoAt, alone_in}
 use Rattle.environment.specs.Calls.{HasCause, IsOnRecords}
-use Rattle.environment.specs.Steps.{ComesTo, HasCome, HasNotCome, IsLogStep, StandsAt}
+use Rattle.environment.specs.Steps.{ComesTo, HasCome, HasNotCome, IsLogStep}
 use Rattle.environment.specs.Valid.{AreBare}
 use Rattle.environment.specs.Whole.{reach_of}
 use Rattle.environment.proofs.Answering.{owed_is, within_more}
-use Rattle.environment.proofs.AutoLaws.{Evaluates, Takes, come_ready, come_taken, back, drawn_after, near_fewer, no_wait, own_back, own_gone, same_leaves, valid_leaves}
+use Rattle.environment.proofs.AutoLaws.{Evaluates, come_ready, come_taken, back, drawn_after, near_fewer, no_wait, own_back, own_gone, same_leaves, valid_leaves}
 use Rattle.environment.proofs.BeginLaws.{next_is, none_own, owing_begun, valid_begun, with_begun}
-use Rattle.environment.proofs.EarlyLaws.{same_buffer, told_so}
+use Rattle.environment.proofs.EarlyLaws.{same_buffer}
 
 -- ---- what it comes to
 
@@ -157,11 +152,12 @@ module _ {D : Type 0} (observable : Bool) (history : D → History) (sync_out re
 
   -- where its transaction has ended
   pub sessions_closed : (s : Sessions) (x : List (ℕ × RecordChange)) (after : Standing) → AreSessionsAt s (ended a (with_locks a (all_got a.txn (needs_in there a call g) st.locks.at) there)) →
-      after.fault ≡ st.fault → after.actives ≡ (ended a there).actives → after.own ≡ st.own → after.waiting ≡ st.waiting → after.locks ≡ (ended a (with_locks a (all_got a.txn (needs_in there a call g) st.locks.at) there)).locks →
+      after.fault ≡ st.fault → after.actives ≡ (ended a there).actives → after.own ≡ st.own → ((n : ℕ) → after.places n ≡ (ended a there).places n) → after.waiting ≡ st.waiting → after.locks ≡ (ended a (with_locks a (all_got a.txn (needs_in there a call g) st.locks.at) there)).locks →
       AreSessionsAt s after
-  sessions_closed s x after at fault actives own waiting locks = record {
+  sessions_closed s x after at fault actives own places waiting locks = record {
     actives = at.actives ∙ sym actives;
     own = at.own ∙ own_gone a.txn.0 st.own none_yet ∙ sym own;
+    places = record { each = λ n. at.places.each n ∙ sym (places n); apart = at.places.apart };
     waiting = at.waiting ∙ sym waiting;
     locks = subst (λ (l : _). Rattle.sessions.specs.AtStanding.AreLocksAt after.fault s.locks.locks l) (sym locks)
         (subst (λ (f : _). Rattle.sessions.specs.AtStanding.AreLocksAt f s.locks.locks (ended a (with_locks a (all_got a.txn (needs_in there a call g) st.locks.at) there)).locks) (sym fault) at.locks);
@@ -195,7 +191,7 @@ module _ {D : Type 0} (observable : Bool) (history : D → History) (sync_out re
           let after : Standing = Ended none in
           let leaves : LeavesSame (record st { last_txn = last }) after =
           same_leaves (record st { last_txn = last }) after refl refl (sym last_is) refl refl refl (back_own []) back_actives in
-          let stands = sessions_closed s [] after at refl refl (back_own []) refl refl in
+          let stands = sessions_closed s [] after at refl refl (back_own []) (gone_again a.session (moved call ev.place (st.places a.session)) st.places) refl refl in
           let owed_new = owed_is s after stands in
           let owed_old = owed_is e.sessions st may.at.sessions_at in
           let fewer : owing after ≤ owing st = leaves.owing in

@@ -1,23 +1,18 @@
 -- A call on records that is a transaction of its own, among others: where its transaction ends, or waits.
 use mathlib.Core.Path.{fun_ext}
-use Rattle.std.proofs.Common.{◌≡◌, ◌∙◌, ℕ, suc, ◌≤◌, ◌<◌, zero, ◌+◌, ◌==◌, nat_lt, Bool, true, false, true≢false, cond, not, List, [], ◌∷◌, ◌++◌, length, Option, None, Some, Result, Ok, Err, OnErr, refl, ap, sym, subst, inl, inr, ⊎_elim, arith}
-use Rattle.std.specs.List.{AllByRecursion, filter}
-use Rattle.std.specs.declared.alloc.AllocError.{AllocError}
+use Rattle.std.proofs.Common.{◌≡◌, ◌∙◌, ℕ, suc, ◌≤◌, ◌<◌, zero, ◌+◌, ◌==◌, Bool, true, false, cond, not, List, [], ◌∷◌, ◌++◌, Option, None, Some, refl, ap, sym, subst, inl, ⊎_elim, arith}
+use Rattle.std.specs.List.{AllByRecursion}
 use Rattle.std.proofs.lemmas.Bool.{cases_Bool, cond-true, cond-false, eq-eqb, eqb-true}
 use Rattle.je_disk.specs.States.{State}
 use Rattle.je_disk.specs.Moments.{History, now}
 use Rattle.je_order.specs.declared.txn_id.TxnId.{TxnId}
 use Rattle.store_model.specs.declared.answer.Answer.{Answer}
-use Rattle.store_model.specs.declared.answer.Answer.TheVariants.{DiskFault}
-use Rattle.store_model.specs.declared.answer.Fault.TheVariants.{Disk}
 use Rattle.store_model.specs.declared.call.Call.{Call}
 use Rattle.store_model.specs.declared.call.Call.TheVariants.{Get, GetBoth, Put, Delete}
 use Rattle.store_model.specs.declared.need.Need.{Need}
 use Rattle.store_model.specs.declared.record_change.RecordChange.{RecordChange}
-use Rattle.store_model.specs.declared.store.TheConstants.{LAST_TXN}
 use Rattle.store_model.specs.declared.victim.Victim.{Victim}
 use Rattle.store_model.specs.Records.{Evaluated}
-use Rattle.store_model.specs.Refusals.{next_txn}
 use Rattle.je_answers.specs.declared.active.Active.{Active}
 use Rattle.je_answers.specs.declared.wait.Wait.{Wait}
 use Rattle.je_answers.specs.Standing.{Standing, active_of, with_at}
@@ -25,8 +20,8 @@ use Rattle.je_answers.specs.Views.{Target, changes_on, needs_in, outcome_of, tar
 use Rattle.je_answers.specs.Refusals.{late_refusal}
 use Rattle.je_answers.specs.Locking.{first_blocked}
 use Rattle.je_answers.specs.Events.{IsDone, IsEvaluated, IsOn, IsRun, IsTaken, auto_active, begun}
-use Rattle.je_answers.specs.After.{after_changes, after_evaluated, after_on, after_run, after_taking, fate_of, without_session}
-use Rattle.je_answers.specs.Journal.{changes_evaluated, changes_in, changes_run, changes_taken, is_disk_fault}
+use Rattle.je_answers.specs.After.{after_changes, after_evaluated, after_on, after_run, after_taking, without_session}
+use Rattle.je_answers.specs.Journal.{changes_evaluated, changes_in, changes_run, changes_taken}
 use Rattle.log_buffer.specs.declared.buffer.LogBuffer.{LogBuffer}
 use Rattle.log_buffer.specs.Buffer.{disk_of as disk_below, end_of, has_failed}
 use Rattle.log_replay.specs.Rows.{Rows}
@@ -35,12 +30,12 @@ use Rattle.in_tree.specs.Limits.{HasRoomFor, commit_sizes}
 use Rattle.in_tree.specs.Observed.{cells_of, has_tree_of, waits_of}
 use Rattle.txn_core.specs.Known.{committed}
 use Rattle.txn_core.specs.Totals.{totals_of}
-use Rattle.txn_log.specs.Committing.{MakesStore, MayBeCommitted}
+use Rattle.txn_log.specs.Committing.{MayBeCommitted}
 use Rattle.txn_log.proofs.Giving.{still_gives}
 use Rattle.txn_views.specs.Seen.{HasWrites}
 use Rattle.sessions.specs.declared.all_sessions.Sessions.{Sessions}
 use Rattle.sessions.specs.AtStanding.{AreSessionsAt, owing}
-use Rattle.standing_laws.specs.Right.{AreSound, HaveOwnWaits, IsWaitIn, is_active, txn_id}
+use Rattle.standing_laws.specs.Right.{HaveOwnWaits, IsWaitIn, is_active, txn_id}
 use Rattle.standing_laws.proofs.Stopped.{LeavesSame}
 use Rattle.engine.specs.Limits.{IsWithin}
 use Rattle.engine.specs.Environment.{RecoversStore}

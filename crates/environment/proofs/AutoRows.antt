@@ -1,9 +1,9 @@
 -- The changes of a call that is a transaction of its own: what they leave of records, and of the own changes of others.
 use mathlib.Core.Path.{fun_ext}
-use Rattle.std.proofs.Common.{◌≡◌, ◌≢◌, ◌∙◌, ℕ, suc, ◌≤◌, ◌<◌, ◌+◌, ◌==◌, Bool, true, false, true≢false, cond, ◌&&◌, ◌||◌, List, [], ◌∷◌, ◌++◌, find, map, reverse, Option, None, Some, is_some, is_eq, refl, ap, ap₂, sym, subst, inl, inr, ⊎_elim, arith}
+use Rattle.std.proofs.Common.{◌≡◌, ◌≢◌, ◌∙◌, ℕ, suc, ◌+◌, ◌==◌, Bool, true, false, true≢false, cond, ◌&&◌, List, [], ◌∷◌, ◌++◌, find, map, reverse, Option, None, Some, is_some, is_eq, refl, ap, ap₂, sym, subst, inl, inr, ⊎_elim, arith}
 use Rattle.std.specs.List.{AllByRecursion}
 use Rattle.std.specs.Option.{option_or}
-use Rattle.std.proofs.lemmas.Bool.{cases_Bool, eqb-true, eq-eqb, and_parts}
+use Rattle.std.proofs.lemmas.Bool.{eqb-true, eq-eqb, and_parts}
 use Rattle.std.proofs.lemmas.List.{reverse-append}
 use Rattle.std.proofs.lemmas.List.Folds.{find-append}
 use Rattle.std.proofs.lemmas.Option.{none-some}
@@ -20,14 +20,13 @@ use Rattle.store_model.specs.Needs.{changed_name}
 use Rattle.store_model.specs.Refusals.{made_by, next_txn}
 use Rattle.store_model.specs.Store.{all_changed, change_in, store_after}
 use Rattle.store_model.specs.Evaluation.{plain_name}
-use Rattle.je_answers.specs.declared.active.Active.{Active}
-use Rattle.je_answers.specs.Standing.{Standing, with_at}
+use Rattle.je_answers.specs.Standing.{Standing}
 use Rattle.je_answers.specs.After.{committed as commits}
 use Rattle.log_buffer.specs.declared.buffer.LogBuffer.{LogBuffer}
 use Rattle.log_buffer.specs.Buffer.{disk_of, end_of}
 use Rattle.log_buffer.specs.Growth.{longer}
 use Rattle.log_replay.specs.Rows.{Row, RowChange, Rows, data_at, number_or_0, numbers_of, rows_changed, row_changed}
-use Rattle.log_replay.specs.Logging.{all_row_changes, last_db_after, number_named, record_in}
+use Rattle.log_replay.specs.Logging.{all_row_changes, number_named, record_in}
 use Rattle.log_replay.proofs.StoreLaws.{row_changed-there}
 use Rattle.record_map.specs.declared.write.Write.{Write}
 use Rattle.record_map.specs.Cells.{value_at}
@@ -54,7 +53,6 @@ use Rattle.txn_log.proofs.StayingLaws.{may_stay}
 use Rattle.txn_views.specs.Seen.{HasWrites, IsWriteOf, last_own}
 use Rattle.txn_views.proofs.OwnLaws.{none-is_last}
 use Rattle.engine.specs.Contents.{rows_after}
-use Rattle.engine.specs.Environment.{RecoversStore}
 use Rattle.engine.proofs.CatalogLogs.{numbers_alike}
 use Rattle.engine.proofs.PlannedRows.{ArePlanned, LeavesRows, eqb-turned, planned_rows}
 use Rattle.engine.proofs.TxnGives.{leaves_records}

@@ -1,6 +1,5 @@
 -- The beginning of a transaction.
-use Rattle.std.proofs.Common.{◌≡◌, ◌⊎◌, inl, inr, ◌≤◌, ◌<◌, ◌+◌, ◌∙◌, ◌≢◌, ℕ, suc, ◌==◌, nat_lt, Bool, true, false, true≢false, cond, ◌||◌, List, [], ◌∷◌, ◌++◌, filter, length, Option, None, Some, Ok, Err, ap, refl, sym, subst, arith}
-use Rattle.std.specs.List.{AllByRecursion, list_any}
+use Rattle.std.proofs.Common.{◌≡◌, ◌⊎◌, inl, inr, ◌≤◌, ◌<◌, ◌+◌, ◌∙◌, ◌≢◌, ℕ, ◌==◌, nat_lt, Bool, true, false, cond, ◌||◌, List, [], ◌∷◌, ◌++◌, filter, length, Option, None, Some, Ok, Err, ap, refl, sym, subst, arith}
 use Rattle.std.specs.declared.alloc.AllocError.{AllocError}
 use Rattle.std.proofs.lemmas.Bool.{eqb-true, ltb-true}
 use Rattle.std.proofs.lemmas.Bool.Decides.{eqb_tells}
@@ -22,12 +21,11 @@ use Rattle.je_answers.specs.declared.active.Active.{Active}
 use Rattle.je_answers.specs.Standing.{Standing, active_of}
 use Rattle.je_answers.specs.Refusals.{early_refusal, late_refusal, number_refusal, txn_refusal}
 use Rattle.je_answers.specs.Events.{IsEvaluated}
-use Rattle.je_answers.specs.After.{after_evaluated, begun_by, drawn_by}
+use Rattle.je_answers.specs.After.{after_evaluated, drawn_by}
 use Rattle.je_answers.specs.Journal.{changes_evaluated}
 use Rattle.log_buffer.specs.declared.buffer.LogBuffer.{LogBuffer}
 use Rattle.log_buffer.specs.Buffer.{disk_of as disk_below, end_of}
 use Rattle.record_tree.specs.Occupied.{AllCells}
-use Rattle.in_tree.specs.Limits.{HasRoomFor, commit_sizes}
 use Rattle.in_tree.specs.Observed.{cells_of, has_tree_of}
 use Rattle.txn_core.specs.Known.{committed}
 use Rattle.active_txns.specs.Own.{has_changes}
@@ -40,9 +38,9 @@ use Rattle.engine.specs.Limits.{IsWithin}
 use Rattle.environment.specs.declared.environment.Environment.{Environment}
 use Rattle.environment.specs.declared.written.OwnNames.{OwnNames}
 use Rattle.environment.specs.Limits.{owing_after, written_evaluated}
-use Rattle.environment.specs.Steps.{HasCome, HasNotCome, HasStepped, PerformsAnswer, StandsAt}
-use Rattle.environment.specs.Valid.{AreAt, IsValidWith, active_number}
-use Rattle.environment.specs.Whole.{CanGoOn, disk_of, reach_of}
+use Rattle.environment.specs.Steps.{HasCome, HasStepped, PerformsAnswer, StandsAt}
+use Rattle.environment.specs.Valid.{IsValidWith, active_number}
+use Rattle.environment.specs.Whole.{CanGoOn, reach_of}
 use Rattle.environment.proofs.Answering.{owed_is, within_more}
 use Rattle.environment.proofs.EarlyLaws.{not_early, same_buffer, same_reach}
 use Rattle.environment.proofs.EndingLaws.{near_owed}

@@ -68,12 +68,11 @@ use Rattle.engine.specs.Environment.{RecoversStore}
 use Rattle.engine.specs.Limits.{IsWithin}
 use Rattle.engine.specs.Steps.{IsNumbered}
 use Rattle.engine.proofs.GuardedEvents.{commit_recovered_in, tried_commit_recovered_in}
-use Rattle.engine.proofs.TxnGives.{failed}
 use Rattle.environment.specs.declared.environment.Environment.{Environment}
 use Rattle.environment.specs.Committing.{HasNotSettled, HasSettled, is_set}
 use Rattle.environment.specs.Ending.{HasAbandoned}
 use Rattle.environment.specs.Limits.{owing_after, written_evaluated}
-use Rattle.environment.specs.Steps.{HasCome, HasGrown, HasStepped, IsLogStep, PerformsAnswer, RecoversWith, StandsAt}
+use Rattle.environment.specs.Steps.{HasCome, HasFailedWith, HasGrown, HasStepped, IsLogStep, PerformsAnswer, RecoversWith, StandsAt}
 use Rattle.environment.specs.Valid.{IsValidWith, active_number, owed_by}
 use Rattle.environment.specs.Whole.{CanGoOn, disk_of, reach_of}
 use Rattle.environment.specs.Written.{AreNamesOf, had_at, names_at}
@@ -221,10 +220,10 @@ module _ {D : Type 0} (observable : Bool) (history : D → History) (sync_out re
     abbrev own_it : Own
     own_it = st.own a.txn.0
 
-    abbrev rows_old : Rows
+    abbrev pub rows_old : Rows
     rows_old = committed (cells_of old.engine.trees)
 
-    abbrev later_rows : Rows
+    abbrev pub later_rows : Rows
     later_rows = rows_own own_it rows_old
 
     abbrev changes_it : List Change
@@ -242,18 +241,18 @@ module _ {D : Type 0} (observable : Bool) (history : D → History) (sync_out re
     abbrev Sum : Type 0
     Sum = records + had_at a.txn old.written.by_txn.entries ≡ old.engine.kept.totals.records + count_by (λ (c : ℕ × RecordChange). is_set c.1) own_it
 
-    are_own : Valid → OwnAreCommitted rows_old st.last_db st own_it
+    pub are_own : Valid → OwnAreCommitted rows_old st.last_db st own_it
     are_own v = own_may_be_committed rows_old st.last_db st own_it v.makes (v.may a.txn.0)
 
-    log_at : (v : Valid) → IsLogAt observable history log_old v.log rows_old (active_number st.actives) st
+    pub log_at : (v : Valid) → IsLogAt observable history log_old v.log rows_old (active_number st.actives) st
     log_at v = record { given = record { has = v.has; gives = v.gives }; makes = v.makes; may = v.may }
 
     abbrev add : Settled → HasAdded observable history sync_out read_out read_of log_old log_new (LogsTransaction a.txn [])
     add h = record {
       entries = Committed a.txn ∷ [];
       logs = ([], refl, refl);
-      grew = h.grew.grew;
-      room = record { max = log_old.max; entries_are = h.grew.fits.entries_are; room = h.grew.fits.room };
+      grew = h.committed.grew.grew;
+      room = record { max = log_old.max; entries_are = h.committed.grew.fits.entries_are; room = h.committed.grew.fits.room };
     }
 
     log_then : (v : Valid) → (h : Settled) → active_of a.session st.actives ≡ Some a →
@@ -268,13 +267,13 @@ module _ {D : Type 0} (observable : Bool) (history : D → History) (sync_out re
 
     rows_then : Valid → Settled → committed (cells_of new.engine.trees) ≡ later_rows
     rows_then v h =
-        commit_rows a.txn.0 st.own (cells_of old.engine.trees) (cells_of new.engine.trees) (names_at a.txn old.written.by_txn.entries) (v.names.names a.txn.0) v.writes h.was_rising h.rising h.cells
+        commit_rows a.txn.0 st.own (cells_of old.engine.trees) (cells_of new.engine.trees) (names_at a.txn old.written.by_txn.entries) (v.names.names a.txn.0) v.writes h.committed.was_rising h.committed.rising h.committed.cells
         (are_own v).leaves.rising
 
     names_then : Valid → Settled → AreNamesOf new.written.by_txn.entries then_.own later_rows
     names_then v h = record {
-      names = λ t. h.names (txn_id t) ∙ ap (λ (b : Bool). cond b [] (names_at (txn_id t) old.written.by_txn.entries)) (same_either a.txn (txn_id t)) ∙ by_names t (t == a.txn.0);
-      had = λ t. h.had (txn_id t) ∙ ap (λ (b : Bool). cond b 0 (had_at (txn_id t) old.written.by_txn.entries)) (same_either a.txn (txn_id t)) ∙ by_had t (t == a.txn.0) refl;
+      names = λ t. h.committed.names (txn_id t) ∙ ap (λ (b : Bool). cond b [] (names_at (txn_id t) old.written.by_txn.entries)) (same_either a.txn (txn_id t)) ∙ by_names t (t == a.txn.0);
+      had = λ t. h.committed.had (txn_id t) ∙ ap (λ (b : Bool). cond b 0 (had_at (txn_id t) old.written.by_txn.entries)) (same_either a.txn (txn_id t)) ∙ by_had t (t == a.txn.0) refl;
     } where
       by_names : (t : ℕ) (b : Bool) → cond b [] (names_at (txn_id t) old.written.by_txn.entries) ≡ own_names (cond b [] (st.own t))
       by_names t true = refl
@@ -293,9 +292,9 @@ module _ {D : Type 0} (observable : Bool) (history : D → History) (sync_out re
 
         by : (m : ℕ) → owing st ≡ m → HasRoomFor log_new (commit_sizes (suc n))
         by zero e = absurd (omega (arith, less, e))
-        by (suc m) e = room_fewer log_new (suc n) m (omega (arith, less, e, owed)) (h.left m (v.room m e))
+        by (suc m) e = room_fewer log_new (suc n) m (omega (arith, less, e, owed)) (h.committed.left m (v.room m e))
 
-    may_commit : Valid → active_of a.session st.actives ≡ Some a →
+    pub may_commit : Valid → active_of a.session st.actives ≡ Some a →
         MayCommit st.last_txn (active_number st.actives) st.own rows_old later_rows st.last_db st.last_db (λ d. false) a.txn own_it []
     may_commit v is = record {
       has = inl (is_under_way a.session a st.actives is, refl);
@@ -323,19 +322,19 @@ module _ {D : Type 0} (observable : Bool) (history : D → History) (sync_out re
         record {
           log = longer log_old (Committed a.txn ∷ []) v.log;
           has = at.given.has;
-          works = h.grew.grew.failed ∙ v.works;
+          works = h.committed.grew.grew.failed ∙ v.works;
           gives = subst (λ (r : Rows). GivesRecordsWith (longer log_old (Committed a.txn ∷ []) v.log) (end_of log_new) r then_.last_txn then_.last_db (active_number then_.actives) then_.own) rows at.given.gives;
           recovers = recovers_then v h is;
           makes = subst (λ (r : Rows). MakesStore r then_.last_db then_) rows at.makes;
-          writes = ends-leave_writes a.txn.0 st.own (cells_of old.engine.trees) (cells_of new.engine.trees) (names_at a.txn old.written.by_txn.entries) (v.names.names a.txn.0) v.writes (inl h.cells);
+          writes = ends-leave_writes a.txn.0 st.own (cells_of old.engine.trees) (cells_of new.engine.trees) (names_at a.txn old.written.by_txn.entries) (v.names.names a.txn.0) v.writes (inl h.committed.cells);
           may = λ t. subst (λ (r : Rows). AllByRecursion (MayBeCommitted r) (then_.own t)) rows (at.may t);
-          made = λ db. h.has_tree db ∙ v.made db ∙ ap (λ (l : List Row). has_number (map number_of_row l) db) (sym (catalog_same v)) ∙ ap (λ (r : Rows). has_number (numbers_of r) db) rows;
+          made = λ db. h.committed.has_tree db ∙ v.made db ∙ ap (λ (l : List Row). has_number (map number_of_row l) db) (sym (catalog_same v)) ∙ ap (λ (r : Rows). has_number (numbers_of r) db) rows;
           room = room_then v h is some;
           names = subst (λ (r : Rows). AreNamesOf new.written.by_txn.entries then_.own r) rows (names_then v h);
         }
 
     totals_then : Valid → Settled → Sum → old.engine.kept.totals ≡ totals_of st.store → new.engine.kept.totals ≡ totals_of then_.store
-    totals_then v h sum was = ap (λ (k : Kept). k.totals) h.kept ∙ ap₂ both databases count
+    totals_then v h sum was = ap (λ (k : Kept). k.totals) h.committed.kept ∙ ap₂ both databases count
       where
         both : ℕ → ℕ → Totals
         both d r = record { databases = d; records = r }
@@ -354,11 +353,11 @@ module _ {D : Type 0} (observable : Bool) (history : D → History) (sync_out re
 
     pub settled : (most : ℕ) → Settled → active_of a.session st.actives ≡ Some a → own_it ≢ [] → Sum → st.fault ≡ None → StandsAt most observable history old st → StandsAt most observable history new then_
     settled most h is some sum none at = record {
-      file_max = h.grew.grew.max ∙ at.file_max;
-      fault = ap (λ (k : Kept). k.fault) h.kept ∙ at.fault;
-      last_txn = ap (λ (k : Kept). k.last_txn) h.kept ∙ at.last_txn;
-      last_db = ap (λ (k : Kept). k.last_db) h.kept ∙ at.last_db ∙ sym last_same;
-      commits = ap (λ (k : Kept). k.commits) h.kept ∙ ap (λ (n : ℕ). n + 1) at.commits;
+      file_max = h.committed.grew.grew.max ∙ at.file_max;
+      fault = ap (λ (k : Kept). k.fault) h.committed.kept ∙ at.fault;
+      last_txn = ap (λ (k : Kept). k.last_txn) h.committed.kept ∙ at.last_txn;
+      last_db = ap (λ (k : Kept). k.last_db) h.committed.kept ∙ at.last_db ∙ sym last_same;
+      commits = ap (λ (k : Kept). k.commits) h.committed.kept ∙ ap (λ (n : ℕ). n + 1) at.commits;
       totals = totals_then (at.valid none) h sum at.totals;
       sessions_at = h.sessions (committed_to changes_it st) a refl refl at.sessions_at;
       apart = at.apart;
@@ -370,22 +369,22 @@ module _ {D : Type 0} (observable : Bool) (history : D → History) (sync_out re
     pub settled_near : Settled → active_of a.session st.actives ≡ Some a → own_it ≢ [] → AreSessionsAt old.sessions st → has_failed log_old ≡ false → IsWithin (reach_of new) (reach_of old)
     settled_near h is some at works = record {
       file =
-          let k = ap (λ (b : Bool). cond b 0 ((end_of log_new).file + waits_of new.engine.trees + owed_by new.sessions)) (h.grew.grew.failed ∙ works) in
+          let k = ap (λ (b : Bool). cond b 0 ((end_of log_new).file + waits_of new.engine.trees + owed_by new.sessions)) (h.committed.grew.grew.failed ∙ works) in
           let l = ap (λ (b : Bool). cond b 0 ((end_of log_old).file + waits_of old.engine.trees + owed_by old.sessions)) works in
-          let end = ap (λ (p : LogPos). p.file) h.grew.grew.end in
+          let end = ap (λ (p : LogPos). p.file) h.committed.grew.grew.end in
           let few = files_few (file_max_of log_old) (end_of log_old) (map size_of (Committed a.txn ∷ [])) in
-          let waits = h.waits in
+          let waits = h.committed.waits in
           let less = owing_one st a is some in
           let owed_new = owed_is new.sessions (ended a st) (h.sessions st a refl refl at) in
           let owed_old = owed_is old.sessions st at in
           omega (arith, k, l, end, few, waits, less, owed_new, owed_old);
-      node = let k = ap (λ (k : Kept). k.last_node) h.kept in omega (arith, k);
+      node = let k = ap (λ (k : Kept). k.last_node) h.committed.kept in omega (arith, k);
     }
 
-    grown_then : (v : Valid) → (h : Settled) → active_of a.session st.actives ≡ Some a → HasGrown observable history sync_out read_out read_of log_old log_new (changes_it ∷ [])
+    pub grown_then : (v : Valid) → (h : Settled) → active_of a.session st.actives ≡ Some a → HasGrown observable history sync_out read_out read_of log_old log_new (changes_it ∷ [])
     grown_then v h is = record {
       entries = Committed a.txn ∷ [];
-      grew = h.grew.grew;
+      grew = h.committed.grew.grew;
       recovers =
           commit_recovered_in observable history sync_out read_out read_of v.log log_old log_new rows_old later_rows st.last_txn st.last_db st.last_db (active_number st.actives) st.own (λ d. false) a.txn own_it []
           changes_it (log_at v).given (may_commit v is) (are_own v).store (add h);
@@ -436,7 +435,7 @@ module _ {D : Type 0} (observable : Bool) (history : D → History) (sync_out re
     abbrev NotSettled : Type 0
     NotSettled = HasNotSettled observable history sync_out read_out read_of faults old new a.txn
 
-    abbrev not_added : NotSettled → HasFailed observable history sync_out read_out read_of log_old log_new (LogsTransaction a.txn [])
+    abbrev pub not_added : NotSettled → HasFailed observable history sync_out read_out read_of log_old log_new (LogsTransaction a.txn [])
     not_added h = record {
       entries = Committed a.txn ∷ [];
       front = h.front;
@@ -445,6 +444,24 @@ module _ {D : Type 0} (observable : Bool) (history : D → History) (sync_out re
       tried = h.tried.tried;
       room = record { max = log_old.max; entries_are = h.tried.fits.entries_are; room = h.tried.fits.room };
     }
+
+    pub failed_then : (v : Valid) → (h : NotSettled) → active_of a.session st.actives ≡ Some a → HasFailedWith observable history sync_out read_out read_of log_old log_new (changes_it ∷ [])
+    failed_then v h is = record {
+      front = h.front;
+      tried = h.tried.tried;
+      recovers =
+          tried_commit_recovered_in observable history sync_out read_out read_of v.log log_old log_new rows_old later_rows st.last_txn st.last_db st.last_db (active_number st.actives) st.own (λ d. false) a.txn own_it []
+          changes_it (log_at v).given (may_commit v is) (are_own v).store (not_added h);
+    }
+
+    -- so many of its names had a record at most
+    pub had_within : Valid → old.engine.kept.totals ≡ totals_of st.store → had_at a.txn old.written.by_txn.entries ≤ old.engine.kept.totals.records + count_by (λ (c : ℕ × RecordChange). is_set c.1) own_it
+    had_within v at =
+        let counted = records_are_counted rows_old st.last_db st own_it v.makes (v.may a.txn.0) in
+        let had = v.names.had a.txn.0 in
+        let set = set_counts own_it in
+        let all = ap (λ (t : Totals). t.records) at in
+        omega (arith, counted, had, set, all)
 
     fault_at : (most : ℕ) → NotSettled → StandsAt most observable history old st → StandsAt most observable history new (faulted st)
     fault_at most h at = record {
@@ -455,7 +472,7 @@ module _ {D : Type 0} (observable : Bool) (history : D → History) (sync_out re
       commits = ap (λ (k : Kept). k.commits) h.kept ∙ at.commits;
       totals = ap (λ (k : Kept). k.totals) h.kept ∙ at.totals;
       sessions_at = subst (λ (s : Sessions). AreSessionsAt s (faulted st)) (sym h.sessions)
-          (record { actives = at.sessions_at.actives; own = at.sessions_at.own; waiting = at.sessions_at.waiting; locks = tt });
+          (record { actives = at.sessions_at.actives; own = at.sessions_at.own; places = at.sessions_at.places; waiting = at.sessions_at.waiting; locks = tt });
       apart = at.apart;
       valid = λ none. absurd (none-some Disk (sym none));
     }
@@ -580,17 +597,17 @@ module _ {D : Type 0} (observable : Bool) (history : D → History) (sync_out re
     settled_performs records answer nonempty h sum fits answers = record {
       comes = λ most st line at sound early.
           subst (λ (r : Answer). HasCome observable history sync_out read_out read_of most old new st session line Commit r [])
-          (sym (answers st.commits (ap (λ (k : Kept). k.commits) h.kept ∙ ap (λ (n : ℕ). n + 1) at.commits)))
+          (sym (answers st.commits (ap (λ (k : Kept). k.commits) h.committed.kept ∙ ap (λ (n : ℕ). n + 1) at.commits)))
           (came old new st a.now records most session line
           (subst (λ (s : ℕ). HasSettled observable history sync_out read_out read_of faults old new s a.now.txn records) (sym (same_session st at.sessions_at)) h)
           (some_at st at.sessions_at) (some_own nonempty st at.sessions_at)
           (sum ∙ ap (λ (l : Own). old.engine.kept.totals.records + count_by (λ (c : ℕ × RecordChange). is_set c.1) l) (own_is st at.sessions_at))
           (sym at.fault ∙ valid) at);
       near = tt;
-      bounds = subst (λ (k : Kept). k.commits ≤ k.last_txn) (sym h.kept) (omega (arith, fits));
+      bounds = subst (λ (k : Kept). k.commits ≤ k.last_txn) (sym h.committed.kept) (omega (arith, fits));
       cause = record {
-        never_falls = h.grew.never_falls;
-        fault = λ done. absurd (never_fault a.now.durability old.engine.kept.commits (sym (answers old.engine.kept.commits (ap (λ (k : Kept). k.commits) h.kept)) ∙ done));
+        never_falls = h.committed.grew.never_falls;
+        fault = λ done. absurd (never_fault a.now.durability old.engine.kept.commits (sym (answers old.engine.kept.commits (ap (λ (k : Kept). k.commits) h.committed.kept)) ∙ done));
       };
     }
 

@@ -1,10 +1,10 @@
 -- A call that is refused early, and one that is not.
-use Rattle.std.proofs.Common.{◌≡◌, ◌==◌, ◌∙◌, ℕ, Bool, true, false, true≢false, cond, inl, List, [], ◌∷◌, Option, None, Some, is_some, length, find, Result, Ok, Err, refl, ap, sym, subst, rules, arith}
+use Rattle.std.proofs.Common.{◌≡◌, ◌==◌, ◌∙◌, ℕ, Bool, true, false, cond, inl, List, [], ◌∷◌, Option, None, Some, is_some, length, Result, Ok, Err, refl, ap, sym, subst, rules, arith}
 use Rattle.std.specs.Prelude.{IfSome}
 use Rattle.std.specs.List.{AllByRecursion}
 use Rattle.std.specs.declared.alloc.AllocError.{AllocError}
 use Rattle.std.proofs.lemmas.Bool.{eqb-true}
-use Rattle.je_disk.specs.Moments.{History, now}
+use Rattle.je_disk.specs.Moments.{History}
 use Rattle.je_order.specs.declared.txn_id.TxnId.{TxnId}
 use Rattle.lock_table.specs.declared.record_id.RecordId.{RecordId}
 use Rattle.store_model.specs.declared.answer.Answer.{Answer}
@@ -12,19 +12,17 @@ use Rattle.store_model.specs.declared.answer.Fault.{Fault}
 use Rattle.store_model.specs.declared.answer.Fault.TheVariants.{Disk}
 use Rattle.store_model.specs.declared.call.Call.{Call}
 use Rattle.store_model.specs.declared.call.Call.TheVariants.{Begin, Commit, Abort, Create, Remove, Rename, Truncate, Open}
-use Rattle.store_model.specs.declared.isolation.Isolation.TheVariants.{ReadCommitted}
 use Rattle.store_model.specs.declared.victim.Victim.{Victim}
 use Rattle.store_model.specs.Refusals.{or_refusal}
 use Rattle.je_answers.specs.declared.active.Active.{Active}
-use Rattle.je_answers.specs.declared.wait.Wait.{Wait}
-use Rattle.je_answers.specs.Standing.{Standing, active_of, wait_of}
+use Rattle.je_answers.specs.Standing.{Standing, active_of}
 use Rattle.je_answers.specs.Refusals.{abort_refusal, early_refusal, fault_refusal, txn_refusal, victim_refusal, waits_refusal}
 use Rattle.je_answers.specs.Events.{IsCallAnswered}
-use Rattle.je_answers.specs.After.{after_call, fate_of}
-use Rattle.je_answers.specs.Journal.{changes_of, is_disk_fault}
+use Rattle.je_answers.specs.After.{after_call}
+use Rattle.je_answers.specs.Journal.{changes_of}
 use Rattle.log_buffer.specs.declared.buffer.LogBuffer.{LogBuffer}
 use Rattle.log_buffer.specs.Buffer.{IsUnchanged}
-use Rattle.standing_laws.specs.Right.{AreRight, AreSound}
+use Rattle.standing_laws.specs.Right.{AreRight}
 use Rattle.standing_laws.proofs.StandingsStay.{untold_has-no_wait}
 use Rattle.engine.specs.Limits.{IsWithin}
 use Rattle.engine.proofs.CalmAnswers.{IsCalm, faultless, unnumbered}
@@ -33,7 +31,7 @@ use Rattle.environment.specs.declared.outcome.Outcome.{Outcome}
 use Rattle.environment.specs.Limits.{owing_after, written_unless}
 use Rattle.environment.specs.Steps.{CallsTo, ComesTo, HasCalled, HasStepped, IsLogStep, MayCall, StandsAt}
 use Rattle.environment.specs.Valid.{AreBare}
-use Rattle.environment.specs.Whole.{IsAt, reach_of}
+use Rattle.environment.specs.Whole.{reach_of}
 use Rattle.environment.proofs.Answering.{within_more}
 
 -- an answer alone

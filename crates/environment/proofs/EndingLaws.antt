@@ -1,18 +1,17 @@
 -- Where an environment stands once a transaction has ended without a commit.
 use mathlib.Core.Path.{fun_ext}
-use Rattle.std.proofs.Common.{◌≡◌, ◌≢◌, ◌⊎◌, inl, inr, ℕ, zero, suc, ◌+◌, ◌-◌, ◌≤◌, ◌<◌, ◌==◌, Bool, true, false, true≢false, cond, not, ◌&&◌, ◌||◌, List, [], ◌∷◌, ◌++◌, filter, length, map, Option, None, Some, option_map, refl, ap, ap₂, sym, ◌∙◌, subst, arith}
+use Rattle.std.proofs.Common.{◌≡◌, ◌≢◌, ◌⊎◌, inl, inr, ℕ, zero, suc, ◌+◌, ◌-◌, ◌≤◌, ◌<◌, ◌==◌, Bool, true, false, true≢false, cond, not, ◌||◌, List, [], ◌∷◌, ◌++◌, filter, length, Option, None, Some, refl, ap, sym, ◌∙◌, subst, arith}
 use Rattle.std.specs.List.{AllByRecursion, list_any}
-use Rattle.std.proofs.lemmas.Bool.{cond-true, cond-false, eqb-true, or_left, or_right}
+use Rattle.std.proofs.lemmas.Bool.{cond-true, cond-false, eqb-true, or_right}
 use Rattle.std.proofs.lemmas.Bool.Decides.{eqb_tells}
 use Rattle.std.proofs.lemmas.Option.{none-some, same_Some}
 use Rattle.je_disk.specs.States.{State}
 use Rattle.je_disk.specs.Moments.{History, now}
 use Rattle.je_lsn.specs.Naming.{last_file}
 use Rattle.je_order.specs.Transactions.{is_same_txn}
-use Rattle.je_order.specs.declared.name.Name.{Name}
 use Rattle.je_order.specs.declared.txn_id.TxnId.{TxnId}
 use Rattle.je_order.proofs.TxnIds.{same_either}
-use Rattle.je_order.proofs.Lists.{all_kept, all_weaker}
+use Rattle.je_order.proofs.Lists.{all_kept}
 use Rattle.record_map.specs.Cells.{IsRising, value_at}
 use Rattle.record_tree.specs.declared.tree_name.TreeName.{TreeName}
 use Rattle.record_tree.specs.Occupied.{Occupied, AllCells, HasChangedAll, after_abort, if_occupied, is_among, value_in}
@@ -27,17 +26,17 @@ use Rattle.je_answers.specs.After.{after_event, after_events, ended, ended_if_an
 use Rattle.log_file.specs.Log.{Log}
 use Rattle.log_buffer.specs.declared.buffer.LogBuffer.{LogBuffer}
 use Rattle.log_buffer.specs.declared.log_pos.LogPos.{LogPos}
-use Rattle.log_buffer.specs.Buffer.{HasRoom, IsUnchanged, disk_of, end_of, file_max_of, has_failed, room_for}
+use Rattle.log_buffer.specs.Buffer.{IsUnchanged, disk_of, end_of, file_max_of, has_failed}
 use Rattle.log_buffer.specs.Flip.{end_after_all}
 use Rattle.log_buffer.specs.Log.{HasLog}
 use Rattle.log_buffer.proofs.BufferLog.{log_kept}
 use Rattle.log_buffer.proofs.LogPositions.{all_after, appends_join}
-use Rattle.log_replay.specs.Rows.{Row, Rows, numbers_of}
+use Rattle.log_replay.specs.Rows.{Rows, numbers_of}
 use Rattle.log_replay.proofs.LoadedRows.{same_rows}
 use Rattle.log_replay.proofs.MapRows.{lookup_is_data, rising_from_keys}
 use Rattle.in_tree.specs.Limits.{HasRoomFor, commit_size, commit_sizes}
 use Rattle.in_tree.specs.Observed.{cells_of, has_tree_of, waits_of}
-use Rattle.txn_core.specs.Known.{committed, committed_rows, has_number}
+use Rattle.txn_core.specs.Known.{committed, has_number}
 use Rattle.txn_core.proofs.ReadingLaws.{committed_at, committed_rises}
 use Rattle.active_txns.specs.Own.{has_changes}
 use Rattle.sessions.specs.declared.all_sessions.Sessions.{Sessions}
@@ -56,7 +55,7 @@ use Rattle.environment.specs.declared.environment.Environment.{Environment}
 use Rattle.environment.specs.declared.written.OwnNames.{OwnNames}
 use Rattle.environment.specs.Ending.{HasAbandoned}
 use Rattle.environment.specs.Steps.{StandsAt}
-use Rattle.environment.specs.Valid.{AreAt, AreBare, IsValidWith, active_number, owed_by}
+use Rattle.environment.specs.Valid.{IsValidWith, active_number, owed_by}
 use Rattle.environment.specs.Whole.{reach_of}
 use Rattle.environment.specs.Written.{AreNamesOf, had_at, names_at}
 use Rattle.environment.proofs.Answering.{owed_is}
@@ -225,17 +224,6 @@ own_waits_left p (w ∷ waiting) own = by (p w) refl (own_waits_left p waiting o
 pub ended_fault : (o : Option Active) (st : Standing) → (ended_if_any o st).fault ≡ st.fault
 ended_fault None st = refl
 ended_fault (Some a) st = refl
-
--- transactions of one call have changed nothing still
-pub bare_left : (o : Option Active) (st : Standing) → AreBare st → AreBare (ended_if_any o st)
-bare_left None st bare = bare
-bare_left (Some a) st bare =
-    all_kept (λ b. b.is_auto ≡ true → with_at a.txn.0 [] st.own b.txn.0 ≡ []) (λ (b : Active). not (b.session == a.session)) st.actives
-    (all_weaker (λ (b : Active). b.is_auto ≡ true → st.own b.txn.0 ≡ []) (λ b. b.is_auto ≡ true → with_at a.txn.0 [] st.own b.txn.0 ≡ []) (λ b none auto. by (b.txn.0 == a.txn.0) (st.own b.txn.0) (none auto)) st.actives bare)
-  where
-    by : (t : Bool) (own : List (ℕ × RecordChange)) → own ≡ [] → cond t [] own ≡ []
-    by true own none = refl
-    by false own none = none
 
 -- room for so many Commits is room for fewer
 commits_more : (n : ℕ) → commit_sizes (suc n) ≡ commit_sizes n ++ commit_size ∷ []

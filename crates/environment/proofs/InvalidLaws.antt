@@ -1,13 +1,11 @@
 -- A call after a fault.
-use Rattle.std.proofs.Common.{◌≡◌, ◌∙◌, ℕ, Bool, true, false, cond, List, [], ◌∷◌, ◌++◌, Option, None, Some, Result, Ok, refl, ap, sym, subst, inl, arith}
-use Rattle.std.specs.declared.alloc.AllocError.{AllocError}
+use Rattle.std.proofs.Common.{◌≡◌, ◌∙◌, ℕ, Bool, List, [], Option, None, Some, Ok, refl, ap, sym, subst, inl}
 use Rattle.je_disk.specs.Moments.{History, now}
 use Rattle.store_model.specs.declared.answer.Answer.{Answer}
 use Rattle.store_model.specs.declared.answer.Answer.TheVariants.{Invalid}
 use Rattle.store_model.specs.declared.answer.Fault.{Fault}
 use Rattle.store_model.specs.declared.call.Call.{Call}
 use Rattle.store_model.specs.declared.change.Change.{Change}
-use Rattle.store_model.specs.declared.event.Event.{Event}
 use Rattle.store_model.specs.declared.event.Event.TheVariants.{Call as Called}
 use Rattle.store_model.specs.declared.victim.Victim.{Victim}
 use Rattle.store_model.specs.Refusals.{or_refusal}
@@ -16,16 +14,14 @@ use Rattle.je_answers.specs.Refusals.{abort_refusal, early_refusal, fault_refusa
 use Rattle.je_answers.specs.Events.{IsAnswered, IsCallAnswered}
 use Rattle.je_answers.specs.After.{after_call, after_event, after_events}
 use Rattle.je_answers.specs.Journal.{attempt_of, changes_of, tried}
-use Rattle.engine.specs.Steps.{IsNumbered}
 use Rattle.engine.proofs.GuardLaws.{guarded_quiet}
 use Rattle.environment.specs.declared.environment.Environment.{Environment}
 use Rattle.environment.specs.declared.outcome.Outcome.{Outcome}
 use Rattle.environment.specs.Answering.{AnswersCall}
-use Rattle.environment.specs.Calls.{called}
-use Rattle.environment.specs.Limits.{owing_after, written_by, written_call, written_unless}
-use Rattle.environment.specs.Whole.{GoesOn, HasDone, HasLimit, IsAt, IsGuarded, disk_of, reach_of}
+use Rattle.environment.specs.Limits.{owing_after, written_call, written_unless}
+use Rattle.environment.specs.Whole.{HasLimit, IsAt, disk_of}
 use Rattle.environment.proofs.Answering.{within_more}
-use Rattle.environment.proofs.EarlyLaws.{same_reach, told_so}
+use Rattle.environment.proofs.EarlyLaws.{same_reach}
 
 -- what refuses it
 early_invalid : (st : Standing) (session : ℕ) (call : Call) (first : Fault) → st.fault ≡ Some first → early_refusal st session call ≡ Some (Invalid first)

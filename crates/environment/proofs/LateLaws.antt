@@ -1,8 +1,7 @@
 -- What refuses a call on records late, and the database that it is on.
-use Rattle.std.proofs.Common.{◌≡◌, ◌≢◌, ◌==◌, ◌∙◌, ℕ, zero, suc, ◌<◌, ◌≤◌, nat_lt, Bool, true, false, true≢false, cond, List, [], ◌∷◌, Option, None, Some, is_some, find, length, refl, ap, sym, subst, rules, arith, is_eq}
+use Rattle.std.proofs.Common.{◌≡◌, ◌≢◌, ◌==◌, ◌∙◌, ℕ, ◌≤◌, nat_lt, Bool, true, false, true≢false, cond, List, [], ◌∷◌, Option, None, Some, is_some, find, length, refl, ap, sym, subst, rules, arith, is_eq}
 use Rattle.std.specs.Prelude.{option_map}
-use Rattle.std.specs.List.{AllByRecursion}
-use Rattle.std.proofs.lemmas.Bool.{eq-eqb, eqb-true, ltb-true}
+use Rattle.std.proofs.lemmas.Bool.{eq-eqb}
 use Rattle.std.proofs.lemmas.Bool.Decides.{nat_tests}
 use Rattle.std.proofs.lemmas.Map.Lookups.{exact_bytes}
 use Rattle.je_order.specs.Order.{bytes_cmp, is_same_bytes}
@@ -14,7 +13,6 @@ use Rattle.store_model.specs.declared.call.Call.{Call}
 use Rattle.store_model.specs.declared.call.Call.TheVariants.{Get, GetBoth, Put, Delete}
 use Rattle.store_model.specs.declared.kind.Kind.{Kind}
 use Rattle.store_model.specs.declared.store.Database.{Database}
-use Rattle.store_model.specs.declared.store.Store.{Store}
 use Rattle.store_model.specs.declared.store.TheConstants.{LAST_TXN}
 use Rattle.store_model.specs.Evaluation.{plain_name}
 use Rattle.store_model.specs.declared.answer.Answer.TheVariants.{TooLong}
@@ -34,14 +32,14 @@ use Rattle.db_catalog.specs.declared.db_kind.DbKind.TheVariants.{Plain, Dup, Sli
 use Rattle.db_catalog.specs.declared.db_record.DbRecord.{DbRecord}
 use Rattle.db_catalog.specs.declared.found_db.FoundDb.{FoundDb}
 use Rattle.db_catalog.specs.Planning.{IsFoundAs, found_in}
-use Rattle.log_replay.specs.Logging.{number_named, record_named}
+use Rattle.log_replay.specs.Logging.{record_named}
 use Rattle.log_replay.specs.Rows.{Rows, number_or_0, store_of}
 use Rattle.log_replay.proofs.RowLaws.{name_cmp-plain}
 use Rattle.log_replay.proofs.StoreLaws.{database_of-absent}
 use Rattle.txn_log.specs.Committing.{MakesStore}
 use Rattle.txn_log.proofs.CommittingLaws.{database_numbered}
 use Rattle.engine.proofs.CalmAnswers.{IsCalm}
-use Rattle.environment.specs.Access.{IsFoundFor, IsLate}
+use Rattle.environment.specs.Access.{IsLate}
 use Rattle.environment.specs.Calls.{IsOnRecords}
 use Rattle.environment.specs.declared.late.Late.TheVariants.{Refused, Found}
 

@@ -74,3 +74,9 @@ pub mod FinishLaws
 pub mod OwnEnds
 -- A call that waited, and is a transaction of its own.
 pub mod AgainLaws
+-- It changes something: what its ends leave of the log and of the standing.
+pub mod CommitAgain
+-- How it ends, by what became of its changes.
+pub mod AgainEnds
+-- Where cursors stand behind calls that have none.
+pub mod PlacesLaws

@@ -1,6 +1,6 @@
 -- The names of databases.
 use Rattle.std.specs.Option.{option_copied}
-use Rattle.std.proofs.Common.{◌≡◌, ◌∙◌, ◌≤◌, ◌+◌, ℕ, Bor, nat_lt, Bool, true, false, cond, is_some, List, [], Option, None, Some, Result, Ok, Err, ap, refl, sym, subst, inl, arith}
+use Rattle.std.proofs.Common.{◌≡◌, ◌∙◌, ◌≤◌, ◌+◌, ℕ, Bor, nat_lt, Bool, true, false, cond, is_some, List, [], Option, None, Some, Ok, Err, ap, refl, sym, subst, inl, arith}
 use Rattle.std.specs.declared.alloc.AllocError.{AllocError}
 use Rattle.je_disk.specs.Moments.{History, now}
 use Rattle.je_disk.specs.States.{State}
@@ -13,7 +13,7 @@ use Rattle.store_model.specs.Store.{names_of}
 use Rattle.store_model.specs.Refusals.{next_txn, or_refusal}
 use Rattle.je_answers.specs.declared.active.Active.{Active}
 use Rattle.je_answers.specs.Standing.{Standing, active_of}
-use Rattle.je_answers.specs.Refusals.{early_refusal, late_refusal, number_refusal}
+use Rattle.je_answers.specs.Refusals.{late_refusal, number_refusal}
 use Rattle.je_answers.specs.Events.{IsEvaluated}
 use Rattle.je_answers.specs.After.{after_evaluated, drawn_by}
 use Rattle.je_answers.specs.Journal.{changes_evaluated}
@@ -25,11 +25,9 @@ use Rattle.record_tree.specs.Occupied.{AllCells}
 use Rattle.in_tree.specs.Observed.{cells_of, has_tree_of}
 use Rattle.txn_core.specs.Known.{Known, committed}
 use Rattle.txn_core.specs.Planning.{HasModel, IsPlanned}
-use Rattle.txn_core.specs.declared.planned.Planned.{Planned}
 use Rattle.txn_core.specs.declared.planned.Planned.TheVariants.{Answered, Logs}
 use Rattle.txn_core.specs.declared.planned_changes.PlannedChanges.{PlannedChanges}
 use Rattle.txn_log.proofs.Giving.{still_gives}
-use Rattle.standing_laws.specs.Right.{AreSound}
 use Rattle.environment.specs.declared.environment.Environment.{Environment}
 use Rattle.environment.specs.declared.written.OwnNames.{OwnNames}
 use Rattle.environment.specs.Limits.{owing_after, written_evaluated}

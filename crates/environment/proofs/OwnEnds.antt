@@ -1,9 +1,9 @@
 -- Where an environment stands once a call of a transaction that changes something has ended.
-use Rattle.std.proofs.Common.{◌≡◌, ◌≢◌, ◌∙◌, ◌⊎◌, inl, inr, ℕ, suc, ◌≤◌, ◌<◌, ◌+◌, ◌*◌, ◌^◌, ◌==◌, Bool, true, false, true≢false, cond, ◌||◌, List, [], ◌∷◌, ◌++◌, filter, length, map, Option, None, Some, Result, Ok, Err, OnErr, refl, ap, sym, subst, arith}
+use Rattle.std.proofs.Common.{◌≡◌, ◌≢◌, ◌∙◌, ◌⊎◌, inl, inr, ℕ, ◌≤◌, ◌<◌, ◌+◌, ◌*◌, ◌^◌, ◌==◌, Bool, true, false, true≢false, cond, ◌||◌, List, [], ◌∷◌, ◌++◌, filter, length, map, Option, None, Some, Result, Ok, Err, OnErr, refl, ap, sym, subst, arith}
 use Rattle.std.specs.Prelude.{IfOk, OnOk}
 use Rattle.std.specs.List.{AllByRecursion}
 use Rattle.std.specs.declared.alloc.AllocError.{AllocError}
-use Rattle.std.proofs.lemmas.Bool.{cond-true, cond-false, eq-eqb}
+use Rattle.std.proofs.lemmas.Bool.{cond-true, eq-eqb}
 use Rattle.std.proofs.lemmas.Bool.Decides.{eqb_tells}
 use Rattle.std.proofs.lemmas.List.{length-map}
 use Rattle.je_disk.specs.Moments.{History, now}
@@ -17,7 +17,6 @@ use Rattle.record_tree.specs.declared.tree_name.TreeName.{TreeName}
 use Rattle.record_map.specs.Cells.{IsRising as CellsRise}
 use Rattle.store_model.specs.declared.answer.Answer.{Answer}
 use Rattle.store_model.specs.declared.answer.Answer.TheVariants.{Logged, LogFull, IdsEnded, DiskFault}
-use Rattle.store_model.specs.declared.answer.Fault.{Fault}
 use Rattle.store_model.specs.declared.answer.Fault.TheVariants.{Disk}
 use Rattle.store_model.specs.declared.call.Call.{Call}
 use Rattle.store_model.specs.declared.call.Call.TheVariants.{Get, GetBoth, Put, Delete}
@@ -32,21 +31,19 @@ use Rattle.store_model.specs.Refusals.{made_by}
 use Rattle.store_model.specs.Store.{Pair, change_in}
 use Rattle.db_catalog.specs.declared.found_db.FoundDb.{FoundDb}
 use Rattle.je_answers.specs.declared.active.Active.{Active}
-use Rattle.je_answers.specs.Standing.{Standing, active_of, with_at}
+use Rattle.je_answers.specs.Standing.{Standing, with_at}
 use Rattle.je_answers.specs.Views.{Target, changes_at, changes_on, needs_in, outcome_of, view_of}
-use Rattle.je_answers.specs.Locking.{all_got, first_blocked}
+use Rattle.je_answers.specs.Locking.{all_got}
 use Rattle.je_answers.specs.Events.{IsDone, IsLogged, IsTaken, log_limit}
 use Rattle.je_answers.specs.After.{Fate, after_changes, after_fate, after_taking, answered, closed, fate_of, faulted, with_locks, with_outcome}
 use Rattle.je_answers.specs.After.Fate.{Succeeds}
 use Rattle.je_answers.specs.Journal.{changes_closed, changes_taken, is_disk_fault}
 use Rattle.log_buffer.specs.Buffer.{IsUnchanged, disk_of as disk_below, end_of, file_max_of, has_failed}
 use Rattle.log_replay.specs.Logging.{all_row_changes}
-use Rattle.in_tree.specs.declared.log_trees.LogTrees.{LogTrees}
 use Rattle.in_tree.specs.Observed.{cells_of, has_tree_of, limit_in, waits_of}
 use Rattle.txn_core.specs.Known.{committed}
 use Rattle.txn_core.specs.Planning.{row_by}
 use Rattle.txn_core.specs.Plans.{record_planned}
-use Rattle.txn_core.specs.Totals.{totals_of}
 use Rattle.txn_views.specs.Laws.{AreSeenBy}
 use Rattle.txn_views.specs.Seen.{is_right_change, seen_rows}
 use Rattle.txn_views.proofs.RightLaws.{changes-are_right}
@@ -55,13 +52,14 @@ use Rattle.active_txns.specs.Own.{has_changes}
 use Rattle.sessions.specs.declared.all_sessions.Sessions.{Sessions}
 use Rattle.sessions.specs.AtStanding.{AreSessionsAt, owing, with_own}
 use Rattle.sessions.specs.Taking.{HasTaken}
-use Rattle.standing_laws.specs.Right.{AreNumbered, is_active, txn_id}
+use Rattle.standing_laws.specs.Right.{AreNumbered}
 use Rattle.standing_laws.proofs.Writers.{writers-are_free}
 use Rattle.engine.specs.declared.engine.Engine.{Engine}
 use Rattle.engine.specs.declared.kept.Kept.{Kept}
 use Rattle.engine.specs.Limits.{IsWithin, limit_by, most_logged, numbers_for, reach_after}
 use Rattle.engine.specs.Whole.{end_file as end_below}
 use Rattle.engine.proofs.CalmAnswers.{IsCalm, faultless, unnumbered}
+use Rattle.environment.proofs.PlacesLaws.{IsUnmoved, not_moved, still_placed}
 use Rattle.environment.specs.declared.environment.Environment.{Environment}
 use Rattle.environment.specs.declared.outcome.Outcome.{Outcome}
 use Rattle.environment.specs.declared.written.Written.{Written}
@@ -70,16 +68,15 @@ use Rattle.environment.specs.declared.wrote.Wrote.TheVariants.{Done, Full, NoNum
 use Rattle.environment.specs.Access.{AccessesTo, HasAccessed, IsTakenUp}
 use Rattle.environment.specs.Calls.{HasCause, IsOnRecords}
 use Rattle.environment.specs.Limits.{owing_with, written_taken}
-use Rattle.environment.specs.OwnEnds.{AreEndedBy, HasPushed, HasPushedAndLogged, WritesAs, WritesUp, after_wrote, answer_for}
+use Rattle.environment.specs.OwnEnds.{AreEndedBy, HasPushed, HasPushedAndLogged, WritesAs, WritesUp, answer_for}
 use Rattle.environment.specs.Steps.{HasNotCome, HasStepped, IsLogStep, StandsAt}
 use Rattle.environment.specs.Valid.{active_number, owed_by}
-use Rattle.environment.specs.Whole.{CanGoOn, HasLimit, end_file, reach_of}
-use Rattle.environment.specs.Writing.{HasTriedAll, IsLeft, IsValidAt, MayWrite, WritesAll, WritesOwn}
+use Rattle.environment.specs.Whole.{CanGoOn, HasLimit, reach_of}
+use Rattle.environment.specs.Writing.{IsLeft, IsValidAt, MayWrite, WritesAll, WritesOwn}
 use Rattle.environment.proofs.Answering.{owed_is, owed_with}
 use Rattle.environment.proofs.CatalogValid.{low}
 use Rattle.environment.proofs.CommitLaws.{is_under_way}
 use Rattle.environment.proofs.EarlyLaws.{same_buffer, told_so}
-use Rattle.environment.proofs.EndingLaws.{found_session}
 use Rattle.environment.proofs.FinishLaws.{calm_outcome, in_sessions, same_own, valid_elsewhere}
 use Rattle.environment.proofs.LoggableLaws.{AreLoggable, entries_fit, own_loggable}
 use Rattle.environment.proofs.PlanLaws.{seen_at}
@@ -210,7 +207,7 @@ well_evaluated kind (Put name key value mode) db pairs on = well_put kind None N
 well_evaluated kind (Delete name key) db pairs on = well_deleted kind None (seen kind (all_of_key kind key).way (all_of_key kind key).range pairs)
 well_evaluated kind call db pairs on = absurd on
 
-well_outcome : (st : Standing) (a : Active) (call : Call) (db : List ℕ) (g : Target) → IsOnRecords db call → g.at ≡ None → fate_of (outcome_of st a call g).answer ≡ Succeeds
+pub well_outcome : (st : Standing) (a : Active) (call : Call) (db : List ℕ) (g : Target) → IsOnRecords db call → g.at ≡ None → fate_of (outcome_of st a call g).answer ≡ Succeeds
 well_outcome st a call db g on at =
     subst (λ (o : Option Name). fate_of (evaluation g.database.kind call o (view_of st a g)).answer ≡ Succeeds) (sym at) (well_evaluated g.database.kind call db (view_of st a g) on)
 
@@ -277,7 +274,7 @@ module _ {D : Type 0} (observable : Bool) (history : D → History) (sync_out re
   -- ---- each end
 
   module _ (most : ℕ) (before mid : Environment D) (s : Sessions) (st : Standing) (a : Active) (call : Call) (g : Target) (ev : Evaluated) (change : RecordChange) (more : List RecordChange)
-      (here : StandsAt most observable history before st) (none : st.fault ≡ None) where
+      (here : StandsAt most observable history before st) (none : st.fault ≡ None) (unmoved : IsUnmoved call) where
     abbrev changes_ : List RecordChange
     changes_ = change ∷ more
 
@@ -319,7 +316,7 @@ module _ {D : Type 0} (observable : Bool) (history : D → History) (sync_out re
       last_db = ap (λ (k : Kept). k.last_db) w.4 ∙ here.last_db;
       commits = ap (λ (k : Kept). k.commits) w.4 ∙ here.commits;
       totals = ap (λ (k : Kept). k.totals) w.4 ∙ here.totals;
-      sessions_at = record { actives = stands.actives; own = stands.own; waiting = stands.waiting; locks = stands.locks };
+      sessions_at = record { actives = stands.actives; own = stands.own; places = still_placed s.cursors st.places a.session call ev.place unmoved stands.places; waiting = stands.waiting; locks = stands.locks };
       apart = here.apart;
       valid = λ calm. valid_elsewhere observable (now (history (disk_below mid.engine.trees.log))) mid.engine.trees.log (cells_of mid.engine.trees) (has_tree_of mid.engine.trees) mid.written.by_txn.entries own_ own_.own
           OwnDone.places OwnDone.locks refl w.0;
@@ -401,7 +398,7 @@ module _ {D : Type 0} (observable : Bool) (history : D → History) (sync_out re
         last_db = ap (λ (k : Kept). k.last_db) w.3 ∙ here.last_db;
         commits = ap (λ (k : Kept). k.commits) w.3 ∙ here.commits;
         totals = ap (λ (k : Kept). k.totals) w.3 ∙ here.totals;
-        sessions_at = record { actives = stands.actives; own = stands.own; waiting = stands.waiting; locks = tt };
+        sessions_at = record { actives = stands.actives; own = stands.own; places = stands.places; waiting = stands.waiting; locks = tt };
         apart = here.apart;
         valid = λ calm. absurd cc;
       };
@@ -423,13 +420,13 @@ module _ {D : Type 0} (observable : Bool) (history : D → History) (sync_out re
     written_by Failed w stands owes calm = failed w stands owes
 
   written_as : (most : ℕ) (before mid : Environment D) (s : Sessions) (st : Standing) (a : Active) (call : Call) (g : Target) (ev : Evaluated) (changes : List RecordChange) (wrote : Wrote) → ev.changes ≡ changes → changes ≢ [] →
-      StandsAt most observable history before st → st.fault ≡ None → Writes before mid st a.txn.0 g changes (owing (with_own a.txn.0 (changes_at g.db changes) st)) (Ok wrote) →
+      StandsAt most observable history before st → st.fault ≡ None → IsUnmoved call → Writes before mid st a.txn.0 g changes (owing (with_own a.txn.0 (changes_at g.db changes) st)) (Ok wrote) →
       AreEndedBy wrote s a (needs_in st a call g) (changes_at g.db changes) st → owing (with_own a.txn.0 (changes_at g.db changes) st) ≡ owing_with (Some a) st → IsCalm ev.answer →
       WritesAs observable history sync_out read_out read_of ev most before (in_sessions s mid) st a call g wrote
-  written_as most before mid s st a call g ev [] wrote has some here none w stands owes calm = absurd (some refl)
-  written_as most before mid s st a call g ev (change ∷ more) wrote has some here none w stands owes calm =
+  written_as most before mid s st a call g ev [] wrote has some here none unmoved w stands owes calm = absurd (some refl)
+  written_as most before mid s st a call g ev (change ∷ more) wrote has some here none unmoved w stands owes calm =
       subst (λ (l : List RecordChange). WritesAs observable history sync_out read_out read_of (record { answer = ev.answer; answered = ev.answered; changes = l; place = ev.place }) most before (in_sessions s mid) st a call g wrote)
-      (sym has) (written_by most before mid s st a call g ev change more here none wrote w stands owes calm)
+      (sym has) (written_by most before mid s st a call g ev change more here none unmoved wrote w stands owes calm)
 
   -- ---- the call of a transaction of more calls
 
@@ -525,7 +522,7 @@ module _ {D : Type 0} (observable : Bool) (history : D → History) (sync_out re
           right = subst (AllByRecursion (λ c. is_right_change g.database.kind c ≡ true)) (sym up.changes_are)
               (subst (λ (o : Option Name). AllByRecursion (λ c. is_right_change g.database.kind c ≡ true) (evaluation g.database.kind call o (view_of st a g)).changes) (sym up.on.at)
               (subst (λ (p : List Pair). AllByRecursion (λ c. is_right_change g.database.kind c ≡ true) (evaluation g.database.kind call None p).changes) its.pairs
-              (changes-are_right g.database.kind call (seen_rows a.level a.txn (cells_of e.engine.trees g.db)) up.plain its.right)));
+              (changes-are_right g.database.kind call None (seen_rows a.level a.txn (cells_of e.engine.trees g.db)) up.plain its.right)));
           free = subst (AllByRecursion (λ c. Rattle.standing_laws.specs.Laws.IsOnlyOf g.db (Rattle.store_model.specs.Needs.changed_name c) a.txn.0 st.own)) (sym up.changes_are) (writers-are_free st a call g up.sound up.taken.free);
           apart = (loggable rising).apart;
         }
@@ -542,7 +539,7 @@ module _ {D : Type 0} (observable : Bool) (history : D → History) (sync_out re
     pub writes_up : (mid : Environment D) (s : Sessions) (wrote : Wrote) → changes ≢ [] → (p : HasPushedAndLogged observable history sync_out read_out read_of e mid a (needs_in st a call g) st g changes (Ok wrote)) →
         AreEndedBy wrote s a (needs_in st a call g) p.more st → WritesUp observable history sync_out read_out read_of most before (in_sessions s mid) st a call g wrote
     writes_up mid s wrote some p stands =
-        written_as most before mid s st a call g (outcome_of st a call g) changes wrote (sym up.changes_are) some up.here up.valid
+        written_as most before mid s st a call g (outcome_of st a call g) changes wrote (sym up.changes_are) some up.here up.valid (not_moved call db up.records)
         (writes_move e before mid st a.txn.0 g changes (owing (with_own a.txn.0 (changes_at g.db changes) st)) (Ok wrote) up.engine p.writes)
         (subst (λ (l : Own). AreEndedBy wrote s a (needs_in st a call g) l st) p.is stands) (owes_now some) (calm_outcome st a call db g up.records up.on.at)
 
@@ -606,7 +603,7 @@ module _ {D : Type 0} (observable : Bool) (history : D → History) (sync_out re
 
   -- where a call has its locks the sessions stand somewhere
   pub stands_taken : (s : Sessions) (a : Active) (needs : List Need) (st : Standing) → HasTaken s true a needs st → AreSessionsAt s (record st { fault = None; locks = state_of s.locks.locks })
-  stands_taken s a needs st taken = record { actives = taken.actives; own = taken.own; waiting = taken.waiting; locks = refl }
+  stands_taken s a needs st taken = record { actives = taken.actives; own = taken.own; places = taken.places; waiting = taken.waiting; locks = refl }
 
   pub rose_by : (faults : D → ℕ) (old new : Environment D) (txn : TxnId) (changes : List TreeChange) (names : List TreeName) (owed : ℕ) (result : Result Wrote AllocError) → has_failed old.engine.trees.log ≡ false →
       WritesAll observable history sync_out read_out read_of faults old new txn changes names owed result →
@@ -641,6 +638,7 @@ module _ {D : Type 0} (observable : Bool) (history : D → History) (sync_out re
     taken = record {
       actives = taken.actives;
       own = taken.own ∙ same_own a.txn.0 st.own;
+      places = taken.places;
       waiting = taken.waiting;
       free = taken.free;
       locks = taken.locks;

@@ -1,5 +1,5 @@
 -- A call on records in a transaction.
-use Rattle.std.proofs.Common.{◌≡◌, ◌∙◌, ℕ, ◌≤◌, ◌+◌, Bool, true, false, cond, List, [], ◌∷◌, Option, None, Some, Result, Ok, Err, OnErr, refl, ap, sym, subst, arith, inl}
+use Rattle.std.proofs.Common.{◌≡◌, ◌∙◌, ℕ, ◌≤◌, ◌+◌, Bool, true, false, cond, List, [], Option, None, Some, Result, Ok, Err, OnErr, refl, ap, sym, subst, arith, inl}
 use Rattle.std.specs.declared.alloc.AllocError.{AllocError}
 use Rattle.je_disk.specs.Moments.{History, now}
 use Rattle.store_model.specs.declared.answer.Answer.{Answer}
@@ -8,8 +8,7 @@ use Rattle.store_model.specs.declared.call.Call.TheVariants.{Get, GetBoth, Put, 
 use Rattle.store_model.specs.declared.victim.Victim.{Victim}
 use Rattle.je_answers.specs.declared.active.Active.{Active}
 use Rattle.je_answers.specs.Standing.{Standing, active_of}
-use Rattle.je_answers.specs.Views.{Target, target_of}
-use Rattle.je_answers.specs.Refusals.{late_refusal}
+use Rattle.je_answers.specs.Views.{Target}
 use Rattle.je_answers.specs.Events.{IsEvaluated, IsOn, IsPerformed, IsRun}
 use Rattle.je_answers.specs.After.{after_evaluated, after_on, after_performed, after_run}
 use Rattle.je_answers.specs.Journal.{changes_evaluated, changes_in, changes_performed, changes_run}

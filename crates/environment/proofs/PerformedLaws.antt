@@ -1,17 +1,12 @@
 -- A call by its kind.
-use Rattle.std.proofs.Common.{◌≡◌, ◌∙◌, ℕ, Bool, List, [], Option, None, Result, Ok, Err, OnErr, subst, sym}
+use Rattle.std.proofs.Common.{◌∙◌, ℕ, Bool, Option, Result, Ok, Err, sym}
 use Rattle.std.specs.declared.alloc.AllocError.{AllocError}
 use Rattle.je_disk.specs.Moments.{History}
 use Rattle.store_model.specs.declared.answer.Answer.{Answer}
-use Rattle.store_model.specs.declared.answer.Answer.TheVariants.{DiskFault}
 use Rattle.store_model.specs.declared.call.Call.{Call}
-use Rattle.store_model.specs.declared.victim.Victim.{Victim}
-use Rattle.je_order.specs.Counts.{HasRisen}
-use Rattle.engine.specs.Limits.{IsWithin}
 use Rattle.environment.specs.declared.environment.Environment.{Environment}
 use Rattle.environment.specs.declared.outcome.Outcome.{Outcome}
 use Rattle.environment.specs.Steps.{HasCome, IsOnly, Performs, PerformsAnswer}
-use Rattle.environment.specs.Whole.{disk_of, reach_of}
 use Rattle.environment.proofs.EarlyLaws.{told_so}
 
 module _ {D : Type 0} (observable : Bool) (history : D → History) (sync_out read_out : D → Option ℕ) (read_of faults : D → ℕ) where

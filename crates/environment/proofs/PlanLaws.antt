@@ -1,8 +1,8 @@
 -- What a transaction sees of the database that a call is on.
-use Rattle.std.proofs.Common.{◌≡◌, ◌≢◌, ◌≤◌, ◌==◌, ◌∙◌, ℕ, Bool, true, false, true≢false, List, [], ◌∷◌, Option, None, Some, map, is_eq, refl, ap, sym, subst, rules, find}
-use Rattle.std.specs.List.{AllByRecursion, list_any}
+use Rattle.std.proofs.Common.{◌≡◌, ◌≢◌, ◌≤◌, ◌∙◌, ℕ, Bool, true, List, Option, None, Some, map, is_eq, ap, sym, subst, rules}
+use Rattle.std.specs.List.{AllByRecursion}
 use Rattle.std.specs.Map.{keys_of}
-use Rattle.je_order.specs.Order.{name_cmp, is_same_bytes}
+use Rattle.je_order.specs.Order.{name_cmp}
 use Rattle.je_order.proofs.Lists.{all_weaker, filter_all_pass}
 use Rattle.record_map.specs.Cells.{IsRising}
 use Rattle.record_tree.specs.Occupied.{AllCells, Occupied, is_occupied, occupied_by}
@@ -20,20 +20,20 @@ use Rattle.je_order.specs.declared.name.Name.{Name}
 use Rattle.store_model.specs.Store.{Pair, database_of}
 use Rattle.je_answers.specs.declared.active.Active.{Active}
 use Rattle.je_answers.specs.Standing.{Standing}
-use Rattle.je_answers.specs.Views.{Target, needs_in, occupied, outcome_of, view_of}
+use Rattle.je_answers.specs.Views.{Target, occupied, outcome_of, view_of}
 use Rattle.db_catalog.specs.declared.found_db.FoundDb.{FoundDb}
 use Rattle.log_replay.specs.Logging.{kind_named, number_named}
-use Rattle.log_replay.specs.Rows.{Row, Rows, are_right, catalog_kind, catalog_number, pair_of, store_of}
+use Rattle.log_replay.specs.Rows.{Row, Rows, are_right, catalog_kind, catalog_number, pair_of}
 use Rattle.log_replay.proofs.ListLaws.{found}
 use Rattle.log_replay.proofs.StoreLaws.{database_of-numbered, environment_parts, row_named}
 use Rattle.standing_laws.specs.Right.{AreSound}
 use Rattle.in_tree.specs.Forest.{cells_at}
 use Rattle.in_tree.specs.declared.log_trees.LogTrees.{LogTrees}
 use Rattle.in_tree.specs.Observed.{cells_of}
-use Rattle.txn_core.specs.Known.{committed, committed_rows}
+use Rattle.txn_core.specs.Known.{committed}
 use Rattle.txn_log.specs.Committing.{MakesStore, MayBeCommitted}
 use Rattle.txn_views.specs.Laws.{AreCellsOf, AreSeenBy}
-use Rattle.txn_views.specs.Seen.{AreOccupied, AreRightIn, HasWrites, seen_rows}
+use Rattle.txn_views.specs.Seen.{AreOccupied, HasWrites, seen_rows}
 use Rattle.log_replay.proofs.ListLaws.{all_of_map}
 use Rattle.log_replay.proofs.StoreLaws.{number_of_row}
 use Rattle.log_replay.specs.Kept.{MayBeLogged}

@@ -1,7 +1,7 @@
 -- A waiting call goes on.
 use mathlib.Core.Path.{fun_ext}
-use Rattle.std.proofs.Common.{◌≡◌, ◌∙◌, ◌≤◌, ◌+◌, ◌<◌, ℕ, Bool, true, false, cond, not, ◌==◌, List, [], ◌∷◌, ◌++◌, filter, is_some, Option, None, Some, Result, Ok, Err, IfOk, OnErr, ap, ap₂, refl, sym, subst, inl, inr, arith}
-use Rattle.std.specs.List.{AllByRecursion, find}
+use Rattle.std.proofs.Common.{◌≡◌, ◌∙◌, ℕ, Bool, true, false, cond, not, ◌==◌, List, [], ◌∷◌, filter, is_some, Option, None, Some, Result, Ok, Err, OnErr, ap, ap₂, refl, sym, subst, inl, inr, arith}
+use Rattle.std.specs.List.{AllByRecursion}
 use Rattle.std.specs.declared.alloc.AllocError.{AllocError}
 use Rattle.std.proofs.lemmas.Bool.{cond-true, cond-false, eqb-true}
 use Rattle.std.proofs.lemmas.Option.{none-some, same_Some}
@@ -14,11 +14,9 @@ use Rattle.lock_table.specs.Locks.{after_release}
 use Rattle.store_model.specs.declared.answer.Answer.{Answer}
 use Rattle.store_model.specs.declared.answer.Answer.TheVariants.{Invalid}
 use Rattle.store_model.specs.declared.answer.Fault.{Fault}
-use Rattle.store_model.specs.declared.answer.Fault.TheVariants.{Disk}
 use Rattle.store_model.specs.declared.call.Call.{Call}
 use Rattle.store_model.specs.declared.call.Call.TheVariants.{Get, GetBoth, Put, Delete}
 use Rattle.store_model.specs.declared.change.Change.{Change}
-use Rattle.store_model.specs.declared.event.Event.{Event}
 use Rattle.store_model.specs.declared.event.Event.TheVariants.{Resume, End}
 use Rattle.store_model.specs.declared.victim.Victim.{Victim}
 use Rattle.store_model.specs.Refusals.{or_refusal}
@@ -28,14 +26,14 @@ use Rattle.je_answers.specs.Standing.{LockState, Standing, active_of, wait_of, w
 use Rattle.je_answers.specs.Refusals.{early_refusal, fault_refusal, waits_refusal, abort_refusal, txn_refusal}
 use Rattle.je_answers.specs.Events.{IsAnswered, IsCallAnswered, IsReady, IsResumed, resumed}
 use Rattle.je_answers.specs.After.{after_call, after_event, after_events, after_resumed, after_session, ended_if_any, fate_of}
-use Rattle.je_answers.specs.Journal.{attempt_of, changes_of, changes_resumed, is_disk_fault, tried}
-use Rattle.je_answers.specs.Locking.{forgotten, released, was_granted_in}
+use Rattle.je_answers.specs.Journal.{attempt_of, changes_of, changes_resumed, tried}
+use Rattle.je_answers.specs.Locking.{forgotten, released}
 use Rattle.log_buffer.specs.declared.buffer.LogBuffer.{LogBuffer}
 use Rattle.log_buffer.specs.Buffer.{IsUnchanged, disk_of as disk_below}
 use Rattle.in_tree.specs.Observed.{cells_of, has_tree_of}
 use Rattle.sessions.specs.declared.all_sessions.Sessions.{Sessions}
 use Rattle.sessions.specs.AtStanding.{AreSessionsAt}
-use Rattle.standing_laws.specs.Right.{AreNumbered, AreRight, AreSound, IsWaitIn, MayWait}
+use Rattle.standing_laws.specs.Right.{AreNumbered, AreSound, IsWaitIn, MayWait}
 use Rattle.standing_laws.proofs.Settling.{resumes-settle, ends-settle}
 use Rattle.standing_laws.proofs.StandingsStay.{resumed_is-right, standings_stay-right}
 use Rattle.standing_laws.proofs.StandingsBare.{standings_stay-bare}
@@ -48,11 +46,10 @@ use Rattle.environment.specs.Calls.{HasNoCursor, MayResume, resumed_by}
 use Rattle.environment.specs.Limits.{owing_after, owing_with, written_call, written_resumed, written_unless}
 use Rattle.environment.specs.Resuming.{GoesAgain, MayGoOn, ResumesCall}
 use Rattle.environment.specs.Steps.{HasCalled, HasNotCome, MayCall, StandsAt}
-use Rattle.environment.specs.Valid.{AreAt}
 use Rattle.environment.specs.Whole.{HasDone, HasLimit, IsAt, disk_of, reach_of}
 use Rattle.environment.proofs.EarlyLaws.{found_unit}
 use Rattle.environment.proofs.Answering.{bounded, guarded_step, owed_is, owed_with}
-use Rattle.environment.proofs.EndingLaws.{ended_fault, ended_safely, near_owed, own_waits_left, valid_waiting, within_then}
+use Rattle.environment.proofs.EndingLaws.{ended_safely, near_owed, own_waits_left, valid_waiting, within_then}
 
 -- ---- the call that waits
 

@@ -1,9 +1,8 @@
 -- Where an environment stands when its log was written out or synced, or the disk failed.
-use Rattle.std.proofs.Common.{◌≡◌, ℕ, suc, ◌∙◌, Bool, false, true, List, Option, None, Some, refl, ap, sym, subst, ◌≤◌, cond}
+use Rattle.std.proofs.Common.{◌≡◌, ℕ, suc, ◌∙◌, Bool, false, List, Option, None, Some, refl, sym, subst, ◌≤◌}
 use Rattle.je_disk.specs.States.{State}
 use Rattle.je_order.specs.declared.txn_id.TxnId.{TxnId}
 use Rattle.je_lsn.specs.Naming.{last_file}
-use Rattle.store_model.specs.declared.answer.Fault.{Fault}
 use Rattle.store_model.specs.declared.answer.Fault.TheVariants.{Disk}
 use Rattle.je_answers.specs.Standing.{Standing}
 use Rattle.log_file.specs.Log.{Log}
@@ -16,7 +15,7 @@ use Rattle.in_tree.specs.Limits.{HasRoomFor, commit_sizes}
 use Rattle.record_tree.specs.Occupied.{AllCells}
 use Rattle.sessions.specs.declared.all_sessions.Sessions.{Sessions}
 use Rattle.sessions.specs.AtStanding.{AreSessionsAt}
-use Rattle.standing_laws.specs.Right.{AreRight, AreSound}
+use Rattle.standing_laws.specs.Right.{AreRight}
 use Rattle.txn_core.specs.Known.{committed}
 use Rattle.txn_log.specs.Gives.{GivesRecordsWith}
 use Rattle.engine.specs.declared.kept.Kept.{Kept}
@@ -34,7 +33,7 @@ sessions_begun s st begun at = at
 
 -- after a fault no lock counts
 pub sessions_faulted : (s : Sessions) (st : Standing) (begun : Option ℕ) → AreSessionsAt s st → AreSessionsAt s (record st { fault = Some Disk; begun = begun })
-sessions_faulted s st begun at = record { actives = at.actives; own = at.own; waiting = at.waiting; locks = tt }
+sessions_faulted s st begun at = record { actives = at.actives; own = at.own; places = at.places; waiting = at.waiting; locks = tt }
 
 module _ {D : Type 0} where
   -- a log buffer that was written out, or whose sync began or ended

@@ -1,22 +1,19 @@
 -- What a call of a session comes to, for all that an environment may stand at.
-use Rattle.std.specs.Prelude.{ℕ, ◌≡◌, ◌++◌, ◌∷◌, [], List, Option, None, Bool, true, Result, IfOk, OnErr}
+use Rattle.std.specs.Prelude.{ℕ, ◌≡◌, List, Option, Bool, true, Result, IfOk, OnErr}
 use Rattle.std.specs.declared.alloc.AllocError.{AllocError}
 use Rattle.je_disk.specs.Moments.{History, now}
 use Rattle.store_model.specs.declared.answer.Answer.{Answer}
 use Rattle.store_model.specs.declared.call.Call.{Call}
 use Rattle.store_model.specs.declared.event.Event.{Event}
-use Rattle.store_model.specs.declared.event.Event.TheVariants.{Call as Called}
 use Rattle.je_answers.specs.Standing.{Standing}
 use Rattle.je_answers.specs.After.{after_event, after_events}
 use Rattle.je_answers.specs.Events.{IsAnswered}
-use Rattle.standing_laws.specs.Right.{AreRight}
 use Rattle.engine.specs.Limits.{IsWithin, reach_after}
 use Rattle.engine.specs.Steps.{IsNumbered}
 use Rattle.environment.specs.declared.environment.Environment.{Environment}
 use Rattle.environment.specs.declared.outcome.Outcome.{Outcome}
-use Rattle.environment.specs.Calls.{HasNoCursor, called}
+use Rattle.environment.specs.Calls.{called}
 use Rattle.environment.specs.Limits.{owing_after, written_call}
-use Rattle.environment.specs.Valid.{AreBare}
 use Rattle.environment.specs.Whole.{GoesOn, GoesOnSafely, HasLimit, IsAt, IsGuarded, disk_of, reach_of}
 
 module _ {D : Type 0} where

@@ -1,8 +1,7 @@
 -- A call on records that is a transaction of its own, among others.
-use Rattle.std.specs.Prelude.{ℕ, ◌≡◌, ◌+◌, List, None, Some, Bool, true, nat_lt}
+use Rattle.std.specs.Prelude.{ℕ, ◌≡◌, List, None, Bool, true, nat_lt}
 use Rattle.je_disk.specs.Moments.{History}
 use Rattle.store_model.specs.declared.call.Call.{Call}
-use Rattle.store_model.specs.declared.need.Need.{Need}
 use Rattle.store_model.specs.declared.store.TheConstants.{LAST_TXN}
 use Rattle.je_answers.specs.Standing.{Standing, active_of}
 use Rattle.je_answers.specs.Views.{Target, needs_in}
@@ -13,7 +12,6 @@ use Rattle.txn_core.specs.Known.{known_of}
 use Rattle.txn_core.specs.Planning.{IsPlanned}
 use Rattle.txn_core.specs.declared.planned.Planned.{Planned}
 use Rattle.sessions.specs.declared.all_sessions.Sessions.{Sessions}
-use Rattle.sessions.specs.AtStanding.{owing}
 use Rattle.sessions.specs.Taking.{HasTaken}
 use Rattle.standing_laws.specs.Right.{AreSound}
 use Rattle.environment.specs.declared.environment.Environment.{Environment}

@@ -1,5 +1,5 @@
 -- The calls that an environment answers, and the events that they are.
-use Rattle.std.specs.Prelude.{ℕ, ◌≡◌, ◌≤◌, ◌<◌, length, List, Option, Some, Result, Ok, Err, IfOk}
+use Rattle.std.specs.Prelude.{ℕ, ◌≡◌, ◌≤◌, ◌<◌, length, List, Some, Result, Ok, Err, IfOk}
 use Rattle.std.specs.declared.alloc.AllocError.{AllocError}
 use Rattle.je_order.specs.Counts.{HasRisen}
 use Rattle.store_model.specs.declared.answer.Answer.TheVariants.{DiskFault}

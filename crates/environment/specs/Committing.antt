@@ -17,8 +17,10 @@ use Rattle.je_answers.specs.declared.active.Active.{Active}
 use Rattle.je_answers.specs.Standing.{Standing}
 use Rattle.je_answers.specs.After.{ended}
 use Rattle.sessions.specs.AtStanding.{AreSessionsAt}
+use Rattle.engine.specs.declared.engine.Engine.{Engine}
 use Rattle.engine.specs.declared.kept.Kept.{Kept}
 use Rattle.environment.specs.declared.environment.Environment.{Environment}
+use Rattle.environment.specs.declared.written.OwnNames.{OwnNames}
 use Rattle.environment.specs.Written.{names_at, had_at}
 
 -- whether a change sets a name
@@ -31,19 +33,24 @@ abbrev pub kept_committed : Kept → ℕ → Kept
 kept_committed kept records = record kept { totals = record { databases = kept.totals.databases; records = records }; commits = kept.commits + 1 }
 
 module _ {D : Type 0} where
+  -- a transaction has committed what it wrote: the log got its Commit, and the records have its changes
+  pub record HasCommittedOwn (observable : Bool) (history : D → History) (sync_out read_out : D → Option ℕ) (read_of faults : D → ℕ) (old new : Engine D) (was is : List (TxnId × OwnNames)) (txn : TxnId)
+      (records : ℕ) : Type 0 where
+    pub grew : GrewFitting observable history sync_out read_out read_of faults old.trees.log new.trees.log (Commit txn ∷ [])
+    pub left : (owed : ℕ) → HasRoomFor old.trees.log (commit_sizes (suc owed)) → HasRoomFor new.trees.log (commit_sizes owed)
+    pub kept : new.kept ≡ kept_committed old.kept records
+    pub cells : HasChangedAll (cells_of old.trees) (cells_of new.trees) (names_at txn was) after_commit
+    pub was_rising : (d : ℕ) → IsRising (cells_of old.trees d)
+    pub rising : (d : ℕ) → IsRising (cells_of new.trees d)
+    pub has_tree : (d : ℕ) → has_tree_of new.trees d ≡ has_tree_of old.trees d
+    pub waits : waits_of new.trees ≡ waits_of old.trees
+    pub names : (t : TxnId) → names_at t is ≡ (if is_same_txn txn t then [] else names_at t was)
+    pub had : (t : TxnId) → had_at t is ≡ (if is_same_txn txn t then 0 else had_at t was)
+
   -- a session's transaction has committed, and is at its end
   pub record HasSettled (observable : Bool) (history : D → History) (sync_out read_out : D → Option ℕ) (read_of faults : D → ℕ) (old new : Environment D) (session : ℕ) (txn : TxnId)
       (records : ℕ) : Type 0 where
-    pub grew : GrewFitting observable history sync_out read_out read_of faults old.engine.trees.log new.engine.trees.log (Commit txn ∷ [])
-    pub left : (owed : ℕ) → HasRoomFor old.engine.trees.log (commit_sizes (suc owed)) → HasRoomFor new.engine.trees.log (commit_sizes owed)
-    pub kept : new.engine.kept ≡ kept_committed old.engine.kept records
-    pub cells : HasChangedAll (cells_of old.engine.trees) (cells_of new.engine.trees) (names_at txn old.written.by_txn.entries) after_commit
-    pub was_rising : (d : ℕ) → IsRising (cells_of old.engine.trees d)
-    pub rising : (d : ℕ) → IsRising (cells_of new.engine.trees d)
-    pub has_tree : (d : ℕ) → has_tree_of new.engine.trees d ≡ has_tree_of old.engine.trees d
-    pub waits : waits_of new.engine.trees ≡ waits_of old.engine.trees
-    pub names : (t : TxnId) → names_at t new.written.by_txn.entries ≡ (if is_same_txn txn t then [] else names_at t old.written.by_txn.entries)
-    pub had : (t : TxnId) → had_at t new.written.by_txn.entries ≡ (if is_same_txn txn t then 0 else had_at t old.written.by_txn.entries)
+    pub committed : HasCommittedOwn observable history sync_out read_out read_of faults old.engine new.engine old.written.by_txn.entries new.written.by_txn.entries txn records
     pub sessions : (st : Standing) (a : Active) → a.session ≡ session → a.txn ≡ txn → AreSessionsAt old.sessions st → AreSessionsAt new.sessions (ended a st)
 
   -- or the disk failed

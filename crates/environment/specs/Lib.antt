@@ -15,3 +15,5 @@ pub mod Access
 pub mod Auto
 pub mod Resuming
 pub mod OwnEnds
+-- A call that waited and changes something.
+pub mod Again

@@ -1,13 +1,12 @@
 -- What events write to the log, and the limits that this meets.
-use Rattle.std.specs.Prelude.{ℕ, ◌+◌, [], ◌∷◌, List, Option, None, Some, Bool, true, false, not, filter, length, if◌then◌else◌}
+use Rattle.std.specs.Prelude.{ℕ, ◌+◌, [], ◌∷◌, List, Option, None, Some, if◌then◌else◌}
 use Rattle.store_model.specs.declared.answer.Answer.{Answer}
 use Rattle.store_model.specs.declared.call.Call.{Call}
-use Rattle.store_model.specs.declared.call.Call.TheVariants.{Create, Remove, Rename, Truncate, Get, GetBoth, Put, Delete, Count, Cur, CPutCur, CDel, CPut}
+use Rattle.store_model.specs.declared.call.Call.TheVariants.{Create, Remove, Rename, Truncate, Get, GetBoth, Put, Delete}
 use Rattle.store_model.specs.declared.change.Change.{Change}
 use Rattle.store_model.specs.declared.event.Event.{Event}
 use Rattle.store_model.specs.declared.event.Event.TheVariants.{Call as Called, Resume}
 use Rattle.store_model.specs.declared.need.Need.{Need}
-use Rattle.store_model.specs.declared.record_change.RecordChange.{RecordChange}
 use Rattle.store_model.specs.Evaluation.{evaluation}
 use Rattle.je_answers.specs.declared.active.Active.{Active}
 use Rattle.je_answers.specs.declared.wait.Wait.{Wait}

@@ -1,5 +1,5 @@
 -- A valid environment beside the model: its log and its trees, and where the model stands.
-use Rattle.std.specs.Prelude.{ℕ, suc, ◌≡◌, ◌+◌, Bool, true, false, List, [], Option, None, filter, length, if◌then◌else◌}
+use Rattle.std.specs.Prelude.{ℕ, suc, ◌≡◌, Bool, true, false, List, [], None, filter, length}
 use Rattle.std.specs.List.{AllByRecursion}
 use Rattle.je_disk.specs.States.{State}
 use Rattle.je_order.specs.declared.txn_id.TxnId.{TxnId}
@@ -9,7 +9,7 @@ use Rattle.log_file.specs.Log.{Log}
 use Rattle.log_buffer.specs.declared.buffer.LogBuffer.{LogBuffer}
 use Rattle.log_buffer.specs.Buffer.{end_of, file_max_of, has_failed}
 use Rattle.log_buffer.specs.Log.{HasLog}
-use Rattle.log_replay.specs.Rows.{Rows, numbers_of}
+use Rattle.log_replay.specs.Rows.{numbers_of}
 use Rattle.in_tree.specs.Limits.{HasRoomFor, commit_sizes}
 use Rattle.record_tree.specs.Occupied.{AllCells}
 use Rattle.engine.specs.declared.kept.Kept.{Kept}

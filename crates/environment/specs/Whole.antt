@@ -1,5 +1,5 @@
 -- An environment as one value. Users speak of it by these alone; what it is made of may change below them.
-use Rattle.std.specs.Prelude.{ℕ, ◌≡◌, ◌≤◌, ◌<◌, ◌^◌, ◌+◌, ◌++◌, ◌∷◌, [], List, Option, None, Some, Bool, Result, Ok, Err, true, false, length, map, if◌then◌else◌}
+use Rattle.std.specs.Prelude.{ℕ, ◌≡◌, ◌<◌, ◌^◌, ◌+◌, ◌++◌, ◌∷◌, [], List, Option, None, Some, Bool, Result, Ok, Err, true, false, length, map, if◌then◌else◌}
 use Rattle.std.specs.declared.alloc.AllocError.{AllocError}
 use Rattle.je_disk.specs.States.{Files, State, synced_crash_states}
 use Rattle.je_disk.specs.Moments.{History, now}

@@ -1,7 +1,6 @@
 // A call that is a transaction of its own, once more.
-ghost use Rattle.std.specs.Prelude.{◌≡◌, ◌≢◌, Bool, None, Some, ℕ, List as Lists, [], OnErr, true};
+ghost use Rattle.std.specs.Prelude.{◌≡◌, None, Some, ℕ, List as Lists, [], OnErr, true};
 ghost use Rattle.store_model.specs.declared.call.Call.{Call as Asked};
-ghost use Rattle.store_model.specs.declared.answer.Answer.{Answer as Answered};
 ghost use Rattle.db_catalog.specs.declared.found_db.FoundDb.{FoundDb as Found};
 ghost use Rattle.je_answers.specs.declared.active.Active.{Active as Transaction};
 ghost use Rattle.je_answers.specs.Standing.{Standing, active_of};
@@ -109,30 +108,5 @@ impl<D: Disk> Environment<D> {
         }
         drop(answer);
         self.commit_again(alloc, session, txn, level, number, changes)
-    }
-
-    // Logs and commits what a call changes that got its locks.
-    fn commit_again(
-        &mut self,
-        alloc: Global,
-        session: u8,
-        txn: TxnId,
-        level: Isolation,
-        number: u32,
-        changes: List<RecordChange>,
-    ) -> Result<Outcome, AllocError>
-        requires taken { (before : Environment D) × (most : ℕ) × (st : Standing) × (a : Transaction) × (asked : Asked) × (db : Lists ℕ) × (found : Found) × (g : Target) × (answer : Answered)
-            × IsTakenUp D.observable D.history most before self.old st session a asked db found g answer changes × (a.txn ≡ txn) × (a.level ≡ level) × (g.db ≡ number) × (a.is_auto ≡ true) × (st.own a.txn.0 ≡ []) }
-        requires some { changes ≢ [] }
-        requires bounds { CanGoOn self.old }
-        ensures comes { (before : Environment D) (most line : ℕ) (st : Standing) (a : Transaction) (asked : Asked) (db : Lists ℕ) (found : Found) (g : Target) (answer : Answered)
-            → IsTakenUp D.observable D.history most before self.old st session a asked db found g answer changes → a.txn ≡ txn → a.level ≡ level → g.db ≡ number → a.is_auto ≡ true → st.own a.txn.0 ≡ []
-            → AccessesTo D.observable D.history D.sync_out D.read_out D.read_of most before self.new st a line asked g result }
-        ensures bounds { CanGoOn self.new }
-        ensures cause { HasCause (D.faults (disk_of self.old)) (D.faults (disk_of self.new)) result }
-    {
-        drop(changes);
-        self.sessions.give_up(txn);
-        Err(AllocError)
     }
 }

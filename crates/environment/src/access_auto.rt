@@ -1,10 +1,9 @@
 // A call on records that is a transaction of its own, among others.
-ghost use Rattle.std.specs.Prelude.{◌≡◌, ◌≤◌, ◌+◌, Bool, None, Some, ℕ, List, OnErr, IfOk, true};
+ghost use Rattle.std.specs.Prelude.{◌≡◌, ◌≤◌, ◌+◌, None, ℕ, List, OnErr, IfOk, true};
 ghost use Rattle.store_model.specs.declared.call.Call.{Call as Asked};
 ghost use Rattle.store_model.specs.declared.need.Need.{Need};
 ghost use Rattle.store_model.specs.declared.store.TheConstants.{LAST_DATABASE};
 ghost use Rattle.store_model.specs.Refusals.{next_txn};
-ghost use Rattle.je_answers.specs.declared.active.Active.{Active as Transaction};
 ghost use Rattle.je_answers.specs.Standing.{Standing, active_of};
 ghost use Rattle.je_answers.specs.Refusals.{early_refusal};
 ghost use Rattle.je_answers.specs.Views.{Target, needs_in};

@@ -1,5 +1,5 @@
 // A call on records in a transaction.
-ghost use Rattle.std.specs.Prelude.{◌≡◌, ◌≢◌, Bool, None, Some, ℕ, List as Lists, [], OnErr, true, false};
+ghost use Rattle.std.specs.Prelude.{◌≡◌, ◌≢◌, None, Some, ℕ, List as Lists, [], OnErr, true, false};
 ghost use Rattle.je_answers.specs.declared.active.Active.{Active as Transaction};
 ghost use Rattle.je_answers.specs.Standing.{Standing, active_of};
 ghost use Rattle.je_answers.specs.Refusals.{early_refusal};

@@ -1,6 +1,5 @@
 // A call on records, among transactions.
-ghost use Rattle.std.specs.Prelude.{◌≡◌, ◌≤◌, Bool, true, None, Some, ℕ, List, IfOk, OnErr, Ok, [], is_some};
-ghost use Rattle.je_answers.specs.declared.active.Active.{Active as Transaction};
+ghost use Rattle.std.specs.Prelude.{◌≡◌, true, None, Some, ℕ, IfOk, OnErr, Ok, is_some};
 ghost use Rattle.je_answers.specs.Standing.{Standing, active_of};
 ghost use Rattle.je_answers.specs.Refusals.{early_refusal, late_refusal, number_refusal};
 ghost use Rattle.je_answers.specs.After.{drawn_by};

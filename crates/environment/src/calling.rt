@@ -1,19 +1,13 @@
 // A call among transactions.
-ghost use Rattle.std.specs.Prelude.{◌≡◌, ◌≤◌, ◌++◌, ◌∷◌, [], ℕ, List, Option, None, Some, true, false, Ok, IfOk, OnErr};
-ghost use Rattle.je_disk.specs.Moments.{History, now};
-ghost use Rattle.store_model.specs.declared.answer.Answer.{Answer as Answered};
-ghost use Rattle.store_model.specs.declared.event.Event.{Event};
+ghost use Rattle.std.specs.Prelude.{◌≡◌, [], ℕ, List, None, Some, true, false, Ok, OnErr};
+ghost use Rattle.je_disk.specs.Moments.{now};
 ghost use Rattle.je_answers.specs.Standing.{Standing};
-ghost use Rattle.je_answers.specs.After.{after_event, after_events};
 ghost use Rattle.je_answers.specs.Alone.{IsAutoCommitted};
-ghost use Rattle.je_answers.specs.Events.{IsAnswered};
 ghost use Rattle.je_answers.specs.Refusals.{early_refusal};
 ghost use Rattle.engine.specs.Limits.{IsWithin};
-ghost use Rattle.engine.specs.Steps.{IsNumbered};
 ghost use Rattle.environment.specs.Calls.{HasCause, HasNoCursor};
 ghost use Rattle.environment.specs.Answering.{AnswersCall};
-ghost use Rattle.standing_laws.specs.Right.{AreSound};
-ghost use Rattle.environment.specs.Steps.{CallsTo, ComesTo, MayCall, StandsAt};
+ghost use Rattle.environment.specs.Steps.{CallsTo};
 ghost use Rattle.environment.specs.Whole.{CanGoOn, IsAt, disk_of, reach_of};
 
 use crate::environment::Environment;

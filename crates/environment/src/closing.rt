@@ -1,5 +1,5 @@
 // Closing an environment.
-ghost use Rattle.std.specs.Prelude.{◌≡◌, ◌≤◌, [], ℕ, List, None, true, false};
+ghost use Rattle.std.specs.Prelude.{◌≡◌, ◌≤◌, ℕ, List, None, true, false};
 ghost use Rattle.je_order.specs.Counts.{HasRisen};
 ghost use Rattle.je_disk.specs.Moments.{History, now};
 ghost use Rattle.store_model.specs.declared.event.Event.{Event};

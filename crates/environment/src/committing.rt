@@ -1,5 +1,5 @@
 // The commit of a transaction.
-ghost use Rattle.std.specs.Prelude.{◌≡◌, ◌≤◌, ◌<◌, ◌+◌, ◌^◌, ◌∷◌, [], None, ℕ, suc, length, List, OnOk, OnErr, IfSome, count_by};
+ghost use Rattle.std.specs.Prelude.{◌≡◌, ◌<◌, ◌+◌, ◌^◌, ◌∷◌, [], None, ℕ, suc, List, OnOk, OnErr, IfSome, count_by};
 ghost use Rattle.std.specs.Option.{option_map_or};
 ghost use Rattle.log_entry.specs.declared.entry.Entry.{Entry};
 ghost use Rattle.log_entry.specs.declared.entry.Entry.TheVariants.{Commit as Committed};
@@ -10,7 +10,7 @@ ghost use Rattle.je_answers.specs.Standing.{Standing};
 ghost use Rattle.je_answers.specs.Refusals.{early_refusal};
 ghost use Rattle.je_answers.specs.Events.{commit_answer};
 ghost use Rattle.standing_laws.specs.Right.{AreSound};
-ghost use Rattle.environment.specs.Committing.{HasNotSettled, HasSettled, is_set};
+ghost use Rattle.environment.specs.Committing.{HasCommittedOwn, HasNotSettled, HasSettled, is_set};
 ghost use Rattle.environment.specs.Steps.{PerformsAnswer, StandsAt};
 ghost use Rattle.environment.specs.Whole.{CanGoOn};
 ghost use Rattle.environment.specs.Written.{had_at};
@@ -28,7 +28,7 @@ use std::collections::BTreeMap;
 use store_model::{Answer, Durability, Fault, RecordChange};
 
 // Commits what a transaction wrote.
-fn commit_taken<T: Records>(
+pub(crate) fn commit_taken<T: Records>(
     trees: &mut T,
     txn: TxnId,
     taken: Option<OwnNames>,
@@ -62,7 +62,7 @@ fn answer_of(durability: Durability, commits: u64) -> Answer
 }
 
 // Whether a change sets a name.
-fn sets(change: &RecordChange) -> bool
+pub(crate) fn sets(change: &RecordChange) -> bool
     ensures { result ≡ is_set change.now }
 {
     match change {
@@ -85,7 +85,7 @@ fn count_set(own: &[(u32, RecordChange)]) -> u64
 }
 
 // How many of a transaction's changes were of a name that had a record just then.
-fn had_of(written: &BTreeMap<TxnId, OwnNames>, txn: TxnId) -> u64
+pub(crate) fn had_of(written: &BTreeMap<TxnId, OwnNames>, txn: TxnId) -> u64
     ensures { result ≡ had_at txn written.now.entries }
 {
     match written.get(&txn) {
@@ -94,11 +94,11 @@ fn had_of(written: &BTreeMap<TxnId, OwnNames>, txn: TxnId) -> u64
     }
 }
 
-// How many records there are behind a commit of own changes; None where a number ends.
-fn records_with(kept: &Kept, own: &[(u32, RecordChange)], had: u64) -> Option<u64>
-    ensures counted { IfSome result (λ records. records + had ≡ kept.now.totals.records + count_by (λ c. is_set c.1) own.now) }
-    ensures fits { IfSome result (λ records. kept.now.commits < kept.now.last_txn) }
-    ensures next { IfSome result (λ records. kept.now.commits + 1 < 2 ^ 64) }
+// How many records there are with so many more, where a commit more has a number; None where a number ends.
+pub(crate) fn records_before(kept: &Kept, set: u64) -> Option<u64>
+    ensures counted { IfSome result (λ all. all ≡ kept.now.totals.records + set) }
+    ensures fits { IfSome result (λ all. kept.now.commits < kept.now.last_txn) }
+    ensures next { IfSome result (λ all. kept.now.commits + 1 < 2 ^ 64) }
 {
     if kept.commits >= kept.last_txn {
         return None;
@@ -106,21 +106,30 @@ fn records_with(kept: &Kept, own: &[(u32, RecordChange)], had: u64) -> Option<u6
     if kept.commits.checked_add(1).is_none() {
         return None;
     }
+    kept.totals.records.checked_add(set)
+}
+
+// How many records there are behind a commit of own changes; None where a number ends.
+fn records_with(kept: &Kept, own: &[(u32, RecordChange)], had: u64) -> Option<u64>
+    ensures counted { IfSome result (λ records. records + had ≡ kept.now.totals.records + count_by (λ c. is_set c.1) own.now) }
+    ensures fits { IfSome result (λ records. kept.now.commits < kept.now.last_txn) }
+    ensures next { IfSome result (λ records. kept.now.commits + 1 < 2 ^ 64) }
+{
     let set = count_set(own);
-    match kept.totals.records.checked_add(set) {
+    match records_before(kept, set) {
         Some(all) => all.checked_sub(had),
         None => None,
     }
 }
 
 impl<D: Disk> Environment<D> {
-    // Commits what a session's transaction wrote, behind which the store has so many records, and ends it; the one
-    // error is a fault.
-    fn settle(&mut self, session: u8, txn: TxnId, records: u64) -> Result<(), TreeErr>
+    // Commits what a transaction wrote, behind which the store has so many records; the one error is a fault.
+    pub(crate) fn commit_own(&mut self, txn: TxnId, records: u64) -> Result<(), TreeErr>
         requires room { (owed : ℕ) × HasRoomFor self.old.engine.trees.log (commit_sizes (suc owed)) }
         requires fits { self.old.engine.kept.commits + 1 < 2 ^ 64 }
-        ensures done { OnOk result (HasSettled D.observable D.history D.sync_out D.read_out D.read_of D.faults self.old self.new session txn records) }
+        ensures done { OnOk result (HasCommittedOwn D.observable D.history D.sync_out D.read_out D.read_of D.faults self.old.engine self.new.engine self.old.written.by_txn.entries self.new.written.by_txn.entries txn records) }
         ensures failed { OnErr result (HasNotSettled D.observable D.history D.sync_out D.read_out D.read_of D.faults self.old self.new txn) }
+        ensures sessions { self.new.sessions ≡ self.old.sessions }
     {
         self.engine.trees.are_ordered();
         let taken = take_names(&mut self.written.by_txn, txn);
@@ -129,13 +138,29 @@ impl<D: Disk> Environment<D> {
                 self.engine.trees.are_ordered();
                 self.engine.kept.commits += 1;
                 self.engine.kept.totals.records = records;
-                self.sessions.end(session, txn);
                 Ok(())
             }
             Err(error) => {
                 self.engine.kept.fault = Some(Fault::Disk);
                 Err(error)
             }
+        }
+    }
+
+    // Commits what a session's transaction wrote, behind which the store has so many records, and ends it; the one
+    // error is a fault.
+    fn settle(&mut self, session: u8, txn: TxnId, records: u64) -> Result<(), TreeErr>
+        requires room { (owed : ℕ) × HasRoomFor self.old.engine.trees.log (commit_sizes (suc owed)) }
+        requires fits { self.old.engine.kept.commits + 1 < 2 ^ 64 }
+        ensures done { OnOk result (HasSettled D.observable D.history D.sync_out D.read_out D.read_of D.faults self.old self.new session txn records) }
+        ensures failed { OnErr result (HasNotSettled D.observable D.history D.sync_out D.read_out D.read_of D.faults self.old self.new txn) }
+    {
+        match self.commit_own(txn, records) {
+            Ok(()) => {
+                self.sessions.end(session, txn);
+                Ok(())
+            }
+            Err(error) => Err(error),
         }
     }
 

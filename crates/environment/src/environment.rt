@@ -1,20 +1,20 @@
 // An open environment.
-ghost use Rattle.std.specs.Prelude.{◌≡◌, ◌≤◌, ◌++◌, ◌∷◌, [], ℕ, List, Option, None, Some, is_some, true, false, IfSome, IfOk, IsNone, OnErr, if◌then◌else◌, option_map, length};
+ghost use Rattle.std.specs.Prelude.{◌≡◌, ◌≤◌, ◌++◌, ◌∷◌, [], ℕ, List, Option, None, Some, is_some, true, IfSome, IfOk, IsNone, OnErr, if◌then◌else◌, option_map, length};
 ghost use Rattle.je_order.specs.Counts.{HasRisen};
 ghost use Rattle.je_disk.specs.Moments.{History, now};
 ghost use Rattle.store_model.specs.declared.answer.Answer.{Answer as Answered};
 ghost use Rattle.store_model.specs.declared.event.Event.{Event};
-ghost use Rattle.store_model.specs.declared.event.Event.TheVariants.{End, SyncEnd, WriteOut};
-ghost use Rattle.je_answers.specs.Standing.{Standing, active_of, wait_of};
+ghost use Rattle.store_model.specs.declared.event.Event.TheVariants.{SyncEnd};
+ghost use Rattle.je_answers.specs.Standing.{Standing, active_of};
 ghost use Rattle.je_answers.specs.After.{after_event, after_events};
 ghost use Rattle.je_answers.specs.Events.{IsAnswered};
 ghost use Rattle.je_answers.specs.Journal.{durability_of as durability_in, first_ready};
 ghost use Rattle.txn_core.specs.Totals.{totals_of};
 ghost use Rattle.engine.specs.Limits.{IsWithin, reach_after};
 ghost use Rattle.engine.specs.Steps.{IsNumbered};
-ghost use Rattle.environment.specs.Calls.{HasCause, HasNoCursor, MayResume, SettlesBy, called, resumed_by};
-ghost use Rattle.environment.specs.Limits.{owing_after, written_call, written_resumed};
-ghost use Rattle.environment.specs.Whole.{BeginsSafely, BeginsSync, CanGoOn, EndsSync, GoesOn, GoesOnSafely, HasDone, HasLimit, IsAt, IsGuarded, IsGuardedInSync, disk_of, reach_of};
+ghost use Rattle.environment.specs.Calls.{HasCause, HasNoCursor, MayResume, called};
+ghost use Rattle.environment.specs.Limits.{owing_after, written_call};
+ghost use Rattle.environment.specs.Whole.{BeginsSafely, BeginsSync, CanGoOn, EndsSync, GoesOn, GoesOnSafely, HasLimit, IsAt, IsGuarded, IsGuardedInSync, disk_of, reach_of};
 
 use crate::outcome::Outcome;
 use crate::written::Written;

@@ -12,6 +12,7 @@ mod calling;
 mod catalog;
 mod closing;
 mod committing;
+mod committing_again;
 mod ending;
 mod environment;
 mod late;

@@ -1,5 +1,5 @@
 // The log and the trees get the changes of a call on records.
-ghost use Rattle.std.specs.Prelude.{◌≡◌, ◌≤◌, ◌+◌, ℕ, true, false, nat_lt, map, IfOk, IfSome};
+ghost use Rattle.std.specs.Prelude.{◌≡◌, ◌≤◌, ◌+◌, true, false, nat_lt, map, IfOk, IfSome};
 ghost use Rattle.je_order.specs.Counts.{HasRisen};
 ghost use Rattle.std.specs.List.{AllByRecursion};
 ghost use Rattle.je_answers.specs.Standing.{Standing};

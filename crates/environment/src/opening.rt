@@ -1,6 +1,6 @@
 // Opening an environment over a disk.
 ghost use Rattle.std.specs.Prelude.{◌≡◌, ◌≤◌, [], true, IfOk, IfErr};
-ghost use Rattle.je_disk.specs.Moments.{History, now};
+ghost use Rattle.je_disk.specs.Moments.{now};
 ghost use Rattle.je_answers.specs.Alone.{Alone, alone};
 ghost use Rattle.sessions.specs.AtStanding.{AreSessionsAt};
 ghost use Rattle.engine.specs.Crash.{KeepsEntry};

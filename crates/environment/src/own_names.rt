@@ -1,5 +1,5 @@
 // The map of what transactions under way wrote.
-ghost use Rattle.std.specs.Prelude.{◌≡◌, ◌<◌, ◌+◌, ◌^◌, ◌++◌, [], ℕ, true, length, OnOk, IfOk, if◌then◌else◌};
+ghost use Rattle.std.specs.Prelude.{◌≡◌, ◌<◌, ◌+◌, ◌^◌, ◌++◌, true, length, OnOk, IfOk, if◌then◌else◌};
 ghost use Rattle.je_order.specs.declared.txn_id.TxnId.{TxnId as Txn};
 ghost use Rattle.je_order.specs.Transactions.{is_same_txn};
 ghost use Rattle.environment.specs.Written.{HasRoomAt, IsRoomFor, had_at, names_at};

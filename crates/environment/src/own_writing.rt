@@ -1,5 +1,5 @@
 // What a call changes that got its locks: pushed and logged, and how it ends.
-ghost use Rattle.std.specs.Prelude.{◌≡◌, ◌≢◌, ◌≤◌, ◌<◌, ◌^◌, ℕ, [], List as Lists, true, length, map, IfOk, OnOk, OnErr};
+ghost use Rattle.std.specs.Prelude.{◌≡◌, ◌≢◌, ◌≤◌, ◌<◌, ◌^◌, ℕ, [], List as Lists, true, map, IfOk, OnOk, OnErr};
 ghost use Rattle.std.specs.List.{AllByRecursion};
 ghost use Rattle.je_order.specs.Counts.{HasRisen};
 ghost use Rattle.log_entry.specs.Body.{IsEntry};
@@ -82,7 +82,7 @@ fn push_copy(
 }
 
 // Takes back the changes of a call that is answered without them.
-fn take_back(sessions: &mut Sessions, txn: TxnId, level: Isolation, len: usize)
+pub(crate) fn take_back(sessions: &mut Sessions, txn: TxnId, level: Isolation, len: usize)
     requires { (a : Transaction) × (needs : Lists Need) × (more : Lists (ℕ × Changed)) × (st : Standing) × (a.txn ≡ txn) × (a.level ≡ level) × HasPushed sessions.old a needs txn.0 more len st }
     ensures { (a : Transaction) (needs : Lists Need) (more : Lists (ℕ × Changed)) (st : Standing) → a.txn ≡ txn → a.level ≡ level → HasPushed sessions.old a needs txn.0 more len st
         → AreSessionsAt sessions.new (with_locks a (all_got a.txn needs st.locks.at) st) }
@@ -92,7 +92,7 @@ fn take_back(sessions: &mut Sessions, txn: TxnId, level: Isolation, len: usize)
 }
 
 // Takes back all of a call that is not answered after all.
-fn undo_own(sessions: &mut Sessions, txn: TxnId, len: usize)
+pub(crate) fn undo_own(sessions: &mut Sessions, txn: TxnId, len: usize)
     requires { (a : Transaction) × (needs : Lists Need) × (more : Lists (ℕ × Changed)) × (st : Standing) × (a.txn ≡ txn) × HasPushed sessions.old a needs txn.0 more len st }
     ensures { (a : Transaction) (needs : Lists Need) (more : Lists (ℕ × Changed)) (st : Standing) → a.txn ≡ txn → HasPushed sessions.old a needs txn.0 more len st → AreSessionsAt sessions.new st }
 {
@@ -171,7 +171,7 @@ impl<D: Disk> Environment<D> {
     }
 
     // Makes changes a transaction's own, and logs them.
-    fn push_and_log(
+    pub(crate) fn push_and_log(
         &mut self,
         alloc: Global,
         txn: TxnId,

@@ -1,5 +1,5 @@
 // What a call on records comes to for a transaction, and what it needs.
-ghost use Rattle.std.specs.Prelude.{◌≡◌, ℕ, IfOk};
+ghost use Rattle.std.specs.Prelude.{◌≡◌, IfOk};
 ghost use Rattle.je_answers.specs.declared.active.Active.{Active as Transaction};
 ghost use Rattle.je_answers.specs.Standing.{Standing};
 ghost use Rattle.je_answers.specs.Views.{Target};

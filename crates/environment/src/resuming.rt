@@ -1,5 +1,5 @@
 // A waiting call goes on.
-ghost use Rattle.std.specs.Prelude.{◌≡◌, ◌≤◌, ◌++◌, ◌∷◌, [], ℕ, List, Option, None, Some, true, Ok, IfOk, OnErr};
+ghost use Rattle.std.specs.Prelude.{◌≡◌, ◌++◌, ◌∷◌, [], ℕ, List, Option, None, Some, true, Ok, IfOk, OnErr};
 ghost use Rattle.je_disk.specs.Moments.{History, now};
 ghost use Rattle.store_model.specs.declared.answer.Answer.{Answer as Answered};
 ghost use Rattle.store_model.specs.declared.event.Event.{Event};

@@ -1,5 +1,5 @@
 // The trees and their log get changes.
-ghost use Rattle.std.specs.Prelude.{◌≡◌, ◌≤◌, ℕ, true, false, IfOk, IfSome};
+ghost use Rattle.std.specs.Prelude.{◌≡◌, ◌≤◌, true, false, IfOk, IfSome};
 ghost use Rattle.std.specs.List.{AllByRecursion};
 ghost use Rattle.log_buffer.specs.Buffer.{disk_of as disk_below, has_failed};
 ghost use Rattle.log_entry.specs.Body.{IsEntry};

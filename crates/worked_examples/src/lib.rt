@@ -7,6 +7,8 @@
 #[cfg(test)]
 mod agreeing;
 #[cfg(test)]
+mod chain;
+#[cfg(test)]
 mod crashes;
 #[cfg(test)]
 mod databases;

@@ -174,35 +174,28 @@ fn two_cycles_at_once(rt: HostRuntime) -> Result<(), Fail> {
     Ok(())
 }
 
-// Sessions in a row that wait for one record; a record that a range read keeps away; transactions that are left open,
-// and one that waits as they end.
-static WAITS: [(&[u8], &str); 4] = [
+// Sessions in a row that wait for one record, each with a transaction of its own; a record that a range read keeps away; a
+// call that goes on once the transactions that are left open are ended; what is there by then, where a call may not set it,
+// and what is not there; and one that waits as its transaction is ended.
+static WAITS: [(&[u8], &str); 6] = [
     (
         b"s1 create t plain\n\
 s1 begin rr sync wait\n\
 s1 put t 61 31\n\
-s2 begin rr sync wait\n\
 s2 put t 61 32\n\
-s3 begin rr sync wait\n\
 s3 put t 61 33\n\
 s4 get t 61\n\
-s1 commit\n\
-s2 commit\n\
-s3 commit\n",
+s1 commit\n",
         "1 s1 ok\n\
 2 s1 ok txn 2\n\
 3 s1 ok\n\
-4 s2 ok txn 3\n\
-5 s2 waiting t 61 by 2\n\
-6 s3 ok txn 4\n\
-7 s3 waiting t 61 by 2\n\
-8 s4 waiting t 61 by 2\n\
-9 s1 ok\n\
-5 s2 ok\n\
-10 s2 ok\n\
-7 s3 ok\n\
-11 s3 ok\n\
-8 s4 ok 61 33\n\
+4 s2 waiting t 61 by 2\n\
+5 s3 waiting t 61 by 2\n\
+6 s4 waiting t 61 by 2\n\
+7 s1 ok\n\
+4 s2 ok\n\
+5 s3 ok\n\
+6 s4 ok 61 33\n\
 end commits 4 databases 1 records 1\n",
     ),
     (
@@ -211,37 +204,72 @@ s1 put t 61 31\n\
 s1 put t 63 33\n\
 s1 begin ser sync wait\n\
 s1 get t 62\n\
-s2 begin rr sync wait\n\
 s2 put t 62 32\n\
 s3 put t 64 34\n\
-s1 commit\n\
-s2 commit\n",
+s1 commit\n",
         "1 s1 ok\n\
 2 s1 ok\n\
 3 s1 ok\n\
 4 s1 ok txn 4\n\
 5 s1 notfound\n\
-6 s2 ok txn 5\n\
-7 s2 waiting t 63 by 4\n\
-8 s3 ok\n\
-9 s1 ok\n\
-7 s2 ok\n\
-10 s2 ok\n\
+6 s2 waiting t 63 by 4\n\
+7 s3 ok\n\
+8 s1 ok\n\
+6 s2 ok\n\
 end commits 5 databases 1 records 4\n",
     ),
     (
         b"s1 create t plain\n\
 s1 begin rr sync wait\n\
 s1 put t 61 31\n\
-s2 begin rr sync wait\n\
 s2 put t 61 32\n",
         "1 s1 ok\n\
 2 s1 ok txn 2\n\
 3 s1 ok\n\
-4 s2 ok txn 3\n\
-5 s2 waiting t 61 by 2\n\
-5 s2 ok\n\
-end commits 1 databases 1 records 0\n",
+4 s2 waiting t 61 by 2\n\
+4 s2 ok\n\
+end commits 2 databases 1 records 1\n",
+    ),
+    (
+        b"s1 create t plain\n\
+s1 begin rr sync wait\n\
+s1 put t 61 31\n\
+s2 putno t 61 32\n\
+s3 delete t 61\n\
+s4 delete t 61\n\
+s1 commit\n\
+s2 get t 61\n",
+        "1 s1 ok\n\
+2 s1 ok txn 2\n\
+3 s1 ok\n\
+4 s2 waiting t 61 by 2\n\
+5 s3 waiting t 61 by 2\n\
+6 s4 waiting t 61 by 2\n\
+7 s1 ok\n\
+4 s2 keyexist\n\
+5 s3 ok\n\
+6 s4 notfound\n\
+8 s2 notfound\n\
+end commits 3 databases 1 records 0\n",
+    ),
+    (
+        b"s1 create t plain\n\
+s1 begin rr sync wait\n\
+s1 put t 61 31\n\
+s2 putno t 61 32\n\
+s3 put t 61 33\n\
+s1 abort\n\
+s2 get t 61\n",
+        "1 s1 ok\n\
+2 s1 ok txn 2\n\
+3 s1 ok\n\
+4 s2 waiting t 61 by 2\n\
+5 s3 waiting t 61 by 2\n\
+6 s1 ok\n\
+4 s2 ok\n\
+5 s3 ok\n\
+7 s2 ok 61 33\n\
+end commits 3 databases 1 records 1\n",
     ),
     (
         b"s1 create t plain\n\
@@ -286,7 +314,7 @@ s2 remove t\n\
 s2 rename t t\n\
 s2 truncate u\n\
 s2 truncate t\n\
-s2 get t 61\n\
+s2 put t 61 32\n\
 s2 get u 61\n\
 s2 begin rr sync wait\n\
 s2 commit\n\
@@ -318,11 +346,11 @@ s3 commit\n",
 20 s3 ok txn 8\n\
 21 s3 unavailable 2\n\
 22 s1 ok\n\
-16 s2 ok 61 31\n\
+16 s2 ok\n\
 23 s3 keyexist\n\
 24 s3 notfound\n\
 25 s3 ok\n\
-end commits 2 databases 1 records 1\n",
+end commits 3 databases 1 records 1\n",
     ),
     (
         b"s1 create t plain\n\
@@ -467,7 +495,8 @@ fn zeros_behind_a_commit(rt: HostRuntime) -> Result<(), Fail> {
     Ok(())
 }
 
-// A transaction waits while another one's commit meets a fault of the disk: it is answered at once.
+// A call waits while another session's commit meets a fault of the disk: it is answered at once. Or that one has ended, and
+// its own commit meets the fault.
 const FAILING: &[u8] = b"s1 create t plain\n\
 s1 begin rr sync wait\n\
 s1 put t 61 31\n\
@@ -475,7 +504,8 @@ s2 put t 61 32\n\
 s1 commit\n\
 s1 get t 61\n";
 
-const FAILING_TEXT: &str = "1 s1 ok\n\
+static FAILING_TEXTS: [&str; 2] = [
+    "1 s1 ok\n\
 2 s1 ok txn 2\n\
 3 s1 ok\n\
 4 s2 waiting t 61 by 2\n\
@@ -483,22 +513,41 @@ const FAILING_TEXT: &str = "1 s1 ok\n\
 4 s2 invalid\n\
 6 s1 invalid\n\
 end commits 2 databases 1 records 1\n\
-fault disk\n";
+fault disk\n",
+    "1 s1 ok\n\
+2 s1 ok txn 2\n\
+3 s1 ok\n\
+4 s2 waiting t 61 by 2\n\
+5 s1 ok\n\
+4 s2 diskfault\n\
+6 s1 invalid\n\
+end commits 3 databases 1 records 1\n\
+fault disk\n",
+];
 
-// Whether the script writes that with this call of the disk failing.
-fn fails_at(alloc: Global, call: u64) -> Result<bool, AllocError> {
+// Whether the script writes that text with this call of the disk failing.
+fn fails_at(alloc: Global, call: u64, text: &str) -> Result<bool, AllocError> {
     let mut disk = MemDisk::new(alloc);
     disk.fail_calls(alloc, &[call])?;
     let ran = run_args(alloc, &RUN, disk, FAILING)?;
-    Ok(ran.status == 4 && ran.text() == FAILING_TEXT)
+    Ok(ran.status == 4 && ran.text() == text)
+}
+
+// Whether it does with one of the first of them failing.
+fn fails_so(alloc: Global, text: &str) -> Result<bool, AllocError> {
+    for call in 1..40u64 {
+        if fails_at(alloc, call, text)? {
+            return Ok(true);
+        }
+    }
+    Ok(false)
 }
 
 #[test]
 fn waits_as_the_disk_fails(rt: HostRuntime) -> Result<(), Fail> {
-    let mut found = false;
-    for call in 1..40u64 {
-        found = found || fails_at(rt.alloc(), call)?;
+    for &text in &FAILING_TEXTS {
+        let found = fails_so(rt.alloc(), text)?;
+        assert!(rt; found);
     }
-    assert!(rt; found);
     Ok(())
 }

@@ -1,4 +1,4 @@
-use Rattle.std.proofs.Common.{refl, sym, true}
+use Rattle.std.proofs.Common.{sym, true}
 use Rattle.je_answers.specs.Events.{auto_active, begun}
 use Rattle.environment.proofs.access_auto.undo_auto.Goals as goal
 

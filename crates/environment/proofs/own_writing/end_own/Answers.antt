@@ -1,4 +1,4 @@
-use Rattle.std.proofs.Common.{◌≡◌, true, sym, subst}
+use Rattle.std.proofs.Common.{sym, subst}
 use Rattle.je_answers.specs.Locking.{all_got}
 use Rattle.je_answers.specs.After.{with_locks}
 use Rattle.sessions.specs.AtStanding.{AreSessionsAt, with_own}

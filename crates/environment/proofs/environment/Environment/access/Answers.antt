@@ -1,7 +1,6 @@
-use Rattle.std.proofs.Common.{◌≡◌, ◌∙◌, ap, refl, sym, subst}
+use Rattle.std.proofs.Common.{ap, subst}
 use Rattle.environment.specs.Access.{IsLate}
 use Rattle.environment.specs.declared.late.Late.{Late}
-use Rattle.environment.specs.Whole.{disk_of}
 use Rattle.environment.proofs.AccessLaws.{any_call, calm_cause}
 use Rattle.environment.proofs.environment.Environment.access.Goals as goal
 

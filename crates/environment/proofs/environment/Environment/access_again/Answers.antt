@@ -1,5 +1,4 @@
-use Rattle.std.proofs.Common.{◌≡◌, ◌∙◌, Ok, Result, Option, None, Some, List, true, ap, refl, sym, subst}
-use Rattle.je_answers.specs.Views.{needs_in}
+use Rattle.std.proofs.Common.{◌∙◌, List, true, refl, sym, subst}
 use Rattle.store_model.specs.declared.need.Need.{Need}
 use Rattle.sessions.specs.Taking.{HasTaken}
 use Rattle.environment.proofs.OwnLaws.{accesses_come, accessed_comes, accesses_near, not_refused_there, not_taken, reach_with, ready_so, stopped_accesses, stopped_cause, stopped_so}

@@ -1,4 +1,3 @@
-use Rattle.std.proofs.Common.{◌≡◌, refl, sym}
 use Rattle.environment.proofs.AutoCalls.{auto_at, may_wait}
 use Rattle.environment.proofs.AutoEnds.{near_by}
 use Rattle.environment.proofs.environment.Environment.access_auto.Goals as goal

@@ -1,4 +1,4 @@
-use Rattle.std.proofs.Common.{◌≡◌, ◌∙◌, [], sym, ap, subst}
+use Rattle.std.proofs.Common.{◌∙◌, sym}
 use Rattle.environment.proofs.EarlyLaws.{none_there}
 use Rattle.environment.proofs.environment.Environment.answer.Goals as goal
 

@@ -1,5 +1,4 @@
-use Rattle.std.proofs.Common.{◌≡◌, ◌∙◌, sym, refl, Option, None, Some, ap, subst}
-use Rattle.store_model.specs.declared.answer.Answer.{Answer}
+use Rattle.std.proofs.Common.{◌∙◌, sym}
 use Rattle.environment.specs.Steps.{HasCalled}
 use Rattle.environment.proofs.EarlyLaws.{may_call, not_refused, refused_early, told_so}
 use Rattle.environment.proofs.environment.Environment.call_among.Goals as goal

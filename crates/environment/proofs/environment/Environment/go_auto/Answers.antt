@@ -10,7 +10,7 @@ use Rattle.engine.proofs.CalmAnswers.{IsCalm, outcome_calm}
 use Rattle.environment.specs.Auto.{IsPlannedAuto, alone_in, with_sessions}
 use Rattle.environment.specs.Steps.{HasCome}
 use Rattle.environment.proofs.AutoCalls.{auto_call}
-use Rattle.environment.proofs.AutoEnds.{answered_comes, next}
+use Rattle.environment.proofs.AutoEnds.{answered_comes}
 use Rattle.environment.proofs.BeginLaws.{next_is, with_begun}
 use Rattle.environment.proofs.EarlyLaws.{told_so}
 use Rattle.environment.proofs.environment.Environment.go_auto.Goals as goal

@@ -1,5 +1,4 @@
-use Rattle.std.proofs.Common.{◌≡◌, ◌∙◌, Option, Some, sym, subst}
-use Rattle.store_model.specs.declared.answer.Answer.{Answer}
+use Rattle.std.proofs.Common.{◌∙◌, sym, subst}
 use Rattle.in_tree.specs.Observed.{cells_of}
 use Rattle.txn_core.specs.Known.{committed}
 use Rattle.environment.proofs.EarlyLaws.{IsCalmRefusal}

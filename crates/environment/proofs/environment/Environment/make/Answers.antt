@@ -1,4 +1,4 @@
-use Rattle.std.proofs.Common.{◌≡◌, sym, subst}
+use Rattle.std.proofs.Common.{sym, subst}
 use Rattle.store_model.specs.declared.call.Call.{Call}
 use Rattle.environment.specs.Steps.{PerformsAnswer}
 use Rattle.environment.proofs.PerformedLaws.{performs_only}

@@ -1,6 +1,5 @@
 use Rattle.std.proofs.Common.{◌∙◌, sym, subst}
 use Rattle.store_model.specs.declared.call.Call.TheVariants.{List as Lists}
-use Rattle.je_answers.specs.Alone.{Alone}
 use Rattle.in_tree.specs.Observed.{cells_of}
 use Rattle.txn_core.specs.Known.{known_of}
 use Rattle.txn_core.specs.Planning.{IsPlanned}

@@ -1,5 +1,5 @@
 use Rattle.std.proofs.Common.{subst, sym}
-use Rattle.je_disk.specs.Moments.{History, now}
+use Rattle.je_disk.specs.Moments.{now}
 use Rattle.store_model.specs.declared.store.Store.{Store}
 use Rattle.engine.specs.declared.engine.Engine.{Engine}
 use Rattle.engine.specs.Whole.{IsOpened as EngineIsOpened, IsOpenedSafely as EngineIsOpenedSafely, disk_of as engine_disk}

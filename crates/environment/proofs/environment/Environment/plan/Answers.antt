@@ -1,11 +1,10 @@
-use Rattle.std.proofs.Common.{◌≡◌, ◌∙◌, ℕ, true, ap, refl, sym, subst}
+use Rattle.std.proofs.Common.{◌≡◌, ℕ, true, refl, subst}
 use Rattle.je_order.specs.declared.txn_id.TxnId.{TxnId}
 use Rattle.store_model.specs.declared.isolation.Isolation.{Isolation}
 use Rattle.store_model.specs.declared.kind.Kind.{Kind}
 use Rattle.log_replay.specs.Rows.{are_right}
 use Rattle.in_tree.specs.Observed.{cells_of}
 use Rattle.txn_views.specs.Seen.{seen_rows}
-use Rattle.txn_views.specs.Laws.{AreSeenBy}
 use Rattle.environment.proofs.PlanLaws.{seen_at, planned_by}
 use Rattle.environment.proofs.environment.Environment.plan.Goals as goal
 

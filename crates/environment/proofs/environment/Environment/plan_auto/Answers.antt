@@ -1,7 +1,5 @@
 use Rattle.environment.specs.Auto.{alone_in}
 use Rattle.environment.proofs.AutoCalls.{auto_call, has_model, may_plan}
-use Rattle.environment.proofs.AutoEnds.{near_by}
-use Rattle.environment.proofs.AutoRows.{store_is}
 use Rattle.environment.proofs.environment.Environment.plan_auto.Goals as goal
 
 pub plan-requires-clause-can : goal.plan-requires-clause-can

@@ -1,12 +1,10 @@
-use Rattle.std.proofs.Common.{◌≡◌, ◌∙◌, ℕ, true, [], refl, sym, subst, arith}
+use Rattle.std.proofs.Common.{◌≡◌, ℕ, true, refl, sym, subst, arith}
 use Rattle.je_order.specs.declared.txn_id.TxnId.{TxnId}
 use Rattle.je_answers.specs.Views.{changes_at, needs_in}
-use Rattle.je_answers.specs.Standing.{Standing}
-use Rattle.sessions.specs.AtStanding.{owing, with_own}
+use Rattle.sessions.specs.AtStanding.{with_own}
 use Rattle.sessions.specs.Taking.{HasTaken}
 use Rattle.environment.specs.Valid.{active_number}
-use Rattle.environment.specs.Writing.{MayWrite, WritesOwn}
-use Rattle.environment.proofs.EarlyLaws.{same_buffer}
+use Rattle.environment.specs.Writing.{MayWrite}
 use Rattle.environment.proofs.FinishLaws.{in_sessions}
 use Rattle.environment.proofs.OwnEnds.{entries_are, is_active_, last_db_now, last_txn_now, logged_then, may_write, none_pushed, valid_now}
 use Rattle.environment.proofs.environment.Environment.push_and_log.Goals as goal

@@ -1,17 +1,8 @@
-use Rattle.std.proofs.Common.{ℕ, List, ◌≡◌, ◌∙◌, ◌+◌, ap, refl, sym, subst}
-use Rattle.je_order.specs.declared.txn_id.TxnId.{TxnId}
-use Rattle.store_model.specs.declared.need.Need.{Need}
-use Rattle.je_answers.specs.declared.active.Active.{Active}
-use Rattle.je_answers.specs.Standing.{Standing}
+use Rattle.std.proofs.Common.{◌+◌, refl}
 use Rattle.je_answers.specs.Events.{auto_active, begun}
-use Rattle.je_answers.specs.Views.{needs_in}
-use Rattle.sessions.specs.declared.all_sessions.Sessions.{Sessions}
-use Rattle.sessions.specs.AtStanding.{AreSessionsAt, with_active}
-use Rattle.sessions.specs.Taking.{HasTaken}
-use Rattle.environment.specs.Auto.{IsPlannedAuto, alone_in, with_sessions}
+use Rattle.environment.specs.Auto.{with_sessions}
 use Rattle.environment.proofs.AutoCalls.{begun_sessions, its_active, may_take, needs_auto, number_is, ready_is, stopped_is, taken_auto}
 use Rattle.environment.proofs.AutoEnds.{calm_so, calm_stopped, errs_come, not_come, stopped_comes}
-use Rattle.environment.proofs.BeginLaws.{next_is}
 use Rattle.environment.proofs.environment.Environment.run_auto.Goals as goal
 
 pub take-requires-clause-may : goal.take-requires-clause-may

@@ -1,7 +1,6 @@
 use Rattle.std.proofs.Common.{None, Some, [], Err, ap, refl, inl, inr}
 use Rattle.je_disk.specs.Moments.{now}
 use Rattle.je_disk.specs.States.{State}
-use Rattle.store_model.specs.declared.answer.Answer.TheVariants.{Done, DiskFault}
 use Rattle.log_buffer.specs.Buffer.{disk_of}
 use Rattle.in_tree.specs.Observed.{cells_of, has_tree_of}
 use Rattle.log_file.specs.Log.{Log}

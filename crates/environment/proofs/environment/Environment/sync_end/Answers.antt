@@ -1,7 +1,7 @@
 use Rattle.std.proofs.Common.{[], None, Some, Err, length, ap, refl, inl, inr}
 use Rattle.je_disk.specs.Moments.{now}
 use Rattle.je_disk.specs.States.{State}
-use Rattle.store_model.specs.declared.answer.Answer.TheVariants.{Durable, DiskFault}
+use Rattle.store_model.specs.declared.answer.Answer.TheVariants.{Durable}
 use Rattle.log_buffer.specs.Buffer.{disk_of}
 use Rattle.in_tree.specs.Observed.{cells_of, has_tree_of}
 use Rattle.log_file.specs.Log.{Log, entries_of}

@@ -1,4 +1,4 @@
-use Rattle.std.proofs.Common.{◌≡◌, None, [], ap, inl, refl, sym, subst, ◌∙◌, Option}
+use Rattle.std.proofs.Common.{◌≡◌, None, ap, inl, refl, sym, subst, ◌∙◌, Option}
 use Rattle.je_disk.specs.Moments.{now}
 use Rattle.je_disk.specs.States.{State}
 use Rattle.store_model.specs.declared.answer.Answer.TheVariants.{Durable, Invalid}

@@ -1,5 +1,4 @@
-use Rattle.std.proofs.Common.{◌≡◌, ◌≢◌, ◌∙◌, [], List, refl, ap, sym, subst}
-use Rattle.store_model.specs.declared.record_change.RecordChange.{RecordChange}
+use Rattle.std.proofs.Common.{◌∙◌, sym, subst}
 use Rattle.environment.specs.Access.{IsTakenUp}
 use Rattle.environment.proofs.OwnEnds.{cause_by, ends}
 use Rattle.environment.proofs.environment.Environment.write_own.Goals as goal

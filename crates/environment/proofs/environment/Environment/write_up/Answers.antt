@@ -1,4 +1,4 @@
-use Rattle.std.proofs.Common.{◌≡◌, ◌∙◌, None, ℕ, Ok, Err, sym, ap, subst, length}
+use Rattle.std.proofs.Common.{None, Ok, Err, ap, length}
 use Rattle.txn_locks.specs.Taking.{state_of}
 use Rattle.je_answers.specs.Views.{changes_at, needs_in}
 use Rattle.sessions.specs.AtStanding.{owing, with_own}

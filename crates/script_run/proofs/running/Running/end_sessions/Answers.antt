@@ -15,3 +15,13 @@ loop-session-preserved g c =
       calm = λ p under calm. c.end_if_open.ensures.calm p (inv.goes_on p under calm) (inv.calm p under calm);
       given = λ lines has. c.end_if_open.ensures.given lines (inv.given lines has);
     }
+
+pub returns-2-clause-goes_on : goal.returns-2-clause-goes_on
+returns-2-clause-goes_on g c =
+    let inv = c.loop-session.invariant in
+    λ p under calm. c.end_if_open.ensures.goes_on p (inv.goes_on p under calm) (inv.calm p under calm)
+
+pub returns-2-clause-calm : goal.returns-2-clause-calm
+returns-2-clause-calm g c =
+    let inv = c.loop-session.invariant in
+    λ p under calm. c.end_if_open.ensures.calm p (inv.goes_on p under calm) (inv.calm p under calm)

@@ -1,5 +1,10 @@
 use Rattle.script_run.proofs.running.Running.execute_line.Goals as goal
 
+pub resume_ready-requires-clause-here : goal.resume_ready-requires-clause-here
+resume_ready-requires-clause-here g c =
+    let h = c.requires.here in
+    (h.0, c.give_line.ensures.goes_on h.0 h.1 h.2)
+
 pub returns-clause-goes_on : goal.returns-clause-goes_on
 returns-clause-goes_on g c = λ p under calm. c.resume_ready.ensures.goes_on p (c.give_line.ensures.goes_on p under calm)
 

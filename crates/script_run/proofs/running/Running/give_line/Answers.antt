@@ -19,6 +19,15 @@ execute-requires-clause-here g c =
     let within : c.args.session < 256 = omega arith in
     (h.0, h.1, h.2 (not_halted c.args.self.now c.args.session c.requires.flags within c.if-self-session.false))
 
+pub end_session-requires-clause-here : goal.end_session-requires-clause-here
+end_session-requires-clause-here g c =
+    let h = c.requires.here in
+    let within : c.args.session < 256 = omega arith in
+    let calm = h.2 (not_halted c.args.self.now c.args.session c.requires.flags within c.if-self-session.false) in (
+      h.0,
+      subst (λ (r : Recorded g.row.D.Denot). IsUnderWay g.D.Disk.observable g.D.Disk.history g.D.Disk.faults h.0 Nothing r) (sym c.stop.ensures.recorded) (c.execute.ensures.goes_on h.0 h.1 calm),
+    )
+
 pub returns-in-Ok-clause-goes_on : goal.returns-in-Ok-clause-goes_on
 returns-in-Ok-clause-goes_on g c = λ p under calm.
     let within : c.args.session < 256 = omega arith in

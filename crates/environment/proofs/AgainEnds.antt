@@ -1,0 +1,183 @@
+-- How a call ends that waited, is a transaction of its own, and changes something: by what became of its changes.
+use Rattle.std.proofs.Common.{◌≡◌, ◌≢◌, ◌∙◌, ℕ, suc, ◌+◌, ◌≤◌, ◌<◌, ◌^◌, Bool, true, false, List, [], Option, Ok, count_by, length, ap, sym, subst, arith}
+use Rattle.je_disk.specs.Moments.{History}
+use Rattle.je_order.specs.declared.txn_id.TxnId.{TxnId}
+use Rattle.store_model.specs.declared.answer.Answer.{Answer}
+use Rattle.store_model.specs.declared.answer.Answer.TheVariants.{Logged, LogFull, IdsEnded, DiskFault}
+use Rattle.store_model.specs.declared.call.Call.{Call}
+use Rattle.store_model.specs.declared.isolation.Isolation.{Isolation}
+use Rattle.store_model.specs.declared.need.Need.{Need}
+use Rattle.store_model.specs.declared.record_change.RecordChange.{RecordChange}
+use Rattle.db_catalog.specs.declared.found_db.FoundDb.{FoundDb}
+use Rattle.je_answers.specs.declared.active.Active.{Active}
+use Rattle.je_answers.specs.Standing.{Standing}
+use Rattle.je_answers.specs.Views.{Target, needs_in}
+use Rattle.je_answers.specs.Locking.{all_got}
+use Rattle.je_answers.specs.After.{ended, with_locks}
+use Rattle.log_buffer.specs.Buffer.{has_failed}
+use Rattle.in_tree.specs.Limits.{HasRoomFor, commit_sizes}
+use Rattle.engine.specs.declared.engine.Engine.{Engine}
+use Rattle.engine.specs.declared.kept.Kept.{Kept}
+use Rattle.sessions.specs.declared.all_sessions.Sessions.{Sessions}
+use Rattle.sessions.specs.AtStanding.{AreSessionsAt, with_own}
+use Rattle.sessions.specs.Taking.{HasTaken}
+use Rattle.environment.specs.declared.environment.Environment.{Environment}
+use Rattle.environment.specs.declared.outcome.Outcome.{Outcome}
+use Rattle.environment.specs.declared.wrote.Wrote.{Wrote}
+use Rattle.environment.specs.declared.wrote.Wrote.TheVariants.{Done, Full, NoNumbers, Failed}
+use Rattle.environment.specs.Access.{HasAccessed, IsTakenUp}
+use Rattle.environment.specs.Again.{HasWrittenAgain}
+use Rattle.environment.specs.Committing.{HasCommittedOwn, HasNotSettled, HasSettled, is_set, kept_committed}
+use Rattle.environment.specs.Ending.{HasAbandoned}
+use Rattle.environment.specs.OwnEnds.{HasPushed, HasPushedAndLogged}
+use Rattle.environment.specs.Whole.{CanGoOn}
+use Rattle.environment.specs.Writing.{WritesOwn}
+use Rattle.environment.specs.Written.{had_at}
+use Rattle.environment.proofs.CommitAgain.{accesses_done, accesses_failed, accesses_full, accesses_numbers, accesses_unsettled, had_now, room_now}
+use Rattle.environment.proofs.FinishLaws.{in_sessions}
+use Rattle.environment.proofs.OwnEnds.{has_pushed}
+
+abbrev Own : Type 0
+Own = List (ℕ × RecordChange)
+
+-- it had changed nothing
+pub len_none : (st : Standing) (a : Active) (txn : TxnId) → a.txn ≡ txn → st.own a.txn.0 ≡ [] → 0 ≡ length (st.own txn.0)
+len_none st a txn is bare = sym (subst (λ (t : TxnId). length (st.own t.0) ≡ 0) is (ap length bare))
+
+module _ {D : Type 0} where
+  -- the numbers leave room still
+  pub can_again : (e : Environment D) (kept : Kept) → e.engine.kept.commits ≡ kept.commits → e.engine.kept.last_txn ≡ kept.last_txn → kept.commits < kept.last_txn → CanGoOn e
+  can_again e kept commits last numbers = omega (arith, commits, last, numbers)
+
+  pub can_committed : (e : Environment D) (kept : Kept) (records : ℕ) → e.engine.kept ≡ kept_committed kept records → kept.commits < kept.last_txn → CanGoOn e
+  can_committed e kept records is numbers = subst (λ (k : Kept). k.commits ≤ k.last_txn) (sym is) (omega (arith, numbers))
+
+module _ {D : Type 0} (observable : Bool) (history : D → History) (sync_out read_out : D → Option ℕ) (read_of faults : D → ℕ) where
+  -- ---- what became of its changes
+
+  commits_same : (old now : Environment D) (st : Standing) (n : ℕ) (g : Target) (changes : List RecordChange) (owed : ℕ) (wrote : Wrote) →
+      WritesOwn observable history sync_out read_out read_of old now st n g changes owed (Ok wrote) → now.engine.kept.commits ≡ old.engine.kept.commits
+  commits_same old now st n g changes owed Done w = ap (λ (k : Kept). k.commits) w.4
+  commits_same old now st n g changes owed Full w = ap (λ (k : Kept). k.commits) w.1.kept
+  commits_same old now st n g changes owed NoNumbers w = ap (λ (k : Kept). k.commits) w.1.kept
+  commits_same old now st n g changes owed Failed w = ap (λ (k : Kept). k.commits) w.3
+
+  last_same : (old now : Environment D) (st : Standing) (n : ℕ) (g : Target) (changes : List RecordChange) (owed : ℕ) (wrote : Wrote) →
+      WritesOwn observable history sync_out read_out read_of old now st n g changes owed (Ok wrote) → now.engine.kept.last_txn ≡ old.engine.kept.last_txn
+  last_same old now st n g changes owed Done w = ap (λ (k : Kept). k.last_txn) w.4
+  last_same old now st n g changes owed Full w = ap (λ (k : Kept). k.last_txn) w.1.kept
+  last_same old now st n g changes owed NoNumbers w = ap (λ (k : Kept). k.last_txn) w.1.kept
+  last_same old now st n g changes owed Failed w = ap (λ (k : Kept). k.last_txn) w.3
+
+  pub written_again : (most : ℕ) (before old now : Environment D) (st : Standing) (session : ℕ) (txn : TxnId) (level : Isolation) (a : Active) (call : Call) (db : List ℕ) (found : FoundDb) (g : Target) (answer : Answer)
+      (changes : List RecordChange) (all : ℕ) (wrote : Wrote) → IsTakenUp observable history most before old st session a call db found g answer changes → changes ≢ [] → a.txn ≡ txn → a.level ≡ level → a.is_auto ≡ true →
+      st.own a.txn.0 ≡ [] → HasPushedAndLogged observable history sync_out read_out read_of old now a (needs_in st a call g) st g changes (Ok wrote) →
+      all ≡ old.engine.kept.totals.records + count_by is_set changes → old.engine.kept.commits < old.engine.kept.last_txn → old.engine.kept.commits + 1 < 2 ^ 64 →
+      HasWrittenAgain observable history sync_out read_out read_of most before now st session txn level a call g all wrote
+  written_again most before old now st session txn level a call db found g answer changes all wrote up some is level_is auto bare pushed counted numbers fits =
+      let commits = commits_same old now st a.txn.0 g changes _ wrote pushed.writes in
+      let last = last_same old now st a.txn.0 g changes _ wrote pushed.writes in
+      record {
+        old = old;
+        db = db;
+        found = found;
+        answer = answer;
+        changes = changes;
+        up = up;
+        some = some;
+        its_txn = is;
+        its_level = level_is;
+        auto = auto;
+        bare = bare;
+        pushed = pushed;
+        counted = counted ∙ ap (λ (x : Engine D). x.kept.totals.records + count_by is_set changes) up.engine;
+        numbers = omega (arith, commits, last, numbers);
+        fits = omega (arith, commits, fits);
+      }
+
+  module _ (most : ℕ) (before now : Environment D) (st : Standing) (session : ℕ) (txn : TxnId) (level : Isolation) (a : Active) (call : Call) (g : Target) (all : ℕ) where
+    abbrev WrittenBy : Wrote → Type 0
+    WrittenBy wrote = HasWrittenAgain observable history sync_out read_out read_of most before now st session txn level a call g all wrote
+
+    abbrev needs_ : List Need
+    needs_ = needs_in st a call g
+
+    abbrev Accessed : Environment D → ℕ → Outcome → Type 0
+    Accessed new line o = HasAccessed observable history sync_out read_out read_of most before new st a line call g o.answer o.victims
+
+    -- ---- what its ends ask
+
+    pub pushed_again : (wrote : Wrote) (w : WrittenBy wrote) (s : Sessions) → s ≡ now.sessions → HasPushed s a needs_ txn.0 w.pushed.more 0 st
+    pushed_again wrote w s same =
+        has_pushed observable history sync_out read_out read_of s a txn needs_ w.pushed.more 0 st w.its_txn (len_none st a txn w.its_txn w.bare)
+        (subst (λ (x : Sessions). HasTaken x true a needs_ (with_own a.txn.0 w.pushed.more st)) (sym same) w.pushed.taken)
+
+    pub may_undo : (wrote : Wrote) → WrittenBy wrote → (s : Sessions) → s ≡ now.sessions → (x : Active) × (needs : List Need) × (more : Own) × (y : Standing) × (x.txn ≡ txn) × HasPushed s x needs txn.0 more 0 y
+    may_undo wrote w s same = (a, needs_, w.pushed.more, st, w.its_txn, pushed_again wrote w s same)
+
+    pub may_take_back : (wrote : Wrote) → WrittenBy wrote → (s : Sessions) → s ≡ now.sessions →
+        (x : Active) × (needs : List Need) × (more : Own) × (y : Standing) × (x.txn ≡ txn) × (x.level ≡ level) × HasPushed s x needs txn.0 more 0 y
+    may_take_back wrote w s same = (a, needs_, w.pushed.more, st, w.its_txn, w.its_level, pushed_again wrote w s same)
+
+    pub taken_again : (wrote : Wrote) (w : WrittenBy wrote) (s : Sessions) → s ≡ now.sessions → HasTaken s true a needs_ (with_own a.txn.0 w.pushed.more st)
+    taken_again wrote w s same = subst (λ (x : Sessions). HasTaken x true a needs_ (with_own a.txn.0 w.pushed.more st)) (sym same) w.pushed.taken
+
+    pub may_answer : (wrote : Wrote) → WrittenBy wrote → (s : Sessions) → s ≡ now.sessions →
+        (x : Active) × (needs : List Need) × (y : Standing) × (x.txn ≡ txn) × (x.level ≡ level) × HasTaken s true x needs y
+    may_answer wrote w s same = (a, needs_, with_own a.txn.0 w.pushed.more st, w.its_txn, w.its_level, taken_again wrote w s same)
+
+    -- ---- its Commit
+
+    pub room_settles : WrittenBy Done → (owed : ℕ) × HasRoomFor now.engine.trees.log (commit_sizes (suc owed))
+    room_settles w = room_now observable history sync_out read_out read_of faults before w.old most session 0 st a call w.db w.found g w.answer w.changes w.up w.bare w.auto w.some now w.pushed
+
+    pub had_settles : WrittenBy Done → had_at txn now.written.by_txn.entries ≤ all
+    had_settles w = subst (λ (t : TxnId). had_at t now.written.by_txn.entries ≤ all) w.its_txn within
+      where
+        within : had_at a.txn now.written.by_txn.entries ≤ all
+        within =
+            let had = had_now observable history sync_out read_out read_of faults before w.old most session 0 st a call w.db w.found g w.answer w.changes w.up w.bare w.auto w.some now w.pushed in
+            let counted = w.counted in
+            omega (arith, had, counted)
+
+    commits_now : WrittenBy Done → now.engine.kept.commits ≡ st.commits
+    commits_now w = ap (λ (k : Kept). k.commits) w.pushed.writes.4 ∙ (ap (λ (x : Engine D). x.kept.commits) w.up.engine ∙ w.up.here.commits)
+
+    pub settled_again : (done : Environment D) (s closed : Sessions) (records line : ℕ) (o : Outcome) (w : WrittenBy Done) →
+        HasCommittedOwn observable history sync_out read_out read_of faults now.engine done.engine now.written.by_txn.entries done.written.by_txn.entries txn records →
+        AreSessionsAt s (with_locks a (all_got a.txn needs_ st.locks.at) (with_own a.txn.0 w.pushed.more st)) →
+        ((x : Standing) (b : Active) → b.session ≡ session → b.txn ≡ txn → AreSessionsAt s x → AreSessionsAt closed (ended b x)) →
+        records + had_at txn now.written.by_txn.entries ≡ all → o.answer ≡ Logged done.engine.kept.commits → o.victims ≡ [] → Accessed (in_sessions closed done) line o
+    settled_again done s closed records line o w h stands ends sum told alone =
+        accesses_done observable history sync_out read_out read_of faults before w.old most session line st a call w.db w.found g w.answer w.changes w.up w.bare w.auto w.some now (in_sessions closed done) s records o
+        w.pushed stands
+        (subst (λ (t : TxnId). HasSettled observable history sync_out read_out read_of faults (in_sessions s now) (in_sessions closed done) session t records) (sym w.its_txn) (record { committed = h; sessions = ends }))
+        (subst (λ (t : TxnId). records + had_at t now.written.by_txn.entries ≡ all) (sym w.its_txn) sum ∙ w.counted)
+        (told ∙ ap (λ (n : ℕ). Logged n) (ap (λ (k : Kept). k.commits) h.kept ∙ ap (λ (n : ℕ). n + 1) (commits_now w))) alone
+
+    pub unsettled_again : (done : Environment D) (s : Sessions) (line : ℕ) (o : Outcome) → WrittenBy Done → HasNotSettled observable history sync_out read_out read_of faults now done txn → AreSessionsAt s st →
+        o.answer ≡ DiskFault → o.victims ≡ [] → Accessed (in_sessions s done) line o
+    unsettled_again done s line o w h stands told alone =
+        accesses_unsettled observable history sync_out read_out read_of faults before w.old most session line st a call w.db w.found g w.answer w.changes w.up w.bare w.auto w.some now done s o w.pushed
+        (subst (λ (t : TxnId). HasNotSettled observable history sync_out read_out read_of faults now done t) (sym w.its_txn) h) stands told alone
+
+    pub works_again : WrittenBy Done → has_failed now.engine.trees.log ≡ false
+    works_again w = w.pushed.writes.0.works
+
+    -- ---- or there was none
+
+    pub full_again : (new : Environment D) (s : Sessions) (line : ℕ) (o : Outcome) → WrittenBy Full → AreSessionsAt s (with_locks a (all_got a.txn needs_ st.locks.at) st) → HasAbandoned (in_sessions s now) new session txn →
+        o.answer ≡ LogFull → o.victims ≡ [] → Accessed new line o
+    full_again new s line o w stands h told alone =
+        accesses_full observable history sync_out read_out read_of faults before w.old most session line st a call w.db w.found g w.answer w.changes w.up w.bare w.auto w.some now new s o w.pushed stands
+        (subst (λ (t : TxnId). HasAbandoned (in_sessions s now) new session t) (sym w.its_txn) h) told alone
+
+    pub numbers_again : (new : Environment D) (s : Sessions) (line : ℕ) (o : Outcome) → WrittenBy NoNumbers → AreSessionsAt s (with_locks a (all_got a.txn needs_ st.locks.at) st) →
+        HasAbandoned (in_sessions s now) new session txn → o.answer ≡ IdsEnded → o.victims ≡ [] → Accessed new line o
+    numbers_again new s line o w stands h told alone =
+        accesses_numbers observable history sync_out read_out read_of faults before w.old most session line st a call w.db w.found g w.answer w.changes w.up w.bare w.auto w.some now new s o w.pushed stands
+        (subst (λ (t : TxnId). HasAbandoned (in_sessions s now) new session t) (sym w.its_txn) h) told alone
+
+    pub failed_again : (s : Sessions) (line : ℕ) (o : Outcome) → WrittenBy Failed → AreSessionsAt s st → o.answer ≡ DiskFault → o.victims ≡ [] → Accessed (in_sessions s now) line o
+    failed_again s line o w stands told alone =
+        accesses_failed observable history sync_out read_out read_of faults before w.old most session line st a call w.db w.found g w.answer w.changes w.up w.bare w.auto w.some now s o w.pushed stands told alone

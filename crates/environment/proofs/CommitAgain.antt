@@ -1,0 +1,423 @@
+-- A call that waited, is a transaction of its own, and changes something.
+use Rattle.std.proofs.Common.{◌≡◌, ◌≢◌, ◌∙◌, ◌⊎◌, inl, inr, ℕ, zero, suc, ◌+◌, ◌≤◌, Bool, true, false, true≢false, cond, List, [], ◌∷◌, ◌++◌, count_by, filter, length, map, Ok, Option, None, Some, refl, ap, ap₂, sym, subst, arith}
+use Rattle.std.proofs.lemmas.Bool.{eq-eqb}
+use Rattle.std.proofs.lemmas.List.{append-nil, length-map}
+use Rattle.std.proofs.lemmas.List.Sums.{length-filter}
+use Rattle.je_disk.specs.Moments.{History}
+use Rattle.store_model.specs.declared.answer.Answer.{Answer}
+use Rattle.store_model.specs.declared.answer.Answer.TheVariants.{Logged, LogFull, IdsEnded, DiskFault}
+use Rattle.store_model.specs.declared.call.Call.{Call}
+use Rattle.store_model.specs.declared.change.Change.{Change}
+use Rattle.store_model.specs.declared.record_change.RecordChange.{RecordChange}
+use Rattle.store_model.specs.declared.record_change.RecordChange.TheVariants.{Set, Unset}
+use Rattle.store_model.specs.declared.victim.Victim.{Victim}
+use Rattle.store_model.specs.Records.{Evaluated}
+use Rattle.je_answers.specs.declared.active.Active.{Active}
+use Rattle.je_answers.specs.Standing.{Standing, active_of, database_at}
+use Rattle.je_answers.specs.Views.{Target, changes_at, changes_named, changes_on, needs_in, outcome_of}
+use Rattle.je_answers.specs.Events.{IsLogged, log_limit}
+use Rattle.je_answers.specs.After.{answered, closed, ended, fate_of, faulted, with_locks, with_outcome}
+use Rattle.je_answers.specs.After.{committed as committed_to}
+use Rattle.je_answers.specs.After.Fate.{Succeeds}
+use Rattle.je_answers.specs.Journal.{changes_closed, is_disk_fault}
+use Rattle.log_entry.specs.declared.entry.Entry.{Entry}
+use Rattle.log_file.specs.Log.{Log}
+use Rattle.log_buffer.specs.declared.buffer.LogBuffer.{LogBuffer}
+use Rattle.log_buffer.specs.Buffer.{IsUnchanged, end_of, file_max_of}
+use Rattle.log_buffer.specs.declared.log_pos.LogPos.{LogPos}
+use Rattle.log_buffer.specs.Flip.{end_after_all}
+use Rattle.log_entry.specs.Encoding.{size_of}
+use Rattle.log_buffer.specs.Growth.{Grew, log_with_all, longer}
+use Rattle.log_buffer.proofs.GrowthLaws.{grew_then, grew_unchanged, tried_then, with_all-append}
+use Rattle.crash_recovery.specs.Recovery.{RecoversLog}
+use Rattle.standing_laws.specs.Right.{AreNumbered}
+use Rattle.txn_log.proofs.AtStandingLaws.{named_are_on}
+use Rattle.engine.proofs.CalmAnswers.{IsCalm, faultless}
+use Rattle.engine.specs.Limits.{IsWithin, reach_after}
+use Rattle.environment.specs.declared.environment.Environment.{Environment}
+use Rattle.environment.specs.declared.wrote.Wrote.{Wrote}
+use Rattle.environment.specs.declared.wrote.Wrote.TheVariants.{Done, Full, NoNumbers, Failed}
+use Rattle.environment.specs.Committing.{HasNotSettled, HasSettled, is_set}
+use Rattle.environment.specs.Ending.{HasAbandoned}
+use Rattle.environment.specs.Limits.{owing_with}
+use Rattle.environment.specs.OwnEnds.{AreEndedBy, HasPushedAndLogged, WritesAs}
+use Rattle.environment.specs.Steps.{HasFailedWith, HasGrown, HasStepped, IsLogStep, RecoversWith, StandsAt}
+use Rattle.environment.specs.Whole.{HasLimit, reach_of}
+use Rattle.environment.specs.Written.{had_at}
+use Rattle.environment.proofs.CommitLaws.{failed_then, grown_then, had_within, is_under_way, owing_one, settled, settled_near}
+use Rattle.environment.proofs.FinishLaws.{Evaluates, Takes, calm_outcome, in_sessions}
+use Rattle.environment.specs.Valid.{owed_by}
+use Rattle.environment.specs.Writing.{WritesOwn}
+use Rattle.sessions.specs.AtStanding.{AreSessionsAt, owing, with_own}
+use Rattle.sessions.specs.declared.all_sessions.Sessions.{Sessions}
+use Rattle.in_tree.specs.Limits.{HasRoomFor, commit_sizes}
+use Rattle.in_tree.specs.Observed.{waits_of}
+use Rattle.engine.specs.declared.kept.Kept.{Kept}
+use Rattle.store_model.specs.Store.{change_in}
+use Rattle.environment.proofs.EndingLaws.{abandoned, abandoned_near, found_session}
+use Rattle.environment.proofs.EarlyLaws.{told_so}
+use Rattle.environment.proofs.OwnEnds.{owing_pushed, well_outcome, writes_move, writes_up}
+use Rattle.environment.specs.Access.{AccessesTo, HasAccessed, IsTakenUp}
+use Rattle.environment.specs.declared.outcome.Outcome.{Outcome}
+use Rattle.db_catalog.specs.declared.found_db.FoundDb.{FoundDb}
+use Rattle.je_answers.specs.Locking.{all_got}
+
+abbrev Own : Type 0
+Own = List (ℕ × RecordChange)
+
+-- ---- how many of them set a name
+
+filter_at : (db : ℕ) (cs : List RecordChange) → length (filter (λ (c : ℕ × RecordChange). is_set c.1) (changes_at db cs)) ≡ length (filter is_set cs)
+filter_at db [] = refl
+filter_at db (Set at value ∷ cs) = let rest = filter_at db cs in omega (arith, rest)
+filter_at db (Unset at ∷ cs) = filter_at db cs
+
+count_at : (db : ℕ) (cs : List RecordChange) → count_by (λ (c : ℕ × RecordChange). is_set c.1) (changes_at db cs) ≡ count_by is_set cs
+count_at db cs = sym (length-filter (λ (c : ℕ × RecordChange). is_set c.1) (changes_at db cs)) ∙ (filter_at db cs ∙ length-filter is_set cs)
+
+-- ---- answers
+
+relimit : (o : Option Answer) (x due answer : Answer) → IsLogged o x answer → ((answer ≡ x) → (answer ≡ due) ⊎ (answer ≡ DiskFault)) → IsLogged o due answer
+relimit None x due answer (inl is) f = f is
+relimit None x due answer (inr is) f = inr is
+relimit (Some l) x due answer is f = is
+
+logged_well : (limit : Option Answer) (x due : Answer) → fate_of x ≡ Succeeds → IsLogged (log_limit limit) x x → IsLogged (log_limit limit) due due
+logged_well None x due well is = inl refl
+logged_well (Some LogFull) x due well is = absurd (refused (ap fate_of (sym is) ∙ well))
+  where
+    refused : fate_of LogFull ≡ Succeeds → ⊥
+    refused h = absurd cc
+logged_well (Some IdsEnded) x due well is = absurd (refused (ap fate_of (sym is) ∙ well))
+  where
+    refused : fate_of IdsEnded ≡ Succeeds → ⊥
+    refused h = absurd cc
+logged_well (Some other) x due well is = inl refl
+
+module _ {D : Type 0} where
+  far : (a b c : Environment D) (changes : List Change) → IsWithin (reach_of b) (reach_after (reach_of a) changes) → IsWithin (reach_of c) (reach_of b) → IsWithin (reach_of c) (reach_after (reach_of a) changes)
+  far a b c changes first second =
+      let f1 = first.file in let n1 = first.node in let f2 = second.file in let n2 = second.node in
+      record { file = omega (arith, f1, f2); node = omega (arith, n1, n2) }
+
+module _ {D : Type 0} (observable : Bool) (history : D → History) (sync_out read_out : D → Option ℕ) (read_of faults : D → ℕ) where
+  -- ---- a log that grows twice
+
+  longer_then : (x y : LogBuffer D) (a b : List Entry) (log : Log) → file_max_of y ≡ file_max_of x → end_of y ≡ end_after_all (file_max_of x) (end_of x) (map size_of a) → longer y b (longer x a log) ≡ longer x (a ++ b) log
+  longer_then x y a b log max end = ap₂ (λ (m : ℕ) (p : LogPos). log_with_all m p b (longer x a log)) max end ∙ sym (with_all-append (file_max_of x) (end_of x) a b log)
+
+  recovers_then : (x y : LogBuffer D) (a b : List Entry) (more : List (List Change)) → Grew observable history sync_out read_out read_of x y a → RecoversWith observable history sync_out read_out read_of x a [] →
+      RecoversWith observable history sync_out read_out read_of y b more → RecoversWith observable history sync_out read_out read_of x (a ++ b) more
+  recovers_then x y a b more grew first second observed log has f o base ts rec =
+      subst (λ (l : Log). RecoversLog f o base (ts ++ more) l) (longer_then x y a b log grew.max grew.end)
+      (subst (λ (l : List (List Change)). RecoversLog f o base (l ++ more) (longer y b (longer x a log))) (append-nil ts)
+      (second observed (longer x a log) (grew.log log has) f o base (ts ++ []) (first observed log has f o base ts rec)))
+
+  none_more : (x y : LogBuffer D) → IsUnchanged x y → HasGrown observable history sync_out read_out read_of x y []
+  none_more x y un = record {
+    entries = [];
+    grew = grew_unchanged observable history sync_out read_out read_of x y un;
+    recovers = λ observed log has f o base ts rec. subst (λ (l : List (List Change)). RecoversLog f o base l log) (sym (append-nil ts)) rec;
+  }
+
+  is_grown : (x y : LogBuffer D) (b : Bool) → b ≡ false → IsLogStep observable history sync_out read_out read_of b x y [] → HasGrown observable history sync_out read_out read_of x y []
+  is_grown x y true is step = absurd (true≢false is)
+  is_grown x y false is (inl h) = none_more x y h.0
+  is_grown x y false is (inr h) = h
+
+  both_grown : (x y z : LogBuffer D) (more : List (List Change)) → HasGrown observable history sync_out read_out read_of x y [] → HasGrown observable history sync_out read_out read_of y z more →
+      HasGrown observable history sync_out read_out read_of x z more
+  both_grown x y z more first second = record {
+    entries = first.entries ++ second.entries;
+    grew = grew_then observable history sync_out read_out read_of x y z first.entries second.entries first.grew second.grew;
+    recovers = recovers_then x y first.entries second.entries more first.grew first.recovers second.recovers;
+  }
+
+  -- a log that failed was to commit more, or not
+  more_failed : (x y : LogBuffer D) (more : List (List Change)) → HasFailedWith observable history sync_out read_out read_of x y [] → HasFailedWith observable history sync_out read_out read_of x y more
+  more_failed x y more h = record { front = h.front; tried = h.tried; recovers = by h.recovers }
+    where
+      by : RecoversWith observable history sync_out read_out read_of x h.front [] ⊎ RecoversWith observable history sync_out read_out read_of x h.front [] →
+          RecoversWith observable history sync_out read_out read_of x h.front [] ⊎ RecoversWith observable history sync_out read_out read_of x h.front more
+      by (inl r) = inl r
+      by (inr r) = inl r
+
+  both_failed : (x y z : LogBuffer D) (more : List (List Change)) → HasGrown observable history sync_out read_out read_of x y [] → HasFailedWith observable history sync_out read_out read_of y z more →
+      HasFailedWith observable history sync_out read_out read_of x z more
+  both_failed x y z more first h = record {
+    front = first.entries ++ h.front;
+    tried = tried_then observable history sync_out read_out read_of x y z first.entries h.front first.grew h.tried;
+    recovers = by h.recovers;
+  }
+    where
+      by : RecoversWith observable history sync_out read_out read_of y h.front [] ⊎ RecoversWith observable history sync_out read_out read_of y h.front more →
+          RecoversWith observable history sync_out read_out read_of x (first.entries ++ h.front) [] ⊎ RecoversWith observable history sync_out read_out read_of x (first.entries ++ h.front) more
+      by (inl r) = inl (recovers_then x y first.entries h.front [] first.grew first.recovers r)
+      by (inr r) = inr (recovers_then x y first.entries h.front more first.grew first.recovers r)
+
+  module _ (most : ℕ) (before old new : Environment D) (st : Standing) (a : Active) (call : Call) (g : Target) (ev : Evaluated) (change : RecordChange) (more : List RecordChange) (none : st.fault ≡ None)
+      (bare : st.own a.txn.0 ≡ []) (its : active_of a.session st.actives ≡ Some a) (there : database_at g.db st ≡ Some g.database) (auto : a.is_auto ≡ true) (calm : IsCalm ev.answer) (well : fate_of ev.answer ≡ Succeeds) where
+    abbrev ev_ : Evaluated
+    ev_ = record { answer = ev.answer; answered = ev.answered; changes = change ∷ more; place = ev.place }
+
+    abbrev all_ : List Change
+    all_ = changes_on g (change ∷ more)
+
+    abbrev then_ : Standing
+    then_ = with_outcome a call g ev_ (answered a call g st)
+
+    abbrev Autos : (Bool → Standing) → Answer → Bool → Type 0
+    Autos after answer is =
+        HasStepped observable history sync_out read_out read_of most before new (owing_with (Some a) st) all_ (changes_closed is all_)
+        (λ limit. IsLogged (log_limit limit) (cond is (Logged (st.commits + 1)) ev.answer) answer × (◌≡◌ {A = List Victim} [] [])) (after is) answer
+
+    abbrev AutosOld : (Bool → Standing) → Answer → Bool → Type 0
+    AutosOld after answer is =
+        HasStepped observable history sync_out read_out read_of most before old (owing_with (Some a) st) all_ (changes_closed is all_)
+        (λ limit. IsLogged (log_limit limit) (cond is (Logged (st.commits + 1)) ev.answer) answer × (◌≡◌ {A = List Victim} [] [])) (after is) answer
+
+    abbrev Ends : (Bool → Standing) → Answer → Type 0
+    Ends after answer = Autos after answer a.is_auto
+
+    abbrev Up : Wrote → Type 0
+    Up wrote = WritesAs observable history sync_out read_out read_of ev_ most before old st a call g wrote
+
+    own_then : then_.own a.txn.0 ≡ changes_at g.db (change ∷ more)
+    own_then = ap (λ (b : Bool). cond b (st.own a.txn.0 ++ changes_at g.db (change ∷ more)) (st.own a.txn.0)) (eq-eqb a.txn.0 a.txn.0 refl) ∙ ap (λ (l : Own). l ++ changes_at g.db (change ∷ more)) bare
+
+    some_then : then_.own a.txn.0 ≢ []
+    some_then h = filled (sym own_then ∙ h)
+      where
+        filled : changes_at g.db (change ∷ more) ≡ [] → ⊥
+        filled e = absurd cc
+
+    named : changes_named then_ (then_.own a.txn.0) ≡ all_
+    named = ap (changes_named then_) own_then ∙ named_are_on then_ g (change ∷ more) there
+
+    pub ends_done : (records : ℕ) → Up Done → HasSettled observable history sync_out read_out read_of faults old new a.session a.txn records →
+        records + had_at a.txn old.written.by_txn.entries ≡ old.engine.kept.totals.records + count_by (λ (c : ℕ × RecordChange). is_set c.1) (then_.own a.txn.0) →
+        Ends (λ b. closed b a all_ then_) (Logged (st.commits + 1))
+    ends_done records w h sum = subst (Autos (λ b. closed b a all_ then_) (Logged (st.commits + 1))) (sym auto) (record {
+      limit = w.limit;
+      has_limit = w.has_limit;
+      answers = (logged_well w.limit ev.answer (Logged (st.commits + 1)) well w.answers, refl);
+      here = subst (λ (l : List Change). StandsAt most observable history new (ended a (committed_to l then_))) named
+          (settled observable history sync_out read_out read_of faults old new then_ a records most h its some_then sum none w.here);
+      numbered = refl;
+      fault = none;
+      logged = inr (both_grown before.engine.trees.log old.engine.trees.log new.engine.trees.log (all_ ∷ []) (is_grown before.engine.trees.log old.engine.trees.log (is_disk_fault ev.answer) (faultless ev.answer calm) w.logged)
+          (subst (λ (l : List Change). HasGrown observable history sync_out read_out read_of old.engine.trees.log new.engine.trees.log (l ∷ [])) named
+          (grown_then observable history sync_out read_out read_of faults old new then_ a records (w.here.valid none) h its)));
+      near = far before old new all_ w.near (settled_near observable history sync_out read_out read_of faults old new then_ a records h its some_then w.here.sessions_at (w.here.valid none).works);
+    })
+
+    pub ends_full : Up Full → HasAbandoned old new a.session a.txn → AreNumbered st.last_txn st.actives → Ends (λ b. closed b a [] (answered a call g st)) LogFull
+    ends_full w h numbers = subst (Autos (λ b. closed b a [] (answered a call g st)) LogFull) (sym auto) (record {
+      limit = w.limit;
+      has_limit = w.has_limit;
+      answers = (relimit (log_limit w.limit) ev.answer (Logged (st.commits + 1)) LogFull w.answers (λ is. absurd (refused (ap fate_of is ∙ well))), refl);
+      here = abandoned most observable history old new (answered a call g st) a h its (λ calm. numbers) w.here;
+      numbered = tt;
+      fault = none;
+      logged = inr (both_grown before.engine.trees.log old.engine.trees.log new.engine.trees.log [] (is_grown before.engine.trees.log old.engine.trees.log false refl w.logged) (none_more old.engine.trees.log new.engine.trees.log h.log));
+      near = far before old new all_ w.near (abandoned_near most observable history old new (answered a call g st) a h w.here.sessions_at);
+    })
+      where
+        refused : fate_of LogFull ≡ Succeeds → ⊥
+        refused h = absurd cc
+
+    pub ends_numbers : Up NoNumbers → HasAbandoned old new a.session a.txn → AreNumbered st.last_txn st.actives → Ends (λ b. closed b a [] (answered a call g st)) IdsEnded
+    ends_numbers w h numbers = subst (Autos (λ b. closed b a [] (answered a call g st)) IdsEnded) (sym auto) (record {
+      limit = w.limit;
+      has_limit = w.has_limit;
+      answers = (relimit (log_limit w.limit) ev.answer (Logged (st.commits + 1)) IdsEnded w.answers (λ is. absurd (refused (ap fate_of is ∙ well))), refl);
+      here = abandoned most observable history old new (answered a call g st) a h its (λ calm. numbers) w.here;
+      numbered = tt;
+      fault = none;
+      logged = inr (both_grown before.engine.trees.log old.engine.trees.log new.engine.trees.log [] (is_grown before.engine.trees.log old.engine.trees.log false refl w.logged) (none_more old.engine.trees.log new.engine.trees.log h.log));
+      near = far before old new all_ w.near (abandoned_near most observable history old new (answered a call g st) a h w.here.sessions_at);
+    })
+      where
+        refused : fate_of IdsEnded ≡ Succeeds → ⊥
+        refused h = absurd cc
+
+    pub ends_failed : Up Failed → AutosOld (λ b. faulted st) DiskFault a.is_auto
+    ends_failed w = subst (AutosOld (λ b. faulted st) DiskFault) (sym auto) (record {
+      limit = w.limit;
+      has_limit = w.has_limit;
+      answers = (relimit (log_limit w.limit) ev.answer (Logged (st.commits + 1)) DiskFault w.answers (λ is. inr refl), refl);
+      here = w.here;
+      numbered = tt;
+      fault = refl;
+      logged = more_failed before.engine.trees.log old.engine.trees.log (all_ ∷ []) w.logged;
+      near = w.near;
+    })
+
+    -- its changes are logged, and the disk fails while its Commit is
+    abbrev own_ : Standing
+    own_ = with_own a.txn.0 (changes_at g.db (change ∷ more)) st
+
+    own_own : own_.own a.txn.0 ≡ changes_at g.db (change ∷ more)
+    own_own = own_then
+
+    named_own : changes_named own_ (own_.own a.txn.0) ≡ all_
+    named_own = ap (changes_named own_) own_own ∙ named_are_on own_ g (change ∷ more) there
+
+    abbrev Logs : Type 0
+    Logs = WritesOwn observable history sync_out read_out read_of before old st a.txn.0 g (change ∷ more) (owing own_) (Ok Done)
+
+    count_ : length all_ ≡ length (change ∷ more)
+    count_ = length-map (change ∷ more) (λ c. change_in g.database.name c)
+
+    pub ends_unsettled : (s : Sessions) → StandsAt most observable history before st → Logs → HasNotSettled observable history sync_out read_out read_of faults old new a.txn → AreSessionsAt s st → owing own_ ≡ owing_with (Some a) st →
+        HasStepped observable history sync_out read_out read_of most before (in_sessions s new) (owing_with (Some a) st) all_ (changes_closed a.is_auto all_)
+        (λ limit. IsLogged (log_limit limit) (cond a.is_auto (Logged (st.commits + 1)) ev.answer) DiskFault × (◌≡◌ {A = List Victim} [] [])) (faulted st) DiskFault
+    ends_unsettled s here w h stands owes =
+        subst (λ (is : Bool).
+        HasStepped observable history sync_out read_out read_of most before (in_sessions s new) (owing_with (Some a) st) all_ (changes_closed is all_)
+        (λ limit. IsLogged (log_limit limit) (cond is (Logged (st.commits + 1)) ev.answer) DiskFault × (◌≡◌ {A = List Victim} [] [])) (faulted st) DiskFault) (sym auto) (record {
+          limit = None;
+          has_limit = subst (λ (owed : ℕ). HasLimit before owed all_ None) owes w.2;
+          answers = (inr refl, refl);
+          here = record {
+            file_max = h.tried.tried.max ∙ w.3 ∙ here.file_max;
+            fault = ap (λ (k : Kept). k.fault) h.kept;
+            last_txn = ap (λ (k : Kept). k.last_txn) h.kept ∙ ap (λ (k : Kept). k.last_txn) w.4 ∙ here.last_txn;
+            last_db = ap (λ (k : Kept). k.last_db) h.kept ∙ ap (λ (k : Kept). k.last_db) w.4 ∙ here.last_db;
+            commits = ap (λ (k : Kept). k.commits) h.kept ∙ ap (λ (k : Kept). k.commits) w.4 ∙ here.commits;
+            totals = ap (λ (k : Kept). k.totals) h.kept ∙ ap (λ (k : Kept). k.totals) w.4 ∙ here.totals;
+            sessions_at = record { actives = stands.actives; own = stands.own; places = stands.places; waiting = stands.waiting; locks = tt };
+            apart = here.apart;
+            valid = λ calm. absurd cc;
+          };
+          numbered = tt;
+          fault = refl;
+          logged = both_failed before.engine.trees.log old.engine.trees.log new.engine.trees.log (all_ ∷ []) w.1
+              (subst (λ (l : List Change). HasFailedWith observable history sync_out read_out read_of old.engine.trees.log new.engine.trees.log (l ∷ [])) named_own
+              (failed_then observable history sync_out read_out read_of faults old new own_ a 0 w.0 h its));
+          near = record {
+            file = let k = ap (λ (b : Bool). cond b 0 ((end_of new.engine.trees.log).file + waits_of new.engine.trees + owed_by s)) h.tried.tried.failed in omega (arith, k);
+            node = let k = ap (λ (k : Kept). k.last_node) h.kept in let l = ap (λ (k : Kept). k.last_node) w.4 in let n = count_ in omega (arith, k, l, n);
+          };
+        })
+
+    pub room_again : Logs → (owed : ℕ) × HasRoomFor old.engine.trees.log (commit_sizes (suc owed))
+    room_again w = by (owing own_) refl
+      where
+        some : own_.own a.txn.0 ≢ []
+        some h = some_then h
+
+        one : owing (ended a own_) + 1 ≤ owing own_
+        one = owing_one own_ a its some
+
+        by : (n : ℕ) → owing own_ ≡ n → (owed : ℕ) × HasRoomFor old.engine.trees.log (commit_sizes (suc owed))
+        by zero e = absurd (omega (arith, one, e))
+        by (suc n) e = (n, w.0.room n e)
+
+    -- so many of its names had a record at most
+    pub had_again : Logs → StandsAt most observable history before st → had_at a.txn old.written.by_txn.entries ≤ before.engine.kept.totals.records + count_by is_set (change ∷ more)
+    had_again w here =
+        let k = had_within observable history sync_out read_out read_of faults old new own_ a 0 w.0 (ap (λ (k : Kept). k.totals) w.4 ∙ here.totals) in
+        let l = ap (λ (k : Kept). k.totals.records) w.4 in
+        let n = ap (λ (l : Own). count_by (λ (c : ℕ × RecordChange). is_set c.1) l) own_own ∙ count_at g.db (change ∷ more) in
+        omega (arith, k, l, n)
+
+    pub sum_again : (records : ℕ) → Logs → records + had_at a.txn old.written.by_txn.entries ≡ before.engine.kept.totals.records + count_by is_set (change ∷ more) →
+        records + had_at a.txn old.written.by_txn.entries ≡ old.engine.kept.totals.records + count_by (λ (c : ℕ × RecordChange). is_set c.1) (then_.own a.txn.0)
+    sum_again records w sum =
+        let l = ap (λ (k : Kept). k.totals.records) w.4 in
+        let n = ap (λ (l : Own). count_by (λ (c : ℕ × RecordChange). is_set c.1) l) own_then ∙ count_at g.db (change ∷ more) in
+        omega (arith, sum, l, n)
+
+  -- ---- from where the call got its locks
+
+  module _ (before e : Environment D) (most session line : ℕ) (st : Standing) (a : Active) (call : Call) (db : List ℕ) (f : FoundDb) (g : Target) (answer : Answer) (changes : List RecordChange)
+      (up : IsTakenUp observable history most before e st session a call db f g answer changes) (bare : st.own a.txn.0 ≡ []) (auto : a.is_auto ≡ true) (filled : changes ≢ []) where
+    abbrev outcome_ : Evaluated
+    outcome_ = outcome_of st a call g
+
+    abbrev as_ : List RecordChange → Evaluated
+    as_ l = record { answer = outcome_.answer; answered = outcome_.answered; changes = l; place = outcome_.place }
+
+    calm_ : IsCalm outcome_.answer
+    calm_ = calm_outcome st a call db g up.records up.on.at
+
+    well_ : fate_of outcome_.answer ≡ Succeeds
+    well_ = well_outcome st a call db g up.records up.on.at
+
+    its_ : active_of a.session st.actives ≡ Some a
+    its_ = ap (λ (n : ℕ). active_of n st.actives) (found_session session a st.actives up.its) ∙ up.its
+
+    -- by the first of them
+    by_first : (P : List RecordChange → Type 0) → ((c : RecordChange) (cs : List RecordChange) → changes ≡ c ∷ cs → P (c ∷ cs)) → P changes
+    by_first P each = by changes refl
+      where
+        by : (l : List RecordChange) → changes ≡ l → P changes
+        by [] is = absurd (filled is)
+        by (c ∷ cs) is = subst P (sym is) (each c cs is)
+
+    -- what is told of it
+    wraps : (new : Environment D) (told : Answer) (o : Outcome) → o.answer ≡ told → o.victims ≡ [] →
+        ((c : RecordChange) (cs : List RecordChange) → changes ≡ c ∷ cs → Evaluates observable history sync_out read_out read_of most before new st a call g told a.is_auto (as_ (c ∷ cs))) →
+        AccessesTo observable history sync_out read_out read_of most before new st a line call g (Ok o)
+    wraps new told o is alone each =
+        told_so (HasAccessed observable history sync_out read_out read_of most before new st a line call g) o told is alone
+        (subst (Takes observable history sync_out read_out read_of most before new st a line call g told) (sym up.taken.free)
+        (subst (λ (l : List RecordChange). Evaluates observable history sync_out read_out read_of most before new st a call g told a.is_auto (as_ l)) up.changes_are
+        (by_first (λ l. Evaluates observable history sync_out read_out read_of most before new st a call g told a.is_auto (as_ l)) each)))
+
+    abbrev Came : Environment D → Wrote → Type 0
+    Came mid wrote = HasPushedAndLogged observable history sync_out read_out read_of e mid a (needs_in st a call g) st g changes (Ok wrote)
+
+    up_as : (mid : Environment D) (s : Sessions) (wrote : Wrote) (p : Came mid wrote) → AreEndedBy wrote s a (needs_in st a call g) p.more st → (c : RecordChange) (cs : List RecordChange) → changes ≡ c ∷ cs →
+        WritesAs observable history sync_out read_out read_of (as_ (c ∷ cs)) most before (in_sessions s mid) st a call g wrote
+    up_as mid s wrote p stands c cs is =
+        subst (λ (l : List RecordChange). WritesAs observable history sync_out read_out read_of (as_ l) most before (in_sessions s mid) st a call g wrote) (sym up.changes_are ∙ is)
+        (writes_up observable history sync_out read_out read_of before e most session st a call db f g answer changes up mid s wrote filled p stands)
+
+    logs_as : (mid : Environment D) → Came mid Done → (c : RecordChange) (cs : List RecordChange) → changes ≡ c ∷ cs →
+        WritesOwn observable history sync_out read_out read_of before mid st a.txn.0 g (c ∷ cs) (owing (with_own a.txn.0 (changes_at g.db (c ∷ cs)) st)) (Ok Done)
+    logs_as mid p c cs is =
+        subst (λ (l : List RecordChange). WritesOwn observable history sync_out read_out read_of before mid st a.txn.0 g l (owing (with_own a.txn.0 (changes_at g.db l) st)) (Ok Done)) is
+        (writes_move observable history sync_out read_out read_of e before mid st a.txn.0 g changes (owing (with_own a.txn.0 (changes_at g.db changes) st)) (Ok Done) up.engine p.writes)
+
+    pub room_now : (mid : Environment D) → Came mid Done → (owed : ℕ) × HasRoomFor mid.engine.trees.log (commit_sizes (suc owed))
+    room_now mid p = by_first (λ l. (owed : ℕ) × HasRoomFor mid.engine.trees.log (commit_sizes (suc owed)))
+        (λ c cs is. room_again most before mid mid st a call g outcome_ c cs up.valid bare its_ up.on.there auto calm_ well_ (logs_as mid p c cs is))
+
+    pub had_now : (mid : Environment D) → Came mid Done → had_at a.txn mid.written.by_txn.entries ≤ before.engine.kept.totals.records + count_by is_set changes
+    had_now mid p = by_first (λ l. had_at a.txn mid.written.by_txn.entries ≤ before.engine.kept.totals.records + count_by is_set l)
+        (λ c cs is. had_again most before mid mid st a call g outcome_ c cs up.valid bare its_ up.on.there auto calm_ well_ (logs_as mid p c cs is) up.here)
+
+    pub accesses_done : (mid new : Environment D) (s : Sessions) (records : ℕ) (o : Outcome) (p : Came mid Done) → AreSessionsAt s (with_locks a (all_got a.txn (needs_in st a call g) st.locks.at) (with_own a.txn.0 p.more st)) →
+        HasSettled observable history sync_out read_out read_of faults (in_sessions s mid) new session a.txn records →
+        records + had_at a.txn mid.written.by_txn.entries ≡ before.engine.kept.totals.records + count_by is_set changes → o.answer ≡ Logged (st.commits + 1) → o.victims ≡ [] →
+        AccessesTo observable history sync_out read_out read_of most before new st a line call g (Ok o)
+    accesses_done mid new s records o p stands h sum told alone = wraps new (Logged (st.commits + 1)) o told alone (λ c cs is.
+        ends_done most before (in_sessions s mid) new st a call g outcome_ c cs up.valid bare its_ up.on.there auto calm_ well_ records (up_as mid s Done p stands c cs is)
+        (subst (λ (n : ℕ). HasSettled observable history sync_out read_out read_of faults (in_sessions s mid) new n a.txn records) (sym (found_session session a st.actives up.its)) h)
+        (sum_again most before mid mid st a call g outcome_ c cs up.valid bare its_ up.on.there auto calm_ well_ records (logs_as mid p c cs is)
+        (sum ∙ ap (λ (l : List RecordChange). before.engine.kept.totals.records + count_by is_set l) is)))
+
+    pub accesses_unsettled : (mid new : Environment D) (s : Sessions) (o : Outcome) → Came mid Done → HasNotSettled observable history sync_out read_out read_of faults mid new a.txn → AreSessionsAt s st → o.answer ≡ DiskFault →
+        o.victims ≡ [] → AccessesTo observable history sync_out read_out read_of most before (in_sessions s new) st a line call g (Ok o)
+    accesses_unsettled mid new s o p h stands told alone = wraps (in_sessions s new) DiskFault o told alone (λ c cs is.
+        ends_unsettled most before mid new st a call g outcome_ c cs up.valid bare its_ up.on.there auto calm_ well_ s up.here (logs_as mid p c cs is) h stands
+        (owing_pushed st a g.db (c ∷ cs) (λ e. absurd cc) up.sound.numbers (is_under_way session a st.actives up.its)))
+
+    pub accesses_full : (mid new : Environment D) (s : Sessions) (o : Outcome) → Came mid Full → AreSessionsAt s (with_locks a (all_got a.txn (needs_in st a call g) st.locks.at) st) → HasAbandoned (in_sessions s mid) new session a.txn →
+        o.answer ≡ LogFull → o.victims ≡ [] → AccessesTo observable history sync_out read_out read_of most before new st a line call g (Ok o)
+    accesses_full mid new s o p stands h told alone = wraps new LogFull o told alone (λ c cs is.
+        ends_full most before (in_sessions s mid) new st a call g outcome_ c cs up.valid bare its_ up.on.there auto calm_ well_ (up_as mid s Full p stands c cs is)
+        (subst (λ (n : ℕ). HasAbandoned (in_sessions s mid) new n a.txn) (sym (found_session session a st.actives up.its)) h) up.sound.numbers)
+
+    pub accesses_numbers : (mid new : Environment D) (s : Sessions) (o : Outcome) → Came mid NoNumbers → AreSessionsAt s (with_locks a (all_got a.txn (needs_in st a call g) st.locks.at) st) →
+        HasAbandoned (in_sessions s mid) new session a.txn → o.answer ≡ IdsEnded → o.victims ≡ [] → AccessesTo observable history sync_out read_out read_of most before new st a line call g (Ok o)
+    accesses_numbers mid new s o p stands h told alone = wraps new IdsEnded o told alone (λ c cs is.
+        ends_numbers most before (in_sessions s mid) new st a call g outcome_ c cs up.valid bare its_ up.on.there auto calm_ well_ (up_as mid s NoNumbers p stands c cs is)
+        (subst (λ (n : ℕ). HasAbandoned (in_sessions s mid) new n a.txn) (sym (found_session session a st.actives up.its)) h) up.sound.numbers)
+
+    pub accesses_failed : (mid : Environment D) (s : Sessions) (o : Outcome) → Came mid Failed → AreSessionsAt s st → o.answer ≡ DiskFault → o.victims ≡ [] →
+        AccessesTo observable history sync_out read_out read_of most before (in_sessions s mid) st a line call g (Ok o)
+    accesses_failed mid s o p stands told alone = wraps (in_sessions s mid) DiskFault o told alone (λ c cs is.
+        ends_failed most before (in_sessions s mid) (in_sessions s mid) st a call g outcome_ c cs up.valid bare its_ up.on.there auto calm_ well_ (up_as mid s Failed p stands c cs is))

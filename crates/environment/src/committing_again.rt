@@ -1,0 +1,159 @@
+// What a call changes that waited and is a transaction of its own: logged, and committed.
+ghost use Rattle.std.specs.Prelude.{◌≡◌, ◌≢◌, ◌≤◌, ◌+◌, ℕ, List as Lists, [], Ok, true, count_by};
+ghost use Rattle.je_order.specs.Counts.{HasRisen};
+ghost use Rattle.store_model.specs.declared.call.Call.{Call as Asked};
+ghost use Rattle.store_model.specs.declared.answer.Answer.{Answer as Answered};
+ghost use Rattle.db_catalog.specs.declared.found_db.FoundDb.{FoundDb as Found};
+ghost use Rattle.je_answers.specs.declared.active.Active.{Active as Transaction};
+ghost use Rattle.je_answers.specs.Standing.{Standing};
+ghost use Rattle.je_answers.specs.Views.{Target};
+ghost use Rattle.environment.specs.Access.{AccessesTo, HasAccessed, IsTakenUp};
+ghost use Rattle.environment.specs.Again.{HasWrittenAgain};
+ghost use Rattle.environment.specs.Calls.{HasCause};
+ghost use Rattle.environment.specs.Committing.{is_set};
+ghost use Rattle.environment.specs.Whole.{CanGoOn, disk_of};
+
+use crate::calling::told;
+use crate::committing::{had_of, records_before, sets};
+use crate::environment::Environment;
+use crate::outcome::Outcome;
+use crate::own_writing::{take_back, undo_own};
+use crate::wrote::Wrote;
+use je_disk::Disk;
+use je_order::{List, TxnId};
+use std::alloc::{AllocError, Global};
+use store_model::{Answer, Isolation, RecordChange};
+
+// How many of some changes set a name.
+fn count_sets(changes: &[RecordChange]) -> u64
+    ensures { result ≡ count_by is_set changes.now }
+{
+    let mut count = 0u64;
+    for change in changes {
+        if sets(change) {
+            count += 1;
+        }
+    }
+    count
+}
+
+// All but those that there were.
+fn less(all: u64, had: u64) -> u64
+    requires { had ≤ all }
+    ensures { result + had ≡ all }
+{
+    all - had
+}
+
+impl<D: Disk> Environment<D> {
+    // Logs and commits what a call changes that got its locks.
+    pub(crate) fn commit_again(
+        &mut self,
+        alloc: Global,
+        session: u8,
+        txn: TxnId,
+        level: Isolation,
+        number: u32,
+        changes: List<RecordChange>,
+    ) -> Result<Outcome, AllocError>
+        requires taken { (before : Environment D) × (most : ℕ) × (st : Standing) × (a : Transaction) × (asked : Asked) × (db : Lists ℕ) × (found : Found) × (g : Target) × (answer : Answered)
+            × IsTakenUp D.observable D.history most before self.old st session a asked db found g answer changes × (a.txn ≡ txn) × (a.level ≡ level) × (g.db ≡ number) × (a.is_auto ≡ true) × (st.own a.txn.0 ≡ []) }
+        requires some { changes ≢ [] }
+        requires bounds { CanGoOn self.old }
+        ensures comes { (before : Environment D) (most line : ℕ) (st : Standing) (a : Transaction) (asked : Asked) (db : Lists ℕ) (found : Found) (g : Target) (answer : Answered)
+            → IsTakenUp D.observable D.history most before self.old st session a asked db found g answer changes → a.txn ≡ txn → a.level ≡ level → g.db ≡ number → a.is_auto ≡ true → st.own a.txn.0 ≡ []
+            → AccessesTo D.observable D.history D.sync_out D.read_out D.read_of most before self.new st a line asked g result }
+        ensures bounds { CanGoOn self.new }
+        ensures cause { HasCause (D.faults (disk_of self.old)) (D.faults (disk_of self.new)) result }
+    {
+        let set = count_sets(changes.as_slice());
+        let Some(all) = records_before(&self.engine.kept, set) else {
+            drop(changes);
+            self.sessions.give_up(txn);
+            return Err(AllocError);
+        };
+        let pushed = self.push_and_log(alloc, txn, number, changes.as_slice());
+        drop(changes);
+        match pushed {
+            Ok(wrote) => Ok(self.end_again(alloc, session, txn, level, all, wrote)),
+            Err(error) => {
+                undo_own(&mut self.sessions, txn, 0);
+                Err(error)
+            }
+        }
+    }
+
+    // Ends a call whose changes came to this, and its transaction unless the disk failed.
+    fn end_again(
+        &mut self,
+        alloc: Global,
+        session: u8,
+        txn: TxnId,
+        level: Isolation,
+        all: u64,
+        wrote: Wrote,
+    ) -> Outcome
+        requires written { (before : Environment D) × (most : ℕ) × (st : Standing) × (a : Transaction) × (asked : Asked) × (g : Target)
+            × HasWrittenAgain D.observable D.history D.sync_out D.read_out D.read_of most before self.old st session txn level a asked g all wrote }
+        ensures comes { (before : Environment D) (most line : ℕ) (st : Standing) (a : Transaction) (asked : Asked) (g : Target)
+            → HasWrittenAgain D.observable D.history D.sync_out D.read_out D.read_of most before self.old st session txn level a asked g all wrote
+            → HasAccessed D.observable D.history D.sync_out D.read_out D.read_of most before self.new st a line asked g result.answer result.victims }
+        ensures bounds { CanGoOn self.new }
+        ensures cause { (was : ℕ) → was ≤ D.faults (disk_of self.old) → (wrote ≡ Wrote.Failed → HasRisen was (D.faults (disk_of self.old)))
+            → HasCause was (D.faults (disk_of self.new)) (Ok result) }
+    {
+        match wrote {
+            Wrote::Done => self.settle_again(alloc, session, txn, level, all),
+            Wrote::Full => {
+                take_back(&mut self.sessions, txn, level, 0);
+                self.abandon(session, txn);
+                told(alloc, Answer::LogFull)
+            }
+            Wrote::NoNumbers => {
+                take_back(&mut self.sessions, txn, level, 0);
+                self.abandon(session, txn);
+                told(alloc, Answer::IdsEnded)
+            }
+            Wrote::Failed => {
+                undo_own(&mut self.sessions, txn, 0);
+                told(alloc, Answer::DiskFault)
+            }
+        }
+    }
+
+    // Commits what a call logged, and ends its transaction; where the disk fails it is as if it had not gone on.
+    fn settle_again(
+        &mut self,
+        alloc: Global,
+        session: u8,
+        txn: TxnId,
+        level: Isolation,
+        all: u64,
+    ) -> Outcome
+        requires written { (before : Environment D) × (most : ℕ) × (st : Standing) × (a : Transaction) × (asked : Asked) × (g : Target)
+            × HasWrittenAgain D.observable D.history D.sync_out D.read_out D.read_of most before self.old st session txn level a asked g all Wrote.Done }
+        ensures comes { (before : Environment D) (most line : ℕ) (st : Standing) (a : Transaction) (asked : Asked) (g : Target)
+            → HasWrittenAgain D.observable D.history D.sync_out D.read_out D.read_of most before self.old st session txn level a asked g all Wrote.Done
+            → HasAccessed D.observable D.history D.sync_out D.read_out D.read_of most before self.new st a line asked g result.answer result.victims }
+        ensures bounds { CanGoOn self.new }
+        ensures cause { HasCause (D.faults (disk_of self.old)) (D.faults (disk_of self.new)) (Ok result) }
+    {
+        let records = less(all, had_of(&self.written.by_txn, txn));
+        match self.commit_own(txn, records) {
+            Ok(()) => {
+                self.sessions.answered(txn, level, true);
+                self.sessions.end(session, txn);
+                told(
+                    alloc,
+                    Answer::Logged {
+                        commit: self.engine.kept.commits,
+                    },
+                )
+            }
+            Err(_) => {
+                undo_own(&mut self.sessions, txn, 0);
+                told(alloc, Answer::DiskFault)
+            }
+        }
+    }
+}
