@@ -10,7 +10,7 @@ use Rattle.waits_for.specs.Cycles.{is_in}
 use Rattle.lock_table.specs.Locks.{lock_of}
 use Rattle.lock_mgr.specs.Deadlock.{HasNoCycle, AreVictims}
 use Rattle.store_model.specs.declared.call.Call.{Call}
-use Rattle.store_model.specs.declared.call.Call.TheVariants.{Begin, Commit, Abort, List as Lists, Create, Remove, Rename, Truncate, Get, GetBoth, Put, Delete}
+use Rattle.store_model.specs.declared.call.Call.TheVariants.{Begin, Commit, Abort, List as Lists, Create, Remove, Rename, Truncate, Get, GetBoth, Put, Delete, Open, Close, Dup}
 use Rattle.store_model.specs.declared.change.Change.{Change}
 use Rattle.store_model.specs.declared.record_change.RecordChange.{RecordChange}
 use Rattle.store_model.specs.declared.need.Need.{Need}
@@ -25,12 +25,13 @@ use Rattle.store_model.specs.declared.event.Event.TheVariants.{Call as Called, R
 use Rattle.store_model.specs.Evaluation.{evaluation}
 use Rattle.je_answers.specs.declared.active.Active.{Active}
 use Rattle.je_answers.specs.declared.wait.Wait.{Wait}
-use Rattle.je_answers.specs.Standing.{LockState, Standing, active_of, wait_of, without_wait}
+use Rattle.store_model.specs.declared.place.Place.{Place}
+use Rattle.je_answers.specs.Standing.{LockState, Standing, place_at, active_of, wait_of, without_wait}
 use Rattle.je_answers.specs.Views.{Target, target_of, changes_on, changes_named, needs_in, outcome_of}
 use Rattle.je_answers.specs.Refusals.{waits_refusal, early_refusal, late_refusal, number_refusal}
 use Rattle.je_answers.specs.Locking.{record_of, all_got, granted_part, first_blocked, owner_before, released, waits_in}
 use Rattle.je_answers.specs.Events.{auto_active, begun, asking, told_in, queues_before, locks_before, resumed, IsWaiting, IsStopped, IsTaken, IsOn, IsRun, IsPerformed, IsEvaluated, IsCallAnswered, IsReady, IsResumed, IsAnswered}
-use Rattle.je_answers.specs.After.{Fate, fate_of, drawn_by, committed_if_any, ended, ended_if_any, closed, with_outcome, answered, with_locks, after_fate, after_changes, txns_of, after_stop, after_taking, after_on, after_run, after_commit, after_ending, after_catalog, after_performed, after_evaluated, after_call, after_resumed, faulted_if, after_begin, after_turn, after_event, AnswersAsModel}
+use Rattle.je_answers.specs.After.{Fate, fate_of, drawn_by, committed_if_any, ended, ended_if_any, closed, with_outcome, answered, with_locks, after_fate, after_changes, txns_of, after_stop, after_taking, after_on, after_run, opened_at, after_commit, after_ending, after_catalog, after_performed, after_evaluated, after_call, after_resumed, faulted_if, after_begin, after_turn, after_event, AnswersAsModel}
 use Rattle.je_answers.specs.After.Fate.{Succeeds, IsRefused, Faults}
 use Rattle.je_answers.specs.Alone.{alone}
 use Rattle.standing_laws.specs.Right.{AreRight, IsSoundAt, IsWaitIn, MayWait, is_active}
@@ -168,6 +169,10 @@ catalog_free Succeeds changes o st free = same_free st (committed_if_any changes
 catalog_free IsRefused changes o st free = same_free st (drawn_by o st) (drawn_locks o st) free
 catalog_free Faults changes o st free = free
 
+opened_free : (o : Option Place) (to session : ℕ) (st : Standing) → IsFree st → IsFree (opened_at o to session st)
+opened_free None to session st free = free
+opened_free (Some p) to session st free = free
+
 performed_free : (call : Call) (limit : Option Answer) (st : Standing) (session line : ℕ) (answer : Answer) (vs : List Victim) → IsPlainCall call → AreRight st → IsFree st → waits_refusal st (active_of session st.actives) ≡ None
     → number_refusal st.last_txn (active_of session st.actives) ≡ None → IsPerformed call limit st session line answer vs → IsFree (after_performed call st session line answer vs)
 performed_free (Begin level durability wait) limit st session line answer vs p r free untold number is = free
@@ -182,6 +187,9 @@ performed_free (Get db key rmw) limit st session line answer vs p r free untold 
 performed_free (GetBoth db key value rmw) limit st session line answer vs p r free untold number is = run_free (active_of session st.actives) limit st session line (GetBoth db key value rmw) answer vs tt r free refl untold number is
 performed_free (Put db key value mode) limit st session line answer vs p r free untold number is = run_free (active_of session st.actives) limit st session line (Put db key value mode) answer vs tt r free refl untold number is
 performed_free (Delete db key) limit st session line answer vs p r free untold number is = run_free (active_of session st.actives) limit st session line (Delete db key) answer vs tt r free refl untold number is
+performed_free (Open cursor db) limit st session line answer vs p r free untold number is = free
+performed_free (Close cursor) limit st session line answer vs p r free untold number is = free
+performed_free (Dup cursor to) limit st session line answer vs p r free untold number is = opened_free (place_at cursor (st.places session)) to session st free
 performed_free call limit st session line answer vs p r free untold number is = absurd p
 
 evaluated_free : (o : Option Answer) (limit : Option Answer) (st : Standing) (session line : ℕ) (call : Call) (answer : Answer) (vs : List Victim) → IsPlainCall call → AreRight st → IsFree st → early_refusal st session call ≡ None

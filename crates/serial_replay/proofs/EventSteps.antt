@@ -2,8 +2,7 @@
 use Rattle.std.proofs.Common.{◌≡◌, inl, inr, ℕ, ◌==◌, Bool, true, false, List, [], ◌∷◌, ◌++◌, find, Option, None, Some, refl, ap, sym, ◌∙◌, subst, ⊎_elim, arith}
 use Rattle.std.specs.List.{AllByRecursion}
 use Rattle.std.specs.Option.{option_map}
-use Rattle.std.proofs.lemmas.Bool.{cases_Bool, cond-true, cond-false}
-use Rattle.je_order.specs.declared.name.Name.{Name}
+use Rattle.std.proofs.lemmas.Bool.{eqb-true, cases_Bool, cond-false}
 use Rattle.je_order.specs.Transactions.{is_same_txn}
 use Rattle.je_order.proofs.TxnIds.{same_itself}
 use Rattle.lock_table.specs.declared.record_id.RecordId.{RecordId}
@@ -13,14 +12,13 @@ use Rattle.store_model.specs.declared.store.Database.{Database}
 use Rattle.store_model.specs.declared.change.Change.{Change}
 use Rattle.store_model.specs.declared.record_change.RecordChange.{RecordChange}
 use Rattle.store_model.specs.declared.need.Need.{Need}
-use Rattle.store_model.specs.declared.place.Place.{Place}
 use Rattle.store_model.specs.declared.victim.Victim.{Victim}
 use Rattle.store_model.specs.declared.answer.Answer.{Answer}
 use Rattle.je_order.specs.Order.{is_same_bytes}
 use Rattle.store_model.specs.Store.{database_of, change_in}
 use Rattle.store_model.specs.Records.{Evaluated}
 use Rattle.je_answers.specs.declared.active.Active.{Active}
-use Rattle.je_answers.specs.Standing.{Standing, database_at, with_at}
+use Rattle.je_answers.specs.Standing.{active_of, Standing, database_at, with_at}
 use Rattle.je_answers.specs.Views.{Target, target, named_target, target_of, changes_at, changes_on, changes_in, changes_named, needs_in, outcome_of}
 use Rattle.je_answers.specs.Locking.{Queues, all_got, granted_part, first_blocked, given_back}
 use Rattle.je_answers.specs.Events.{locks_before}
@@ -186,13 +184,6 @@ module _ (st : Standing) (a : Active) (call : Call) (g : Target) (told : List An
     held = subst (λ (e : Evaluated). AllByRecursion (λ c. HoldsWrite (given_back a.level a.txn (all_got a.txn (needs_in st a call g) st.locks.at)) a.txn (g.db, c)) e.changes) (sym came_is)
         (writes_held st a call g told may m.right.sound known.ground on.nowhere on.here on.named free done step)
 
-    not_moved : (c : Call) (at : Option Name) (places : List Place) → MayWait c → moved c at places ≡ places
-    not_moved (Get db key rmw) at places w = refl
-    not_moved (GetBoth db key value rmw) at places w = refl
-    not_moved (Put db key value mode) at places w = refl
-    not_moved (Delete db key) at places w = refl
-    not_moved c at places w = absurd w
-
     sound_done : AreSound done
     sound_done =
         let s = sound_own st.last_txn st.actives st.own st.places st.waiting (answered a call g st).locks a.txn g.db (outcome_of st a call g).changes sound_answered active held in
@@ -203,10 +194,9 @@ module _ (st : Standing) (a : Active) (call : Call) (g : Target) (told : List An
           owners = s.owners;
           own_active = s.own_active;
           own_locked = s.own_locked;
-          places = λ session. ⊎_elim
-              (λ e. cond-true (session == a.session) (moved call (outcome_of st a call g).place (st.places a.session)) (st.places session) e
-              ∙ (not_moved call (outcome_of st a call g).place (st.places a.session) may ∙ sound.places a.session))
-              (λ e. cond-false (session == a.session) (moved call (outcome_of st a call g).place (st.places a.session)) (st.places session) e ∙ sound.places session)
+          places = λ session none. ⊎_elim
+              (λ e. let its = sym none ∙ (ap (λ (n : ℕ). active_of n st.actives) (eqb-true session a.session e) ∙ m.its) in absurd (cc (its)))
+              (λ e. cond-false (session == a.session) (moved call (outcome_of st a call g).place (st.places a.session)) (st.places session) e ∙ sound.places session none)
               (cases_Bool (session == a.session));
         }
 

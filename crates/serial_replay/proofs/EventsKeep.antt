@@ -8,7 +8,7 @@ use Rattle.lock_table.specs.declared.record_id.RecordId.{RecordId}
 use Rattle.store_model.specs.declared.store.TheConstants.{LAST_TXN}
 use Rattle.store_model.specs.declared.kind.Kind.{Kind}
 use Rattle.store_model.specs.declared.call.Call.{Call}
-use Rattle.store_model.specs.declared.call.Call.TheVariants.{Begin, Commit, Abort, List as Lists, Create, Remove, Rename, Truncate, Get, GetBoth, Put, Delete}
+use Rattle.store_model.specs.declared.call.Call.TheVariants.{Begin, Commit, Abort, List as Lists, Create, Remove, Rename, Truncate, Get, GetBoth, Put, Delete, Open, Close, Dup}
 use Rattle.store_model.specs.declared.store.Database.{Database}
 use Rattle.store_model.specs.declared.change.Change.{Change}
 use Rattle.store_model.specs.declared.change.Change.TheVariants.{Make, Remove as Removed, Rename as Renamed, Empty}
@@ -28,12 +28,14 @@ use Rattle.store_model.specs.Evaluation.{Outcome, evaluation, evaluation_in}
 use Rattle.store_model.specs.Refusals.{or_refusal, creation_refusal, access_refusal, taken_refusal, next_txn}
 use Rattle.je_answers.specs.declared.active.Active.{Active}
 use Rattle.je_answers.specs.declared.wait.Wait.{Wait}
-use Rattle.je_answers.specs.Standing.{Standing, active_of, wait_of, without_wait, database_at}
+use Rattle.je_order.specs.declared.name.Name.{Name}
+use Rattle.store_model.specs.declared.place.Place.{Place}
+use Rattle.je_answers.specs.Standing.{Standing, place_at, active_of, wait_of, without_wait, database_at}
 use Rattle.je_answers.specs.Views.{Target, target_of, changes_on, changes_named, needs_in, outcome_of}
 use Rattle.je_answers.specs.Refusals.{waits_refusal, txn_refusal, early_refusal, late_refusal, number_refusal, there_refusal, name_refusal, target_refusal}
 use Rattle.je_answers.specs.Locking.{IsUnused, first_blocked, owner_before}
 use Rattle.je_answers.specs.Events.{log_limit, auto_active, begun, due, waiting_answer, cycle_of, lock_target, queues_before, resumed, IsLogged, IsDone, IsWaiting, IsStopped, IsTaken, IsOn, IsRun, IsExclusive, IsPerformed, IsEvaluated, IsCallAnswered, IsReady, IsResumed, IsAnswered}
-use Rattle.je_answers.specs.After.{Fate, fate_of, drawn_by, faulted, committed_if_any, ended, ended_if_any, closed, with_outcome, answered, after_fate, after_changes, after_taking, after_on, after_run, after_commit, after_ending, after_catalog, after_performed, after_evaluated, after_call, after_resumed, faulted_if, after_begin, after_end, after_turn, after_event}
+use Rattle.je_answers.specs.After.{opened, opened_at, closed_cursor, Fate, fate_of, drawn_by, faulted, committed_if_any, ended, ended_if_any, closed, with_outcome, answered, after_fate, after_changes, after_taking, after_on, after_run, after_commit, after_ending, after_catalog, after_performed, after_evaluated, after_call, after_resumed, faulted_if, after_begin, after_end, after_turn, after_event}
 use Rattle.je_answers.specs.After.Fate.{Succeeds, IsRefused, Faults}
 use Rattle.standing_laws.specs.Right.{AreSound, AreRight, MayWait, is_active, txn_id}
 use Rattle.standing_laws.specs.Laws.{IsPlainCall, IsPlainEvent}
@@ -290,6 +292,20 @@ late_parts st session call h =
     let b = or_none (there_refusal st session call) (or_refusal (name_refusal st session call) (target_refusal call (target_of st session call))) a.1 in
     (b.0, (or_none (name_refusal st session call) (target_refusal call (target_of st session call)) b.1).0)
 
+-- ---- cursors
+
+known_opened : (cursor db : ℕ) (at : Option Name) (session : ℕ) (st : Standing) (told : List AnsweredCall) → AreSound st → IsKnown st told → IsKnown (opened cursor db at session st) told
+known_opened cursor db at session st told sound known =
+    same_known st (opened cursor db at session st) told sound (record { store = refl; numbers = refl; last_db = refl; last_txn = (omega arith); own = λ t. refl }) (λ r. refl) refl known
+
+known_opened_at : (o : Option Place) (to session : ℕ) (st : Standing) (told : List AnsweredCall) → AreSound st → IsKnown st told → IsKnown (opened_at o to session st) told
+known_opened_at None to session st told sound known = known
+known_opened_at (Some p) to session st told sound known = known_opened to p.db p.at session st told sound known
+
+known_closed : (cursor session : ℕ) (st : Standing) (told : List AnsweredCall) → AreSound st → IsKnown st told → IsKnown (closed_cursor cursor session st) told
+known_closed cursor session st told sound known =
+    same_known st (closed_cursor cursor session st) told sound (record { store = refl; numbers = refl; last_db = refl; last_txn = (omega arith); own = λ t. refl }) (λ r. refl) refl known
+
 -- ---- a call
 
 known_performed : (call : Call) (limit : Option Answer) (st : Standing) (session line : ℕ) (answer : Answer) (vs : List Victim) (told : List AnsweredCall) → IsPlainCall call → AreRight st → IsKnown st told
@@ -337,6 +353,13 @@ known_performed (Put db key value mode) limit st session line answer vs told p r
     known_run (active_of session st.actives) limit st session line (Put db key value mode) answer vs told tt r known refl free (late_number st session (Put db key value mode) late) is
 known_performed (Delete db key) limit st session line answer vs told p r known free txn late is =
     known_run (active_of session st.actives) limit st session line (Delete db key) answer vs told tt r known refl free (late_number st session (Delete db key) late) is
+known_performed (Open cursor db) limit st session line answer vs told p r known free txn late is =
+    as_told st _ (told_of (active_of session st.actives) st (Open cursor db) answer) told (not_on_records (active_of session st.actives) st (Open cursor db) answer refl) (known_opened cursor (st.numbers db) None session st told r.sound known)
+known_performed (Close cursor) limit st session line answer vs told p r known free txn late is =
+    as_told st _ (told_of (active_of session st.actives) st (Close cursor) answer) told (not_on_records (active_of session st.actives) st (Close cursor) answer refl) (known_closed cursor session st told r.sound known)
+known_performed (Dup cursor to) limit st session line answer vs told p r known free txn late is =
+    as_told st _ (told_of (active_of session st.actives) st (Dup cursor to) answer) told (not_on_records (active_of session st.actives) st (Dup cursor to) answer refl)
+    (known_opened_at (place_at cursor (st.places session)) to session st told r.sound known)
 known_performed call limit st session line answer vs told p r known free txn late is = absurd p
 
 -- a call is on records, or is not told

@@ -17,7 +17,7 @@ pub record HaveNumbers (store : Store) (last_db : ℕ) (numbers : List ℕ → �
   pub allocated : (name : List ℕ) → IsSome (database_of name store) → (0 < numbers name) × (numbers name ≤ last_db)
   pub apart : (name other : List ℕ) → IsSome (database_of name store) → numbers name ≡ numbers other → name ≡ other
 
--- where no transaction is under way at the beginning, and no call has a cursor, answers as the model lets them be keep what each level promises
+-- where no transaction is under way at the beginning, and no call is on records at a cursor, answers as the model lets them be keep what each level promises
 abbrev pub JournalsReplay : Type 0
 JournalsReplay = (p : Alone) (limits : List (Option Answer)) (journal : List Event) → IsStore p.store → HaveNumbers p.store p.last_db p.numbers →
     AnswersAsModel (alone p) limits journal → AllByRecursion IsPlainEvent journal → ReplaysSerially (alone p) journal
