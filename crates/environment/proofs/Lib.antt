@@ -78,3 +78,5 @@ pub mod AgainLaws
 pub mod CommitAgain
 -- How it ends, by what became of its changes.
 pub mod AgainEnds
+-- Where cursors stand behind calls that have none.
+pub mod PlacesLaws
