@@ -90,7 +90,7 @@ none_in_catalog rows x [] may = refl
 none_in_catalog rows x (c ∷ own) may =
     ap₂ (λ (a b : Bool). a || b) (ap (λ (b : Bool). b && is_eq (name_cmp (changed_name c.1) x)) (ne_eqb c.0 0 (own_above rows c may.0))) (none_in_catalog rows x own may.1)
 
-catalog_free : (rows : Rows) (is_active : ℕ → Bool) (own : ℕ → List OwnChange) (t : ℕ) (planned : List TreeChange) → ((u : ℕ) → AllByRecursion (MayBeCommitted rows) (own u)) →
+pub catalog_free : (rows : Rows) (is_active : ℕ → Bool) (own : ℕ → List OwnChange) (t : ℕ) (planned : List TreeChange) → ((u : ℕ) → AllByRecursion (MayBeCommitted rows) (own u)) →
     AllByRecursion (λ (c : TreeChange). c.db ≡ 0) planned → AreFreeNames is_active own t planned
 catalog_free rows is_active own t planned may of_catalog =
     all_weaker (λ (c : TreeChange). c.db ≡ 0) (λ c. (u : ℕ) → is_active u ≡ true → u ≢ t → has_own c.db c.name (own u) ≡ false)
@@ -130,7 +130,7 @@ elsewhere_make rows db kind (c ∷ own) = (tt, elsewhere_make rows db kind own)
 
 module _ {D : Type 0} (observable : Bool) (history : D → History) (sync_out read_out : D → Option ℕ) (read_of : D → ℕ) where
   -- a change of the catalog was logged with its Commit; nobody has own changes in the database that it is of
-  pub catalog_leaves_log : (old new : LogBuffer D) (log : Log) (rows : Rows) (is_active still : ℕ → Bool) (st after : Standing) (t : TxnId) (change : Change) (planned : List TreeChange) (dropped : Option ℕ) →
+  unfoldable pub catalog_leaves_log : (old new : LogBuffer D) (log : Log) (rows : Rows) (is_active still : ℕ → Bool) (st after : Standing) (t : TxnId) (change : Change) (planned : List TreeChange) (dropped : Option ℕ) →
       IsLogAt observable history old log rows is_active st → IsOfCatalog change → ArePlanned rows st.last_db change [] planned dropped → HasOwn st.last_txn is_active st.own t.0 [] →
       ((u : ℕ) → AllByRecursion (λ (c : OwnChange). IsElsewhere rows change c.0) (after.own u)) → ((u : ℕ) → AllByRecursion (MayBeCommitted rows) (after.own u)) →
       (a : HasAdded observable history sync_out read_out read_of old new (LogsTransaction t planned)) →

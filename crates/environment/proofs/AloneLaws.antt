@@ -1,5 +1,7 @@
 -- Where no transaction is under way: what an environment is beside its engine.
 use Rattle.std.proofs.Common.{◌≡◌, ℕ, ◌+◌, suc, Bool, true, false, cond, List, [], Option, None, Some, filter, length, refl, ap, sym, ◌∙◌, subst, arith}
+use Rattle.log_trees.specs.Placed.{placed}
+use Rattle.txn_log.proofs.AtStandingLaws.{same_under}
 use mathlib.Core.Path.{fun_ext}
 use Rattle.std.proofs.lemmas.Option.{none-some}
 use Rattle.je_disk.specs.States.{Files, State}
@@ -34,7 +36,7 @@ use Rattle.engine.specs.Limits.{IsWithin, Reach}
 use Rattle.engine.specs.Opening.{reach_in}
 use Rattle.engine.specs.Whole.{AreTrees, IsAt as EngineIsAt, IsOpened as EngineIsOpened, IsOpenedSafely as EngineIsOpenedSafely, contents, reach_of as engine_reach}
 use Rattle.engine.proofs.TxnGives.{gives_alone, gives_with_none}
-use Rattle.environment.specs.Valid.{AreBare, AreAt, IsValidWith, active_number, owed_by}
+use Rattle.environment.specs.Valid.{AreBare, AreAt, IsValidWith, active_number, owed_by, fitting}
 use Rattle.environment.specs.Whole.{IsAt, IsOpened, IsOpenedSafely, reach_of}
 use Rattle.environment.specs.Written.{AreNamesOf}
 use Rattle.environment.specs.declared.environment.Environment.{Environment}
@@ -79,7 +81,8 @@ module _ {D : Type 0} where
   -- a log and trees in which nobody changed anything
   wide_valid : (observable : Bool) (state : State) (trees : LogTrees D) (kept : Kept) (entries : List (TxnId × OwnNames)) (p : Alone) → IsValid observable state trees.log (contents trees kept) p.store →
       AreTrees trees → kept.last_txn ≡ p.last_txn → kept.last_db ≡ p.last_db → number_named (committed (cells_of trees)) ≡ p.numbers → AreNamesOf entries (λ t. []) (committed (cells_of trees)) →
-      IsValidWith observable state trees.log (cells_of trees) (has_tree_of trees) entries (alone p)
+      IsValidWith observable state trees.log (cells_of trees) (has_tree_of trees) (fitting trees) entries (alone p)
+  unfolding gives_with_none
   wide_valid observable state trees kept entries p v are last_txn last_db numbers names =
       let rows : Rows = committed (cells_of trees) in
       let given : GivesRecordsWith v.log (end_of trees.log) rows kept.last_txn kept.last_db (λ t. false) (λ t. []) = gives_with_none v.log (end_of trees.log) (contents trees kept) v.gives in
@@ -105,17 +108,21 @@ module _ {D : Type 0} where
         made = are.made;
         room = λ n is. absurd (none_owing p n is);
         names = names;
+        fits = subst (λ (b : ℕ). fitting trees (placed v.log) b)
+            (sym (same_under (λ (n : ℕ). GivesRecordsWith v.log (end_of trees.log) rows n p.last_db (λ t. false) (λ t. [])) (λ n g. g.base) last_txn
+            (subst (λ (n : ℕ). GivesRecordsWith v.log (end_of trees.log) rows kept.last_txn n (λ t. false) (λ t. [])) last_db given)
+            ∙ same_under (λ (n : ℕ). GivesRecordsWith v.log (end_of trees.log) rows kept.last_txn n (λ t. false) (λ t. [])) (λ n g. g.base) last_db given)) v.fits;
       }
 
   -- an environment in which nobody is under way is where its engine is
   pub wide_at : (most : ℕ) (observable : Bool) (state : State) (engine : Engine D) (sessions : Sessions) (entries : List (TxnId × OwnNames)) (st : Standing) → EngineIsAt most observable state engine st →
       ((p : Alone) → AreSessionsAt sessions (alone p)) → AreNamesOf entries (λ t. []) (committed (cells_of engine.trees)) →
-      AreAt most observable state engine.trees.log (cells_of engine.trees) (has_tree_of engine.trees) engine.kept sessions entries st
+      AreAt most observable state engine.trees.log (cells_of engine.trees) (has_tree_of engine.trees) (fitting engine.trees) engine.kept sessions entries st
   wide_at most observable state engine sessions entries st here at names =
       let p : Alone = here.at.alone_at in
       let is = here.at.here in
       let same : st ≡ alone p = here.at.st_is in
-      subst (λ (s : Standing). AreAt most observable state engine.trees.log (cells_of engine.trees) (has_tree_of engine.trees) engine.kept sessions entries s) (sym same) (record {
+      subst (λ (s : Standing). AreAt most observable state engine.trees.log (cells_of engine.trees) (has_tree_of engine.trees) (fitting engine.trees) engine.kept sessions entries s) (sym same) (record {
         file_max = is.file_max;
         fault = is.fault;
         last_txn = is.last_txn;
@@ -138,6 +145,7 @@ module _ {D : Type 0} where
 
   -- and the other way round
   narrow_alone : (most : ℕ) (observable : Bool) (state : State) (e : Environment D) (p : Alone) → IsAt most observable state e (alone p) → EngineIsAt most observable state e.engine (alone p)
+  unfolding gives_alone
   narrow_alone most observable state e p here =
       let rows : Rows = committed (cells_of e.engine.trees) in
       let at = here.at in
@@ -164,6 +172,10 @@ module _ {D : Type 0} where
                       (subst (λ (n : ℕ). GivesRecordsWith v.log (end_of e.engine.trees.log) rows p.last_txn n (active_number []) (λ t. [])) (sym at.last_db) v.gives));
                   recovers = v.recovers;
                   made = v.makes.store;
+                  fits = subst (λ (b : ℕ). fitting e.engine.trees (placed v.log) b)
+                      (sym (same_under (λ (n : ℕ). GivesRecordsWith v.log (end_of e.engine.trees.log) rows n e.engine.kept.last_db (active_number []) (λ t. [])) (λ n g. g.base) (sym at.last_txn)
+                      (subst (λ (n : ℕ). GivesRecordsWith v.log (end_of e.engine.trees.log) rows p.last_txn n (active_number []) (λ t. [])) (sym at.last_db) v.gives)
+                      ∙ same_under (λ (n : ℕ). GivesRecordsWith v.log (end_of e.engine.trees.log) rows p.last_txn n (active_number []) (λ t. [])) (λ n g. g.base) (sym at.last_db) v.gives)) v.fits;
                 };
           };
         };

@@ -41,7 +41,7 @@ use Rattle.environment.specs.declared.outcome.Outcome.{Outcome as Told}
 use Rattle.environment.specs.Auto.{IsAutoAt, alone_in}
 use Rattle.environment.specs.Calls.{HasCause, IsOnRecords}
 use Rattle.environment.specs.Steps.{ComesTo, HasCome, HasNotCome, IsLogStep}
-use Rattle.environment.specs.Valid.{AreBare}
+use Rattle.environment.specs.Valid.{AreBare, fitting}
 use Rattle.environment.specs.Whole.{reach_of}
 use Rattle.environment.proofs.Answering.{owed_is, within_more}
 use Rattle.environment.proofs.AutoLaws.{Evaluates, come_ready, come_taken, back, drawn_after, near_fewer, no_wait, own_back, own_gone, same_leaves, valid_leaves}
@@ -139,8 +139,8 @@ module _ {D : Type 0} (observable : Bool) (history : D → History) (sync_out re
           apart = victims_apart there a line call g stop.need victims may.at.apart (no_wait session st.actives st.waiting may.outside may.sound.waits.each);
           valid = λ none.
               let state = now (history (disk_below e.engine.trees.log)) in
-              valid_leaves observable state e.engine.trees.log (cells_of e.engine.trees) (has_tree_of e.engine.trees) e.written.by_txn.entries there after leaves
-              (valid_begun observable state e.engine.trees.log (cells_of e.engine.trees) (has_tree_of e.engine.trees) e.written.by_txn.entries st a may.sound may.left refl (may.at.valid may.valid));
+              valid_leaves observable state e.engine.trees.log (cells_of e.engine.trees) (has_tree_of e.engine.trees) (fitting e.engine.trees) e.written.by_txn.entries there after leaves
+              (valid_begun observable state e.engine.trees.log (cells_of e.engine.trees) (has_tree_of e.engine.trees) (fitting e.engine.trees) e.written.by_txn.entries st a may.sound may.left refl (may.at.valid may.valid));
         };
         numbered = unnumbered answer after.commits calm;
         fault = leaves.fault ∙ may.valid ∙ ap (λ (b : Bool). cond b (Some Disk) None) (sym (faultless answer calm));

@@ -1,5 +1,7 @@
 -- A call on records that is a transaction of its own, among others: where its transaction ends, or waits.
 use mathlib.Core.Path.{fun_ext}
+use Rattle.log_trees.specs.Placed.{placed}
+use Rattle.txn_log.proofs.AtStandingLaws.{same_under}
 use Rattle.std.proofs.Common.{◌≡◌, ◌∙◌, ℕ, suc, ◌≤◌, ◌<◌, zero, ◌+◌, ◌==◌, Bool, true, false, cond, not, List, [], ◌∷◌, ◌++◌, Option, None, Some, refl, ap, sym, subst, inl, ⊎_elim, arith}
 use Rattle.std.specs.List.{AllByRecursion}
 use Rattle.std.proofs.lemmas.Bool.{cases_Bool, cond-true, cond-false, eq-eqb, eqb-true}
@@ -44,7 +46,7 @@ use Rattle.environment.specs.declared.written.OwnNames.{OwnNames}
 use Rattle.environment.specs.Calls.{IsOnRecords}
 use Rattle.environment.specs.Limits.{owing_after, owing_with, written_evaluated, written_on, written_run, written_taken}
 use Rattle.environment.specs.Steps.{HasCome, HasStepped, StandsAt}
-use Rattle.environment.specs.Valid.{IsValidWith, active_number, owed_by}
+use Rattle.environment.specs.Valid.{IsValidWith, active_number, owed_by, fitting, Forest}
 use Rattle.environment.specs.Whole.{reach_of}
 use Rattle.environment.specs.Written.{AreNamesOf}
 use Rattle.environment.proofs.BeginLaws.{with_begun}
@@ -54,15 +56,15 @@ use Rattle.environment.proofs.ListLaws.{valid_drawn}
 -- ---- a valid environment goes on where perhaps fewer transactions are under way
 
 module _ {D : Type 0} where
-  pub valid_leaves : (observable : Bool) (state : State) (buffer : LogBuffer D) (cells : AllCells) (has_tree : ℕ → Bool) (written : List (TxnId × OwnNames)) (st after : Standing) → LeavesSame st after →
-      IsValidWith observable state buffer cells has_tree written st → IsValidWith observable state buffer cells has_tree written after
-  valid_leaves observable state buffer cells has_tree written st after same v = record {
+  pub valid_leaves : (observable : Bool) (state : State) (buffer : LogBuffer D) (cells : AllCells) (has_tree : ℕ → Bool) (forest : Forest) (written : List (TxnId × OwnNames)) (st after : Standing) → LeavesSame st after →
+      IsValidWith observable state buffer cells has_tree forest written st → IsValidWith observable state buffer cells has_tree forest written after
+  unfolding still_gives
+  valid_leaves observable state buffer cells has_tree forest written st after same v = record {
     log = v.log;
     has = v.has;
     works = v.works;
     gives = subst (λ (d : ℕ). Rattle.txn_log.specs.Gives.GivesRecordsWith v.log (end_of buffer) (committed cells) after.last_txn d (active_number after.actives) after.own) (sym same.last_db)
-        (still_gives v.log (end_of buffer) (committed cells) st.last_txn after.last_txn st.last_db (active_number st.actives) (active_number after.actives) st.own after.own v.gives
-        (let more = same.last_txn in omega (arith, more)) (λ t is. inl (same.actives (txn_id t) is, ap (λ (f : ℕ → List (ℕ × RecordChange)). f t) same.own)));
+        still;
     recovers = subst (RecoversStore v.log) (sym same.store) v.recovers;
     makes = record {
       environment = v.makes.environment;
@@ -77,8 +79,14 @@ module _ {D : Type 0} where
     made = v.made;
     room = λ n is. by_owing n is (owing st) refl;
     names = subst (λ (own : ℕ → List (ℕ × RecordChange)). AreNamesOf written own (committed cells)) (sym same.own) v.names;
+    fits = subst (λ (b : ℕ). forest (placed v.log) b)
+        (sym (same_under (λ (d : ℕ). Rattle.txn_log.specs.Gives.GivesRecordsWith v.log (end_of buffer) (committed cells) after.last_txn d (active_number after.actives) after.own) (λ d g. g.base) (sym same.last_db) still)) v.fits;
   }
     where
+      still : Rattle.txn_log.specs.Gives.GivesRecordsWith v.log (end_of buffer) (committed cells) after.last_txn st.last_db (active_number after.actives) after.own
+      still = still_gives v.log (end_of buffer) (committed cells) st.last_txn after.last_txn st.last_db (active_number st.actives) (active_number after.actives) st.own after.own v.gives
+          (let more = same.last_txn in omega (arith, more)) (λ t is. inl (same.actives (txn_id t) is, ap (λ (f : ℕ → List (ℕ × RecordChange)). f t) same.own))
+
       by_owing : (n : ℕ) → owing after ≡ suc n → (m : ℕ) → owing st ≡ m → HasRoomFor buffer (commit_sizes (suc n))
       by_owing n is zero e = let less : owing after ≤ owing st = same.owing in absurd (omega (arith, less, is, e))
       by_owing n is (suc m) e = let less : owing after ≤ owing st = same.owing in room_fewer buffer (suc n) (suc m) (omega (arith, less, is, e)) (v.room m e)
@@ -147,8 +155,8 @@ module _ {D : Type 0} where
     apart = apart;
     valid = λ none.
         let state = now (history (disk_below e.engine.trees.log)) in
-        valid_leaves observable state e.engine.trees.log (cells_of e.engine.trees) (has_tree_of e.engine.trees) e.written.by_txn.entries (record st { last_txn = last }) after same
-        (valid_drawn observable state e.engine.trees.log (cells_of e.engine.trees) (has_tree_of e.engine.trees) e.written.by_txn.entries st last more (at.valid (sym same.fault ∙ none)));
+        valid_leaves observable state e.engine.trees.log (cells_of e.engine.trees) (has_tree_of e.engine.trees) (fitting e.engine.trees) e.written.by_txn.entries (record st { last_txn = last }) after same
+        (valid_drawn observable state e.engine.trees.log (cells_of e.engine.trees) (has_tree_of e.engine.trees) (fitting e.engine.trees) e.written.by_txn.entries st last more (at.valid (sym same.fault ∙ none)));
   }
 
   -- sessions that owe no more Commits reach no farther

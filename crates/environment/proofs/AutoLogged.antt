@@ -55,7 +55,7 @@ use Rattle.txn_log.specs.Own.{row_of}
 use Rattle.engine.specs.declared.engine.Engine.{Engine}
 use Rattle.engine.specs.Contents.{HasLogged, known, rows_after}
 use Rattle.engine.specs.Limits.{IsWithin, limit_by, reach_after}
-use Rattle.engine.specs.Steps.{HasAppended, LogsChanges, txn_of}
+use Rattle.engine.specs.Steps.{HasAppended, LogsChanges, txn_of, CarriesTrees}
 use Rattle.engine.specs.Whole.{EndsNear, LeavesCells, LeavesOthers, contents_of}
 use Rattle.engine.proofs.CallLaws.{sound_at}
 use Rattle.engine.proofs.PlannedCalls.{trees_logged}
@@ -67,7 +67,7 @@ use Rattle.environment.specs.declared.environment.Environment.{Environment}
 use Rattle.environment.specs.Auto.{IsAutoAt, alone_in}
 use Rattle.environment.specs.Calls.{IsOnRecords}
 use Rattle.environment.specs.Steps.{HasCome, HasNotCome, IsLogStep, StandsAt}
-use Rattle.environment.specs.Valid.{IsValidWith, owed_by}
+use Rattle.environment.specs.Valid.{IsValidWith, owed_by, fitting}
 use Rattle.environment.specs.Whole.{HasLimit, reach_of}
 use Rattle.environment.proofs.Answering.{owed_is}
 use Rattle.environment.proofs.AutoEnds.{evaluates, next, none_yet, plan_is, sessions_closed}
@@ -124,7 +124,7 @@ module _ {D : Type 0} (observable : Bool) (history : D → History) (sync_out re
     totals = at.totals ∙ ap totals_of (sym same.store);
     sessions_at = sessions;
     apart = apart;
-    valid = λ none. valid_leaves observable (now (history (disk_below e.engine.trees.log))) e.engine.trees.log (cells_of e.engine.trees) (has_tree_of e.engine.trees) e.written.by_txn.entries st after same
+    valid = λ none. valid_leaves observable (now (history (disk_below e.engine.trees.log))) e.engine.trees.log (cells_of e.engine.trees) (has_tree_of e.engine.trees) (fitting e.engine.trees) e.written.by_txn.entries st after same
         (at.valid (sym same.fault ∙ none));
   }
 
@@ -283,9 +283,10 @@ module _ {D : Type 0} (observable : Bool) (history : D → History) (sync_out re
         (are_of observable history sync_out read_out read_of most e st session call planned may.at may.valid log low))
 
     valid_logged : (n : Engine D) → planned.last_db ≤ LAST_DATABASE → HasLogged (contents_of e.engine) (contents_of n) planned → LeavesOthers e.engine.trees n.trees planned (owing st + 1) →
-        HasAppended observable history sync_out read_out read_of e.engine.trees.log n.trees.log (txn_of (e.engine.kept.last_txn + 1)) planned.changes.items →
-        IsValidWith observable (now (history (disk_below n.trees.log))) n.trees.log (cells_of n.trees) (has_tree_of n.trees) e.written.by_txn.entries (commits all_ (record st { last_txn = next_txn st.last_txn }))
-    valid_logged n low has leaves h =
+        (h : HasAppended observable history sync_out read_out read_of e.engine.trees.log n.trees.log (txn_of (e.engine.kept.last_txn + 1)) planned.changes.items) →
+        CarriesTrees observable history sync_out read_out read_of e.engine.trees.log h.entries (contents_of e.engine) (contents_of n) →
+        IsValidWith observable (now (history (disk_below n.trees.log))) n.trees.log (cells_of n.trees) (has_tree_of n.trees) (fitting n.trees) e.written.by_txn.entries (commits all_ (record st { last_txn = next_txn st.last_txn }))
+    valid_logged n low has leaves h carries =
         let t : TxnId = txn_of (e.engine.kept.last_txn + 1) in
         let v = may.at.valid may.valid in
         let number : t.0 ≡ st.last_txn + 1 = ap (λ (k : ℕ). k + 1) may.at.last_txn in
@@ -293,7 +294,7 @@ module _ {D : Type 0} (observable : Bool) (history : D → History) (sync_out re
         let a : HasAdded observable history sync_out read_out read_of e.engine.trees.log n.trees.log (LogsTransaction t planned.changes.items) =
         record { entries = h.entries; logs = h.logs; grew = h.grew; room = record { max = e.engine.trees.log.max; entries_are = h.fits.entries_are; room = h.fits.room } } in
         lone_valid rows_ st t log.change log.more planned.changes.items (low_of low) above_all (subst (λ (k : ℕ). AreOnly k st.own planned.changes.items) (sym its) only) (ap st.own its ∙ none_own_yet) number
-        observable history sync_out read_out read_of e.engine.trees.log n.trees.log (cells_of e.engine.trees) (cells_of n.trees) (has_tree_of e.engine.trees) (has_tree_of n.trees) e.written.by_txn.entries refl next_ v a
+        observable history sync_out read_out read_of e.engine.trees.log n.trees.log (cells_of e.engine.trees) (cells_of n.trees) (has_tree_of e.engine.trees) (has_tree_of n.trees) (fitting e.engine.trees) (fitting n.trees) e.written.by_txn.entries refl next_ v a carries
         (fun_ext has.rows ∙ ap (λ (o : Option ℕ). rows_after planned.changes.items o rows_) none_gone)
         (subst (λ (o : Option ℕ). LeavesWrites planned.changes.items o (cells_of e.engine.trees) (cells_of n.trees)) none_gone leaves.writes)
         (trees_logged (contents_of e.engine) (contents_of n) (alone_in st) session call planned (has_tree_of e.engine.trees) (has_tree_of n.trees)
@@ -321,8 +322,8 @@ module _ {D : Type 0} (observable : Bool) (history : D → History) (sync_out re
             comes_by n s (Logged commit) Done_ c cs is logs near
             (stands_on observable history sync_out read_out read_of most e n st (committed_alone all_ (drawn_alone (alone_in st))) may.at may.at.sessions_at
             (logged_at observable history sync_out read_out read_of most e.engine.trees.log n.trees.log (contents_of e.engine) (contents_of n) (alone_in st) session call planned (alone_at most observable history e st may.at) may.valid below log logs.2 logs.1
-            logs.4)
-            (λ valid. valid_logged n logs.2 logs.1 leaves logs.4))
+            logs.4 logs.5)
+            (λ valid. valid_logged n logs.2 logs.1 leaves logs.4 logs.5))
             same (sessions_closed observable history sync_out read_out read_of most e st session call g may s [] after closed refl refl own_is (gone_again a_.session (moved call (with_changes (c ∷ cs)).place (st.places a_.session)) st.places) refl refl) may.at.apart less
             (subst (λ (l : Option Answer). IsLogged (log_limit l) (Logged (st.commits + 1)) (Logged commit)) (sym logs.3) (inl (ap Logged number))) number may.valid
             (logged_step observable history sync_out read_out read_of most e st session call planned may.at may.valid log logs.2 n logs.4)

@@ -39,7 +39,7 @@ use Rattle.environment.specs.declared.environment.Environment.{Environment}
 use Rattle.environment.specs.declared.written.OwnNames.{OwnNames}
 use Rattle.environment.specs.Limits.{owing_after, written_evaluated}
 use Rattle.environment.specs.Steps.{HasCome, HasStepped, PerformsAnswer, StandsAt}
-use Rattle.environment.specs.Valid.{IsValidWith, active_number}
+use Rattle.environment.specs.Valid.{IsValidWith, active_number, fitting, Forest}
 use Rattle.environment.specs.Whole.{CanGoOn, reach_of}
 use Rattle.environment.proofs.Answering.{owed_is, within_more}
 use Rattle.environment.proofs.EarlyLaws.{not_early, same_buffer, same_reach}
@@ -106,10 +106,11 @@ owing_begun st a none =
 
 module _ {D : Type 0} where
   -- a transaction that begins changes nothing of a log and its trees
-  pub valid_begun : (observable : Bool) (state : State) (buffer : LogBuffer D) (cells : AllCells) (has_tree : ℕ → Bool) (written : List (TxnId × OwnNames)) (st : Standing) (a : Active) → AreSound st →
-      nat_lt st.last_txn LAST_TXN ≡ true → a.txn.0 ≡ next_txn st.last_txn → IsValidWith observable state buffer cells has_tree written st →
-      IsValidWith observable state buffer cells has_tree written (begun_with a st)
-  valid_begun observable state buffer cells has_tree written st a sound left is v = record {
+  pub valid_begun : (observable : Bool) (state : State) (buffer : LogBuffer D) (cells : AllCells) (has_tree : ℕ → Bool) (forest : Forest) (written : List (TxnId × OwnNames)) (st : Standing) (a : Active) → AreSound st →
+      nat_lt st.last_txn LAST_TXN ≡ true → a.txn.0 ≡ next_txn st.last_txn → IsValidWith observable state buffer cells has_tree forest written st →
+      IsValidWith observable state buffer cells has_tree forest written (begun_with a st)
+  unfolding still_gives
+  valid_begun observable state buffer cells has_tree forest written st a sound left is v = record {
     log = v.log;
     has = v.has;
     works = v.works;
@@ -129,6 +130,7 @@ module _ {D : Type 0} where
     made = v.made;
     room = λ n owed. v.room n (sym (owing_begun st a (none_own st a sound left is)) ∙ owed);
     names = v.names;
+    fits = v.fits;
   }
 
   -- an environment with another number and other sessions
@@ -146,7 +148,7 @@ module _ {D : Type 0} where
     totals = at.totals;
     sessions_at = sessions_now;
     apart = at.apart;
-    valid = λ none. valid_begun observable (now (history (disk_below e.engine.trees.log))) e.engine.trees.log (cells_of e.engine.trees) (has_tree_of e.engine.trees) e.written.by_txn.entries st a sound left is (at.valid none);
+    valid = λ none. valid_begun observable (now (history (disk_below e.engine.trees.log))) e.engine.trees.log (cells_of e.engine.trees) (has_tree_of e.engine.trees) (fitting e.engine.trees) e.written.by_txn.entries st a sound left is (at.valid none);
   }
 
   -- an environment with other sessions that stand at the same

@@ -1,5 +1,7 @@
 -- How a change of the catalog ends where others are under way.
 use Rattle.std.proofs.Common.{◌≡◌, ◌∙◌, ◌⊎◌, inl, ◌≤◌, ◌<◌, ◌+◌, ℕ, Bool, true, false, true≢false, cond, nat_lt, List, [], ◌∷◌, Option, None, Some, Ok, Err, ap, refl, sym, subst, arith}
+use Rattle.log_trees.specs.Placed.{placed}
+use Rattle.txn_log.proofs.AtStandingLaws.{same_under}
 use Rattle.std.specs.Prelude.{IfNone, IfSome}
 use mathlib.Core.Path.{fun_ext}
 use Rattle.std.specs.declared.alloc.AllocError.{AllocError}
@@ -53,7 +55,7 @@ use Rattle.environment.specs.Calls.{ChangesCatalog}
 use Rattle.environment.specs.Catalog.{IsFreeToChange, IsUsedBy, IsUserOf, changed_number}
 use Rattle.environment.specs.Limits.{owing_with, written_evaluated}
 use Rattle.environment.specs.Steps.{HasCome, IsLogStep, PerformsAnswer, StandsAt}
-use Rattle.environment.specs.Valid.{active_number}
+use Rattle.environment.specs.Valid.{active_number, fitting}
 use Rattle.environment.specs.Whole.{CanGoOn, HasLimit, reach_of}
 use Rattle.environment.proofs.Answering.{within_more}
 use Rattle.environment.proofs.BeginLaws.{next_is, none_left, with_begun}
@@ -158,7 +160,7 @@ user_none st numbers call is e = absurd is
 
 module _ {D : Type 0} where
   -- what is there without those that are under way
-  pub gives_without : (log : Log) (e : Environment D) (st : Standing) → e.engine.kept.last_txn ≡ st.last_txn → e.engine.kept.last_db ≡ st.last_db →
+  unfoldable pub gives_without : (log : Log) (e : Environment D) (st : Standing) → e.engine.kept.last_txn ≡ st.last_txn → e.engine.kept.last_db ≡ st.last_db →
       GivesRecordsWith log (end_of e.engine.trees.log) (committed (cells_of e.engine.trees)) st.last_txn st.last_db (active_number st.actives) st.own →
       GivesRecords log (end_of e.engine.trees.log) (contents_of e.engine)
   gives_without log e st last_txn last_db gives =
@@ -169,6 +171,7 @@ module _ {D : Type 0} where
 
   pub alone_at : (most : ℕ) (observable : Bool) (history : D → History) (e : Environment D) (st : Standing) → StandsAt most observable history e st →
       AreAlone most observable (now (history (disk_below e.engine.trees.log))) e.engine.trees.log (contents_of e.engine) (alone_of st)
+  unfolding gives_without gives_alone
   alone_at most observable history e st at = record {
     file_max = at.file_max;
     fault = at.fault;
@@ -186,6 +189,10 @@ module _ {D : Type 0} where
           gives = gives_without v.log e st at.last_txn at.last_db v.gives;
           recovers = v.recovers;
           made = v.makes.store;
+          fits = subst (λ (b : ℕ). fitting e.engine.trees (placed v.log) b)
+              (sym (same_under (λ (n : ℕ). GivesRecordsWith v.log (end_of e.engine.trees.log) (committed (cells_of e.engine.trees)) n e.engine.kept.last_db (active_number st.actives) st.own) (λ n g. g.base) (sym at.last_txn)
+              (subst (λ (n : ℕ). GivesRecordsWith v.log (end_of e.engine.trees.log) (committed (cells_of e.engine.trees)) st.last_txn n (active_number st.actives) st.own) (sym at.last_db) v.gives)
+              ∙ same_under (λ (n : ℕ). GivesRecordsWith v.log (end_of e.engine.trees.log) (committed (cells_of e.engine.trees)) st.last_txn n (active_number st.actives) st.own) (λ n g. g.base) (sym at.last_db) v.gives)) v.fits;
         };
   }
 

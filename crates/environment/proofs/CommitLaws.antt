@@ -1,5 +1,8 @@
 -- Where an environment stands once a transaction has committed.
 use Rattle.std.proofs.Common.{◌≡◌, ◌≢◌, ◌⊎◌, inl, inr, ℕ, zero, suc, ◌+◌, ◌≤◌, ◌<◌, ◌==◌, Bool, true, false, true≢false, cond, not, List, [], ◌∷◌, ◌++◌, filter, length, map, count_by, Option, None, Some, Ok, Bor, refl, ap, ap₂, sym, ◌∙◌, subst, arith}
+use Rattle.txn_log.proofs.Giving.{transaction_gives, transaction_on, still_gives}
+use Rattle.log_trees.specs.Placed.{placed}
+use Rattle.environment.proofs.Bases.{begun_with}
 use Rattle.std.specs.List.{AllByRecursion}
 use Rattle.std.specs.Option.{option_copied}
 use Rattle.std.proofs.lemmas.Bool.{cond-true, cond-false, eq-eqb}
@@ -56,9 +59,9 @@ use Rattle.txn_log.specs.Buffers.{HasAdded, HasFailed, MayCommit}
 use Rattle.log_entry.specs.Encoding.{size_of}
 use Rattle.txn_log.specs.Gives.{GivesRecordsWith}
 use Rattle.txn_log.specs.Leaves.{LeavesRecords}
-use Rattle.txn_log.proofs.BufferLaws.{commit_is_recovered}
+use Rattle.txn_log.proofs.BufferLaws.{commit_is_recovered, transaction_is_given}
 use Rattle.txn_log.specs.Committing.{MakesStore, MayBeCommitted, OwnAreCommitted, records_had, records_set, rows_own}
-use Rattle.txn_log.proofs.AtStandingLaws.{own_commit_leaves_log}
+use Rattle.txn_log.proofs.AtStandingLaws.{same_under, own_commit_leaves_log, commit_own, transaction_leaves_log}
 use Rattle.txn_log.proofs.CommittingLaws.{catalog_stays, own_above, own_may_be_committed}
 use Rattle.txn_log.proofs.CountLaws.{had_stay, records_are_counted}
 use Rattle.txn_views.specs.Laws.{own_names}
@@ -73,7 +76,7 @@ use Rattle.environment.specs.Committing.{HasNotSettled, HasSettled, is_set}
 use Rattle.environment.specs.Ending.{HasAbandoned}
 use Rattle.environment.specs.Limits.{owing_after, written_evaluated}
 use Rattle.environment.specs.Steps.{HasCome, HasFailedWith, HasGrown, HasStepped, IsLogStep, PerformsAnswer, RecoversWith, StandsAt}
-use Rattle.environment.specs.Valid.{IsValidWith, active_number, owed_by}
+use Rattle.environment.specs.Valid.{IsValidWith, active_number, owed_by, fitting}
 use Rattle.environment.specs.Whole.{CanGoOn, disk_of, reach_of}
 use Rattle.environment.specs.Written.{AreNamesOf, had_at, names_at}
 use Rattle.environment.proofs.Answering.{owed_is, within_more}
@@ -236,7 +239,7 @@ module _ {D : Type 0} (observable : Bool) (history : D → History) (sync_out re
     Settled = HasSettled observable history sync_out read_out read_of faults old new a.session a.txn records
 
     abbrev Valid : Type 0
-    Valid = IsValidWith observable (now (history (disk_below log_old))) log_old (cells_of old.engine.trees) (has_tree_of old.engine.trees) old.written.by_txn.entries st
+    Valid = IsValidWith observable (now (history (disk_below log_old))) log_old (cells_of old.engine.trees) (has_tree_of old.engine.trees) (fitting old.engine.trees) old.written.by_txn.entries st
 
     abbrev Sum : Type 0
     Sum = records + had_at a.txn old.written.by_txn.entries ≡ old.engine.kept.totals.records + count_by (λ (c : ℕ × RecordChange). is_set c.1) own_it
@@ -244,7 +247,7 @@ module _ {D : Type 0} (observable : Bool) (history : D → History) (sync_out re
     pub are_own : Valid → OwnAreCommitted rows_old st.last_db st own_it
     are_own v = own_may_be_committed rows_old st.last_db st own_it v.makes (v.may a.txn.0)
 
-    pub log_at : (v : Valid) → IsLogAt observable history log_old v.log rows_old (active_number st.actives) st
+    unfoldable pub log_at : (v : Valid) → IsLogAt observable history log_old v.log rows_old (active_number st.actives) st
     log_at v = record { given = record { has = v.has; gives = v.gives }; makes = v.makes; may = v.may }
 
     abbrev add : Settled → HasAdded observable history sync_out read_out read_of log_old log_new (LogsTransaction a.txn [])
@@ -255,7 +258,7 @@ module _ {D : Type 0} (observable : Bool) (history : D → History) (sync_out re
       room = record { max = log_old.max; entries_are = h.committed.grew.fits.entries_are; room = h.committed.grew.fits.room };
     }
 
-    log_then : (v : Valid) → (h : Settled) → active_of a.session st.actives ≡ Some a →
+    unfoldable log_then : (v : Valid) → (h : Settled) → active_of a.session st.actives ≡ Some a →
         IsLogAt observable history log_new (longer log_old (Committed a.txn ∷ []) v.log) later_rows (active_number then_.actives) then_
     log_then v h is =
         own_commit_leaves_log observable history sync_out read_out read_of log_old log_new v.log rows_old (active_number st.actives) (active_number then_.actives) st then_ a.txn (log_at v)
@@ -315,7 +318,8 @@ module _ {D : Type 0} (observable : Bool) (history : D → History) (sync_out re
     }
 
     valid_then : (v : Valid) → (h : Settled) → active_of a.session st.actives ≡ Some a → own_it ≢ [] →
-        IsValidWith observable (now (history (disk_below log_new))) log_new (cells_of new.engine.trees) (has_tree_of new.engine.trees) new.written.by_txn.entries then_
+        IsValidWith observable (now (history (disk_below log_new))) log_new (cells_of new.engine.trees) (has_tree_of new.engine.trees) (fitting new.engine.trees) new.written.by_txn.entries then_
+    unfolding log_then log_at own_commit_leaves_log commit_own transaction_leaves_log transaction_is_given transaction_gives transaction_on still_gives
     valid_then v h is some =
         let at = log_then v h is in
         let rows = sym (rows_then v h) in
@@ -331,6 +335,9 @@ module _ {D : Type 0} (observable : Bool) (history : D → History) (sync_out re
           made = λ db. h.committed.has_tree db ∙ v.made db ∙ ap (λ (l : List Row). has_number (map number_of_row l) db) (sym (catalog_same v)) ∙ ap (λ (r : Rows). has_number (numbers_of r) db) rows;
           room = room_then v h is some;
           names = subst (λ (r : Rows). AreNamesOf new.written.by_txn.entries then_.own r) rows (names_then v h);
+          fits = subst (λ (b : ℕ). fitting new.engine.trees (placed (longer log_old (Committed a.txn ∷ []) v.log)) b)
+              (sym (same_under (λ (r : Rows). GivesRecordsWith (longer log_old (Committed a.txn ∷ []) v.log) (end_of log_new) r then_.last_txn then_.last_db (active_number then_.actives) then_.own) (λ r g. g.base) rows at.given.gives))
+              (h.committed.fits v.log v.gives.base v.has (begun_with v.log (end_of log_old) rows_old st.last_txn st.last_db (active_number st.actives) st.own v.gives) v.fits);
         }
 
     totals_then : Valid → Settled → Sum → old.engine.kept.totals ≡ totals_of st.store → new.engine.kept.totals ≡ totals_of then_.store

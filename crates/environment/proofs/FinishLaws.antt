@@ -45,7 +45,7 @@ use Rattle.environment.specs.Access.{HasAccessed, IsTakenUp}
 use Rattle.environment.specs.Calls.{IsOnRecords}
 use Rattle.environment.specs.Limits.{owing_with, written_taken}
 use Rattle.environment.specs.Steps.{HasStepped, IsLogStep, StandsAt}
-use Rattle.environment.specs.Valid.{IsValidWith}
+use Rattle.environment.specs.Valid.{IsValidWith, fitting, Forest}
 use Rattle.environment.proofs.Answering.{owed_is, within_more}
 use Rattle.environment.proofs.EarlyLaws.{same_buffer, told_so}
 use Rattle.environment.proofs.EndingLaws.{near_owed}
@@ -89,11 +89,11 @@ abbrev Elsewhere : Standing → (ℕ → List (ℕ × RecordChange)) → (ℕ �
 Elsewhere st own places locks = record st { own = own; places = places; locks = locks }
 
 module _ {D : Type 0} where
-  pub valid_elsewhere : (observable : Bool) (state : State) (buffer : LogBuffer D) (cells : AllCells) (has_tree : ℕ → Bool) (written : List (TxnId × OwnNames)) (st : Standing) (own : ℕ → List (ℕ × RecordChange))
-      (places : ℕ → List Place) (locks : LockState) → st.own ≡ own → IsValidWith observable state buffer cells has_tree written st →
-      IsValidWith observable state buffer cells has_tree written (Elsewhere st own places locks)
-  valid_elsewhere observable state buffer cells has_tree written st own places locks same v =
-      subst (λ (o : ℕ → List (ℕ × RecordChange)). IsValidWith observable state buffer cells has_tree written (Elsewhere st o places locks)) same (record {
+  pub valid_elsewhere : (observable : Bool) (state : State) (buffer : LogBuffer D) (cells : AllCells) (has_tree : ℕ → Bool) (forest : Forest) (written : List (TxnId × OwnNames)) (st : Standing) (own : ℕ → List (ℕ × RecordChange))
+      (places : ℕ → List Place) (locks : LockState) → st.own ≡ own → IsValidWith observable state buffer cells has_tree forest written st →
+      IsValidWith observable state buffer cells has_tree forest written (Elsewhere st own places locks)
+  valid_elsewhere observable state buffer cells has_tree forest written st own places locks same v =
+      subst (λ (o : ℕ → List (ℕ × RecordChange)). IsValidWith observable state buffer cells has_tree forest written (Elsewhere st o places locks)) same (record {
         log = v.log;
         has = v.has;
         works = v.works;
@@ -112,6 +112,7 @@ module _ {D : Type 0} where
         made = v.made;
         room = v.room;
         names = v.names;
+        fits = v.fits;
       })
 
   -- the environment with these sessions
@@ -129,7 +130,7 @@ module _ {D : Type 0} where
     totals = at.totals;
     sessions_at = stands;
     apart = at.apart;
-    valid = λ none. valid_elsewhere observable (now (history (disk_below e.engine.trees.log))) e.engine.trees.log (cells_of e.engine.trees) (has_tree_of e.engine.trees) e.written.by_txn.entries st own places locks same
+    valid = λ none. valid_elsewhere observable (now (history (disk_below e.engine.trees.log))) e.engine.trees.log (cells_of e.engine.trees) (has_tree_of e.engine.trees) (fitting e.engine.trees) e.written.by_txn.entries st own places locks same
         (at.valid none);
   }
 

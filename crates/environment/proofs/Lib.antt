@@ -1,3 +1,5 @@
+-- Where the life of an environment began.
+pub mod Bases
 -- Where an environment stands when its log was written out or synced, or the disk failed.
 pub mod Standing
 -- The calls that wait.
@@ -80,3 +82,5 @@ pub mod CommitAgain
 pub mod AgainEnds
 -- Where cursors stand behind calls that have none.
 pub mod PlacesLaws
+-- Whose the names are that a transaction wrote.
+pub mod OwnFree

@@ -32,7 +32,7 @@ use Rattle.environment.specs.declared.environment.Environment.{Environment}
 use Rattle.environment.specs.declared.written.OwnNames.{OwnNames}
 use Rattle.environment.specs.Limits.{owing_after, written_evaluated}
 use Rattle.environment.specs.Steps.{HasCome, HasStepped, PerformsAnswer, StandsAt}
-use Rattle.environment.specs.Valid.{IsValidWith, active_number}
+use Rattle.environment.specs.Valid.{IsValidWith, active_number, fitting, Forest}
 use Rattle.environment.specs.Whole.{CanGoOn}
 use Rattle.environment.proofs.Answering.{within_more}
 use Rattle.environment.proofs.BeginLaws.{next_is, with_begun}
@@ -62,9 +62,10 @@ logs_nothing known st planned store last plan = let log = plan (model_of st) 0 (
 
 module _ {D : Type 0} where
   -- a number that is drawn changes nothing of a log and its trees
-  pub valid_drawn : (observable : Bool) (state : State) (buffer : LogBuffer D) (cells : AllCells) (has_tree : ℕ → Bool) (written : List (TxnId × OwnNames)) (st : Standing) (last : ℕ) → st.last_txn ≤ last →
-      IsValidWith observable state buffer cells has_tree written st → IsValidWith observable state buffer cells has_tree written (record st { last_txn = last })
-  valid_drawn observable state buffer cells has_tree written st last more v = record {
+  pub valid_drawn : (observable : Bool) (state : State) (buffer : LogBuffer D) (cells : AllCells) (has_tree : ℕ → Bool) (forest : Forest) (written : List (TxnId × OwnNames)) (st : Standing) (last : ℕ) → st.last_txn ≤ last →
+      IsValidWith observable state buffer cells has_tree forest written st → IsValidWith observable state buffer cells has_tree forest written (record st { last_txn = last })
+  unfolding still_gives
+  valid_drawn observable state buffer cells has_tree forest written st last more v = record {
     log = v.log;
     has = v.has;
     works = v.works;
@@ -83,6 +84,7 @@ module _ {D : Type 0} where
     made = v.made;
     room = v.room;
     names = v.names;
+    fits = v.fits;
   }
 
   pub drawn_at : (most : ℕ) (observable : Bool) (history : D → History) (e : Environment D) (last : ℕ) (st : Standing) → st.last_txn ≤ last → StandsAt most observable history e st →
@@ -96,7 +98,7 @@ module _ {D : Type 0} where
     totals = at.totals;
     sessions_at = at.sessions_at;
     apart = at.apart;
-    valid = λ none. valid_drawn observable (now (history (disk_below e.engine.trees.log))) e.engine.trees.log (cells_of e.engine.trees) (has_tree_of e.engine.trees) e.written.by_txn.entries st last more (at.valid none);
+    valid = λ none. valid_drawn observable (now (history (disk_below e.engine.trees.log))) e.engine.trees.log (cells_of e.engine.trees) (has_tree_of e.engine.trees) (fitting e.engine.trees) e.written.by_txn.entries st last more (at.valid none);
   }
 
 -- ---- the call

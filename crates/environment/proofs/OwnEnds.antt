@@ -70,7 +70,7 @@ use Rattle.environment.specs.Calls.{HasCause, IsOnRecords}
 use Rattle.environment.specs.Limits.{owing_with, written_taken}
 use Rattle.environment.specs.OwnEnds.{AreEndedBy, HasPushed, HasPushedAndLogged, WritesAs, WritesUp, answer_for}
 use Rattle.environment.specs.Steps.{HasNotCome, HasStepped, IsLogStep, StandsAt}
-use Rattle.environment.specs.Valid.{active_number, owed_by}
+use Rattle.environment.specs.Valid.{active_number, owed_by, fitting}
 use Rattle.environment.specs.Whole.{CanGoOn, HasLimit, reach_of}
 use Rattle.environment.specs.Writing.{IsLeft, IsValidAt, MayWrite, WritesAll, WritesOwn}
 use Rattle.environment.proofs.Answering.{owed_is, owed_with}
@@ -318,7 +318,7 @@ module _ {D : Type 0} (observable : Bool) (history : D → History) (sync_out re
       totals = ap (λ (k : Kept). k.totals) w.4 ∙ here.totals;
       sessions_at = record { actives = stands.actives; own = stands.own; places = still_placed s.cursors st.places a.session call ev.place unmoved stands.places; waiting = stands.waiting; locks = stands.locks };
       apart = here.apart;
-      valid = λ calm. valid_elsewhere observable (now (history (disk_below mid.engine.trees.log))) mid.engine.trees.log (cells_of mid.engine.trees) (has_tree_of mid.engine.trees) mid.written.by_txn.entries own_ own_.own
+      valid = λ calm. valid_elsewhere observable (now (history (disk_below mid.engine.trees.log))) mid.engine.trees.log (cells_of mid.engine.trees) (has_tree_of mid.engine.trees) (fitting mid.engine.trees) mid.written.by_txn.entries own_ own_.own
           OwnDone.places OwnDone.locks refl w.0;
     }
 
@@ -357,7 +357,7 @@ module _ {D : Type 0} (observable : Bool) (history : D → History) (sync_out re
       totals = ap (λ (k : Kept). k.totals) left.kept ∙ here.totals;
       sessions_at = stands;
       apart = here.apart;
-      valid = λ calm. valid_elsewhere observable (now (history (disk_below mid.engine.trees.log))) mid.engine.trees.log (cells_of mid.engine.trees) (has_tree_of mid.engine.trees) mid.written.by_txn.entries st st.own
+      valid = λ calm. valid_elsewhere observable (now (history (disk_below mid.engine.trees.log))) mid.engine.trees.log (cells_of mid.engine.trees) (has_tree_of mid.engine.trees) (fitting mid.engine.trees) mid.written.by_txn.entries st st.own
           st.places locks refl valid;
     }
 

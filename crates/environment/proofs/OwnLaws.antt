@@ -24,7 +24,7 @@ use Rattle.environment.specs.Access.{AccessesTo, HasAccessed, IsFoundFor}
 use Rattle.environment.specs.Calls.{IsOnRecords}
 use Rattle.environment.specs.Limits.{owing_after, owing_with, written_evaluated, written_on, written_performed, written_run}
 use Rattle.environment.specs.Steps.{ComesTo, HasCome, HasNotCome, HasStepped, StandsAt}
-use Rattle.environment.specs.Valid.{owed_by}
+use Rattle.environment.specs.Valid.{owed_by, fitting}
 use Rattle.environment.specs.Whole.{reach_of}
 use Rattle.environment.proofs.Answering.{owed_is}
 use Rattle.std.specs.Prelude.{◌==◌}
@@ -159,7 +159,7 @@ module _ {D : Type 0} (observable : Bool) (history : D → History) (sync_out re
     totals = here.totals ∙ sym (ap totals_of same.store);
     sessions_at = at;
     apart = apart;
-    valid = λ none. valid_leaves observable (now (history (disk_below e.engine.trees.log))) e.engine.trees.log (cells_of e.engine.trees) (has_tree_of e.engine.trees) e.written.by_txn.entries st after same
+    valid = λ none. valid_leaves observable (now (history (disk_below e.engine.trees.log))) e.engine.trees.log (cells_of e.engine.trees) (has_tree_of e.engine.trees) (fitting e.engine.trees) e.written.by_txn.entries st after same
         (here.valid (sym same.fault ∙ none));
   }
 

@@ -1,5 +1,9 @@
 -- Where an environment stands once changes of a transaction under way were to be logged.
 use mathlib.Core.Path.{fun_ext}
+use Rattle.log_file.specs.Log.{Log}
+use Rattle.log_buffer.specs.Flip.{pos_lsn}
+use Rattle.log_trees.specs.Placed.{placed}
+use Rattle.environment.proofs.Bases.{begun_with}
 use Rattle.std.proofs.Common.{arith, ◌≡◌, inl, ℕ, suc, ◌+◌, ◌≤◌, ◌==◌, nat_lt, Bool, true, false, true≢false, cond, ◌||◌, List, [], ◌∷◌, ◌++◌, map, length, Option, None, Some, Result, Ok, Err, count_by, refl, ap, ap₂, sym, ◌∙◌, subst}
 use Rattle.std.specs.declared.alloc.AllocError.{AllocError}
 use Rattle.std.specs.List.{AllByRecursion}
@@ -39,7 +43,7 @@ use Rattle.txn_log.specs.AtStanding.{IsLogAt}
 use Rattle.txn_log.specs.Buffers.{HasAdded, HasFailed, HasGiven, MayAddChanges}
 use Rattle.txn_log.specs.Committing.{MakesStore, MayBeCommitted, records_had}
 use Rattle.txn_log.specs.Gives.{GivesRecordsWith}
-use Rattle.txn_log.proofs.AtStandingLaws.{changes_leave_log}
+use Rattle.txn_log.proofs.AtStandingLaws.{changes_leave_base, changes_leave_log, same_under}
 use Rattle.txn_log.proofs.BufferLaws.{changes_are_recovered}
 use Rattle.txn_log.proofs.CountLaws.{had_go_on}
 use Rattle.txn_views.specs.Laws.{own_names}
@@ -56,7 +60,7 @@ use Rattle.engine.proofs.TxnGives.{added, failed}
 use Rattle.environment.specs.declared.environment.Environment.{Environment}
 use Rattle.environment.specs.declared.wrote.Wrote.{Wrote}
 use Rattle.environment.specs.declared.wrote.Wrote.TheVariants.{Done, Full, NoNumbers, Failed}
-use Rattle.environment.specs.Valid.{active_number}
+use Rattle.environment.specs.Valid.{active_number, fitting}
 use Rattle.environment.specs.Whole.{HasLimit}
 use Rattle.environment.specs.Written.{AreNamesOf, had_at, names_at}
 use Rattle.environment.specs.Writing.{HasWrittenNone, HasWrittenOwn, IsLeft, IsValidAt, MayWrite, WritesAll, WritesOwn, has_record, wrote_by}
@@ -78,7 +82,7 @@ module _ {D : Type 0} (observable : Bool) (history : D → History) (sync_out re
   abbrev LogAt : (old : Environment D) (st : Standing) → IsValidAt observable history old st → Type 0
   LogAt old st v = IsLogAt observable history old.engine.trees.log v.log (rows_in old) (active_number st.actives) st
 
-  log_at : (old : Environment D) (st : Standing) (v : IsValidAt observable history old st) → LogAt old st v
+  unfoldable log_at : (old : Environment D) (st : Standing) (v : IsValidAt observable history old st) → LogAt old st v
   log_at old st v = record { given = record { has = v.has; gives = v.gives }; makes = v.makes; may = v.may }
 
   may_add : (st : Standing) (txn : TxnId) (g : Target) (changes : List RecordChange) → MayWrite st txn.0 g changes → active_number st.actives txn.0 ≡ true →
@@ -140,6 +144,11 @@ module _ {D : Type 0} (observable : Bool) (history : D → History) (sync_out re
           names = λ t. h.written.names (txn_id t) ∙ v.names.names t;
           had = λ t. h.written.had (txn_id t) ∙ v.names.had t;
         });
+        fits = subst (λ (b : ℕ). fitting new.engine.trees (placed v.log) b)
+            (sym (same_under (λ (e : LogPos). GivesRecordsWith v.log e (rows_in new) st.last_txn st.last_db (active_number st.actives) st.own) (λ e g. g.base) (sym log.kept.end)
+            (subst (λ (c : AllCells). GivesRecordsWith v.log (end_of old.engine.trees.log) (committed c) st.last_txn st.last_db (active_number st.actives) st.own) (sym same) v.gives)
+            ∙ same_under (λ (c : AllCells). GivesRecordsWith v.log (end_of old.engine.trees.log) (committed c) st.last_txn st.last_db (active_number st.actives) st.own) (λ c g. g.base) (sym same) v.gives))
+            (h.trees.fits (placed v.log) v.gives.base v.fits);
       }
 
   pub is_left : (old new : Environment D) → HasWrittenNone old new → IsLeft old new
@@ -177,9 +186,16 @@ module _ {D : Type 0} (observable : Bool) (history : D → History) (sync_out re
     given : HasGiven observable history old.engine.trees.log v.log rows_ st.last_txn st.last_db (active_number st.actives) st.own
     given = record { has = v.has; gives = v.gives }
 
-    log_on : (a : Added) → IsLogAt observable history new.engine.trees.log (longer old.engine.trees.log a.entries v.log) rows_ (active_number st.actives) after_
+    unfoldable log_on : (a : Added) → IsLogAt observable history new.engine.trees.log (longer old.engine.trees.log a.entries v.log) rows_ (active_number st.actives) after_
     log_on a =
         changes_leave_log observable history sync_out read_out read_of old.engine.trees.log new.engine.trees.log v.log rows_ (active_number st.actives) st after_ txn planned_
+        (log_at old st v) (may_add st txn g changes m active) (subst (AllByRecursion (MayBeCommitted rows_)) (sym (own_planned g.db changes)) may_own) a refl refl refl refl
+        (λ u. ap (λ (l : List (ℕ × RecordChange)). with_at txn.0 (st.own txn.0 ++ l) st.own u) (sym (own_planned g.db changes)))
+
+    base_on : (a : Added) → (log_on a).given.gives.base ≡ v.gives.base
+    unfolding log_on log_at
+    base_on a =
+        changes_leave_base observable history sync_out read_out read_of old.engine.trees.log new.engine.trees.log v.log rows_ (active_number st.actives) st after_ txn planned_
         (log_at old st v) (may_add st txn g changes m active) (subst (AllByRecursion (MayBeCommitted rows_)) (sym (own_planned g.db changes)) may_own) a refl refl refl refl
         (λ u. ap (λ (l : List (ℕ × RecordChange)). with_at txn.0 (st.own txn.0 ++ l) st.own u) (sym (own_planned g.db changes)))
 
@@ -204,8 +220,11 @@ module _ {D : Type 0} (observable : Bool) (history : D → History) (sync_out re
           ∙ sym (had_go_on rows_ (st.own txn.0) own_)
       by_had t false = v.names.had t
 
-    done_valid : Written → (a : Added) → owed ≡ owing after_ → IsValidAt observable history new after_
-    done_valid w a owes =
+    done_valid : Written → (a : Added) →
+        ((log : Log) (base : ℕ) → HasLog observable (now (history (disk_below old.engine.trees.log))) old.engine.trees.log log → base ≤ pos_lsn (end_of old.engine.trees.log) → fitting old.engine.trees (placed log) base →
+        fitting new.engine.trees (placed (longer old.engine.trees.log a.entries log)) base) →
+        owed ≡ owing after_ → IsValidAt observable history new after_
+    done_valid w a carries owes =
         let same : rows_in new ≡ rows_ = rows_stay txn planned_ (cells_of old.engine.trees) (cells_of new.engine.trees) w.was_rising w.rising w.writes in
         let on = log_on a in
         record {
@@ -228,6 +247,10 @@ module _ {D : Type 0} (observable : Bool) (history : D → History) (sync_out re
           made = λ d. w.made d ∙ ap (λ (b : Bool). b || has_tree_of old.engine.trees d) (made_none d g.db changes) ∙ v.made d ∙ sym (ap (λ (r : Rows). has_number (numbers_of r) d) same);
           room = λ n is. subst (λ (k : ℕ). HasRoomFor new.engine.trees.log (commit_sizes k)) (owes ∙ is) w.room;
           names = subst (λ (r : Rows). AreNamesOf new.written.by_txn.entries after_.own r) (sym same) (names_on w);
+          fits = subst (λ (b : ℕ). fitting new.engine.trees (placed (longer old.engine.trees.log a.entries v.log)) b)
+              (sym (same_under (λ (r : Rows). GivesRecordsWith (longer old.engine.trees.log a.entries v.log) (end_of new.engine.trees.log) r st.last_txn st.last_db (active_number st.actives) after_.own) (λ r g. g.base) (sym same) on.given.gives
+              ∙ base_on a))
+              (carries v.log v.gives.base v.has (begun_with v.log (end_of old.engine.trees.log) rows_ st.last_txn st.last_db (active_number st.actives) st.own v.gives) v.fits);
         }
 
     near : Written → end_file new.engine.trees ≤ end_file old.engine.trees + most_entries (length changes)
@@ -243,7 +266,7 @@ module _ {D : Type 0} (observable : Bool) (history : D → History) (sync_out re
 
     pub done : Written → owed ≡ owing after_ → WritesOwn observable history sync_out read_out read_of old new st txn.0 g changes owed (Ok Done)
     done w owes = (
-      done_valid w a owes,
+      done_valid w a w.logged.fits owes,
       record {
         entries = a.entries;
         grew = a.grew;

@@ -1,5 +1,6 @@
 -- A waiting call goes on.
 use mathlib.Core.Path.{fun_ext}
+use Rattle.environment.specs.Valid.{fitting}
 use Rattle.std.proofs.Common.{◌≡◌, ◌∙◌, ℕ, Bool, true, false, cond, not, ◌==◌, List, [], ◌∷◌, filter, is_some, Option, None, Some, Result, Ok, Err, OnErr, ap, ap₂, refl, sym, subst, inl, inr, arith}
 use Rattle.std.specs.List.{AllByRecursion}
 use Rattle.std.specs.declared.alloc.AllocError.{AllocError}
@@ -212,7 +213,7 @@ module _ {D : Type 0} where
     totals = at.totals;
     sessions_at = now_;
     apart = own_waits_left (λ (v : Wait). not (v.session == w.session)) st.waiting at.apart;
-    valid = λ none. valid_waiting observable (now (history (disk_below e.engine.trees.log))) e.engine.trees.log (cells_of e.engine.trees) (has_tree_of e.engine.trees) e.written.by_txn.entries st
+    valid = λ none. valid_waiting observable (now (history (disk_below e.engine.trees.log))) e.engine.trees.log (cells_of e.engine.trees) (has_tree_of e.engine.trees) (fitting e.engine.trees) e.written.by_txn.entries st
         (without_wait w.session st.waiting) (forgotten w.txn st.locks) (at.valid none);
   }
 

@@ -1,5 +1,7 @@
 -- Where an environment stands when its log was written out or synced, or the disk failed.
 use Rattle.std.proofs.Common.{◌≡◌, ℕ, suc, ◌∙◌, Bool, false, List, Option, None, Some, refl, sym, subst, ◌≤◌}
+use Rattle.log_trees.specs.Placed.{placed}
+use Rattle.txn_log.proofs.AtStandingLaws.{same_under}
 use Rattle.je_disk.specs.States.{State}
 use Rattle.je_order.specs.declared.txn_id.TxnId.{TxnId}
 use Rattle.je_lsn.specs.Naming.{last_file}
@@ -21,7 +23,7 @@ use Rattle.txn_log.specs.Gives.{GivesRecordsWith}
 use Rattle.engine.specs.declared.kept.Kept.{Kept}
 use Rattle.environment.specs.declared.environment.Environment.{Environment}
 use Rattle.environment.specs.declared.written.OwnNames.{OwnNames}
-use Rattle.environment.specs.Valid.{AreAt, IsValidWith, active_number}
+use Rattle.environment.specs.Valid.{AreAt, IsValidWith, active_number, Forest}
 use Rattle.environment.specs.Whole.{IsAt}
 
 -- a sync that is under way is no part of what holds of a standing
@@ -53,10 +55,10 @@ module _ {D : Type 0} where
   }
 
   -- trees over such a log
-  pub valid_like : (observable : Bool) (before after : State) (buffer other : LogBuffer D) (cells : AllCells) (has_tree : ℕ → Bool) (written : List (TxnId × OwnNames)) (st : Standing) (begun : Option ℕ) →
-      IsLike observable before after buffer other → IsValidWith observable before buffer cells has_tree written st →
-      IsValidWith observable after other cells has_tree written (record st { begun = begun })
-  valid_like observable before after buffer other cells has_tree written st begun like v = record {
+  pub valid_like : (observable : Bool) (before after : State) (buffer other : LogBuffer D) (cells : AllCells) (has_tree : ℕ → Bool) (forest : Forest) (written : List (TxnId × OwnNames)) (st : Standing) (begun : Option ℕ) →
+      IsLike observable before after buffer other → IsValidWith observable before buffer cells has_tree forest written st →
+      IsValidWith observable after other cells has_tree forest written (record st { begun = begun })
+  valid_like observable before after buffer other cells has_tree forest written st begun like v = record {
     log = v.log;
     has = like.logs v.log v.has;
     works = like.works;
@@ -75,13 +77,15 @@ module _ {D : Type 0} where
     made = v.made;
     room = λ n is. room_like observable before after buffer other (commit_sizes (suc n)) like (v.room n is);
     names = v.names;
+    fits = subst (λ (b : ℕ). forest (placed v.log) b)
+        (sym (same_under (λ (e : LogPos). GivesRecordsWith v.log e (committed cells) st.last_txn st.last_db (active_number st.actives) st.own) (λ e g. g.base) (sym like.end) v.gives)) v.fits;
   }
 
   -- an environment with another buffer, and one whose disk failed
-  pub at_like : (most : ℕ) (observable : Bool) (before after : State) (buffer other : LogBuffer D) (cells : AllCells) (has_tree : ℕ → Bool) (kept : Kept) (sessions : Sessions) (written : List (TxnId × OwnNames))
-      (st : Standing) (begun : Option ℕ) → IsLike observable before after buffer other → AreAt most observable before buffer cells has_tree kept sessions written st →
-      AreAt most observable after other cells has_tree kept sessions written (record st { begun = begun })
-  at_like most observable before after buffer other cells has_tree kept sessions written st begun like at = record {
+  pub at_like : (most : ℕ) (observable : Bool) (before after : State) (buffer other : LogBuffer D) (cells : AllCells) (has_tree : ℕ → Bool) (forest : Forest) (kept : Kept) (sessions : Sessions) (written : List (TxnId × OwnNames))
+      (st : Standing) (begun : Option ℕ) → IsLike observable before after buffer other → AreAt most observable before buffer cells has_tree forest kept sessions written st →
+      AreAt most observable after other cells has_tree forest kept sessions written (record st { begun = begun })
+  at_like most observable before after buffer other cells has_tree forest kept sessions written st begun like at = record {
     file_max = like.max ∙ at.file_max;
     fault = at.fault;
     last_txn = at.last_txn;
@@ -90,14 +94,14 @@ module _ {D : Type 0} where
     totals = at.totals;
     sessions_at = sessions_begun sessions st begun at.sessions_at;
     apart = at.apart;
-    valid = λ none. valid_like observable before after buffer other cells has_tree written st begun like (at.valid none);
+    valid = λ none. valid_like observable before after buffer other cells has_tree forest written st begun like (at.valid none);
   }
 
-  pub at_failed : (most : ℕ) (observable : Bool) (before after : State) (buffer other : LogBuffer D) (cells later : AllCells) (has_tree later_tree : ℕ → Bool) (kept : Kept) (sessions : Sessions)
+  pub at_failed : (most : ℕ) (observable : Bool) (before after : State) (buffer other : LogBuffer D) (cells later : AllCells) (has_tree later_tree : ℕ → Bool) (forest later_forest : Forest) (kept : Kept) (sessions : Sessions)
       (written later_written : List (TxnId × OwnNames)) (st : Standing) (begun : Option ℕ) → file_max_of other ≡ file_max_of buffer →
-      AreAt most observable before buffer cells has_tree kept sessions written st →
-      AreAt most observable after other later later_tree (record kept { fault = Some Disk }) sessions later_written (record st { fault = Some Disk; begun = begun })
-  at_failed most observable before after buffer other cells later has_tree later_tree kept sessions written later_written st begun max at = record {
+      AreAt most observable before buffer cells has_tree forest kept sessions written st →
+      AreAt most observable after other later later_tree later_forest (record kept { fault = Some Disk }) sessions later_written (record st { fault = Some Disk; begun = begun })
+  at_failed most observable before after buffer other cells later has_tree later_tree forest later_forest kept sessions written later_written st begun max at = record {
     file_max = max ∙ at.file_max;
     fault = refl;
     last_txn = at.last_txn;

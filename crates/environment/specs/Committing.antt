@@ -1,6 +1,13 @@
 -- A transaction that commits its own changes.
-use Rattle.std.specs.Prelude.{ℕ, suc, ◌≡◌, ◌+◌, ◌∷◌, [], List, Option, Some, Bool, true, false, if◌then◌else◌}
-use Rattle.je_disk.specs.Moments.{History}
+use Rattle.std.specs.Prelude.{ℕ, suc, ◌≡◌, ◌+◌, ◌∷◌, [], List, Option, Some, Bool, true, false, if◌then◌else◌, ◌≤◌}
+use Rattle.log_trees.specs.Placed.{placed}
+use Rattle.environment.specs.Valid.{fitting}
+use Rattle.log_buffer.specs.Buffer.{disk_of as disk_below, end_of}
+use Rattle.log_buffer.specs.Growth.{longer}
+use Rattle.log_buffer.specs.Flip.{pos_lsn}
+use Rattle.log_buffer.specs.Log.{HasLog}
+use Rattle.log_file.specs.Log.{Log}
+use Rattle.je_disk.specs.Moments.{History, now}
 use Rattle.je_order.specs.declared.txn_id.TxnId.{TxnId}
 use Rattle.je_order.specs.Transactions.{is_same_txn}
 use Rattle.store_model.specs.declared.answer.Fault.TheVariants.{Disk}
@@ -37,6 +44,8 @@ module _ {D : Type 0} where
   pub record HasCommittedOwn (observable : Bool) (history : D → History) (sync_out read_out : D → Option ℕ) (read_of faults : D → ℕ) (old new : Engine D) (was is : List (TxnId × OwnNames)) (txn : TxnId)
       (records : ℕ) : Type 0 where
     pub grew : GrewFitting observable history sync_out read_out read_of faults old.trees.log new.trees.log (Commit txn ∷ [])
+    pub fits : (log : Log) (base : ℕ) → HasLog observable (now (history (disk_below old.trees.log))) old.trees.log log → base ≤ pos_lsn (end_of old.trees.log) → fitting old.trees (placed log) base →
+        fitting new.trees (placed (longer old.trees.log (Commit txn ∷ []) log)) base
     pub left : (owed : ℕ) → HasRoomFor old.trees.log (commit_sizes (suc owed)) → HasRoomFor new.trees.log (commit_sizes owed)
     pub kept : new.kept ≡ kept_committed old.kept records
     pub cells : HasChangedAll (cells_of old.trees) (cells_of new.trees) (names_at txn was) after_commit

@@ -1,5 +1,7 @@
 -- A transaction that ends without a commit.
-use Rattle.std.specs.Prelude.{ℕ, ◌≡◌, ◌≤◌, [], if◌then◌else◌}
+use Rattle.std.specs.Prelude.{ℕ, ◌≡◌, ◌≤◌, [], if◌then◌else◌, List}
+use Rattle.environment.specs.Valid.{fitting}
+use Rattle.log_trees.specs.Placed.{Placed}
 use Rattle.je_order.specs.declared.txn_id.TxnId.{TxnId}
 use Rattle.je_order.specs.Transactions.{is_same_txn}
 use Rattle.record_map.specs.Cells.{IsRising}
@@ -23,6 +25,7 @@ module _ {D : Type 0} where
     pub rising : (d : ℕ) → IsRising (cells_of new.engine.trees d)
     pub has_tree : (d : ℕ) → has_tree_of new.engine.trees d ≡ has_tree_of old.engine.trees d
     pub waits : waits_of new.engine.trees ≤ waits_of old.engine.trees
+    pub fits : (es : List Placed) (base : ℕ) → fitting old.engine.trees es base → fitting new.engine.trees es base
     pub names : (t : TxnId) → names_at t new.written.by_txn.entries ≡ (if is_same_txn txn t then [] else names_at t old.written.by_txn.entries)
     pub had : (t : TxnId) → had_at t new.written.by_txn.entries ≡ (if is_same_txn txn t then 0 else had_at t old.written.by_txn.entries)
     pub sessions : (st : Standing) (a : Active) → a.session ≡ session → a.txn ≡ txn → AreSessionsAt old.sessions st → AreSessionsAt new.sessions (ended a st)

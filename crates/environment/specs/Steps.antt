@@ -29,7 +29,7 @@ use Rattle.environment.specs.declared.environment.Environment.{Environment}
 use Rattle.environment.specs.declared.outcome.Outcome.{Outcome}
 use Rattle.environment.specs.Limits.{owing_after, written_evaluated, written_unless}
 use Rattle.standing_laws.specs.Right.{AreSound}
-use Rattle.environment.specs.Valid.{AreAt, AreBare}
+use Rattle.environment.specs.Valid.{AreAt, AreBare, fitting}
 use Rattle.environment.specs.Whole.{CanGoOn, HasLimit, disk_of, reach_of}
 use Rattle.environment.specs.Calls.{HasCause}
 
@@ -51,7 +51,7 @@ module _ {D : Type 0} where
   -- in the middle of an event too the environment is where the model stands
   abbrev pub StandsAt : ℕ → Bool → (D → History) → Environment D → Standing → Type 0
   StandsAt most observable history e st =
-      AreAt most observable (now (history (disk_below e.engine.trees.log))) e.engine.trees.log (cells_of e.engine.trees) (has_tree_of e.engine.trees) e.engine.kept e.sessions e.written.by_txn.entries st
+      AreAt most observable (now (history (disk_below e.engine.trees.log))) e.engine.trees.log (cells_of e.engine.trees) (has_tree_of e.engine.trees) (fitting e.engine.trees) e.engine.kept e.sessions e.written.by_txn.entries st
 
   module _ (observable : Bool) (history : D → History) (sync_out read_out : D → Option ℕ) (read_of : D → ℕ) where
     -- a log that is longer by these entries recovers these transactions more

@@ -10,7 +10,11 @@ use Rattle.log_buffer.specs.declared.buffer.LogBuffer.{LogBuffer}
 use Rattle.log_buffer.specs.Buffer.{end_of, file_max_of, has_failed}
 use Rattle.log_buffer.specs.Log.{HasLog}
 use Rattle.log_replay.specs.Rows.{numbers_of}
+use Rattle.log_trees.specs.Placed.{Placed, placed}
+use Rattle.tree_images.specs.Forest.{ForestFits}
+use Rattle.in_tree.specs.declared.logged_trees.LogTrees.{LogTrees}
 use Rattle.in_tree.specs.Limits.{HasRoomFor, commit_sizes}
+use Rattle.in_tree.specs.Observed.{last_node_of, trees_of}
 use Rattle.record_tree.specs.Occupied.{AllCells}
 use Rattle.engine.specs.declared.kept.Kept.{Kept}
 use Rattle.txn_core.specs.Totals.{totals_of}
@@ -26,6 +30,14 @@ use Rattle.engine.specs.Environment.{RecoversStore}
 use Rattle.environment.specs.Written.{AreNamesOf}
 use Rattle.environment.specs.declared.written.OwnNames.{OwnNames}
 
+-- what holds of a log's entries and the LSN where this life of the environment began
+abbrev pub Forest : Type 1
+Forest = List Placed → ℕ → Type 0
+
+-- that trees fit them
+abbrev pub fitting : {D : Type 0} → LogTrees D → Forest
+fitting trees es base = ForestFits es base (last_node_of trees) (trees_of trees)
+
 -- whether a transaction of that number is under way
 abbrev pub active_number : List Active → ℕ → Bool
 active_number actives n = is_active (txn_id n) actives
@@ -40,8 +52,8 @@ owed_by s = length (filter (λ a. has_changes (own_of s.txns.own.entries a.txn.0
 
 module _ {D : Type 0} where
   -- A log and trees with these cells, where the model stands at `st` and no fault came: the log works, gives the committed records and each
-  -- transaction's own changes, recovers the store, and has room for the Commits that are owed; the trees have the same.
-  pub record IsValidWith (observable : Bool) (state : State) (buffer : LogBuffer D) (cells : AllCells) (has_tree : ℕ → Bool) (written : List (TxnId × OwnNames)) (st : Standing) : Type 0 where
+  -- transaction's own changes, recovers the store, and has room for the Commits that are owed; the trees have the same, and fit the log.
+  pub record IsValidWith (observable : Bool) (state : State) (buffer : LogBuffer D) (cells : AllCells) (has_tree : ℕ → Bool) (forest : Forest) (written : List (TxnId × OwnNames)) (st : Standing) : Type 0 where
     pub log : Log
     pub has : HasLog observable state buffer log
     pub works : has_failed buffer ≡ false
@@ -53,9 +65,10 @@ module _ {D : Type 0} where
     pub made : (db : ℕ) → has_tree db ≡ has_number (numbers_of (committed cells)) db
     pub room : (n : ℕ) → owing st ≡ suc n → HasRoomFor buffer (commit_sizes (suc n))
     pub names : AreNamesOf written st.own (committed cells)
+    pub fits : forest (placed log) gives.base
 
   -- an environment of these parts, whose files have at most so many bytes, is where the model stands
-  pub record AreAt (most : ℕ) (observable : Bool) (state : State) (buffer : LogBuffer D) (cells : AllCells) (has_tree : ℕ → Bool) (kept : Kept) (sessions : Sessions) (written : List (TxnId × OwnNames))
+  pub record AreAt (most : ℕ) (observable : Bool) (state : State) (buffer : LogBuffer D) (cells : AllCells) (has_tree : ℕ → Bool) (forest : Forest) (kept : Kept) (sessions : Sessions) (written : List (TxnId × OwnNames))
       (st : Standing) : Type 0 where
     pub file_max : file_max_of buffer ≡ most
     pub fault : kept.fault ≡ st.fault
@@ -65,4 +78,4 @@ module _ {D : Type 0} where
     pub totals : kept.totals ≡ totals_of st.store
     pub sessions_at : AreSessionsAt sessions st
     pub apart : HaveOwnWaits st.waiting
-    pub valid : st.fault ≡ None → IsValidWith observable state buffer cells has_tree written st
+    pub valid : st.fault ≡ None → IsValidWith observable state buffer cells has_tree forest written st

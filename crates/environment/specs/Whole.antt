@@ -28,7 +28,7 @@ use Rattle.engine.specs.Opening.{StartsAt, reach_in}
 use Rattle.engine.specs.Whole.{CanGoOn as EngineCanGoOn, disk_of as disk_below}
 use Rattle.sessions.specs.declared.all_sessions.Sessions.{Sessions}
 use Rattle.standing_laws.specs.Right.{AreRight}
-use Rattle.environment.specs.Valid.{AreAt, AreBare, owed_by}
+use Rattle.environment.specs.Valid.{AreAt, AreBare, owed_by, fitting}
 use Rattle.environment.specs.declared.environment.Environment.{Environment}
 use Rattle.environment.specs.declared.outcome.Outcome.{Outcome}
 use Rattle.environment.specs.Limits.{written_by}
@@ -40,7 +40,7 @@ module _ {D : Type 0} where
 
   -- the environment, whose files have at most so many bytes, is where the model stands
   pub record IsAt (most : ℕ) (observable : Bool) (state : State) (environment : Environment D) (st : Standing) : Type 0 where
-    pub at : AreAt most observable state environment.engine.trees.log (cells_of environment.engine.trees) (has_tree_of environment.engine.trees) environment.engine.kept environment.sessions
+    pub at : AreAt most observable state environment.engine.trees.log (cells_of environment.engine.trees) (has_tree_of environment.engine.trees) (fitting environment.engine.trees) environment.engine.kept environment.sessions
         environment.written.by_txn.entries st
     pub right : st.fault ≡ None → AreRight st
     pub bare : st.fault ≡ None → AreBare st

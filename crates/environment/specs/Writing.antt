@@ -1,5 +1,10 @@
 -- What became of a call's changes that were to be logged.
 use Rattle.std.specs.Prelude.{ℕ, ◌≡◌, ◌≢◌, ◌≤◌, ◌+◌, ◌||◌, ◌∷◌, ◌++◌, [], List, Option, None, Some, Bool, true, false, length, nat_lt, count_by, Result, Ok, Err, if◌then◌else◌}
+use Rattle.log_trees.specs.Placed.{placed}
+use Rattle.log_buffer.specs.Growth.{longer}
+use Rattle.log_buffer.specs.Flip.{pos_lsn}
+use Rattle.log_buffer.specs.Log.{HasLog}
+use Rattle.log_file.specs.Log.{Log}
 use Rattle.std.specs.declared.alloc.AllocError.{AllocError}
 use Rattle.std.specs.List.{AllByRecursion}
 use Rattle.std.specs.Ordering.{is_eq}
@@ -19,7 +24,7 @@ use Rattle.store_model.specs.declared.record_change.RecordChange.{RecordChange}
 use Rattle.store_model.specs.Needs.{changed_name}
 use Rattle.je_answers.specs.Standing.{Standing, database_at}
 use Rattle.je_answers.specs.Views.{Target, changes_at, changes_on}
-use Rattle.log_buffer.specs.Buffer.{IsUnchanged, disk_of as disk_below, file_max_of}
+use Rattle.log_buffer.specs.Buffer.{IsUnchanged, disk_of as disk_below, file_max_of, end_of}
 use Rattle.in_tree.specs.declared.logged_trees.LogTrees.{LogTrees}
 use Rattle.in_tree.specs.Limits.{GrewFitting, HasRoomFor, TriedFitting, commit_sizes}
 use Rattle.in_tree.specs.Observed.{cells_of, has_tree_of, limit_in, waits_of}
@@ -36,7 +41,7 @@ use Rattle.environment.specs.declared.environment.Environment.{Environment}
 use Rattle.environment.specs.declared.wrote.Wrote.{Wrote}
 use Rattle.environment.specs.declared.wrote.Wrote.TheVariants.{Done, Full, NoNumbers, Failed}
 use Rattle.environment.specs.Steps.{HasFailedWith, HasGrown}
-use Rattle.environment.specs.Valid.{IsValidWith}
+use Rattle.environment.specs.Valid.{IsValidWith, fitting}
 use Rattle.environment.specs.Whole.{HasLimit}
 use Rattle.environment.specs.Written.{had_at, names_at}
 
@@ -71,6 +76,8 @@ module _ {D : Type 0} (observable : Bool) (history : D → History) (sync_out re
     pub entries : List Entry
     pub logs : LogsChanges txn changes entries
     pub grew : GrewFitting observable history sync_out read_out read_of faults old.log new.log entries
+    pub fits : (log : Log) (base : ℕ) → HasLog observable (now (history (disk_below old.log))) old.log log → base ≤ pos_lsn (end_of old.log) → fitting old (placed log) base →
+        fitting new (placed (longer old.log entries log)) base
     pub waits : length entries + waits_of new ≤ waits_of old + most_entries (length changes)
 
   -- or the disk failed while the first of these entries were appended
@@ -138,7 +145,7 @@ module _ {D : Type 0} where
   -- an environment's log and trees are where a valid standing is
   abbrev pub IsValidAt : Bool → (D → History) → Environment D → Standing → Type 0
   IsValidAt observable history e st =
-      IsValidWith observable (now (history (disk_below e.engine.trees.log))) e.engine.trees.log (cells_of e.engine.trees) (has_tree_of e.engine.trees) e.written.by_txn.entries st
+      IsValidWith observable (now (history (disk_below e.engine.trees.log))) e.engine.trees.log (cells_of e.engine.trees) (has_tree_of e.engine.trees) (fitting e.engine.trees) e.written.by_txn.entries st
 
   -- nothing was logged
   pub record IsLeft (old new : Environment D) : Type 0 where

@@ -26,6 +26,7 @@ use crate::outcome::Outcome;
 use db_catalog::FoundDb;
 use je_disk::Disk;
 use je_order::{TxnId, Word};
+use record_tree::Records;
 use sessions::{Sessions, Taken};
 use std::alloc::{AllocError, Global};
 use store_model::{Answer, Call, Durability, Isolation, Kind, Need};
@@ -212,6 +213,7 @@ impl<D: Disk> Environment<D> {
         ensures cause { HasCause (D.faults (disk_of self.old)) (D.faults (disk_of self.new)) result }
     {
         is_number(self.engine.kept.last_db);
+        self.engine.trees.are_ordered();
         match self.engine.log_among(alloc, planned, owed) {
             Ok(Answer::DiskFault) => {
                 undo_auto(&mut self.sessions, txn);

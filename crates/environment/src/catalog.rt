@@ -17,6 +17,7 @@ ghost use Rattle.store_model.specs.declared.store.TheConstants.{LAST_DATABASE as
 use crate::environment::Environment;
 use je_disk::Disk;
 use je_order::TxnId;
+use record_tree::Records;
 use std::alloc::{AllocError, Global};
 use store_model::{Answer, Call, LAST_TXN};
 use txn_core::{Planned, PlannedChanges, number_under, plan};
@@ -153,6 +154,7 @@ impl<D: Disk> Environment<D> {
         if u32::MAX as usize <= owing {
             return Err(AllocError);
         }
+        self.engine.trees.are_ordered();
         self.engine.log_among(alloc, changes, owing as u32 + 1)
     }
 

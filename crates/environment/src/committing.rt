@@ -1,10 +1,13 @@
 // The commit of a transaction.
 ghost use Rattle.std.specs.Prelude.{◌≡◌, ◌<◌, ◌+◌, ◌^◌, ◌∷◌, [], None, ℕ, suc, List, OnOk, OnErr, IfSome, count_by};
+ghost use Rattle.std.specs.List.{AllByRecursion};
 ghost use Rattle.std.specs.Option.{option_map_or};
 ghost use Rattle.log_entry.specs.declared.entry.Entry.{Entry};
 ghost use Rattle.log_entry.specs.declared.entry.Entry.TheVariants.{Commit as Committed};
 ghost use Rattle.in_tree.specs.Limits.{HasRoomFor, commit_sizes};
-ghost use Rattle.record_tree.specs.Occupied.{HasChangedAll, after_commit};
+ghost use Rattle.in_tree.specs.Observed.{cells_of};
+ghost use Rattle.record_map.specs.Cells.{value_at};
+ghost use Rattle.record_tree.specs.Occupied.{HasChangedAll, IsFreeFor, after_commit, write_in};
 ghost use Rattle.record_tree.specs.Logged.{IsFront};
 ghost use Rattle.je_answers.specs.Standing.{Standing};
 ghost use Rattle.je_answers.specs.Refusals.{early_refusal};
@@ -13,7 +16,7 @@ ghost use Rattle.standing_laws.specs.Right.{AreSound};
 ghost use Rattle.environment.specs.Committing.{HasCommittedOwn, HasNotSettled, HasSettled, is_set};
 ghost use Rattle.environment.specs.Steps.{PerformsAnswer, StandsAt};
 ghost use Rattle.environment.specs.Whole.{CanGoOn};
-ghost use Rattle.environment.specs.Written.{had_at};
+ghost use Rattle.environment.specs.Written.{had_at, names_at};
 ghost use Rattle.store_model.specs.declared.call.Call.TheVariants.{Commit};
 
 use crate::ending::take_names;
@@ -33,7 +36,8 @@ pub(crate) fn commit_taken<T: Records>(
     txn: TxnId,
     taken: Option<OwnNames>,
 ) -> Result<(), TreeErr>
-    requires { (owed : ℕ) × T.has_room trees.old (suc owed) }
+    requires room { (owed : ℕ) × T.has_room trees.old (suc owed) }
+    requires own { AllByRecursion (λ n. IsFreeFor txn (write_in (value_at n.name (T.cells trees.old n.db)))) (option_map_or (λ o. o.names.items) taken []) }
     ensures cells { OnOk result (HasChangedAll (T.cells trees.old) (T.cells trees.new) (option_map_or (λ o. o.names.items) taken []) after_commit) }
     ensures grew { OnOk result (T.grew trees.old trees.new (Committed txn ∷ [])) }
     ensures left { (owed : ℕ) → T.has_room trees.old (suc owed) → OnOk result (T.has_room trees.new owed) }
@@ -126,6 +130,7 @@ impl<D: Disk> Environment<D> {
     // Commits what a transaction wrote, behind which the store has so many records; the one error is a fault.
     pub(crate) fn commit_own(&mut self, txn: TxnId, records: u64) -> Result<(), TreeErr>
         requires room { (owed : ℕ) × HasRoomFor self.old.engine.trees.log (commit_sizes (suc owed)) }
+        requires own { AllByRecursion (λ n. IsFreeFor txn (write_in (value_at n.name (cells_of self.old.engine.trees n.db)))) (names_at txn self.old.written.by_txn.entries) }
         requires fits { self.old.engine.kept.commits + 1 < 2 ^ 64 }
         ensures done { OnOk result (HasCommittedOwn D.observable D.history D.sync_out D.read_out D.read_of D.faults self.old.engine self.new.engine self.old.written.by_txn.entries self.new.written.by_txn.entries txn records) }
         ensures failed { OnErr result (HasNotSettled D.observable D.history D.sync_out D.read_out D.read_of D.faults self.old self.new txn) }
@@ -151,6 +156,7 @@ impl<D: Disk> Environment<D> {
     // error is a fault.
     fn settle(&mut self, session: u8, txn: TxnId, records: u64) -> Result<(), TreeErr>
         requires room { (owed : ℕ) × HasRoomFor self.old.engine.trees.log (commit_sizes (suc owed)) }
+        requires own { AllByRecursion (λ n. IsFreeFor txn (write_in (value_at n.name (cells_of self.old.engine.trees n.db)))) (names_at txn self.old.written.by_txn.entries) }
         requires fits { self.old.engine.kept.commits + 1 < 2 ^ 64 }
         ensures done { OnOk result (HasSettled D.observable D.history D.sync_out D.read_out D.read_of D.faults self.old self.new session txn records) }
         ensures failed { OnErr result (HasNotSettled D.observable D.history D.sync_out D.read_out D.read_of D.faults self.old self.new txn) }

@@ -18,7 +18,7 @@ ghost use Rattle.environment.specs.Whole.{disk_of};
 ghost use Rattle.environment.specs.Writing.{IsValidAt, MayWrite, WritesAll, WritesOwn};
 
 use crate::environment::Environment;
-use crate::own_changes::{copy_changes, copy_names, count_had};
+use crate::own_changes::{are_new, copy_changes, copy_names, count_had};
 use crate::own_names::{append_at, make_room_at};
 use crate::tree_writing::{limit_of, write_changes};
 use crate::wrote::Wrote;
@@ -67,6 +67,10 @@ impl<D: Disk> Environment<D> {
         }
         self.engine.trees.are_ordered();
         let had = count_had(&self.engine.trees, txn, changes);
+        // A call changes at most one name without a record: were it otherwise, this would run out of memory.
+        if are_new(changes.len(), had) {
+            return Err(AllocError);
+        }
         make_room_at(&mut self.written.by_txn, alloc, txn, names.len(), had)?;
         let wrote = write_changes(&mut self.engine.trees, alloc, txn, changes, owed)?;
         self.engine.trees.are_ordered();

@@ -1,5 +1,5 @@
 // A call's own changes as what is logged and written of them.
-ghost use Rattle.std.specs.Prelude.{◌≡◌, IfOk, map, count_by};
+ghost use Rattle.std.specs.Prelude.{◌≡◌, ◌+◌, IfOk, map, count_by, nat_lt};
 ghost use Rattle.std.specs.Option.{is_some};
 ghost use Rattle.je_answers.specs.Views.{changes_at};
 ghost use Rattle.record_tree.specs.Occupied.{occupied_by};
@@ -117,4 +117,14 @@ pub(crate) fn count_had<T: Records>(trees: &T, txn: TxnId, changes: &[TreeChange
         }
     }
     count
+}
+
+// Whether more than one of so many changes is of a name that has none, where so many have one.
+pub(crate) fn are_new(changes: usize, had: u64) -> bool
+    ensures { result ≡ nat_lt (had + 1) changes }
+{
+    match had.checked_add(1) {
+        Some(most) => most < changes as u64,
+        None => false,
+    }
 }

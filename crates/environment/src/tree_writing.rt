@@ -5,7 +5,7 @@ ghost use Rattle.log_buffer.specs.Buffer.{disk_of as disk_below, has_failed};
 ghost use Rattle.log_entry.specs.Body.{IsEntry};
 ghost use Rattle.record_map.specs.Cells.{value_at};
 ghost use Rattle.record_tree.specs.Logged.{entry_for};
-ghost use Rattle.record_tree.specs.Occupied.{IsFreeFor, write_in};
+ghost use Rattle.record_tree.specs.Occupied.{AreFewNew, IsFreeFor, write_in};
 ghost use Rattle.in_tree.specs.Observed.{cells_of, has_tree_of, limit_in};
 ghost use Rattle.engine.specs.Whole.{AreLeft};
 ghost use Rattle.environment.specs.Writing.{WritesTrees, wrote_by};
@@ -27,6 +27,7 @@ pub(crate) fn write_changes<D: Disk>(
 ) -> Result<Wrote, AllocError>
     requires trees { AllByRecursion (λ c. has_tree_of trees.old c.db ≡ true) changes.now }
     requires free { AllByRecursion (λ c. IsFreeFor txn (write_in (value_at c.name (cells_of trees.old c.db)))) changes.now }
+    requires few { AreFewNew (cells_of trees.old) changes.now }
     requires new { AllByRecursion (λ c. IfSome c.makes (λ d. has_tree_of trees.old d ≡ false)) changes.now }
     requires entries { AllByRecursion (λ c. IsEntry (entry_for txn c.db c.name c.value)) changes.now }
     ensures writes { WritesTrees D.observable D.history D.sync_out D.read_out D.read_of D.faults trees.old trees.new txn changes.now owed result }

@@ -4,7 +4,7 @@ use Rattle.std.specs.Prelude.{◌≢◌}
 use Rattle.std.specs.List.{AllByRecursion}
 use Rattle.std.proofs.lemmas.Bool.{cond-false, cond-true, eq-eqb, ne_eqb}
 use Rattle.std.proofs.lemmas.List.{append-nil}
-use mathlib.Core.Path.{fun_ext}
+use mathlib.Core.Path.{fun_ext, path_j, subst_refl}
 use Rattle.je_disk.specs.Moments.{History}
 use Rattle.je_order.specs.declared.txn_id.TxnId.{TxnId}
 use Rattle.je_order.proofs.Lists.{all_append, all_weaker}
@@ -19,9 +19,9 @@ use Rattle.log_buffer.specs.Growth.{longer}
 use Rattle.log_buffer.specs.Buffer.{end_of}
 use Rattle.log_replay.specs.Rows.{Rows, numbers_of}
 use Rattle.record_tree.specs.declared.tree_change.TreeChange.{TreeChange}
-use Rattle.record_tree.specs.Logged.{LogsTransaction}
+use Rattle.record_tree.specs.Logged.{LogsChanges, LogsTransaction}
 use Rattle.txn_log.specs.Own.{AreFreeNames, OwnChange, own_of, tree_of}
-use Rattle.txn_log.specs.Buffers.{HasAdded, HasGiven, MayCommit}
+use Rattle.txn_log.specs.Buffers.{HasAdded, HasGiven, MayAddChanges, MayCommit}
 use Rattle.txn_log.specs.Committing.{MakesStore, MayBeCommitted, OwnAreCommitted, rows_own}
 use Rattle.txn_log.specs.Growth.{HasOwn, own_with}
 use Rattle.txn_log.specs.Gives.{AreStillActive}
@@ -29,7 +29,7 @@ use Rattle.txn_log.specs.Leaves.{LeavesRecords}
 use Rattle.txn_log.specs.AtStanding.{ChangesLeaveLog, HasCommitted, IsLogAt, LoneCommitLeavesLog, NamedAreOn, OwnCommitLeavesLog, TransactionLeavesLog}
 use Rattle.txn_log.proofs.BufferLaws.{changes_are_given, transaction_is_given}
 use Rattle.txn_log.proofs.CommittingLaws.{catalog_stays, own_above, own_may_be_committed}
-use Rattle.txn_log.proofs.Giving.{by_same, still_gives}
+use Rattle.txn_log.proofs.Giving.{by_same, changes_give, still_gives}
 use Rattle.txn_log.proofs.OwnLaws.{trees_are_own}
 use Rattle.txn_log.proofs.StayingLaws.{may_stay}
 
@@ -55,24 +55,28 @@ makes_same rows st after store numbers last_db makes = record {
 }
 
 -- own changes stay where the catalog does
-all_stay : (rows later : Rows) (own : List OwnChange) → later 0 ≡ rows 0 → AllByRecursion (MayBeCommitted rows) own → AllByRecursion (MayBeCommitted later) own
+pub all_stay : (rows later : Rows) (own : List OwnChange) → later 0 ≡ rows 0 → AllByRecursion (MayBeCommitted rows) own → AllByRecursion (MayBeCommitted later) own
 all_stay rows later own same may = all_weaker (MayBeCommitted rows) (MayBeCommitted later) (λ c m. may_stay rows later c same m) own may
 
 -- the own changes of a transaction, and those of the others
-at_same : {X : Type 0} (n : ℕ) (x : X) (f : ℕ → X) → with_at n x f n ≡ x
+pub at_same : {X : Type 0} (n : ℕ) (x : X) (f : ℕ → X) → with_at n x f n ≡ x
 at_same n x f = cond-true (n == n) x (f n) (eq-eqb n n refl)
 
-at_other : {X : Type 0} (n : ℕ) (x : X) (f : ℕ → X) (m : ℕ) → m ≢ n → with_at n x f m ≡ f m
+pub at_other : {X : Type 0} (n : ℕ) (x : X) (f : ℕ → X) (m : ℕ) → m ≢ n → with_at n x f m ≡ f m
 at_other n x f m other = cond-false (m == n) x (f m) (ne_eqb m n other)
 
-may_without : (rows : Rows) (t : ℕ) (own : Owns) → ((u : ℕ) → AllByRecursion (MayBeCommitted rows) (own u)) → (u : ℕ) → AllByRecursion (MayBeCommitted rows) (with_at t [] own u)
+pub may_without : (rows : Rows) (t : ℕ) (own : Owns) → ((u : ℕ) → AllByRecursion (MayBeCommitted rows) (own u)) → (u : ℕ) → AllByRecursion (MayBeCommitted rows) (with_at t [] own u)
 may_without rows t own may u =
     by_same t u (AllByRecursion (MayBeCommitted rows) (with_at t [] own u))
     (λ same. subst (λ (v : ℕ). AllByRecursion (MayBeCommitted rows) (with_at t [] own v)) same (subst (AllByRecursion (MayBeCommitted rows)) (sym (at_same t [] own)) tt))
     (λ other. subst (AllByRecursion (MayBeCommitted rows)) (sym (at_other t [] own u other)) (may u))
 
+-- what is read off a thing is the same where the thing is moved along an equation
+pub same_under : {X Y : Type 0} (P : X → Type 0) (f : (x : X) → P x → Y) {x y : X} (p : x ≡ y) (u : P x) → f y (subst P p u) ≡ f x u
+same_under P f {x} p u = path_j (λ y q. f y (subst P q u) ≡ f x u) (ap (f x) (subst_refl P u)) p
+
 module _ {D : Type 0} (observable : Bool) (history : D → History) (sync_out read_out : D → Option ℕ) (read_of : D → ℕ) where
-  pub changes_leave_log : ChangesLeaveLog observable history sync_out read_out read_of
+  unfoldable pub changes_leave_log : ChangesLeaveLog observable history sync_out read_out read_of
   changes_leave_log old new log rows is_active st after t changes at may may_own a store numbers last_db last_txn own =
       let given : HasGiven observable history new (longer old a.entries log) rows st.last_txn st.last_db is_active (own_with t.0 changes st.own) =
       changes_are_given observable history sync_out read_out read_of old new log rows st.last_txn st.last_db is_active st.own t changes at.given may a in
@@ -92,7 +96,24 @@ module _ {D : Type 0} (observable : Bool) (history : D → History) (sync_out re
           (all_append (MayBeCommitted rows) (st.own t.0) (map own_of changes) (at.may t.0) may_own)))
           (λ other. subst (AllByRecursion (MayBeCommitted rows)) (sym (at_other t.0 (st.own t.0 ++ map own_of changes) st.own u other)) (at.may u))
 
-  pub transaction_leaves_log : TransactionLeavesLog observable history sync_out read_out read_of
+  -- this life of the environment began where it did
+  pub changes_leave_base : (old new : LogBuffer D) (log : Log) (rows : Rows) (is_active : Flags) (st after : Standing) (t : TxnId) (changes : List TreeChange) (at : IsLogAt observable history old log rows is_active st)
+      (may : MayAddChanges st.last_txn is_active st.own t changes) (may_own : AllByRecursion (MayBeCommitted rows) (map own_of changes)) (a : HasAdded observable history sync_out read_out read_of old new (LogsChanges t changes))
+      (store : after.store ≡ st.store) (numbers : after.numbers ≡ st.numbers) (last_db : after.last_db ≡ st.last_db) (last_txn : after.last_txn ≡ st.last_txn) (own : (u : ℕ) → after.own u ≡ own_with t.0 changes st.own u) →
+      (changes_leave_log old new log rows is_active st after t changes at may may_own a store numbers last_db last_txn own).given.gives.base ≡ at.given.gives.base
+  unfolding changes_leave_log changes_are_given changes_give
+  changes_leave_base old new log rows is_active st after t changes at may may_own a store numbers last_db last_txn own =
+      let given : HasGiven observable history new (longer old a.entries log) rows st.last_txn st.last_db is_active (own_with t.0 changes st.own) =
+      changes_are_given observable history sync_out read_out read_of old new log rows st.last_txn st.last_db is_active st.own t changes at.given may a in
+      let with_own : HasGiven observable history new (longer old a.entries log) rows st.last_txn st.last_db is_active after.own =
+      subst (λ (f : Owns). HasGiven observable history new (longer old a.entries log) rows st.last_txn st.last_db is_active f) (sym (fun_ext own)) given in
+      let with_db : HasGiven observable history new (longer old a.entries log) rows st.last_txn after.last_db is_active after.own =
+      subst (λ (n : ℕ). HasGiven observable history new (longer old a.entries log) rows st.last_txn n is_active after.own) (sym last_db) with_own in
+      same_under (λ (n : ℕ). HasGiven observable history new (longer old a.entries log) rows n after.last_db is_active after.own) (λ n (h : HasGiven observable history new (longer old a.entries log) rows n after.last_db is_active after.own). h.gives.base) (sym last_txn) with_db
+      ∙ same_under (λ (n : ℕ). HasGiven observable history new (longer old a.entries log) rows st.last_txn n is_active after.own) (λ n (h : HasGiven observable history new (longer old a.entries log) rows st.last_txn n is_active after.own). h.gives.base) (sym last_db) with_own
+      ∙ same_under (λ (f : Owns). HasGiven observable history new (longer old a.entries log) rows st.last_txn st.last_db is_active f) (λ f (h : HasGiven observable history new (longer old a.entries log) rows st.last_txn st.last_db is_active f). h.gives.base) (sym (fun_ext own)) given
+
+  unfoldable pub transaction_leaves_log : TransactionLeavesLog observable history sync_out read_out read_of
   transaction_leaves_log old new log rows later is_active still st after goes t had changes committed at may store named may_own a has le are =
       let given : HasGiven observable history new (longer old a.entries log) later st.last_txn after.last_db is_active (with_at t.0 [] st.own) =
       transaction_is_given observable history sync_out read_out read_of old new log rows later st.last_txn st.last_db after.last_db is_active st.own goes t had changes at.given may a in
@@ -113,7 +134,7 @@ module _ {D : Type 0} (observable : Bool) (history : D → History) (sync_out re
       }
 
   -- own changes that a transaction commits, those that it had and those that it logs with its Commit
-  commit_own : (old new : LogBuffer D) (log : Log) (rows : Rows) (is_active still : Flags) (st after : Standing) (t : TxnId) (had : List OwnChange) (changes : List TreeChange) (all : List OwnChange) →
+  unfoldable pub commit_own : (old new : LogBuffer D) (log : Log) (rows : Rows) (is_active still : Flags) (st after : Standing) (t : TxnId) (had : List OwnChange) (changes : List TreeChange) (all : List OwnChange) →
       IsLogAt observable history old log rows is_active st → HasOwn st.last_txn is_active st.own t.0 had → AreFreeNames is_active st.own t.0 changes →
       AllByRecursion (MayBeCommitted rows) all → map tree_of all ≡ map tree_of had ++ changes →
       (a : HasAdded observable history sync_out read_out read_of old new (LogsTransaction t changes)) →
@@ -133,7 +154,7 @@ module _ {D : Type 0} (observable : Bool) (history : D → History) (sync_out re
       (λ name. is.named name ∙ at.makes.named name ∙ ap (λ (f : List ℕ → ℕ). f name) (sym is.numbers))
       (λ u. all_stay rows later (after.own u) catalog (may_own u)) a has le are
 
-  pub own_commit_leaves_log : OwnCommitLeavesLog observable history sync_out read_out read_of
+  unfoldable pub own_commit_leaves_log : OwnCommitLeavesLog observable history sync_out read_out read_of
   own_commit_leaves_log old new log rows is_active still st after t at active a has last_txn fewer own =
       commit_own old new log rows is_active still st after t (st.own t.0) [] (st.own t.0) at (inl (active, refl)) tt (at.may t.0) (sym (append-nil (map tree_of (st.own t.0)))) a has
       (omega (arith, last_txn)) (λ u is. inl (fewer u is, own u))

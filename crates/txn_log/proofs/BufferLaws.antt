@@ -103,7 +103,7 @@ module _ {D : Type 0} (observable : Bool) (history : D → History) where
 
   -- ---- changes of a transaction
 
-  adds_changes : (last_txn next : ℕ) (is_active : Flags) (own : Owns) (t : TxnId) (changes : List TreeChange) (more : List Placed) → MayAddChanges last_txn is_active own t changes →
+  pub adds_changes : (last_txn next : ℕ) (is_active : Flags) (own : Owns) (t : TxnId) (changes : List TreeChange) (more : List Placed) → MayAddChanges last_txn is_active own t changes →
       LogsChanges t changes (map (λ p. p.1) more) → RiseBehind next more → AddsChanges next last_txn is_active own t changes more
   adds_changes last_txn next is_active own t changes more may logs rise = record { active = may.active; drawn = may.drawn; free = may.free; logs = logs; rise = rise }
 
@@ -122,7 +122,7 @@ module _ {D : Type 0} (observable : Bool) (history : D → History) where
 
   -- ---- a commit
 
-  adds_transaction : (last_txn next : ℕ) (is_active : Flags) (own : Owns) (rows after : Rows) (last_db later_db : ℕ) (goes : Flags) (t : TxnId) (had : List OwnChange) (changes : List TreeChange) (more : List Placed) →
+  pub adds_transaction : (last_txn next : ℕ) (is_active : Flags) (own : Owns) (rows after : Rows) (last_db later_db : ℕ) (goes : Flags) (t : TxnId) (had : List OwnChange) (changes : List TreeChange) (more : List Placed) →
       MayCommit last_txn is_active own rows after last_db later_db goes t had changes → LogsTransaction t changes (map (λ p. p.1) more) → RiseBehind next more →
       AddsTransaction next last_txn is_active own rows after last_db later_db goes t had changes more
   adds_transaction last_txn next is_active own rows after last_db later_db goes t had changes more may logs rise =
@@ -159,7 +159,7 @@ module _ {D : Type 0} (observable : Bool) (history : D → History) where
       (subst (λ (l : List Placed). Recovers first opening found (transactions ++ committed ∷ []) (placed log ++ l)) (append-nil own_placed) whole.recovers.whole.recovers)
 
   module _ (sync_out read_out : D → Option ℕ) (read_of : D → ℕ) where
-    pub changes_are_given : ChangesAreGiven observable history sync_out read_out read_of
+    unfoldable pub changes_are_given : ChangesAreGiven observable history sync_out read_out read_of
     changes_are_given old new log rows last_txn last_db is_active own t changes h may a =
         let longer_has : HasLog observable (now (history (disk_of new))) new (longer old a.entries log) = a.grew.log log h.has in
         let rise = rises old log rows last_txn last_db is_active own a.entries h longer_has.is_log in
@@ -180,7 +180,7 @@ module _ {D : Type 0} (observable : Bool) (history : D → History) where
         changes_recovered old log rows last_txn last_db is_active own t changes f.front f.is_front.0 first opening found transactions h may
         (subst (LogsChanges t changes) (sym f.is_front.1) f.logs) f.room is
 
-    pub transaction_is_given : TransactionIsGiven observable history sync_out read_out read_of
+    unfoldable pub transaction_is_given : TransactionIsGiven observable history sync_out read_out read_of
     transaction_is_given old new log rows after last_txn last_db later_db is_active own goes t had changes h may a =
         let longer_has : HasLog observable (now (history (disk_of new))) new (longer old a.entries log) = a.grew.log log h.has in
         let rise = rises old log rows last_txn last_db is_active own a.entries h longer_has.is_log in

@@ -39,7 +39,7 @@ Logged = ℕ → List LoggedChange
 
 -- ---- the log as it was
 
-pub still_gives : StillGives
+unfoldable pub still_gives : StillGives
 still_gives log end rows last later last_db is_active still own still_own gives le are = record {
   base = gives.base;
   next = gives.next;
@@ -83,10 +83,10 @@ adds log end rows last_txn last_db is_active own t changes more gives a = record
 }
 
 -- a function with another value at one number
-at_same : {X : Type 0} (n : ℕ) (x : X) (f : ℕ → X) → x ≡ with_at n x f n
+pub at_same : {X : Type 0} (n : ℕ) (x : X) (f : ℕ → X) → x ≡ with_at n x f n
 at_same n x f = sym (cond-true (n == n) x (f n) (eq-eqb n n refl))
 
-at_other : {X : Type 0} (n : ℕ) (x : X) (f : ℕ → X) (m : ℕ) → m ≢ n → f m ≡ with_at n x f m
+pub at_other : {X : Type 0} (n : ℕ) (x : X) (f : ℕ → X) (m : ℕ) → m ≢ n → f m ≡ with_at n x f m
 at_other n x f m other = sym (cond-false (m == n) x (f m) (ne_eqb m n other))
 
 pub by_same : (t u : ℕ) (Q : Type 0) → (t ≡ u → Q) → (u ≢ t → Q) → Q
@@ -96,7 +96,7 @@ by_same t u Q same other = by_test (t == u) refl
     by_test true is = same (eqb-true t u is)
     by_test false is = other (λ e. true≢false (sym (eq-eqb t u (sym e)) ∙ is))
 
-pub changes_give : ChangesGive
+unfoldable pub changes_give : ChangesGive
 changes_give log end rows last_txn last_db is_active own t changes more long long_end gives a placed_is below = record {
   base = gives.base;
   next = last_lsn gives.next more;
@@ -133,7 +133,7 @@ changes_give log end rows last_txn last_db is_active own t changes more long lon
 
 -- ---- a commit
 
-last-push : (next : ℕ) (a : List Placed) (p : Placed) → last_lsn next (a ++ p ∷ []) ≡ p.0
+pub last-push : (next : ℕ) (a : List Placed) (p : Placed) → last_lsn next (a ++ p ∷ []) ≡ p.0
 last-push next [] p = refl
 last-push next (q ∷ a) p = last-push q.0 a p
 
@@ -158,7 +158,7 @@ open_from goes is_open d open_ stays = by_test (is_open d) (goes d) open_ stays
     by_test false b is not_ = absurd (true≢false (sym is))
 
 -- a database with a later number stays
-later_stays : (goes : Flags) (last_db d : ℕ) → ((e : ℕ) → goes e ≡ true → e ≤ last_db) → last_db < d → goes d ≡ false
+pub later_stays : (goes : Flags) (last_db d : ℕ) → ((e : ℕ) → goes e ≡ true → e ≤ last_db) → last_db < d → goes d ≡ false
 later_stays goes last_db d within above =
     ⊎_elim (λ (is : goes d ≡ true). let low = within d is in absurd (omega (arith, low, above))) (λ (is : goes d ≡ false). is) (cases_Bool (goes d))
 
@@ -219,18 +219,18 @@ module _ (log : Log) (end : LogPos) (rows after : Rows) (last_txn last_db later_
   pub listed : AreListed (open_after goes gives.is_open) (λ d x. data_at x (after d)) after
   listed = listed_after rows after last_db later_db goes gives.is_open (map tree_of had ++ changes) a.leaves gives.later gives.listed
 
-  committed : Stands ((placed log ++ ended.own) ++ (ended.at, Commit t) ∷ []) gives.base ended.at (open_after goes gives.is_open) (λ d x. data_at x (after d)) (is_live last_txn is_active)
+  pub committed : Stands ((placed log ++ ended.own) ++ (ended.at, Commit t) ∷ []) gives.base ended.at (open_after goes gives.is_open) (λ d x. data_at x (after d)) (is_live last_txn is_active)
       (emptied t.0 (waiting ended.own gives.logged))
   committed = stands_commit (placed log ++ ended.own) gives.base (last_lsn gives.next ended.own) ended.at gives.is_open (open_after goes gives.is_open) (λ d x. data_at x (rows d))
       (λ d x. data_at x (after d)) (is_live last_txn is_active) (waiting ended.own gives.logged) t before up.1.0.0 live smaller after_is
 
-  emptied_is : (u : ℕ) → t.0 ≡ u → emptied t.0 (waiting ended.own gives.logged) u ≡ []
+  pub emptied_is : (u : ℕ) → t.0 ≡ u → emptied t.0 (waiting ended.own gives.logged) u ≡ []
   emptied_is u same = cond-true (t.0 == u) [] (waiting ended.own gives.logged u) (eq-eqb t.0 u same)
 
-  emptied_not : (u : ℕ) → u ≢ t.0 → emptied t.0 (waiting ended.own gives.logged) u ≡ gives.logged u
+  pub emptied_not : (u : ℕ) → u ≢ t.0 → emptied t.0 (waiting ended.own gives.logged) u ≡ gives.logged u
   emptied_not u other = cond-false (t.0 == u) [] (waiting ended.own gives.logged u) (ne_eqb t.0 u (λ e. other (sym e))) ∙ wait.others u other
 
-  pub transaction_on : (long : Log) (long_end : LogPos) → placed long ≡ placed log ++ more → last_lsn gives.next more < pos_lsn long_end →
+  unfoldable pub transaction_on : (long : Log) (long_end : LogPos) → placed long ≡ placed log ++ more → last_lsn gives.next more < pos_lsn long_end →
       GivesRecordsWith long long_end after last_txn later_db is_active (with_at t.0 [] own)
   transaction_on long long_end placed_is below =
       let is_open : Flags = open_after goes gives.is_open in
@@ -255,6 +255,6 @@ module _ (log : Log) (end : LogPos) (rows after : Rows) (last_txn last_db later_
         numbers = a.leaves.numbers;
       }
 
-pub transaction_gives : TransactionGives
+unfoldable pub transaction_gives : TransactionGives
 transaction_gives log end rows after last_txn last_db later_db is_active own goes t had changes more long long_end gives a placed_is below =
     transaction_on log end rows after last_txn last_db later_db is_active own goes t had changes more gives a long long_end placed_is below

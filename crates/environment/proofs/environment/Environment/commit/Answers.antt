@@ -1,6 +1,9 @@
 use Rattle.std.proofs.Common.{◌≡◌, ◌≢◌, ◌∙◌, ◌==◌, ◌+◌, true, false, true≢false, List, [], ◌∷◌, length, ℕ, refl, ap, sym, arith}
 use Rattle.std.proofs.lemmas.Bool.{eqb-true}
 use Rattle.store_model.specs.declared.record_change.RecordChange.{RecordChange}
+use Rattle.in_tree.specs.Observed.{cells_of}
+use Rattle.txn_core.specs.Known.{committed}
+use Rattle.environment.proofs.OwnFree.{own_free}
 use Rattle.environment.proofs.CommitLaws.{empty_performs, fault_performs, room_performs, settled_performs}
 use Rattle.environment.proofs.environment.Environment.commit.Goals as goal
 
@@ -21,6 +24,14 @@ pub settle-requires-clause-room : goal.settle-requires-clause-room
 settle-requires-clause-room g c =
     room_performs g.D.Disk.observable g.D.Disk.history g.D.Disk.sync_out g.D.Disk.read_out g.D.Disk.read_of g.D.Disk.faults c.args.self.now c.args.self.now c.args.session c.of_session.result c.in-Some.active c.in-Some.is
     c.of_session.ensures c.own-own.result.now c.own-own.ensures c.requires.valid (filled c.own-own.result.now c.if-is_empty.ensures) c.requires.here.0 c.requires.here.1 c.requires.here.2
+
+pub settle-requires-clause-own : goal.settle-requires-clause-own
+settle-requires-clause-own g c =
+    let e = c.args.self.now in
+    let st = c.requires.here.1 in
+    let at = c.requires.here.2 in
+    let valid = at.valid (sym at.fault ∙ c.requires.valid) in
+    own_free (cells_of e.engine.trees) st.own (committed (cells_of e.engine.trees)) e.written.by_txn.entries c.in-Some.active.now.txn valid.writes valid.names
 
 pub returns-in-Ok : goal.returns-in-Ok
 returns-in-Ok g c = record {

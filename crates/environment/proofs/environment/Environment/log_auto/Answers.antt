@@ -6,6 +6,7 @@ use Rattle.je_answers.specs.Events.{auto_active, begun}
 use Rattle.je_answers.specs.Views.{needs_in}
 use Rattle.log_replay.specs.Rows.{numbers_of}
 use Rattle.txn_core.specs.Known.{committed}
+use Rattle.txn_core.proofs.Committing.{few_new}
 use Rattle.in_tree.specs.Observed.{cells_of, limit_in}
 use Rattle.engine.specs.Steps.{LogsChanges, txn_of}
 use Rattle.engine.specs.Whole.{EndsNear, LeavesCells, contents_of}
@@ -20,6 +21,12 @@ pub log_among-requires-clause-free : goal.log_among-requires-clause-free
 log_among-requires-clause-free g c =
     let here = c.requires.here in
     names_free g.D.Disk.observable g.D.Disk.history g.D.Disk.sync_out g.D.Disk.read_out g.D.Disk.read_of here.0 (with_sessions here.1 c.args.self.now) here.2 c.args.session 0 here.3 here.4 c.args.planned here.5 here.6 here.7.free
+
+-- src/access_auto.rt:190:15
+pub log_among-requires-clause-few : goal.log_among-requires-clause-few
+log_among-requires-clause-few g c =
+    let here = c.requires.here in
+    few_new (cells_of c.args.self.now.engine.trees) c.args.planned.changes.items c.are_ordered.ensures here.6.few
 
 -- src/access_auto.rt:190:15
 pub log_among-requires-clause-there : goal.log_among-requires-clause-there

@@ -1,6 +1,8 @@
 use Rattle.std.proofs.Common.{◌∙◌, ◌+◌, ap, sym, arith, ℕ}
 use Rattle.je_disk.specs.Moments.{now}
 use Rattle.log_buffer.specs.Buffer.{disk_of}
+use Rattle.in_tree.specs.Observed.{cells_of}
+use Rattle.txn_core.proofs.Committing.{few_new}
 use Rattle.engine.specs.Steps.{txn_of}
 use Rattle.engine.specs.Whole.{contents_of}
 use Rattle.engine.proofs.CallLaws.{model}
@@ -22,6 +24,16 @@ log_among-requires-clause-free g c =
     free_names c.requires.here.0 g.D.Disk.observable g.D.Disk.history e st c.args.session c.args.call.now c.args.changes (txn_of (e.engine.kept.last_txn + 1)) at none c.requires.call
     (c.requires.plan (alone_of st) c.args.session
     (model c.requires.here.0 g.D.Disk.observable (now (g.D.Disk.history (disk_of e.engine.trees.log))) e.engine.trees.log (contents_of e.engine) (alone_of st) (alone_at c.requires.here.0 g.D.Disk.observable g.D.Disk.history e st at) none c.requires.below))
+
+pub log_among-requires-clause-few : goal.log_among-requires-clause-few
+log_among-requires-clause-few g c =
+    let e = c.args.self.now in
+    let at = c.requires.here.2 in
+    let st = c.requires.here.1 in
+    let none = sym at.fault ∙ c.requires.valid in
+    let planned = c.requires.plan (alone_of st) c.args.session
+    (model c.requires.here.0 g.D.Disk.observable (now (g.D.Disk.history (disk_of e.engine.trees.log))) e.engine.trees.log (contents_of e.engine) (alone_of st) (alone_at c.requires.here.0 g.D.Disk.observable g.D.Disk.history e st at) none c.requires.below) in
+    few_new (cells_of e.engine.trees) c.args.changes.changes.items c.are_ordered.ensures planned.few
 
 pub log_among-requires-clause-there : goal.log_among-requires-clause-there
 log_among-requires-clause-there g c =

@@ -1,7 +1,10 @@
 use Rattle.std.proofs.Common.{◌∙◌, ◌+◌, ◌≤◌, ℕ, ap, sym, subst}
-use Rattle.je_answers.specs.Views.{needs_in}
+use Rattle.je_answers.specs.Views.{changes_at, needs_in}
+use Rattle.in_tree.specs.Observed.{cells_of}
+use Rattle.txn_core.specs.Known.{committed}
 use Rattle.sessions.specs.AtStanding.{with_own}
 use Rattle.environment.specs.declared.wrote.Wrote.TheVariants.{Done}
+use Rattle.environment.proofs.OwnFree.{own_free}
 use Rattle.environment.proofs.AgainEnds.{had_settles, pushed_again, room_settles, settled_again, taken_again, unsettled_again}
 use Rattle.environment.proofs.environment.Environment.settle_again.Goals as goal
 
@@ -15,6 +18,13 @@ pub commit_own-requires-clause-room : goal.commit_own-requires-clause-room
 commit_own-requires-clause-room g c =
     let r = c.requires.written in
     room_settles g.D.Disk.observable g.D.Disk.history g.D.Disk.sync_out g.D.Disk.read_out g.D.Disk.read_of g.D.Disk.faults r.1 r.0 c.args.self.now r.2 c.args.session c.args.txn c.args.level r.3 r.4 r.5 c.args.all r.6
+
+pub commit_own-requires-clause-own : goal.commit_own-requires-clause-own
+commit_own-requires-clause-own g c =
+    let r = c.requires.written in
+    let e = c.args.self.now in
+    let valid = r.6.pushed.writes.0 in
+    own_free (cells_of e.engine.trees) (with_own r.3.txn.0 (changes_at r.5.db r.6.changes) r.2).own (committed (cells_of e.engine.trees)) e.written.by_txn.entries c.args.txn valid.writes valid.names
 
 pub returns-in-Ok-clause-comes : goal.returns-in-Ok-clause-comes
 returns-in-Ok-clause-comes g c before most line st a asked t w =

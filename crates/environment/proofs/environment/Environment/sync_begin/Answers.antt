@@ -1,5 +1,6 @@
 use Rattle.std.proofs.Common.{None, Some, [], Err, ap, refl, inl, inr}
 use Rattle.je_disk.specs.Moments.{now}
+use Rattle.environment.specs.Valid.{fitting}
 use Rattle.je_disk.specs.States.{State}
 use Rattle.log_buffer.specs.Buffer.{disk_of}
 use Rattle.in_tree.specs.Observed.{cells_of, has_tree_of}
@@ -23,7 +24,7 @@ returns-in-Ok-clause-begins g c = λ most st here none.
       works = still_works c.sync_begin.result c.in-Ok.job new c.in-Ok.is c.sync_begin.ensures.cause.failed;
       room = c.in-Ok.ensures.room;
     } in
-    (inl refl, record { at = at_like most g.D.Disk.observable (state (disk_of old)) (state (disk_of new)) old new (cells_of e.engine.trees) (has_tree_of e.engine.trees) e.engine.kept e.sessions e.written.by_txn.entries st (Some st.commits) like here.at; right = λ valid. right_begun st (Some st.commits) (here.right valid); bare = here.bare })
+    (inl refl, record { at = at_like most g.D.Disk.observable (state (disk_of old)) (state (disk_of new)) old new (cells_of e.engine.trees) (has_tree_of e.engine.trees) (fitting e.engine.trees) e.engine.kept e.sessions e.written.by_txn.entries st (Some st.commits) like here.at; right = λ valid. right_begun st (Some st.commits) (here.right valid); bare = here.bare })
 
 pub returns-in-Err-clause-begins : goal.returns-in-Err-clause-begins
 returns-in-Err-clause-begins g c = λ most st here none.
@@ -31,7 +32,7 @@ returns-in-Err-clause-begins g c = λ most st here none.
     let state : g.row.D.Denot → State = λ d. now (g.D.Disk.history d) in
     let old = c.args.self.now.engine.trees.log in
     let new = c.sync_begin.new.self in
-    (inr refl, record { at = at_failed most g.D.Disk.observable (state (disk_of old)) (state (disk_of new)) old new (cells_of e.engine.trees) (cells_of e.engine.trees) (has_tree_of e.engine.trees) (has_tree_of e.engine.trees) e.engine.kept e.sessions e.written.by_txn.entries e.written.by_txn.entries st st.begun c.sync_begin.ensures.file_max here.at; right = λ valid. absurd cc; bare = λ valid. absurd cc })
+    (inr refl, record { at = at_failed most g.D.Disk.observable (state (disk_of old)) (state (disk_of new)) old new (cells_of e.engine.trees) (cells_of e.engine.trees) (has_tree_of e.engine.trees) (has_tree_of e.engine.trees) (fitting e.engine.trees) (fitting e.engine.trees) e.engine.kept e.sessions e.written.by_txn.entries e.written.by_txn.entries st st.begun c.sync_begin.ensures.file_max here.at; right = λ valid. absurd cc; bare = λ valid. absurd cc })
 
 pub returns-in-Ok-clause-crash : goal.returns-in-Ok-clause-crash
 returns-in-Ok-clause-crash g c = λ observed most st start journal none is.

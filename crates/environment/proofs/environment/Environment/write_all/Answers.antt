@@ -3,8 +3,13 @@ use Rattle.std.proofs.Common.{◌∙◌, refl, sym, subst, count_by, Ok}
 use Rattle.environment.specs.declared.wrote.Wrote.{Wrote}
 use Rattle.environment.specs.Writing.{WritesTrees, has_record}
 use Rattle.in_tree.specs.Observed.{cells_of}
+use Rattle.environment.proofs.OwnFree.{few_counted}
 use Rattle.environment.proofs.WrittenNames.{names_through, had_through}
 use Rattle.environment.proofs.environment.Environment.write_all.Goals as goal
+
+pub write_changes-requires-clause-few : goal.write_changes-requires-clause-few
+write_changes-requires-clause-few g c =
+    few_counted c.args.txn (cells_of c.args.self.now.engine.trees) c.args.changes.now c.count_had-had.result c.count_had-had.ensures (sym c.are_new.ensures ∙ c.if-are_new.false)
 
 -- src/logging.rt:47:5
 pub returns-in-Done-clause-writes : goal.returns-in-Done-clause-writes

@@ -1,5 +1,6 @@
 use Rattle.std.proofs.Common.{◌≡◌, None, ap, inl, refl, sym, subst, ◌∙◌, Option}
 use Rattle.je_disk.specs.Moments.{now}
+use Rattle.environment.specs.Valid.{fitting}
 use Rattle.je_disk.specs.States.{State}
 use Rattle.store_model.specs.declared.answer.Answer.TheVariants.{Durable, Invalid}
 use Rattle.store_model.specs.declared.answer.Fault.{Fault}
@@ -38,7 +39,7 @@ returns-in-Ok-clause-goes_on g c = λ most st here.
       bounded = inl refl;
       answered = subst (λ (f : Option Fault). IsWrittenOut f st.commits (Durable e.engine.kept.commits)) (sym none) (inl (ap Durable here.at.commits));
       here = record {
-        at = at_like most g.D.Disk.observable (state (disk_of old)) (state (disk_of new)) old new (cells_of e.engine.trees) (has_tree_of e.engine.trees) e.engine.kept e.sessions e.written.by_txn.entries st st.begun like here.at;
+        at = at_like most g.D.Disk.observable (state (disk_of old)) (state (disk_of new)) old new (cells_of e.engine.trees) (has_tree_of e.engine.trees) (fitting e.engine.trees) e.engine.kept e.sessions e.written.by_txn.entries st st.begun like here.at;
         right = here.right;
         bare = here.bare;
       };
