@@ -11,6 +11,7 @@ use Rattle.log_file.proofs.PlacedLaws.{placed-append, placed_are_in_order}
 use Rattle.log_replay.proofs.ListLaws.{all_parts}
 use Rattle.log_buffer.specs.declared.log_pos.LogPos.{LogPos}
 use Rattle.log_buffer.specs.Flip.{header_size, placed_at, end_after, end_after_all, pos_lsn}
+use Rattle.log_buffer.specs.Log.{EndsAt}
 use Rattle.log_buffer.specs.Growth.{log_with_all}
 use Rattle.log_buffer.specs.Laws.{placed_by}
 use Rattle.log_buffer.proofs.GrowthLaws.{appended_are_placed}
@@ -91,6 +92,14 @@ not_before file_max end size small = by_file (is_placed file_max end size) (case
     by_file at (inl same) = subst (λ (p : LogPos). pos_lsn end ≤ pos_lsn p) (sym (at.same same).0) (omega arith)
     by_file at (inr (inl lt)) = later at (λ same. absurd (omega (arith, same, lt)))
     by_file at (inr (inr gt)) = later at (λ same. absurd (omega (arith, same, gt)))
+
+-- the next entry stands at the log's end or behind it
+pub behind_end : (log : Log) (end : LogPos) (last file_max size : ℕ) → IsLog log → (ends : EndsAt log end.file end.offset last) → pos_lsn end ≤ pos_lsn (placed_at file_max end size)
+behind_end log end last file_max size is ends =
+    let own : AreFileEntries ends.entries = last_entries ends.before end.file ends.entries (subst IsLog ends.log_is is) in
+    let small : 26 + sizes_of ends.entries < 2 ^ 32 = own.ends in
+    let o : end.offset ≡ header_size + sizes_of ends.entries = ends.offset_is in
+    not_before file_max end size (omega (arith, small, o))
 
 behind_all : (file_max : ℕ) (end : LogPos) (entries : List Entry) (next : ℕ) → end.offset < 2 ^ 32 → next < pos_lsn end → AreInOrder (placed_by file_max end entries) → AreBehind next (placed_by file_max end entries)
 behind_all file_max end [] next small lt order = tt

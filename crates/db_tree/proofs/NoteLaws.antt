@@ -1,7 +1,8 @@
 -- A node that was logged waits no more.
-use Rattle.std.proofs.Common.{◌≡◌, ◌≤◌, ℕ, List, None, Some, false, length, ap, sym, subst, ◌∙◌}
+use Rattle.std.proofs.Common.{◌≡◌, ◌≤◌, ℕ, List, Option, None, Some, false, length, ap, sym, subst, ◌∙◌}
 use Rattle.je_order.specs.declared.name.Name.{Name}
 use Rattle.record_map.specs.Cells.{value_at}
+use Rattle.record_map.proofs.NameLaws.{same_gets}
 use Rattle.tree_nodes.specs.declared.node.Node.{Node}
 use Rattle.tree_nodes.specs.Nodes.{NodeRow}
 use Rattle.tree_nodes.specs.Levels.{row_of, AreParts, HasPutAt}
@@ -32,3 +33,12 @@ past_waits rows level low are past = clear_waiting (one_at level low) rows rows 
 
 pub none_waits : (rows : List NodeRow) (level : ℕ) (low : Name) → AreParts rows → value_at low (row_of rows level) ≡ None → waiting_of rows ≡ still_waiting (one_at level low) 0 (waiting_of rows)
 none_waits rows level low are none = clear_waiting (one_at level low) rows rows (force_none false rows level low are none)
+
+abbrev from_in : Option Node → Option ℕ
+from_in None = None
+from_in (Some n) = n.from
+
+-- a node that was put without a mark has none
+pub cleared : (old new : List NodeRow) (level : ℕ) (low : Name) (put n : Node) → HasPutAt old new level low put → put.from ≡ None → value_at low (row_of new level) ≡ Some n → n.from ≡ None
+cleared old new level low put n has none there =
+    ap from_in (sym there ∙ has.here low ∙ same_gets low (Some put) (value_at low (row_of old level))) ∙ none

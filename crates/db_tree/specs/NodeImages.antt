@@ -1,6 +1,6 @@
 -- The images of nodes, before they are logged and when they are.
-use Rattle.std.specs.Prelude.{◌≡◌, ◌+◌, ℕ, zero, suc, List, [], ◌∷◌, Option, None, Some, map, option_and_then, unwrap_or}
-use Rattle.std.specs.List.{AllByRecursion}
+use Rattle.std.specs.Prelude.{◌≡◌, ◌+◌, ℕ, zero, suc, false, List, [], ◌∷◌, Option, None, Some, map, option_and_then, unwrap_or}
+use Rattle.std.specs.List.{AllByRecursion, list_any}
 use Rattle.std.specs.Map.{keys_of}
 use Rattle.je_order.specs.Edges.{Edge}
 use Rattle.je_order.specs.Edges.Edge.{At}
@@ -20,6 +20,7 @@ use Rattle.tree_nodes.specs.Levels.{row_of, slot_of}
 use Rattle.db_tree.specs.declared.node_at.NodeAt.{NodeAt}
 use Rattle.db_tree.specs.declared.node_image.NodeImage.{NodeImage}
 use Rattle.db_tree.specs.Content.{lsn_of, bin_image}
+use Rattle.db_tree.specs.Waiting.{waits_at}
 
 -- an image that a log may have
 abbrev pub IsLoggable : Entry → Type 0
@@ -80,6 +81,11 @@ sizes_in images = map (λ image. size_of image.entry) images
 -- each image is one that a log may have
 abbrev pub AreLoggable : List NodeImage → Type 0
 AreLoggable images = AllByRecursion (λ image. IsLoggable image.entry) images
+
+-- none of the children of a node of a level waits to be logged; a BIN has none
+abbrev pub AreBelowLogged : List NodeRow → ℕ → List Name → Type 0
+AreBelowLogged rows zero children = Unit {0}
+AreBelowLogged rows (suc k) children = list_any (waits_at rows k) children ≡ false
 
 -- ---- images that are logged
 

@@ -1,9 +1,11 @@
 // The images of nodes.
-ghost use Rattle.std.specs.Prelude.{◌≡◌, ◌<◌, map, length, IfOk};
+ghost use Rattle.std.specs.Prelude.{◌≡◌, ◌<◌, true, IsSome, map, length, IfOk};
+ghost use Rattle.record_map.specs.Cells.{value_at, IsRising};
+ghost use Rattle.tree_nodes.specs.Levels.{row_of, AreParts};
 ghost use Rattle.tree_nodes.specs.Lows.{lows_of};
 ghost use Rattle.db_tree.specs.Waiting.{waits_at};
-ghost use Rattle.db_tree.specs.NodeImages.{kept_child, entry_of, children_of, node_of, IsNodeImage, AreNodeImages, IsLoggable, AreLoggable};
-ghost use Rattle.std.specs.List.{AllByRecursion};
+ghost use Rattle.db_tree.specs.NodeImages.{kept_child, entry_of, children_of, node_of, IsNodeImage, AreNodeImages, IsLoggable, AreBelowLogged, AreLoggable};
+ghost use Rattle.std.specs.List.{AllByRecursion, list_any};
 
 use crate::image_slot::is_image;
 use crate::tree::record_slots;
@@ -109,6 +111,7 @@ impl DbTree {
         ensures image { IfOk result (IsNodeImage db self.now.levels self.now.cells) }
         ensures loggable { IfOk result (λ image. IsLoggable image.entry) }
         ensures waited { IfOk result (λ image. image.waited ≡ waits_at self.now.levels image.level image.low) }
+        ensures there { IfOk result (λ image. IsSome (value_at image.low (row_of self.now.levels image.level)) × (image.level < length self.now.levels)) }
     {
         let NodeAt { level, low } = place;
         if level >= self.levels.height() || level >= LAST_LEVEL {
@@ -130,6 +133,56 @@ impl DbTree {
             waited: node.forced,
             children,
         })
+    }
+
+    // Whether one of some nodes of a level waits to be logged.
+    fn any_waits(&self, level: usize, lows: &[SortKey]) -> bool
+        requires { level < length self.now.levels }
+        ensures { result ≡ list_any (waits_at self.now.levels level) lows.now }
+    {
+        for low in lows {
+            if self.waits(level, low) {
+                return true;
+            }
+        }
+        false
+    }
+
+    // Whether none of the children of an image of a node waits to be logged; a BIN has none.
+    fn has_logged_children(&self, image: &NodeImage) -> bool
+        requires { image.now.level < length self.now.levels }
+        ensures { result ≡ true → AreBelowLogged self.now.levels image.now.level image.now.children.items }
+    {
+        if image.level == 0 {
+            return true;
+        }
+        !self.any_waits(image.level - 1, image.children.as_slice())
+    }
+
+    /// The image of a node by itself, whose children do not wait to be logged. Running out of memory, a child that waits, or a node of
+    /// more slots than an image may have are one error.
+    pub fn image_alone(
+        &self,
+        alloc: Global,
+        db: u32,
+        place: NodeAt,
+    ) -> Result<NodeImage, AllocError>
+        ensures node { IfOk result (λ image. node_of image ≡ place) }
+        ensures there { IfOk result (λ image. IsSome (value_at image.low (row_of self.now.levels image.level))) }
+        ensures image { IfOk result (IsNodeImage db self.now.levels self.now.cells) }
+        ensures loggable { IfOk result (λ image. IsLoggable image.entry) }
+        ensures below { IfOk result (λ image. AreBelowLogged self.now.levels image.level image.children.items) }
+        ensures parts { AreParts self.now.levels }
+        ensures rising { IsRising self.now.cells }
+    {
+        let _height = self.levels.height();
+        let _len = self.cells.len();
+        let image = self.image_of(alloc, db, place)?;
+        if self.has_logged_children(&image) {
+            return Ok(image);
+        }
+        drop(image);
+        Err(AllocError)
     }
 
     // The images of nodes, in their order.

@@ -33,8 +33,19 @@ fn node_at(levels: &Levels, level: usize, low: &SortKey) -> Node
     }
 }
 
-// Hands the mark of a node on to the node above it, where there is one.
-fn hand_on(levels: &mut Levels, level: usize, low: &SortKey, node: &Node)
+// From which LSN on the node above one lacks what an image of that one has, which is logged at `at`.
+fn mark_above(node: &Node, at: Lsn) -> Lsn
+    ensures { (from : ℕ) → node.now.from ≡ Some from → result ≡ from }
+{
+    match node.from {
+        Some(from) => from,
+        None => at,
+    }
+}
+
+// Hands the mark of a node, an image of which is logged at `at`, on to the node above it, where there is one. The image of that one
+// names an older image of the node.
+fn hand_on(levels: &mut Levels, level: usize, low: &SortKey, node: &Node, at: Lsn)
     requires { level < length levels.old }
     ensures handed { IsHandedOn levels.new level low.now node.now }
     ensures tree { (es : Placed) (base : ℕ) (newest : Name → ℕ) (held : Name → Option ℕ) → IsTreeOf es base newest levels.old held → IsTreeOf es base newest levels.new held }
@@ -46,13 +57,10 @@ fn hand_on(levels: &mut Levels, level: usize, low: &SortKey, node: &Node)
     ensures nodes { AreSameNodes levels.old levels.new }
 {
     let height = levels.height();
-    let Some(from) = node.from else {
-        return;
-    };
     if level + 1 >= height {
         return;
     }
-    levels.mark(level + 1, low, from);
+    levels.mark(level + 1, low, mark_above(node, at));
 }
 
 impl DbTree {
@@ -77,7 +85,7 @@ impl DbTree {
         let _len = self.cells.len();
         let at = log.append(entry)?;
         let node = node_at(&self.levels, 0, low);
-        hand_on(&mut self.levels, 0, low, &node);
+        hand_on(&mut self.levels, 0, low, &node, at);
         self.levels.set(0, low, node.logged(at));
         Ok(at)
     }
@@ -104,7 +112,7 @@ impl DbTree {
         let _height = self.levels.height();
         let at = log.append(entry)?;
         let node = node_at(&self.levels, level, low);
-        hand_on(&mut self.levels, level, low, &node);
+        hand_on(&mut self.levels, level, low, &node, at);
         self.levels.set(level, low, node.logged(at));
         Ok(at)
     }
@@ -115,6 +123,7 @@ impl DbTree {
         ensures lows { lows_of self.new.levels ≡ lows_of self.old.levels }
         ensures waits { waiting_of self.new.levels ≡ still_waiting (record { level = level; low = low.now } ∷ []) 0 (waiting_of self.old.levels) }
         ensures few { count_in self.new ≤ count_in self.old }
+        ensures cleared { (n : Kept) → level < length self.old.levels → value_at low.now (row_of self.new.levels level) ≡ Some n → n.from ≡ None }
         ensures noted { IsSome (value_at low.now (row_of self.old.levels level)) → IsNoted self.old.levels self.new.levels level low.now at }
         ensures tree { (es : Placed) (base : ℕ) (newest : Name → ℕ) → ((n : Kept) → value_at low.now (row_of self.old.levels level) ≡ Some n → IsImageOf es self.old.levels (held_by self.old.cells) level (low.now, n) at) → IsTree es base newest self.old.levels self.old.cells → IsTree es base newest self.new.levels self.new.cells }
     {
@@ -126,7 +135,7 @@ impl DbTree {
             Some(node) => node.copy(),
             None => return,
         };
-        hand_on(&mut self.levels, level, low, &node);
+        hand_on(&mut self.levels, level, low, &node, at);
         self.levels.set(level, low, node.logged(at));
     }
 }

@@ -68,7 +68,7 @@ fn push_all_halves(
 
 impl DbTree {
     // Whether the node of a level with the low waits to be logged.
-    fn waits(&self, level: usize, low: &SortKey) -> bool
+    pub(crate) fn waits(&self, level: usize, low: &SortKey) -> bool
         requires { level < length self.now.levels }
         ensures { result ≡ waits_at self.now.levels level low.now }
     {

@@ -19,6 +19,7 @@ use Rattle.active_txns.specs.Own.{has_changes}
 use Rattle.sessions.specs.AtStanding.{AreSessionsAt, owing}
 use Rattle.engine.specs.declared.engine.Engine.{Engine}
 use Rattle.engine.proofs.CalmAnswers.{IsCalm, faultless, unnumbered}
+use Rattle.environment.proofs.PlacesLaws.{not_moved, still_placed}
 use Rattle.environment.specs.declared.environment.Environment.{Environment}
 use Rattle.environment.specs.declared.outcome.Outcome.{Outcome}
 use Rattle.environment.specs.declared.written.Written.{Written}
@@ -45,7 +46,7 @@ module _ {D : Type 0} (observable : Bool) (history : D → History) (sync_out re
       let nothing : Evaluated = without observable history sync_out read_out read_of ev in
       let after : Standing = with_outcome a call g nothing (answered a call g st) in
       let same : st.own ≡ after.own = same_own a.txn.0 st.own in
-      let stands_now : AreSessionsAt s after = record { actives = stands.actives; own = stands.own ∙ same; waiting = stands.waiting; locks = stands.locks } in
+      let stands_now : AreSessionsAt s after = record { actives = stands.actives; own = stands.own ∙ same; places = still_placed s.cursors st.places a.session call ev.place (not_moved call db up.records) stands.places; waiting = stands.waiting; locks = stands.locks } in
       let here : StandsAt most observable history (in_sessions s before) after = elsewhere_at most observable history before s st after.own after.places after.locks same stands_now up.here in
       let its : active_of a.session st.actives ≡ Some a = ap (λ (n : ℕ). active_of n st.actives) (found_session session a st.actives up.its) ∙ up.its in
       let owes : owing after ≡ owing st = ap (λ (own : ℕ → List (ℕ × RecordChange)). length (filter (λ b. has_changes (own b.txn.0)) st.actives)) (sym same) in

@@ -71,7 +71,7 @@ locks_alone None (Some fault) v state none at = tt
 locks_alone (Some fault) g v state none at = absurd cc
 
 pub sessions_alone : (s : Sessions) (p q : Alone) → p.fault ≡ None → AreSessionsAt s (alone p) → AreSessionsAt s (alone q)
-sessions_alone s p q none at = record { actives = at.actives; own = at.own; waiting = at.waiting; locks = locks_alone p.fault q.fault s.locks.locks (alone p).locks none at.locks }
+sessions_alone s p q none at = record { actives = at.actives; own = at.own; places = at.places; waiting = at.waiting; locks = locks_alone p.fault q.fault s.locks.locks (alone p).locks none at.locks }
 
 -- and sessions owe none
 none_owed : (s : Sessions) (p : Alone) → AreSessionsAt s (alone p) → owed_by s ≡ 0

@@ -55,9 +55,9 @@ use Rattle.environment.specs.Whole.{HasDone, HasLimit, IsAt, disk_of, end_file, 
 
 -- a call on no cursor is one that scripts have
 pub plain_call : (call : Call) → HasNoCursor call → IsPlainCall call
-plain_call (Open cursor db) is = is
-plain_call (Close cursor) is = is
-plain_call (Dup cursor to) is = is
+plain_call (Open cursor db) is = absurd is
+plain_call (Close cursor) is = absurd is
+plain_call (Dup cursor to) is = absurd is
 plain_call (Count cursor) is = is
 plain_call (Cur cursor motion rmw) is = is
 plain_call (CPutCur cursor value) is = is

@@ -123,7 +123,7 @@ module _ {D : Type 0} (most : ℕ) (observable : Bool) (history : D → History)
         let same : (record { txn = t; session = session; level = RepeatableRead; durability = Sync; waits = true; is_auto = true; deadlock = None }) ≡ a =
         ap (λ (n : ℕ). let b : Active = record { txn = record { 0 = n }; session = session; level = RepeatableRead; durability = Sync; waits = true; is_auto = true; deadlock = None } in b) (is ∙ number_is) in
         let there : AreSessionsAt s (with_active a st) = subst (λ (b : Active). AreSessionsAt s (with_active b st)) same at in
-        record { actives = there.actives; own = there.own; waiting = there.waiting; locks = there.locks }
+        record { actives = there.actives; own = there.own; places = there.places; waiting = there.waiting; locks = there.locks }
 
     -- its needs
     pub needs_auto : (needs : List Need) (db : List ℕ) (kind : Kind) → g.database.name ≡ db → g.database.kind ≡ kind → needs ≡ needs_in (begun st session) a call g → AreNeedsOf (begun st session) session call db kind needs a g

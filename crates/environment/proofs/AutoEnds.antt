@@ -22,7 +22,7 @@ use Rattle.je_answers.specs.Refusals.{late_refusal, name_refusal, number_refusal
 use Rattle.je_answers.specs.Alone.{alone, evaluated_on}
 use Rattle.je_answers.specs.Locking.{all_got}
 use Rattle.je_answers.specs.Events.{IsStopped, auto_active, begun, waiting_answer}
-use Rattle.je_answers.specs.After.{after_stop, answered, ended, with_locks, with_outcome}
+use Rattle.je_answers.specs.After.{after_stop, answered, ended, moved, with_locks, with_outcome}
 use Rattle.je_answers.specs.Journal.{is_disk_fault}
 use Rattle.log_buffer.specs.Buffer.{disk_of as disk_below}
 use Rattle.in_tree.specs.Observed.{cells_of, has_tree_of}
@@ -35,6 +35,7 @@ use Rattle.standing_laws.proofs.Each.{all_append}
 use Rattle.standing_laws.proofs.Stopped.{LeavesSame, victims_apart, victims_leave}
 use Rattle.engine.specs.Limits.{IsWithin}
 use Rattle.engine.proofs.CalmAnswers.{IsCalm, faultless, unnumbered}
+use Rattle.environment.proofs.PlacesLaws.{gone_again}
 use Rattle.environment.specs.declared.environment.Environment.{Environment}
 use Rattle.environment.specs.declared.outcome.Outcome.{Outcome as Told}
 use Rattle.environment.specs.Auto.{IsAutoAt, alone_in}
@@ -151,11 +152,12 @@ module _ {D : Type 0} (observable : Bool) (history : D → History) (sync_out re
 
   -- where its transaction has ended
   pub sessions_closed : (s : Sessions) (x : List (ℕ × RecordChange)) (after : Standing) → AreSessionsAt s (ended a (with_locks a (all_got a.txn (needs_in there a call g) st.locks.at) there)) →
-      after.fault ≡ st.fault → after.actives ≡ (ended a there).actives → after.own ≡ st.own → after.waiting ≡ st.waiting → after.locks ≡ (ended a (with_locks a (all_got a.txn (needs_in there a call g) st.locks.at) there)).locks →
+      after.fault ≡ st.fault → after.actives ≡ (ended a there).actives → after.own ≡ st.own → ((n : ℕ) → after.places n ≡ (ended a there).places n) → after.waiting ≡ st.waiting → after.locks ≡ (ended a (with_locks a (all_got a.txn (needs_in there a call g) st.locks.at) there)).locks →
       AreSessionsAt s after
-  sessions_closed s x after at fault actives own waiting locks = record {
+  sessions_closed s x after at fault actives own places waiting locks = record {
     actives = at.actives ∙ sym actives;
     own = at.own ∙ own_gone a.txn.0 st.own none_yet ∙ sym own;
+    places = record { each = λ n. at.places.each n ∙ sym (places n); apart = at.places.apart };
     waiting = at.waiting ∙ sym waiting;
     locks = subst (λ (l : _). Rattle.sessions.specs.AtStanding.AreLocksAt after.fault s.locks.locks l) (sym locks)
         (subst (λ (f : _). Rattle.sessions.specs.AtStanding.AreLocksAt f s.locks.locks (ended a (with_locks a (all_got a.txn (needs_in there a call g) st.locks.at) there)).locks) (sym fault) at.locks);
@@ -189,7 +191,7 @@ module _ {D : Type 0} (observable : Bool) (history : D → History) (sync_out re
           let after : Standing = Ended none in
           let leaves : LeavesSame (record st { last_txn = last }) after =
           same_leaves (record st { last_txn = last }) after refl refl (sym last_is) refl refl refl (back_own []) back_actives in
-          let stands = sessions_closed s [] after at refl refl (back_own []) refl refl in
+          let stands = sessions_closed s [] after at refl refl (back_own []) (gone_again a.session (moved call ev.place (st.places a.session)) st.places) refl refl in
           let owed_new = owed_is s after stands in
           let owed_old = owed_is e.sessions st may.at.sessions_at in
           let fewer : owing after ≤ owing st = leaves.owing in

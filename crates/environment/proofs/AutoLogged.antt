@@ -23,7 +23,7 @@ use Rattle.store_model.specs.Refusals.{made_by, next_txn}
 use Rattle.store_model.specs.Store.{all_changed}
 use Rattle.je_answers.specs.declared.active.Active.{Active}
 use Rattle.je_answers.specs.Alone.{IsAutoCommitted, committed_alone, drawn_alone, evaluated_on, faulted_alone}
-use Rattle.je_answers.specs.After.{after_changes, answered, committed as commits, ended, fate_of, faulted, with_locks, with_outcome}
+use Rattle.je_answers.specs.After.{after_changes, answered, committed as commits, ended, fate_of, faulted, moved, with_locks, with_outcome}
 use Rattle.je_answers.specs.Events.{IsLogged, auto_active, begun, due, log_limit}
 use Rattle.je_answers.specs.Journal.{is_disk_fault, tried}
 use Rattle.je_answers.specs.Locking.{all_got, first_blocked}
@@ -62,6 +62,7 @@ use Rattle.engine.proofs.PlannedCalls.{trees_logged}
 use Rattle.engine.proofs.PlannedRows.{ArePlanned}
 use Rattle.engine.proofs.StepLaws.{logged_at}
 use Rattle.engine.proofs.SyncedStanding.{faulted_at}
+use Rattle.environment.proofs.PlacesLaws.{gone_again, placed_again}
 use Rattle.environment.specs.declared.environment.Environment.{Environment}
 use Rattle.environment.specs.Auto.{IsAutoAt, alone_in}
 use Rattle.environment.specs.Calls.{IsOnRecords}
@@ -265,7 +266,7 @@ module _ {D : Type 0} (observable : Bool) (history : D → History) (sync_out re
         let own_is : after.own ≡ st.own = own_gone a_.txn.0 st.own none_own_yet in
         let leaves : LeavesSame drawn after = same_leaves drawn after refl refl refl refl refl refl own_is back_actives in
         let less : owing after ≤ owing drawn = leaves.owing in
-        let sessions : AreSessionsAt s after = sessions_closed observable history sync_out read_out read_of most e st session call g may s [] after closed refl refl own_is refl refl in
+        let sessions : AreSessionsAt s after = sessions_closed observable history sync_out read_out read_of most e st session call g may s [] after closed refl refl own_is (λ n. refl) refl refl in
         comes_by n s answer drawn c cs is logs near stands
         (subst (LeavesSame drawn) (sym same) leaves)
         (subst (AreSessionsAt s) (sym same) sessions)
@@ -323,7 +324,7 @@ module _ {D : Type 0} (observable : Bool) (history : D → History) (sync_out re
             (logged_at observable history sync_out read_out read_of most e.engine.trees.log n.trees.log (contents_of e.engine) (contents_of n) (alone_in st) session call planned (alone_at most observable history e st may.at) may.valid below log logs.2 logs.1
             logs.4 logs.5)
             (λ valid. valid_logged n logs.2 logs.1 leaves logs.4 logs.5))
-            same (sessions_closed observable history sync_out read_out read_of most e st session call g may s [] after closed refl refl own_is refl refl) may.at.apart less
+            same (sessions_closed observable history sync_out read_out read_of most e st session call g may s [] after closed refl refl own_is (gone_again a_.session (moved call (with_changes (c ∷ cs)).place (st.places a_.session)) st.places) refl refl) may.at.apart less
             (subst (λ (l : Option Answer). IsLogged (log_limit l) (Logged (st.commits + 1)) (Logged commit)) (sym logs.3) (inl (ap Logged number))) number may.valid
             (logged_step observable history sync_out read_out read_of most e st session call planned may.at may.valid log logs.2 n logs.4)
 
@@ -384,7 +385,7 @@ module _ {D : Type 0} (observable : Bool) (history : D → History) (sync_out re
 
     -- after a fault locks do not matter
     closed_faulted : (s : Sessions) → Closed s → AreSessionsAt s (faulted st)
-    closed_faulted s at = record { actives = at.actives ∙ back_actives; own = at.own ∙ own_gone a_.txn.0 st.own none_own_yet; waiting = at.waiting; locks = tt }
+    closed_faulted s at = record { actives = at.actives ∙ back_actives; own = at.own ∙ own_gone a_.txn.0 st.own none_own_yet; places = placed_again s.cursors st session may.sound may.outside at.places; waiting = at.waiting; locks = tt }
 
     -- an answer, behind which its transaction has ended
     pub comes_closed : (n : Engine D) (s : Sessions) (answer : Answer) → Logs_ n (Ok answer) → Near_ n (Ok answer) → LeavesCells e.engine.trees n.trees planned (owing st + 1) (Ok answer) → Closed s →

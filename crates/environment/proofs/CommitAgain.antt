@@ -286,7 +286,7 @@ module _ {D : Type 0} (observable : Bool) (history : D → History) (sync_out re
             last_db = ap (λ (k : Kept). k.last_db) h.kept ∙ ap (λ (k : Kept). k.last_db) w.4 ∙ here.last_db;
             commits = ap (λ (k : Kept). k.commits) h.kept ∙ ap (λ (k : Kept). k.commits) w.4 ∙ here.commits;
             totals = ap (λ (k : Kept). k.totals) h.kept ∙ ap (λ (k : Kept). k.totals) w.4 ∙ here.totals;
-            sessions_at = record { actives = stands.actives; own = stands.own; waiting = stands.waiting; locks = tt };
+            sessions_at = record { actives = stands.actives; own = stands.own; places = stands.places; waiting = stands.waiting; locks = tt };
             apart = here.apart;
             valid = λ calm. absurd cc;
           };

@@ -479,7 +479,7 @@ module _ {D : Type 0} (observable : Bool) (history : D → History) (sync_out re
       commits = ap (λ (k : Kept). k.commits) h.kept ∙ at.commits;
       totals = ap (λ (k : Kept). k.totals) h.kept ∙ at.totals;
       sessions_at = subst (λ (s : Sessions). AreSessionsAt s (faulted st)) (sym h.sessions)
-          (record { actives = at.sessions_at.actives; own = at.sessions_at.own; waiting = at.sessions_at.waiting; locks = tt });
+          (record { actives = at.sessions_at.actives; own = at.sessions_at.own; places = at.sessions_at.places; waiting = at.sessions_at.waiting; locks = tt });
       apart = at.apart;
       valid = λ none. absurd (none-some Disk (sym none));
     }

@@ -35,6 +35,7 @@ use Rattle.sessions.specs.declared.all_sessions.Sessions.{Sessions}
 use Rattle.sessions.specs.AtStanding.{AreSessionsAt, owing}
 use Rattle.engine.specs.declared.engine.Engine.{Engine}
 use Rattle.engine.proofs.CalmAnswers.{IsCalm, faultless, unnumbered}
+use Rattle.environment.proofs.PlacesLaws.{IsUnmoved, not_moved, still_placed}
 use Rattle.environment.specs.declared.environment.Environment.{Environment}
 use Rattle.environment.specs.declared.outcome.Outcome.{Outcome}
 use Rattle.environment.specs.declared.written.OwnNames.{OwnNames}
@@ -157,12 +158,12 @@ module _ {D : Type 0} where
     abbrev pub without : Evaluated → Evaluated
     without ev = record { answer = ev.answer; answered = ev.answered; changes = []; place = ev.place }
 
-    changes_nothing : (most : ℕ) (e : Environment D) (s : Sessions) (st : Standing) (a : Active) (call : Call) (g : Target) (answer : Answer) (ev : Evaluated) → StandsAt most observable history e st → st.fault ≡ None →
+    changes_nothing : (most : ℕ) (e : Environment D) (s : Sessions) (st : Standing) (a : Active) (call : Call) (g : Target) (answer : Answer) (ev : Evaluated) → StandsAt most observable history e st → st.fault ≡ None → IsUnmoved call →
         AreSessionsAt s (answered a call g st) → answer ≡ ev.answer → IsCalm answer → Changes most e (in_sessions s e) st a call g answer (without ev) false
-    changes_nothing most e s st a call g answer ev at none stands is calm =
+    changes_nothing most e s st a call g answer ev at none unmoved stands is calm =
         let after : Standing = with_outcome a call g (without ev) (answered a call g st) in
         let same : st.own ≡ after.own = same_own a.txn.0 st.own in
-        let stands_now : AreSessionsAt s after = record { actives = stands.actives; own = stands.own ∙ same; waiting = stands.waiting; locks = stands.locks } in
+        let stands_now : AreSessionsAt s after = record { actives = stands.actives; own = stands.own ∙ same; places = still_placed s.cursors st.places a.session call ev.place unmoved stands.places; waiting = stands.waiting; locks = stands.locks } in
         let owes : owing after ≡ owing st = ap (λ (own : ℕ → List (ℕ × RecordChange)). length (filter (λ b. has_changes (own b.txn.0)) st.actives)) (sym same) in
         record {
           limit = None;
@@ -176,11 +177,11 @@ module _ {D : Type 0} where
         }
 
     evaluates_nothing : (most : ℕ) (e : Environment D) (s : Sessions) (st : Standing) (a : Active) (call : Call) (g : Target) (answer : Answer) (ev : Evaluated) (cs : List RecordChange) → ev.changes ≡ cs → cs ≡ [] →
-        a.is_auto ≡ false → StandsAt most observable history e st → st.fault ≡ None → AreSessionsAt s (answered a call g st) → answer ≡ ev.answer → IsCalm answer →
+        a.is_auto ≡ false → StandsAt most observable history e st → st.fault ≡ None → IsUnmoved call → AreSessionsAt s (answered a call g st) → answer ≡ ev.answer → IsCalm answer →
         Evaluates most e (in_sessions s e) st a call g answer a.is_auto ev
-    evaluates_nothing most e s st a call g answer ev cs has empty auto at none stands is calm =
+    evaluates_nothing most e s st a call g answer ev cs has empty auto at none unmoved stands is calm =
         subst (λ (l : List RecordChange). Evaluates most e (in_sessions s e) st a call g answer a.is_auto (record { answer = ev.answer; answered = ev.answered; changes = l; place = ev.place })) (sym (has ∙ empty))
-        (subst (Changes most e (in_sessions s e) st a call g answer (without ev)) (sym auto) (changes_nothing most e s st a call g answer ev at none stands is calm))
+        (subst (Changes most e (in_sessions s e) st a call g answer (without ev)) (sym auto) (changes_nothing most e s st a call g answer ev at none unmoved stands is calm))
 
     pub calm_taken : (before e : Environment D) (most session : ℕ) (st : Standing) (a : Active) (call : Call) (db : List ℕ) (found : FoundDb) (g : Target) (answer : Answer) (changes : List RecordChange) →
         IsTakenUp observable history most before e st session a call db found g answer changes → IsCalm answer
@@ -194,7 +195,7 @@ module _ {D : Type 0} where
         (subst (λ (w : Written). HasAccessed observable history sync_out read_out read_of most before (record { engine = e.engine; sessions = s; written = w }) st a line call g answer []) (sym up.written)
         (subst (λ (x : Engine D). HasAccessed observable history sync_out read_out read_of most before (record { engine = x; sessions = s; written = before.written }) st a line call g answer []) (sym up.engine)
         (subst (Takes most before (in_sessions s before) st a line call g answer) (sym up.taken.free)
-        (evaluates_nothing most before s st a call g answer (outcome_of st a call g) (outcome_of st a call g).changes refl (sym up.changes_are ∙ empty) auto up.here up.valid stands up.answer_is calm))))
+        (evaluates_nothing most before s st a call g answer (outcome_of st a call g) (outcome_of st a call g).changes refl (sym up.changes_are ∙ empty) auto up.here up.valid (not_moved call db up.records) stands up.answer_is calm))))
       where
         calm : IsCalm answer
         calm = calm_taken before e most session st a call db found g answer changes up

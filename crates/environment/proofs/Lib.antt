@@ -80,5 +80,7 @@ pub mod AgainLaws
 pub mod CommitAgain
 -- How it ends, by what became of its changes.
 pub mod AgainEnds
+-- Where cursors stand behind calls that have none.
+pub mod PlacesLaws
 -- Whose the names are that a transaction wrote.
 pub mod OwnFree

@@ -59,6 +59,7 @@ use Rattle.engine.specs.declared.kept.Kept.{Kept}
 use Rattle.engine.specs.Limits.{IsWithin, limit_by, most_logged, numbers_for, reach_after}
 use Rattle.engine.specs.Whole.{end_file as end_below}
 use Rattle.engine.proofs.CalmAnswers.{IsCalm, faultless, unnumbered}
+use Rattle.environment.proofs.PlacesLaws.{IsUnmoved, not_moved, still_placed}
 use Rattle.environment.specs.declared.environment.Environment.{Environment}
 use Rattle.environment.specs.declared.outcome.Outcome.{Outcome}
 use Rattle.environment.specs.declared.written.Written.{Written}
@@ -273,7 +274,7 @@ module _ {D : Type 0} (observable : Bool) (history : D → History) (sync_out re
   -- ---- each end
 
   module _ (most : ℕ) (before mid : Environment D) (s : Sessions) (st : Standing) (a : Active) (call : Call) (g : Target) (ev : Evaluated) (change : RecordChange) (more : List RecordChange)
-      (here : StandsAt most observable history before st) (none : st.fault ≡ None) where
+      (here : StandsAt most observable history before st) (none : st.fault ≡ None) (unmoved : IsUnmoved call) where
     abbrev changes_ : List RecordChange
     changes_ = change ∷ more
 
@@ -315,7 +316,7 @@ module _ {D : Type 0} (observable : Bool) (history : D → History) (sync_out re
       last_db = ap (λ (k : Kept). k.last_db) w.4 ∙ here.last_db;
       commits = ap (λ (k : Kept). k.commits) w.4 ∙ here.commits;
       totals = ap (λ (k : Kept). k.totals) w.4 ∙ here.totals;
-      sessions_at = record { actives = stands.actives; own = stands.own; waiting = stands.waiting; locks = stands.locks };
+      sessions_at = record { actives = stands.actives; own = stands.own; places = still_placed s.cursors st.places a.session call ev.place unmoved stands.places; waiting = stands.waiting; locks = stands.locks };
       apart = here.apart;
       valid = λ calm. valid_elsewhere observable (now (history (disk_below mid.engine.trees.log))) mid.engine.trees.log (cells_of mid.engine.trees) (has_tree_of mid.engine.trees) (fitting mid.engine.trees) mid.written.by_txn.entries own_ own_.own
           OwnDone.places OwnDone.locks refl w.0;
@@ -397,7 +398,7 @@ module _ {D : Type 0} (observable : Bool) (history : D → History) (sync_out re
         last_db = ap (λ (k : Kept). k.last_db) w.3 ∙ here.last_db;
         commits = ap (λ (k : Kept). k.commits) w.3 ∙ here.commits;
         totals = ap (λ (k : Kept). k.totals) w.3 ∙ here.totals;
-        sessions_at = record { actives = stands.actives; own = stands.own; waiting = stands.waiting; locks = tt };
+        sessions_at = record { actives = stands.actives; own = stands.own; places = stands.places; waiting = stands.waiting; locks = tt };
         apart = here.apart;
         valid = λ calm. absurd cc;
       };
@@ -419,13 +420,13 @@ module _ {D : Type 0} (observable : Bool) (history : D → History) (sync_out re
     written_by Failed w stands owes calm = failed w stands owes
 
   written_as : (most : ℕ) (before mid : Environment D) (s : Sessions) (st : Standing) (a : Active) (call : Call) (g : Target) (ev : Evaluated) (changes : List RecordChange) (wrote : Wrote) → ev.changes ≡ changes → changes ≢ [] →
-      StandsAt most observable history before st → st.fault ≡ None → Writes before mid st a.txn.0 g changes (owing (with_own a.txn.0 (changes_at g.db changes) st)) (Ok wrote) →
+      StandsAt most observable history before st → st.fault ≡ None → IsUnmoved call → Writes before mid st a.txn.0 g changes (owing (with_own a.txn.0 (changes_at g.db changes) st)) (Ok wrote) →
       AreEndedBy wrote s a (needs_in st a call g) (changes_at g.db changes) st → owing (with_own a.txn.0 (changes_at g.db changes) st) ≡ owing_with (Some a) st → IsCalm ev.answer →
       WritesAs observable history sync_out read_out read_of ev most before (in_sessions s mid) st a call g wrote
-  written_as most before mid s st a call g ev [] wrote has some here none w stands owes calm = absurd (some refl)
-  written_as most before mid s st a call g ev (change ∷ more) wrote has some here none w stands owes calm =
+  written_as most before mid s st a call g ev [] wrote has some here none unmoved w stands owes calm = absurd (some refl)
+  written_as most before mid s st a call g ev (change ∷ more) wrote has some here none unmoved w stands owes calm =
       subst (λ (l : List RecordChange). WritesAs observable history sync_out read_out read_of (record { answer = ev.answer; answered = ev.answered; changes = l; place = ev.place }) most before (in_sessions s mid) st a call g wrote)
-      (sym has) (written_by most before mid s st a call g ev change more here none wrote w stands owes calm)
+      (sym has) (written_by most before mid s st a call g ev change more here none unmoved wrote w stands owes calm)
 
   -- ---- the call of a transaction of more calls
 
@@ -521,7 +522,7 @@ module _ {D : Type 0} (observable : Bool) (history : D → History) (sync_out re
           right = subst (AllByRecursion (λ c. is_right_change g.database.kind c ≡ true)) (sym up.changes_are)
               (subst (λ (o : Option Name). AllByRecursion (λ c. is_right_change g.database.kind c ≡ true) (evaluation g.database.kind call o (view_of st a g)).changes) (sym up.on.at)
               (subst (λ (p : List Pair). AllByRecursion (λ c. is_right_change g.database.kind c ≡ true) (evaluation g.database.kind call None p).changes) its.pairs
-              (changes-are_right g.database.kind call (seen_rows a.level a.txn (cells_of e.engine.trees g.db)) up.plain its.right)));
+              (changes-are_right g.database.kind call None (seen_rows a.level a.txn (cells_of e.engine.trees g.db)) up.plain its.right)));
           free = subst (AllByRecursion (λ c. Rattle.standing_laws.specs.Laws.IsOnlyOf g.db (Rattle.store_model.specs.Needs.changed_name c) a.txn.0 st.own)) (sym up.changes_are) (writers-are_free st a call g up.sound up.taken.free);
           apart = (loggable rising).apart;
         }
@@ -538,7 +539,7 @@ module _ {D : Type 0} (observable : Bool) (history : D → History) (sync_out re
     pub writes_up : (mid : Environment D) (s : Sessions) (wrote : Wrote) → changes ≢ [] → (p : HasPushedAndLogged observable history sync_out read_out read_of e mid a (needs_in st a call g) st g changes (Ok wrote)) →
         AreEndedBy wrote s a (needs_in st a call g) p.more st → WritesUp observable history sync_out read_out read_of most before (in_sessions s mid) st a call g wrote
     writes_up mid s wrote some p stands =
-        written_as most before mid s st a call g (outcome_of st a call g) changes wrote (sym up.changes_are) some up.here up.valid
+        written_as most before mid s st a call g (outcome_of st a call g) changes wrote (sym up.changes_are) some up.here up.valid (not_moved call db up.records)
         (writes_move e before mid st a.txn.0 g changes (owing (with_own a.txn.0 (changes_at g.db changes) st)) (Ok wrote) up.engine p.writes)
         (subst (λ (l : Own). AreEndedBy wrote s a (needs_in st a call g) l st) p.is stands) (owes_now some) (calm_outcome st a call db g up.records up.on.at)
 
@@ -602,7 +603,7 @@ module _ {D : Type 0} (observable : Bool) (history : D → History) (sync_out re
 
   -- where a call has its locks the sessions stand somewhere
   pub stands_taken : (s : Sessions) (a : Active) (needs : List Need) (st : Standing) → HasTaken s true a needs st → AreSessionsAt s (record st { fault = None; locks = state_of s.locks.locks })
-  stands_taken s a needs st taken = record { actives = taken.actives; own = taken.own; waiting = taken.waiting; locks = refl }
+  stands_taken s a needs st taken = record { actives = taken.actives; own = taken.own; places = taken.places; waiting = taken.waiting; locks = refl }
 
   pub rose_by : (faults : D → ℕ) (old new : Environment D) (txn : TxnId) (changes : List TreeChange) (names : List TreeName) (owed : ℕ) (result : Result Wrote AllocError) → has_failed old.engine.trees.log ≡ false →
       WritesAll observable history sync_out read_out read_of faults old new txn changes names owed result →
@@ -637,6 +638,7 @@ module _ {D : Type 0} (observable : Bool) (history : D → History) (sync_out re
     taken = record {
       actives = taken.actives;
       own = taken.own ∙ same_own a.txn.0 st.own;
+      places = taken.places;
       waiting = taken.waiting;
       free = taken.free;
       locks = taken.locks;

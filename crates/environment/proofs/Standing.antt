@@ -35,7 +35,7 @@ sessions_begun s st begun at = at
 
 -- after a fault no lock counts
 pub sessions_faulted : (s : Sessions) (st : Standing) (begun : Option ℕ) → AreSessionsAt s st → AreSessionsAt s (record st { fault = Some Disk; begun = begun })
-sessions_faulted s st begun at = record { actives = at.actives; own = at.own; waiting = at.waiting; locks = tt }
+sessions_faulted s st begun at = record { actives = at.actives; own = at.own; places = at.places; waiting = at.waiting; locks = tt }
 
 module _ {D : Type 0} where
   -- a log buffer that was written out, or whose sync began or ended

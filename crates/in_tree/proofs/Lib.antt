@@ -30,3 +30,4 @@ pub mod DueReady
 pub mod TreesGrown
 -- Trees that are made of a log: their nodes, and what they fit.
 pub mod LoadedLaws
+pub mod Checkpoints

@@ -14,3 +14,4 @@ pub mod Carrying
 pub mod Growing
 pub mod LoadedNodes
 pub mod LoadedFits
+pub mod Checkpoints

@@ -4,11 +4,13 @@
 //! `LoadedTrees`: nodes come with their images and stand on their levels, each record is committed, and `LogTrees` go on with them.
 #![tactic(auto)]
 
+pub mod checkpointing;
 mod forest;
 pub mod laws;
 pub mod loaded_trees;
 mod loading;
 pub mod logged_trees;
+mod logging_checkpoints;
 mod making_ready;
 pub mod observed;
 mod placed;

@@ -26,7 +26,7 @@ use std::alloc::{AllocError, Global};
 
 impl<D: Disk> LogTrees<D> {
     // Whether entries of these sizes pass the last file.
-    fn passes(&self, sizes: &[u32]) -> bool
+    pub(crate) fn passes(&self, sizes: &[u32]) -> bool
         ensures { result ≡ nat_lt last_file (end_behind self.now.log sizes.now) }
     {
         !self.log.has_files(sizes)

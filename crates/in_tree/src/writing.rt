@@ -1,12 +1,13 @@
 // Changes go into the log, and then into their cells.
-ghost use Rattle.std.specs.Prelude.{◌≡◌, ◌≤◌, ◌+◌, ◌++◌, ◌∷◌, ℕ, List, [], true, length, map, IfErr, IfOk, OnOk, OnErr};
+ghost use Rattle.std.specs.Prelude.{◌≡◌, ◌≤◌, ◌+◌, ◌++◌, ◌∷◌, ℕ, List, [], true, length, map, IsSome, IfErr, IfOk, OnOk, OnErr};
 ghost use Rattle.std.specs.List.{AllByRecursion};
 ghost use Rattle.log_entry.specs.Body.{IsEntry};
 ghost use Rattle.log_entry.specs.Encoding.{size_of};
 ghost use Rattle.log_entry.specs.Parts.{entry_by};
 ghost use Rattle.log_entry.specs.declared.entry.Entry.{Entry};
 ghost use Rattle.log_entry.specs.declared.entry.Entry.TheVariants.{Commit as Committed};
-ghost use Rattle.record_map.specs.Cells.{IsRising};
+ghost use Rattle.record_map.specs.Cells.{IsRising, value_at};
+ghost use Rattle.tree_nodes.specs.Levels.{row_of};
 ghost use Rattle.record_tree.specs.Logged.{entry_for, LogsChanges, IsFront};
 ghost use Rattle.record_tree.specs.Occupied.{AreWritten, HasChangedAll, after_commit, after_abort};
 ghost use Rattle.record_tree.specs.declared.tree_err.TreeErr.{TreeErr as Reason};
@@ -21,6 +22,7 @@ ghost use Rattle.log_buffer.specs.Flip.{placed_at, pos_lsn};
 ghost use Rattle.db_tree.specs.declared.node_image.NodeImage.{NodeImage as Due};
 ghost use Rattle.in_tree.specs.Growing.{GrewForest, none_due};
 ghost use Rattle.in_tree.specs.Logging.{LogsImage, TriesImage, LogsImages, TriesImages, LogsRoom, LogsChange, TriesChange};
+ghost use Rattle.in_tree.specs.Checkpoints.{IsClean};
 ghost use Rattle.in_tree.specs.Placing.{room_sizes, placed_sizes, count_images, AreLoggable, due_of};
 ghost use Rattle.in_tree.specs.Waits.{waits_in};
 
@@ -66,7 +68,7 @@ fn change_size(txn: TxnId, change: &TreeChange) -> u32
 }
 
 // The size of a Commit.
-fn commit_size(txn: TxnId) -> u32
+pub(crate) fn commit_size(txn: TxnId) -> u32
     ensures { result ≡ commit_size }
 {
     let commit = Entry::Commit { txn };
@@ -142,7 +144,7 @@ fn append_image<D: Disk>(log: &mut LogBuffer<D>, entry: &Entry) -> Result<Lsn, T
 }
 
 // Logs an image, for which there is room, and notes it at its node.
-fn log_image<D: Disk>(
+pub(crate) fn log_image<D: Disk>(
     log: &mut LogBuffer<D>,
     tree: &mut DbTree,
     image: NodeImage,
@@ -153,6 +155,7 @@ fn log_image<D: Disk>(
     ensures left { (sizes : List ℕ) → HasRoomFor log.old (size_of image.entry ∷ sizes) → OnOk result (HasRoomFor log.new sizes) }
     ensures tried { OnErr result (TriesImage D.observable D.history D.sync_out D.read_out D.read_of D.faults log.old log.new) }
     ensures by_fault { IfErr result (λ e. e ≡ Reason.Fault) }
+    ensures clean { IsSome (value_at image.low (row_of tree.old.levels image.level)) → OnOk result (IsClean tree.new.levels image.level image.low) }
     ensures cells { tree.new.cells ≡ tree.old.cells }
     ensures waits { count_waiting (shape_in tree.new) ≤ count_waiting (shape_in tree.old) }
 {

@@ -1,5 +1,5 @@
 -- Where a run begins.
-use Rattle.std.proofs.Common.{◌≡◌, ℕ, Bool, true, false, [], None, refl, ap, ◌∙◌}
+use Rattle.std.proofs.Common.{◌≡◌, ◌<◌, ℕ, Bool, true, false, [], None, refl, ap, sym, ◌∙◌, subst}
 use Rattle.je_disk.specs.States.{Files, synced_crash_states}
 use Rattle.je_disk.specs.Moments.{History, now}
 use Rattle.store_model.specs.declared.store.Store.{Store}
@@ -9,6 +9,7 @@ use Rattle.engine.specs.Limits.{IsWithin}
 use Rattle.engine.specs.Opening.{StartsAt, reach_in}
 use Rattle.environment.specs.declared.environment.Environment.{Environment}
 use Rattle.environment.specs.Whole.{CanGoOn, IsAt, IsGuarded, IsOpened, IsOpenedSafely, disk_of, reach_of}
+use Rattle.script_run.specs.Ends.{AreOf}
 use Rattle.script_run.specs.Running.{Begins}
 use Rattle.script_run.specs.UnderWay.{Beginning}
 use Rattle.script_run.proofs.Pushed.{caused_none, within_itself}
@@ -60,6 +61,7 @@ module _ {D : Type 0} (observable : Bool) (history : D → History) (faults : D 
       fresh = tt;
       ordered = tt;
       only = tt;
+      sessions = subst (λ (s : Standing). AreOf (λ n. n < 256) s.actives) (sym one.starts.st_is) tt;
       bounds = bounds;
       caused = caused_none (faults (disk_of environment));
     };

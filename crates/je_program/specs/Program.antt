@@ -1,5 +1,5 @@
 -- What the program promises of one run.
-use Rattle.std.specs.Prelude.{ℕ, ◌/◌, ◌%◌, ◌^◌, ◌≡◌, ◌≢◌, ◌≤◌, ◌<◌, ◌⊎◌, [], ◌++◌, List, Option, Some, None, Bool, true, false, Ok, Err, length, codes, decimal, IfSome}
+use Rattle.std.specs.Prelude.{ℕ, ◌/◌, ◌%◌, ◌^◌, ◌≡◌, ◌≢◌, ◌≤◌, ◌<◌, ◌⊎◌, [], ◌++◌, List, Option, Some, None, Bool, true, false, Ok, Err, length, codes, decimal, slice_index_or, IfSome}
 use Rattle.je_order.specs.Counts.{HasRisen}
 use Rattle.je_io.specs.Sink.{Gains, GainsPart}
 use Rattle.je_disk.specs.Moments.{History, now}
@@ -29,6 +29,9 @@ use Rattle.environment.specs.Limits.{AreBounded}
 use Rattle.engine.specs.Opening.{StartsAt, reach_in}
 use Rattle.txn_core.specs.Totals.{totals_of}
 use Rattle.je_program.specs.Crash.{IsSafeProgram}
+use Rattle.script_run.specs.Ends.{AreEndsInPlace}
+use Rattle.serial_replay.specs.Replay.{ReplaysSerially}
+use Rattle.serial_replay.specs.Cycles.{NeverWaitInCycle}
 use Rattle.script_run.specs.Events.{IsOfSessions, final_store}
 use Rattle.script_run.specs.Lines.{AreFirstLines, of_session}
 use Rattle.je_program.specs.Run.{cause_of_journal, status_of, unwritten_status_of}
@@ -90,18 +93,26 @@ abbrev pub EndsBy : List Event → Cause → Type 0
 EndsBy journal cause = (cause ≡ cause_of_journal journal) ⊎ (cause ≡ Disk)
 
 -- A run from one history of the disk to another, with log files of at most so many bytes. It begins where the files at entry are opened: each event
--- of the journal answers what the model lets it from there on, within the limits of the log; each commit is followed at once by what its durability asks
--- for; the calls that waited go on in the order in which they began to wait, before the next line; and nothing else happens. At every moment the disk
--- is safe. Unless memory ran out no call may go on at the end. Where all was done, each commit is acknowledged and the files mean the final store.
--- What is counted is how much that holds.
+-- of the journal answers what the model lets it from there on, within the limits of the log; its transactions are as their levels promise, and after no
+-- event do any wait in a cycle; each commit is followed at once by what its durability asks
+-- for; the calls that waited go on in the order in which they began to wait, before the next line; and nothing else happens. A session ends behind the
+-- last line, or where it was stopped since a call of it found no memory. At every moment the disk is safe. Unless memory ran out none was stopped, and at
+-- the end no call may go on and no transaction is under way. Where all was done, each commit is acknowledged and the files mean the final store. What is
+-- counted is how much that holds.
 pub record IsRunOf (file_max : ℕ) (observable : Bool) (old new : History) (opening : Store) (counted : Totals) (journal : List Event) (cause : Cause) (st : Standing) : Type 0 where
   pub starts : StartsAt observable (now old).reads opening st
   pub limits : List (Option Answer)
   pub answers : AnswersAsModel st limits journal
+  pub replays : ReplaysSerially st journal
+  pub no_cycle : NeverWaitInCycle st journal
   pub bounded : AreBounded (reach_in starts.held starts.meaning) st journal limits
   pub synced_at_once : AreSyncedAtOnce st journal
   pub in_order : AreResumedInOrder st journal
   pub only : AllByRecursion IsOfSessions journal
+  pub stopped : List Bool
+  pub in_place : AreEndsInPlace stopped st journal
+  pub none_stopped : cause ≢ Memory → (session : ℕ) → slice_index_or stopped session false ≡ false
+  pub ended : cause ≢ Memory → (after_events st journal).actives ≡ []
   pub rests : cause ≢ Memory → first_ready (after_events st journal) ≡ None
   pub acknowledged : cause ≡ Done → AllAcknowledged st journal
   pub safe : observable ≡ true → IsSafeProgram old new st journal cause

@@ -15,6 +15,10 @@ fn catalog_call(alloc: Global, line: u32) -> Result<Call, AllocError> {
         },
         9 => Call::Remove { db },
         10 => Call::Truncate { db },
+        19 => Call::Create {
+            db,
+            kind: Kind::Dup,
+        },
         _ => Call::Rename {
             db,
             to: Word::from_slice(alloc, b"u")?,
@@ -27,7 +31,7 @@ fn record_call(alloc: Global, line: u32) -> Result<Call, AllocError> {
     let digits: &[u8] = match line {
         4 => b"\x00\xff",
         5 => b"\x0a",
-        7 | 8 => b"\xab",
+        7 | 8 | 20..=22 => b"\xab",
         _ => b"",
     };
     let db = Word::from_slice(alloc, b"t")?;
@@ -45,6 +49,24 @@ fn record_call(alloc: Global, line: u32) -> Result<Call, AllocError> {
             key,
             value,
             mode: PutMode::NoOverwrite,
+        },
+        20 => Call::Put {
+            db,
+            key,
+            value,
+            mode: PutMode::NoDupData,
+        },
+        21 => Call::GetBoth {
+            db,
+            key,
+            value,
+            rmw: false,
+        },
+        22 => Call::GetBoth {
+            db,
+            key,
+            value,
+            rmw: true,
         },
         5 => Call::Get {
             db,
@@ -87,7 +109,7 @@ fn txn_call(line: u32) -> Call {
 // The calls of the script below, which starts with line 3.
 fn call_at(alloc: Global, line: u32) -> Result<Call, AllocError> {
     match line {
-        3 | 9 | 10 | 11 => catalog_call(alloc, line),
+        3 | 9 | 10 | 11 | 19 => catalog_call(alloc, line),
         12 => Ok(Call::List),
         13..=18 => Ok(txn_call(line)),
         _ => record_call(alloc, line),
@@ -106,7 +128,7 @@ fn is_given(alloc: Global, given: &ScriptLine, session: u8, line: u32) -> Result
 }
 
 // The lines that have a call, and the session of each.
-static LINES: [(u8, u32); 16] = [
+static LINES: [(u8, u32); 20] = [
     (1, 3),
     (64, 4),
     (9, 5),
@@ -123,6 +145,10 @@ static LINES: [(u8, u32); 16] = [
     (10, 16),
     (11, 17),
     (12, 18),
+    (13, 19),
+    (14, 20),
+    (15, 21),
+    (16, 22),
 ];
 
 // Whether those are the calls.
@@ -137,7 +163,7 @@ fn are_given(alloc: Global, lines: &[ScriptLine]) -> Result<bool, AllocError> {
 // Each form, in a script with a comment, an empty line and no feed at its end.
 fn reads_forms(alloc: Global) -> Result<bool, ParseErr> {
     let text =
-        b"# a test\n\ns1 create t plain\ns64 put t 00fF -\ns9 get t 0a\ns10 get t - rmw\ns2 delete t aB\ns2 putno t ab -\ns3 remove t\ns4 truncate t\ns5 rename t u\ns6 list\ns7 begin ru sync wait\ns8 begin rc wsync nowait\ns9 begin rr nosync wait\ns10 begin ser sync nowait\ns11 commit\ns12 abort";
+        b"# a test\n\ns1 create t plain\ns64 put t 00fF -\ns9 get t 0a\ns10 get t - rmw\ns2 delete t aB\ns2 putno t ab -\ns3 remove t\ns4 truncate t\ns5 rename t u\ns6 list\ns7 begin ru sync wait\ns8 begin rc wsync nowait\ns9 begin rr nosync wait\ns10 begin ser sync nowait\ns11 commit\ns12 abort\ns13 create t dup\ns14 putnodup t ab -\ns15 getboth t ab -\ns16 getboth t ab - rmw";
     let plan = parse(alloc, text)?;
     let same = are_given(alloc, plan.lines.as_slice());
     drop(plan);
@@ -150,7 +176,7 @@ fn reads_each_form(rt: HostRuntime) {
 }
 
 // Scripts with a bad line, and the number of the first one.
-static BAD: [(&[u8], u32); 37] = [
+static BAD: [(&[u8], u32); 40] = [
     (b" ", 1),
     (b"\n\ns1 lists", 3),
     (b"s1 list t", 1),
@@ -163,7 +189,10 @@ static BAD: [(&[u8], u32); 37] = [
     (b"s01 create t plain", 1),
     (b"s65 create t plain", 1),
     (b"S1 create t plain", 1),
-    (b"s1 create t dup", 1),
+    (b"s1 create t dups", 1),
+    (b"s1 create t", 1),
+    (b"s1 getboth t 00", 1),
+    (b"s1 putnodup t 00", 1),
     (b"s1 create T plain", 1),
     (b"s1 create t plain x", 1),
     (b"s1  create t plain", 1),

@@ -2,3 +2,4 @@ pub mod Occupied
 pub mod Logged
 pub mod Stored
 pub mod LoadedNodes
+pub mod Nodes

@@ -25,7 +25,7 @@ of_session-push : (session : ℕ) (lines : List ScriptLine) (given : ScriptLine)
 of_session-push session lines given = filter-append (is_of_session session) lines (given ∷ [])
 
 -- a line of another session is none of this one's
-of_other : (session other line : ℕ) (call : Call) → (other == session) ≡ false → of_session session (Session other line call ∷ []) ≡ []
+pub of_other : (session other line : ℕ) (call : Call) → (other == session) ≡ false → of_session session (Session other line call ∷ []) ≡ []
 of_other session other line call h = cond-false (other == session) (Session other line call ∷ []) [] h
 
 others_same : (session other line : ℕ) (call : Call) (lines : List ScriptLine) → (other == session) ≡ false →
@@ -41,11 +41,11 @@ front_more session given front lines h = (
   of_session-push session lines given ∙ ap (λ (l : List ScriptLine). l ++ of_session session (given ∷ [])) h.1 ∙ append_assoc front h.0 (of_session session (given ∷ [])),
 )
 
-eqb_sym : (a b : ℕ) → (b == a) ≡ false → (a == b) ≡ false
+pub eqb_sym : (a b : ℕ) → (b == a) ≡ false → (a == b) ≡ false
 eqb_sym a b h = ne_eqb a b (λ e. eqb-false b a h (sym e))
 
 -- sessions of which one was ended and the other was not are two
-two_sessions : (stopped : List Bool) (a b : ℕ) → get_or stopped a false ≡ true → get_or stopped b false ≡ false → (a == b) ≡ false
+pub two_sessions : (stopped : List Bool) (a b : ℕ) → get_or stopped a false ≡ true → get_or stopped b false ≡ false → (a == b) ≡ false
 two_sessions stopped a b was not_was =
     ⊎_elim
     (λ (e : (a == b) ≡ true). absurd (true≢false (sym was ∙ ap (λ n. get_or stopped n false) (eqb-true a b e) ∙ not_was)))

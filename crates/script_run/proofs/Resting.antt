@@ -1,16 +1,16 @@
 -- What may go on, and how waiting calls come to rest.
-use Rattle.std.proofs.Common.{◌≡◌, ℕ, true, false, true≢false, ◌≤◌, ◌<◌, ◌-◌, List, length, Option, None, Some, refl, ap, sym, ◌∙◌, subst, inl, ⊎_elim, arith}
+use Rattle.std.proofs.Common.{◌≡◌, ℕ, true, false, true≢false, ◌≤◌, ◌<◌, ◌-◌, length, Option, None, Some, refl, sym, ◌∙◌, ⊎_elim, arith}
 use Rattle.std.specs.Prelude.{IfSome, IsNone, option_map, slice_index_or}
 use Rattle.std.proofs.lemmas.Bool.{cases_Bool}
 use Rattle.je_answers.specs.declared.wait.Wait.{Wait}
-use Rattle.je_answers.specs.Standing.{Standing, without_wait}
+use Rattle.je_answers.specs.Standing.{Standing}
 use Rattle.je_answers.specs.Journal.{first_ready, ready_in}
 use Rattle.environment.specs.Calls.{MayResume}
 use Rattle.script_run.specs.declared.recorded.Recorded.{Recorded}
 use Rattle.script_run.specs.declared.running.Running.{Running}
 use Rattle.script_run.specs.Running.{AreFlags}
 use Rattle.script_run.specs.UnderWay.{Beginning, HasSettled, IsCalm, IsNext, standing}
-use Rattle.script_run.proofs.Standings.{fewer_wait, ready_within, some_ready, standing_same}
+use Rattle.script_run.proofs.Standings.{ready_within, some_ready}
 
 -- the first call that may go on, and what is told of it
 pub none_first : (o : Option Wait) → None ≡ option_map {U = ℕ × ℕ} (λ w. (w.session, w.line)) o → o ≡ None
@@ -33,13 +33,6 @@ module _ {D : Type 0} where
 
   pub some_may : (p : Beginning) (session line : ℕ) (x : Recorded D) → IsNext p session line x → 0 < ready_in (standing p x)
   some_may p session line x next = some_first (standing p x) session line (first_ready (standing p x)) refl next.first
-
-  -- a session that was to go on and is ended instead
-  pub ended_settles : (p : Beginning) (session line : ℕ) (x m y : Recorded D) → m.journal.items ≡ x.journal.items → (standing p y).waiting ≡ without_wait session (standing p m).waiting → IsNext p session line x → HasSettled p x y
-  ended_settles p session line x m y items waits next =
-      let same = standing_same p x m items in
-      let is : (standing p y).waiting ≡ without_wait session (standing p x).waiting = waits ∙ ap (λ (s : Standing). without_wait session s.waiting) same in
-      inl (subst (λ (l : List Wait). length l < length (standing p x).waiting) (sym is) (fewer_wait session (standing p x).waiting next.may.wait next.may.its))
 
   -- how many wait, and how many may go on at most
   pub record AreCounted (p : Beginning) (x : Recorded D) (waiting left : ℕ) : Type 0 where

@@ -1,5 +1,5 @@
 -- A run goes on by one event.
-use Rattle.std.proofs.Common.{◌≡◌, ℕ, ◌≤◌, Bool, true, List, [], ◌∷◌, ◌++◌, Option, None, Some, Ok, refl, ap, sym, ◌∙◌, subst, ⊎_elim, inl, inr}
+use Rattle.std.proofs.Common.{◌≡◌, ℕ, ◌≤◌, ◌<◌, Bool, true, List, [], ◌∷◌, ◌++◌, Option, None, Some, Ok, refl, ap, sym, ◌∙◌, subst, ⊎_elim, inl, inr}
 use Rattle.je_order.proofs.Lists.{all_append}
 use Rattle.je_order.specs.Counts.{HasRisen}
 use Rattle.je_disk.specs.Moments.{History, now}
@@ -17,11 +17,13 @@ use Rattle.environment.specs.declared.environment.Environment.{Environment}
 use Rattle.environment.specs.Limits.{written_by}
 use Rattle.environment.specs.Whole.{CanGoOn, HasDone, IsAt, IsGuarded, disk_of, reach_of}
 use Rattle.script_run.specs.declared.recorded.Recorded.{Recorded}
+use Rattle.script_run.specs.Ends.{AreOf}
 use Rattle.script_run.specs.Events.{Awaited, IsFresh, IsMet, IsOfSessions, reach_by}
 use Rattle.script_run.specs.Events.Awaited.{Follow, Nothing}
 use Rattle.script_run.specs.Running.{Begins}
 use Rattle.script_run.specs.UnderWay.{Beginning, IsCalm, IsRunning, IsUnderWay, Settles, standing}
 use Rattle.script_run.proofs.Pushed.{bounded_push, caused_later, caused_push, near_push, ordered_push, synced_push, within_then}
+use Rattle.script_run.proofs.SessionLaws.{MayBeOf, event_keeps}
 use Rattle.script_run.proofs.Waiting.{IsAwaitedFor}
 
 module _ {D : Type 0} (observable : Bool) (history : D → History) (faults : D → ℕ) where
@@ -33,6 +35,7 @@ module _ {D : Type 0} (observable : Bool) (history : D → History) (faults : D 
     pub fresh : IsFresh awaited (after_event st event)
     pub ordered : IsInOrder st event
     pub only : IsOfSessions event
+    pub sessions : MayBeOf (λ s. s < 256) event
     pub bounds : CanGoOn new
     pub never_falls : faults (disk_of old) ≤ faults (disk_of new)
     pub fault : answers_some is_disk_fault event ≡ true → HasRisen (faults (disk_of old)) (faults (disk_of new))
@@ -54,6 +57,7 @@ module _ {D : Type 0} (observable : Bool) (history : D → History) (faults : D 
         fresh = subst (λ (s : Standing). IsFresh awaited s) (sym stands) next.fresh;
         ordered = ordered_push p.st journal event running.ordered next.ordered;
         only = all_append IsOfSessions journal (event ∷ []) running.only (next.only, tt);
+        sessions = subst (λ (s : Standing). AreOf (λ n. n < 256) s.actives) (sym stands) (event_keeps (λ n. n < 256) st event next.sessions running.sessions);
         bounds = next.bounds;
         caused = caused_push p.faults (faults (disk_of old)) (faults (disk_of new)) journal event running.caused next.never_falls next.fault;
       }
@@ -84,6 +88,7 @@ module _ {D : Type 0} (observable : Bool) (history : D → History) (faults : D 
       fresh = tt;
       ordered = under.running.ordered;
       only = under.running.only;
+      sessions = under.running.sessions;
       bounds = bounds;
       caused = caused_later p.faults (faults (disk_of x.environment)) (faults (disk_of y.environment)) x.journal.items under.running.caused steps;
     });
@@ -103,6 +108,7 @@ module _ {D : Type 0} (observable : Bool) (history : D → History) (faults : D 
       fresh = under.running.fresh;
       ordered = under.running.ordered;
       only = under.running.only;
+      sessions = under.running.sessions;
       bounds = under.running.bounds;
       caused = under.running.caused;
     };

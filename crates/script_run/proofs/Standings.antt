@@ -11,7 +11,7 @@ use Rattle.je_answers.specs.After.{after_events, ended_if_any, faulted_if}
 use Rattle.je_answers.specs.Journal.{IsFirstReady, first_ready, is_ready, ready_in}
 use Rattle.environment.specs.Calls.{MayResume}
 use Rattle.script_run.specs.declared.recorded.Recorded.{Recorded}
-use Rattle.script_run.specs.UnderWay.{Beginning, HasSettled, IsCalm, IsNext, MayEnd, Settles, standing}
+use Rattle.script_run.specs.UnderWay.{Beginning, HasSettled, IsCalm, IsNext, MayEnd, Settles, StandsAlike, standing}
 use Rattle.script_run.proofs.Waiting.{first_of}
 
 module _ {D : Type 0} where
@@ -54,6 +54,10 @@ module _ {D : Type 0} where
   settles_then p None x m y settles same none = subst (λ (z : Recorded D). HasSettled p x z) (sym (none refl)) settles
   settles_then p (Some durability) x m y settles same none = inl (subst (λ (w : List Wait). length w < length (standing p x).waiting) (sym same) settles)
 
+  -- an event left both the waiting calls and the transactions alike
+  pub alike_by : (p : Beginning) (x y : Recorded D) (st : Standing) → standing p y ≡ st → st.waiting ≡ (standing p x).waiting → st.actives ≡ (standing p x).actives → StandsAlike p x y
+  alike_by p x y st is waiting actives = record { waiting = ap (λ (s : Standing). s.waiting) is ∙ waiting; actives = ap (λ (s : Standing). s.actives) is ∙ actives }
+
 -- ---- events
 
 ended_in : (o : Option Active) (st : Standing) → (ended_if_any o st).waiting ≡ st.waiting
@@ -63,6 +67,10 @@ ended_in (Some a) st = refl
 pub faulted_waits : (answer : Answer) (st : Standing) → (faulted_if answer st).waiting ≡ st.waiting
 faulted_waits DiskFault st = refl
 faulted_waits answer st = refl
+
+pub faulted_actives : (answer : Answer) (st : Standing) → (faulted_if answer st).actives ≡ st.actives
+faulted_actives DiskFault st = refl
+faulted_actives answer st = refl
 
 pub ended_waits : (session : ℕ) (st : Standing) → (ended_if_any (active_of session st.actives) (record st { waiting = without_wait session st.waiting })).waiting ≡ without_wait session st.waiting
 ended_waits session st = ended_in (active_of session st.actives) (record st { waiting = without_wait session st.waiting })

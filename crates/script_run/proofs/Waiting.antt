@@ -31,7 +31,7 @@ fault_is answer h = cc
 -- ---- calls
 
 -- after a fault a call is refused
-fault_refuses : (fault : Option Fault) (first : Fault) (later : Option Answer) → fault ≡ Some first → or_refusal (fault_refusal fault) later ≡ Some (Invalid first)
+pub fault_refuses : (fault : Option Fault) (first : Fault) (later : Option Answer) → fault ≡ Some first → or_refusal (fault_refusal fault) later ≡ Some (Invalid first)
 fault_refuses fault first later is = ap (λ (f : Option Fault). or_refusal (fault_refusal f) later) is
 
 -- so a call that was logged found a valid environment

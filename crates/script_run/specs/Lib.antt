@@ -1,4 +1,6 @@
 pub mod Events
-pub mod UnderWay
 pub mod Lines
+-- Where a run ends its sessions.
+pub mod Ends
+pub mod UnderWay
 pub mod Running

@@ -8,7 +8,7 @@ use Rattle.store_model.specs.declared.answer.Answer.{Answer}
 use Rattle.store_model.specs.declared.durability.Durability.{Durability}
 use Rattle.store_model.specs.declared.event.Event.{Event}
 use Rattle.store_model.specs.Journal.{is_disk_fault}
-use Rattle.je_answers.specs.Standing.{Standing}
+use Rattle.je_answers.specs.Standing.{Standing, active_of}
 use Rattle.je_answers.specs.After.{AnswersAsModel, after_events}
 use Rattle.je_answers.specs.Journal.{AreResumedInOrder, IsFirstReady, first_ready, has_answer, ready_in}
 use Rattle.engine.specs.Limits.{IsWithin, Reach}
@@ -19,6 +19,7 @@ use Rattle.environment.specs.Whole.{CanGoOn, IsAt, IsGuarded, disk_of, reach_of}
 use Rattle.script_run.specs.declared.recorded.Recorded.{Recorded}
 use Rattle.script_run.specs.Events.{Awaited, AreSyncedBefore, IsFresh, IsMet, IsOfSessions, awaited_of, reach_by}
 use Rattle.script_run.specs.Events.Awaited.{Nothing}
+use Rattle.script_run.specs.Ends.{AreOf}
 
 -- where a run began: the most bytes of a log file, how far the log and its trees reached, where the model stood, the disk's history, and how many faults
 -- the disk had met
@@ -47,6 +48,7 @@ module _ {D : Type 0} (observable : Bool) (history : D → History) (faults : D 
     pub fresh : IsFresh awaited (after_events p.st journal)
     pub ordered : AreResumedInOrder p.st journal
     pub only : AllByRecursion IsOfSessions journal
+    pub sessions : AreOf (λ s. s < 256) (after_events p.st journal).actives
     pub bounds : CanGoOn environment
     pub caused : IsCaused p.faults (faults (disk_of environment)) journal
 
@@ -64,6 +66,18 @@ module _ {D : Type 0} where
   -- where the model stands now
   abbrev pub standing : Beginning → Recorded D → Standing
   standing p x = after_events p.st x.journal.items
+
+  -- the calls that wait and the transactions under way are those that were
+  pub record StandsAlike (p : Beginning) (old new : Recorded D) : Type 0 where
+    pub waiting : (standing p new).waiting ≡ (standing p old).waiting
+    pub actives : (standing p new).actives ≡ (standing p old).actives
+
+  -- a session has no transaction; and one that had none has none
+  abbrev pub IsOutside : Beginning → ℕ → Recorded D → Type 0
+  IsOutside p session x = active_of session (standing p x).actives ≡ None
+
+  abbrev pub BeginsNone : Beginning → Recorded D → Recorded D → Type 0
+  BeginsNone p old new = (session : ℕ) → IsOutside p session old → IsOutside p session new
 
   -- no call may go on
   abbrev pub IsCalm : Beginning → Recorded D → Type 0

@@ -1,16 +1,17 @@
 // An environment with the journal of its events. A call that is given up is let go by `drop`, which is one step
 // of a proof; the end of its scope would be one for each kind of call.
-ghost use Rattle.std.specs.Prelude.{◌≡◌, ◌≤◌, ◌<◌, ◌+◌, ◌++◌, ◌∷◌, [], ℕ, None, Some, true, false, length, vec_capacity, OnOk, OnErr};
+ghost use Rattle.std.specs.Prelude.{◌≡◌, ◌≤◌, ◌<◌, ◌+◌, ◌++◌, ◌∷◌, [], ℕ, List, Bool, None, Some, true, false, length, slice_index_or, vec_capacity, OnOk, OnErr};
 ghost use Rattle.script_text.specs.Grammar.{has_line};
 ghost use Rattle.store_model.specs.declared.durability.Durability.{Durability as Asked};
 ghost use Rattle.store_model.specs.declared.durability.Durability.TheVariants.{Sync, WriteNoSync};
+ghost use Rattle.store_model.specs.declared.event.Event.TheVariants.{End};
 ghost use Rattle.store_model.specs.declared.plan.ScriptLine.TheVariants.{Session};
 ghost use Rattle.store_model.specs.Journal.{is_logged};
-ghost use Rattle.je_answers.specs.Standing.{without_wait};
 ghost use Rattle.je_answers.specs.Journal.{lines_of};
+ghost use Rattle.script_run.specs.Ends.{AreEndsStopped, HasGained, IsStopped};
 ghost use Rattle.script_run.specs.Events.{awaited_of};
 ghost use Rattle.script_run.specs.Events.Awaited.{Nothing, Follow};
-ghost use Rattle.script_run.specs.UnderWay.{Beginning, GoesOnWith, HasRoom, HasSettled, IsCalm, IsNext, IsUnderWay, MayEnd, Settles, standing};
+ghost use Rattle.script_run.specs.UnderWay.{Beginning, BeginsNone, GoesOnWith, HasRoom, HasSettled, IsCalm, IsNext, IsUnderWay, MayEnd, Settles, StandsAlike};
 
 use environment::{Environment, Outcome};
 use je_disk::{Disk, SyncJob};
@@ -70,6 +71,7 @@ impl<D: Disk> Recorded<D> {
         requires has_line { has_line call ≡ true }
         ensures goes_on { (p : Beginning) → IsUnderWay D.observable D.history D.faults p Nothing self.old → IsCalm p self.old → GoesOnWith D.observable D.history D.faults p result self.new }
         ensures line { OnOk result (lines_of self.new.journal.items ≡ lines_of self.old.journal.items ++ Session session line call ∷ []) }
+        ensures ends { (stopped : List Bool) → slice_index_or stopped session false ≡ false → AreEndsStopped stopped self.old.journal.items → AreEndsStopped stopped self.new.journal.items }
         ensures err { OnErr result (self.new.journal.items ≡ self.old.journal.items) }
         ensures room { OnOk result (HasRoom 2 self.new) }
     {
@@ -107,7 +109,8 @@ impl<D: Disk> Recorded<D> {
         requires room { HasRoom 3 self.old }
         ensures goes_on { (p : Beginning) → IsUnderWay D.observable D.history D.faults p Nothing self.old → IsNext p session line self.old → GoesOnWith D.observable D.history D.faults p result self.new }
         ensures settles { (p : Beginning) → IsUnderWay D.observable D.history D.faults p Nothing self.old → IsNext p session line self.old → Settles p result self.old self.new }
-        ensures lines { lines_of self.new.journal.items ≡ lines_of self.old.journal.items }
+        ensures begins_none { (p : Beginning) → IsUnderWay D.observable D.history D.faults p Nothing self.old → IsNext p session line self.old → BeginsNone p self.old self.new }
+        ensures gained { (stopped : List Bool) → OnErr result (IsStopped stopped session) → HasGained stopped self.old.journal.items self.new.journal.items }
         ensures room { OnOk result (HasRoom 2 self.new) }
     {
         let durability = self.environment.durability_of(session);
@@ -137,8 +140,7 @@ impl<D: Disk> Recorded<D> {
         requires here { (p : Beginning) × IsUnderWay D.observable D.history D.faults p Nothing self.old }
         requires room { HasRoom 1 self.old }
         ensures goes_on { (p : Beginning) → IsUnderWay D.observable D.history D.faults p Nothing self.old → MayEnd p session self.old → IsUnderWay D.observable D.history D.faults p Nothing self.new }
-        ensures waits { (p : Beginning) → (standing p self.new).waiting ≡ without_wait session (standing p self.old).waiting }
-        ensures lines { lines_of self.new.journal.items ≡ lines_of self.old.journal.items }
+        ensures ended { self.new.journal.items ≡ self.old.journal.items ++ End session ∷ [] }
     {
         self.environment.end_session(session);
         record(&mut self.journal, Event::End { session });
@@ -149,8 +151,8 @@ impl<D: Disk> Recorded<D> {
         requires here { (p : Beginning) × IsUnderWay D.observable D.history D.faults p (Follow WriteNoSync) self.old }
         requires room { HasRoom 2 self.old }
         ensures goes_on { (p : Beginning) → IsUnderWay D.observable D.history D.faults p (Follow WriteNoSync) self.old → IsUnderWay D.observable D.history D.faults p Nothing self.new }
-        ensures waits { (p : Beginning) → (standing p self.new).waiting ≡ (standing p self.old).waiting }
-        ensures lines { lines_of self.new.journal.items ≡ lines_of self.old.journal.items }
+        ensures alike { (p : Beginning) → StandsAlike p self.old self.new }
+        ensures gained { (stopped : List Bool) → HasGained stopped self.old.journal.items self.new.journal.items }
     {
         let answer = self.environment.write_out();
         record(&mut self.journal, Event::WriteOut { answer });
@@ -161,8 +163,8 @@ impl<D: Disk> Recorded<D> {
         requires here { (p : Beginning) × IsUnderWay D.observable D.history D.faults p (Follow Sync) self.old }
         requires room { HasRoom 2 self.old }
         ensures goes_on { (p : Beginning) → IsUnderWay D.observable D.history D.faults p (Follow Sync) self.old → IsUnderWay D.observable D.history D.faults p Nothing self.new }
-        ensures waits { (p : Beginning) → (standing p self.new).waiting ≡ (standing p self.old).waiting }
-        ensures lines { lines_of self.new.journal.items ≡ lines_of self.old.journal.items }
+        ensures alike { (p : Beginning) → StandsAlike p self.old self.new }
+        ensures gained { (stopped : List Bool) → HasGained stopped self.old.journal.items self.new.journal.items }
     {
         let Some(job) = self.environment.sync_begin() else {
             let answer = Answer::DiskFault;
@@ -180,8 +182,8 @@ impl<D: Disk> Recorded<D> {
         requires here { (p : Beginning) × IsUnderWay D.observable D.history D.faults p (Follow durability) self.old }
         requires room { HasRoom 2 self.old }
         ensures goes_on { (p : Beginning) → IsUnderWay D.observable D.history D.faults p (Follow durability) self.old → IsUnderWay D.observable D.history D.faults p Nothing self.new }
-        ensures waits { (p : Beginning) → (standing p self.new).waiting ≡ (standing p self.old).waiting }
-        ensures lines { lines_of self.new.journal.items ≡ lines_of self.old.journal.items }
+        ensures alike { (p : Beginning) → StandsAlike p self.old self.new }
+        ensures gained { (stopped : List Bool) → HasGained stopped self.old.journal.items self.new.journal.items }
     {
         match durability {
             Durability::WriteNoSync => self.write_out(),
@@ -196,9 +198,9 @@ impl<D: Disk> Recorded<D> {
         requires here { (p : Beginning) × IsUnderWay D.observable D.history D.faults p (awaited_of awaited) self.old }
         requires room { HasRoom 2 self.old }
         ensures goes_on { (p : Beginning) → IsUnderWay D.observable D.history D.faults p (awaited_of awaited) self.old → IsUnderWay D.observable D.history D.faults p Nothing self.new }
-        ensures waits { (p : Beginning) → (standing p self.new).waiting ≡ (standing p self.old).waiting }
+        ensures alike { (p : Beginning) → StandsAlike p self.old self.new }
         ensures none { awaited ≡ None → self.new ≡ self.old }
-        ensures lines { lines_of self.new.journal.items ≡ lines_of self.old.journal.items }
+        ensures gained { (stopped : List Bool) → HasGained stopped self.old.journal.items self.new.journal.items }
     {
         match awaited {
             Some(durability) => self.follow_commit(durability),
@@ -229,6 +231,7 @@ impl<D: Disk> Recorded<D> {
         requires has_line { has_line call ≡ true }
         ensures goes_on { (p : Beginning) → IsUnderWay D.observable D.history D.faults p Nothing self.old → IsCalm p self.old → IsUnderWay D.observable D.history D.faults p Nothing self.new }
         ensures line { OnOk result (lines_of self.new.journal.items ≡ lines_of self.old.journal.items ++ Session session line call ∷ []) }
+        ensures ends { (stopped : List Bool) → slice_index_or stopped session false ≡ false → AreEndsStopped stopped self.old.journal.items → AreEndsStopped stopped self.new.journal.items }
         ensures err { OnErr result (self.new.journal.items ≡ self.old.journal.items) }
     {
         if self.make_room(ROOM).is_err() {
@@ -247,7 +250,8 @@ impl<D: Disk> Recorded<D> {
         requires room { HasRoom 3 self.old }
         ensures goes_on { (p : Beginning) → IsUnderWay D.observable D.history D.faults p Nothing self.old → IsNext p session line self.old → IsUnderWay D.observable D.history D.faults p Nothing self.new }
         ensures settles { (p : Beginning) → IsUnderWay D.observable D.history D.faults p Nothing self.old → IsNext p session line self.old → HasSettled p self.old self.new }
-        ensures lines { lines_of self.new.journal.items ≡ lines_of self.old.journal.items }
+        ensures begins_none { (p : Beginning) → IsUnderWay D.observable D.history D.faults p Nothing self.old → IsNext p session line self.old → BeginsNone p self.old self.new }
+        ensures gained { (stopped : List Bool) → OnErr result (IsStopped stopped session) → HasGained stopped self.old.journal.items self.new.journal.items }
     {
         let awaited = self.resume(alloc, session, line)?;
         self.follow(awaited);

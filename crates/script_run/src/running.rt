@@ -1,12 +1,13 @@
 // A run of a script's lines.
-ghost use Rattle.std.specs.Prelude.{◌≡◌, ◌≤◌, ◌<◌, ◌++◌, ◌∷◌, [], ℕ, List, length, true, false, slice_index_or, IfSome, IsNone};
+ghost use Rattle.std.specs.Prelude.{◌≡◌, ◌≤◌, ◌<◌, ◌⊎◌, ◌+◌, ◌++◌, ◌∷◌, [], ℕ, List, length, true, false, slice_index_or, IfSome, IsNone};
 ghost use Rattle.std.specs.List.{list_all};
 ghost use Rattle.script_text.specs.Grammar.{has_line, is_line};
 ghost use Rattle.store_model.specs.declared.plan.ScriptLine.{ScriptLine as Line};
 ghost use Rattle.store_model.specs.declared.plan.ScriptLine.TheVariants.{Session};
+ghost use Rattle.script_run.specs.Ends.{AreEndsInPlace, IsStopped};
 ghost use Rattle.script_run.specs.Events.Awaited.{Nothing};
-ghost use Rattle.script_run.specs.UnderWay.{Beginning, IsCalm, IsNext, IsUnderWay, MayEnd};
-ghost use Rattle.script_run.specs.Running.{AreFlags, Begins, HasLines, HasSettledOrHalted, IsCalmOrHalted};
+ghost use Rattle.script_run.specs.UnderWay.{Beginning, BeginsNone, IsCalm, IsNext, IsOutside, IsUnderWay, MayEnd, standing};
+ghost use Rattle.script_run.specs.Running.{AreFlags, Begins, EndsBelow, EndsStopped, HasEnded, HasGoneOn, HasHalted, HasLines, HasSettledOrHalted, IsCalmOrHalted};
 
 use crate::recorded::{ROOM, Recorded};
 use environment::Environment;
@@ -48,7 +49,7 @@ impl<D: Disk> Running<D> {
         requires flags { AreFlags self.old }
         ensures flags { AreFlags self.new }
         ensures recorded { self.new.recorded ≡ self.old.recorded }
-        ensures halted { self.new.halted ≡ true }
+        ensures halted { HasHalted self.old self.new }
         ensures given { (lines : List Line) → HasLines self.old lines → HasLines self.new lines }
     {
         self.memory_ended = true;
@@ -62,7 +63,8 @@ impl<D: Disk> Running<D> {
         ensures flags { AreFlags self.new }
         ensures recorded { self.new.recorded ≡ self.old.recorded }
         ensures same { self.new.halted ≡ self.old.halted }
-        ensures stopped { slice_index_or self.new.stopped session false ≡ true }
+        ensures stopped { IsStopped self.new.stopped session }
+        ensures gone_on { HasGoneOn self.old self.new }
         ensures given { (lines : List Line) → HasLines self.old lines → HasLines self.new lines }
     {
         self.memory_ended = true;
@@ -75,8 +77,7 @@ impl<D: Disk> Running<D> {
         requires flags { AreFlags self.old }
         ensures flags { AreFlags self.new }
         ensures goes_on { (p : Beginning) → IsUnderWay D.observable D.history D.faults p Nothing self.old.recorded → MayEnd p session self.old.recorded → IsUnderWay D.observable D.history D.faults p Nothing self.new.recorded }
-        ensures settles { (p : Beginning) (line : ℕ) → IsNext p session line self.old.recorded → HasSettledOrHalted p self.old self.new }
-        ensures stopped { slice_index_or self.old.stopped session false ≡ true → slice_index_or self.new.stopped session false ≡ true }
+        ensures ended { HasEnded session self.old self.new ⊎ HasHalted self.old self.new }
         ensures given { (lines : List Line) → HasLines self.old lines → HasLines self.new lines }
     {
         if self.recorded.make_room(1).is_err() {
@@ -106,6 +107,8 @@ impl<D: Disk> Running<D> {
         ensures flags { AreFlags self.new }
         ensures goes_on { (p : Beginning) → IsUnderWay D.observable D.history D.faults p Nothing self.old.recorded → IsNext p session line self.old.recorded → IsUnderWay D.observable D.history D.faults p Nothing self.new.recorded }
         ensures settles { (p : Beginning) → IsUnderWay D.observable D.history D.faults p Nothing self.old.recorded → IsNext p session line self.old.recorded → HasSettledOrHalted p self.old self.new }
+        ensures begins_none { (p : Beginning) → IsUnderWay D.observable D.history D.faults p Nothing self.old.recorded → IsNext p session line self.old.recorded → BeginsNone p self.old.recorded self.new.recorded }
+        ensures gone_on { HasGoneOn self.old self.new }
         ensures given { (lines : List Line) → HasLines self.old lines → HasLines self.new lines }
     {
         if self.recorded.make_room(ROOM).is_err() {
@@ -126,6 +129,8 @@ impl<D: Disk> Running<D> {
         ensures flags { AreFlags self.new }
         ensures goes_on { (p : Beginning) → IsUnderWay D.observable D.history D.faults p Nothing self.old.recorded → IsUnderWay D.observable D.history D.faults p Nothing self.new.recorded }
         ensures calm { (p : Beginning) → IsUnderWay D.observable D.history D.faults p Nothing self.old.recorded → IsCalmOrHalted p self.new }
+        ensures begins_none { (p : Beginning) → IsUnderWay D.observable D.history D.faults p Nothing self.old.recorded → BeginsNone p self.old.recorded self.new.recorded }
+        ensures gone_on { HasGoneOn self.old self.new }
         ensures given { (lines : List Line) → HasLines self.old lines → HasLines self.new lines }
     {
         let mut waiting = self.recorded.environment.waiting_count();
@@ -148,6 +153,7 @@ impl<D: Disk> Running<D> {
         requires has_line { has_line call ≡ true }
         ensures flags { AreFlags self.new }
         ensures goes_on { (p : Beginning) → IsUnderWay D.observable D.history D.faults p Nothing self.old.recorded → IsCalmOrHalted p self.old → IsUnderWay D.observable D.history D.faults p Nothing self.new.recorded }
+        ensures ends { EndsStopped self.old → EndsStopped self.new }
         ensures given { (lines : List Line) → HasLines self.old lines → HasLines self.new (lines ++ Session session line call ∷ []) }
     {
         if self.stopped[session as usize] {
@@ -172,6 +178,7 @@ impl<D: Disk> Running<D> {
         ensures flags { AreFlags self.new }
         ensures goes_on { (p : Beginning) → IsUnderWay D.observable D.history D.faults p Nothing self.old.recorded → IsCalmOrHalted p self.old → IsUnderWay D.observable D.history D.faults p Nothing self.new.recorded }
         ensures calm { (p : Beginning) → IsUnderWay D.observable D.history D.faults p Nothing self.old.recorded → IsCalmOrHalted p self.old → IsCalmOrHalted p self.new }
+        ensures ends { EndsStopped self.old → EndsStopped self.new }
         ensures given { (lines : List Line) → HasLines self.old lines → HasLines self.new (lines ++ Session session line call ∷ []) }
     {
         self.give_line(alloc, session, line, call);
@@ -186,6 +193,7 @@ impl<D: Disk> Running<D> {
         ensures flags { AreFlags self.new }
         ensures goes_on { (p : Beginning) → IsUnderWay D.observable D.history D.faults p Nothing self.old.recorded → IsCalmOrHalted p self.old → IsUnderWay D.observable D.history D.faults p Nothing self.new.recorded }
         ensures calm { (p : Beginning) → IsUnderWay D.observable D.history D.faults p Nothing self.old.recorded → IsCalmOrHalted p self.old → IsCalmOrHalted p self.new }
+        ensures ends { EndsStopped self.old → EndsStopped self.new }
         ensures given { (lines : List Line) → HasLines self.old lines → HasLines self.new (lines ++ given ∷ []) }
     {
         match given {
@@ -206,6 +214,10 @@ impl<D: Disk> Running<D> {
         ensures flags { AreFlags self.new }
         ensures goes_on { (p : Beginning) → IsUnderWay D.observable D.history D.faults p Nothing self.old.recorded → IsCalmOrHalted p self.old → IsUnderWay D.observable D.history D.faults p Nothing self.new.recorded }
         ensures calm { (p : Beginning) → IsUnderWay D.observable D.history D.faults p Nothing self.old.recorded → IsCalmOrHalted p self.old → IsCalmOrHalted p self.new }
+        ensures begins_none { (p : Beginning) → IsUnderWay D.observable D.history D.faults p Nothing self.old.recorded → IsCalmOrHalted p self.old → BeginsNone p self.old.recorded self.new.recorded }
+        ensures ended { (p : Beginning) → IsUnderWay D.observable D.history D.faults p Nothing self.old.recorded → IsCalmOrHalted p self.old → self.new.halted ≡ false → IsOutside p session self.new.recorded }
+        ensures ends { (p : Beginning) → IsUnderWay D.observable D.history D.faults p Nothing self.old.recorded → IsCalmOrHalted p self.old → EndsBelow p session self.old → EndsBelow p (session + 1) self.new }
+        ensures works { self.new.halted ≡ false → self.old.halted ≡ false }
         ensures given { (lines : List Line) → HasLines self.old lines → HasLines self.new lines }
     {
         if self.halted {
@@ -225,6 +237,8 @@ impl<D: Disk> Running<D> {
         ensures flags { AreFlags self.new }
         ensures goes_on { (p : Beginning) → IsUnderWay D.observable D.history D.faults p Nothing self.old.recorded → IsCalmOrHalted p self.old → IsUnderWay D.observable D.history D.faults p Nothing self.new.recorded }
         ensures calm { (p : Beginning) → IsUnderWay D.observable D.history D.faults p Nothing self.old.recorded → IsCalmOrHalted p self.old → IsCalmOrHalted p self.new }
+        ensures ended { (p : Beginning) → IsUnderWay D.observable D.history D.faults p Nothing self.old.recorded → IsCalmOrHalted p self.old → self.new.halted ≡ false → (standing p self.new.recorded).actives ≡ [] }
+        ensures ends { (p : Beginning) → IsUnderWay D.observable D.history D.faults p Nothing self.old.recorded → IsCalmOrHalted p self.old → EndsStopped self.old → AreEndsInPlace self.new.stopped p.st self.new.recorded.journal.items }
         ensures given { (lines : List Line) → HasLines self.old lines → HasLines self.new lines }
     {
         for session in 0..=255u8 {
@@ -241,6 +255,7 @@ impl<D: Disk> Running<D> {
         ensures flags { AreFlags self.new }
         ensures goes_on { (p : Beginning) → IsUnderWay D.observable D.history D.faults p Nothing self.old.recorded → IsCalmOrHalted p self.old → IsUnderWay D.observable D.history D.faults p Nothing self.new.recorded }
         ensures calm { (p : Beginning) → IsUnderWay D.observable D.history D.faults p Nothing self.old.recorded → IsCalmOrHalted p self.old → IsCalmOrHalted p self.new }
+        ensures ends { EndsStopped self.old → EndsStopped self.new }
         ensures given { HasLines self.new lines.items }
     {
         for given in lines {
@@ -262,6 +277,8 @@ pub fn run<D: Disk>(
     requires lines { list_all is_line lines.items ≡ true }
     ensures goes_on { (p : Beginning) → Begins D.observable D.history D.faults p environment → IsUnderWay D.observable D.history D.faults p Nothing result.recorded }
     ensures calm { (p : Beginning) → Begins D.observable D.history D.faults p environment → result.memory_ended ≡ false → IsCalm p result.recorded }
+    ensures ended { (p : Beginning) → Begins D.observable D.history D.faults p environment → result.memory_ended ≡ false → (standing p result.recorded).actives ≡ [] }
+    ensures ends { (p : Beginning) → Begins D.observable D.history D.faults p environment → AreEndsInPlace result.stopped p.st result.recorded.journal.items }
     ensures given { HasLines result lines.items }
 {
     let recorded = Recorded {

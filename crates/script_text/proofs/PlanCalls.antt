@@ -7,9 +7,9 @@ use Rattle.std.proofs.lemmas.Bool.{and_parts, and_from}
 use Rattle.je_order.specs.Words.{is_word}
 use Rattle.store_model.specs.declared.isolation.Isolation.{Isolation}
 use Rattle.store_model.specs.declared.durability.Durability.{Durability}
-use Rattle.store_model.specs.declared.kind.Kind.TheVariants.{Plain}
+use Rattle.store_model.specs.declared.kind.Kind.{Kind}
 use Rattle.store_model.specs.declared.call.Call.{Call}
-use Rattle.store_model.specs.declared.call.Call.TheVariants.{Begin, Commit, Abort, List as Lists, Create, Remove, Rename, Truncate, Put, Get, Delete}
+use Rattle.store_model.specs.declared.call.Call.TheVariants.{Begin, Commit, Abort, List as Lists, Create, Remove, Rename, Truncate, Put, Get, GetBoth, Delete}
 use Rattle.store_model.specs.declared.put_mode.PutMode.{PutMode}
 use Rattle.store_model.specs.declared.put_mode.PutMode.TheVariants.{Overwrite, NoOverwrite, NoDupData}
 use Rattle.store_model.specs.declared.plan.ScriptLine.{ScriptLine}
@@ -18,7 +18,7 @@ use Rattle.store_model.specs.declared.plan.RunPlan.{RunPlan}
 use Rattle.script_text.specs.declared.parsing.TheConstants.{MOST_LINES}
 use Rattle.script_text.specs.declared.parsing.ParseErr.{ParseErr}
 use Rattle.script_text.specs.Words.{words_of}
-use Rattle.script_text.specs.Grammar.{text_lines, session_of, bytes_of, level_of, durability_of, wait_of, begin_call, begin_of, commit_of, abort_of, list_of, create_of, remove_of, rename_of, truncate_of, put_call, put_of, get_call, get_of, delete_call, delete_of, call_of, given_by, given_of, is_skipped, good_or_bad, line_gives, and_then, lines_give, as_plan, plan_of, Gives, has_line, is_line}
+use Rattle.script_text.specs.Grammar.{text_lines, session_of, bytes_of, level_of, durability_of, wait_of, begin_call, begin_of, commit_of, abort_of, list_of, kind_of, create_call, create_of, remove_of, rename_of, truncate_of, put_call, put_of, get_call, get_of, rmw_of, get_both_call, get_both_of, delete_call, delete_of, call_of, given_by, given_of, is_skipped, good_or_bad, line_gives, and_then, lines_give, as_plan, plan_of, Gives, has_line, is_line}
 
 -- ---- calls
 
@@ -60,11 +60,15 @@ list_scripted : (words : List (List ℕ)) (got : Call) → list_of words ≡ Som
 list_scripted [] got e = made Lists got refl e
 list_scripted (word ∷ words) got e = none_made got e
 
+create_call_scripted : (db : List ℕ) (kind : Option Kind) (got : Call) → create_call db kind ≡ Some got → has_line got ≡ true
+create_call_scripted db (Some kind) got e = made (Create db kind) got refl e
+create_call_scripted db None got e = none_made got e
+
 create_scripted : (words : List (List ℕ)) (got : Call) → create_of words ≡ Some got → has_line got ≡ true
 create_scripted [] got e = none_made got e
 create_scripted (db ∷ []) got e = none_made got e
 create_scripted (db ∷ kind ∷ []) got e =
-    either (is_word db && bytes_eq kind (codes "plain")) (Some (Create db Plain)) None got (λ s. made (Create db Plain) got refl s) (λ n. none_made got n) e
+    either (is_word db) (create_call db (kind_of kind)) None got (λ s. create_call_scripted db (kind_of kind) got s) (λ n. none_made got n) e
 create_scripted (db ∷ kind ∷ more ∷ words) got e = none_made got e
 
 remove_scripted : (words : List (List ℕ)) (got : Call) → remove_of words ≡ Some got → has_line got ≡ true
@@ -84,29 +88,18 @@ truncate_scripted [] got e = none_made got e
 truncate_scripted (db ∷ []) got e = either (is_word db) (Some (Truncate db)) None got (λ s. made (Truncate db) got refl s) (λ n. none_made got n) e
 truncate_scripted (db ∷ more ∷ words) got e = none_made got e
 
--- a put that has a line
-abbrev HasPutLine : PutMode → Type 0
-HasPutLine Overwrite = Unit {0}
-HasPutLine NoOverwrite = Unit {0}
-HasPutLine NoDupData = ⊥
+put_call_scripted : (mode : PutMode) (db : List ℕ) (key value : Option (List ℕ)) (got : Call) → put_call mode db key value ≡ Some got → has_line got ≡ true
+put_call_scripted mode db (Some key) (Some value) got e = made (Put db key value mode) got refl e
+put_call_scripted mode db (Some key) None got e = none_made got e
+put_call_scripted mode db None value got e = none_made got e
 
-put_line : (mode : PutMode) (db key value : List ℕ) → HasPutLine mode → has_line (Put db key value mode) ≡ true
-put_line Overwrite db key value h = refl
-put_line NoOverwrite db key value h = refl
-put_line NoDupData db key value h = absurd h
-
-put_call_scripted : (mode : PutMode) (db : List ℕ) (key value : Option (List ℕ)) (got : Call) → HasPutLine mode → put_call mode db key value ≡ Some got → has_line got ≡ true
-put_call_scripted mode db (Some key) (Some value) got h e = made (Put db key value mode) got (put_line mode db key value h) e
-put_call_scripted mode db (Some key) None got h e = none_made got e
-put_call_scripted mode db None value got h e = none_made got e
-
-put_scripted : (mode : PutMode) (words : List (List ℕ)) (got : Call) → HasPutLine mode → put_of mode words ≡ Some got → has_line got ≡ true
-put_scripted mode [] got h e = none_made got e
-put_scripted mode (db ∷ []) got h e = none_made got e
-put_scripted mode (db ∷ key ∷ []) got h e = none_made got e
-put_scripted mode (db ∷ key ∷ value ∷ []) got h e =
-    either (is_word db) (put_call mode db (bytes_of key) (bytes_of value)) None got (λ s. put_call_scripted mode db (bytes_of key) (bytes_of value) got h s) (λ n. none_made got n) e
-put_scripted mode (db ∷ key ∷ value ∷ more ∷ words) got h e = none_made got e
+put_scripted : (mode : PutMode) (words : List (List ℕ)) (got : Call) → put_of mode words ≡ Some got → has_line got ≡ true
+put_scripted mode [] got e = none_made got e
+put_scripted mode (db ∷ []) got e = none_made got e
+put_scripted mode (db ∷ key ∷ []) got e = none_made got e
+put_scripted mode (db ∷ key ∷ value ∷ []) got e =
+    either (is_word db) (put_call mode db (bytes_of key) (bytes_of value)) None got (λ s. put_call_scripted mode db (bytes_of key) (bytes_of value) got s) (λ n. none_made got n) e
+put_scripted mode (db ∷ key ∷ value ∷ more ∷ words) got e = none_made got e
 
 get_call_scripted : (db : List ℕ) (rmw : Bool) (key : Option (List ℕ)) (got : Call) → get_call db rmw key ≡ Some got → has_line got ≡ true
 get_call_scripted db rmw (Some key) got e = made (Get db key rmw) got refl e
@@ -120,6 +113,19 @@ get_scripted (db ∷ key ∷ []) got e =
 get_scripted (db ∷ key ∷ rmw ∷ []) got e =
     either (is_word db && bytes_eq rmw (codes "rmw")) (get_call db true (bytes_of key)) None got (λ s. get_call_scripted db true (bytes_of key) got s) (λ n. none_made got n) e
 get_scripted (db ∷ key ∷ rmw ∷ more ∷ words) got e = none_made got e
+
+get_both_call_scripted : (db : List ℕ) (key value : Option (List ℕ)) (rmw : Option Bool) (got : Call) → get_both_call db key value rmw ≡ Some got → has_line got ≡ true
+get_both_call_scripted db (Some key) (Some value) (Some rmw) got e = made (GetBoth db key value rmw) got refl e
+get_both_call_scripted db (Some key) (Some value) None got e = none_made got e
+get_both_call_scripted db (Some key) None rmw got e = none_made got e
+get_both_call_scripted db None value rmw got e = none_made got e
+
+get_both_scripted : (words : List (List ℕ)) (got : Call) → get_both_of words ≡ Some got → has_line got ≡ true
+get_both_scripted [] got e = none_made got e
+get_both_scripted (db ∷ []) got e = none_made got e
+get_both_scripted (db ∷ key ∷ []) got e = none_made got e
+get_both_scripted (db ∷ key ∷ value ∷ words) got e =
+    either (is_word db) (get_both_call db (bytes_of key) (bytes_of value) (rmw_of words)) None got (λ s. get_both_call_scripted db (bytes_of key) (bytes_of value) (rmw_of words) got s) (λ n. none_made got n) e
 
 delete_call_scripted : (db : List ℕ) (key : Option (List ℕ)) (got : Call) → delete_call db key ≡ Some got → has_line got ≡ true
 delete_call_scripted db (Some key) got e = made (Delete db key) got refl e
@@ -142,10 +148,12 @@ call_scripted verb words got e =
     (either (bytes_eq verb (codes "remove")) (remove_of words) _ got (λ s. remove_scripted words got s)
     (either (bytes_eq verb (codes "rename")) (rename_of words) _ got (λ s. rename_scripted words got s)
     (either (bytes_eq verb (codes "truncate")) (truncate_of words) _ got (λ s. truncate_scripted words got s)
-    (either (bytes_eq verb (codes "put")) (put_of Overwrite words) _ got (λ s. put_scripted Overwrite words got tt s)
-    (either (bytes_eq verb (codes "putno")) (put_of NoOverwrite words) _ got (λ s. put_scripted NoOverwrite words got tt s)
+    (either (bytes_eq verb (codes "put")) (put_of Overwrite words) _ got (λ s. put_scripted Overwrite words got s)
+    (either (bytes_eq verb (codes "putno")) (put_of NoOverwrite words) _ got (λ s. put_scripted NoOverwrite words got s)
+    (either (bytes_eq verb (codes "putnodup")) (put_of NoDupData words) _ got (λ s. put_scripted NoDupData words got s)
     (either (bytes_eq verb (codes "get")) (get_of words) _ got (λ s. get_scripted words got s)
-    (either (bytes_eq verb (codes "delete")) (delete_of words) None got (λ s. delete_scripted words got s) (λ n. none_made got n)))))))))))) e
+    (either (bytes_eq verb (codes "getboth")) (get_both_of words) _ got (λ s. get_both_scripted words got s)
+    (either (bytes_eq verb (codes "delete")) (delete_of words) None got (λ s. delete_scripted words got s) (λ n. none_made got n)))))))))))))) e
 
 -- ---- lines
 

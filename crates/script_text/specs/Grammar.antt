@@ -9,11 +9,12 @@ use Rattle.store_model.specs.declared.isolation.Isolation.{Isolation}
 use Rattle.store_model.specs.declared.isolation.Isolation.TheVariants.{ReadUncommitted, ReadCommitted, RepeatableRead, Serializable}
 use Rattle.store_model.specs.declared.durability.Durability.{Durability}
 use Rattle.store_model.specs.declared.durability.Durability.TheVariants.{Sync, WriteNoSync, NoSync}
-use Rattle.store_model.specs.declared.kind.Kind.TheVariants.{Plain}
+use Rattle.store_model.specs.declared.kind.Kind.{Kind}
+use Rattle.store_model.specs.declared.kind.Kind.TheVariants.{Plain, Dup}
 use Rattle.store_model.specs.declared.put_mode.PutMode.{PutMode}
-use Rattle.store_model.specs.declared.put_mode.PutMode.TheVariants.{Overwrite, NoOverwrite}
+use Rattle.store_model.specs.declared.put_mode.PutMode.TheVariants.{Overwrite, NoOverwrite, NoDupData}
 use Rattle.store_model.specs.declared.call.Call.{Call}
-use Rattle.store_model.specs.declared.call.Call.TheVariants.{Begin, Commit, Abort, List as Lists, Create, Remove, Rename, Truncate, Put, Get, Delete}
+use Rattle.store_model.specs.declared.call.Call.TheVariants.{Begin, Commit, Abort, List as Lists, Create, Remove, Rename, Truncate, Put, Get, GetBoth, Delete}
 use Rattle.store_model.specs.declared.plan.ScriptLine.{ScriptLine}
 use Rattle.store_model.specs.declared.plan.ScriptLine.TheVariants.{Session, Maintenance}
 use Rattle.store_model.specs.declared.plan.RunPlan.{RunPlan}
@@ -100,9 +101,19 @@ abbrev pub list_of : List (List ℕ) → Option Call
 list_of [] = Some Lists
 list_of words = None
 
--- `create DB plain`
+-- `create DB plain` and `create DB dup`
+abbrev pub kind_of : List ℕ → Option Kind
+kind_of word =
+    if bytes_eq word (codes "plain") then Some Plain
+    else if bytes_eq word (codes "dup") then Some Dup
+    else None
+
+abbrev pub create_call : List ℕ → Option Kind → Option Call
+create_call db (Some kind) = Some (Create db kind)
+create_call db None = None
+
 abbrev pub create_of : List (List ℕ) → Option Call
-create_of (db ∷ kind ∷ []) = if is_word db && bytes_eq kind (codes "plain") then Some (Create db Plain) else None
+create_of (db ∷ kind ∷ []) = if is_word db then create_call db (kind_of kind) else None
 create_of words = None
 
 -- `remove DB`
@@ -120,7 +131,7 @@ abbrev pub truncate_of : List (List ℕ) → Option Call
 truncate_of (db ∷ []) = if is_word db then Some (Truncate db) else None
 truncate_of words = None
 
--- `put DB K D` and `putno DB K D`
+-- `put DB K D`, `putno DB K D` and `putnodup DB K D`
 abbrev pub put_call : PutMode → List ℕ → Option (List ℕ) → Option (List ℕ) → Option Call
 put_call mode db (Some key) (Some value) = Some (Put db key value mode)
 put_call mode db key value = None
@@ -139,11 +150,20 @@ get_of (db ∷ key ∷ []) = if is_word db then get_call db false (bytes_of key)
 get_of (db ∷ key ∷ rmw ∷ []) = if is_word db && bytes_eq rmw (codes "rmw") then get_call db true (bytes_of key) else None
 get_of words = None
 
--- whether a get is for a change, by the words behind its key; none where they are no get's
+-- whether a read is for a change, by the last words of its line; none where they are no read's
 abbrev pub rmw_of : List (List ℕ) → Option Bool
 rmw_of [] = Some false
 rmw_of (rmw ∷ []) = if bytes_eq rmw (codes "rmw") then Some true else None
 rmw_of words = None
+
+-- `getboth DB K D` and `getboth DB K D rmw`
+abbrev pub get_both_call : List ℕ → Option (List ℕ) → Option (List ℕ) → Option Bool → Option Call
+get_both_call db (Some key) (Some value) (Some rmw) = Some (GetBoth db key value rmw)
+get_both_call db key value rmw = None
+
+abbrev pub get_both_of : List (List ℕ) → Option Call
+get_both_of (db ∷ key ∷ value ∷ words) = if is_word db then get_both_call db (bytes_of key) (bytes_of value) (rmw_of words) else None
+get_both_of words = None
 
 -- `delete DB K`
 abbrev pub delete_call : List ℕ → Option (List ℕ) → Option Call
@@ -167,7 +187,9 @@ call_of verb words =
     else if bytes_eq verb (codes "truncate") then truncate_of words
     else if bytes_eq verb (codes "put") then put_of Overwrite words
     else if bytes_eq verb (codes "putno") then put_of NoOverwrite words
+    else if bytes_eq verb (codes "putnodup") then put_of NoDupData words
     else if bytes_eq verb (codes "get") then get_of words
+    else if bytes_eq verb (codes "getboth") then get_both_of words
     else if bytes_eq verb (codes "delete") then delete_of words
     else None
 
@@ -202,13 +224,13 @@ has_line (Begin level durability wait) = true
 has_line Commit = true
 has_line Abort = true
 has_line Lists = true
-has_line (Create db Plain) = true
+has_line (Create db kind) = true
 has_line (Remove db) = true
 has_line (Rename db to) = true
 has_line (Truncate db) = true
-has_line (Put db key value Overwrite) = true
-has_line (Put db key value NoOverwrite) = true
+has_line (Put db key value mode) = true
 has_line (Get db key rmw) = true
+has_line (GetBoth db key value rmw) = true
 has_line (Delete db key) = true
 has_line call = false
 

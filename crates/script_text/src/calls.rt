@@ -1,7 +1,7 @@
 // The forms of calls.
 ghost use Rattle.std.specs.Prelude.{◌≡◌, true, IfOk, if◌then◌else◌};
 ghost use Rattle.je_order.specs.Words.{is_word};
-ghost use Rattle.script_text.specs.Grammar.{call_of, begin_of, level_of, durability_of, wait_of, commit_of, abort_of, list_of, create_of, remove_of, rename_of, truncate_of, put_call, put_of, get_of, get_call, rmw_of, delete_call, delete_of, bytes_of};
+ghost use Rattle.script_text.specs.Grammar.{call_of, begin_of, level_of, durability_of, wait_of, commit_of, abort_of, list_of, kind_of, create_call, create_of, remove_of, rename_of, truncate_of, put_call, put_of, get_of, get_call, rmw_of, get_both_call, get_both_of, delete_call, delete_of, bytes_of};
 
 use crate::bytes::bytes_of;
 use crate::words::Words;
@@ -33,8 +33,12 @@ pub fn call_of(alloc: Global, verb: &[u8], words: Words) -> Result<Option<Call>,
         put_of(alloc, PutMode::Overwrite, words)
     } else if verb == b"putno".as_slice() {
         put_of(alloc, PutMode::NoOverwrite, words)
+    } else if verb == b"putnodup".as_slice() {
+        put_of(alloc, PutMode::NoDupData, words)
     } else if verb == b"get".as_slice() {
         get_of(alloc, words)
+    } else if verb == b"getboth".as_slice() {
+        get_both_of(alloc, words)
     } else if verb == b"delete".as_slice() {
         delete_of(alloc, words)
     } else {
@@ -130,6 +134,18 @@ fn list_of(mut words: Words) -> Option<Call>
     }
 }
 
+fn kind_of(word: &[u8]) -> Option<Kind>
+    ensures { result ≡ kind_of word.now }
+{
+    if word == b"plain".as_slice() {
+        Some(Kind::Plain)
+    } else if word == b"dup".as_slice() {
+        Some(Kind::Dup)
+    } else {
+        None
+    }
+}
+
 fn create_of(alloc: Global, mut words: Words) -> Result<Option<Call>, AllocError>
     ensures { IfOk result (λ call. call ≡ create_of words.entry) }
 {
@@ -139,14 +155,21 @@ fn create_of(alloc: Global, mut words: Words) -> Result<Option<Call>, AllocError
     let Some(kind) = words.next() else {
         return Ok(None);
     };
-    if words.next().is_some() || !Word::is_word(db) || kind != b"plain".as_slice() {
+    if words.next().is_some() || !Word::is_word(db) {
         return Ok(None);
     }
+    create_call(alloc, db, kind_of(kind))
+}
+
+fn create_call(alloc: Global, db: &[u8], kind: Option<Kind>) -> Result<Option<Call>, AllocError>
+    requires { is_word db.now ≡ true }
+    ensures { IfOk result (λ call. call ≡ create_call db.now kind) }
+{
+    let Some(kind) = kind else {
+        return Ok(None);
+    };
     let db = Word::from_slice(alloc, db)?;
-    Ok(Some(Call::Create {
-        db,
-        kind: Kind::Plain,
-    }))
+    Ok(Some(Call::Create { db, kind }))
 }
 
 fn remove_of(alloc: Global, mut words: Words) -> Result<Option<Call>, AllocError>
@@ -235,8 +258,8 @@ fn plain_put(
     }))
 }
 
-// Whether a get is for a change, by the words behind its key; none where they are no get's.
-fn rmw_of(mut words: Words) -> Option<bool>
+// Whether a read is for a change, by the last words of its line; none where they are no read's.
+pub(crate) fn rmw_of(mut words: Words) -> Option<bool>
     ensures { result ≡ rmw_of words.entry }
 {
     let Some(rmw) = words.next() else {
@@ -275,6 +298,52 @@ fn plain_get(alloc: Global, db: &[u8], key: &[u8], rmw: bool) -> Result<Option<C
     };
     let db = Word::from_slice(alloc, db)?;
     Ok(Some(Call::Get { db, key, rmw }))
+}
+
+fn get_both_of(alloc: Global, mut words: Words) -> Result<Option<Call>, AllocError>
+    ensures { IfOk result (λ call. call ≡ get_both_of words.entry) }
+{
+    let Some(db) = words.next() else {
+        return Ok(None);
+    };
+    let Some(key) = words.next() else {
+        return Ok(None);
+    };
+    let Some(value) = words.next() else {
+        return Ok(None);
+    };
+    if !Word::is_word(db) {
+        return Ok(None);
+    }
+    plain_get_both(alloc, db, key, value, rmw_of(words))
+}
+
+fn plain_get_both(
+    alloc: Global,
+    db: &[u8],
+    key: &[u8],
+    value: &[u8],
+    rmw: Option<bool>,
+) -> Result<Option<Call>, AllocError>
+    requires { is_word db.now ≡ true }
+    ensures { IfOk result (λ call. call ≡ get_both_call db.now (bytes_of key.now) (bytes_of value.now) rmw) }
+{
+    let Some(rmw) = rmw else {
+        return Ok(None);
+    };
+    let Some(key) = bytes_of(alloc, key)? else {
+        return Ok(None);
+    };
+    let Some(value) = bytes_of(alloc, value)? else {
+        return Ok(None);
+    };
+    let db = Word::from_slice(alloc, db)?;
+    Ok(Some(Call::GetBoth {
+        db,
+        key,
+        value,
+        rmw,
+    }))
 }
 
 fn delete_of(alloc: Global, mut words: Words) -> Result<Option<Call>, AllocError>

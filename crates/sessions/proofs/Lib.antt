@@ -18,3 +18,5 @@ pub mod Waited
 pub mod Takes
 -- Who uses a database.
 pub mod Users
+-- The first transaction whose session has a cursor on a database.
+mod CursorUsers

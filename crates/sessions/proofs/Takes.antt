@@ -65,10 +65,11 @@ reads_by s session resumed k needs owner new asks may asked at new_ =
 -- ---- all was got
 
 pub ready_taken : (s : Sessions) (new : CallLocks) (session : ℕ) (resumed : Bool) (k : Asker) (needs ns : List Need) (owner : Option TxnId) → Asks s session k → MayAsk s session resumed → ns ≡ needs → owner ≡ None → HasAsked k ns owner s.locks new
-    → (st : Standing) (a : Active) → st.fault ≡ None → active_of session st.actives ≡ Some a → AreSessionsAt s st → HasTaken (record { txns = s.txns; locks = new; waiting = s.waiting }) resumed a needs st
+    → (st : Standing) (a : Active) → st.fault ≡ None → active_of session st.actives ≡ Some a → AreSessionsAt s st → HasTaken (record { txns = s.txns; locks = new; cursors = s.cursors; waiting = s.waiting }) resumed a needs st
 ready_taken s new session resumed k needs ns owner asks may same none asked st a fault its at = record {
   actives = at.actives;
   own = at.own;
+  places = at.places;
   waiting = at.waiting;
   free = ap (λ (l : LockState). first_blocked a.txn needs l.at) (sym state) ∙ asked_so.locked.0;
   locks = asked_so.locked.1 ∙ ap (λ (l : LockState). when_answered a.level a.txn (with_all a.txn needs l)) state;
@@ -93,10 +94,11 @@ pub given_up : (k : Asker) (needs : List Need) (o : Option TxnId) (old mid new :
     → ((before : LockState) → AreGot k.txn (reverse mid.got.items) before (state_of mid.locks) → state_of new.locks ≡ before) → state_of new.locks ≡ state_of old.locks
 given_up k needs o old mid new asked back = back (state_of old.locks) asked.got
 
-pub still_at : (s : Sessions) (new : CallLocks) → state_of new.locks ≡ state_of s.locks.locks → (st : Standing) → AreSessionsAt s st → AreSessionsAt (record { txns = s.txns; locks = new; waiting = s.waiting }) st
+pub still_at : (s : Sessions) (new : CallLocks) → state_of new.locks ≡ state_of s.locks.locks → (st : Standing) → AreSessionsAt s st → AreSessionsAt (record { txns = s.txns; locks = new; cursors = s.cursors; waiting = s.waiting }) st
 still_at s new back st at = record {
   actives = at.actives;
   own = at.own;
+  places = at.places;
   waiting = at.waiting;
   locks = by_fault st.fault at.locks;
 }

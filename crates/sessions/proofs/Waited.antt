@@ -30,6 +30,8 @@ use Rattle.sessions.specs.declared.blocked.Blocked.{Blocked}
 use Rattle.sessions.specs.declared.stop_room.StopRoom.{StopRoom}
 use Rattle.active_txns.specs.declared.active_txns.ActiveTxns.{ActiveTxns}
 use Rattle.active_txns.specs.Own.{own_of}
+use Rattle.open_cursors.specs.declared.open_cursors.OpenCursors.{OpenCursors}
+use Rattle.open_cursors.specs.Places.{AreCursorsAt}
 use Rattle.lock_table.specs.Table.{Locks}
 use Rattle.sessions.specs.AtStanding.{AreSessionsAt, AreLocksAt}
 use Rattle.sessions.specs.Taking.{HasStopped}
@@ -114,11 +116,11 @@ pub waited : (taken : Taken) (k : Asker) (session line : ℕ) (call : Call) (db 
     → HasTold taken room kind needs b mid new → ns ≡ needs
     → IsMadeToWait k.txn ns b.at b.owner b.victims.items (state_of old.locks.locks) (state_of mid.locks.locks)
     → room.wait ≡ record { session = session; line = line; call = call; txn = k.txn } → room.db ≡ db
-    → mid.txns ≡ old.txns → mid.waiting.items ≡ old.waiting.items
+    → mid.txns ≡ old.txns → mid.waiting.items ≡ old.waiting.items → mid.cursors ≡ old.cursors
     → HaveWaits old.txns.actives.items old.waiting.items (state_of old.locks.locks).pending
     → HasWaited taken k session line call db kind needs old new
-waited Ready k session line call db kind needs ns room b old mid new h same made wait_is db_is txns_is ws_is have = h
-waited (Stopped answer victims) k session line call db kind needs ns room b old mid new h same made wait_is db_is txns_is ws_is have = λ st a g fault asker waits are at.
+waited Ready k session line call db kind needs ns room b old mid new h same made wait_is db_is txns_is ws_is cursors_is have = h
+waited (Stopped answer victims) k session line call db kind needs ns room b old mid new h same made wait_is db_is txns_is ws_is cursors_is have = λ st a g fault asker waits are at.
     let state : state_of old.locks.locks ≡ st.locks = at_none st.fault old.locks.locks st.locks fault at.locks in
     let mine = its_session session st.actives a are.its in
     let w : room.wait ≡ asking a line call = wait_is ∙ ap₂ (λ (n : ℕ) (t : TxnId). wait_with n line call t) (sym mine.1) asker.its in
@@ -138,6 +140,7 @@ waited (Stopped answer victims) k session line call db kind needs ns room b old 
     let there_at : AreSessionsAt mid (record st { locks = state_of mid.locks.locks }) = record {
       actives = ap (λ (t : ActiveTxns). t.actives.items) txns_is ∙ at.actives;
       own = ap (λ (t : ActiveTxns). own_of t.own.entries) txns_is ∙ at.own;
+      places = subst (λ (o : OpenCursors). AreCursorsAt o st.places) (sym cursors_is) at.places;
       waiting = list;
       locks = its_own st.fault mid.locks.locks;
     } in

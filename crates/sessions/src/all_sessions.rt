@@ -1,21 +1,24 @@
 // The sessions of an environment.
-ghost use Rattle.std.specs.Prelude.{ℕ, ◌≡◌, ◌⊎◌, Bool, ◌++◌, ◌∷◌, [], ◌==◌, None, Some, option_map, length, take, true, false, IfOk, OnOk, OnErr};
+ghost use Rattle.std.specs.Prelude.{ℕ, ◌≡◌, ◌⊎◌, Bool, ◌++◌, ◌∷◌, [], ◌==◌, None, Some, not, filter, option_map, length, take, true, false, IfOk, OnOk, OnErr};
 ghost use Rattle.std.specs.Option.{option_copied, is_some, IfSome, IfNone};
 ghost use Rattle.je_order.specs.declared.txn_id.TxnId.{TxnId};
 ghost use Rattle.store_model.specs.declared.record_change.RecordChange.{RecordChange};
 ghost use Rattle.store_model.specs.declared.need.Need.{Need};
+ghost use Rattle.store_model.specs.declared.store.Store.{Store as Records};
 ghost use Rattle.je_answers.specs.declared.active.Active.{Active};
 ghost use Rattle.je_answers.specs.declared.wait.Wait.{Wait as WaitingCall};
-ghost use Rattle.je_answers.specs.Standing.{Standing, active_of, wait_of as wait_in};
+ghost use Rattle.je_answers.specs.Standing.{Standing, active_of, place_at, wait_of as wait_in};
 ghost use Rattle.je_answers.specs.Alone.{Alone, alone};
 ghost use Rattle.je_answers.specs.Views.{Target, changes_at};
 ghost use Rattle.je_answers.specs.Refusals.{early_refusal as refusal_of};
 ghost use Rattle.je_answers.specs.Locking.{all_got, IsLeastUser, IsUnused, IsAwaited};
 ghost use Rattle.je_answers.specs.Events.{resumed as resumed_in, IsReady};
-ghost use Rattle.je_answers.specs.After.{ended, with_locks};
+ghost use Rattle.je_answers.specs.After.{ended, moved_to, with_locks};
 ghost use Rattle.je_answers.specs.Journal.{first_ready};
-ghost use Rattle.standing_laws.specs.Right.{AreTables, MayWait};
-ghost use Rattle.sessions.specs.AtStanding.{AreSessionsAt, with_active, with_own, without_call, owing as owing_in};
+ghost use Rattle.standing_laws.specs.Right.{AreSound, AreTables, MayWait};
+ghost use Rattle.open_cursors.specs.Under.{IsUnderIn};
+ghost use Rattle.open_cursors.specs.Places.{AreUnder};
+ghost use Rattle.sessions.specs.AtStanding.{AreSessionsAt, KeepsNames, with_active, with_own, with_places, without_call, owing as owing_in};
 ghost use Rattle.sessions.specs.Taking.{MayAsk, HasTaken, HasStopped, IfReady, IfStopped, AreNeedsOf};
 
 use crate::Taken;
@@ -23,9 +26,11 @@ use crate::ending::end_one;
 use crate::finding::{forget_for, leave_out, next_ready_in, taken_out, wait_at};
 use crate::refusing::early_refusal_in;
 use crate::taking::take_for;
+use crate::using::{cursor_user_in, lesser_of};
 use active_txns::ActiveTxns;
 use je_answers::{Active, Wait};
-use je_order::{List, TxnId, Word};
+use je_order::{List, Name, TxnId, Word};
+use open_cursors::{OpenCursor, OpenCursors};
 use std::alloc::{AllocError, Global};
 use store_model::{Answer, Call, Durability, Fault, Isolation, Kind, Need, RecordChange};
 use txn_locks::CallLocks;
@@ -36,17 +41,20 @@ use txn_locks::CallLocks;
 pub struct Sessions {
     pub(crate) txns: ActiveTxns,
     pub(crate) locks: CallLocks,
+    pub(crate) cursors: OpenCursors,
     pub(crate) waiting: Vec<Wait>,
 }
 
 impl Sessions {
     /// No session has a transaction. It takes no memory.
     pub fn new(alloc: Global) -> Sessions
-        ensures { (p : Alone) → AreSessionsAt result (alone p) }
+        ensures stands { (p : Alone) → AreSessionsAt result (alone p) }
+        ensures names { (store : Records) (numbers : List ℕ → ℕ) → AreUnder store numbers result.cursors }
     {
         Sessions {
             txns: ActiveTxns::new(alloc),
             locks: CallLocks::new(alloc),
+            cursors: OpenCursors::new(alloc),
             waiting: Vec::new(alloc),
         }
     }
@@ -106,6 +114,7 @@ impl Sessions {
     ) -> Result<(), AllocError>
         ensures stands { OnOk result ((st : Standing) → AreSessionsAt self.old st → AreSessionsAt self.new (with_active (record { txn = txn; session = session; level = level; durability = durability; waits = waits; is_auto = is_auto; deadlock = None }) st)) }
         ensures err { OnErr result ((st : Standing) → AreSessionsAt self.old st → AreSessionsAt self.new st) }
+        ensures names { KeepsNames self.old self.new }
     {
         self.txns
             .begin(txn, session, level, durability, waits, is_auto)
@@ -114,15 +123,17 @@ impl Sessions {
     /// Takes back the last transaction that was begun, which has changed nothing and has no locks, as where
     /// memory ran out in its first call. It takes no memory.
     pub fn undo_begin(&mut self)
-        ensures { (st : Standing) (a : Active) → AreSessionsAt self.old (with_active a st) → AreSessionsAt self.new st }
+        ensures stands { (st : Standing) (a : Active) → AreSessionsAt self.old (with_active a st) → AreSessionsAt self.new st }
+        ensures names { KeepsNames self.old self.new }
     {
         self.txns.undo_begin();
     }
 
-    /// Ends a session's transaction: what it changed is forgotten here, and its locks and waits go. It takes
-    /// no memory.
+    /// Ends a session's transaction: what it changed is forgotten here, its cursors are closed, and its locks
+    /// and waits go. It takes no memory.
     pub fn end(&mut self, session: u8, txn: TxnId)
-        ensures { (st : Standing) (a : Active) → a.session ≡ session → a.txn ≡ txn → AreSessionsAt self.old st → AreSessionsAt self.new (ended a st) }
+        ensures stands { (st : Standing) (a : Active) → a.session ≡ session → a.txn ≡ txn → AreSessionsAt self.old st → AreSessionsAt self.new (ended a st) }
+        ensures names { KeepsNames self.old self.new }
     {
         end_one(self, session, txn);
     }
@@ -147,6 +158,7 @@ impl Sessions {
         ensures ready { IfOk result (λ taken. IfReady taken ((st : Standing) (a : Active) → st.fault ≡ None → active_of session st.actives ≡ Some a → AreSessionsAt self.old st → HasTaken self.new resumed a needs.items st)) }
         ensures stopped { IfOk result (λ taken. IfStopped taken (λ answer victims. (st : Standing) (a : Active) (g : Target) → st.fault ≡ None → AreNeedsOf st session call.now db.now kind needs.items a g → AreSessionsAt self.old st → HasStopped self.new st a line call.now g answer victims)) }
         ensures err { OnErr result ((st : Standing) → AreSessionsAt self.old st → AreSessionsAt self.new st) }
+        ensures names { KeepsNames self.old self.new }
     {
         take_for(self, alloc, session, line, call, db, kind, needs, resumed)
     }
@@ -155,7 +167,8 @@ impl Sessions {
     /// memory.
     pub fn answered(&mut self, txn: TxnId, level: Isolation, resumed: bool)
         requires { (a : Active) × (needs : List Need) × (st : Standing) × (a.txn ≡ txn) × (a.level ≡ level) × HasTaken self.old resumed a needs st }
-        ensures { (a : Active) (needs : List Need) (st : Standing) → a.txn ≡ txn → a.level ≡ level → HasTaken self.old resumed a needs st → AreSessionsAt self.new (with_locks a (all_got a.txn needs st.locks.at) st) }
+        ensures stands { (a : Active) (needs : List Need) (st : Standing) → a.txn ≡ txn → a.level ≡ level → HasTaken self.old resumed a needs st → AreSessionsAt self.new (with_locks a (all_got a.txn needs st.locks.at) st) }
+        ensures names { KeepsNames self.old self.new }
     {
         self.locks.answered(txn, level, resumed);
     }
@@ -163,7 +176,8 @@ impl Sessions {
     /// Gives back all that a call got, which is not answered after all. It takes no memory.
     pub fn give_up(&mut self, txn: TxnId)
         requires { (resumed : Bool) × (a : Active) × (needs : List Need) × (st : Standing) × (a.txn ≡ txn) × HasTaken self.old resumed a needs st }
-        ensures { (resumed : Bool) (a : Active) (needs : List Need) (st : Standing) → a.txn ≡ txn → HasTaken self.old resumed a needs st → AreSessionsAt self.new st }
+        ensures stands { (resumed : Bool) (a : Active) (needs : List Need) (st : Standing) → a.txn ≡ txn → HasTaken self.old resumed a needs st → AreSessionsAt self.new st }
+        ensures names { KeepsNames self.old self.new }
     {
         self.locks.give_up(txn);
     }
@@ -179,6 +193,7 @@ impl Sessions {
     ) -> Result<(), AllocError>
         ensures taken { OnOk result ((resumed : Bool) (a : Active) (needs : List Need) (st : Standing) → HasTaken self.old resumed a needs st → HasTaken self.new resumed a needs (with_own txn.0 (changes_at db changes) st)) }
         ensures err { OnErr result ((resumed : Bool) (a : Active) (needs : List Need) (st : Standing) → HasTaken self.old resumed a needs st → HasTaken self.new resumed a needs st) }
+        ensures names { KeepsNames self.old self.new }
     {
         self.txns.push_all(alloc, txn, db, changes)
     }
@@ -186,7 +201,8 @@ impl Sessions {
     /// Leaves the first changes of a transaction, those before it pushed its last ones, as where the log did
     /// not take these. It takes no memory.
     pub fn truncate_own(&mut self, txn: TxnId, len: usize)
-        ensures { (resumed : Bool) (a : Active) (needs : List Need) (st : Standing) (more : List (ℕ × RecordChange)) → len ≡ length (st.own txn.0) → HasTaken self.old resumed a needs (with_own txn.0 more st) → HasTaken self.new resumed a needs st }
+        ensures taken { (resumed : Bool) (a : Active) (needs : List Need) (st : Standing) (more : List (ℕ × RecordChange)) → len ≡ length (st.own txn.0) → HasTaken self.old resumed a needs (with_own txn.0 more st) → HasTaken self.new resumed a needs st }
+        ensures names { KeepsNames self.old self.new }
     {
         self.txns.truncate_own(txn, len);
     }
@@ -210,6 +226,7 @@ impl Sessions {
     pub fn forget(&mut self, session: u8) -> Option<Wait>
         ensures wait { (st : Standing) → AreSessionsAt self.old st → result ≡ wait_in session st.waiting }
         ensures stands { (st : Standing) (w : WaitingCall) → wait_in session st.waiting ≡ Some w → IsReady st.fault st w.txn → AreSessionsAt self.old st → AreSessionsAt self.new (resumed_in st w) }
+        ensures names { KeepsNames self.old self.new }
     {
         let wait = taken_out(&mut self.waiting, session);
         forget_for(&mut self.locks.locks, &wait);
@@ -219,7 +236,8 @@ impl Sessions {
     /// Takes out a session's waiting call, as where the session ends; its wait goes with its transaction. It
     /// takes no memory.
     pub fn withdraw(&mut self, session: u8)
-        ensures { (st : Standing) → AreSessionsAt self.old st → AreSessionsAt self.new (without_call session st) }
+        ensures stands { (st : Standing) → AreSessionsAt self.old st → AreSessionsAt self.new (without_call session st) }
+        ensures names { KeepsNames self.old self.new }
     {
         leave_out(&mut self.waiting, session);
     }
@@ -232,17 +250,68 @@ impl Sessions {
         next_ready_in(self, has_fault)
     }
 
-    /// The least transaction that has a lock in a database, or else one whose call was told to wait there and
-    /// has not gone on; no session has a cursor.
+    /// The least transaction that has a lock in a database or a cursor on it, or else one whose call was told to
+    /// wait there and has not gone on.
     pub fn user_of(&self, db: u32) -> Option<TxnId>
-        ensures none { (st : Standing) → st.fault ≡ None → ((session : ℕ) → st.places session ≡ []) → AreSessionsAt self.now st → IfNone result (IsUnused st db) }
-        ensures some { (st : Standing) → st.fault ≡ None → ((session : ℕ) → st.places session ≡ []) → AreSessionsAt self.now st → IfSome result (λ t. IsLeastUser st db t ⊎ IsAwaited st db t) }
+        ensures none { (st : Standing) → st.fault ≡ None → AreSound st → AreSessionsAt self.now st → IfNone result (IsUnused st db) }
+        ensures some { (st : Standing) → st.fault ≡ None → AreSound st → AreSessionsAt self.now st → IfSome result (λ t. IsLeastUser st db t ⊎ IsAwaited st db t) }
     {
         self.locks.locks.have_no_cycle();
-        match self.locks.locks.holder_in(db) {
+        let user = lesser_of(self.locks.locks.holder_in(db), cursor_user_in(self, db));
+        match user {
             Some(txn) => Some(txn),
             None => self.locks.locks.waiter_in(db),
         }
+    }
+
+    /// A session's cursor, if it is open.
+    pub fn cursor(&self, session: u8, cursor: u8) -> Option<&OpenCursor>
+        ensures place { (st : Standing) → AreSessionsAt self.now st → option_map (λ c. c.place) (option_copied result) ≡ place_at cursor (st.places session) }
+        ensures its { IfSome result (λ c. c.now.session ≡ session) }
+        ensures under { (store : Records) (numbers : List ℕ → ℕ) → AreUnder store numbers self.now.cursors → IfSome result (λ c. IsUnderIn store numbers c.now.place.db c.now.name c.now.kind) }
+    {
+        self.cursors.cursor(session, cursor)
+    }
+
+    /// Opens a cursor, whose number its session has not open. The only error is out of memory, and nothing is
+    /// changed by it.
+    pub fn open_cursor(&mut self, opened: OpenCursor) -> Result<(), AllocError>
+        ensures stands { OnOk result ((st : Standing) → AreSessionsAt self.old st → place_at opened.place.cursor (st.places opened.session) ≡ None → AreSessionsAt self.new (with_places opened.session (st.places opened.session ++ opened.place ∷ []) st)) }
+        ensures under { OnOk result ((store : Records) (numbers : List ℕ → ℕ) → IsUnderIn store numbers opened.place.db opened.name opened.kind → AreUnder store numbers self.old.cursors → AreUnder store numbers self.new.cursors) }
+        ensures err { OnErr result ((st : Standing) → AreSessionsAt self.old st → AreSessionsAt self.new st) }
+        ensures names { OnErr result (KeepsNames self.old self.new) }
+    {
+        self.cursors.open(opened)
+    }
+
+    /// A copy of a session's cursor with the number `to`, if it is open. The only error is out of memory.
+    pub fn copied_cursor(
+        &self,
+        session: u8,
+        cursor: u8,
+        to: u8,
+    ) -> Result<Option<OpenCursor>, AllocError>
+        ensures place { IfOk result (λ copy. (st : Standing) → AreSessionsAt self.now st → option_map (λ c. c.place) copy ≡ option_map (λ p. record { cursor = to; db = p.db; at = p.at }) (place_at cursor (st.places session))) }
+        ensures its { IfOk result (λ copy. IfSome copy (λ c. c.session ≡ session)) }
+        ensures under { IfOk result (λ copy. (store : Records) (numbers : List ℕ → ℕ) → AreUnder store numbers self.now.cursors → IfSome copy (λ c. IsUnderIn store numbers c.place.db c.name c.kind)) }
+    {
+        self.cursors.copied(session, cursor, to)
+    }
+
+    /// Closes a session's cursor. It takes no memory.
+    pub fn close_cursor(&mut self, session: u8, cursor: u8)
+        ensures stands { (st : Standing) → AreSessionsAt self.old st → AreSessionsAt self.new (with_places session (filter (λ p. not (p.cursor == cursor)) (st.places session)) st) }
+        ensures names { KeepsNames self.old self.new }
+    {
+        self.cursors.close(session, cursor);
+    }
+
+    /// Moves a session's cursor to a record, once a call that got its needs is answered so. It takes no memory.
+    pub fn move_cursor(&mut self, session: u8, cursor: u8, at: Option<Name>)
+        ensures stands { (st : Standing) → AreSessionsAt self.old st → AreSessionsAt self.new (with_places session (moved_to cursor at (st.places session)) st) }
+        ensures names { KeepsNames self.old self.new }
+    {
+        self.cursors.move_to(session, cursor, at);
     }
 
     /// Owners never conflict, and whoever waits was told so: for those who reason above the sessions. It does

@@ -16,7 +16,7 @@ ghost use Rattle.je_answers.specs.Views.{Target};
 ghost use Rattle.je_answers.specs.Locking.{first_blocked};
 ghost use Rattle.txn_locks.specs.Taking.{state_of, when_answered};
 ghost use Rattle.standing_laws.specs.Right.{MayWait, HaveWaits};
-ghost use Rattle.sessions.specs.AtStanding.{AreSessionsAt};
+ghost use Rattle.sessions.specs.AtStanding.{AreSessionsAt, KeepsNames};
 ghost use Rattle.sessions.specs.Taking.{MayAsk, HasTaken, HasStopped, IfReady, IfStopped, AreNeedsOf};
 ghost use Rattle.sessions.specs.Spares.{IsShort};
 ghost use Rattle.sessions.specs.Waiting.{HasRoomFor, HasTold, HasWaited};
@@ -88,6 +88,7 @@ fn tell(
     ensures own { sessions.new.txns.own.entries ≡ sessions.old.txns.own.entries }
     ensures waiting { sessions.new.waiting.items ≡ filter (λ w. not (is_victim w.session result.1.items)) (sessions.old.waiting.items ++ room.wait ∷ []) }
     ensures locks { sessions.new.locks ≡ sessions.old.locks }
+    ensures cursors { sessions.new.cursors ≡ sessions.old.cursors }
 {
     let StopRoom {
         wait,
@@ -126,7 +127,8 @@ fn stop(
     requires at { blocked.at < length needs.items }
     requires few { length blocked.victims.items ≤ length sessions.old.waiting.items + 1 }
     requires short { AllByRecursion (IsShort (length sessions.old.waiting.items + 1)) blocked.victims.items }
-    ensures { HasTold result room kind needs.items blocked sessions.old sessions.new }
+    ensures told { HasTold result room kind needs.items blocked sessions.old sessions.new }
+    ensures names { KeepsNames sessions.old sessions.new }
 {
     let (answer, victims) = tell(sessions, room, kind, needs, blocked);
     end_autos(sessions, victims.as_slice());
@@ -154,6 +156,7 @@ fn wait_for(
     requires waits { HaveWaits sessions.old.txns.actives.items sessions.old.waiting.items (state_of sessions.old.locks.locks).pending }
     ensures told { IfOk result (λ taken. HasWaited taken asker.now session line call.now db.now kind needs.items sessions.old sessions.new) }
     ensures err { OnErr result ((st : Standing) → AreSessionsAt sessions.old st → AreSessionsAt sessions.new st) }
+    ensures names { KeepsNames sessions.old sessions.new }
 {
     let calls = sessions.waiting.len() + 1;
     let room = room_for(alloc, calls, asker.txn, session, line, call, db)?;
@@ -176,6 +179,7 @@ fn refused(
     ensures locks { state_of sessions.new.locks.locks ≡ when_answered asker.now.level asker.now.txn (state_of sessions.old.locks.locks) }
     ensures txns { sessions.new.txns ≡ sessions.old.txns }
     ensures waiting { sessions.new.waiting.items ≡ sessions.old.waiting.items }
+    ensures cursors { sessions.new.cursors ≡ sessions.old.cursors }
 {
     sessions.locks.answered(asker.txn, asker.level, resumed);
     Taken::Stopped {
@@ -201,6 +205,7 @@ pub(crate) fn take_for(
     ensures ready { IfOk result (λ taken. IfReady taken ((st : Standing) (a : Active) → st.fault ≡ None → active_of session st.actives ≡ Some a → AreSessionsAt sessions.old st → HasTaken sessions.new resumed a needs.items st)) }
     ensures stopped { IfOk result (λ taken. IfStopped taken (λ answer victims. (st : Standing) (a : Active) (g : Target) → st.fault ≡ None → AreNeedsOf st session call.now db.now kind needs.items a g → AreSessionsAt sessions.old st → HasStopped sessions.new st a line call.now g answer victims)) }
     ensures err { OnErr result ((st : Standing) → AreSessionsAt sessions.old st → AreSessionsAt sessions.new st) }
+    ensures names { KeepsNames sessions.old sessions.new }
 {
     let asker = asker_of(&sessions.txns, session);
     let owner = ask(&mut sessions.locks, alloc, &asker, needs.as_slice())?;

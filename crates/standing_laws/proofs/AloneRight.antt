@@ -13,7 +13,7 @@ use Rattle.store_model.specs.declared.place.Place.{Place}
 use Rattle.store_model.specs.declared.record_change.RecordChange.{RecordChange}
 use Rattle.je_answers.specs.declared.active.Active.{Active}
 use Rattle.je_answers.specs.declared.wait.Wait.{Wait}
-use Rattle.je_answers.specs.Standing.{LockState, Standing}
+use Rattle.je_answers.specs.Standing.{LockState, Standing, active_of}
 use Rattle.je_answers.specs.Alone.{Alone, alone, no_locks}
 use Rattle.standing_laws.specs.Right.{is_active, has_wait, txn_id, IsWaitIn}
 use Rattle.standing_laws.specs.Laws.{NoTransactionsIsAlone, AloneIsRight}
@@ -92,7 +92,7 @@ no_transactions-is_alone st sound none = (alone_of st, together)
     own = fun_ext (λ n. sound.own_active n (nobody (txn_id n) st.actives none))
 
     places : st.places ≡ (λ session. [])
-    places = fun_ext sound.places
+    places = fun_ext (λ session. sound.places session (ap (active_of session) none))
 
     together : st ≡ alone (alone_of st)
     together =
@@ -116,7 +116,7 @@ alone-is_right p = record {
     owners = λ t r has. absurd cc;
     own_active = λ n none. refl;
     own_locked = λ n. tt;
-    places = λ session. refl;
+    places = λ session none. refl;
   };
   waiting = tt;
   calls = tt;

@@ -30,3 +30,7 @@ pub mod StandingsStay
 pub mod StandingsBare
 -- Where a stop with victims leaves a standing.
 pub mod Stopped
+-- The database of a name, where databases are made, removed, renamed and changed.
+pub mod NamedDatabases
+-- A database on which a session has a cursor goes on under its name.
+pub mod CursorDatabases

@@ -56,6 +56,14 @@ marked_found s vs (b ∷ bs) a h = ⊎_elim
     ∙ marked_found s vs bs a (sym (cond-false (b.session == s) (Some b) (active_of s bs) e) ∙ h))
     (cases_Bool (b.session == s))
 
+-- a session without a transaction has none that is marked
+pub marked_none : (s : ℕ) (vs : List Victim) (as_ : List Active) → active_of s (marked vs as_) ≡ None → active_of s as_ ≡ None
+marked_none s vs as_ h = by (active_of s as_) refl
+  where
+    by : (o : Option Active) → active_of s as_ ≡ o → o ≡ None
+    by None e = refl
+    by (Some a) e = let k : Some (marked_by (find (λ (w : Victim). w.session == a.session) vs) a) ≡ None = sym (marked_found s vs as_ a e) ∙ h in absurd (cc (k))
+
 -- ---- a mark changes nothing of an end
 
 abbrev pub is_auto_victim : List Victim → Active → Bool

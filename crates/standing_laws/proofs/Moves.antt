@@ -142,9 +142,9 @@ sound_left last as_ ch cu ws left locks a s there l = record {
       (λ e. subst (AllByRecursion (HoldsWrite (released a.txn locks).at (txn_id n))) (sym (cond-false (n == a.txn.0) [] (ch n) e))
       (all_each (HoldsWrite locks.at (txn_id n)) (HoldsWrite (released a.txn locks).at (txn_id n)) (λ c h. release_keeps a.txn (txn_id n) (locks.at (place_of c)) (turned n a.txn.0 e) h) (ch n) (s.own_locked n)))
       (cases_Bool (n == a.txn.0));
-  places = λ session. ⊎_elim
+  places = λ session none. ⊎_elim
       (λ e. cond-true (session == a.session) [] (cu session) e)
-      (λ e. cond-false (session == a.session) [] (cu session) e ∙ s.places session)
+      (λ e. cond-false (session == a.session) [] (cu session) e ∙ s.places session (sym (other_active session a.session as_ e) ∙ none))
       (cases_Bool (session == a.session));
 }
   where
@@ -186,6 +186,14 @@ found_with s (c ∷ cs) a b h = ⊎_elim
     (λ e. cond-false (c.session == s) (Some c) (active_of s (cs ++ a ∷ [])) e ∙ found_with s cs a b (sym (cond-false (c.session == s) (Some c) (active_of s cs) e) ∙ h))
     (cases_Bool (c.session == s))
 
+-- a session without a transaction had none before another one began
+none_before : (s : ℕ) (as_ : List Active) (a : Active) → active_of s (as_ ++ a ∷ []) ≡ None → active_of s as_ ≡ None
+none_before s as_ a h = by (active_of s as_) refl
+  where
+    by : (o : Option Active) → active_of s as_ ≡ o → o ≡ None
+    by None e = refl
+    by (Some b) e = let k : Some b ≡ None = sym (found_with s as_ a b e) ∙ h in absurd (cc (k))
+
 pub begun_found : (as_ : List Active) (a : Active) → active_of a.session as_ ≡ None → active_of a.session (as_ ++ a ∷ []) ≡ Some a
 begun_found [] a h = cond-true (a.session == a.session) (Some a) None (same_number a.session)
 begun_found (c ∷ cs) a h = ⊎_elim
@@ -210,7 +218,7 @@ sound_begun last as_ ch cu ws locks a s more none = record {
   owners = λ u r h. active_with u as_ a (s.owners u r h);
   own_active = λ n h. s.own_active n (⊎_elim (λ k. absurd (both_ways (is_active (txn_id n) (as_ ++ a ∷ [])) h (active_with (txn_id n) as_ a k))) (λ k. k) (cases_Bool (is_active (txn_id n) as_)));
   own_locked = s.own_locked;
-  places = s.places;
+  places = λ session h. s.places session (none_before session as_ a h);
 }
 
 -- no number is past the last one

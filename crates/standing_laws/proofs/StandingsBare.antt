@@ -7,9 +7,10 @@ use Rattle.je_order.specs.declared.txn_id.TxnId.{TxnId}
 use Rattle.je_order.specs.Transactions.{is_same_txn}
 use Rattle.je_order.proofs.TxnIds.{same_is}
 use Rattle.store_model.specs.declared.call.Call.{Call}
-use Rattle.store_model.specs.declared.call.Call.TheVariants.{Begin, Commit, Abort, List as Lists, Create, Remove, Rename, Truncate, Get, GetBoth, Put, Delete}
+use Rattle.store_model.specs.declared.call.Call.TheVariants.{Begin, Commit, Abort, List as Lists, Create, Remove, Rename, Truncate, Get, GetBoth, Put, Delete, Open, Close, Dup}
 use Rattle.store_model.specs.declared.change.Change.{Change}
 use Rattle.store_model.specs.declared.record_change.RecordChange.{RecordChange}
+use Rattle.store_model.specs.declared.place.Place.{Place}
 use Rattle.store_model.specs.declared.need.Need.{Need}
 use Rattle.store_model.specs.declared.victim.Victim.{Victim}
 use Rattle.store_model.specs.declared.step.Step.{Step}
@@ -22,12 +23,12 @@ use Rattle.store_model.specs.Records.{Evaluated}
 use Rattle.store_model.specs.Refusals.{next_txn}
 use Rattle.je_answers.specs.declared.active.Active.{Active}
 use Rattle.je_answers.specs.declared.wait.Wait.{Wait}
-use Rattle.je_answers.specs.Standing.{Standing, active_of, wait_of, without_wait, with_at}
+use Rattle.je_answers.specs.Standing.{Standing, active_of, wait_of, without_wait, place_at, with_at}
 use Rattle.je_answers.specs.Views.{Target, target_of, changes_on, changes_at, changes_named, outcome_of, needs_in}
 use Rattle.je_answers.specs.Refusals.{waits_refusal, early_refusal, late_refusal, number_refusal}
 use Rattle.je_answers.specs.Locking.{first_blocked}
 use Rattle.je_answers.specs.Events.{auto_active, begun, resumed, IsReady, IsResumed}
-use Rattle.je_answers.specs.After.{marked_by, Fate, fate_of, drawn_by, without_session, ended, ended_if_any, committed_if_any, answered, with_outcome, closed, after_fate, after_changes, marked, all_ended, autos_in, without_waits_of, with_waiting, after_stop, after_taking, after_on, after_run, after_commit, after_ending, after_catalog, after_performed, after_evaluated, after_call, after_resumed, faulted_if, after_begin, after_turn}
+use Rattle.je_answers.specs.After.{marked_by, Fate, fate_of, drawn_by, without_session, ended, ended_if_any, committed_if_any, answered, with_outcome, opened_at, closed, after_fate, after_changes, marked, all_ended, autos_in, without_waits_of, with_waiting, after_stop, after_taking, after_on, after_run, after_commit, after_ending, after_catalog, after_performed, after_evaluated, after_call, after_resumed, faulted_if, after_begin, after_turn}
 use Rattle.je_answers.specs.After.Fate.{Succeeds, IsRefused, Faults}
 use Rattle.standing_laws.specs.Right.{AreNumbered, MayWait, is_active, AreRight}
 use Rattle.standing_laws.specs.Laws.{IsPlainCall, AreBare, StandingsStayBare, BegunIsBare}
@@ -190,6 +191,10 @@ bare_catalog Succeeds changes o st h = bare_committed changes (drawn_by o st) (b
 bare_catalog IsRefused changes o st h = bare_drawn o st h
 bare_catalog Faults changes o st h = h
 
+bare_opened_at : (o : Option Place) (to session : ℕ) (st : Standing) → AreBare st → AreBare (opened_at o to session st)
+bare_opened_at None to session st h = h
+bare_opened_at (Some p) to session st h = h
+
 bare_performed : (call : Call) (st : Standing) (session line : ℕ) (answer : Answer) (vs : List Victim) → IsPlainCall call → AreRight st → AreBare st → waits_refusal st (active_of session st.actives) ≡ None
     → number_refusal st.last_txn (active_of session st.actives) ≡ None → AreBare (after_performed call st session line answer vs)
 bare_performed (Begin level durability wait) st session line answer vs plain_ r h free number =
@@ -205,6 +210,9 @@ bare_performed (Get db key rmw) st session line answer vs plain_ r h free number
 bare_performed (GetBoth db key value rmw) st session line answer vs plain_ r h free number = bare_run (active_of session st.actives) st session line (GetBoth db key value rmw) answer vs r h refl free number
 bare_performed (Put db key value mode) st session line answer vs plain_ r h free number = bare_run (active_of session st.actives) st session line (Put db key value mode) answer vs r h refl free number
 bare_performed (Delete db key) st session line answer vs plain_ r h free number = bare_run (active_of session st.actives) st session line (Delete db key) answer vs r h refl free number
+bare_performed (Open cursor db) st session line answer vs plain_ r h free number = h
+bare_performed (Close cursor) st session line answer vs plain_ r h free number = h
+bare_performed (Dup cursor to) st session line answer vs plain_ r h free number = bare_opened_at (place_at cursor (st.places session)) to session st h
 bare_performed call st session line answer vs plain_ r h free number = absurd plain_
 
 bare_evaluated : (o : Option Answer) (st : Standing) (session line : ℕ) (call : Call) (answer : Answer) (vs : List Victim) → IsPlainCall call → AreRight st → AreBare st → early_refusal st session call ≡ None → late_refusal st session call ≡ o

@@ -1,6 +1,6 @@
 -- Each event keeps what holds: by cases of the event, cut as after_event is.
 use Rattle.std.proofs.Common.{◌≡◌, ℕ, ◌<◌, ◌≤◌, ◌+◌, ◌==◌, nat_lt, Bool, true, false, cond, not, List, [], ◌∷◌, ◌++◌, Some, None, Option, refl, ap, sym, ◌∙◌, subst, ⊎_elim, arith}
-use Rattle.std.specs.List.{flat_map, AllByRecursion}
+use Rattle.std.specs.List.{filter, flat_map, AllByRecursion}
 use Rattle.std.specs.Option.{is_some}
 use Rattle.std.proofs.lemmas.Bool.{cases_Bool, cond-true, cond-false, both_ways, eqb-true, and_parts}
 use Rattle.std.proofs.lemmas.Bool.Decides.{nat_tests}
@@ -17,9 +17,10 @@ use Rattle.store_model.specs.declared.isolation.Isolation.TheVariants.{ReadUncom
 use Rattle.store_model.specs.declared.durability.Durability.{Durability}
 use Rattle.store_model.specs.declared.kind.Kind.{Kind}
 use Rattle.store_model.specs.declared.call.Call.{Call}
-use Rattle.store_model.specs.declared.call.Call.TheVariants.{Begin, Commit, Abort, List as Lists, Create, Remove, Rename, Truncate, Get, GetBoth, Put, Delete}
+use Rattle.store_model.specs.declared.call.Call.TheVariants.{Begin, Commit, Abort, List as Lists, Create, Remove, Rename, Truncate, Get, GetBoth, Put, Delete, Open, Close, Dup}
 use Rattle.store_model.specs.declared.change.Change.{Change}
 use Rattle.store_model.specs.declared.record_change.RecordChange.{RecordChange}
+use Rattle.store_model.specs.declared.place.Place.{Place}
 use Rattle.store_model.specs.declared.need.Need.{Need}
 use Rattle.store_model.specs.declared.victim.Victim.{Victim}
 use Rattle.store_model.specs.declared.step.Step.{Step}
@@ -35,12 +36,12 @@ use Rattle.store_model.specs.Needs.{need, write_type, changed_name, write_needs,
 use Rattle.store_model.specs.Refusals.{or_refusal, next_txn}
 use Rattle.je_answers.specs.declared.active.Active.{Active}
 use Rattle.je_answers.specs.declared.wait.Wait.{Wait}
-use Rattle.je_answers.specs.Standing.{Standing, active_of, wait_of, without_wait}
+use Rattle.je_answers.specs.Standing.{Standing, active_of, wait_of, without_wait, place_at, with_at}
 use Rattle.je_answers.specs.Views.{Target, target_of, changes_on, changes_named, view_of, occupied, outcome_of, needs_in}
 use Rattle.je_answers.specs.Refusals.{fault_refusal, waits_refusal, abort_refusal, txn_refusal, early_refusal, late_refusal, number_refusal}
 use Rattle.je_answers.specs.Locking.{Queues, record_of, all_got, granted_part, first_blocked, given_back, released, forgotten}
 use Rattle.je_answers.specs.Events.{auto_active, begun, asking, locks_before, resumed, IsReady, IsResumed}
-use Rattle.je_answers.specs.After.{Fate, fate_of, drawn_by, ended, ended_if_any, committed_if_any, moved, with_locks, answered, with_outcome, closed, after_fate, after_changes, marked, is_victim, autos_in, without_waits_of, with_victims, with_waiting, after_stop, after_taking, after_on, after_run, begun_by, after_commit, after_ending, after_catalog, after_performed, after_evaluated, after_call, after_resumed, faulted_if, after_begin, after_turn}
+use Rattle.je_answers.specs.After.{Fate, fate_of, drawn_by, ended, ended_if_any, committed_if_any, moved, with_locks, answered, with_outcome, opened, opened_at, closed_cursor, closed, after_fate, after_changes, marked, is_victim, autos_in, without_waits_of, with_victims, with_waiting, after_stop, after_taking, after_on, after_run, begun_by, after_commit, after_ending, after_catalog, after_performed, after_evaluated, after_call, after_resumed, faulted_if, after_begin, after_turn}
 use Rattle.je_answers.specs.After.Fate.{Succeeds, IsRefused, Faults}
 use Rattle.standing_laws.specs.Right.{HasWrite, HoldsWrite, IsWaitIn, MayWait, is_active, AreRight, IsSoundAt, IsRightAt}
 use Rattle.standing_laws.specs.Laws.{IsPlainCall, StandingsStayRight, BegunIsRight, ResumedIsRight, UntoldHasNoWait}
@@ -179,17 +180,61 @@ changes_held st a call g free =
     (λ c written. back_keeps a.level a.txn a.txn got (record_of (need g.db (On (changed_name c)) (write_type a.level))) (written (write_is a.level))) evaluated.changes
     (writes_of (IsWritten got a.txn) a.level g.db kind view (occupied st g) evaluated.changes all))
 
--- a call without a cursor moves none
-not_moved : (call : Call) (at : Option Name) (places : _) → MayWait call → moved call at places ≡ places
-not_moved (Get db key rmw) at places may = refl
-not_moved (GetBoth db key value rmw) at places may = refl
-not_moved (Put db key value mode) at places may = refl
-not_moved (Delete db key) at places may = refl
-not_moved call at places may = absurd may
+-- ---- cursors
 
-right_outcome : (st : Standing) (a : Active) (call : Call) (g : Target) (evaluated : Evaluated) → MayWait call → AreRight st → is_active a.txn st.actives ≡ true → AllByRecursion (λ c. HoldsWrite st.locks.at a.txn (g.db, c)) evaluated.changes
-    → AreRight (with_outcome a call g evaluated st)
-right_outcome st a call g evaluated may r active held =
+-- the cursors of a session that has a transaction are others
+right_at : (st : Standing) (session : ℕ) (others : List Place) → AreRight st → (active_of session st.actives ≡ None → others ≡ []) → AreRight (record st { places = with_at session others st.places })
+right_at st session others r none = record {
+  sound = record {
+    numbers = r.sound.numbers;
+    waits = r.sound.waits;
+    tables = r.sound.tables;
+    owners = r.sound.owners;
+    own_active = r.sound.own_active;
+    own_locked = r.sound.own_locked;
+    places = λ s h. ⊎_elim
+        (λ e. cond-true (s == session) others (st.places s) e ∙ none (ap (λ (n : ℕ). active_of n st.actives) (sym (eqb-true s session e)) ∙ h))
+        (λ e. cond-false (s == session) others (st.places s) e ∙ r.sound.places s h)
+        (cases_Bool (s == session));
+  };
+  waiting = r.waiting;
+  calls = r.calls;
+}
+
+not_both : (o : Option Active) (a : Active) (others : List Place) → o ≡ Some a → o ≡ None → others ≡ []
+not_both o a others its none = let k : Some a ≡ None = sym its ∙ none in absurd (cc (k))
+
+right_opened : (o : Option Active) (st : Standing) (session cursor db : ℕ) (at : Option Name) → AreRight st → active_of session st.actives ≡ o → is_some o ≡ true → AreRight (opened cursor db at session st)
+right_opened None st session cursor db at r its has = absurd (cc (has))
+right_opened (Some a) st session cursor db at r its has =
+    right_at st session (st.places session ++ record { cursor = cursor; db = db; at = at } ∷ []) r (not_both (active_of session st.actives) a (st.places session ++ record { cursor = cursor; db = db; at = at } ∷ []) its)
+
+right_closed_cursor : (st : Standing) (session cursor : ℕ) → AreRight st → AreRight (closed_cursor cursor session st)
+right_closed_cursor st session cursor r =
+    right_at st session (filter (λ p. not (p.cursor == cursor)) (st.places session)) r (λ none. ap (filter (λ (p : Place). not (p.cursor == cursor))) (r.sound.places session none))
+
+-- who has a cursor has a transaction
+has_active : (st : Standing) (session cursor : ℕ) (p : Place) → AreRight st → place_at cursor (st.places session) ≡ Some p → is_some (active_of session st.actives) ≡ true
+has_active st session cursor p r found = by (active_of session st.actives) refl
+  where
+    by : (o : Option Active) → active_of session st.actives ≡ o → is_some o ≡ true
+    by (Some a) e = refl
+    by None e = let k : None ≡ Some p = sym (ap (place_at cursor) (r.sound.places session e)) ∙ found in absurd (cc (k))
+
+right_opened_at : (o : Option Place) (st : Standing) (session cursor to : ℕ) → AreRight st → place_at cursor (st.places session) ≡ o → AreRight (opened_at o to session st)
+right_opened_at None st session cursor to r found = r
+right_opened_at (Some p) st session cursor to r found = right_opened (active_of session st.actives) st session to p.db p.at r refl (has_active st session cursor p r found)
+
+-- only a transaction opens cursors
+opens_in : (o : Option Active) (cursor : ℕ) (db : List ℕ) → txn_refusal (Open cursor db) o ≡ None → is_some o ≡ true
+opens_in None cursor db h = absurd (cc (h))
+opens_in (Some a) cursor db h = refl
+
+-- ---- what a call comes to
+
+right_outcome : (st : Standing) (a : Active) (call : Call) (g : Target) (evaluated : Evaluated) → AreRight st → active_of a.session st.actives ≡ Some a → is_active a.txn st.actives ≡ true
+    → AllByRecursion (λ c. HoldsWrite st.locks.at a.txn (g.db, c)) evaluated.changes → AreRight (with_outcome a call g evaluated st)
+right_outcome st a call g evaluated r its active held =
     let s = sound_own st.last_txn st.actives st.own st.places st.waiting st.locks a.txn g.db evaluated.changes r.sound active held in
     record {
       sound = record {
@@ -199,10 +244,7 @@ right_outcome st a call g evaluated may r active held =
         owners = s.owners;
         own_active = s.own_active;
         own_locked = s.own_locked;
-        places = λ session. ⊎_elim
-            (λ e. cond-true (session == a.session) (moved call evaluated.place (st.places a.session)) (st.places session) e ∙ (not_moved call evaluated.place (st.places a.session) may ∙ r.sound.places a.session))
-            (λ e. cond-false (session == a.session) (moved call evaluated.place (st.places a.session)) (st.places session) e ∙ r.sound.places session)
-            (cases_Bool (session == a.session));
+        places = (right_at st a.session (moved call evaluated.place (st.places a.session)) r (not_both (active_of a.session st.actives) a (moved call evaluated.place (st.places a.session)) its)).sound.places;
       };
       waiting = r.waiting;
       calls = r.calls;
@@ -229,7 +271,7 @@ right_fate : (fate : Fate) (old st : Standing) (a : Active) (call : Call) (g : T
     → AreRight (after_fate fate old st a call g (outcome_of st a call g))
 right_fate Succeeds old st a call g may before m free =
     right_closed a.is_auto (with_outcome a call g (outcome_of st a call g) (answered a call g st)) a (changes_on g (outcome_of st a call g).changes)
-    (right_outcome (answered a call g st) a call g (outcome_of st a call g) may (right_locked st a (needs_in st a call g) m free) (active_is st a m) (changes_held st a call g free))
+    (right_outcome (answered a call g st) a call g (outcome_of st a call g) (right_locked st a (needs_in st a call g) m free) m.its (active_is st a m) (changes_held st a call g free))
     (there_is st a m) (untold_has-no_wait st a m.right m.its m.told)
 right_fate IsRefused old st a call g may before m free = right_closed a.is_auto (answered a call g st) a [] (right_locked st a (needs_in st a call g) m free) (there_is st a m) (untold_has-no_wait st a m.right m.its m.told)
 right_fate Faults old st a call g may before m free = before
@@ -360,30 +402,34 @@ right_begin st session level durability wait r none more =
 
 right_performed : (call : Call) (st : Standing) (session line : ℕ) (answer : Answer) (vs : List Victim) → IsPlainCall call → AreRight st → waits_refusal st (active_of session st.actives) ≡ None → txn_refusal call (active_of session st.actives) ≡ None
     → number_refusal st.last_txn (active_of session st.actives) ≡ None → AreRight (after_performed call st session line answer vs)
-right_performed (Begin level durability wait) st session line answer vs plain r free txn number =
+right_performed (Begin level durability wait) st session line answer vs plain_ r free txn number =
     let none = no_active (active_of session st.actives) (Begin level durability wait) (λ a h. absurd (cc (h))) txn in
     right_begin st session level durability wait r none (has_number st.last_txn (subst (λ (o : Option Active). number_refusal st.last_txn o ≡ None) none number))
-right_performed Commit st session line answer vs plain r free txn number = right_ending (active_of session st.actives) st session answer r refl free
-right_performed Abort st session line answer vs plain r free txn number = right_abort (active_of session st.actives) st session r refl free
-right_performed Lists st session line answer vs plain r free txn number = right_drawn (active_of session st.actives) st r
-right_performed (Create db kind) st session line answer vs plain r free txn number = right_catalog (fate_of answer) _ (active_of session st.actives) st r
-right_performed (Remove db) st session line answer vs plain r free txn number = right_catalog (fate_of answer) _ (active_of session st.actives) st r
-right_performed (Rename db to) st session line answer vs plain r free txn number = right_catalog (fate_of answer) _ (active_of session st.actives) st r
-right_performed (Truncate db) st session line answer vs plain r free txn number = right_catalog (fate_of answer) _ (active_of session st.actives) st r
-right_performed (Get db key rmw) st session line answer vs plain r free txn number = right_run (active_of session st.actives) st session line (Get db key rmw) answer vs tt r refl free number
-right_performed (GetBoth db key value rmw) st session line answer vs plain r free txn number = right_run (active_of session st.actives) st session line (GetBoth db key value rmw) answer vs tt r refl free number
-right_performed (Put db key value mode) st session line answer vs plain r free txn number = right_run (active_of session st.actives) st session line (Put db key value mode) answer vs tt r refl free number
-right_performed (Delete db key) st session line answer vs plain r free txn number = right_run (active_of session st.actives) st session line (Delete db key) answer vs tt r refl free number
-right_performed call st session line answer vs plain r free txn number = absurd plain
+right_performed Commit st session line answer vs plain_ r free txn number = right_ending (active_of session st.actives) st session answer r refl free
+right_performed Abort st session line answer vs plain_ r free txn number = right_abort (active_of session st.actives) st session r refl free
+right_performed Lists st session line answer vs plain_ r free txn number = right_drawn (active_of session st.actives) st r
+right_performed (Create db kind) st session line answer vs plain_ r free txn number = right_catalog (fate_of answer) _ (active_of session st.actives) st r
+right_performed (Remove db) st session line answer vs plain_ r free txn number = right_catalog (fate_of answer) _ (active_of session st.actives) st r
+right_performed (Rename db to) st session line answer vs plain_ r free txn number = right_catalog (fate_of answer) _ (active_of session st.actives) st r
+right_performed (Truncate db) st session line answer vs plain_ r free txn number = right_catalog (fate_of answer) _ (active_of session st.actives) st r
+right_performed (Get db key rmw) st session line answer vs plain_ r free txn number = right_run (active_of session st.actives) st session line (Get db key rmw) answer vs tt r refl free number
+right_performed (GetBoth db key value rmw) st session line answer vs plain_ r free txn number = right_run (active_of session st.actives) st session line (GetBoth db key value rmw) answer vs tt r refl free number
+right_performed (Put db key value mode) st session line answer vs plain_ r free txn number = right_run (active_of session st.actives) st session line (Put db key value mode) answer vs tt r refl free number
+right_performed (Delete db key) st session line answer vs plain_ r free txn number = right_run (active_of session st.actives) st session line (Delete db key) answer vs tt r refl free number
+right_performed (Open cursor db) st session line answer vs plain_ r free txn number =
+    right_opened (active_of session st.actives) st session cursor (st.numbers db) None r refl (opens_in (active_of session st.actives) cursor db txn)
+right_performed (Close cursor) st session line answer vs plain_ r free txn number = right_closed_cursor st session cursor r
+right_performed (Dup cursor to) st session line answer vs plain_ r free txn number = right_opened_at (place_at cursor (st.places session)) st session cursor to r refl
+right_performed call st session line answer vs plain_ r free txn number = absurd plain_
 
 right_evaluated : (o : Option Answer) (st : Standing) (session line : ℕ) (call : Call) (answer : Answer) (vs : List Victim) → IsPlainCall call → AreRight st → early_refusal st session call ≡ None → late_refusal st session call ≡ o
     → AreRight (after_evaluated o st session line call answer vs)
-right_evaluated (Some refusal) st session line call answer vs plain r early late = right_drawn (active_of session st.actives) st r
-right_evaluated None st session line call answer vs plain r early late = let e = early_parts st session call early in right_performed call st session line answer vs plain r e.0 e.1 (late_number st session call late)
+right_evaluated (Some refusal) st session line call answer vs plain_ r early late = right_drawn (active_of session st.actives) st r
+right_evaluated None st session line call answer vs plain_ r early late = let e = early_parts st session call early in right_performed call st session line answer vs plain_ r e.0 e.1 (late_number st session call late)
 
 pub right_call : (o : Option Answer) (st : Standing) (session line : ℕ) (call : Call) (answer : Answer) (vs : List Victim) → IsPlainCall call → AreRight st → early_refusal st session call ≡ o → AreRight (after_call o st session line call answer vs)
-right_call (Some refusal) st session line call answer vs plain r early = r
-right_call None st session line call answer vs plain r early = right_evaluated (late_refusal st session call) st session line call answer vs plain r early refl
+right_call (Some refusal) st session line call answer vs plain_ r early = r
+right_call None st session line call answer vs plain_ r early = right_evaluated (late_refusal st session call) st session line call answer vs plain_ r early refl
 
 -- ---- the other events
 

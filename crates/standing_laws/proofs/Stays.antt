@@ -27,7 +27,7 @@ use Rattle.standing_laws.proofs.Among.{IsAmong, any_some, any_from, all_at, all_
 use Rattle.standing_laws.proofs.Waiters.{wait_of_told}
 use Rattle.standing_laws.proofs.Steps.{Queue, Changes, Cursors, all_each, waits_nowhere}
 use Rattle.standing_laws.proofs.Moves.{sound_ended, waits_filter}
-use Rattle.standing_laws.proofs.Marks.{marked_own, marked_numbered, marked_active, marked_found, same_txn}
+use Rattle.standing_laws.proofs.Marks.{marked_own, marked_numbered, marked_active, marked_found, same_txn, marked_none}
 
 -- ---- numbers tell transactions apart
 
@@ -256,7 +256,7 @@ module _ (last : ℕ) (as_ : List Active) (ch : Changes) (cu : Cursors) (ws : Li
       own_active = λ m h. k.sound.own_active m (sym (marked_active (txn_id m) vs as_) ∙ h);
       own_locked = λ m. all_each (HoldsWrite locks.at (txn_id m)) (HoldsWrite (with_wait a.txn n gone locks).at (txn_id m))
           (λ c h. subst (HasWrite (txn_id m)) (sym (owners_stay (place_of c))) h) (ch m) (k.sound.own_locked m);
-      places = k.sound.places;
+      places = λ session h. k.sound.places session (marked_none session vs as_ h);
     }
 
     told_each : AllByRecursion (λ v. is_some (locks.pending v.txn) ≡ true) ws → AllByRecursion (λ v. is_some ((with_wait a.txn n gone locks).pending v.txn) ≡ true) waits_now

@@ -1,12 +1,10 @@
 -- Where a stop with victims leaves a standing: only transactions of one call end, and these have changed nothing.
 use mathlib.Core.Path.{fun_ext}
-use Rattle.std.proofs.Common.{◌≡◌, ℕ, ◌≤◌, ◌==◌, Bool, true, false, cond, not, ◌&&◌, ◌||◌, List, [], ◌∷◌, ◌++◌, length, Some, None, Option, refl, ap, ap₂, sym, ◌∙◌, subst, ⊎_elim, arith}
-use Rattle.std.specs.List.{filter, find, list_any, AllByRecursion}
+use Rattle.std.proofs.Common.{◌≡◌, ℕ, ◌≤◌, ◌==◌, Bool, true, false, cond, not, List, [], ◌∷◌, ◌++◌, length, refl, ap, sym, ◌∙◌, subst, ⊎_elim, arith}
+use Rattle.std.specs.List.{filter, find, AllByRecursion}
 use Rattle.std.proofs.lemmas.Bool.{cases_Bool, cond-true, cond-false, eqb-true, and_parts}
 use Rattle.je_order.specs.declared.txn_id.TxnId.{TxnId}
 use Rattle.je_order.specs.Transactions.{is_same_txn}
-use Rattle.store_model.specs.declared.answer.Fault.{Fault}
-use Rattle.store_model.specs.declared.store.Store.{Store}
 use Rattle.store_model.specs.declared.call.Call.{Call}
 use Rattle.store_model.specs.declared.need.Need.{Need}
 use Rattle.store_model.specs.declared.record_change.RecordChange.{RecordChange}
@@ -20,7 +18,7 @@ use Rattle.je_answers.specs.After.{marked, marked_by, is_victim, without_session
 use Rattle.active_txns.specs.Own.{has_changes}
 use Rattle.standing_laws.specs.Right.{is_active, HaveOwnWaits}
 use Rattle.standing_laws.specs.Laws.{AreBare}
-use Rattle.standing_laws.proofs.Among.{IsAmong, any_some, any_from, all_at, all_of, filter_among}
+use Rattle.standing_laws.proofs.Among.{any_some, any_from, all_at, all_of, filter_among}
 use Rattle.standing_laws.proofs.Moves.{waits_filter}
 use Rattle.standing_laws.proofs.Marks.{is_auto_victim, marked_active, same_txn}
 use Rattle.standing_laws.proofs.Stays.{kept_by, own_waits_with}

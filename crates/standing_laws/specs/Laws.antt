@@ -4,14 +4,15 @@ use Rattle.std.specs.List.{AllByRecursion}
 use Rattle.std.specs.Ordering.{is_eq}
 use Rattle.je_order.specs.Order.{name_cmp}
 use Rattle.je_order.specs.declared.name.Name.{Name}
+use Rattle.store_model.specs.declared.kind.Kind.{Kind}
 use Rattle.store_model.specs.declared.call.Call.{Call}
+use Rattle.store_model.specs.declared.call.Call.TheVariants.{Count, Cur, CPutCur, CDel, CPut}
 use Rattle.store_model.specs.declared.record_change.RecordChange.{RecordChange}
 use Rattle.store_model.specs.declared.answer.Answer.{Answer}
 use Rattle.store_model.specs.declared.answer.Fault.{Fault}
 use Rattle.store_model.specs.declared.victim.Victim.{Victim}
 use Rattle.store_model.specs.declared.event.Event.{Event}
 use Rattle.store_model.specs.declared.event.Event.TheVariants.{Call as Called, Resume, End}
-use Rattle.store_model.specs.declared.call.Call.TheVariants.{Open, Close, Dup, Count, Cur, CPutCur, CDel, CPut}
 use Rattle.store_model.specs.declared.store.TheConstants.{LAST_TXN}
 use Rattle.je_answers.specs.declared.wait.Wait.{Wait}
 use Rattle.store_model.specs.Needs.{changed_name}
@@ -23,7 +24,7 @@ use Rattle.je_answers.specs.Events.{IsAnswered, begun, resumed}
 use Rattle.je_answers.specs.After.{after_event}
 use Rattle.je_answers.specs.Alone.{Alone, alone}
 use Rattle.je_answers.specs.Journal.{IsSettling}
-use Rattle.standing_laws.specs.Right.{AreSound, AreRight}
+use Rattle.standing_laws.specs.Right.{AreSound, AreRight, IsUnder, HasCursorOn}
 
 -- ---- own changes
 
@@ -67,11 +68,8 @@ EndsSettle = (st : Standing) (session : ℕ) → is_some (wait_of session st.wai
 
 -- ---- each event keeps what holds
 
--- a call without a cursor
+-- a call that is not on records at a cursor
 abbrev pub IsPlainCall : Call → Type 0
-IsPlainCall (Open cursor db) = ⊥
-IsPlainCall (Close cursor) = ⊥
-IsPlainCall (Dup cursor to) = ⊥
 IsPlainCall (Count cursor) = ⊥
 IsPlainCall (Cur cursor motion rmw) = ⊥
 IsPlainCall (CPutCur cursor value) = ⊥
@@ -107,3 +105,10 @@ StandingsStayBare = (limit : Option Answer) (st : Standing) (event : Event) → 
 -- and when a call of its own begins, its transaction has changed nothing
 abbrev pub BegunIsBare : Type 0
 BegunIsBare = (st : Standing) (session : ℕ) → AreRight st → AreBare st → nat_lt st.last_txn LAST_TXN ≡ true → AreBare (begun st session)
+
+-- ---- cursors
+
+-- a database on which a session has a cursor goes on under its name, with its number and its kind
+abbrev pub CursorsKeepDatabases : Type 0
+CursorsKeepDatabases = (limit : Option Answer) (st : Standing) (event : Event) (number : ℕ) (name : List ℕ) (kind : Kind) → HasCursorOn st number → IsAnswered limit st event →
+    IsUnder st number name kind → IsUnder (after_event st event) number name kind

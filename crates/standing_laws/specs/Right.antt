@@ -1,5 +1,5 @@
--- What holds of every standing that a run reaches without a fault, where no session has a cursor.
-use Rattle.std.specs.Prelude.{ℕ, ◌≡◌, ◌<◌, ◌≤◌, ◌==◌, ◌∷◌, [], List, Option, Some, Bool, true, false}
+-- What holds of every standing that a run reaches without a fault.
+use Rattle.std.specs.Prelude.{ℕ, ◌≡◌, ◌<◌, ◌≤◌, ◌==◌, ◌∷◌, [], List, Option, None, Some, Bool, true, false}
 use Rattle.std.specs.List.{list_any, AllByRecursion}
 use Rattle.std.specs.Option.{is_some}
 use Rattle.je_order.specs.declared.txn_id.TxnId.{TxnId}
@@ -10,6 +10,7 @@ use Rattle.lock_mode.specs.declared.lock_type.LockType.TheVariants.{Read}
 use Rattle.lock_table.specs.declared.lock.Lock.{Lock}
 use Rattle.lock_table.specs.declared.record_id.RecordId.{RecordId}
 use Rattle.lock_table.specs.Locks.{has_lock, held_by, is_write, IsSettled}
+use Rattle.store_model.specs.declared.kind.Kind.{Kind}
 use Rattle.store_model.specs.declared.place.Place.{Place}
 use Rattle.store_model.specs.declared.call.Call.{Call}
 use Rattle.store_model.specs.declared.call.Call.TheVariants.{Get, GetBoth, Put, Delete}
@@ -18,7 +19,8 @@ use Rattle.store_model.specs.Needs.{changed_name}
 use Rattle.je_answers.specs.declared.active.Active.{Active}
 use Rattle.je_answers.specs.declared.wait.Wait.{Wait}
 use Rattle.je_answers.specs.Standing.{LockState, Standing, active_of}
-use Rattle.je_answers.specs.Locking.{Queues}
+use Rattle.je_answers.specs.Locking.{Queues, has_cursor_on}
+use Rattle.open_cursors.specs.Under.{IsUnderIn}
 use Rattle.active_txns.specs.Marks.{HaveOwnSessions}
 
 -- ---- transactions
@@ -60,7 +62,7 @@ pub record HaveWaits (actives : List Active) (waiting : List Wait) (pending : Tx
   pub apart : HaveOwnWaits waiting
   pub told : (t : TxnId) (r : RecordId) → pending t ≡ Some r → has_wait t waiting ≡ true
 
--- a call that may wait: one on records
+-- a call that may wait: one on the records of a database by its name
 abbrev pub MayWait : Call → Type 0
 MayWait (Get db key rmw) = Unit {0}
 MayWait (GetBoth db key value rmw) = Unit {0}
@@ -95,7 +97,8 @@ HoldsWrite at t c = HasWrite t (at (place_of c)).0
 
 -- ---- the standing
 
--- what holds in the middle of a call too: transactions up to this number, with these own changes, cursors, waits and locks
+-- what holds in the middle of a call too: transactions up to this number, with these own changes, cursors, waits and locks; a session has cursors in a
+-- transaction alone
 pub record IsSoundAt (last : ℕ) (as_ : List Active) (changes : ℕ → List (ℕ × RecordChange)) (cursors : ℕ → List Place) (ws : List Wait) (state : LockState) : Type 0 where
   pub numbers : AreNumbered last as_
   pub waits : HaveWaits as_ ws state.pending
@@ -103,7 +106,7 @@ pub record IsSoundAt (last : ℕ) (as_ : List Active) (changes : ℕ → List (�
   pub owners : (t : TxnId) (r : RecordId) → has_lock t (state.at r).0 ≡ true → is_active t as_ ≡ true
   pub own_active : (n : ℕ) → is_active (txn_id n) as_ ≡ false → changes n ≡ []
   pub own_locked : (n : ℕ) → AllByRecursion (HoldsWrite state.at (txn_id n)) (changes n)
-  pub places : (session : ℕ) → cursors session ≡ []
+  pub places : (session : ℕ) → active_of session as_ ≡ None → cursors session ≡ []
 
 abbrev pub AreSound : Standing → Type 0
 AreSound st = IsSoundAt st.last_txn st.actives st.own st.places st.waiting st.locks
@@ -116,3 +119,13 @@ pub record IsRightAt (last : ℕ) (as_ : List Active) (changes : ℕ → List (�
 
 abbrev pub AreRight : Standing → Type 0
 AreRight st = IsRightAt st.last_txn st.actives st.own st.places st.waiting st.locks
+
+-- ---- cursors
+
+-- a database with this number and of this kind goes by a name
+abbrev pub IsUnder : Standing → ℕ → List ℕ → Kind → Type 0
+IsUnder st number name kind = IsUnderIn st.store st.numbers number name kind
+
+-- a session has a cursor on the database of a number
+abbrev pub HasCursorOn : Standing → ℕ → Type 0
+HasCursorOn st number = (session : ℕ) × (has_cursor_on number (st.places session) ≡ true)

@@ -1,5 +1,5 @@
 // What holds of all standings.
-ghost use Rattle.standing_laws.specs.Laws.{WritersAreFree, UnusedHasNoChanges, NoTransactionsIsAlone, AloneIsRight, ResumesSettle, EndsSettle, StandingsStayRight, BegunIsRight, ResumedIsRight, UntoldHasNoWait, StandingsStayBare, BegunIsBare};
+ghost use Rattle.standing_laws.specs.Laws.{WritersAreFree, UnusedHasNoChanges, NoTransactionsIsAlone, AloneIsRight, ResumesSettle, EndsSettle, StandingsStayRight, BegunIsRight, ResumedIsRight, UntoldHasNoWait, StandingsStayBare, BegunIsBare, CursorsKeepDatabases};
 
 /// What a call that got its locks changes, no other transaction has changed.
 pub fn writers_are_free()
@@ -31,8 +31,8 @@ pub fn resumes_settle()
     ensures { ResumesSettle }
 {}
 
-/// Each event that answers what it may leaves a standing that is right, where no call has a cursor and the
-/// disk has not failed before.
+/// Each event that answers what it may leaves a standing that is right, where no call is on records at a
+/// cursor and the disk has not failed before.
 pub fn standings_stay_right()
     ensures { StandingsStayRight }
 {}
@@ -60,4 +60,9 @@ pub fn standings_stay_bare()
 /// A call of its own begins with no changes.
 pub fn begun_is_bare()
     ensures { BegunIsBare }
+{}
+
+/// A database on which a session has a cursor goes on under its name.
+pub fn cursors_keep_databases()
+    ensures { CursorsKeepDatabases }
 {}

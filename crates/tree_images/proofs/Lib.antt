@@ -56,6 +56,10 @@ pub mod ReadTrees
 pub mod ReadRecords
 -- The trees that reading a checkpoint's roots gives fit the log that was read.
 pub mod ReadForest
+-- The change of a name with the greatest LSN.
+pub mod LatestNewest
+-- The end of a checkpoint that names the roots of trees that fit.
+pub mod ForestEnds
 -- A tree that fits its log, where a name got its slot: its images are due.
 pub mod ForestPlaces
 -- Trees where a change is redone.

@@ -10,3 +10,4 @@ pub mod NewestLaws
 pub mod Forest
 pub mod TreeSteps
 pub mod RedoSteps
+pub mod EndLaws

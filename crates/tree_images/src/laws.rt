@@ -1,6 +1,7 @@
 // What holds of every tree that fits a log.
 ghost use Rattle.tree_images.specs.Laws.{SoundImagesAreTrees, SoundImagesShow, SoundImagesAreRead, SoundImagesStay, FittingTreesStay, ForestsStay, RootsOfFittingTreesAreRight, RootsOfFittingTreesAreRead, CellsAreSet, MadeCellsAreRecorded, WritesAreRecorded, CommittedCellsAreRecorded, GivenUpCellsAreRecorded, LoggedCellsAreRecorded, LoadedCellsAreRecorded};
 ghost use Rattle.tree_images.specs.NodeLaws.{MoreNodesAreDue, SameNodesAreImaged, ClearedNodesAreImaged, FinishedImagesAreWhole, LoggedImagesAreSound, LoggedImagesHaveContent, LoggedNodesAreImaged, FlushedNodesAreImaged, WaitingNodesAreImaged, NewTreesAreImaged, EarlierMarksKeepTrees};
+ghost use Rattle.tree_images.specs.EndLaws.{ForestsMayEnd, LatestAreNewest};
 ghost use Rattle.tree_images.specs.LogLaws.{DueImagesAreLogged};
 ghost use Rattle.tree_images.specs.ReadLaws.{ReadTreesFit, UnreadTreesFit, ReadForestsFit};
 ghost use Rattle.tree_images.specs.RedoSteps.{RedoneTreesFit};
@@ -105,4 +106,11 @@ pub fn newest_changes_rise()
 pub fn roots_are_right()
     ensures right { RootsOfFittingTreesAreRight }
     ensures read { RootsOfFittingTreesAreRead }
+{}
+
+/// Where the trees of all databases fit the log of an environment, a checkpoint's end may name their roots: each name's change
+/// with the greatest LSN is its newest one.
+pub fn forests_may_end()
+    ensures newest { LatestAreNewest }
+    ensures end { ForestsMayEnd }
 {}

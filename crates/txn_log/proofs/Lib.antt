@@ -14,3 +14,7 @@ pub mod StayingLaws
 pub mod CountLaws
 -- the log beside the model
 pub mod AtStandingLaws
+-- a log that gets the entries of a checkpoint
+pub mod CheckpointLaws
+-- where a redo may begin
+pub mod RedoLsns

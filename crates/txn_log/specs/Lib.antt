@@ -5,3 +5,4 @@ pub mod Committing
 pub mod Growth
 pub mod Buffers
 pub mod AtStanding
+pub mod Checkpoints

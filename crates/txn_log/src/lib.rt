@@ -10,6 +10,7 @@ ghost use Rattle.txn_log.specs.Gives.{StillGives, GivesSame};
 ghost use Rattle.txn_log.specs.Growth.{ChangesGive, ChangesRecoverSame, TransactionGives, TransactionIsRecovered};
 ghost use Rattle.txn_log.specs.Committing.{OwnMayBeCommitted, MayStay, MayStayElsewhere, RecordsAreCounted, HadGoOn, HadStay};
 ghost use Rattle.txn_log.specs.Buffers.{ChangesAreGiven, ChangesAreRecovered, TriedChangesAreRecovered, TransactionIsGiven, CommitIsRecovered, TriedCommitIsRecovered};
+ghost use Rattle.txn_log.specs.Checkpoints.{EndsFromEnd, EndsFromStays, RedoIsNeeded, EndIsGiven, EndIsRecovered, NeutralsAreGiven, NeutralsAreRecovered, TriedEndIsRecovered, TriedNeutralsAreRecovered, WaitsFrom};
 ghost use Rattle.txn_log.specs.AtStanding.{ChangesLeaveLog, LoneCommitLeavesLog, NamedAreOn, OwnCommitLeavesLog, TransactionLeavesLog};
 
 use je_disk::Disk;
@@ -58,6 +59,26 @@ pub fn buffers_go_on<D: Disk>()
     ensures transaction { TransactionIsGiven D.observable D.history D.sync_out D.read_out D.read_of }
     ensures transaction_recovers { CommitIsRecovered D.observable D.history D.sync_out D.read_out D.read_of }
     ensures transaction_tried { TriedCommitIsRecovered D.observable D.history D.sync_out D.read_out D.read_of }
+{}
+
+/// The entries of a checkpoint, its beginning, images of nodes, its end: the log gives what it gave, and what is
+/// recovered is as it was, also where the disk fails on the way.
+pub fn checkpoints_go_on<D: Disk>()
+    ensures neutrals { NeutralsAreGiven D.observable D.history D.sync_out D.read_out D.read_of }
+    ensures neutrals_recover { NeutralsAreRecovered D.observable D.history D.sync_out D.read_out D.read_of }
+    ensures neutrals_tried { TriedNeutralsAreRecovered D.observable D.history D.sync_out D.read_out D.read_of }
+    ensures end { EndIsGiven D.observable D.history D.sync_out D.read_out D.read_of }
+    ensures end_recovers { EndIsRecovered D.observable D.history D.sync_out D.read_out D.read_of }
+    ensures end_tried { TriedEndIsRecovered D.observable D.history D.sync_out D.read_out D.read_of }
+{}
+
+/// Where the redo of a log may begin it may still once the log has entries more, and behind a checkpoint's end from its redo
+/// LSN on; it then begins in a file that is needed. What waits of a transaction waits behind its first entry.
+pub fn redo_lsns_rise<D: Disk>()
+    ensures stays { EndsFromStays D.observable D.history }
+    ensures end { EndsFromEnd D.observable D.history }
+    ensures needed { RedoIsNeeded }
+    ensures waits { WaitsFrom }
 {}
 
 /// The log of an environment beside the model: it goes on as the model does, by changes of a transaction, by its

@@ -1,25 +1,27 @@
 -- The changes of a call are right where the records that it sees are.
-use Rattle.std.proofs.Common.{◌≡◌, ℕ, ◌==◌, nat_lt, nat_le, List, [], ◌∷◌, Bool, true, false, cond, Option, None, Some, filter, length, map, refl, sym, arith}
+use Rattle.std.proofs.Common.{◌≡◌, ◌⊎◌, inl, inr, ℕ, ◌==◌, nat_lt, nat_le, List, [], ◌∷◌, Bool, true, false, cond, Option, None, Some, filter, length, map, refl, ap, sym, ◌∙◌, subst, ⊎_elim, arith}
 use Rattle.std.specs.List.{AllByRecursion}
-use Rattle.std.proofs.lemmas.Bool.{and_parts, ltb-false, le-leb}
+use Rattle.std.specs.Ordering.{is_eq}
+use Rattle.std.proofs.lemmas.Bool.{cases_Bool, cond-false, both_ways, and_parts, ltb-false, le-leb}
 use Rattle.std.proofs.lemmas.Option.{none-some}
+use Rattle.je_order.specs.Order.{name_cmp}
 use Rattle.je_order.specs.declared.name.Name.{Name}
+use Rattle.record_map.proofs.NameLaws.{same_or_other}
 use Rattle.je_order.proofs.Lists.{all_kept}
 use Rattle.store_model.specs.declared.kind.Kind.{Kind}
 use Rattle.store_model.specs.declared.kind.Kind.TheVariants.{Plain, Dup}
 use Rattle.store_model.specs.declared.store.TheConstants.{DUP_LIMIT}
-use Rattle.store_model.specs.declared.motion.Motion.{Motion}
-use Rattle.store_model.specs.declared.motion.Motion.TheVariants.{NextDup, PrevDup, Current}
-use Rattle.store_model.specs.declared.call.Call.TheVariants.{Get, GetBoth, Put, Delete, Cur, CPut}
+use Rattle.store_model.specs.declared.call.Call.{Call}
+use Rattle.store_model.specs.declared.call.Call.TheVariants.{Get, GetBoth, Put, Delete, Cur, CPutCur, CDel, CPut}
 use Rattle.store_model.specs.declared.record_change.RecordChange.{RecordChange}
-use Rattle.store_model.specs.declared.record_change.RecordChange.TheVariants.{Unset}
+use Rattle.store_model.specs.declared.record_change.RecordChange.TheVariants.{Set, Unset}
 use Rattle.store_model.specs.declared.answer.Answer.{Answer}
-use Rattle.store_model.specs.declared.answer.Answer.TheVariants.{TooLong}
+use Rattle.store_model.specs.declared.answer.Answer.TheVariants.{KeyEmpty, NotOnDuplicates, TooLong}
 use Rattle.store_model.specs.Store.{Pair, name_of}
-use Rattle.store_model.specs.Reads.{Way, Range, is_within, last_of, taken_by, seen}
+use Rattle.store_model.specs.Reads.{Way, Range, is_within, last_of, taken_by, seen, at_name}
 use Rattle.store_model.specs.Reads.Way.{Lowest, Highest, Each}
-use Rattle.store_model.specs.Records.{evaluation, set, found, went, tested, tested_for, put_unless, deleted, first_of_key, exactly, all_of_key, look_of_put, look_of_motion}
-use Rattle.store_model.specs.Refusals.{or_refusal, too_long, pair_refusal, kind_refusal}
+use Rattle.store_model.specs.Records.{Evaluated, empty_if, early_of, unless_early, conclude, set, found, went, tested, tested_for, put_unless, put_at_place, deleted, first_of_key, exactly, all_of_key, look_of_put, look_of_motion, look_at_place, look_of}
+use Rattle.store_model.specs.Refusals.{or_refusal, too_long, pair_refusal, kind_refusal, database_refuses}
 use Rattle.log_replay.specs.Rows.{Row, is_right_row, are_right, pair_of}
 use Rattle.log_replay.proofs.ListLaws.{all_true}
 use Rattle.txn_views.specs.Seen.{is_right_change}
@@ -97,25 +99,60 @@ goes : (kind : Kind) (at : Option Name) (taken : List Pair) → AreRight kind (w
 goes kind at [] = tt
 goes kind at (p ∷ taken) = tt
 
-pub changes-are_right : ChangesAreRight
-changes-are_right kind (Get db key rmw) rows none right =
-    finds kind None (seen kind (first_of_key kind key).way (first_of_key kind key).range (map (pair_of kind) rows))
-changes-are_right kind (GetBoth db key value rmw) rows none right =
-    finds kind None (tested_for kind value (seen kind (exactly kind key value).way (exactly kind key value).range (map (pair_of kind) rows)))
-changes-are_right kind (Put db key value mode) rows none right =
-    puts kind None None key value (seen kind (look_of_put mode kind key value).way (look_of_put mode kind key value).range (map (pair_of kind) rows))
-    (neither (kind_refusal (Put db key value mode) kind) (pair_refusal kind key value) none).1
-changes-are_right kind (Delete db key) rows none right =
-    deletes kind None (seen kind (all_of_key kind key).way (all_of_key kind key).range (map (pair_of kind) rows)) (seen_all kind (all_of_key kind key).way (all_of_key kind key).range rows right)
-changes-are_right kind (CPut cursor key value mode) rows none right =
-    puts kind None (Some (name_of kind (key, value))) key value (seen kind (look_of_put mode kind key value).way (look_of_put mode kind key value).range (map (pair_of kind) rows))
-    (neither (kind_refusal (CPut cursor key value mode) kind) (pair_refusal kind key value) none).1
-changes-are_right kind (Cur cursor motion rmw) rows none right = moves motion
+-- a record that is there has a name that is right, and so has each name that is the same
+none_there : (kind : Kind) (n : Name) (rows : List Row) → AllByRecursion (IsNamed kind) (map (pair_of kind) rows) → at_name kind n (map (pair_of kind) rows) ≡ [] ⊎ (is_right_change kind (Unset n) ≡ true)
+none_there kind n [] all = inl refl
+none_there kind n (r ∷ rows) all = ⊎_elim
+    (λ e. inr (subst (λ (x : Name). is_right_change kind (Unset x) ≡ true) (same (name_of kind (pair_of kind r)) e) all.0))
+    (λ e. ⊎_elim
+    (λ k. inl (cond-false (is_eq (name_cmp (name_of kind (pair_of kind r)) n)) (pair_of kind r ∷ at_name kind n (map (pair_of kind) rows)) (at_name kind n (map (pair_of kind) rows)) e ∙ k))
+    (λ k. inr k)
+    (none_there kind n rows all.1))
+    (cases_Bool (is_eq (name_cmp (name_of kind (pair_of kind r)) n)))
   where
-    moves : (motion : Motion) → AreRight kind (evaluation kind (Cur cursor motion rmw) None (map (pair_of kind) rows)).changes
-    moves NextDup = tt
-    moves PrevDup = tt
-    moves Current = tt
-    moves motion =
-        goes kind None (tested kind motion (seen kind (look_of_motion kind motion None).way (look_of_motion kind motion None).range (map (pair_of kind) rows)))
-changes-are_right kind call rows none right = tt
+    same : (x : Name) → is_eq (name_cmp x n) ≡ true → x ≡ n
+    same x e = ⊎_elim (λ k. k) (λ k. absurd (both_ways (is_eq (name_cmp x n)) k e)) (same_or_other x n)
+
+-- a record whose data are set where the cursor stands is there
+sets_there : (n : Name) (value : List ℕ) (pairs : List Pair) → pairs ≡ [] ⊎ (is_right_change Plain (Unset n) ≡ true) → empty_if true pairs ≡ None → is_right_change Plain (Set n value) ≡ true
+sets_there n value pairs (inl none) early = absurd (none-some KeyEmpty (sym early ∙ ap (empty_if true) none))
+sets_there n value pairs (inr right) early = right
+
+puts_there : (kind : Kind) (cursor : ℕ) (value : List ℕ) (at : Option Name) (rows : List Row) → database_refuses kind (CPutCur cursor value) ≡ None → are_right kind rows ≡ true
+    → early_of kind (CPutCur cursor value) at (map (pair_of kind) rows) ≡ None → AreRight kind (put_at_place at value).changes
+puts_there kind cursor value None rows none right early = tt
+puts_there Dup cursor value (Some n) rows none right early = absurd (none-some NotOnDuplicates (sym none))
+puts_there Plain cursor value (Some n) rows none right early =
+    (sets_there n value (at_name Plain n (map (pair_of Plain) rows)) (none_there Plain n rows (names_right Plain rows (all_true (is_right_row Plain) rows right))) early, tt)
+
+-- what a call comes to that its cursor's place does not answer
+concludes : (kind : Kind) (call : Call) (at : Option Name) (rows : List Row) → database_refuses kind call ≡ None → are_right kind rows ≡ true → early_of kind call at (map (pair_of kind) rows) ≡ None
+    → AreRight kind (conclude kind call at (seen kind (look_of kind call at).way (look_of kind call at).range (map (pair_of kind) rows))).changes
+concludes kind (Get db key rmw) at rows none right early =
+    finds kind at (seen kind (first_of_key kind key).way (first_of_key kind key).range (map (pair_of kind) rows))
+concludes kind (GetBoth db key value rmw) at rows none right early =
+    finds kind at (tested_for kind value (seen kind (exactly kind key value).way (exactly kind key value).range (map (pair_of kind) rows)))
+concludes kind (Put db key value mode) at rows none right early =
+    puts kind at at key value (seen kind (look_of_put mode kind key value).way (look_of_put mode kind key value).range (map (pair_of kind) rows))
+    (neither (kind_refusal (Put db key value mode) kind) (pair_refusal kind key value) none).1
+concludes kind (Delete db key) at rows none right early =
+    deletes kind at (seen kind (all_of_key kind key).way (all_of_key kind key).range (map (pair_of kind) rows)) (seen_all kind (all_of_key kind key).way (all_of_key kind key).range rows right)
+concludes kind (Cur cursor motion rmw) at rows none right early =
+    goes kind at (tested kind motion (seen kind (look_of_motion kind motion at).way (look_of_motion kind motion at).range (map (pair_of kind) rows)))
+concludes kind (CPutCur cursor value) at rows none right early = puts_there kind cursor value at rows none right early
+concludes kind (CDel cursor) at rows none right early =
+    deletes kind at (seen kind (look_at_place at).way (look_at_place at).range (map (pair_of kind) rows)) (seen_all kind (look_at_place at).way (look_at_place at).range rows right)
+concludes kind (CPut cursor key value mode) at rows none right early =
+    puts kind at (Some (name_of kind (key, value))) key value (seen kind (look_of_put mode kind key value).way (look_of_put mode kind key value).range (map (pair_of kind) rows))
+    (neither (kind_refusal (CPut cursor key value mode) kind) (pair_refusal kind key value) none).1
+concludes kind call at rows none right early = tt
+
+-- an answer that the place gives changes nothing
+unless_so : (kind : Kind) (early : Option Answer) (at : Option Name) (evaluated : Evaluated) → (early ≡ None → AreRight kind evaluated.changes) → AreRight kind (unless_early early at evaluated).changes
+unless_so kind None at evaluated right = right refl
+unless_so kind (Some answer) at evaluated right = tt
+
+pub changes-are_right : ChangesAreRight
+changes-are_right kind call at rows none right =
+    unless_so kind (early_of kind call at (map (pair_of kind) rows)) at (conclude kind call at (seen kind (look_of kind call at).way (look_of kind call at).range (map (pair_of kind) rows)))
+    (λ early. concludes kind call at rows none right early)

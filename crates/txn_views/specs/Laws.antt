@@ -1,5 +1,5 @@
 -- What a transaction sees is what the model says, and how names go on having the changes of transactions.
-use Rattle.std.specs.Prelude.{ℕ, ◌≡◌, ◌⊎◌, ◌==◌, ◌&&◌, ◌++◌, [], List, None, true, false, map, if◌then◌else◌}
+use Rattle.std.specs.Prelude.{ℕ, ◌≡◌, ◌⊎◌, ◌==◌, ◌&&◌, ◌++◌, [], List, Option, None, true, false, map, if◌then◌else◌}
 use Rattle.std.specs.List.{AllByRecursion, list_any}
 use Rattle.std.specs.Map.{keys_of}
 use Rattle.std.specs.Ordering.{is_eq}
@@ -45,10 +45,10 @@ pub record AreSeenBy (st : Standing) (a : Active) (g : Target) (cells : AllCells
 abbrev pub ViewsAreSeen : Type 0
 ViewsAreSeen = (st : Standing) (a : Active) (g : Target) (cells : AllCells) → AreCellsOf st g cells → AreSeenBy st a g cells
 
--- the changes of a call that is not refused are right, where the records that it sees are
+-- the changes of a call that is not refused are right, where the records that it sees are, wherever its cursor stands
 abbrev pub ChangesAreRight : Type 0
-ChangesAreRight = (kind : Kind) (call : Call) (rows : List Row) → database_refuses kind call ≡ None → are_right kind rows ≡ true →
-    AllByRecursion (λ c. is_right_change kind c ≡ true) (evaluation kind call None (map (pair_of kind) rows)).changes
+ChangesAreRight = (kind : Kind) (call : Call) (at : Option Name) (rows : List Row) → database_refuses kind call ≡ None → are_right kind rows ≡ true →
+    AllByRecursion (λ c. is_right_change kind c ≡ true) (evaluation kind call at (map (pair_of kind) rows)).changes
 
 -- ---- names go on having changes
 

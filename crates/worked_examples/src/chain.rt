@@ -41,9 +41,9 @@ fn waits(alloc: Global) -> Result<String, AllocError> {
         let line = session.wrapping_add(129);
         let key = session.wrapping_add(11);
         let owner = session.wrapping_add(2);
-        text.push_str(
-            format!(in alloc; "{line} s{session} waiting t {key} by {owner}\n")?.as_str(),
-        )?;
+        text.push_str(format!(in alloc;
+            "{line} s{session} waiting t {key} by {owner}\n"
+        )?.as_str())?;
     }
     Ok(text)
 }

@@ -1,4 +1,4 @@
-// Databases that are listed, renamed, emptied and removed, and records that are put only where there is none.
+// Databases of both kinds that are listed, renamed, emptied and removed, and records that are put only where there is none.
 use crate::fixture::{assert_ran, disk_of, run_script};
 use mem_disk::MemDisk;
 use std::alloc::{AllocError, Global};
@@ -6,7 +6,7 @@ use std::process::Abort;
 use std::test::Fail;
 
 // Scripts over one folder, each run opening what the one before it left, and what they write.
-static RUNS: [(&[u8], &str); 4] = [
+static RUNS: [(&[u8], &str); 6] = [
     (
         b"s1 create pears plain\n\
 s1 create apples plain\n\
@@ -106,6 +106,60 @@ end commits 2 databases 0 records 0\n",
         b"s1 list\n",
         "1 s1 ok\nend commits 0 databases 0 records 0\n",
     ),
+    (
+        b"s1 create d dup\n\
+s1 put d 6b 33\n\
+s1 put d 6b 31\n\
+s1 put d 6b 31\n\
+s1 putnodup d 6b 31\n\
+s1 putnodup d 6b 32\n\
+s1 putno d 6b 34\n\
+s1 putno d 6c 31\n\
+s1 get d 6b\n\
+s1 getboth d 6b 32\n\
+s1 getboth d 6b 34 rmw\n\
+s1 create p plain\n\
+s1 putnodup p 61 31\n\
+s1 put p 61 31\n\
+s1 getboth p 61 31\n\
+s1 getboth p 61 32\n",
+        "1 s1 ok\n\
+2 s1 ok\n\
+3 s1 ok\n\
+4 s1 ok\n\
+5 s1 keyexist\n\
+6 s1 ok\n\
+7 s1 keyexist\n\
+8 s1 ok\n\
+9 s1 ok 6b 31\n\
+10 s1 ok 6b 32\n\
+11 s1 notfound\n\
+12 s1 ok\n\
+13 s1 onlyonduplicates\n\
+14 s1 ok\n\
+15 s1 ok 61 31\n\
+16 s1 notfound\n\
+end commits 8 databases 2 records 5\n",
+    ),
+    (
+        b"s1 get d 6b\n\
+s1 getboth d 6b 33\n\
+s1 delete d 6b\n\
+s1 get d 6b\n\
+s1 get d 6c\n\
+s1 truncate d\n\
+s1 get d 6c\n\
+s1 list\n",
+        "1 s1 ok 6b 31\n\
+2 s1 ok 6b 33\n\
+3 s1 ok\n\
+4 s1 notfound\n\
+5 s1 ok 6c 31\n\
+6 s1 ok\n\
+7 s1 notfound\n\
+8 s1 ok d p\n\
+end commits 2 databases 2 records 1\n",
+    ),
 ];
 
 // The disk that such a run leaves.
@@ -122,7 +176,7 @@ fn run_over(
 }
 
 #[test]
-fn three_databases(rt: HostRuntime) -> Result<(), Fail> {
+fn several_databases(rt: HostRuntime) -> Result<(), Fail> {
     let alloc = rt.alloc();
     let mut disk = MemDisk::new(alloc);
     for &(script, text) in &RUNS {

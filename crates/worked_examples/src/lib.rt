@@ -19,6 +19,8 @@ mod files;
 #[cfg(test)]
 mod fixture;
 #[cfg(test)]
+mod phantoms;
+#[cfg(test)]
 mod reports;
 #[cfg(test)]
 mod splitting;

@@ -1,4 +1,4 @@
-use Rattle.std.proofs.Common.{subst, refl, add-one, ◌+◌}
+use Rattle.std.proofs.Common.{ℕ, Some, ap, sym, subst, refl, add-one, ◌+◌, ◌∙◌}
 use Rattle.tree_nodes.specs.Levels.{HasMarkedAt}
 use Rattle.db_tree.proofs.NodeLogging.{handed_on}
 use Rattle.db_tree.proofs.Records.{marks}
@@ -7,23 +7,20 @@ use Rattle.db_tree.proofs.NodeSteps.{nodes_marked}
 use Rattle.db_tree.proofs.log_node.hand_on.Goals as goal
 
 pub returns-clause-handed : goal.returns-clause-handed
-returns-clause-handed c =
-    handed_on c.args.levels.now c.mark.new.self c.args.level c.args.low.now c.args.node.now c.in-Some.from c.in-Some.is
-    (subst (λ l. HasMarkedAt c.args.levels.now c.mark.new.self l c.args.low.now c.in-Some.from) (add-one c.args.level) c.mark.ensures.marked)
+returns-clause-handed c = λ p over f is.
+    handed_on c.args.levels.now c.mark.new.self c.args.level c.args.low.now c.args.node.now c.mark_above.result (is ∙ ap (λ (x : ℕ). Some x) (sym (c.mark_above.ensures f is)))
+    (subst (λ l. HasMarkedAt c.args.levels.now c.mark.new.self l c.args.low.now c.mark_above.result) (add-one c.args.level) c.mark.ensures.marked) p over f is
 
 pub returns-clause-tree : goal.returns-clause-tree
 returns-clause-tree c = λ es base newest held tree.
-    marks es base newest c.args.levels.now c.mark.new.self held (c.args.level + 1) c.args.low.now c.in-Some.from c.mark.ensures.marked tree
+    marks es base newest c.args.levels.now c.mark.new.self held (c.args.level + 1) c.args.low.now c.mark_above.result c.mark.ensures.marked tree
 
 pub returns-clause-others : goal.returns-clause-others
 returns-clause-others c =
-    (subst (λ l. HasMarkedAt c.args.levels.now c.mark.new.self l c.args.low.now c.in-Some.from) (add-one c.args.level) c.mark.ensures.marked).put.others
+    (subst (λ l. HasMarkedAt c.args.levels.now c.mark.new.self l c.args.low.now c.mark_above.result) (add-one c.args.level) c.mark.ensures.marked).put.others
 
 pub returns-clause-alike : goal.returns-clause-alike
-returns-clause-alike c = mark_alike c.args.levels.now c.mark.new.self (c.args.level + 1) c.args.low.now c.in-Some.from c.height-height.ensures.parts c.mark.ensures.parts c.mark.ensures.marked
-
-pub returns-in_default-clause-alike : goal.returns-in_default-clause-alike
-returns-in_default-clause-alike c = record { lows = refl; waits = refl }
+returns-clause-alike c = mark_alike c.args.levels.now c.mark.new.self (c.args.level + 1) c.args.low.now c.mark_above.result c.height-height.ensures.parts c.mark.ensures.parts c.mark.ensures.marked
 
 pub returns-clause-nodes : goal.returns-clause-nodes
-returns-clause-nodes c = nodes_marked c.args.levels.now c.mark.new.self (c.args.level + 1) c.args.low.now c.in-Some.from c.height-height.ensures.parts c.mark.ensures.parts c.mark.ensures.marked
+returns-clause-nodes c = nodes_marked c.args.levels.now c.mark.new.self (c.args.level + 1) c.args.low.now c.mark_above.result c.height-height.ensures.parts c.mark.ensures.parts c.mark.ensures.marked

@@ -12,4 +12,4 @@ answered-requires c =
 pub returns : goal.returns
 returns c = λ st needs is taken.
     let a = auto_active st c.args.session in
-    c.end.ensures (with_locks a (all_got a.txn needs st.locks.at) (begun st c.args.session)) a refl (sym is) (c.answered.ensures a needs (begun st c.args.session) (sym is) refl taken)
+    c.end.ensures.stands (with_locks a (all_got a.txn needs st.locks.at) (begun st c.args.session)) a refl (sym is) (c.answered.ensures.stands a needs (begun st c.args.session) (sym is) refl taken)

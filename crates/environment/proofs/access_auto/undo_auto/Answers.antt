@@ -10,4 +10,4 @@ give_up-requires c =
 
 pub returns : goal.returns
 returns c = λ session st needs is taken.
-    c.undo_begin.ensures st (auto_active st session) (c.give_up.ensures true (auto_active st session) needs (begun st session) (sym is) taken)
+    c.undo_begin.ensures.stands st (auto_active st session) (c.give_up.ensures.stands true (auto_active st session) needs (begun st session) (sym is) taken)

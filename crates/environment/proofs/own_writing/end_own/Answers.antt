@@ -16,7 +16,7 @@ pub returns-in-Done : goal.returns-in-Done
 returns-in-Done c a needs more st is level p =
     subst (λ (w : Wrote). AreEndedBy w c.answered.new.self a needs more st) (sym c.in-Done.is)
     (subst (λ (t : TxnId). AreSessionsAt c.answered.new.self (with_locks a (all_got a.txn needs st.locks.at) (with_own t.0 more st))) (sym is)
-    (c.answered.ensures a needs (with_own c.args.txn.0 more st) is level p.taken))
+    (c.answered.ensures.stands a needs (with_own c.args.txn.0 more st) is level p.taken))
 
 pub returns-in-Full : goal.returns-in-Full
 returns-in-Full c a needs more st is level p =

@@ -1,4 +1,6 @@
-use Rattle.std.proofs.Common.{sym}
+use Rattle.std.proofs.Common.{List, sym, subst}
+use Rattle.store_model.specs.declared.event.Event.{Event}
+use Rattle.script_run.specs.Ends.{AreEndsStopped}
 use Rattle.script_run.specs.declared.recorded.Recorded.{Recorded}
 use Rattle.script_run.proofs.Resting.{not_ended}
 use Rattle.script_run.proofs.RunLaws.{started, starts_calm}
@@ -39,3 +41,21 @@ returns-clause-calm g c = λ p begins memory.
     let calm = starts_calm g.D.Disk.observable g.D.Disk.history g.D.Disk.faults p x none begins in
     c.end_sessions.ensures.calm p (c.execute_all.ensures.goes_on p under (λ halted. calm)) (c.execute_all.ensures.calm p under (λ halted. calm))
     (not_ended c.end_sessions.new.self c.end_sessions.ensures.flags memory)
+
+pub returns-clause-ended : goal.returns-clause-ended
+returns-clause-ended g c = λ p begins memory.
+    let x : Recorded g.row.D.Denot = record { environment = c.args.environment; journal = c.journal_for.result } in
+    let none = sym c.journal_for.ensures in
+    let under = started g.D.Disk.observable g.D.Disk.history g.D.Disk.faults p x none begins in
+    let calm = starts_calm g.D.Disk.observable g.D.Disk.history g.D.Disk.faults p x none begins in
+    c.end_sessions.ensures.ended p (c.execute_all.ensures.goes_on p under (λ halted. calm)) (c.execute_all.ensures.calm p under (λ halted. calm))
+    (not_ended c.end_sessions.new.self c.end_sessions.ensures.flags memory)
+
+pub returns-clause-ends : goal.returns-clause-ends
+returns-clause-ends g c = λ p begins.
+    let x : Recorded g.row.D.Denot = record { environment = c.args.environment; journal = c.journal_for.result } in
+    let none = sym c.journal_for.ensures in
+    let under = started g.D.Disk.observable g.D.Disk.history g.D.Disk.faults p x none begins in
+    let calm = starts_calm g.D.Disk.observable g.D.Disk.history g.D.Disk.faults p x none begins in
+    c.end_sessions.ensures.ends p (c.execute_all.ensures.goes_on p under (λ halted. calm)) (c.execute_all.ensures.calm p under (λ halted. calm))
+    (c.execute_all.ensures.ends (subst (λ (l : List Event). AreEndsStopped c.all_sessions.result l) none tt))

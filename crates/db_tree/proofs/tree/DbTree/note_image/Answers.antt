@@ -3,7 +3,7 @@ use Rattle.tree_nodes.specs.declared.node.Node.{Node}
 use Rattle.tree_nodes.specs.Levels.{HasPutAt}
 use Rattle.db_tree.specs.Content.{held_by}
 use Rattle.db_tree.proofs.NodeLogging.{image_noted}
-use Rattle.db_tree.proofs.NoteLaws.{noted_lows, noted_waits, few_still, past_waits, none_waits}
+use Rattle.db_tree.proofs.NoteLaws.{cleared, noted_lows, noted_waits, few_still, past_waits, none_waits}
 use Rattle.db_tree.proofs.NodeSteps.{node_noted}
 use Rattle.db_tree.proofs.tree.DbTree.note_image.Goals as goal
 
@@ -39,3 +39,7 @@ pub returns-clause-noted : goal.returns-clause-noted
 returns-clause-noted c = λ some.
     node_noted c.args.self.now.levels c.hand_on.new.levels c.set.new.self c.args.level c.args.low.now c.copy-node.result _ c.args.at c.hand_on.ensures.parts c.set.ensures.parts c.hand_on.ensures.nodes c.hand_on.ensures.row
     (sym c.in-Some.ensures ∙ ap Some (sym c.copy-node.ensures)) c.logged.ensures c.set.ensures.put
+
+pub returns-clause-cleared : goal.returns-clause-cleared
+returns-clause-cleared c = λ n within there.
+    cleared c.hand_on.new.levels c.set.new.self c.args.level c.args.low.now c.logged.result n c.set.ensures.put (ap (λ (m : Node). m.from) c.logged.ensures) there

@@ -11,7 +11,7 @@ use Rattle.environment.proofs.environment.Environment.commit_again.Goals as goal
 
 pub returns-in_default-clause-comes : goal.returns-in_default-clause-comes
 returns-in_default-clause-comes g c = λ before most line st a asked db found t answer up is level number auto bare.
-    not_again g.D.Disk.observable g.D.Disk.history g.D.Disk.sync_out g.D.Disk.read_out g.D.Disk.read_of before c.args.self.now c.give_up.new.self most c.args.session st a asked db found t answer c.args.changes up (c.give_up.ensures _ a _ st is up.taken)
+    not_again g.D.Disk.observable g.D.Disk.history g.D.Disk.sync_out g.D.Disk.read_out g.D.Disk.read_of before c.args.self.now c.give_up.new.self most c.args.session st a asked db found t answer c.args.changes up (c.give_up.ensures.stands _ a _ st is up.taken)
 
 pub push_and_log-pushed-requires-clause-taken : goal.push_and_log-pushed-requires-clause-taken
 push_and_log-pushed-requires-clause-taken g c =

@@ -9,7 +9,7 @@ use Rattle.environment.proofs.environment.Environment.finish_again.Goals as goal
 pub returns-then-is_empty-clause-comes : goal.returns-then-is_empty-clause-comes
 returns-then-is_empty-clause-comes g c = λ before most line st a asked db found on up txn level number auto none.
     finishes_again g.D.Disk.observable g.D.Disk.history g.D.Disk.sync_out g.D.Disk.read_out g.D.Disk.read_of before c.args.self.now c.abandon.new.self c.answered.new.self most c.args.session line st a asked db found on c.args.answer
-    c.args.changes c.told.result up (nil_from_length c.args.changes (eqb-true (length c.args.changes) 0 (sym c.is_empty.ensures ∙ c.if-is_empty.true))) auto (c.answered.ensures a _ st txn level up.taken) c.args.txn txn c.abandon.ensures
+    c.args.changes c.told.result up (nil_from_length c.args.changes (eqb-true (length c.args.changes) 0 (sym c.is_empty.ensures ∙ c.if-is_empty.true))) auto (c.answered.ensures.stands a _ st txn level up.taken) c.args.txn txn c.abandon.ensures
     c.told.ensures.answer c.told.ensures.victims
 
 pub returns-then-is_empty-clause-cause : goal.returns-then-is_empty-clause-cause

@@ -70,4 +70,4 @@ returns-in-Err-clause-comes g c = λ most st on may name kind planned needs owed
     let e = c.args.self.now in
     let begun_ = begun_sessions most g.D.Disk.observable g.D.Disk.history e st c.args.session c.args.call.now on may _ (record { 0 = e.engine.kept.last_txn + 1 }) refl (c.in_ok-begin.ensures.stands st may.at.sessions_at) in
     not_come g.D.Disk.observable g.D.Disk.history g.D.Disk.sync_out g.D.Disk.read_out g.D.Disk.read_of most e st c.args.session c.args.call.now on may c.undo_begin.new.self
-    (c.undo_begin.ensures st (auto_active st c.args.session) (c.in-Err.ensures.err (begun st c.args.session) begun_))
+    (c.undo_begin.ensures.stands st (auto_active st c.args.session) (c.in-Err.ensures.err (begun st c.args.session) begun_))

@@ -31,7 +31,7 @@ returns-in-Ok-clause-comes g c before most line st a asked t w =
     let taken = taken_again g.D.Disk.observable g.D.Disk.history g.D.Disk.sync_out g.D.Disk.read_out g.D.Disk.read_of g.D.Disk.faults most before c.args.self.now st c.args.session c.args.txn c.args.level a asked t c.args.all Done w
     c.commit_own.new.self.sessions c.commit_own.ensures.sessions in
     settled_again g.D.Disk.observable g.D.Disk.history g.D.Disk.sync_out g.D.Disk.read_out g.D.Disk.read_of g.D.Disk.faults most before c.args.self.now st c.args.session c.args.txn c.args.level a asked t c.args.all c.commit_own.new.self
-    c.answered.new.self c.end.new.self c.less-records.result line c.told.result w c.in-Ok.ensures.done (c.answered.ensures a (needs_in st a asked t) (with_own a.txn.0 w.pushed.more st) w.its_txn w.its_level taken) c.end.ensures
+    c.answered.new.self c.end.new.self c.less-records.result line c.told.result w c.in-Ok.ensures.done (c.answered.ensures.stands a (needs_in st a asked t) (with_own a.txn.0 w.pushed.more st) w.its_txn w.its_level taken) c.end.ensures.stands
     (ap (λ (n : ℕ). c.less-records.result + n) (sym c.had_of.ensures) ∙ c.less-records.ensures) c.told.ensures.answer c.told.ensures.victims
 
 pub returns-in-Err-clause-comes : goal.returns-in-Err-clause-comes

@@ -10,7 +10,7 @@ returns-in-Some g c = λ most st at sound.
     let none = sym at.fault ∙ c.requires.valid in
     let numbers = number_named (committed (cells_of c.args.self.now.engine.trees)) in
     user_is st numbers c.args.call.now c.in-Some.number c.user_of.result c.requires.call (at.valid none).makes.named (sym c.in-Some.is ∙ c.in_ok-number.ensures)
-    (c.user_of.ensures.none st none sound.places at.sessions_at) (c.user_of.ensures.some st none sound.places at.sessions_at)
+    (c.user_of.ensures.none st none sound at.sessions_at) (c.user_of.ensures.some st none sound at.sessions_at)
 
 pub returns-in-None : goal.returns-in-None
 returns-in-None g c = λ most st at sound.

@@ -1,8 +1,6 @@
-use Rattle.std.proofs.Common.{◌≤◌, ◌∙◌, ap, sym, subst, arith}
-use Rattle.je_answers.specs.Standing.{Standing}
-use Rattle.script_run.proofs.Standings.{ended_waits}
+use Rattle.std.proofs.Common.{◌≤◌, sym, subst, arith}
 use Rattle.script_run.proofs.Pushed.{within_none}
-use Rattle.script_run.proofs.RunLaws.{pushed, standing_push}
+use Rattle.script_run.proofs.RunLaws.{pushed}
 use Rattle.script_run.specs.UnderWay.{standing}
 use Rattle.script_run.specs.declared.recorded.Recorded.{Recorded}
 use Rattle.script_run.specs.Events.Awaited.{Nothing}
@@ -22,13 +20,8 @@ returns-clause-goes_on g c = λ p under may.
       fresh = tt;
       ordered = may;
       only = tt;
+      sessions = tt;
       bounds = e.bounds under.running.bounds;
       never_falls = (let faults = g.D.Disk.faults in subst (λ d. faults (disk_of x.environment) ≤ faults d) (sym e.same_disk) (omega arith));
       fault = λ h. cc;
     }) (λ observed. e.crash observed p.most p.st p.start x.journal.items under.running.here (under.guarded observed))
-
-pub returns-clause-waits : goal.returns-clause-waits
-returns-clause-waits g c = λ p.
-    let x = c.args.self.now in
-    let y : Recorded g.row.D.Denot = record { environment = c.end_session.new.self; journal = c.record.new.journal } in
-    ap (λ (s : Standing). s.waiting) (standing_push p x y (End c.args.session) c.record.ensures.items) ∙ ended_waits c.args.session (standing p x)

@@ -1,4 +1,6 @@
-use Rattle.std.proofs.Common.{◌<◌, length, None, refl, inl, inr, sym, subst}
+use Rattle.std.proofs.Common.{◌<◌, length, None, refl, inl, inr, sym, subst, arith}
+use Rattle.script_run.proofs.Ending.{none_ended, none_resumed}
+use Rattle.script_run.proofs.EndLaws.{gained_one}
 use Rattle.je_answers.specs.Standing.{Standing}
 use Rattle.je_answers.specs.Journal.{first_ready}
 use Rattle.script_run.proofs.Pushed.{within_none}
@@ -26,6 +28,7 @@ returns-in-Err-clause-goes_on g c = λ p under next.
       fresh = tt;
       ordered = inr (first_of (first_ready (standing p x)) c.args.session c.args.line next.first);
       only = tt;
+      sessions = tt;
       bounds = c.resume.ensures.bounds;
       never_falls = e.cause.never_falls;
       fault = λ h. cc;
@@ -43,6 +46,7 @@ returns-clause-goes_on g c = λ p under next.
     let x = c.args.self.now in
     let st = standing p x in
     let session = c.args.session in
+    let within : session < 256 = omega arith in
     let line = c.args.line in
     let e = c.in-Ok.ensures in
     let o = c.in-Ok.outcome in
@@ -63,6 +67,7 @@ returns-clause-goes_on g c = λ p under next.
       fresh = fresh_after o.answer durability awaited (after_event st event) for_ (λ logged. gone_on_valid done.limit st session line o.answer o.victims logged done.answered);
       ordered = first_of (first_ready st) session line next.first;
       only = tt;
+      sessions = within;
       bounds = c.resume.ensures.bounds;
       never_falls = e.cause.never_falls;
       fault = λ h. e.cause.fault (fault_is o.answer h);
@@ -77,3 +82,24 @@ returns-clause-settles g c = λ p under next.
     let y : Recorded g.row.D.Denot = record { environment = c.resume.new.self; journal = c.record-2.new.journal } in
     settles_by p x y o.answer c.durability_of-durability.result c.awaited-awaited.result (after_event st event) (standing_push p x y event c.record-2.ensures.items)
     (record { logged = c.awaited-awaited.ensures.logged; other = c.awaited-awaited.ensures.other }) (c.in-Ok.ensures.settles p.most st c.args.line under.running.here next.may)
+
+pub returns-in-Err-clause-begins_none : goal.returns-in-Err-clause-begins_none
+returns-in-Err-clause-begins_none g c = λ p under next.
+    let x = c.args.self.now in
+    let y : Recorded g.row.D.Denot = record { environment = c.resume.new.self; journal = c.record.new.journal } in
+    none_ended p c.args.session x y c.record.ensures.items
+
+pub returns-clause-begins_none : goal.returns-clause-begins_none
+returns-clause-begins_none g c = λ p under next.
+    let x = c.args.self.now in
+    let o = c.in-Ok.outcome in
+    let y : Recorded g.row.D.Denot = record { environment = c.resume.new.self; journal = c.record-2.new.journal } in
+    none_resumed p c.args.session c.args.line o.answer o.victims x y c.record-2.ensures.items under.running.here.right next
+
+pub returns-in-Err-clause-gained : goal.returns-in-Err-clause-gained
+returns-in-Err-clause-gained g c = λ stopped was. gained_one stopped c.args.self.now.journal.items c.record.new.journal.items (End c.args.session) c.record.ensures.items refl was
+
+pub returns-clause-gained : goal.returns-clause-gained
+returns-clause-gained g c = λ stopped was.
+    let o = c.in-Ok.outcome in
+    gained_one stopped c.args.self.now.journal.items c.record-2.new.journal.items (Resume c.args.session c.args.line o.answer o.victims) c.record-2.ensures.items refl tt

@@ -1,4 +1,6 @@
-use Rattle.std.proofs.Common.{refl}
+use Rattle.std.proofs.Common.{◌<◌, List, refl, sym, subst, arith}
+use Rattle.script_run.specs.Ends.{AreEndsStopped}
+use Rattle.script_run.proofs.EndLaws.{stopped_line}
 use Rattle.script_run.proofs.RunLaws.{kept, pushed}
 use Rattle.script_run.proofs.Waiting.{IsAwaitedFor, called_synced, called_valid, fault_is, fresh_after}
 use Rattle.script_run.specs.UnderWay.{standing}
@@ -23,6 +25,7 @@ returns-clause-goes_on g c = λ p under calm.
     let x = c.args.self.now in
     let st = standing p x in
     let session = c.args.session in
+    let within : session < 256 = omega arith in
     let line = c.args.line in
     let call = c.args.call in
     let e = c.in-Ok.ensures in
@@ -44,7 +47,14 @@ returns-clause-goes_on g c = λ p under calm.
       fresh = fresh_after o.answer durability awaited (after_event st event) for_ (λ logged. called_valid done.limit st session line call o.answer o.victims logged done.answered);
       ordered = calm;
       only = tt;
+      sessions = within;
       bounds = c.step.ensures.bounds;
       never_falls = e.cause.never_falls;
       fault = λ h. e.cause.fault (fault_is o.answer h);
     }) (λ observed. e.crash observed p.most p.st p.start x.journal.items under.running.here (under.guarded observed))
+
+pub returns-clause-ends : goal.returns-clause-ends
+returns-clause-ends g c = λ stopped running ends.
+    let o = c.in-Ok.outcome in
+    subst (λ (l : List Event). AreEndsStopped stopped l) (sym {A = List Event} c.record.ensures.items)
+    (stopped_line stopped c.args.self.now.journal.items (Called c.args.session c.args.line c.args.call o.answer o.victims) c.args.session c.args.line c.args.call refl (λ later. tt) running ends)

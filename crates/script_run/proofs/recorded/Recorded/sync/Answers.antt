@@ -1,8 +1,9 @@
-use Rattle.script_run.proofs.Standings.{faulted_waits}
+use Rattle.script_run.proofs.EndLaws.{gained_one, gained_then}
+use Rattle.script_run.proofs.Standings.{alike_by, faulted_actives, faulted_waits}
 use Rattle.std.proofs.Common.{List, [], ◌∷◌, ◌++◌, ◌≡◌, None, Option, refl, inl, inr, ap, sym, ◌∙◌, subst}
 use Rattle.je_disk.specs.Moments.{now}
 use Rattle.je_answers.specs.Events.{IsSyncBegun, IsSyncEnded}
-use Rattle.je_answers.specs.After.{after_event, after_events}
+use Rattle.je_answers.specs.After.{after_event, after_events, faulted_if}
 use Rattle.je_answers.specs.Standing.{Standing}
 use Rattle.je_answers.proofs.Journals.{after_events-append}
 use Rattle.script_run.proofs.Pushed.{within_none}
@@ -38,6 +39,7 @@ returns-in_default-clause-goes_on g c = λ p under.
       fresh = tt;
       ordered = tt;
       only = tt;
+      sessions = tt;
       bounds = c.sync_begin.ensures.bounds under.running.bounds;
       never_falls = c.sync_begin.ensures.never_falls;
       fault = λ h. e.cause p.most st under.running.here valid refl;
@@ -69,6 +71,7 @@ returns-clause-goes_on g c = λ p under.
       fresh = (valid, refl);
       ordered = tt;
       only = tt;
+      sessions = tt;
       bounds = c.sync_begin.ensures.bounds under.running.bounds;
       never_falls = c.sync_begin.ensures.never_falls;
       fault = λ h. cc;
@@ -86,30 +89,44 @@ returns-clause-goes_on g c = λ p under.
       fresh = tt;
       ordered = tt;
       only = tt;
+      sessions = tt;
       bounds = e.bounds (c.sync_begin.ensures.bounds under.running.bounds);
       never_falls = e.never_falls;
       fault = λ h. e.cause p.most st1 here1 valid (fault_is ending h);
     })) in
-    let all = c.record-3.ensures.items ∙ ap (λ (l : List Event). l ++ SyncEnd ending ∷ []) c.record-2.ensures.items in
+    let all = ◌∙◌ {A = List Event} c.record-3.ensures.items (ap (λ (l : List Event). l ++ SyncEnd ending ∷ []) c.record-2.ensures.items) in
     record {
-      running = subst (λ (l : List Event). IsRunning observable history faults p Nothing new l) (sym all) done;
+      running = subst (λ (l : List Event). IsRunning observable history faults p Nothing new l) (sym {A = List Event} all) done;
       guarded = λ observed.
           let guarded_begun = b.crash observed p.most p.st p.start x.journal.items valid (under.guarded observed) in
-          subst (λ (l : List Event). IsGuarded p.most p.st p.start (history (disk_of new)) new l) (sym all)
+          subst (λ (l : List Event). IsGuarded p.most p.st p.start (history (disk_of new)) new l) (sym {A = List Event} all)
           (e.crash observed p.most p.st p.start begun syncing.here (subst (λ (s : Standing). s.fault ≡ None) (sym stands) valid) guarded_begun);
     }
 
-pub returns-in_default-clause-waits : goal.returns-in_default-clause-waits
-returns-in_default-clause-waits g c = λ p.
+pub returns-in_default-clause-alike : goal.returns-in_default-clause-alike
+returns-in_default-clause-alike g c = λ p.
     let x = c.args.self.now in
     let y : Recorded g.row.D.Denot = record { environment = c.sync_begin.new.self; journal = c.record.new.journal } in
-    ap (λ (s : Standing). s.waiting) (standing_push p x y (SyncBegin DiskFault) c.record.ensures.items)
+    alike_by p x y (after_event (standing p x) (SyncBegin DiskFault)) (standing_push p x y (SyncBegin DiskFault) c.record.ensures.items) refl refl
 
-pub returns-clause-waits : goal.returns-clause-waits
-returns-clause-waits g c = λ p.
+pub returns-in_default-clause-gained : goal.returns-in_default-clause-gained
+returns-in_default-clause-gained g c = λ stopped. gained_one stopped c.args.self.now.journal.items c.record.new.journal.items (SyncBegin DiskFault) c.record.ensures.items refl tt
+
+pub returns-clause-alike : goal.returns-clause-alike
+returns-clause-alike g c = λ p.
     let x = c.args.self.now in
     let ending = c.sync_end-answer.result in
     let m : Recorded g.row.D.Denot = record { environment = c.sync_begin.new.self; journal = c.record-2.new.journal } in
     let y : Recorded g.row.D.Denot = record { environment = c.sync_end-answer.new.self; journal = c.record-3.new.journal } in
-    ap (λ (s : Standing). s.waiting) (standing_push p m y (SyncEnd ending) c.record-3.ensures.items ∙ ap (λ (s : Standing). after_event s (SyncEnd ending)) (standing_push p x m (SyncBegin Done) c.record-2.ensures.items))
-    ∙ faulted_waits ending (record (after_event (standing p x) (SyncBegin Done)) { begun = None })
+    let st : Standing = record (after_event (standing p x) (SyncBegin Done)) { begun = None } in
+    alike_by p x y (faulted_if ending st)
+    (standing_push p m y (SyncEnd ending) c.record-3.ensures.items ∙ ap (λ (s : Standing). after_event s (SyncEnd ending)) (standing_push p x m (SyncBegin Done) c.record-2.ensures.items))
+    (faulted_waits ending st) (faulted_actives ending st)
+
+pub returns-clause-gained : goal.returns-clause-gained
+returns-clause-gained g c = λ stopped.
+    let before = c.args.self.now.journal.items in
+    let middle = c.record-2.new.journal.items in
+    let after = c.record-3.new.journal.items in
+    gained_then stopped before middle after (gained_one stopped before middle (SyncBegin Done) c.record-2.ensures.items refl tt)
+    (gained_one stopped middle after (SyncEnd c.sync_end-answer.result) c.record-3.ensures.items refl tt)

@@ -1,6 +1,7 @@
-use Rattle.std.proofs.Common.{◌∙◌, ap}
-use Rattle.je_answers.specs.Standing.{Standing}
-use Rattle.script_run.proofs.Standings.{faulted_waits}
+use Rattle.std.proofs.Common.{refl}
+use Rattle.je_answers.specs.After.{faulted_if}
+use Rattle.script_run.proofs.EndLaws.{gained_one}
+use Rattle.script_run.proofs.Standings.{alike_by, faulted_actives, faulted_waits}
 use Rattle.script_run.proofs.Pushed.{within_none}
 use Rattle.script_run.proofs.RunLaws.{pushed, standing_push}
 use Rattle.script_run.proofs.Waiting.{fault_is, written_is}
@@ -27,14 +28,19 @@ returns-clause-goes_on g c = λ p under.
       fresh = tt;
       ordered = tt;
       only = tt;
+      sessions = tt;
       bounds = e.bounds under.running.bounds;
       never_falls = e.never_falls;
       fault = λ h. e.cause (fault_is answer h);
     }) (λ observed. e.crash observed p.most p.st p.start x.journal.items under.running.here (under.guarded observed))
 
-pub returns-clause-waits : goal.returns-clause-waits
-returns-clause-waits g c = λ p.
+pub returns-clause-alike : goal.returns-clause-alike
+returns-clause-alike g c = λ p.
     let x = c.args.self.now in
     let answer = c.write_out-answer.result in
     let y : Recorded g.row.D.Denot = record { environment = c.write_out-answer.new.self; journal = c.record.new.journal } in
-    ap (λ (s : Standing). s.waiting) (standing_push p x y (WriteOut answer) c.record.ensures.items) ∙ faulted_waits answer (standing p x)
+    alike_by p x y (faulted_if answer (standing p x)) (standing_push p x y (WriteOut answer) c.record.ensures.items) (faulted_waits answer (standing p x)) (faulted_actives answer (standing p x))
+
+pub returns-clause-gained : goal.returns-clause-gained
+returns-clause-gained g c = λ stopped.
+    gained_one stopped c.args.self.now.journal.items c.record.new.journal.items (WriteOut c.write_out-answer.result) c.record.ensures.items refl tt

@@ -1,4 +1,19 @@
+use Rattle.std.proofs.Common.{arith}
+use Rattle.script_run.specs.UnderWay.{standing}
+use Rattle.script_run.proofs.Ending.{ended_up_to}
+use Rattle.script_run.proofs.EndLaws.{below_first}
+use Rattle.script_run.proofs.SessionLaws.{none_left}
 use Rattle.script_run.proofs.running.Running.end_sessions.Goals as goal
+
+pub loop-session-init : goal.loop-session-init
+loop-session-init g c = record {
+  flags = c.requires.flags;
+  goes_on = λ p under calm. under;
+  calm = λ p under calm. calm;
+  ended = λ p under calm works session less. absurd (omega (arith, less));
+  ends = λ p under calm ends. below_first c.args.self.now.stopped p.st c.args.self.now.recorded.journal.items 0 ends;
+  given = λ lines has. has;
+}
 
 pub end_if_open-requires-clause-here : goal.end_if_open-requires-clause-here
 end_if_open-requires-clause-here g c =
@@ -13,6 +28,10 @@ loop-session-preserved g c =
       flags = c.end_if_open.ensures.flags;
       goes_on = λ p under calm. c.end_if_open.ensures.goes_on p (inv.goes_on p under calm) (inv.calm p under calm);
       calm = λ p under calm. c.end_if_open.ensures.calm p (inv.goes_on p under calm) (inv.calm p under calm);
+      ended = λ p under calm works. ended_up_to p c.loop-session.session c.loop-session.self.recorded c.end_if_open.new.self.recorded
+          (c.end_if_open.ensures.begins_none p (inv.goes_on p under calm) (inv.calm p under calm)) (inv.ended p under calm (c.end_if_open.ensures.works works))
+          (c.end_if_open.ensures.ended p (inv.goes_on p under calm) (inv.calm p under calm) works);
+      ends = λ p under calm ends. c.end_if_open.ensures.ends p (inv.goes_on p under calm) (inv.calm p under calm) (inv.ends p under calm ends);
       given = λ lines has. c.end_if_open.ensures.given lines (inv.given lines has);
     }
 
@@ -25,3 +44,19 @@ pub returns-2-clause-calm : goal.returns-2-clause-calm
 returns-2-clause-calm g c =
     let inv = c.loop-session.invariant in
     λ p under calm. c.end_if_open.ensures.calm p (inv.goes_on p under calm) (inv.calm p under calm)
+
+pub returns-2-clause-ended : goal.returns-2-clause-ended
+returns-2-clause-ended g c =
+    let inv = c.loop-session.invariant in
+    let y = c.end_if_open.new.self.recorded in
+    λ p under calm works.
+    let now = c.end_if_open.ensures.goes_on p (inv.goes_on p under calm) (inv.calm p under calm) in
+    let outside = ended_up_to p c.loop-session.session c.loop-session.self.recorded y
+    (c.end_if_open.ensures.begins_none p (inv.goes_on p under calm) (inv.calm p under calm)) (inv.ended p under calm (c.end_if_open.ensures.works works))
+    (c.end_if_open.ensures.ended p (inv.goes_on p under calm) (inv.calm p under calm) works) in
+    none_left 256 (standing p y).actives now.running.sessions (λ s less. outside s (omega (arith, less, c.loop-session-test.true)))
+
+pub returns-2-clause-ends : goal.returns-2-clause-ends
+returns-2-clause-ends g c =
+    let inv = c.loop-session.invariant in
+    λ p under calm ends. (c.end_if_open.ensures.ends p (inv.goes_on p under calm) (inv.calm p under calm) (inv.ends p under calm ends)).in_place

@@ -4,7 +4,7 @@ use Rattle.std.specs.Vec.Iter.{into_iter_items}
 use Rattle.script_text.specs.Grammar.{is_line}
 use Rattle.script_run.specs.Events.Awaited.{Nothing}
 use Rattle.script_run.specs.UnderWay.{Beginning, IsUnderWay}
-use Rattle.script_run.specs.Running.{AreFlags, HasLines, IsCalmOrHalted}
+use Rattle.script_run.specs.Running.{AreFlags, EndsStopped, HasLines, IsCalmOrHalted}
 use Rattle.script_run.proofs.running.Running.execute_all.Given as goal
 
 -- the run goes on, and no call may unless it was halted
@@ -14,6 +14,7 @@ invariant-loop-given g l =
       flags : AreFlags l.self;
       goes_on : (p : Beginning) → IsUnderWay g.D.Disk.observable g.D.Disk.history g.D.Disk.faults p Nothing l.initial.self.recorded → IsCalmOrHalted p l.initial.self → IsUnderWay g.D.Disk.observable g.D.Disk.history g.D.Disk.faults p Nothing l.self.recorded;
       calm : (p : Beginning) → IsUnderWay g.D.Disk.observable g.D.Disk.history g.D.Disk.faults p Nothing l.initial.self.recorded → IsCalmOrHalted p l.initial.self → IsCalmOrHalted p l.self;
+      ends : EndsStopped l.initial.self → EndsStopped l.self;
       lines : list_all is_line (into_iter_items l.given-iterator) ≡ true;
       given : HasLines l.self l.yielded;
     }

@@ -1,3 +1,4 @@
+use Rattle.script_run.proofs.Ending.{stopped_then}
 use Rattle.script_run.proofs.running.Running.execute_line.Goals as goal
 
 pub resume_ready-requires-clause-here : goal.resume_ready-requires-clause-here
@@ -13,3 +14,6 @@ returns-clause-calm g c = λ p under calm. c.resume_ready.ensures.calm p (c.give
 
 pub returns-clause-given : goal.returns-clause-given
 returns-clause-given g c = λ lines has. c.resume_ready.ensures.given _ (c.give_line.ensures.given lines has)
+
+pub returns-clause-ends : goal.returns-clause-ends
+returns-clause-ends g c = λ ends. stopped_then c.give_line.new.self c.resume_ready.new.self c.resume_ready.ensures.gone_on (c.give_line.ensures.ends ends)

@@ -1,7 +1,9 @@
-use Rattle.std.proofs.Common.{◌∙◌, ◌<◌, arith, ap, inl, sym, subst}
+use Rattle.std.proofs.Common.{◌∙◌, ◌<◌, arith, ap, inl, refl, sym, subst}
 use Rattle.script_run.specs.declared.recorded.Recorded.{Recorded}
+use Rattle.script_run.specs.declared.running.Running.{Running}
 use Rattle.script_run.specs.Events.Awaited.{Nothing}
 use Rattle.script_run.specs.UnderWay.{IsUnderWay}
+use Rattle.script_run.proofs.Ending.{ended_gone_on, ended_stopped, gone_on_from, gone_on_then, stopped_then}
 use Rattle.script_run.proofs.GivenLaws.{given_line, given_same, given_skipped}
 use Rattle.script_run.proofs.Resting.{not_halted}
 use Rattle.script_run.proofs.Standings.{calm_same}
@@ -55,4 +57,15 @@ returns-in-Err-clause-given g c = λ lines has.
     let new = c.end_session.new.self in
     let failed = given_same x.recorded.journal.items c.execute.new.self.journal.items x.memory_ended x.stopped lines (ap lines_of c.in-Err.ensures.err) has in
     given_skipped new.recorded.journal.items new.memory_ended new.stopped lines c.args.session c.args.line c.args.call
-    (c.end_session.ensures.given lines (c.stop.ensures.given lines failed)) (c.end_session.ensures.stopped c.stop.ensures.stopped)
+    (c.end_session.ensures.given lines (c.stop.ensures.given lines failed)) (ended_stopped c.args.session c.stop.new.self new c.stop.ensures.stopped c.end_session.ensures.ended)
+
+pub returns-in-Ok-clause-ends : goal.returns-in-Ok-clause-ends
+returns-in-Ok-clause-ends g c = λ ends. c.execute.ensures.ends c.args.self.now.stopped c.if-self-session.false ends
+
+pub returns-in-Err-clause-ends : goal.returns-in-Err-clause-ends
+returns-in-Err-clause-ends g c = λ ends.
+    let x = c.args.self.now in
+    let s = c.stop.new.self in
+    let y = c.end_session.new.self in
+    let e : Running g.row.D.Denot = record { recorded = c.execute.new.self; memory_ended = x.memory_ended; stopped = x.stopped; halted = x.halted } in
+    stopped_then x y (gone_on_from x e y c.in-Err.ensures.err refl refl (gone_on_then e s y c.stop.ensures.gone_on (ended_gone_on c.args.session s y c.stop.ensures.stopped c.end_session.ensures.ended))) ends

@@ -1,8 +1,8 @@
 use Rattle.std.proofs.Common.{◌*◌, ◌+◌, ◌^◌, List}
 use Rattle.store_model.specs.declared.plan.ScriptLine.{ScriptLine}
 use Rattle.script_run.specs.Events.Awaited.{Nothing}
-use Rattle.script_run.specs.UnderWay.{Beginning, IsUnderWay}
-use Rattle.script_run.specs.Running.{AreFlags, HasLines}
+use Rattle.script_run.specs.UnderWay.{Beginning, BeginsNone, IsUnderWay}
+use Rattle.script_run.specs.Running.{AreFlags, HasGoneOn, HasLines}
 use Rattle.script_run.proofs.Resting.{AreCounted}
 use Rattle.script_run.proofs.running.Running.resume_ready.Given as goal
 
@@ -13,6 +13,8 @@ invariant-loop-session g l =
       flags : AreFlags l.self;
       goes_on : (p : Beginning) → IsUnderWay g.D.Disk.observable g.D.Disk.history g.D.Disk.faults p Nothing l.initial.self.recorded → IsUnderWay g.D.Disk.observable g.D.Disk.history g.D.Disk.faults p Nothing l.self.recorded;
       counts : (p : Beginning) → IsUnderWay g.D.Disk.observable g.D.Disk.history g.D.Disk.faults p Nothing l.initial.self.recorded → AreCounted p l.self.recorded l.waiting l.left;
+      begins_none : (p : Beginning) → IsUnderWay g.D.Disk.observable g.D.Disk.history g.D.Disk.faults p Nothing l.initial.self.recorded → BeginsNone p l.initial.self.recorded l.self.recorded;
+      gone_on : HasGoneOn l.initial.self l.self;
       given : (lines : List ScriptLine) → HasLines l.initial.self lines → HasLines l.self lines;
     }
 

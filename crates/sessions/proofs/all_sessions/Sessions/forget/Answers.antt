@@ -13,6 +13,7 @@ returns-clause-stands c st w its ready at =
     record {
       actives = at.actives;
       own = at.own;
+      places = at.places;
       waiting = c.taken_out-wait.ensures.rest ∙ (ap (without_wait c.args.session) at.waiting ∙ ap (λ (n : ℕ). without_wait n st.waiting) (sym session));
       locks = forgot st.fault st c.taken_out-wait.result w c.args.self.now.locks.locks c.forget_for.new.locks found c.forget_for.ensures ready at.locks;
     }

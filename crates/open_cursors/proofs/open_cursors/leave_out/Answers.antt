@@ -1,0 +1,8 @@
+use Rattle.std.proofs.Common.{rules, not}
+use Rattle.std.proofs.lemmas.Fn.{filter_same}
+use Rattle.open_cursors.specs.declared.open_cursor.OpenCursor.{OpenCursor}
+use Rattle.open_cursors.specs.Places.{is_of}
+use Rattle.open_cursors.proofs.open_cursors.leave_out.Goals as goal
+
+pub returns : goal.returns
+returns c = filter_same _ (λ (o : OpenCursor). not (is_of c.args.session c.args.cursor o)) _ (λ x b f k. search rules) _ _ c.retain.ensures.filtered

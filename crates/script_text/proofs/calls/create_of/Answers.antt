@@ -1,5 +1,0 @@
-use Rattle.std.proofs.Common.{rules}
-use Rattle.script_text.proofs.calls.create_of.Goals as goal
-
-pub from_slice-requires : goal.from_slice-requires
-from_slice-requires c = search rules

@@ -1,0 +1,223 @@
+-- Each step of an event keeps what holds of the calls: a call on records.
+use Rattle.std.proofs.Common.{◌≡◌, inl, inr, ℕ, ◌==◌, Bool, true, false, List, [], ◌∷◌, ◌++◌, find, Option, None, Some, refl, ap, sym, ◌∙◌, subst, ⊎_elim, arith}
+use Rattle.std.specs.List.{AllByRecursion}
+use Rattle.std.specs.Option.{option_map}
+use Rattle.std.proofs.lemmas.Bool.{eqb-true, cases_Bool, cond-false}
+use Rattle.je_order.specs.Transactions.{is_same_txn}
+use Rattle.je_order.proofs.TxnIds.{same_itself}
+use Rattle.lock_table.specs.declared.record_id.RecordId.{RecordId}
+use Rattle.store_model.specs.declared.call.Call.{Call}
+use Rattle.store_model.specs.declared.call.Call.TheVariants.{Get, GetBoth, Put, Delete}
+use Rattle.store_model.specs.declared.store.Database.{Database}
+use Rattle.store_model.specs.declared.change.Change.{Change}
+use Rattle.store_model.specs.declared.record_change.RecordChange.{RecordChange}
+use Rattle.store_model.specs.declared.need.Need.{Need}
+use Rattle.store_model.specs.declared.victim.Victim.{Victim}
+use Rattle.store_model.specs.declared.answer.Answer.{Answer}
+use Rattle.je_order.specs.Order.{is_same_bytes}
+use Rattle.store_model.specs.Store.{database_of, change_in}
+use Rattle.store_model.specs.Records.{Evaluated}
+use Rattle.je_answers.specs.declared.active.Active.{Active}
+use Rattle.je_answers.specs.Standing.{active_of, Standing, database_at, with_at}
+use Rattle.je_answers.specs.Views.{Target, target, named_target, target_of, changes_at, changes_on, changes_in, changes_named, needs_in, outcome_of}
+use Rattle.je_answers.specs.Locking.{Queues, all_got, granted_part, first_blocked, given_back}
+use Rattle.je_answers.specs.Events.{locks_before}
+use Rattle.je_answers.specs.After.{faulted, ended, committed_if_any, moved, with_locks, answered, with_outcome, closed, marked_by, without_waits_of, with_waiting, txns_of, after_stop}
+use Rattle.standing_laws.specs.Right.{AreSound, MayWait, HoldsWrite, is_active}
+use Rattle.standing_laws.proofs.Among.{IsAmong, any_from, mapped_among, found_is}
+use Rattle.standing_laws.proofs.Steps.{state, sound_all_got, sound_back}
+use Rattle.standing_laws.proofs.Moves.{sound_own}
+use Rattle.standing_laws.proofs.Marks.{same_txn}
+use Rattle.standing_laws.proofs.Stays.{same_active}
+use Rattle.standing_laws.proofs.StandingsStay.{MayRun, there_is}
+use Rattle.serial_replay.specs.Replay.{AnsweredCall, database_of_call, is_evaluated, with_told}
+use Rattle.serial_replay.proofs.Holding.{all_got_keeps, wait_keeps}
+use Rattle.serial_replay.proofs.Stores.{by_number, bytes_exact}
+use Rattle.serial_replay.proofs.Keeping.{keeps, IsGround, IsKnown}
+use Rattle.serial_replay.proofs.Ending.{end_is, end_named, known_end}
+use Rattle.serial_replay.proofs.Calling.{comes_to, outcome_is, IsCallOf, own_its, writes_held}
+use Rattle.serial_replay.proofs.Told.{ground_call, others_call, known_call}
+use Rattle.serial_replay.proofs.Quiet.{IsQuiet, known_quiet, same_locks, locks_with}
+use Rattle.serial_replay.proofs.Victims.{victims_keep}
+use Rattle.serial_replay.proofs.Replies.{comes_evaluated}
+
+-- ---- nothing more is told
+
+pub as_told : (st new : Standing) (o : Option AnsweredCall) (told : List AnsweredCall) → o ≡ None → IsKnown new told → IsKnown new (with_told o told)
+as_told st new o told e known = subst (λ (x : Option AnsweredCall). IsKnown new (with_told x told)) (sym e) known
+
+-- nothing but the marks of syncs, checkpoints and faults changes
+pub same_known : (st new : Standing) (told : List AnsweredCall) → AreSound st → IsQuiet st new → ((r : RecordId) → new.locks.at r ≡ st.locks.at r) → new.actives ≡ st.actives → IsKnown st told → IsKnown new told
+same_known st new told sound quiet locks actives known = known_quiet st new told sound quiet known (λ b k keep. inl (b, subst (IsAmong b) actives k, refl, refl, same_locks b.txn st new locks))
+
+pub faulted_known : (st : Standing) (told : List AnsweredCall) → AreSound st → IsKnown st told → IsKnown (faulted st) told
+faulted_known st told sound known = same_known st (faulted st) told sound (record { store = refl; numbers = refl; last_db = refl; last_txn = (omega arith); own = λ t. refl }) (λ r. refl) refl known
+
+-- ---- the database that a call is on
+
+pub record IsTargetOf (st : Standing) (call : Call) (g : Target) : Type 0 where
+  pub nowhere : g.at ≡ None
+  pub here : database_at g.db st ≡ Some g.database
+  pub named : g.database.name ≡ database_of_call call
+
+named_facts : (st : Standing) (told : List AnsweredCall) (db : List ℕ) (g : Target) (call : Call) → IsGround st told → named_target st db ≡ Some g → db ≡ database_of_call call → IsTargetOf st call g
+named_facts st told db g call ground e same = by (database_of db st.store) refl e
+  where
+    some_is : (x y : Target) → Some x ≡ Some y → x ≡ y
+    some_is x y h = cc (h)
+
+    by : (o : Option Database) → database_of db st.store ≡ o → option_map (target (st.numbers db) None) o ≡ Some g → IsTargetOf st call g
+    by None f h = absurd (cc (h))
+    by (Some d) f h = subst (IsTargetOf st call) (some_is (target (st.numbers db) None d) g h) (record {
+      nowhere = refl;
+      here = by_number st.numbers st.last_db st.store db d ground.numbers f;
+      named = bytes_exact d.name db (found_is (λ (x : Database). is_same_bytes x.name db) st.store.databases d f).1 ∙ same;
+    })
+
+pub target_facts : (st : Standing) (told : List AnsweredCall) (session : ℕ) (call : Call) (g : Target) → MayWait call → IsGround st told → target_of st session call ≡ Some g → IsTargetOf st call g
+target_facts st told session (Get db key rmw) g may ground e = named_facts st told db g (Get db key rmw) ground e refl
+target_facts st told session (GetBoth db key value rmw) g may ground e = named_facts st told db g (GetBoth db key value rmw) ground e refl
+target_facts st told session (Put db key value mode) g may ground e = named_facts st told db g (Put db key value mode) ground e refl
+target_facts st told session (Delete db key) g may ground e = named_facts st told db g (Delete db key) ground e refl
+target_facts st told session call g may ground e = absurd may
+
+-- ---- a transaction ends without a commit
+
+no_own : (c : ℕ × RecordChange) (own : List (ℕ × RecordChange)) → IsAmong c [] → IsAmong c own
+no_own c own k = absurd k
+
+pub known_ended : (st : Standing) (a : Active) (told : List AnsweredCall) → AreSound st → IsAmong a st.actives → IsKnown st told → IsKnown (ended a st) told
+known_ended st a told sound there known = known_end st a [] (ended a st) told sound there known.ground (λ c k. no_own c (st.own a.txn.0) k) (end_is st a []) (λ b k apart. known.each b k)
+
+-- ---- a call on records, of a transaction that may run it
+
+module _ (st : Standing) (a : Active) (call : Call) (g : Target) (told : List AnsweredCall) (may : MayWait call) (m : MayRun st a) (known : IsKnown st told) (on : IsTargetOf st call g) where
+  active : is_active a.txn st.actives ≡ true
+  active = any_from (λ (b : Active). is_same_txn a.txn b.txn) st.actives a (there_is st a m) (same_itself a.txn)
+
+  sound : AreSound st
+  sound = m.right.sound
+
+  quiet_with : (at : Queues) → IsQuiet st (with_locks a at st)
+  quiet_with at = record { store = refl; numbers = refl; last_db = refl; last_txn = (omega arith); own = λ t. refl }
+
+  same_one : (b : Active) → IsAmong b st.actives → a.txn ≡ b.txn → a ≡ b
+  same_one b k e = same_active st.last_txn st.actives a b sound.numbers (there_is st a m) k e
+
+  -- locks that were got, and given back as the level says
+  pub known_locks : (ns : List Need) → IsKnown (with_locks a (all_got a.txn ns st.locks.at) st) told
+  known_locks ns =
+      let new : Standing = with_locks a (all_got a.txn ns st.locks.at) st in
+      known_quiet st new told sound (quiet_with (all_got a.txn ns st.locks.at)) known
+      (λ b k keep. inl (b, k, refl, refl, locks_with a.level a.txn b.txn ns st new (λ r. refl) (λ e. ap (λ (x : Active). keeps x.level) (same_one b k e) ∙ keep)))
+
+  -- ---- it is stopped
+
+  abbrev stopped_at : ℕ → Need → List Victim → Standing
+  stopped_at line n vs = without_waits_of vs (with_waiting st a line call g n vs)
+
+  same_level : (o : Option Victim) (b : Active) → (marked_by o b).level ≡ b.level
+  same_level None b = refl
+  same_level (Some v) b = refl
+
+  known_waiting : (line : ℕ) (n : Need) (vs : List Victim) → IsKnown (stopped_at line n vs) told
+  known_waiting line n vs =
+      known_quiet st (stopped_at line n vs) told sound (record { store = refl; numbers = refl; last_db = refl; last_txn = (omega arith); own = λ t. refl }) known
+      (λ b k keep. let c = mapped_among (λ (x : Active). marked_by (find (λ (v : Victim). v.session == x.session) vs) x) st.actives b k in
+      inl (
+        c.0,
+        c.1,
+        sym (same_txn (find (λ (v : Victim). v.session == c.0.session) vs) c.0) ∙ ap (λ (x : Active). x.txn) c.2,
+        sym (same_level (find (λ (v : Victim). v.session == c.0.session) vs) c.0) ∙ ap (λ (x : Active). x.level) c.2,
+        λ sort s r h. wait_keeps sort s a.txn b.txn n (txns_of vs st.actives) (locks_before st a call g) r (all_got_keeps sort s a.txn b.txn (granted_part a.txn (needs_in st a call g) st.locks.at) st.locks.at r h),
+      ))
+
+  pub known_stop : (b : Bool) (line : ℕ) (n : Need) (vs : List Victim) → first_blocked a.txn (needs_in st a call g) st.locks.at ≡ Some n → IsKnown (after_stop b st a line call g n vs) told
+  known_stop false line n vs stopped = known_locks (granted_part a.txn (needs_in st a call g) st.locks.at)
+  known_stop true line n vs stopped = victims_keep st a line call g n vs may m stopped (λ x. IsKnown x told) (λ x b r k h. known_ended x b told r.sound k h) (known_waiting line n vs)
+
+  -- ---- it gets its locks
+
+  module _ (free : first_blocked a.txn (needs_in st a call g) st.locks.at ≡ None) where
+    abbrev came : Evaluated
+    came = comes_to st a call g told may m.right.sound known.ground on.nowhere on.here on.named free
+
+    abbrev done : Standing
+    done = with_outcome a call g (outcome_of st a call g) (answered a call g st)
+
+    came_is : outcome_of st a call g ≡ came
+    came_is = outcome_is st a call g told may m.right.sound known.ground on.nowhere on.here on.named free
+
+    -- it is an answer of evaluation
+    pub came_evaluated : is_evaluated (outcome_of st a call g).answer ≡ true
+    came_evaluated = ap (λ (e : Evaluated). is_evaluated e.answer) came_is ∙ comes_evaluated g.database.kind call _ may
+
+    step : IsCallOf st a call g told may m.right.sound known.ground on.nowhere on.here on.named free done
+    step = record {
+      store = refl;
+      numbers = refl;
+      last_db = refl;
+      last_txn = refl;
+      own = λ t. ap (λ (e : Evaluated). with_at a.txn.0 (st.own a.txn.0 ++ changes_at g.db e.changes) st.own t) came_is;
+      locks = λ r. refl;
+    }
+
+    -- a transaction that goes on
+    pub known_done : (answer : Answer) → answer ≡ (outcome_of st a call g).answer → IsKnown done (told ++ record { txn = a.txn; call = call; answer = answer; own = changes_named st (st.own a.txn.0) } ∷ [])
+    known_done answer e =
+        subst (λ (x : Answer). IsKnown done (told ++ record { txn = a.txn; call = call; answer = x; own = changes_named st (st.own a.txn.0) } ∷ [])) (sym (e ∙ ap (λ (v : Evaluated). v.answer) came_is))
+        (known_call st a call g told may m.right.sound known.ground on.nowhere on.here on.named free done step (there_is st a m) refl known)
+
+    sound_answered : AreSound (answered a call g st)
+    sound_answered = sound_back st.last_txn st.actives st.own st.places st.waiting (state (all_got a.txn (needs_in st a call g) st.locks.at) st.locks.pending) a.level a.txn
+        (sound_all_got st.last_txn st.actives st.own st.places st.waiting st.locks a.txn (needs_in st a call g) sound active m.told free)
+
+    pub known_refused : IsKnown (closed a.is_auto a [] (answered a call g st)) told
+    known_refused = by a.is_auto
+      where
+        by : (b : Bool) → IsKnown (closed b a [] (answered a call g st)) told
+        by true = known_ended (answered a call g st) a told sound_answered (there_is st a m) (known_locks (needs_in st a call g))
+        by false = known_locks (needs_in st a call g)
+
+    -- a transaction of one call, which is committed and ends
+    held : AllByRecursion (λ c. HoldsWrite (given_back a.level a.txn (all_got a.txn (needs_in st a call g) st.locks.at)) a.txn (g.db, c)) (outcome_of st a call g).changes
+    held = subst (λ (e : Evaluated). AllByRecursion (λ c. HoldsWrite (given_back a.level a.txn (all_got a.txn (needs_in st a call g) st.locks.at)) a.txn (g.db, c)) e.changes) (sym came_is)
+        (writes_held st a call g told may m.right.sound known.ground on.nowhere on.here on.named free done step)
+
+    sound_done : AreSound done
+    sound_done =
+        let s = sound_own st.last_txn st.actives st.own st.places st.waiting (answered a call g st).locks a.txn g.db (outcome_of st a call g).changes sound_answered active held in
+        record {
+          numbers = s.numbers;
+          waits = s.waits;
+          tables = s.tables;
+          owners = s.owners;
+          own_active = s.own_active;
+          own_locked = s.own_locked;
+          places = λ session none. ⊎_elim
+              (λ e. let its = sym none ∙ (ap (λ (n : ℕ). active_of n st.actives) (eqb-true session a.session e) ∙ m.its) in absurd (cc (its)))
+              (λ e. cond-false (session == a.session) (moved call (outcome_of st a call g).place (st.places a.session)) (st.places session) e ∙ sound.places session none)
+              (cases_Bool (session == a.session));
+        }
+
+    -- its changes are named by the database that it is on
+    on_named : (cs : List RecordChange) → changes_on g cs ≡ changes_named done (changes_at g.db cs)
+    on_named [] = refl
+    on_named (c ∷ cs) =
+        ap (λ (l : List Change). change_in g.database.name c ∷ l) (on_named cs)
+        ∙ ap (λ (o : Option Database). changes_in o c ++ changes_named done (changes_at g.db cs)) (sym on.here)
+
+    among_behind : (xs ys : List (ℕ × RecordChange)) (c : ℕ × RecordChange) → IsAmong c ys → IsAmong c (xs ++ ys)
+    among_behind [] ys c k = k
+    among_behind (x ∷ xs) ys c k = inr (among_behind xs ys c k)
+
+    its : (c : ℕ × RecordChange) → IsAmong c (changes_at g.db (outcome_of st a call g).changes) → IsAmong c (done.own a.txn.0)
+    its c k = subst (IsAmong c) (sym (own_its st a call g told may m.right.sound known.ground on.nowhere on.here on.named free done step))
+        (among_behind (st.own a.txn.0) (changes_at g.db came.changes) c (subst (λ (e : Evaluated). IsAmong c (changes_at g.db e.changes)) came_is k))
+
+    pub known_committed : IsKnown (ended a (committed_if_any (changes_on g (outcome_of st a call g).changes) done)) told
+    known_committed =
+        known_end done a (changes_at g.db (outcome_of st a call g).changes) (ended a (committed_if_any (changes_on g (outcome_of st a call g).changes) done)) told sound_done (there_is st a m)
+        (ground_call st a call g told may m.right.sound known.ground on.nowhere on.here on.named free done step) its
+        (end_named done a (changes_at g.db (outcome_of st a call g).changes) (changes_on g (outcome_of st a call g).changes) (on_named (outcome_of st a call g).changes))
+        (others_call st a call g told may m.right.sound known.ground on.nowhere on.here on.named free done step (λ b k apart. known.each b k))

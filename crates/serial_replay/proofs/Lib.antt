@@ -1,0 +1,44 @@
+-- Lists that rise by name, and what is among their items.
+pub mod Rising
+-- A read depends on the names that it passes.
+pub mod Locality
+-- A change is of one name.
+pub mod Changing
+-- Locks of a sort, which a transaction holds until it ends, and whom they stop.
+pub mod Holding
+-- Occupied names: those that have a record, or that a transaction under way wrote.
+pub mod Occupied
+-- Edges and names.
+pub mod EdgeOrder
+-- Ranges that a transaction's locks shut.
+pub mod Shut
+-- Databases by name and by number, and how changes of records change a store.
+pub mod Stores
+-- What holds of each transaction's calls, and of the environment that they were answered in.
+pub mod Keeping
+-- The calls on records, one by one.
+pub mod Calls
+-- A transaction ends.
+pub mod Ending
+-- A call gets its locks and is evaluated.
+pub mod Calling
+-- A call that was evaluated is told.
+pub mod Told
+-- Steps that change locks alone.
+pub mod Quiet
+-- Changes of the catalog.
+pub mod CatalogSteps
+-- Which answers evaluation gives, and which it never gives.
+pub mod Replies
+-- A call that waits, and its victims that end.
+pub mod Victims
+-- Each step of an event keeps what holds of the calls.
+pub mod EventSteps
+-- Each event keeps what holds of the calls.
+pub mod EventsKeep
+-- What is owed at a commit, and journals.
+pub mod Replaying
+-- Who waits for whom after each step of the locks.
+pub mod WaitCycles
+-- No cycle stands after an event.
+pub mod CycleEvents

@@ -1,0 +1,159 @@
+-- What isolation promises of the transactions of a journal (Getting Started with Transaction Processing, "Isolation"): a serializable one comes to
+-- the same where all its calls are made again, one after another, right before its commit; at repeatable read each record that was read stands there.
+-- It is said of the journal, the stores and evaluation alone: neither locks nor the order of calls of different transactions come in.
+use Rattle.std.specs.Prelude.{◌≡◌, ◌&&◌, ◌++◌, ◌∷◌, [], ℕ, List, Option, None, Some, Bool, true, false, filter, map}
+use Rattle.std.specs.List.{flat_map, AllByRecursion}
+use Rattle.je_order.specs.declared.txn_id.TxnId.{TxnId}
+use Rattle.je_order.specs.Transactions.{is_same_txn}
+use Rattle.store_model.specs.declared.store.Store.{Store}
+use Rattle.store_model.specs.declared.store.Database.{Database}
+use Rattle.store_model.specs.declared.isolation.Isolation.{Isolation}
+use Rattle.store_model.specs.declared.isolation.Isolation.TheVariants.{RepeatableRead, Serializable}
+use Rattle.store_model.specs.declared.call.Call.{Call}
+use Rattle.store_model.specs.declared.call.Call.TheVariants.{Commit, Get, GetBoth, Put, Delete}
+use Rattle.store_model.specs.declared.change.Change.{Change}
+use Rattle.store_model.specs.declared.answer.Answer.{Answer}
+use Rattle.store_model.specs.declared.answer.Answer.TheVariants.{Done, Logged, Rec, Count, NotFound, KeyExist, KeyEmpty, NoDatabase}
+use Rattle.store_model.specs.declared.event.Event.{Event}
+use Rattle.store_model.specs.declared.event.Event.TheVariants.{Call as Called, Resume}
+use Rattle.store_model.specs.Store.{name_of, database_of, change_in, all_changed}
+use Rattle.store_model.specs.Reads.{at_name}
+use Rattle.store_model.specs.Records.{evaluation}
+use Rattle.store_model.specs.Evaluation.{Outcome, answers}
+use Rattle.je_answers.specs.declared.active.Active.{Active}
+use Rattle.je_answers.specs.declared.wait.Wait.{Wait}
+use Rattle.je_answers.specs.Standing.{Standing, active_of, wait_of}
+use Rattle.je_answers.specs.Views.{changes_named}
+use Rattle.je_answers.specs.Journal.{changes_by}
+use Rattle.je_answers.specs.After.{after_event}
+
+-- ---- what a journal says that a transaction was answered
+
+-- a call on records in a transaction, its answer, and the changes that the transaction had made before
+pub record AnsweredCall : Type 0 where
+  pub txn : TxnId
+  pub call : Call
+  pub answer : Answer
+  pub own : List Change
+
+-- the calls on records, and the database that each names
+abbrev pub is_on_records : Call → Bool
+is_on_records (Get db key rmw) = true
+is_on_records (GetBoth db key value rmw) = true
+is_on_records (Put db key value mode) = true
+is_on_records (Delete db key) = true
+is_on_records call = false
+
+abbrev pub database_of_call : Call → List ℕ
+database_of_call (Get db key rmw) = db
+database_of_call (GetBoth db key value rmw) = db
+database_of_call (Put db key value mode) = db
+database_of_call (Delete db key) = db
+database_of_call call = []
+
+-- the answers that evaluation gives; a refusal, a wait, a deadlock, a full log and a fault are others
+abbrev pub is_evaluated : Answer → Bool
+is_evaluated Done = true
+is_evaluated (Rec key value) = true
+is_evaluated (Count count) = true
+is_evaluated NotFound = true
+is_evaluated KeyExist = true
+is_evaluated KeyEmpty = true
+is_evaluated answer = false
+
+-- a call of a transaction that was evaluated; a transaction of one call ends with it, and is left out
+abbrev pub told_if : Bool → Active → Standing → Call → Answer → Option AnsweredCall
+told_if true a st call answer = Some (record { txn = a.txn; call = call; answer = answer; own = changes_named st (st.own a.txn.0) })
+told_if false a st call answer = None
+
+abbrev pub told_within : Bool → Active → Standing → Call → Answer → Option AnsweredCall
+told_within true a st call answer = None
+told_within false a st call answer = told_if (is_on_records call && is_evaluated answer) a st call answer
+
+abbrev pub told_of : Option Active → Standing → Call → Answer → Option AnsweredCall
+told_of None st call answer = None
+told_of (Some a) st call answer = told_within a.is_auto a st call answer
+
+abbrev pub told_resumed : Option Wait → Standing → ℕ → Answer → Option AnsweredCall
+told_resumed None st session answer = None
+told_resumed (Some w) st session answer = told_of (active_of session st.actives) st w.call answer
+
+-- what an event tells: a session's call, or one that waited and went on
+abbrev pub told_by : Standing → Event → Option AnsweredCall
+told_by st (Called session line call answer victims) = told_of (active_of session st.actives) st call answer
+told_by st (Resume session line answer victims) = told_resumed (wait_of session st.waiting) st session answer
+told_by st event = None
+
+abbrev pub with_told : Option AnsweredCall → List AnsweredCall → List AnsweredCall
+with_told None told = told
+with_told (Some c) told = told ++ c ∷ []
+
+-- the calls of one transaction, in order
+abbrev pub calls_of : TxnId → List AnsweredCall → List AnsweredCall
+calls_of t told = filter (λ c. is_same_txn t c.txn) told
+
+-- ---- calls made again
+
+-- what a call comes to on a store: evaluation in the database that it names
+abbrev pub comes_to : Option Database → Call → Outcome
+comes_to None call = answers NoDatabase
+comes_to (Some d) call =
+    let evaluated = evaluation d.kind call None d.pairs in
+    record { answer = evaluated.answer; changes = map (change_in d.name) evaluated.changes }
+
+abbrev pub on_store : Call → Store → Outcome
+on_store call store = comes_to (database_of (database_of_call call) store) call
+
+-- calls one after another, each on the store as those before it leave it
+abbrev pub replayed : List Call → Store → List Outcome
+replayed [] store = []
+replayed (call ∷ calls) store = let outcome = on_store call store in outcome ∷ replayed calls (all_changed outcome.changes store)
+
+-- ---- what is owed at a commit
+
+-- made again on this store, the calls give their answers, and their changes in order are those that are committed
+pub record GivesAgain (calls : List AnsweredCall) (store : Store) (committed : List Change) : Type 0 where
+  pub answers : map (λ o. o.answer) (replayed (map (λ c. c.call) calls) store) ≡ map (λ c. c.answer) calls
+  pub changes : flat_map (λ o. o.changes) (replayed (map (λ c. c.call) calls) store) ≡ committed
+
+-- a record that was answered is a record of its database
+abbrev pub IsRecordOf : Option Database → Answer → Type 0
+IsRecordOf None (Rec key value) = ⊥
+IsRecordOf (Some d) (Rec key value) = at_name d.kind (name_of d.kind (key, value)) d.pairs ≡ (key, value) ∷ []
+IsRecordOf d answer = Unit {0}
+
+-- on this store, with the changes that the transaction had made before the call
+abbrev pub StandsAgain : Store → AnsweredCall → Type 0
+StandsAgain store c = IsRecordOf (database_of (database_of_call c.call) (all_changed c.own store)) c.answer
+
+-- what a level owes at the commit of its transaction, which had these calls, on the store just before
+abbrev pub IsOwedTo : Isolation → List AnsweredCall → Store → List Change → Type 0
+IsOwedTo Serializable calls store committed = GivesAgain calls store committed
+IsOwedTo RepeatableRead calls store committed = AllByRecursion (StandsAgain store) calls
+IsOwedTo level calls store committed = Unit {0}
+
+-- the answers of a commit that came to pass
+abbrev pub is_committed : Answer → Bool
+is_committed Done = true
+is_committed (Logged commit) = true
+is_committed answer = false
+
+abbrev pub IsOwedBy : Bool → Option Active → Standing → List AnsweredCall → List Change → Type 0
+IsOwedBy true (Some a) st told committed = IsOwedTo a.level (calls_of a.txn told) st.store committed
+IsOwedBy is_done active st told committed = Unit {0}
+
+-- where an event is a commit, its transaction's level is kept; the changes are those that the journal says are committed by it
+abbrev pub IsOwedAt : Standing → List AnsweredCall → Event → Type 0
+IsOwedAt st told (Called session line Commit answer victims) =
+    IsOwedBy (is_committed answer) (active_of session st.actives) st told (changes_by st (Called session line Commit answer victims))
+IsOwedAt st told event = Unit {0}
+
+-- ---- a journal
+
+abbrev pub ReplaysFrom : Standing → List AnsweredCall → List Event → Type 0
+ReplaysFrom st told [] = Unit {0}
+ReplaysFrom st told (event ∷ events) = IsOwedAt st told event × ReplaysFrom (after_event st event) (with_told (told_by st event) told) events
+
+-- each committed transaction of a journal that goes on from a standing is as its level promises
+abbrev pub ReplaysSerially : Standing → List Event → Type 0
+ReplaysSerially st journal = ReplaysFrom st [] journal

@@ -1,0 +1,13 @@
+use Rattle.std.proofs.Common.{rules, ℕ, subst, sym, []}
+use Rattle.je_answers.specs.Standing.{with_at}
+use Rattle.open_cursors.specs.Places.{AreCursorsAt}
+use Rattle.sessions.proofs.ending.end_one.Goals as goal
+
+pub returns-clause-stands : goal.returns-clause-stands
+returns-clause-stands c = λ st a session txn at. record {
+  actives = search rules;
+  own = search rules;
+  places = subst (λ (n : ℕ). AreCursorsAt c.close_all.new.self (with_at n [] st.places)) (sym session) (c.close_all.ensures.closed st.places at.places);
+  waiting = at.waiting;
+  locks = search rules;
+}
