@@ -105,7 +105,7 @@ opening_numbers : (store : Store) (last_db : ℕ) (numbers : List ℕ → ℕ) �
 opening_numbers store last_db numbers k = record { none = k.none; allocated = k.allocated; apart = k.apart }
 
 module _ (observable : Bool) (files : Files) (opening : Store) (st : Standing) (limits : List (Option Answer)) (journal : List Event) (lines : List ScriptLine) (starts : StartsAt observable files opening st) (answers : AnswersAsModel st limits journal)
-      (scripted : list_all is_line lines ≡ true) (front : (session : ℕ) → AreFirstLines (of_session session (lines_of journal)) (of_session session lines)) where
+    (scripted : list_all is_line lines ≡ true) (front : (session : ℕ) → AreFirstLines (of_session session (lines_of journal)) (of_session session lines)) where
   model : AnswersAsModel (alone starts.alone_at) limits journal
   model = subst (λ (s : Standing). AnswersAsModel s limits journal) starts.st_is answers
 

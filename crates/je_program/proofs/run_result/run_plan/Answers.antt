@@ -62,7 +62,7 @@ returns-in-Ok-clause-run g c = λ is_opened.
     let under = ran.ensures.goes_on p starts in
     let valid : st.fault ≡ None = starts_valid observable (now old).reads opening st one.starts in
     let front : (session : ℕ) → AreFirstLines (of_session session (lines_of journal)) (of_session session c.args.plan.lines) = λ session.
-        subst (λ (l : List ScriptLine). AreFirstLines (of_session session (lines_of journal)) (of_session session l)) c.into_vec.ensures (ran.ensures.given.front session) in
+    subst (λ (l : List ScriptLine). AreFirstLines (of_session session (lines_of journal)) (of_session session l)) c.into_vec.ensures (ran.ensures.given.front session) in
     let synced = synced_all st journal (under.running.synced [] tt) in
     let safe : observable ≡ true → IsSafeProgram old new st journal cause = λ observed. record {
       start = p.start;
