@@ -9,7 +9,8 @@ acknowledged put.
 A round starts the program on a script of puts, stops it at a random moment, and kills it there (SIGKILL). The report is printed
 after the last call, so a killed run prints none. But a put's bytes are written only after the sync of the put before has
 ended, and that is when the put before is acknowledged. So the bytes that the process has written (wchar of /proc/PID/io, read
-while it is stopped) tell how many puts were acknowledged at least. Then the folder is opened, and the round's keys are read:
+while it is stopped) tell how many puts were acknowledged at least: as many as these bytes have commits, images of nodes that were
+split between them. Then the folder is opened, and the round's keys are read:
 the first of them must be there, at least as many as were acknowledged, each with its data, and no others; and the records of
 all rounds must be there. Every second round has small files, so that the log goes on in next files while it is killed.
 
@@ -27,12 +28,15 @@ import subprocess
 import sys
 import tempfile
 import time
+import zlib
 
 TOP = os.path.dirname(os.path.dirname(os.path.abspath(__file__)))
 PROGRAM = os.path.join(TOP, "crates", "jedb", "out", "jedb")
 
 HEADER = 26  # the bytes of a file's header
 PUT = 30 + 8 + 32 + 22  # those of a put's entry with 8 bytes of key and 32 of data, and of its commit
+HEAD = struct.Struct(">IBBII")  # of an entry: the checksum of what follows, the kind, flags, the entry before, and the body's size
+COMMIT = 5  # the kind of a commit
 PUTS = 20_000  # in the script of a round: more than a round comes to
 ROOM = 1 << 20  # the disk sets room aside behind the last file's entries up to a multiple of this
 SMALL_FILES = ("--file-max", "100000")
@@ -44,6 +48,17 @@ def key_of(round_, number):
 
 def data_of(key):
     return hashlib.sha256(key).digest()
+
+
+def entries_of(bytes_, at):
+    """The kinds and sizes of a file's entries from a place on, up to the first that is none."""
+    while at + HEAD.size <= len(bytes_):
+        sum_, kind, _, _, body = HEAD.unpack_from(bytes_, at)
+        size = HEAD.size + body
+        if at + size > len(bytes_) or zlib.adler32(bytes_[at + 4:at + size]) != sum_:
+            return
+        yield kind, size
+        at += size
 
 
 def wrong(text):
@@ -80,6 +95,28 @@ class Folder:
     def files(self):
         return sorted(it for it in os.listdir(self.home) if it.endswith(".jdb"))
 
+    def bytes_of(self, name):
+        with open(os.path.join(self.home, name), "rb") as file:
+            return file.read()
+
+    def end(self):
+        """Where the log ends: its last file, and the place behind the last entry there."""
+        name = self.files()[-1]
+        return name, sum(size for _, size in entries_of(self.bytes_of(name), 0))
+
+    def commits(self, start, written):
+        """How many commits the bytes have that were written from a place on."""
+        commits = 0
+        for name in self.files():
+            if name < start[0]:
+                continue
+            for kind, size in entries_of(self.bytes_of(name), start[1] if name == start[0] else 0):
+                written -= size
+                if written < 0:
+                    return commits
+                commits += kind == COMMIT
+        return commits
+
     def has_room(self):
         """Whether the last file has zeros behind its entries, as it was left by the kill."""
         path = os.path.join(self.home, self.files()[-1])
@@ -91,7 +128,7 @@ class Folder:
     def kill_in_puts(self, round_, wait, options):
         """Kills a run so many seconds after its first put was written: how many puts it had written."""
         puts = "".join(f"s1 put t {key.hex()} {data_of(key).hex()}\n" for key in (key_of(round_, it) for it in range(PUTS)))
-        files = len(self.files())
+        start = self.end()
         with open(self.path("puts", puts), encoding="ascii") as lines, open(os.path.join(self.work, "report"), "wb") as report:
             run = subprocess.Popen(self.args(options), stdin=lines, stdout=report)
             try:
@@ -106,7 +143,7 @@ class Folder:
             finally:
                 run.kill()
                 run.wait()
-        return (written - HEADER * (len(self.files()) - files)) // PUT
+        return self.commits(start, written)
 
     def check(self, round_, written):
         """Opens the folder, and reads the keys of a round around the place where it was killed."""
