@@ -23,6 +23,7 @@ use Rattle.record_map.specs.Cells.{value_at}
 use Rattle.record_map.specs.declared.write.Write.{Write}
 use Rattle.record_tree.specs.Occupied.{AllCells, write_in}
 use Rattle.sessions.specs.declared.all_sessions.Sessions.{Sessions}
+use Rattle.sessions.proofs.CursorStores.{under_none}
 use Rattle.sessions.specs.AtStanding.{AreLocksAt, AreSessionsAt, owing}
 use Rattle.standing_laws.specs.Right.{AreRight}
 use Rattle.standing_laws.proofs.AloneRight.{alone-is_right, no_transactions-is_alone}
@@ -71,7 +72,7 @@ locks_alone None (Some fault) v state none at = tt
 locks_alone (Some fault) g v state none at = absurd cc
 
 pub sessions_alone : (s : Sessions) (p q : Alone) → p.fault ≡ None → AreSessionsAt s (alone p) → AreSessionsAt s (alone q)
-sessions_alone s p q none at = record { actives = at.actives; own = at.own; places = at.places; waiting = at.waiting; locks = locks_alone p.fault q.fault s.locks.locks (alone p).locks none at.locks }
+sessions_alone s p q none at = record { actives = at.actives; own = at.own; places = record { at = at.places.at; under = under_none s.cursors q.store q.numbers at.places.at.each }; waiting = at.waiting; locks = locks_alone p.fault q.fault s.locks.locks (alone p).locks none at.locks }
 
 -- and sessions owe none
 none_owed : (s : Sessions) (p : Alone) → AreSessionsAt s (alone p) → owed_by s ≡ 0

@@ -45,6 +45,9 @@ use Rattle.standing_laws.specs.Right.{AreSound, HaveOwnWaits}
 use Rattle.standing_laws.proofs.Moves.{sound_begun}
 use Rattle.standing_laws.proofs.Stopped.{LeavesSame}
 use Rattle.standing_laws.proofs.Writers.{writers-are_free}
+use Rattle.standing_laws.proofs.NamedDatabases.{IsOfRecord}
+use Rattle.standing_laws.proofs.CursorDatabases.{all_on}
+use Rattle.sessions.proofs.CursorStores.{sessions_changed, under_changed}
 use Rattle.txn_core.specs.declared.planned_changes.PlannedChanges.{PlannedChanges}
 use Rattle.txn_core.specs.Known.{committed}
 use Rattle.txn_core.specs.Planning.{IsPlannedLog, gone_by, outcome_alone, outcome_on, row_by}
@@ -266,7 +269,7 @@ module _ {D : Type 0} (observable : Bool) (history : D → History) (sync_out re
         let own_is : after.own ≡ st.own = own_gone a_.txn.0 st.own none_own_yet in
         let leaves : LeavesSame drawn after = same_leaves drawn after refl refl refl refl refl refl own_is back_actives in
         let less : owing after ≤ owing drawn = leaves.owing in
-        let sessions : AreSessionsAt s after = sessions_closed observable history sync_out read_out read_of most e st session call g may s [] after closed refl refl own_is (λ n. refl) refl refl in
+        let sessions : AreSessionsAt s after = sessions_closed observable history sync_out read_out read_of most e st session call g may s [] after closed refl (λ u. u) refl own_is (λ n. refl) refl refl in
         comes_by n s answer drawn c cs is logs near stands
         (subst (LeavesSame drawn) (sym same) leaves)
         (subst (AreSessionsAt s) (sym same) sessions)
@@ -320,11 +323,13 @@ module _ {D : Type 0} (observable : Bool) (history : D → History) (sync_out re
             back_actives in
             let less : owing after ≤ owing Done_ = same.owing in
             comes_by n s (Logged commit) Done_ c cs is logs near
-            (stands_on observable history sync_out read_out read_of most e n st (committed_alone all_ (drawn_alone (alone_in st))) may.at may.at.sessions_at
+            (stands_on observable history sync_out read_out read_of most e n st (committed_alone all_ (drawn_alone (alone_in st))) may.at
+            (sessions_changed e.sessions all_ st.last_db st (subst (AllByRecursion IsOfRecord) is (all_on g (c ∷ cs))) may.at.sessions_at)
             (logged_at observable history sync_out read_out read_of most e.engine.trees.log n.trees.log (contents_of e.engine) (contents_of n) (alone_in st) session call planned (alone_at most observable history e st may.at) may.valid below log logs.2 logs.1
             logs.4 logs.5)
             (λ valid. valid_logged n logs.2 logs.1 leaves logs.4 logs.5))
-            same (sessions_closed observable history sync_out read_out read_of most e st session call g may s [] after closed refl refl own_is (gone_again a_.session (moved call (with_changes (c ∷ cs)).place (st.places a_.session)) st.places) refl refl) may.at.apart less
+            same (sessions_closed observable history sync_out read_out read_of most e st session call g may s [] after closed refl
+            (under_changed s.cursors (changes_on g (c ∷ cs)) st.store st.last_db st.numbers (all_on g (c ∷ cs))) refl own_is (gone_again a_.session (moved call (with_changes (c ∷ cs)).place (st.places a_.session)) st.places) refl refl) may.at.apart less
             (subst (λ (l : Option Answer). IsLogged (log_limit l) (Logged (st.commits + 1)) (Logged commit)) (sym logs.3) (inl (ap Logged number))) number may.valid
             (logged_step observable history sync_out read_out read_of most e st session call planned may.at may.valid log logs.2 n logs.4)
 

@@ -88,7 +88,7 @@ use Rattle.environment.specs.Steps.{ComesToAnswer, HasCome, IsLogStep, StandsAt,
 use Rattle.environment.specs.Valid.{IsValidWith, owed_by, fitting, Forest}
 use Rattle.environment.specs.Whole.{HasLimit, reach_of, CanGoOn}
 use Rattle.environment.proofs.BeginLaws.{next_is, with_begun}
-use Rattle.environment.proofs.CatalogEnds.{alone_at, auto_is, come_alone, gives_without, come, written_are, committed_are, drawn_here}
+use Rattle.environment.proofs.CatalogEnds.{alone_at, auto_is, come_alone, cursors_alone, gives_without, come, written_are, committed_are, drawn_here}
 use Rattle.environment.proofs.CatalogStanding.{alone_of, with_alone, in_use_answers, in_use_leaves, late_alike, outside}
 use Rattle.environment.proofs.CatalogValid.{logged_valid, none_of}
 use Rattle.environment.proofs.ListLaws.{valid_drawn}
@@ -417,11 +417,15 @@ module _ {D : Type 0} where
           let p : Alone = alone_of st in
           let after : Alone = committed_alone (log.change ∷ log.more) (drawn_alone p) in
           let number : commit ≡ p.commits + 1 = logs.0 ∙ ap (λ (x : ℕ). x + 1) at.commits in
-          comes_by n (Logged commit) after logs near
-          (subst (λ (x : ℕ). EndsAlone limit_of p session call (Logged x) after) (sym number)
+          let ends : EndsAlone limit_of p session call (Logged commit) after =
+          subst (λ (x : ℕ). EndsAlone limit_of p session call (Logged x) after) (sym number)
           (subst (λ (l : Option Answer). EndsAlone l p session call (Logged (p.commits + 1)) after) (sym logs.3)
-          (logged_ends (known (contents_of e.engine)) p session call planned none (auto_is call is) model_at log logs.2)))
-          (stands_on most e n st after at at.sessions_at
+          (logged_ends (known (contents_of e.engine)) p session call planned none (auto_is call is) model_at log logs.2)) in
+          let s = at.sessions_at in
+          let sessions : AreSessionsAt e.sessions (with_alone after st) =
+          record { actives = s.actives; own = s.own; places = cursors_alone limit_of after st session line call (Logged commit) is early none (λ late. free) ends e.sessions.cursors s.places; waiting = s.waiting; locks = s.locks } in
+          comes_by n (Logged commit) after logs near ends
+          (stands_on most e n st after at sessions
           (logged_at observable history sync_out read_out read_of most e.engine.trees.log n.trees.log (contents_of e.engine) (contents_of n) p session call planned (alone_at most observable history e st at) none below log logs.2 logs.1 logs.4 logs.5)
           (λ valid. valid_logged most e st session call planned at none log logs.2 n sound is free below logs.1 leaves logs.4 logs.5))
           number none (logged_step most e st session call planned at none log logs.2 n logs.4)

@@ -53,6 +53,8 @@ use Rattle.sessions.specs.declared.all_sessions.Sessions.{Sessions}
 use Rattle.sessions.specs.AtStanding.{AreSessionsAt, owing}
 use Rattle.standing_laws.specs.Right.{AreSound, txn_id}
 use Rattle.standing_laws.proofs.Among.{any_from, its_session}
+use Rattle.standing_laws.proofs.CursorDatabases.{all_named}
+use Rattle.sessions.proofs.CursorStores.{sessions_changed}
 use Rattle.txn_log.specs.Own.{tree_of}
 use Rattle.txn_log.specs.AtStanding.{IsLogAt}
 use Rattle.txn_log.specs.Buffers.{HasAdded, HasFailed, MayCommit}
@@ -366,7 +368,7 @@ module _ {D : Type 0} (observable : Bool) (history : D → History) (sync_out re
       last_db = ap (λ (k : Kept). k.last_db) h.committed.kept ∙ at.last_db ∙ sym last_same;
       commits = ap (λ (k : Kept). k.commits) h.committed.kept ∙ ap (λ (n : ℕ). n + 1) at.commits;
       totals = totals_then (at.valid none) h sum at.totals;
-      sessions_at = h.sessions (committed_to changes_it st) a refl refl at.sessions_at;
+      sessions_at = h.sessions (committed_to changes_it st) a refl refl (sessions_changed old.sessions changes_it st.last_db st (all_named st own_it) at.sessions_at);
       apart = at.apart;
       valid = λ calm_. valid_then (at.valid none) h is some;
     } where

@@ -50,12 +50,12 @@ number_is : (last : ℕ) (o : Option Active) (kept : ℕ) → kept ≡ last → 
 number_is last None kept same none over = ap (λ (b : Bool). cond b None (Some IdsEnded)) (let test : nat_lt last LAST_TXN ≡ false = grind (arith, nat_tests) in test)
 number_is last (Some a) kept same none over = absurd (true≢false none)
 
-number_is_none : (n : Option Answer) → is_some n ≡ false → n ≡ None
+pub number_is_none : (n : Option Answer) → is_some n ≡ false → n ≡ None
 number_is_none None is = refl
 number_is_none (Some x) is = absurd (true≢false is)
 
 -- where one is wanted and none is left
-number_ended : (last : ℕ) (o : Option Active) → is_some (number_refusal last o) ≡ true → number_refusal last o ≡ Some IdsEnded
+pub number_ended : (last : ℕ) (o : Option Active) → is_some (number_refusal last o) ≡ true → number_refusal last o ≡ Some IdsEnded
 number_ended last None is = by_test (nat_lt last LAST_TXN) is
   where
     by_test : (b : Bool) → is_some (cond b None (Some IdsEnded)) ≡ true → cond b None (Some IdsEnded) ≡ Some IdsEnded
@@ -122,6 +122,29 @@ found_number (Some r) f is = by_kind r.kind is
     by_kind (SliceIndex primary offset len) e = absurd cc
     by_kind (FieldIndex primary number separator) e = absurd cc
 
+module _ (rows : Rows) (st : Standing) (makes : MakesStore rows st.last_db st) (db : List ℕ) where
+  found_none : (o : Option Database) (found : Option FoundDb) → IsFoundAs o found → found ≡ None → o ≡ None
+  found_none None found as_ none = refl
+  found_none (Some d) found as_ none = absurd (let e = sym none ∙ as_.1 in cc)
+
+  pub absent_by : (found : Option FoundDb) → IsFoundAs (database_of db (store_of rows)) found → found ≡ None → database_of db st.store ≡ None
+  absent_by found as_ absent = ap (database_of db) (sym makes.store) ∙ found_none (database_of db (store_of rows)) found as_ absent
+
+  pub record IsThere (found : FoundDb) : Type 0 where
+    pub database : Database
+    pub is : database_of db st.store ≡ Some database
+    pub kind : database.kind ≡ found.kind
+
+  found_there : (o : Option Database) (found : Option FoundDb) (f : FoundDb) → database_of db st.store ≡ o → IsFoundAs o found → found ≡ Some f → IsThere f
+  found_there None found f is as_ there = absurd (let e = sym as_ ∙ there in cc)
+  found_there (Some d) found f is as_ there = record { database = d; is = is; kind = ap (λ (x : FoundDb). x.kind) (some_is _ f (sym as_.1 ∙ there)) }
+
+  pub there_by : (found : Option FoundDb) (f : FoundDb) → IsFoundAs (database_of db (store_of rows)) found → found ≡ Some f → IsThere f
+  there_by found f as_ there = found_there (database_of db (store_of rows)) found f (ap (database_of db) (sym makes.store)) as_ there
+
+  pub number_by : (found : Option FoundDb) (f : FoundDb) → found ≡ found_in (record_named rows db) → found ≡ Some f → st.numbers db ≡ f.number
+  number_by found f exact there = sym (makes.named db) ∙ found_number (record_named rows db) f (sym exact ∙ there)
+
 module _ (rows : Rows) (st : Standing) (makes : MakesStore rows st.last_db st) (session : ℕ) (call : Call) (db : List ℕ) (on : IsOnRecords db call) where
   abbrev pub number : Option Answer
   number = number_refusal st.last_txn (active_of session st.actives)
@@ -136,33 +159,17 @@ module _ (rows : Rows) (st : Standing) (makes : MakesStore rows st.last_db st) (
     refl,
   )
 
-  found_none : (o : Option Database) (found : Option FoundDb) → IsFoundAs o found → found ≡ None → o ≡ None
-  found_none None found as_ none = refl
-  found_none (Some d) found as_ none = absurd (let e = sym none ∙ as_.1 in cc)
-
   pub late_absent : is_some number ≡ false → (found : Option FoundDb) → IsFoundAs (database_of db (store_of rows)) found → found ≡ None → IsLate st session call db (Refused NoDatabase)
   late_absent none found as_ absent =
-      let gone : database_of db st.store ≡ None = ap (database_of db) (sym makes.store) ∙ found_none (database_of db (store_of rows)) found as_ absent in (
+      let gone = absent_by rows st makes db found as_ absent in (
         late_on None gone ∙ ap (λ (n : Option Answer). or_refusal n (Some NoDatabase)) (number_is_none number none),
         refl,
       )
 
-  record IsThere (found : FoundDb) : Type 0 where
-    database : Database
-    is : database_of db st.store ≡ Some database
-    kind : database.kind ≡ found.kind
-
-  found_there : (o : Option Database) (found : Option FoundDb) (f : FoundDb) → database_of db st.store ≡ o → IsFoundAs o found → found ≡ Some f → IsThere f
-  found_there None found f is as_ there = absurd (let e = sym as_ ∙ there in cc)
-  found_there (Some d) found f is as_ there = record { database = d; is = is; kind = ap (λ (x : FoundDb). x.kind) (some_is _ f (sym as_.1 ∙ there)) }
-
-  there_by : (found : Option FoundDb) (f : FoundDb) → IsFoundAs (database_of db (store_of rows)) found → found ≡ Some f → IsThere f
-  there_by found f as_ there = found_there (database_of db (store_of rows)) found f (ap (database_of db) (sym makes.store)) as_ there
-
   pub late_refuses : is_some number ≡ false → (found : Option FoundDb) (f : FoundDb) → IsFoundAs (database_of db (store_of rows)) found → found ≡ Some f → (answer : Answer) → database_refuses f.kind call ≡ Some answer → IsCalm answer →
       IsLate st session call db (Refused answer)
   late_refuses none found f as_ there answer refuses calm =
-      let d = there_by found f as_ there in (
+      let d = there_by rows st makes db found f as_ there in (
         late_on (Some d.database) d.is ∙ ap (λ (n : Option Answer). or_refusal n (database_refuses d.database.kind call)) (number_is_none number none) ∙ ap (λ (k : Kind). database_refuses k call) d.kind ∙ refuses,
         calm,
       )
@@ -184,8 +191,8 @@ module _ (rows : Rows) (st : Standing) (makes : MakesStore rows st.last_db st) (
       above = above;
     },
   ) where
-    d : IsThere f
-    d = there_by found f as_ there
+    d : IsThere rows st makes db f
+    d = there_by rows st makes db found f as_ there
 
     g : Target
     g = target (st.numbers db) None d.database
@@ -194,7 +201,7 @@ module _ (rows : Rows) (st : Standing) (makes : MakesStore rows st.last_db st) (
     name_is = same_is d.database.name db (passes (λ (x : Database). is_same_bytes x.name db) st.store.databases d.database d.is)
 
     named_number : st.numbers db ≡ f.number
-    named_number = sym (makes.named db) ∙ found_number (record_named rows db) f (sym exact ∙ there)
+    named_number = number_by rows st makes db found f exact there
 
     above : st.numbers db ≢ 0
     above zero_ =

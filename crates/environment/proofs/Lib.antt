@@ -84,3 +84,5 @@ pub mod AgainEnds
 pub mod PlacesLaws
 -- Whose the names are that a transaction wrote.
 pub mod OwnFree
+-- Calls that open and close cursors.
+pub mod CursorLaws

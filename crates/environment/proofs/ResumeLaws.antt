@@ -302,8 +302,8 @@ module _ {D : Type 0} where
           answered = said;
           here = record {
             at = subst (λ (x : Standing). StandsAt most observable history new x) (sym (after_is most st line m o g)) has.here;
-            right = λ after. standings_stay-right has.limit st (resumed_by session line o) g.none (here.right g.none) said tt;
-            bare = λ after. standings_stay-bare has.limit st (resumed_by session line o) g.none (here.right g.none) (here.bare g.none) said tt;
+            right = λ after. standings_stay-right has.limit st (resumed_by session line o) g.none (here.right g.none) said;
+            bare = λ after. standings_stay-bare has.limit st (resumed_by session line o) g.none (here.right g.none) (here.bare g.none) said;
           };
         }
 
@@ -315,8 +315,8 @@ module _ {D : Type 0} where
         IsAt most observable (now (history (disk_of new))) new (after_event st (End session))
     session_end most st here left none = record {
       at = left;
-      right = λ after. standings_stay-right None st (End session) none (here.right none) tt tt;
-      bare = λ after. standings_stay-bare None st (End session) none (here.right none) (here.bare none) tt tt;
+      right = λ after. standings_stay-right None st (End session) none (here.right none) tt;
+      bare = λ after. standings_stay-bare None st (End session) none (here.right none) (here.bare none) tt;
     }
 
     pub resumes_call : (result : Result Outcome AllocError) →

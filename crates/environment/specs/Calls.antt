@@ -4,7 +4,7 @@ use Rattle.std.specs.declared.alloc.AllocError.{AllocError}
 use Rattle.je_order.specs.Counts.{HasRisen}
 use Rattle.store_model.specs.declared.answer.Answer.TheVariants.{DiskFault}
 use Rattle.store_model.specs.declared.call.Call.{Call}
-use Rattle.store_model.specs.declared.call.Call.TheVariants.{Create, Remove, Rename, Truncate, Get, GetBoth, Put, Delete, Open, Close, Dup, Count, Cur, CPutCur, CDel, CPut}
+use Rattle.store_model.specs.declared.call.Call.TheVariants.{Create, Remove, Rename, Truncate, Get, GetBoth, Put, Delete, Count, Cur, CPutCur, CDel, CPut}
 use Rattle.store_model.specs.declared.event.Event.{Event}
 use Rattle.store_model.specs.declared.event.Event.TheVariants.{Call as Called, Resume}
 use Rattle.je_answers.specs.declared.wait.Wait.{Wait}
@@ -14,11 +14,8 @@ use Rattle.je_answers.specs.After.{after_event}
 use Rattle.je_answers.specs.Journal.{IsSettling}
 use Rattle.environment.specs.declared.outcome.Outcome.{Outcome}
 
--- a call on no cursor
+-- a call that is not on records at a cursor
 abbrev pub HasNoCursor : Call → Type 0
-HasNoCursor (Open cursor db) = ⊥
-HasNoCursor (Close cursor) = ⊥
-HasNoCursor (Dup cursor to) = ⊥
 HasNoCursor (Count cursor) = ⊥
 HasNoCursor (Cur cursor motion rmw) = ⊥
 HasNoCursor (CPutCur cursor value) = ⊥

@@ -49,7 +49,7 @@ impl<D: Disk> Environment<D> {
     }
 
     // Whether a session has no transaction, and no number is left for one.
-    fn lacks_number(&self, session: u8) -> bool
+    pub(crate) fn lacks_number(&self, session: u8) -> bool
         ensures { (most : ℕ) (st : Standing) → StandsAt most D.observable D.history self.now st → result ≡ is_some (number_refusal st.last_txn (active_of session st.actives)) }
     {
         if self.sessions.of_session(session).is_some() {
@@ -100,7 +100,7 @@ impl<D: Disk> Environment<D> {
     }
 
     // Allocates a number for a call outside a transaction, where one is left.
-    fn draw(&mut self, session: u8)
+    pub(crate) fn draw(&mut self, session: u8)
         requires bounds { CanGoOn self.old }
         ensures here { (most : ℕ) (st : Standing) → StandsAt most D.observable D.history self.old st → StandsAt most D.observable D.history self.new (drawn_by (active_of session st.actives) st) }
         ensures bounds { CanGoOn self.new }

@@ -80,6 +80,9 @@ impl<D: Disk> Environment<D> {
             Call::GetBoth { db, .. } => self.access(alloc, session, line, db, call, resumed),
             Call::Put { db, .. } => self.access(alloc, session, line, db, call, resumed),
             Call::Delete { db, .. } => self.access(alloc, session, line, db, call, resumed),
+            Call::Open { cursor, db } => only(alloc, self.open_cursor(alloc, session, *cursor, db)),
+            Call::Close { cursor } => only(alloc, Ok(self.close_cursor(session, *cursor))),
+            Call::Dup { cursor, to } => only(alloc, self.duplicate_cursor(session, *cursor, *to)),
             _ => unreachable!(),
         }
     }
