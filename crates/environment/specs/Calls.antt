@@ -41,6 +41,15 @@ IsOnRecords name (Put db key value mode) = db ≡ name
 IsOnRecords name (Delete db key) = db ≡ name
 IsOnRecords name call = ⊥
 
+-- one on records at a cursor
+abbrev pub IsAtCursor : ℕ → Call → Type 0
+IsAtCursor n (Count cursor) = cursor ≡ n
+IsAtCursor n (Cur cursor motion rmw) = cursor ≡ n
+IsAtCursor n (CPutCur cursor value) = cursor ≡ n
+IsAtCursor n (CDel cursor) = cursor ≡ n
+IsAtCursor n (CPut cursor key value mode) = cursor ≡ n
+IsAtCursor n call = ⊥
+
 -- a call with what it came to, and a waiting call that was given again
 abbrev pub called : ℕ → ℕ → Call → Outcome → Event
 called session line call o = Called session line call o.answer o.victims

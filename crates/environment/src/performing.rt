@@ -80,6 +80,21 @@ impl<D: Disk> Environment<D> {
             Call::GetBoth { db, .. } => self.access(alloc, session, line, db, call, resumed),
             Call::Put { db, .. } => self.access(alloc, session, line, db, call, resumed),
             Call::Delete { db, .. } => self.access(alloc, session, line, db, call, resumed),
+            Call::Count { cursor } => {
+                self.access_cursor(alloc, session, line, *cursor, call, resumed)
+            }
+            Call::Cur { cursor, .. } => {
+                self.access_cursor(alloc, session, line, *cursor, call, resumed)
+            }
+            Call::CPutCur { cursor, .. } => {
+                self.access_cursor(alloc, session, line, *cursor, call, resumed)
+            }
+            Call::CDel { cursor } => {
+                self.access_cursor(alloc, session, line, *cursor, call, resumed)
+            }
+            Call::CPut { cursor, .. } => {
+                self.access_cursor(alloc, session, line, *cursor, call, resumed)
+            }
             _ => unreachable!(),
         }
     }
