@@ -26,6 +26,8 @@ pub mod CommitRows
 pub mod CommitLaws
 -- What refuses a call on records late, and the database that it is on.
 pub mod LateLaws
+-- What refuses a call at a cursor late, and where its cursor stands.
+pub mod SpotLaws
 -- A call on records that is refused late, or goes on.
 pub mod AccessLaws
 -- A call on records that is refused late.
@@ -68,8 +70,12 @@ pub mod CatalogLogged
 pub mod AutoLogged
 -- A call on records in a transaction.
 pub mod OwnLaws
+-- The names of the records that a transaction sees.
+pub mod SeenNames
 -- The changes of a call that is not refused.
 pub mod LoggableLaws
+-- What a call on records answers.
+pub mod RecordAnswers
 -- A call of a transaction that changes nothing.
 pub mod FinishLaws
 -- Where an environment stands once a call that changes something has ended.
@@ -80,7 +86,7 @@ pub mod AgainLaws
 pub mod CommitAgain
 -- How it ends, by what became of its changes.
 pub mod AgainEnds
--- Where cursors stand behind calls that have none.
+-- Where cursors stand behind a call.
 pub mod PlacesLaws
 -- Whose the names are that a transaction wrote.
 pub mod OwnFree

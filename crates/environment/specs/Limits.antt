@@ -2,7 +2,7 @@
 use Rattle.std.specs.Prelude.{ℕ, ◌+◌, [], ◌∷◌, List, Option, None, Some, if◌then◌else◌}
 use Rattle.store_model.specs.declared.answer.Answer.{Answer}
 use Rattle.store_model.specs.declared.call.Call.{Call}
-use Rattle.store_model.specs.declared.call.Call.TheVariants.{Create, Remove, Rename, Truncate, Get, GetBoth, Put, Delete}
+use Rattle.store_model.specs.declared.call.Call.TheVariants.{Create, Remove, Rename, Truncate, Get, GetBoth, Put, Delete, Count, Cur, CPutCur, CDel, CPut}
 use Rattle.store_model.specs.declared.change.Change.{Change}
 use Rattle.store_model.specs.declared.event.Event.{Event}
 use Rattle.store_model.specs.declared.event.Event.TheVariants.{Call as Called, Resume}
@@ -45,6 +45,11 @@ written_performed (Get db key rmw) st session = written_run (active_of session s
 written_performed (GetBoth db key value rmw) st session = written_run (active_of session st.actives) st session (GetBoth db key value rmw)
 written_performed (Put db key value mode) st session = written_run (active_of session st.actives) st session (Put db key value mode)
 written_performed (Delete db key) st session = written_run (active_of session st.actives) st session (Delete db key)
+written_performed (Count cursor) st session = written_run (active_of session st.actives) st session (Count cursor)
+written_performed (Cur cursor motion rmw) st session = written_run (active_of session st.actives) st session (Cur cursor motion rmw)
+written_performed (CPutCur cursor value) st session = written_run (active_of session st.actives) st session (CPutCur cursor value)
+written_performed (CDel cursor) st session = written_run (active_of session st.actives) st session (CDel cursor)
+written_performed (CPut cursor key value mode) st session = written_run (active_of session st.actives) st session (CPut cursor key value mode)
 written_performed call st session = []
 
 abbrev pub written_evaluated : Option Answer → Standing → ℕ → Call → List Change
