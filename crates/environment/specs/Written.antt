@@ -19,15 +19,20 @@ names_at t entries = option_map_or (λ o. o.names.items) (at_txn t entries) []
 abbrev pub had_at : TxnId → List (TxnId × OwnNames) → ℕ
 had_at t entries = option_map_or (λ o. o.had) (at_txn t entries) 0
 
+-- the LSN that it logged no change before; 0 where it wrote none
+abbrev pub first_at : TxnId → List (TxnId × OwnNames) → ℕ
+first_at t entries = option_map_or (λ o. o.first) (at_txn t entries) 0
+
 -- the names of each transaction are those of its own changes, and so many of these were of a name that had a record
 pub record AreNamesOf (entries : List (TxnId × OwnNames)) (own : ℕ → List (ℕ × RecordChange)) (rows : Rows) : Type 0 where
   pub names : (t : ℕ) → names_at (txn_id t) entries ≡ own_names (own t)
   pub had : (t : ℕ) → had_at (txn_id t) entries ≡ records_had (own t) rows
 
--- no names, with room for so many
-pub record IsRoomFor (own : OwnNames) (count : ℕ) : Type 0 where
+-- no names, with room for so many, of a transaction that logs nothing before an LSN
+pub record IsRoomFor (own : OwnNames) (count first : ℕ) : Type 0 where
   pub none : own.names.items ≡ []
   pub had : own.had ≡ 0
+  pub first : own.first ≡ first
   pub room : length own.names.items + count ≤ vec_capacity own.names
 
 -- a transaction has room for so many names more, so many of which had a record
