@@ -1,5 +1,5 @@
 -- A valid environment beside the model: its log and its trees, and where the model stands.
-use Rattle.std.specs.Prelude.{ℕ, suc, ◌≡◌, ◌≤◌, Bool, is_some, true, false, List, [], None, filter, length}
+use Rattle.std.specs.Prelude.{ℕ, suc, ◌≡◌, Bool, is_some, true, false, List, [], None, filter, length}
 use Rattle.std.specs.List.{AllByRecursion}
 use Rattle.je_disk.specs.States.{State}
 use Rattle.je_order.specs.declared.txn_id.TxnId.{TxnId}
@@ -8,6 +8,7 @@ use Rattle.je_answers.specs.Standing.{Standing}
 use Rattle.log_file.specs.Log.{Log}
 use Rattle.log_buffer.specs.declared.buffer.LogBuffer.{LogBuffer}
 use Rattle.log_buffer.specs.Buffer.{end_of, file_max_of, has_failed}
+use Rattle.log_buffer.specs.Flip.{pos_lsn}
 use Rattle.log_buffer.specs.Log.{HasLog}
 use Rattle.log_replay.specs.Rows.{numbers_of}
 use Rattle.log_trees.specs.Placed.{Placed, placed}
@@ -28,7 +29,7 @@ use Rattle.txn_log.specs.Committing.{MakesStore, MayBeCommitted}
 use Rattle.txn_log.specs.Gives.{GivesRecordsWith}
 use Rattle.txn_views.specs.Seen.{HasWrites}
 use Rattle.engine.specs.Environment.{RecoversStore}
-use Rattle.environment.specs.Written.{AreNamesOf, first_at}
+use Rattle.environment.specs.Written.{AreFirstsOf, AreNamesOf}
 use Rattle.environment.specs.declared.written.OwnNames.{OwnNames}
 
 -- what holds of a log's entries and the LSN where this life of the environment began
@@ -69,7 +70,7 @@ module _ {D : Type 0} where
     pub names : AreNamesOf written st.own (committed cells)
     pub fits : forest (placed log) gives.base
     pub from : EndsFrom log gives.base since
-    pub firsts : (t : ℕ) → AllByRecursion (λ c. first_at (txn_id t) written ≤ c.written.at) (gives.logged t)
+    pub firsts : AreFirstsOf written gives.logged (pos_lsn (end_of buffer))
 
   -- an environment of these parts, whose files have at most so many bytes, is where the model stands
   pub record AreAt (most : ℕ) (observable : Bool) (state : State) (buffer : LogBuffer D) (cells : AllCells) (has_tree : ℕ → Bool) (forest : Forest) (kept : Kept) (sessions : Sessions) (written : List (TxnId × OwnNames))
