@@ -45,7 +45,7 @@ impl<D: Disk> Environment<D> {
         requires call { MayWait call.now }
         requires valid { self.old.engine.kept.fault ≡ None }
         ensures comes { (most : ℕ) (st : Standing) (g : Target) → StandsAt most D.observable D.history self.old st → AreSound st → early_refusal st session call.now ≡ None → MayCall st session true
-            → IsFoundFor st session call.now db.now found (option_copied at) g → (a : Transaction) → active_of session st.actives ≡ Some a → a.txn ≡ txn → a.level ≡ level → a.is_auto ≡ true → ComesTo D.observable D.history D.sync_out D.read_out D.read_of most self.old self.new st session line call.now result }
+            → IsFoundFor st session call.now db.now found (option_copied at.entry) g → (a : Transaction) → active_of session st.actives ≡ Some a → a.txn ≡ txn → a.level ≡ level → a.is_auto ≡ true → ComesTo D.observable D.history D.sync_out D.read_out D.read_of most self.old self.new st session line call.now result }
         ensures near { OnErr result (IsWithin (reach_of self.new) (reach_of self.old)) }
         ensures bounds { CanGoOn self.new }
         ensures cause { HasCause (D.faults (disk_of self.old)) (D.faults (disk_of self.new)) result }

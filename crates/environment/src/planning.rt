@@ -30,7 +30,7 @@ impl<D: Disk> Environment<D> {
         at: Option<&Name>,
     ) -> Result<CursorPlan, AllocError>
         requires here { (st : Standing) × (a : Transaction) × (g : Target) × IsValidAt D.observable D.history self.now st × AreSound st × IsOnDb st db.now found g × (g.at ≡ option_copied at) × (a.txn ≡ txn) × (a.level ≡ level) }
-        ensures { IfOk result (λ p. (st : Standing) (a : Transaction) (g : Target) → IsValidAt D.observable D.history self.now st → AreSound st → IsOnDb st db.now found g → g.at ≡ option_copied at → a.txn ≡ txn → a.level ≡ level
+        ensures { IfOk result (λ p. (st : Standing) (a : Transaction) (g : Target) → IsValidAt D.observable D.history self.now st → AreSound st → IsOnDb st db.now found g → g.at ≡ option_copied at.entry → a.txn ≡ txn → a.level ≡ level
             → IsPlannedFor st a call.now g p.plan.answer p.plan.changes p.plan.needs.items p.place) }
     {
         self.engine.trees.are_ordered();
