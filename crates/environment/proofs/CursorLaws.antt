@@ -1,7 +1,7 @@
 -- Calls that open and close cursors.
 use Rattle.std.proofs.Common.{◌≡◌, ◌∙◌, ℕ, ◌==◌, ◌+◌, ◌≤◌, Bool, true, false, true≢false, cond, not, filter, inl, List, [], ◌∷◌, ◌++◌, Option, None, Some, is_some, Result, Ok, Err, refl, ap, sym, subst, arith}
 use Rattle.std.proofs.Common.{Bor}
-use Rattle.std.specs.Option.{option_copied, option_map}
+use Rattle.std.specs.Option.{option_copied, option_map, IfSome}
 use Rattle.std.specs.declared.alloc.AllocError.{AllocError}
 use Rattle.std.proofs.lemmas.Option.{none-some}
 use Rattle.je_disk.specs.Moments.{History}
@@ -41,8 +41,8 @@ use Rattle.environment.specs.declared.to_open.ToOpen.{ToOpen}
 use Rattle.environment.specs.declared.to_open.ToOpen.TheVariants.{Refused, Opens}
 use Rattle.environment.specs.Cursors.{OpensOrCloses, IsOpening, IsToOpen}
 use Rattle.environment.specs.Limits.{owing_after, written_evaluated, written_performed}
-use Rattle.environment.specs.Steps.{ComesToAnswer, HasCome, HasNotCome, HasStepped, IsLogStep, StandsAt}
-use Rattle.environment.specs.Whole.{HasLimit, reach_of}
+use Rattle.environment.specs.Steps.{ComesToAnswer, HasCome, HasNotCome, HasStepped, IsLogStep, PerformsAnswer, StandsAt}
+use Rattle.environment.specs.Whole.{CanGoOn, HasLimit, disk_of, reach_of}
 use Rattle.environment.proofs.Answering.{owed_is, within_more}
 use Rattle.environment.proofs.BeginLaws.{sessions_same}
 use Rattle.environment.proofs.EarlyLaws.{not_early, same_buffer}
@@ -50,6 +50,10 @@ use Rattle.environment.proofs.EndingLaws.{near_owed}
 use Rattle.environment.proofs.FinishLaws.{elsewhere_at, in_sessions}
 use Rattle.environment.proofs.LateLaws.{IsThere, absent_by, number_by, number_ended, number_is_none, there_by}
 use Rattle.environment.proofs.RefusedLaws.{refused_late}
+
+-- what is told of what is there
+pub some_told : {X : Type 0} (P : X → Type 0) (o : Option X) (x : X) → o ≡ Some x → IfSome o P → P x
+some_told {X} P o x is told = subst (λ (y : Option X). IfSome y P) is told
 
 -- ---- what refuses a cursor on a database
 
@@ -264,3 +268,29 @@ calm_step before after answer calm same = record {
   never_falls = omega (arith, same);
   fault = λ fault. absurd (true≢false (ap is_disk_fault (sym fault) ∙ faultless answer calm));
 }
+
+module _ {D : Type 0} (observable : Bool) (history : D → History) (sync_out read_out : D → Option ℕ) (read_of faults : D → ℕ) where
+  -- a refusal, wherever the model stands
+  pub refusal_performs : (old new : Environment D) (session : ℕ) (call : Call) (answer : Answer) → IsCalm answer → ((most : ℕ) (st : Standing) → StandsAt most observable history old st → late_refusal st session call ≡ Some answer) →
+      old.engine.kept.fault ≡ None → ((most : ℕ) (st : Standing) → StandsAt most observable history old st → StandsAt most observable history new (drawn_by (active_of session st.actives) st)) →
+      IsUnchanged old.engine.trees.log new.engine.trees.log → IsWithin (reach_of new) (reach_of old) → CanGoOn new → faults (disk_of new) ≡ faults (disk_of old) →
+      PerformsAnswer observable history sync_out read_out read_of faults old new session call (Ok answer)
+  refusal_performs old new session call answer calm late valid here same near bounds disk = record {
+    comes = λ most st line at sound early.
+        refusal_comes observable history sync_out read_out read_of most old new st session line call answer (here most st at) (sym at.fault ∙ valid) same near (late most st at) calm;
+    near = tt;
+    bounds = bounds;
+    cause = calm_step (faults (disk_of old)) (faults (disk_of new)) answer calm disk;
+  }
+
+  -- a cursor that is closed
+  pub close_performs : (e : Environment D) (s : Sessions) (session cursor : ℕ) → ((most : ℕ) (st : Standing) → StandsAt most observable history e st → late_refusal st session (Close cursor) ≡ None) → e.engine.kept.fault ≡ None →
+      ((st : Standing) → AreSessionsAt e.sessions st → AreSessionsAt s (with_places session (filter (λ p. not (p.cursor == cursor)) (st.places session)) st)) → CanGoOn e →
+      PerformsAnswer observable history sync_out read_out read_of faults e (in_sessions s e) session (Close cursor) (Ok Done)
+  close_performs e s session cursor late valid stands bounds = record {
+    comes = λ most st line at sound early.
+        cursors_come observable history sync_out read_out read_of most e s st session line (Close cursor) (filter (λ p. not (p.cursor == cursor)) (st.places session)) tt (late most st at) refl (stands st at.sessions_at) (sym at.fault ∙ valid) at;
+    near = tt;
+    bounds = bounds;
+    cause = record { never_falls = omega arith; fault = λ done. absurd (never_done done) };
+  }

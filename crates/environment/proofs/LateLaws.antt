@@ -276,10 +276,10 @@ calm_refuses kind (Get name key rmw) is = calm_or (kind_refusal (Get name key rm
 calm_refuses kind (GetBoth name key value rmw) is = calm_or (kind_refusal (GetBoth name key value rmw) kind) _ tt (calm_pair kind key value)
 calm_refuses kind (Put name key value mode) is = calm_or (kind_refusal (Put name key value mode) kind) _ (calm_put kind mode name key value) (calm_pair kind key value)
 calm_refuses kind (Delete name key) is = calm_or (kind_refusal (Delete name key) kind) _ tt (calm_long KEY_LIMIT key)
-calm_refuses kind (Count cursor) is = calm_or (kind_refusal (Count cursor) kind) _ tt tt
+calm_refuses kind (Count cursor) is = tt
 calm_refuses kind (Cur cursor motion rmw) is = calm_or (kind_refusal (Cur cursor motion rmw) kind) _ tt (calm_motion motion kind)
 calm_refuses kind (CPutCur cursor value) is = calm_or (kind_refusal (CPutCur cursor value) kind) _ (calm_put_here kind cursor value) (calm_long (data_limit kind) value)
-calm_refuses kind (CDel cursor) is = calm_or (kind_refusal (CDel cursor) kind) _ tt tt
+calm_refuses kind (CDel cursor) is = tt
 calm_refuses kind (CPut cursor key value mode) is = calm_or (kind_refusal (CPut cursor key value mode) kind) _ (calm_cursor_put kind mode cursor key value) (calm_pair kind key value)
 calm_refuses kind call is = absurd is
 

@@ -17,4 +17,8 @@ returns-then-is_some g c = λ most st at early.
     (place_found c.cursor.result _ _ (c.cursor.ensures.place st at.sessions_at) c.is_some.ensures ∙ c.if-is_some.true)
 
 pub returns : goal.returns
-returns g c = ?
+returns g c = λ most st at early.
+    let v = at.valid (sym at.fault ∙ c.requires.valid) in
+    open_opens st c.args.session c.args.cursor c.args.db.now early (committed (cells_of c.args.self.now.engine.trees)) v.makes c.in_ok-found.field-0 c.in-Some.found c.in_ok-found.ensures.exact c.in_ok-found.ensures.seen c.in-Some.is
+    c.in_ok-name.name c.in_ok-name.ensures
+    (none_found _ (place_found c.cursor.result _ _ (c.cursor.ensures.place st at.sessions_at) c.is_some.ensures ∙ c.if-is_some.false))
