@@ -88,7 +88,7 @@ module _ (rows : Rows) (st : Standing) (makes : MakesStore rows st.last_db st) (
       where
         by : (o : Option Active) → active_of session st.actives ≡ o → IsSome o
         by None none = absurd (none-some opened.place (sym (open_ ∙ ap (place_at cursor) (sound.places session none))))
-        by (Some a) some = tt
+        by (Some a) some = refl
 
     pub spot_stands : is_some (number_of st session) ≡ false → AreSound st → database_refuses opened.kind call ≡ None → (spot : Spot) →
         spot ≡ record { name = opened.name; found = record { number = opened.place.db; kind = opened.kind }; at = opened.place.at } → IsLateAt st session call (Stands spot)

@@ -25,8 +25,8 @@ returns-in-Some-refusal g c = λ most st here sound.
     (c.in-Some.ensures.under st here.sessions_at) (sym (c.lacks_number.ensures most st here) ∙ c.if-lacks_number.false) c.in-Some-refusal.answer refuses
     (subst IsCalmRefusal refuses (calm_refuses c.in-Some.opened.now.kind c.args.call.now (may_wait_at c.args.call.now c.args.cursor c.requires.call)))
 
-pub returns-in-None-refusal : goal.returns-in-None-refusal
-returns-in-None-refusal g c = λ most st here sound.
+pub returns-in_ok-spot_of-in-None-refusal : goal.returns-in_ok-spot_of-in-None-refusal
+returns-in_ok-spot_of-in-None-refusal g c = λ most st here sound.
     let v = here.valid (sym here.fault ∙ c.requires.valid) in
     spot_stands (committed (cells_of c.args.self.now.engine.trees)) st v.makes c.args.session c.args.cursor c.args.call.now c.requires.call c.in-Some.opened.now (c.in-Some.ensures.place st here.sessions_at)
-    (c.in-Some.ensures.under st here.sessions_at) (sym (c.lacks_number.ensures most st here) ∙ c.if-lacks_number.false) sound (sym c.refusal.ensures ∙ c.in-None-refusal.is) c.in_ok-spot.field-0 c.in_ok-spot.ensures
+    (c.in-Some.ensures.under st here.sessions_at) (sym (c.lacks_number.ensures most st here) ∙ c.if-lacks_number.false) sound (sym c.refusal.ensures ∙ c.in-None-refusal.is) c.in_ok-spot_of.field-0 c.in_ok-spot_of.ensures
