@@ -17,3 +17,5 @@ pub mod Resuming
 pub mod OwnEnds
 -- A call that waited and changes something.
 pub mod Again
+-- Steps of maintenance.
+pub mod Turning

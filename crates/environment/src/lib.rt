@@ -27,6 +27,7 @@ mod performing;
 mod planning;
 mod resuming;
 mod tree_writing;
+mod turning;
 mod writing_out;
 mod written;
 mod wrote;
