@@ -1,5 +1,5 @@
 -- What a step of maintenance does to an environment.
-use Rattle.std.specs.Prelude.{ℕ, ◌≡◌, ◌≤◌, ◌++◌, ◌∷◌, [], List, Option, None, Some, is_some, Bool, true, false, Result, Ok, Err, OnOk}
+use Rattle.std.specs.Prelude.{ℕ, ◌≡◌, ◌≤◌, ◌++◌, ◌∷◌, [], List, Option, None, Some, is_some, Bool, true, false, Result, Ok, Err, OnOk, IfSome}
 use Rattle.std.specs.declared.alloc.AllocError.{AllocError}
 use Rattle.std.specs.List.{list_any}
 use Rattle.je_disk.specs.States.{State}
@@ -43,9 +43,10 @@ abbrev pub IsAtMost : Option ℕ → ℕ → Type 0
 IsAtMost None lsn = ⊥
 IsAtMost (Some first) lsn = first ≤ lsn
 
--- an LSN is not above that of any transaction that wrote something; there is none where none did
-abbrev pub IsFirstOf : List (TxnId × OwnNames) → Option ℕ → Type 0
-IsFirstOf entries first = (t : TxnId) (own : OwnNames) → at_txn t entries ≡ Some own → IsAtMost first own.first
+-- the least of the first LSNs of the transactions that wrote something; none where none did
+pub record IsFirstOf (entries : List (TxnId × OwnNames)) (first : Option ℕ) : Type 0 where
+  pub least : (t : TxnId) (own : OwnNames) → at_txn t entries ≡ Some own → IsAtMost first own.first
+  pub some : IfSome first (λ lsn. (t : TxnId) × (own : OwnNames) × (at_txn t entries ≡ Some own) × (own.first ≡ lsn))
 
 -- what a step comes to whose entry was not logged, and the fault that it leaves
 abbrev pub IsAnswerTo : TreeErr → Result Answer AllocError → Type 0
@@ -57,6 +58,20 @@ IsAnswerTo Memory result = OnOk result ⊥
 abbrev pub fault_by : TreeErr → Option Cause → Option Cause
 fault_by Fault fault = Some Disk
 fault_by error fault = fault
+
+-- what a flush comes to that logged a node, or found none that is left
+abbrev pub flushed_answer : Option ℕ → Answer
+flushed_answer (Some node) = Flushed node
+flushed_answer None = Nothing
+
+-- what an end comes to that was logged, or for which nodes are left; and the LSN from which on a redo may begin then
+abbrev pub ended_answer : Ended → Answer
+ended_answer (Logged redo) = Done
+ended_answer (Left count) = NodesLeft count
+
+abbrev pub ended_since : Ended → ℕ → ℕ
+ended_since (Logged redo) since = redo
+ended_since (Left count) since = since
 
 module _ {D : Type 0} where
   -- a step leaves the sessions, what they wrote, the records and the totals as they were, and no more nodes wait
@@ -87,6 +102,10 @@ module _ {D : Type 0} where
     pub fault : new.engine.kept.fault ≡ Some Disk
     pub under_way : is_some new.engine.kept.checkpoints.under_way ≡ is_some old.engine.kept.checkpoints.under_way
 
+  -- the entry of the next checkpoint's beginning
+  abbrev pub start_entry : Environment D → Entry
+  start_entry old = CkptStart (number_after old.engine.kept.checkpoints.last)
+
   -- where it is answered that no checkpoint is under way, or that one is, nothing changed
   abbrev pub IsIdle : Bool → Environment D → Environment D → Type 0
   IsIdle under_way old new = (is_some old.engine.kept.checkpoints.under_way ≡ under_way) × (new ≡ old)
@@ -108,10 +127,6 @@ module _ {D : Type 0} where
         (λ x owed. HasRoomFor x.log (commit_sizes owed)) (λ x entries owed. IsFullFor x.log entries owed)
 
     -- ---- a beginning
-
-    -- the entry of the next checkpoint's beginning
-    abbrev pub start_entry : Environment D → Entry
-    start_entry old = CkptStart (number_after old.engine.kept.checkpoints.last)
 
     -- the beginning was logged, and each dirty node is noted
     pub record HasBegun (owed : ℕ) (old new : Environment D) : Type 0 where

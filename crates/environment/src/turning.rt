@@ -1,5 +1,5 @@
 // Steps of maintenance.
-ghost use Rattle.std.specs.Prelude.{◌≡◌, ◌≤◌, ◌++◌, ◌∷◌, [], ℕ, List, Some, None, true, IfSome, IfOk, OnErr, Ok};
+ghost use Rattle.std.specs.Prelude.{◌≡◌, ◌≤◌, ◌⊎◌, ◌++◌, ◌∷◌, [], ℕ, List, Some, None, true, IfSome, IfOk, OnErr, Ok};
 ghost use Rattle.je_order.specs.Counts.{HasRisen};
 ghost use Rattle.je_disk.specs.Moments.{History, now};
 ghost use Rattle.store_model.specs.declared.event.Event.{Event};
@@ -9,7 +9,7 @@ ghost use Rattle.je_answers.specs.After.{after_events};
 ghost use Rattle.sessions.specs.AtStanding.{AreSessionsAt, owing};
 ghost use Rattle.engine.specs.Limits.{IsWithin};
 ghost use Rattle.environment.specs.Limits.{reach_behind};
-ghost use Rattle.environment.specs.Turning.{BeginsTo, FinishesTo, FlushesTo, HasStayed, IsAnswerTo, IsFirstOf, StepsTo, TurnsSafely, TurnsTo, fault_by};
+ghost use Rattle.environment.specs.Turning.{BeginsTo, FinishesTo, FlushesTo, HasStayed, IsAnswerTo, IsFirstOf, StepsTo, TurnsSafely, TurnsTo, ended_answer, ended_since, fault_by, flushed_answer};
 ghost use Rattle.environment.specs.Whole.{CanGoOn, IsAt, IsGuarded, disk_of, reach_of};
 
 use crate::environment::Environment;
@@ -28,6 +28,7 @@ use store_model::{Answer, Fault, Step};
 fn lesser(least: Option<u64>, number: u64) -> u64
     ensures one { result ≤ number }
     ensures other { IfSome least (λ l. result ≤ l) }
+    ensures which { (result ≡ number) ⊎ (least ≡ Some result) }
 {
     match least {
         Some(found) => { if found <= number { found } else { number } }
@@ -35,17 +36,61 @@ fn lesser(least: Option<u64>, number: u64) -> u64
     }
 }
 
-// An LSN that no transaction under way logged a change before; None where none wrote anything.
-fn least_first(written: &BTreeMap<TxnId, OwnNames>) -> Option<Lsn>
+// The number of the least LSN that a transaction under way logged no change before; None where none wrote anything.
+fn least_first(written: &BTreeMap<TxnId, OwnNames>) -> Option<u64>
     ensures { IsFirstOf written.now.entries result }
 {
     let mut least = None;
     for (_, own) in written.iter() {
         least = Some(lesser(least, own.first.as_u64()));
     }
-    match least {
+    least
+}
+
+// The LSN of a number.
+fn lsn_of(number: Option<u64>) -> Option<Lsn>
+    ensures { result ≡ number }
+{
+    match number {
         Some(number) => Some(Lsn::from_u64(number)),
         None => None,
+    }
+}
+
+// What the end of a checkpoint needs to know, where so many Commits are owed.
+fn finish_of(kept: &Kept, first: Option<u64>, owed: u32) -> Finish
+    ensures { result ≡ record { since = kept.now.since; first = first; last_txn = kept.now.last_txn; last_db = kept.now.last_db; owed = owed } }
+{
+    Finish {
+        since: kept.since,
+        first: lsn_of(first),
+        last_txn: kept.last_txn,
+        last_db: kept.last_db,
+        owed,
+    }
+}
+
+// The answer of a flush: the node that was logged, or that none is left.
+fn flushed_answer(node: Option<u64>) -> Answer
+    ensures { result ≡ flushed_answer node }
+{
+    match node {
+        Some(node) => Answer::Flushed { node },
+        None => Answer::Nothing,
+    }
+}
+
+// The answer of an end that was logged, from whose redo LSN on a redo may begin then, or for which nodes are left.
+fn note_end(kept: &mut Kept, ended: Ended) -> Answer
+    ensures answer { result ≡ ended_answer ended }
+    ensures kept { kept.new ≡ record kept.old { since = ended_since ended kept.old.since } }
+{
+    match ended {
+        Ended::Done(redo) => {
+            kept.since = redo;
+            Answer::Done
+        }
+        Ended::Left(count) => Answer::NodesLeft { count },
     }
 }
 
@@ -101,8 +146,7 @@ impl<D: Disk> Environment<D> {
             .checkpoints
             .flush(&mut self.engine.trees, alloc, since, owed);
         match flushed {
-            Ok(Some(node)) => Ok(Answer::Flushed { node }),
-            Ok(None) => Ok(Answer::Nothing),
+            Ok(node) => Ok(flushed_answer(node)),
             Err(error) => answer_to(&mut self.engine.kept, error),
         }
     }
@@ -116,24 +160,14 @@ impl<D: Disk> Environment<D> {
             return Ok(Answer::NoCheckpoint);
         }
         let owed = self.owed()?;
-        let finish = Finish {
-            since: self.engine.kept.since,
-            first: least_first(&self.written.by_txn),
-            last_txn: self.engine.kept.last_txn,
-            last_db: self.engine.kept.last_db,
-            owed,
-        };
+        let finish = finish_of(&self.engine.kept, least_first(&self.written.by_txn), owed);
         let ended = self
             .engine
             .kept
             .checkpoints
             .finish(&mut self.engine.trees, alloc, &finish);
         match ended {
-            Ok(Ended::Done(redo)) => {
-                self.engine.kept.since = redo;
-                Ok(Answer::Done)
-            }
-            Ok(Ended::Left(count)) => Ok(Answer::NodesLeft { count }),
+            Ok(ended) => Ok(note_end(&mut self.engine.kept, ended)),
             Err(error) => answer_to(&mut self.engine.kept, error),
         }
     }
