@@ -94,3 +94,13 @@ pub mod PlacesLaws
 pub mod OwnFree
 -- Calls that open and close cursors.
 pub mod CursorLaws
+-- A valid environment whose log got an entry of a checkpoint.
+pub mod TurnedLogs
+-- Where an environment stands behind a step of maintenance.
+pub mod TurningLaws
+-- What each step of maintenance comes to.
+pub mod TurningSteps
+-- What it comes to by what the checkpointer says.
+pub mod TurningAnswers
+-- The least first LSN of the transactions under way.
+pub mod LeastFirst

@@ -19,3 +19,5 @@ pub mod OwnEnds
 pub mod Again
 -- Calls that open and close cursors.
 pub mod Cursors
+-- Steps of maintenance.
+pub mod Turning

@@ -33,6 +33,7 @@ mod resuming;
 mod spot;
 mod to_open;
 mod tree_writing;
+mod turning;
 mod writing_out;
 mod written;
 mod wrote;

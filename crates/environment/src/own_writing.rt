@@ -158,7 +158,7 @@ pub(crate) fn answer_by(wrote: Wrote, answer: Answer) -> Answer
 
 impl<D: Disk> Environment<D> {
     // How many Commits are owed.
-    fn owed(&self) -> Result<u32, AllocError>
+    pub(crate) fn owed(&self) -> Result<u32, AllocError>
         ensures { IfOk result (λ owed. (st : Standing) → AreSessionsAt self.now.sessions st → owed ≡ owing st) }
     {
         let owing = self.sessions.owing();
