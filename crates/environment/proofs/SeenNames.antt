@@ -232,8 +232,8 @@ seen_named log end cells last_txn last_db is_active own g is writes bare db d nu
         by false gone = subst AreNames (sym (bare t gone)) tt
 
     each : (e : Name × Occupied) → value_at e.0 (cells d) ≡ Some e.1 → (v : List ℕ) → seen_value level txn e.1 ≡ Some v → IsName e.0
-    each e there v is =
+    each e there v seen =
         over_named level txn e.0 e.1.value e.1.write v
         (write_named d e.0 own e.1.write all_own (subst (IsWriteOf d e.0 own) (ap write_in there) (writes d e.0)))
         (λ u h. committed_named log end (committed cells) last_txn last_db is_active own g is db e.0 u (λ none. above (sym number ∙ none))
-        (subst (λ (n : ℕ). data_at e.0 (committed cells n) ≡ Some u) (sym number) (committed_at e.0 (cells d) rising ∙ ap value_in there ∙ h))) is
+        (subst (λ (n : ℕ). data_at e.0 (committed cells n) ≡ Some u) (sym number) (committed_at e.0 (cells d) rising ∙ ap value_in there ∙ h))) seen

@@ -56,10 +56,13 @@ pub(crate) fn move_by(sessions: &mut Sessions, moves: Option<Move>)
 {
     match moves {
         None => {}
-        Some(Move {
-            session,
-            cursor,
-            at,
-        }) => sessions.move_cursor(session, cursor, at),
+        Some(moved) => {
+            let Move {
+                session,
+                cursor,
+                at,
+            } = moved;
+            sessions.move_cursor(session, cursor, at);
+        }
     }
 }

@@ -9,5 +9,4 @@ returns-in-None c st a call place moves at = stands_unmoved c.args.sessions.now 
 
 pub returns-in-Some : goal.returns-in-Some
 returns-in-Some c st a call place moves at =
-    let m : Move = record { session = c.in-Some.session; cursor = c.in-Some.cursor; at = c.in-Some.at } in
-    stands_moved c.move_cursor.new.self st a call place m (subst (λ (o : Option Move). Moves a.session call place o) c.in-Some.is moves) (c.move_cursor.ensures.stands st at)
+    stands_moved c.move_cursor.new.self st a call place c.in-Some.moved (subst (λ (o : Option Move). Moves a.session call place o) c.in-Some.is moves) (c.move_cursor.ensures.stands st at)

@@ -10,5 +10,5 @@ returns-then-active-clause-comes g c = λ most st on here sound early may found.
 
 pub returns-clause-comes : goal.returns-clause-comes
 returns-clause-comes g c = λ most st on here sound early may found.
-    c.access_own.ensures.comes most st on here sound early may (subst (λ (o : Option Name). IsFoundFor st c.args.session c.args.call.now c.args.spot.name c.args.spot.found o on) (sym c.as_ref-2.ensures.value) found)
+    c.access_own.ensures.comes most st on here sound early may (subst (λ (o : Option Name). IsFoundFor st c.args.session c.args.call.now c.args.spot.name c.args.spot.found o on) (sym c.as_ref-in-Some.ensures.value) found)
     c.in-Some.active.now (sym (c.in-Some.ensures st here.sessions_at)) refl refl c.if-active.false

@@ -29,4 +29,4 @@ pub returns-in_ok-spot_of-in-None-refusal : goal.returns-in_ok-spot_of-in-None-r
 returns-in_ok-spot_of-in-None-refusal g c = λ most st here sound.
     let v = here.valid (sym here.fault ∙ c.requires.valid) in
     spot_stands (committed (cells_of c.args.self.now.engine.trees)) st v.makes c.args.session c.args.cursor c.args.call.now c.requires.call c.in-Some.opened.now (c.in-Some.ensures.place st here.sessions_at)
-    (c.in-Some.ensures.under st here.sessions_at) (sym (c.lacks_number.ensures most st here) ∙ c.if-lacks_number.false) sound (sym c.refusal.ensures ∙ c.in-None-refusal.is) c.in_ok-spot_of.field-0 c.in_ok-spot_of.ensures
+    (c.in-Some.ensures.under st here.sessions_at) (sym (c.lacks_number.ensures most st here) ∙ c.if-lacks_number.false) sound (sym c.refusal.ensures ∙ c.in-None-refusal.is) c.in_ok-spot_of-in-None-refusal.field-0 c.in_ok-spot_of-in-None-refusal.ensures
