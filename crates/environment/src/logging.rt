@@ -71,8 +71,7 @@ impl<D: Disk> Environment<D> {
         if are_new(changes.len(), had) {
             return Err(AllocError);
         }
-        let first = self.engine.trees.log.end();
-        make_room_at(&mut self.written.by_txn, alloc, txn, names.len(), had, first)?;
+        make_room_at(&mut self.written.by_txn, alloc, txn, names.len(), had)?;
         let wrote = write_changes(&mut self.engine.trees, alloc, txn, changes, owed)?;
         self.engine.trees.are_ordered();
         match wrote {

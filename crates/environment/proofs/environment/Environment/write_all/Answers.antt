@@ -28,8 +28,6 @@ returns-in-Done-clause-writes g c =
       kept = refl;
       names = names_through old.written.by_txn.entries c.make_room_at.new.written.entries c.append_at.new.written.entries c.args.txn c.args.names.items c.make_room_at.ensures.names c.append_at.ensures.names;
       had = had_through old.written.by_txn.entries c.make_room_at.new.written.entries c.append_at.new.written.entries c.args.txn c.count_had-had.result (count_by (has_record c.args.txn (cells_of old.engine.trees)) c.args.changes.now) c.count_had-had.ensures c.make_room_at.ensures.had c.append_at.ensures.had;
-      firsts = firsts_through old.written.by_txn.entries c.make_room_at.new.written.entries c.append_at.new.written.entries c.args.txn (pos_lsn (end_of old.engine.trees.log)) c.make_room_at.ensures.names c.make_room_at.ensures.firsts
-          (λ t. c.append_at.ensures.firsts t (pos_lsn (end_of old.engine.trees.log)) (room_of_room g c));
     }
 
 -- src/logging.rt:47:5
@@ -37,4 +35,4 @@ pub returns-in-Full-clause-writes : goal.returns-in-Full-clause-writes
 returns-in-Full-clause-writes g c =
     let old = c.args.self.now in
     let w = subst (λ (x : Wrote). WritesTrees g.D.Disk.observable g.D.Disk.history g.D.Disk.sync_out g.D.Disk.read_out g.D.Disk.read_of g.D.Disk.faults old.engine.trees c.write_changes.new.trees c.args.txn c.args.changes.now c.args.owed (Ok x)) c.in-Full.is c.in_ok-wrote.ensures.writes in
-    (record { trees = w.0; kept = refl; written = record { names = c.make_room_at.ensures.names; had = c.make_room_at.ensures.had; firsts = c.make_room_at.ensures.firsts } }, w.1)
+    (record { trees = w.0; kept = refl; written = record { names = c.make_room_at.ensures.names; had = c.make_room_at.ensures.had } }, w.1)
