@@ -112,6 +112,11 @@ returns-in-Ok-clause-front g c = λ opened session.
     subst (λ (j : List Event). AreFirstLines (of_session session (lines_of j)) (of_session session c.args.plan.lines)) (sym c.finish.ensures.journal)
     (subst (λ (l : List ScriptLine). AreFirstLines (of_session session (lines_of c.run-running.result.recorded.journal.items)) (of_session session l)) c.into_vec.ensures front)
 
+pub returns-in-Ok-clause-lines : goal.returns-in-Ok-clause-lines
+returns-in-Ok-clause-lines g c = λ opened other.
+    let f = c.finish in
+    ap lines_of f.ensures.journal ∙ c.run-running.ensures.given.all (memory_left c.run-running.result.memory_ended f.result.cause f.ensures.memory other) ∙ c.into_vec.ensures
+
 pub returns-in-Ok-clause-front_steps : goal.returns-in-Ok-clause-front_steps
 returns-in-Ok-clause-front_steps g c = λ opened.
     let front = c.run-running.ensures.given.front_steps in
