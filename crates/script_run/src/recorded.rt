@@ -11,15 +11,15 @@ ghost use Rattle.je_answers.specs.Journal.{lines_of};
 ghost use Rattle.script_run.specs.Ends.{AreEndsStopped, HasGained, IsStopped};
 ghost use Rattle.script_run.specs.Events.{awaited_of};
 ghost use Rattle.script_run.specs.Events.Awaited.{Nothing, Follow};
-ghost use Rattle.script_run.specs.UnderWay.{Beginning, BeginsNone, GoesOnWith, HasRoom, HasSettled, IsCalm, IsNext, IsUnderWay, MayEnd, Settles, StandsAlike};
+ghost use Rattle.script_run.specs.UnderWay.{Beginning, BeginsNone, GoesOnWith, HasRoom, HasSettled, HasSynced, IsCalm, IsNext, IsUnderWay, MayEnd, Settles, StandsAlike};
 
 use environment::{Environment, Outcome};
 use je_disk::{Disk, SyncJob};
 use std::alloc::{AllocError, Global};
 use store_model::{Answer, Call, Durability, Event};
 
-/// How many events the journal has room for before a call is given: the call with its sync, and the ends of
-/// all sessions.
+/// How many events the journal has room for before a line is given: its call or step with its sync, and the
+/// ends of all sessions.
 pub const ROOM: usize = 260;
 
 /// An open environment, and the journal of its events since then.
@@ -48,7 +48,7 @@ fn awaited(answer: &Answer, durability: Durability) -> Option<Durability>
 }
 
 // The journal gains an event, for which it has room.
-fn record(journal: &mut Vec<Event>, event: Event)
+pub(crate) fn record(journal: &mut Vec<Event>, event: Event)
     requires room { length journal.old.items < vec_capacity journal.old }
     ensures items { journal.new.items ≡ journal.old.items ++ event ∷ [] }
     ensures room { vec_capacity journal.old ≤ vec_capacity journal.new }
@@ -158,13 +158,15 @@ impl<D: Disk> Recorded<D> {
         record(&mut self.journal, Event::WriteOut { answer });
     }
 
-    // Syncs the log, which a commit waits for.
-    fn sync(&mut self)
+    // Syncs the log, which a commit waits for, or a step.
+    pub(crate) fn sync(&mut self)
         requires here { (p : Beginning) × IsUnderWay D.observable D.history D.faults p (Follow Sync) self.old }
         requires room { HasRoom 2 self.old }
         ensures goes_on { (p : Beginning) → IsUnderWay D.observable D.history D.faults p (Follow Sync) self.old → IsUnderWay D.observable D.history D.faults p Nothing self.new }
         ensures alike { (p : Beginning) → StandsAlike p self.old self.new }
+        ensures synced { (p : Beginning) → IsUnderWay D.observable D.history D.faults p (Follow Sync) self.old → HasSynced p self.old self.new }
         ensures gained { (stopped : List Bool) → HasGained stopped self.old.journal.items self.new.journal.items }
+        ensures room { HasRoom 3 self.old → HasRoom 1 self.new }
     {
         let Some(job) = self.environment.sync_begin() else {
             let answer = Answer::DiskFault;

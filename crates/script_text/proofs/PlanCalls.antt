@@ -1,9 +1,10 @@
--- A script's plan has only calls that the grammar has lines for.
-use Rattle.std.proofs.Common.{◌≡◌, ◌+◌, ◌&&◌, ℕ, List, [], ◌∷◌, ◌++◌, Bool, true, false, cond, not, nat_lt, Option, Some, None, Result, Ok, Err, option_to_list, refl, subst}
+-- A script's plan has only calls that the grammar has lines for, and steps with the numbers of lines.
+use Rattle.std.proofs.Common.{◌≡◌, ◌+◌, ◌&&◌, ◌==◌, ℕ, List, [], ◌∷◌, ◌++◌, Bool, true, false, cond, not, nat_lt, Option, Some, None, Result, Ok, Err, option_to_list, refl, subst, arith}
 use Rattle.std.specs.Prelude.{IfOk, codes, ◌||◌}
 use Rattle.std.specs.List.{list_all}
 use Rattle.std.specs.Str.{bytes_eq}
 use Rattle.std.proofs.lemmas.Bool.{and_parts, and_from}
+use Rattle.std.proofs.lemmas.Bool.Decides.{nat_tests}
 use Rattle.je_order.specs.Words.{is_word}
 use Rattle.store_model.specs.declared.isolation.Isolation.{Isolation}
 use Rattle.store_model.specs.declared.durability.Durability.{Durability}
@@ -13,12 +14,13 @@ use Rattle.store_model.specs.declared.call.Call.TheVariants.{Begin, Commit, Abor
 use Rattle.store_model.specs.declared.put_mode.PutMode.{PutMode}
 use Rattle.store_model.specs.declared.put_mode.PutMode.TheVariants.{Overwrite, NoOverwrite, NoDupData}
 use Rattle.store_model.specs.declared.plan.ScriptLine.{ScriptLine}
-use Rattle.store_model.specs.declared.plan.ScriptLine.TheVariants.{Session}
+use Rattle.store_model.specs.declared.plan.ScriptLine.TheVariants.{Session, Maintenance}
+use Rattle.store_model.specs.declared.step.Step.{Step}
 use Rattle.store_model.specs.declared.plan.RunPlan.{RunPlan}
 use Rattle.script_text.specs.declared.parsing.TheConstants.{MOST_LINES}
 use Rattle.script_text.specs.declared.parsing.ParseErr.{ParseErr}
 use Rattle.script_text.specs.Words.{words_of}
-use Rattle.script_text.specs.Grammar.{text_lines, session_of, bytes_of, level_of, durability_of, wait_of, begin_call, begin_of, commit_of, abort_of, list_of, kind_of, create_call, create_of, remove_of, rename_of, truncate_of, put_call, put_of, get_call, get_of, rmw_of, get_both_call, get_both_of, delete_call, delete_of, call_of, given_by, given_of, is_skipped, good_or_bad, line_gives, and_then, lines_give, as_plan, plan_of, Gives, has_line, is_line}
+use Rattle.script_text.specs.Grammar.{text_lines, session_of, bytes_of, level_of, durability_of, wait_of, begin_call, begin_of, commit_of, abort_of, list_of, kind_of, create_call, create_of, remove_of, rename_of, truncate_of, put_call, put_of, get_call, get_of, rmw_of, get_both_call, get_both_of, delete_call, delete_of, call_of, step_of, maintained_by, maintenance_of, given_by, session_line, given_of, is_skipped, good_or_bad, line_gives, and_then, lines_give, as_plan, plan_of, Gives, has_line, is_line}
 
 -- ---- calls
 
@@ -167,10 +169,36 @@ given_by_scripted line (Some session) (Some call) given h e =
 given_by_scripted line (Some session) None given h e = cc
 given_by_scripted line None call given h e = cc
 
-given_scripted : (line : ℕ) (words : List (List ℕ)) (given : ScriptLine) → given_of line words ≡ Some given → AreLines (given ∷ [])
-given_scripted line [] given e = cc
-given_scripted line (session ∷ []) given e = cc
-given_scripted line (session ∷ verb ∷ words) given e = given_by_scripted line (session_of session) (call_of verb words) given (λ c s. call_scripted verb words c s) e
+session_scripted : (line : ℕ) (session : List ℕ) (words : List (List ℕ)) (given : ScriptLine) → session_line line session words ≡ Some given → AreLines (given ∷ [])
+session_scripted line session [] given e = cc
+session_scripted line session (verb ∷ words) given e = given_by_scripted line (session_of session) (call_of verb words) given (λ c s. call_scripted verb words c s) e
+
+-- a line's number is not 0
+abbrev IsNumber : ℕ → Type 0
+IsNumber line = not (line == 0) ≡ true
+
+next_number : (line : ℕ) → IsNumber (line + 1)
+next_number line = grind (arith, nat_tests)
+
+maintained_scripted : (line : ℕ) (step : Option Step) (given : ScriptLine) → IsNumber line → maintained_by line step ≡ Some given → AreLines (given ∷ [])
+maintained_scripted line (Some step) given n e =
+    subst (λ (g : ScriptLine). AreLines (g ∷ [])) (some_is (Maintenance line step) given e) (and_from (not (line == 0)) true n refl)
+maintained_scripted line None given n e = cc
+
+maintenance_scripted : (line : ℕ) (words : List (List ℕ)) (given : ScriptLine) → IsNumber line → maintenance_of line words ≡ Some given → AreLines (given ∷ [])
+maintenance_scripted line [] given n e = cc
+maintenance_scripted line (step ∷ []) given n e = maintained_scripted line (step_of step) given n e
+maintenance_scripted line (step ∷ more ∷ words) given n e = cc
+
+one_of : (b : Bool) (first other : Option ScriptLine) (given : ScriptLine) → (first ≡ Some given → AreLines (given ∷ [])) → (other ≡ Some given → AreLines (given ∷ [])) → cond b first other ≡ Some given →
+    AreLines (given ∷ [])
+one_of true first other given h k e = h e
+one_of false first other given h k e = k e
+
+given_scripted : (line : ℕ) (words : List (List ℕ)) (given : ScriptLine) → IsNumber line → given_of line words ≡ Some given → AreLines (given ∷ [])
+given_scripted line [] given n e = cc
+given_scripted line (giver ∷ words) given n e =
+    one_of (bytes_eq giver (codes "m")) (maintenance_of line words) (session_line line giver words) given (λ s. maintenance_scripted line words given n s) (λ s. session_scripted line giver words given s) e
 
 ok_is : {A : Type 0} (x y : A) → (let r : Result A ℕ = Ok x in r) ≡ Ok y → x ≡ y
 ok_is x y e = cc
@@ -187,11 +215,11 @@ not_bad : (bad : Bool) (line : ℕ) (rest : Result (Option ScriptLine) ℕ) (giv
 not_bad true line rest given h e = cc
 not_bad false line rest given h e = h e
 
-line_scripted : (line : ℕ) (text : List ℕ) (given : Option ScriptLine) → line_gives line text ≡ Ok given → AreLines (option_to_list given)
-line_scripted line text given e =
+line_scripted : (line : ℕ) (text : List ℕ) (given : Option ScriptLine) → IsNumber line → line_gives line text ≡ Ok given → AreLines (option_to_list given)
+line_scripted line text given n e =
     not_bad (nat_lt MOST_LINES line || not (list_all (λ c. nat_lt c 128) text)) line (cond (is_skipped text) (Ok None) (good_or_bad line (given_of line (words_of text)))) given
     (λ s. skipped_or (is_skipped text) (good_or_bad line (given_of line (words_of text))) given
-    (λ t. good_scripted line (given_of line (words_of text)) given (λ g u. given_scripted line (words_of text) g u) t) s) e
+    (λ t. good_scripted line (given_of line (words_of text)) given (λ g u. given_scripted line (words_of text) g n u) t) s) e
 
 lines_append : (first second : List ScriptLine) → AreLines first → AreLines second → AreLines (first ++ second)
 lines_append [] second h k = k
@@ -206,10 +234,10 @@ then_scripted (Ok g) (Ok others) given h k e = subst AreLines (ok_is (option_to_
 then_scripted (Ok g) (Err line) given h k e = cc
 then_scripted (Err line) rest given h k e = cc
 
-lines_scripted : (line : ℕ) (texts : List (List ℕ)) (given : List ScriptLine) → lines_give line texts ≡ Ok given → AreLines given
-lines_scripted line [] given e = subst AreLines (ok_is [] given e) refl
-lines_scripted line (text ∷ texts) given e =
-    then_scripted (line_gives line text) (lines_give (line + 1) texts) given (λ g s. line_scripted line text g s) (λ others s. lines_scripted (line + 1) texts others s) e
+lines_scripted : (line : ℕ) (texts : List (List ℕ)) (given : List ScriptLine) → IsNumber line → lines_give line texts ≡ Ok given → AreLines given
+lines_scripted line [] given n e = subst AreLines (ok_is [] given e) refl
+lines_scripted line (text ∷ texts) given n e =
+    then_scripted (line_gives line text) (lines_give (line + 1) texts) given (λ g s. line_scripted line text g n s) (λ others s. lines_scripted (line + 1) texts others (next_number line) s) e
 
 -- ---- scripts
 
@@ -220,5 +248,5 @@ plan_scripted (Ok lines) plan h e =
 plan_scripted (Err line) plan h e = cc
 
 pub scripted_if : (input : List ℕ) (result : Result RunPlan ParseErr) → Gives result (plan_of input) → IfOk result (λ plan. list_all is_line plan.lines ≡ true)
-scripted_if input (Ok plan) says = plan_scripted (lines_give 1 (text_lines input)) plan (λ lines s. lines_scripted 1 (text_lines input) lines s) says
+scripted_if input (Ok plan) says = plan_scripted (lines_give 1 (text_lines input)) plan (λ lines s. lines_scripted 1 (text_lines input) lines refl s) says
 scripted_if input (Err e) says = tt

@@ -17,6 +17,8 @@ use Rattle.store_model.specs.declared.call.Call.{Call}
 use Rattle.store_model.specs.declared.call.Call.TheVariants.{Begin, Commit, Abort, List as Lists, Create, Remove, Rename, Truncate, Put, Get, GetBoth, Delete}
 use Rattle.store_model.specs.declared.plan.ScriptLine.{ScriptLine}
 use Rattle.store_model.specs.declared.plan.ScriptLine.TheVariants.{Session, Maintenance}
+use Rattle.store_model.specs.declared.step.Step.{Step}
+use Rattle.store_model.specs.declared.step.Step.TheVariants.{Begin as BeginStep, Flush, Finish, Sync as SyncStep}
 use Rattle.store_model.specs.declared.plan.RunPlan.{RunPlan}
 use Rattle.script_text.specs.Words.{words_of}
 use Rattle.script_text.specs.declared.parsing.TheConstants.{MOST_LINES}
@@ -193,21 +195,43 @@ call_of verb words =
     else if bytes_eq verb (codes "delete") then delete_of words
     else None
 
+-- `begin`, `flush`, `finish` and `sync` are steps of maintenance
+abbrev pub step_of : List ℕ → Option Step
+step_of word =
+    if bytes_eq word (codes "begin") then Some BeginStep
+    else if bytes_eq word (codes "flush") then Some Flush
+    else if bytes_eq word (codes "finish") then Some Finish
+    else if bytes_eq word (codes "sync") then Some SyncStep
+    else None
+
+-- a line with a step is `m`, and the step
+abbrev pub maintained_by : ℕ → Option Step → Option ScriptLine
+maintained_by line (Some step) = Some (Maintenance line step)
+maintained_by line None = None
+
+abbrev pub maintenance_of : ℕ → List (List ℕ) → Option ScriptLine
+maintenance_of line (step ∷ []) = maintained_by line (step_of step)
+maintenance_of line words = None
+
 -- a line with a call is a session, and the call's words
 abbrev pub given_by : ℕ → Option ℕ → Option Call → Option ScriptLine
 given_by line (Some session) (Some call) = Some (Session session line call)
 given_by line session call = None
 
+abbrev pub session_line : ℕ → List ℕ → List (List ℕ) → Option ScriptLine
+session_line line session (verb ∷ words) = given_by line (session_of session) (call_of verb words)
+session_line line session [] = None
+
 abbrev pub given_of : ℕ → List (List ℕ) → Option ScriptLine
-given_of line (session ∷ verb ∷ words) = given_by line (session_of session) (call_of verb words)
-given_of line words = None
+given_of line (giver ∷ words) = if bytes_eq giver (codes "m") then maintenance_of line words else session_line line giver words
+given_of line [] = None
 
 -- an empty line, and one that begins with `#`, gives nothing
 abbrev pub is_skipped : List ℕ → Bool
 is_skipped [] = true
 is_skipped (c ∷ text) = c == 35
 
--- what a line gives: nothing or a call; it is bad where it is none of these, has a byte outside ASCII, or is past the last line
+-- what a line gives: nothing, a call or a step; it is bad where it is none of these, has a byte outside ASCII, or is past the last line
 abbrev pub good_or_bad : ℕ → Option ScriptLine → Result (Option ScriptLine) ℕ
 good_or_bad line (Some given) = Ok (Some given)
 good_or_bad line None = Err line
@@ -234,9 +258,10 @@ has_line (GetBoth db key value rmw) = true
 has_line (Delete db key) = true
 has_line call = false
 
+-- whether it has a line of a script; these are numbered from 1
 abbrev pub is_line : ScriptLine → Bool
 is_line (Session session line call) = has_line call
-is_line (Maintenance line step) = false
+is_line (Maintenance line step) = not (line == 0)
 
 -- what a line gives and then what the lines behind it give; the first bad line counts
 abbrev pub before_others : Option ScriptLine → Result (List ScriptLine) ℕ → Result (List ScriptLine) ℕ

@@ -9,6 +9,8 @@ mod agreeing;
 #[cfg(test)]
 mod chain;
 #[cfg(test)]
+mod checkpoints;
+#[cfg(test)]
 mod crashes;
 #[cfg(test)]
 mod databases;
