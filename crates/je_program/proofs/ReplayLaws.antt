@@ -1,5 +1,5 @@
 -- The transactions of a run replay, and none of them wait in a cycle.
-use Rattle.std.proofs.Common.{◌≡◌, ℕ, Bool, List, Option, sym, ◌∙◌, subst}
+use Rattle.std.proofs.Common.{ℕ, Bool, List, Option, sym, ◌∙◌, subst}
 use Rattle.je_disk.specs.States.{Files}
 use Rattle.store_model.specs.declared.answer.Answer.{Answer}
 use Rattle.store_model.specs.declared.event.Event.{Event}
