@@ -127,6 +127,7 @@ fn finish<D: Disk>(running: Running<D>, opening: Opening) -> RunResult<D>
         recorded,
         memory_ended,
         stopped: _,
+        steps_stopped: _,
         halted: _,
     } = running;
     let Recorded {

@@ -84,14 +84,14 @@ fn script_with_checkpoints(alloc: Global) -> Result<String, AllocError> {
     Ok(script)
 }
 
-// Files of 4,096 bytes, five of them in the end.
+// Files of 4,096 bytes, four of them in the end.
 #[test]
 fn stops_in_checkpoints(rt: HostRuntime) -> Result<(), Fail> {
     let alloc = rt.alloc();
     let script = script_with_checkpoints(alloc)?;
     let mut prefixes = long_prefixes(alloc, 25)?;
     let files = stop_at_each_call(&rt, alloc, &RUN_SMALL, script.as_bytes(), &mut prefixes)?;
-    assert!(rt; files == Some(5));
+    assert!(rt; files == Some(4));
     Ok(())
 }
 

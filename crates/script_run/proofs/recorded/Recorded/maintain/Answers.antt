@@ -6,7 +6,15 @@ use Rattle.je_answers.specs.Journal.{lines_of}
 use Rattle.script_run.specs.Ends.{AreEndsStopped}
 use Rattle.script_run.proofs.EndLaws.{gained_lines, stopped_gained}
 use Rattle.script_run.proofs.Ending.{err_then, ok_then}
+use Rattle.script_run.proofs.Standings.{calm_same}
 use Rattle.script_run.proofs.recorded.Recorded.maintain.Goals as goal
+
+pub returns-clause-goes_on : goal.returns-clause-goes_on
+returns-clause-goes_on g c = λ p under calm.
+    let m = c.make_room.new.self in
+    let room = c.make_room.ensures.goes_on p under in
+    let calm_now = calm_same p c.args.self.now m c.make_room.ensures.items calm in
+    c.turn.ensures.goes_on p (c.sync_for.ensures.goes_on p room calm_now) (c.sync_for.ensures.may p room calm_now)
 
 pub returns-clause-line : goal.returns-clause-line
 returns-clause-line g c =
