@@ -13,6 +13,8 @@ mod checkpoints;
 #[cfg(test)]
 mod crashes;
 #[cfg(test)]
+mod cursors;
+#[cfg(test)]
 mod databases;
 #[cfg(test)]
 mod failing;
