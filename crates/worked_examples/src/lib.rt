@@ -25,6 +25,8 @@ mod fixture;
 #[cfg(test)]
 mod phantoms;
 #[cfg(test)]
+mod range_phantoms;
+#[cfg(test)]
 mod reports;
 #[cfg(test)]
 mod splitting;
