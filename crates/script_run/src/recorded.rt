@@ -1,7 +1,6 @@
 // An environment with the journal of its events. A call that is given up is let go by `drop`, which is one step
 // of a proof; the end of its scope would be one for each kind of call.
 ghost use Rattle.std.specs.Prelude.{◌≡◌, ◌≤◌, ◌<◌, ◌+◌, ◌++◌, ◌∷◌, [], ℕ, List, Bool, None, Some, true, false, length, slice_index_or, vec_capacity, OnOk, OnErr};
-ghost use Rattle.script_text.specs.Grammar.{has_line};
 ghost use Rattle.store_model.specs.declared.durability.Durability.{Durability as Asked};
 ghost use Rattle.store_model.specs.declared.durability.Durability.TheVariants.{Sync, WriteNoSync};
 ghost use Rattle.store_model.specs.declared.event.Event.TheVariants.{End};
@@ -68,7 +67,6 @@ impl<D: Disk> Recorded<D> {
     ) -> Result<Option<Durability>, AllocError>
         requires here { (p : Beginning) × IsUnderWay D.observable D.history D.faults p Nothing self.old }
         requires room { HasRoom 3 self.old }
-        requires has_line { has_line call ≡ true }
         ensures goes_on { (p : Beginning) → IsUnderWay D.observable D.history D.faults p Nothing self.old → IsCalm p self.old → GoesOnWith D.observable D.history D.faults p result self.new }
         ensures line { OnOk result (lines_of self.new.journal.items ≡ lines_of self.old.journal.items ++ Session session line call ∷ []) }
         ensures ends { (stopped : List Bool) → slice_index_or stopped session false ≡ false → AreEndsStopped stopped self.old.journal.items → AreEndsStopped stopped self.new.journal.items }
@@ -230,7 +228,6 @@ impl<D: Disk> Recorded<D> {
         call: Call,
     ) -> Result<(), AllocError>
         requires here { (p : Beginning) × IsUnderWay D.observable D.history D.faults p Nothing self.old × IsCalm p self.old }
-        requires has_line { has_line call ≡ true }
         ensures goes_on { (p : Beginning) → IsUnderWay D.observable D.history D.faults p Nothing self.old → IsCalm p self.old → IsUnderWay D.observable D.history D.faults p Nothing self.new }
         ensures line { OnOk result (lines_of self.new.journal.items ≡ lines_of self.old.journal.items ++ Session session line call ∷ []) }
         ensures ends { (stopped : List Bool) → slice_index_or stopped session false ≡ false → AreEndsStopped stopped self.old.journal.items → AreEndsStopped stopped self.new.journal.items }

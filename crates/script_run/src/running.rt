@@ -1,7 +1,7 @@
 // A run of a script's lines.
 ghost use Rattle.std.specs.Prelude.{◌≡◌, ◌≢◌, ◌≤◌, ◌<◌, ◌⊎◌, ◌+◌, ◌++◌, ◌∷◌, [], ℕ, List, length, true, false, slice_index_or, IfSome, IsNone};
 ghost use Rattle.std.specs.List.{list_all};
-ghost use Rattle.script_text.specs.Grammar.{has_line, is_line};
+ghost use Rattle.script_text.specs.Grammar.{is_line};
 ghost use Rattle.store_model.specs.declared.plan.ScriptLine.{ScriptLine as Line};
 ghost use Rattle.store_model.specs.declared.plan.ScriptLine.TheVariants.{Maintenance, Session};
 ghost use Rattle.script_run.specs.Ends.{AreEndsInPlace, IsStopped};
@@ -167,7 +167,6 @@ impl<D: Disk> Running<D> {
     fn give_line(&mut self, alloc: Global, session: u8, line: u32, call: Call)
         requires here { (p : Beginning) × IsUnderWay D.observable D.history D.faults p Nothing self.old.recorded × IsCalmOrHalted p self.old }
         requires flags { AreFlags self.old }
-        requires has_line { has_line call ≡ true }
         ensures flags { AreFlags self.new }
         ensures goes_on { (p : Beginning) → IsUnderWay D.observable D.history D.faults p Nothing self.old.recorded → IsCalmOrHalted p self.old → IsUnderWay D.observable D.history D.faults p Nothing self.new.recorded }
         ensures ends { EndsStopped self.old → EndsStopped self.new }
@@ -191,7 +190,6 @@ impl<D: Disk> Running<D> {
     fn execute_line(&mut self, alloc: Global, session: u8, line: u32, call: Call)
         requires here { (p : Beginning) × IsUnderWay D.observable D.history D.faults p Nothing self.old.recorded × IsCalmOrHalted p self.old }
         requires flags { AreFlags self.old }
-        requires has_line { has_line call ≡ true }
         ensures flags { AreFlags self.new }
         ensures goes_on { (p : Beginning) → IsUnderWay D.observable D.history D.faults p Nothing self.old.recorded → IsCalmOrHalted p self.old → IsUnderWay D.observable D.history D.faults p Nothing self.new.recorded }
         ensures calm { (p : Beginning) → IsUnderWay D.observable D.history D.faults p Nothing self.old.recorded → IsCalmOrHalted p self.old → IsCalmOrHalted p self.new }
