@@ -3,8 +3,6 @@
 //! answers. It stands on `environment`, `dir_disk` and `store_model`.
 #![tactic(auto)]
 
-ghost use Rattle.std.specs.Prelude.{IfOk};
-ghost use Rattle.environment.specs.Calls.{HasNoCursor};
 ghost use Rattle.embed_example.specs.Usable.{IsUsable};
 
 mod session;
@@ -28,9 +26,7 @@ fn octets(alloc: Global, text: &str) -> Result<Octets, AllocError> {
     Octets::from_slice(alloc, text.as_bytes())
 }
 
-fn put(alloc: Global, key: &str, value: &str) -> Result<Call, AllocError>
-    ensures { IfOk result (λ call. HasNoCursor call) }
-{
+fn put(alloc: Global, key: &str, value: &str) -> Result<Call, AllocError> {
     Ok(Call::Put {
         db: stock(alloc)?,
         key: octets(alloc, key)?,
@@ -39,9 +35,7 @@ fn put(alloc: Global, key: &str, value: &str) -> Result<Call, AllocError>
     })
 }
 
-fn get(alloc: Global, key: &str) -> Result<Call, AllocError>
-    ensures { IfOk result (λ call. HasNoCursor call) }
-{
+fn get(alloc: Global, key: &str) -> Result<Call, AllocError> {
     Ok(Call::Get {
         db: stock(alloc)?,
         key: octets(alloc, key)?,
@@ -50,9 +44,7 @@ fn get(alloc: Global, key: &str) -> Result<Call, AllocError>
 }
 
 // Begins a transaction that no other one disturbs, and whose commit is synced.
-fn begin() -> Call
-    ensures { HasNoCursor result }
-{
+fn begin() -> Call {
     Call::Begin {
         level: Isolation::Serializable,
         durability: Durability::Sync,
@@ -84,7 +76,6 @@ fn give<R: Runtime + AllocGlobal, D: Disk + Drop>(
     call: &Call,
 ) -> Result<(), Trouble>
     requires here { IsUsable D.observable D.history session.old.environment }
-    requires call { HasNoCursor call.now }
     ensures here { IsUsable D.observable D.history session.new.environment }
 {
     let answer = session.execute(call)?;

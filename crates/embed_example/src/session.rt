@@ -1,6 +1,5 @@
 // A session of an environment.
 ghost use Rattle.std.specs.Prelude.{IfOk};
-ghost use Rattle.environment.specs.Calls.{HasNoCursor};
 ghost use Rattle.embed_example.specs.Usable.{IsUsable};
 
 use environment::{Closed, Config, Environment, OpenErr, Opened, Outcome, Stopped};
@@ -37,7 +36,6 @@ impl<D: Disk + Drop> Session<D> {
     /// Answers a call. A commit that was logged is synced, and answered when it is durable.
     pub fn execute(&mut self, call: &Call) -> Result<Answer, AllocError>
         requires here { IsUsable D.observable D.history self.old.environment }
-        requires call { HasNoCursor call.now }
         ensures here { IsUsable D.observable D.history self.new.environment }
     {
         match self.answer(call)? {
@@ -49,7 +47,6 @@ impl<D: Disk + Drop> Session<D> {
     // Answers a call.
     fn answer(&mut self, call: &Call) -> Result<Answer, AllocError>
         requires here { IsUsable D.observable D.history self.old.environment }
-        requires call { HasNoCursor call.now }
         ensures here { IsUsable D.observable D.history self.new.environment }
     {
         let outcome = self.environment.step(self.alloc, 1, 0, call)?;

@@ -20,6 +20,8 @@ pub mod PlannedNumbers
 pub mod PlannedCalls
 -- What committed changes leave of the records in trees, as they were planned.
 pub mod CommittedRows
+-- The entries that calls log: none is the end of a checkpoint.
+pub mod CallEntries
 -- A log that is longer by a transaction.
 pub mod TransactionGrowth
 -- Where an environment stands after a step, beside the model.

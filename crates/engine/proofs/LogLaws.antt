@@ -32,7 +32,7 @@ use Rattle.txn_core.specs.Transactions.{HasCommitted, is_gone}
 use Rattle.engine.specs.declared.kept.Kept.{Kept}
 use Rattle.tree_images.specs.Forest.{ForestFits}
 use Rattle.in_tree.specs.Carrying.{Carries}
-use Rattle.engine.specs.Contents.{known, rows_after, IsSame, drawn_contents}
+use Rattle.engine.specs.Contents.{checkpoints_of, known, rows_after, IsSame, drawn_contents}
 use Rattle.engine.specs.Limits.{last_number, limit_by, numbers_for}
 use Rattle.engine.specs.Steps.{HasAppended, LogsChanges, refusal_by}
 use Rattle.engine.specs.Whole.{AreTrees, LeavesCells, LeavesTrees, contents, end_file, AreLeft}
@@ -204,6 +204,7 @@ module _ {D : Type 0} where
     last_node = ap (λ (k : Kept). k.last_node) is;
     commits = ap (λ (k : Kept). k.commits) is;
     fault = ap (λ (k : Kept). k.fault) is;
+    checkpoints = ap (λ (k : Kept). checkpoints_of k) is;
     fits = left.fits;
   }
 

@@ -1,6 +1,6 @@
 -- An environment that was opened: where the model starts, and a guarded run that begins.
 use Rattle.std.proofs.Common.{◌≡◌, ℕ, ◌+◌, ◌-◌, ◌<◌, ◌≤◌, ◌==◌, nat_lt, cond, Bool, true, false, List, [], ◌∷◌, Option, Some, None, IfSome, Result, Ok, Err, IfOk, IfErr, OnOk, is_err, length, refl, ap, sym, ◌∙◌, subst, arith}
-use Rattle.std.specs.Prelude.{◌||◌, ◌++◌}
+use Rattle.std.specs.Prelude.{◌||◌, ◌++◌, ◌/◌, ◌^◌, is_some}
 use Rattle.std.specs.List.{AllByRecursion, list_any}
 use Rattle.std.proofs.lemmas.Bool.{eqb-true}
 use Rattle.std.proofs.lemmas.Bool.Decides.{nat_tests}
@@ -12,13 +12,16 @@ use Rattle.je_order.proofs.Lists.{all_weaker}
 use Rattle.store_model.specs.declared.store.Store.{Store}
 use Rattle.store_model.specs.declared.totals.Totals.{Totals}
 use Rattle.je_answers.specs.Alone.{Alone, alone}
-use Rattle.log_file.specs.Log.{Log, entries_of, log_in}
+use Rattle.log_file.specs.Log.{IsLog, Log, entries_of, log_in}
 use Rattle.log_buffer.specs.declared.buffer.LogBuffer.{LogBuffer}
 use Rattle.log_buffer.specs.declared.log_pos.LogPos.{LogPos}
 use Rattle.log_buffer.specs.Buffer.{end_of, file_max_of, first_of, has_failed}
 use Rattle.log_buffer.specs.Crash.{Holds}
 use Rattle.log_buffer.specs.Flip.{pos_lsn}
-use Rattle.log_buffer.specs.Log.{HasLog}
+use Rattle.log_buffer.specs.Log.{EndsAt, HasLog}
+use Rattle.log_buffer.proofs.LogChanges.{AreBelow, below_last}
+use Rattle.checkpointer.specs.declared.under_way.UnderWay.{UnderWay}
+use Rattle.txn_log.specs.Checkpoints.{BeginsUpTo, EndsFrom}
 use Rattle.log_replay.proofs.FilesLaws.{entries_of-append}
 use Rattle.log_replay.proofs.ListLaws.{all_to_map}
 use Rattle.log_replay.specs.Logging.{number_named}
@@ -51,7 +54,7 @@ use Rattle.engine.specs.Contents.{Contents}
 use Rattle.engine.specs.Files.{end_file_in}
 use Rattle.engine.specs.Environment.{AreAlone, GivesRecords}
 use Rattle.engine.specs.Limits.{IsWithin, last_number, numbers_for, waiting_for}
-use Rattle.engine.specs.Opening.{AreNumbers, FitWhatWasRead, HasBegun, HasNoNumbers, StartsAt, WasRead, log_start_of, meaning_read, node_bound, reach_in}
+use Rattle.engine.specs.Opening.{AreNumbers, FitWhatWasRead, HasBegun, HasNoNumbers, StartsAt, WasRead, log_start_of, kept_at_start, meaning_read, node_bound, reach_in, since_at}
 use Rattle.engine.specs.Whole.{AreTrees, IsAt, IsOpened, IsOpenedAt, IsOpenedSafely, contents_of, reach_of}
 use Rattle.engine.proofs.TransactionGrowth.{gives_moved}
 use Rattle.engine.proofs.WholeLaws.{file_is}
@@ -234,6 +237,15 @@ fit_read r more observable reads w base below =
     let es = placed (log_in w.held) in
     again.fit base below (read_fits again.read es (last_checkpoint es) base again.formed again.roots below) more
 
+-- the first file's number is at most that of an LSN at the log's end or behind it
+begins_up_to : (log : Log) (end : LogPos) (last since : ℕ) → IsLog log → EndsAt log end.file end.offset last → pos_lsn end ≤ since → BeginsUpTo log (since / 2 ^ 32)
+begins_up_to log end last since is ends behind =
+    subst (λ (l : Log). BeginsUpTo l (since / 2 ^ 32)) (sym ends.log_is) (by_front ends.before (below_last ends.before (end.file, ends.entries) (subst IsLog ends.log_is is)))
+  where
+    by_front : (before : Log) → AreBelow end.file before → BeginsUpTo (before ++ (end.file, ends.entries) ∷ []) (since / 2 ^ 32)
+    by_front [] below = omega (arith, behind)
+    by_front (file ∷ before) below = let low = below.0 in omega (arith, behind, low)
+
 -- ---- the environment
 
 -- where an environment starts
@@ -300,6 +312,19 @@ module _ {D : Type 0} where
       (forest_same (placed (log_in w.held)) base (last_number_of r.trees) (trees_at r.trees.forest) (trees_of engine.trees) none_due is.begun.forest
       (is.bound_is.fits observable reads w base (subst (λ (es : List Placed). AllByRecursion (λ (p : ℕ × Entry). p.0 < base) es) (sym (placed_found w.held)) below))))
 
+  -- and a redo of it may begin from there on
+  opened_from : (most : ℕ) (observable : Bool) (reads : Files) (state : State) (r : Recovered Trees) (w : WasRead observable reads r) (bound : ℕ) (engine : Engine D) →
+      IsBeginning most observable reads state r w bound engine → EndsFrom (found_log 0 w.held) (pos_lsn (log_start_of r.tail) - 1) engine.kept.since
+  opened_from most observable reads state r w bound engine is =
+      let files = files_read observable reads r w in
+      let ends = found_ends w.held r.tail files in
+      let since : engine.kept.since ≡ since_at (log_start_of r.tail) r = ap (λ (k : Kept). k.since) is.begun.kept ∙ ap (λ (end : LogPos). since_at end r) is.ready.end in
+      subst (EndsFrom (found_log 0 w.held) (pos_lsn (log_start_of r.tail) - 1)) (sym since) (record {
+        life = omega arith;
+        redo = subst (λ (es : List Placed). (last_checkpoint es).redo ≤ since_at (log_start_of r.tail) r) (placed_found w.held) (let redo = w.is.fit.redo_is in omega (arith, redo));
+        file = begins_up_to (found_log 0 w.held) (log_start_of r.tail) ends.0 (since_at (log_start_of r.tail) r) (found_named w.held r.tail files).is_log ends.1 (omega arith);
+      })
+
   -- an environment that begins is where the model starts
   opened_alone : (most : ℕ) (observable : Bool) (reads : Files) (state : State) (r : Recovered Trees) (w : WasRead observable reads r) (bound : ℕ) (engine : Engine D) →
       IsBeginning most observable reads state r w bound engine →
@@ -315,6 +340,7 @@ module _ {D : Type 0} where
         last_db = ap (λ (k : Kept). k.last_db) is.begun.kept;
         commits = ap (λ (k : Kept). k.commits) is.begun.kept;
         totals = ap (λ (k : Kept). k.totals) is.begun.kept ∙ ap (λ d. make d r.records) w.is.databases_are ∙ ap (λ n. make (length r.opening.databases) n) w.is.records_are;
+        checkpoint = ap (λ (o : Option UnderWay). is_some o) is.begun.none_begun;
         numbers = λ none. refl;
         valid = λ none. record {
           log = found_log 0 w.held;
@@ -324,6 +350,7 @@ module _ {D : Type 0} where
           recovers = record { first = first_of_found 0 w.held; opening = r.opening; base = length (placed (found_log 0 w.held)); transactions = []; recovers = found.recovers; made = refl };
           made = opened_store most observable reads state r w bound engine is;
           fits = opened_fits most observable reads state r w bound engine is;
+          from = opened_from most observable reads state r w bound engine is;
         };
       }
 
@@ -411,12 +438,15 @@ module _ {D : Type 0} where
         guarded = (found_log 0 w.held, guarded_none (first_of_found 0 w.held) p (found_log 0 w.held) history engine.trees.log refl refl is.ready.has holds (opened_log true reads r w).recovers);
       }
 
+  kept_under : (r : Recovered Trees) (bound : ℕ) (buffer : LogBuffer D) (engine : Engine D) → HasBegun buffer r bound engine → engine.kept ≡ kept_at_start r bound (end_of engine.trees.log) engine.kept.checkpoints
+  kept_under r bound buffer engine begun = subst (λ (b : LogBuffer D). engine.kept ≡ kept_at_start r bound (end_of b) engine.kept.checkpoints) (sym begun.log_is) begun.kept
+
   -- what begins over a buffer that has the log
   begins : (most : ℕ) (observable : Bool) (reads : Files) (state : State) (r : Recovered Trees) (w : WasRead observable reads r) (bound : ℕ) (buffer : LogBuffer D) (engine : Engine D) →
       IsReady most observable reads state r w buffer → HasBegun buffer r bound engine → IsNodeBound r bound → IsBeginning most observable reads state r w bound engine
   begins most observable reads state r w bound buffer engine ready begun bound_is = record {
     ready = subst (λ (b : LogBuffer D). IsReady most observable reads state r w b) (sym begun.log_is) ready;
-    begun = record { log_is = refl; cells = begun.cells; trees = begun.trees; waits = begun.waits; kept = begun.kept; forest = begun.forest; last = begun.last };
+    begun = record { log_is = refl; cells = begun.cells; trees = begun.trees; waits = begun.waits; kept = kept_under r bound buffer engine begun; last_checkpoint = begun.last_checkpoint; none_begun = begun.none_begun; forest = begun.forest; last = begun.last };
     bound_is = bound_is;
   }
 

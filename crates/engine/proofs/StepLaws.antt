@@ -18,7 +18,7 @@ use Rattle.log_buffer.specs.declared.buffer.LogBuffer.{LogBuffer}
 use Rattle.log_buffer.specs.Buffer.{IsUnchanged, disk_of, end_of}
 use Rattle.txn_core.specs.declared.planned_changes.PlannedChanges.{PlannedChanges}
 use Rattle.txn_core.specs.Planning.{IsPlannedLog}
-use Rattle.engine.specs.Contents.{Contents, HasLogged, IsSame, drawn_contents, known}
+use Rattle.engine.specs.Contents.{Checkpoints, Contents, HasLogged, IsSame, drawn_contents, known}
 use Rattle.engine.specs.Environment.{AreAlone}
 use Rattle.engine.specs.Steps.{CarriesTrees, HasAppended, txn_of}
 use Rattle.engine.proofs.PlannedCalls.{are_planned}
@@ -53,6 +53,7 @@ module _ {D : Type 0} where
       last_db = at.last_db;
       commits = at.commits;
       totals = at.totals;
+      checkpoint = at.checkpoint;
       numbers = at.numbers;
       valid = λ none. valid_drawn observable history sync_out read_out read_of state buffer c p.store (at.valid none);
     }
@@ -67,6 +68,7 @@ module _ {D : Type 0} where
       last_db = same.last_db ∙ at.last_db;
       commits = same.commits ∙ at.commits;
       totals = same.totals ∙ at.totals;
+      checkpoint = ap (λ (k : Checkpoints). k.under_way) same.checkpoints ∙ at.checkpoint;
       numbers = λ none. ap number_named (fun_ext same.rows) ∙ at.numbers none;
       valid = λ none. valid_same observable history sync_out read_out read_of buffer other old new p.store log same (at.valid none);
     }
@@ -88,6 +90,7 @@ module _ {D : Type 0} where
           last_db = has.last_db ∙ log.last_db ∙ ap (λ n. n + made_by changes) at.last_db;
           commits = has.commits ∙ ap (λ n. n + 1) at.commits;
           totals = has.totals ∙ log.totals;
+          checkpoint = ap (λ (k : Checkpoints). k.under_way) has.checkpoints ∙ at.checkpoint;
           numbers = λ again. ap number_named (fun_ext has.rows)
               ∙ (planned_rows old.rows old.last_db log.change log.more planned.changes.items planned.gone
               (are_planned old p session call planned (sound_of v.log (end_of buffer) old v.gives) log (omega (arith, low)))).numbers

@@ -1,5 +1,5 @@
 -- Where an environment stands after a sync, and after a fault of the disk.
-use Rattle.std.proofs.Common.{◌≡◌, ℕ, ◌∙◌, Bool, false, Option, Some}
+use Rattle.std.proofs.Common.{◌≡◌, ℕ, ◌∙◌, Bool, false, Option, Some, ap}
 use Rattle.je_disk.specs.States.{State}
 use Rattle.store_model.specs.declared.answer.Fault.TheVariants.{Disk}
 use Rattle.je_answers.specs.Alone.{Alone}
@@ -7,7 +7,7 @@ use Rattle.log_file.specs.Log.{Log}
 use Rattle.log_buffer.specs.declared.buffer.LogBuffer.{LogBuffer}
 use Rattle.log_buffer.specs.Buffer.{end_of, file_max_of, has_failed}
 use Rattle.log_buffer.specs.Log.{HasLog}
-use Rattle.engine.specs.Contents.{Contents, HasFaulted}
+use Rattle.engine.specs.Contents.{Checkpoints, Contents, HasFaulted}
 use Rattle.engine.specs.Environment.{AreAlone}
 use Rattle.engine.proofs.TransactionGrowth.{gives_moved}
 
@@ -22,6 +22,7 @@ module _ {D : Type 0} where
     last_db = has.last_db ∙ at.last_db;
     commits = has.commits ∙ at.commits;
     totals = has.totals ∙ at.totals;
+    checkpoint = ap (λ (k : Checkpoints). k.under_way) has.checkpoints ∙ at.checkpoint;
     numbers = λ none. absurd cc;
     valid = λ none. absurd cc;
   }
@@ -37,6 +38,7 @@ module _ {D : Type 0} where
     last_db = at.last_db;
     commits = at.commits;
     totals = at.totals;
+    checkpoint = at.checkpoint;
     numbers = at.numbers;
     valid = λ none. let v = at.valid none in record {
       log = v.log;
@@ -46,5 +48,6 @@ module _ {D : Type 0} where
       recovers = v.recovers;
       made = v.made;
       fits = v.fits;
+      from = v.from;
     };
   }

@@ -46,12 +46,15 @@ use Rattle.crash_recovery.proofs.LongerLogs.{longer_is_named, longer_recovers}
 use Rattle.txn_core.specs.declared.planned_changes.PlannedChanges.{PlannedChanges}
 use Rattle.txn_core.specs.Totals.{totals_of}
 use Rattle.txn_core.specs.Planning.{CanPlan, IsPlannedLog}
-use Rattle.engine.specs.Contents.{Contents, known, HasLogged, IsSame, drawn_contents, rows_after}
+use Rattle.txn_log.specs.Checkpoints.{EndsFrom}
+use Rattle.txn_log.proofs.RedoLsns.{ends_from_stays}
+use Rattle.engine.specs.Contents.{Checkpoints, Contents, known, HasLogged, IsSame, drawn_contents, rows_after}
 use Rattle.txn_core.specs.Transactions.{is_gone}
 use Rattle.engine.specs.Environment.{GivesRecords, RecoversStore, IsValid}
 use Rattle.engine.specs.Steps.{CarriesTrees, HasAppended, HasTried, txn_of}
 use Rattle.engine.proofs.PlannedRows.{ArePlanned, LeavesRows, planned_rows}
 use Rattle.engine.proofs.PlannedCalls.{are_planned}
+use Rattle.engine.proofs.CallEntries.{transaction_no_ends}
 
 abbrev Flags : Type 0
 Flags = ℕ → Bool
@@ -411,6 +414,8 @@ module _ {D : Type 0} (observable : Bool) (history : D → History) (sync_out re
         recovers = store_on buffer longer_buffer valid.log c change later planned may a store valid.recovers;
         made = made_on observable (now (history (disk_of buffer))) buffer valid.log c new change later planned may logged ∙ ap (all_changed (change ∷ later)) valid.made;
         fits = carries valid.log valid.gives.base valid.has (begun_at valid.log (end_of buffer) c valid.gives) valid.fits;
+        from = subst (λ (k : Checkpoints). EndsFrom (longer buffer a.entries valid.log) valid.gives.base k.since) (sym logged.checkpoints)
+            (ends_from_stays observable history buffer valid.log a.entries valid.gives.base c.checkpoints.since valid.has (transaction_no_ends (txn_of (c.last_txn + 1)) planned.changes.items a.entries a.logs) valid.from);
       }
 
   -- so it is where a transaction number is allocated
@@ -424,6 +429,7 @@ module _ {D : Type 0} (observable : Bool) (history : D → History) (sync_out re
     recovers = valid.recovers;
     made = valid.made;
     fits = valid.fits;
+    from = valid.from;
   }
 
   -- and where nothing changes
@@ -438,4 +444,5 @@ module _ {D : Type 0} (observable : Bool) (history : D → History) (sync_out re
     recovers = valid.recovers;
     made = ap store_of (fun_ext same.rows) ∙ valid.made;
     fits = same.fits (placed valid.log) valid.gives.base valid.fits;
+    from = subst (λ (k : Checkpoints). EndsFrom valid.log valid.gives.base k.since) (sym same.checkpoints) valid.from;
   }

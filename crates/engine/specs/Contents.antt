@@ -1,5 +1,5 @@
 -- What an open environment has in memory beside its log, and how logged changes change it.
-use Rattle.std.specs.Prelude.{ℕ, ◌≡◌, ◌+◌, List, [], Option, Some, map, length, if◌then◌else◌}
+use Rattle.std.specs.Prelude.{ℕ, ◌≡◌, ◌+◌, Bool, is_some, List, [], Option, Some, map, length, if◌then◌else◌}
 use Rattle.store_model.specs.declared.answer.Fault.{Fault}
 use Rattle.store_model.specs.declared.answer.Fault.TheVariants.{Disk}
 use Rattle.store_model.specs.declared.totals.Totals.{Totals}
@@ -12,11 +12,20 @@ use Rattle.txn_core.specs.Known.{Known}
 use Rattle.txn_core.specs.Planning.{row_by}
 use Rattle.txn_core.specs.Transactions.{is_gone}
 use Rattle.txn_core.specs.declared.planned_changes.PlannedChanges.{PlannedChanges}
+use Rattle.engine.specs.declared.kept.Kept.{Kept}
 use Rattle.engine.specs.Limits.{numbers_for}
 
+-- the LSN from which on a redo may begin, and whether a checkpoint is under way
+pub record Checkpoints : Type 0 where
+  pub since : ℕ
+  pub under_way : Bool
+
+abbrev pub checkpoints_of : Kept → Checkpoints
+checkpoints_of kept = record { since = kept.since; under_way = is_some kept.checkpoints.under_way }
+
 -- the committed records of each database and how much their store holds; the transaction and the database number allocated last, and a number that
--- no node's number is above; how many transactions were committed since opening; the first fault; and the trees, with the node number that was
--- allocated last
+-- no node's number is above; how many transactions were committed since opening; the first fault; the checkpoints; and the trees, with the node
+-- number that was allocated last
 pub record Contents : Type 0 where
   pub rows : Rows
   pub totals : Totals
@@ -25,6 +34,7 @@ pub record Contents : Type 0 where
   pub last_node : ℕ
   pub commits : ℕ
   pub fault : Option Fault
+  pub checkpoints : Checkpoints
   pub trees : ℕ → Option DbTree
   pub last_number : ℕ
 
@@ -53,6 +63,7 @@ pub record HasLogged (old new : Contents) (planned : PlannedChanges) : Type 0 wh
   pub last_node : new.last_node ≡ old.last_node + numbers_for (length planned.changes.items)
   pub commits : new.commits ≡ old.commits + 1
   pub fault : new.fault ≡ old.fault
+  pub checkpoints : new.checkpoints ≡ old.checkpoints
 
 -- the disk failed: the environment is invalid, and its records count for nothing
 pub record HasFaulted (old new : Contents) : Type 0 where
@@ -62,6 +73,7 @@ pub record HasFaulted (old new : Contents) : Type 0 where
   pub last_node : new.last_node ≡ old.last_node
   pub commits : new.commits ≡ old.commits
   pub fault : new.fault ≡ Some Disk
+  pub checkpoints : new.checkpoints ≡ old.checkpoints
 
 -- nothing changed
 pub record IsSame (old new : Contents) : Type 0 where
@@ -72,4 +84,5 @@ pub record IsSame (old new : Contents) : Type 0 where
   pub last_node : new.last_node ≡ old.last_node
   pub commits : new.commits ≡ old.commits
   pub fault : new.fault ≡ old.fault
+  pub checkpoints : new.checkpoints ≡ old.checkpoints
   pub fits : FitsAs old new

@@ -20,6 +20,7 @@ use Rattle.log_meaning.specs.Stands.{Stands}
 use Rattle.log_meaning.specs.Transactions.{AreListed}
 use Rattle.crash_recovery.specs.Recovery.{RecoversLog}
 use Rattle.txn_core.specs.Totals.{totals_of}
+use Rattle.txn_log.specs.Checkpoints.{EndsFrom}
 use Rattle.tree_images.specs.Forest.{ForestFits}
 use Rattle.engine.specs.Contents.{Contents}
 
@@ -47,7 +48,7 @@ pub record RecoversStore (log : Log) (store : Store) : Type 0 where
 
 module _ {D : Type 0} where
   -- a valid environment: its buffer works and has its log, with the disk's files if the disk is observable; the log gives its records and recovers
-  -- its store, and the trees fit it
+  -- its store, the trees fit it, and a redo of it may begin where it is said
   pub record IsValid (observable : Bool) (state : State) (buffer : LogBuffer D) (c : Contents) (store : Store) : Type 0 where
     pub log : Log
     pub has : HasLog observable state buffer log
@@ -56,6 +57,7 @@ module _ {D : Type 0} where
     pub recovers : RecoversStore log store
     pub made : store_of c.rows ≡ store
     pub fits : ForestFits (placed log) gives.base c.last_number c.trees
+    pub from : EndsFrom log gives.base c.checkpoints.since
 
   -- the environment, whose files have at most so many bytes, is where the model stands with nothing under way
   pub record AreAlone (most : ℕ) (observable : Bool) (state : State) (buffer : LogBuffer D) (c : Contents) (p : Alone) : Type 0 where
@@ -65,6 +67,7 @@ module _ {D : Type 0} where
     pub last_db : c.last_db ≡ p.last_db
     pub commits : c.commits ≡ p.commits
     pub totals : c.totals ≡ totals_of p.store
+    pub checkpoint : c.checkpoints.under_way ≡ p.in_checkpoint
     pub numbers : p.fault ≡ None → number_named c.rows ≡ p.numbers
     pub valid : p.fault ≡ None → IsValid observable state buffer c p.store
 

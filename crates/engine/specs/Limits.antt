@@ -50,13 +50,17 @@ pub record IsWithin (reach other : Reach) : Type 0 where
   pub file : reach.file ≤ other.file
   pub node : reach.node ≤ other.node
 
--- The limit that changes meet, where a log and its trees reach so far: none; or no room, where their entries, with the images that wait, may pass the
--- last file, were each in a file of its own; or no number, where those that they may allocate pass the last one.
-abbrev pub IsBounded : Reach → List Change → Option Answer → Type 0
-IsBounded reach changes limit =
+-- The limit of what would reach so far: none; or no room, where its entries, with the images that wait, may pass the last file, were each in a file
+-- of its own; or no number, where those that it may allocate pass the last one.
+abbrev pub IsBoundedBy : Reach → Option Answer → Type 0
+IsBoundedBy after limit =
     (limit ≡ None)
-    ⊎ ((limit ≡ Some LogFull) × (last_file < (reach_after reach changes).file))
-    ⊎ ((limit ≡ Some IdsEnded) × (last_number < (reach_after reach changes).node))
+    ⊎ ((limit ≡ Some LogFull) × (last_file < after.file))
+    ⊎ ((limit ≡ Some IdsEnded) × (last_number < after.node))
+
+-- the limit that changes meet, where a log and its trees reach so far
+abbrev pub IsBounded : Reach → List Change → Option Answer → Type 0
+IsBounded reach changes limit = IsBoundedBy (reach_after reach changes) limit
 
 -- the limits of events, one after another, where a log and its trees reach so far before them
 abbrev pub AreBounded : Reach → Standing → List Event → List (Option Answer) → Type 0

@@ -1,6 +1,6 @@
 -- Opening an environment.
 use Rattle.std.specs.List.{AllByRecursion}
-use Rattle.std.specs.Prelude.{ℕ, ◌≡◌, ◌≤◌, ◌<◌, ◌⊎◌, ◌==◌, ◌+◌, nat_lt, ◌∷◌, [], ◌++◌, take, length, map, Bool, true, false, Option, IsSome, None, Some, Ok, option_map, List, if◌then◌else◌}
+use Rattle.std.specs.Prelude.{ℕ, ◌≡◌, ◌≤◌, ◌<◌, ◌⊎◌, ◌==◌, ◌+◌, nat_lt, ◌∷◌, [], ◌++◌, take, length, map, max, Bool, true, false, Option, IsSome, None, Some, Ok, option_map, List, if◌then◌else◌}
 use Rattle.recovery_je.specs.declared.recover_err.RecoverErr.{RecoverErr}
 use Rattle.recovery_je.specs.declared.recover_err.RecoverErr.TheVariants.{Disk as NoDisk, Memory as NoMemory, Corrupt}
 use Rattle.je_order.specs.Counts.{HasRisen}
@@ -12,7 +12,9 @@ use Rattle.je_answers.specs.Alone.{Alone, alone}
 use Rattle.log_file.specs.Log.{Log, IsLog, AreFiles, log_in}
 use Rattle.log_buffer.specs.declared.buffer.LogBuffer.{LogBuffer}
 use Rattle.log_buffer.specs.declared.log_pos.LogPos.{LogPos}
-use Rattle.log_buffer.specs.Flip.{header_size}
+use Rattle.checkpointer.specs.declared.checkpointer.Checkpointer.{Checkpointer}
+use Rattle.log_buffer.specs.Buffer.{end_of}
+use Rattle.log_buffer.specs.Flip.{header_size, pos_lsn}
 use Rattle.log_buffer.specs.Log.{EndsAt, ReadAs, ReadAsBut}
 use Rattle.log_replay.specs.declared.last_file.LastFile.{LastFile}
 use Rattle.log_trees.specs.Placed.{placed}
@@ -71,7 +73,7 @@ meaning_read r = record { store = r.opening; last_txn = r.last_txn; last_node = 
 -- the log of a disk with these files was read
 abbrev pub WasRead : Bool → Files → Recovered Trees → Type 0
 WasRead observable reads r = HasFiles observable reads (IsRecoveredFrom (meaning_read r) (has_tree_in r.trees) (stored_within r.trees) r.databases r.records r.entries r.tail
-    (HasReadAgain formed_within nodes_within stored_within last_number_of fits_within r.trees))
+    (HasReadAgain formed_within nodes_within stored_within last_number_of fits_within r.trees r.redo))
 
 -- the trees that were made fit the log, where no LSN of it is of the life that begins
 abbrev pub FitFound : Recovered Trees → List (ℕ × List ℕ) → Type 0
@@ -136,9 +138,22 @@ pub record StartsAt (observable : Bool) (files : Files) (opening : Store) (st : 
   pub means_db : meaning.last_db ≡ alone_at.last_db
   pub nodes : node_bound held meaning ≤ last_number
 
--- what an environment keeps beside its trees as it begins, where no node's number is above this one
-abbrev pub kept_at_start : Recovered Trees → ℕ → Kept
-kept_at_start r last_node = record { totals = record { databases = r.databases; records = r.records }; last_txn = r.last_txn; last_db = r.last_db; last_node = last_node; commits = 0; fault = None }
+-- from where on a redo may begin then: from the log's end on, and not before the redo LSN of the last checkpoint
+abbrev pub since_at : LogPos → Recovered Trees → ℕ
+since_at end r = max (pos_lsn end) r.redo
+
+-- what an environment keeps beside its trees as it begins, with these checkpoints, where no node's number is above this one and the log ends here
+abbrev pub kept_at_start : Recovered Trees → ℕ → LogPos → Checkpointer → Kept
+kept_at_start r last_node end checkpoints = record {
+  totals = record { databases = r.databases; records = r.records };
+  last_txn = r.last_txn;
+  last_db = r.last_db;
+  last_node = last_node;
+  commits = 0;
+  fault = None;
+  since = since_at end r;
+  checkpoints = checkpoints;
+}
 
 -- an environment begins over its log, with what was read
 pub record HasBegun {D : Type 0} (log : LogBuffer D) (r : Recovered Trees) (last_node : ℕ) (engine : Engine D) : Type 0 where
@@ -146,6 +161,8 @@ pub record HasBegun {D : Type 0} (log : LogBuffer D) (r : Recovered Trees) (last
   pub cells : (db : ℕ) → cells_of engine.trees db ≡ map committed_cell (stored_within r.trees db)
   pub trees : (db : ℕ) → has_tree_of engine.trees db ≡ has_tree_in r.trees db
   pub waits : waits_of engine.trees ≤ waits_within r.trees
-  pub kept : engine.kept ≡ kept_at_start r last_node
+  pub kept : engine.kept ≡ kept_at_start r last_node (end_of log) engine.kept.checkpoints
+  pub last_checkpoint : engine.kept.checkpoints.last ≡ r.checkpoint
+  pub none_begun : engine.kept.checkpoints.under_way ≡ None
   pub forest : (db : ℕ) → trees_of engine.trees db ≡ trees_at r.trees.forest db
   pub last : last_node_of engine.trees ≡ last_number_of r.trees

@@ -33,7 +33,7 @@ use Rattle.store_model.specs.declared.change.Change.{Change}
 use Rattle.engine.specs.declared.engine.Engine.{Engine}
 use Rattle.engine.specs.Environment.{AreAt}
 use Rattle.engine.specs.Guarded.{IsGuardedLog}
-use Rattle.engine.specs.Contents.{Contents}
+use Rattle.engine.specs.Contents.{Contents, checkpoints_of}
 use Rattle.engine.specs.Limits.{IsBounded, IsWithin, Reach, limit_by}
 use Rattle.engine.specs.Opening.{StartsAt, reach_in}
 use Rattle.engine.specs.declared.kept.Kept.{Kept}
@@ -53,6 +53,7 @@ module _ {D : Type 0} where
     last_node = kept.last_node;
     commits = kept.commits;
     fault = kept.fault;
+    checkpoints = checkpoints_of kept;
     trees = trees_of trees;
     last_number = last_node_of trees;
   }

@@ -1,4 +1,6 @@
 // What an open environment keeps in memory beside its trees.
+use checkpointer::Checkpointer;
+use je_lsn::Lsn;
 use store_model::{Fault, Totals};
 
 /// What an open environment keeps in memory beside its log and its trees.
@@ -16,4 +18,9 @@ pub struct Kept {
     pub commits: u64,
     /// The first fault, after which each call is Invalid.
     pub fault: Option<Fault>,
+    /// The LSN from which on a redo may begin: where the log ended at opening, or the redo LSN of a checkpoint that ended
+    /// since.
+    pub since: Lsn,
+    /// The checkpoints.
+    pub checkpoints: Checkpointer,
 }

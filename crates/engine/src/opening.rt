@@ -1,5 +1,5 @@
 // Opening an environment over a disk.
-ghost use Rattle.std.specs.Prelude.{◌≡◌, ◌≤◌, ◌+◌, [], true, false, None, Some, ℕ, length, map, nat_lt, if◌then◌else◌, IfSome, IfOk, IfErr, OnOk};
+ghost use Rattle.std.specs.Prelude.{◌≡◌, ◌≤◌, ◌+◌, max, [], true, false, None, Some, ℕ, length, map, nat_lt, if◌then◌else◌, IfSome, IfOk, IfErr, OnOk};
 ghost use Rattle.je_disk.specs.Causes.{HasFault};
 ghost use Rattle.je_disk.specs.Moments.{History, Passes, now};
 ghost use Rattle.je_disk.specs.States.{Files as Reads, IsEither, synced_crash_states};
@@ -20,6 +20,7 @@ use crate::config::Config;
 use crate::engine::{Engine, LAST_NODE, NUMBERS_FOR_CHANGE};
 use crate::kept::Kept;
 use crate::open_err::OpenErr;
+use checkpointer::Checkpointer;
 use in_tree::{LoadedTrees, LogTrees};
 use je_disk::{Disk, DiskErr};
 use je_lsn::{FileNo, Lsn};
@@ -160,6 +161,13 @@ fn begin_log<D: Disk>(
     Ok(LogBuffer::resume(alloc, disk, end, last.last, file_max))
 }
 
+// The later of two LSNs.
+fn later(a: Lsn, b: Lsn) -> Lsn
+    ensures { result ≡ max a b }
+{
+    Lsn::from_u64(a.as_u64().max(b.as_u64()))
+}
+
 // An environment that was just opened, over its log.
 fn begin<D: Disk>(log: LogBuffer<D>, read: Recovered<LoadedTrees>, last_node: u64) -> Opened<D>
     ensures begun { HasBegun log read last_node result.engine }
@@ -173,7 +181,8 @@ fn begin<D: Disk>(log: LogBuffer<D>, read: Recovered<LoadedTrees>, last_node: u6
         last_txn,
         last_node: _,
         last_db,
-        checkpoint: _,
+        checkpoint,
+        redo,
         entries: _,
         tail: _,
     } = read;
@@ -184,6 +193,8 @@ fn begin<D: Disk>(log: LogBuffer<D>, read: Recovered<LoadedTrees>, last_node: u6
         last_node,
         commits: 0,
         fault: None,
+        since: later(log.end(), redo),
+        checkpoints: Checkpointer::new(checkpoint),
     };
     Opened {
         engine: Engine {

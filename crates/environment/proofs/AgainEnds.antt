@@ -11,7 +11,7 @@ use Rattle.store_model.specs.declared.record_change.RecordChange.{RecordChange}
 use Rattle.db_catalog.specs.declared.found_db.FoundDb.{FoundDb}
 use Rattle.je_answers.specs.declared.active.Active.{Active}
 use Rattle.je_answers.specs.Standing.{Standing}
-use Rattle.je_answers.specs.Views.{Target, needs_in}
+use Rattle.je_answers.specs.Views.{Target, needs_in, outcome_of}
 use Rattle.je_answers.specs.Locking.{all_got}
 use Rattle.je_answers.specs.After.{ended, with_locks}
 use Rattle.log_buffer.specs.Buffer.{has_failed}
@@ -25,7 +25,7 @@ use Rattle.environment.specs.declared.environment.Environment.{Environment}
 use Rattle.environment.specs.declared.outcome.Outcome.{Outcome}
 use Rattle.environment.specs.declared.wrote.Wrote.{Wrote}
 use Rattle.environment.specs.declared.wrote.Wrote.TheVariants.{Done, Full, NoNumbers, Failed}
-use Rattle.environment.specs.Access.{HasAccessed, IsTakenUp}
+use Rattle.environment.specs.Access.{HasAccessed, IsTakenUp, with_move}
 use Rattle.environment.specs.Again.{HasWrittenAgain}
 use Rattle.environment.specs.Committing.{HasCommittedOwn, HasNotSettled, HasSettled, is_set, kept_committed}
 use Rattle.environment.specs.Ending.{HasAbandoned}
@@ -145,7 +145,7 @@ module _ {D : Type 0} (observable : Bool) (history : D → History) (sync_out re
 
     pub settled_again : (done : Environment D) (s closed : Sessions) (records line : ℕ) (o : Outcome) (w : WrittenBy Done) →
         HasCommittedOwn observable history sync_out read_out read_of faults now.engine done.engine now.written.by_txn.entries done.written.by_txn.entries txn records →
-        AreSessionsAt s (with_locks a (all_got a.txn needs_ st.locks.at) (with_own a.txn.0 w.pushed.more st)) →
+        AreSessionsAt s (with_move a call (outcome_of st a call g).place (with_locks a (all_got a.txn needs_ st.locks.at) (with_own a.txn.0 w.pushed.more st))) →
         ((x : Standing) (b : Active) → b.session ≡ session → b.txn ≡ txn → AreSessionsAt s x → AreSessionsAt closed (ended b x)) →
         records + had_at txn now.written.by_txn.entries ≡ all → o.answer ≡ Logged done.engine.kept.commits → o.victims ≡ [] → Accessed (in_sessions closed done) line o
     settled_again done s closed records line o w h stands ends sum told alone =

@@ -19,11 +19,10 @@ use Rattle.active_txns.specs.Own.{has_changes}
 use Rattle.sessions.specs.AtStanding.{AreSessionsAt, owing}
 use Rattle.engine.specs.declared.engine.Engine.{Engine}
 use Rattle.engine.proofs.CalmAnswers.{IsCalm, faultless, unnumbered}
-use Rattle.environment.proofs.PlacesLaws.{not_moved, still_placed}
 use Rattle.environment.specs.declared.environment.Environment.{Environment}
 use Rattle.environment.specs.declared.outcome.Outcome.{Outcome}
 use Rattle.environment.specs.declared.written.Written.{Written}
-use Rattle.environment.specs.Access.{HasAccessed, IsTakenUp}
+use Rattle.environment.specs.Access.{HasAccessed, IsTakenUp, with_move}
 use Rattle.environment.specs.Ending.{HasAbandoned}
 use Rattle.environment.specs.Steps.{HasNotCome, IsLogStep, StandsAt}
 use Rattle.environment.specs.Valid.{AreBare}
@@ -40,13 +39,13 @@ bare_own st session a bare its auto = (found (λ (b : Active). b.is_auto ≡ tru
 module _ {D : Type 0} (observable : Bool) (history : D → History) (sync_out read_out : D → Option ℕ) (read_of : D → ℕ) where
   -- it changes nothing, and ends
   ends_nothing : (before e new : Environment D) (s : Sessions) (most session : ℕ) (st : Standing) (a : Active) (call : Call) (db : List ℕ) (f : FoundDb) (g : Target) (answer : Answer) (changes : List RecordChange)
-      (ev : Evaluated) → IsTakenUp observable history most before e st session a call db f g answer changes → AreSessionsAt s (answered a call g st) → HasAbandoned (in_sessions s before) new a.session a.txn →
+      (ev : Evaluated) → IsTakenUp observable history most before e st session a call db f g answer changes → AreSessionsAt s (with_move a call ev.place (answered a call g st)) → HasAbandoned (in_sessions s before) new a.session a.txn →
       answer ≡ ev.answer → IsCalm answer → Changes observable history sync_out read_out read_of most before new st a call g answer (without observable history sync_out read_out read_of ev) true
   ends_nothing before e new s most session st a call db f g answer changes ev up stands h is calm =
       let nothing : Evaluated = without observable history sync_out read_out read_of ev in
       let after : Standing = with_outcome a call g nothing (answered a call g st) in
       let same : st.own ≡ after.own = same_own a.txn.0 st.own in
-      let stands_now : AreSessionsAt s after = record { actives = stands.actives; own = stands.own ∙ same; places = still_placed s.cursors st.places a.session call ev.place (not_moved call db up.records) stands.places; waiting = stands.waiting; locks = stands.locks } in
+      let stands_now : AreSessionsAt s after = record { actives = stands.actives; own = stands.own ∙ same; places = stands.places; waiting = stands.waiting; locks = stands.locks } in
       let here : StandsAt most observable history (in_sessions s before) after = elsewhere_at most observable history before s st after.own after.places after.locks same stands_now up.here in
       let its : active_of a.session st.actives ≡ Some a = ap (λ (n : ℕ). active_of n st.actives) (found_session session a st.actives up.its) ∙ up.its in
       let owes : owing after ≡ owing st = ap (λ (own : ℕ → List (ℕ × RecordChange)). length (filter (λ b. has_changes (own b.txn.0)) st.actives)) (sym same) in
@@ -63,7 +62,7 @@ module _ {D : Type 0} (observable : Bool) (history : D → History) (sync_out re
       }
 
   nothing_evaluates : (before e new : Environment D) (s : Sessions) (most session : ℕ) (st : Standing) (a : Active) (call : Call) (db : List ℕ) (f : FoundDb) (g : Target) (answer : Answer) (changes : List RecordChange)
-      (ev : Evaluated) (cs : List RecordChange) → ev.changes ≡ cs → cs ≡ [] → a.is_auto ≡ true → IsTakenUp observable history most before e st session a call db f g answer changes → AreSessionsAt s (answered a call g st) →
+      (ev : Evaluated) (cs : List RecordChange) → ev.changes ≡ cs → cs ≡ [] → a.is_auto ≡ true → IsTakenUp observable history most before e st session a call db f g answer changes → AreSessionsAt s (with_move a call ev.place (answered a call g st)) →
       HasAbandoned (in_sessions s before) new a.session a.txn → answer ≡ ev.answer → IsCalm answer → Evaluates observable history sync_out read_out read_of most before new st a call g answer a.is_auto ev
   nothing_evaluates before e new s most session st a call db f g answer changes ev cs has empty auto up stands h is calm =
       subst (λ (l : List RecordChange). Evaluates observable history sync_out read_out read_of most before new st a call g answer a.is_auto (record { answer = ev.answer; answered = ev.answered; changes = l; place = ev.place }))
@@ -73,7 +72,7 @@ module _ {D : Type 0} (observable : Bool) (history : D → History) (sync_out re
 
   pub finishes_again : (before e new : Environment D) (s : Sessions) (most session line : ℕ) (st : Standing) (a : Active) (call : Call) (db : List ℕ) (f : FoundDb) (g : Target) (answer : Answer) (changes : List RecordChange)
       (o : Outcome) → IsTakenUp observable history most before e st session a call db f g answer changes → changes ≡ [] → a.is_auto ≡ true →
-      AreSessionsAt s (with_locks a (all_got a.txn (needs_in st a call g) st.locks.at) st) → (txn : TxnId) → a.txn ≡ txn → HasAbandoned (in_sessions s e) new session txn → o.answer ≡ answer → o.victims ≡ [] →
+      AreSessionsAt s (with_move a call (outcome_of st a call g).place (with_locks a (all_got a.txn (needs_in st a call g) st.locks.at) st)) → (txn : TxnId) → a.txn ≡ txn → HasAbandoned (in_sessions s e) new session txn → o.answer ≡ answer → o.victims ≡ [] →
       HasAccessed observable history sync_out read_out read_of most before new st a line call g o.answer o.victims
   finishes_again before e new s most session line st a call db f g answer changes o up empty auto stands txn its h told alone =
       told_so (HasAccessed observable history sync_out read_out read_of most before new st a line call g) o answer told alone

@@ -1,6 +1,5 @@
 -- Where no transaction is under way: what an environment is beside its engine.
 use Rattle.std.proofs.Common.{◌≡◌, ℕ, ◌+◌, suc, Bool, true, false, cond, List, [], Option, None, Some, filter, length, refl, ap, sym, ◌∙◌, subst, arith}
-use Rattle.log_trees.specs.Placed.{placed}
 use Rattle.txn_log.proofs.AtStandingLaws.{same_under}
 use mathlib.Core.Path.{fun_ext}
 use Rattle.std.proofs.lemmas.Option.{none-some}
@@ -14,6 +13,7 @@ use Rattle.je_answers.specs.Alone.{Alone, alone}
 use Rattle.je_answers.specs.Standing.{LockState, Standing}
 use Rattle.lock_table.specs.Table.{Locks}
 use Rattle.log_buffer.specs.Buffer.{end_of, has_failed}
+use Rattle.log_buffer.specs.Flip.{pos_lsn}
 use Rattle.log_replay.specs.Rows.{Rows}
 use Rattle.log_replay.specs.Logging.{number_named}
 use Rattle.in_tree.specs.declared.logged_trees.LogTrees.{LogTrees}
@@ -23,6 +23,7 @@ use Rattle.record_map.specs.Cells.{value_at}
 use Rattle.record_map.specs.declared.write.Write.{Write}
 use Rattle.record_tree.specs.Occupied.{AllCells, write_in}
 use Rattle.sessions.specs.declared.all_sessions.Sessions.{Sessions}
+use Rattle.sessions.proofs.CursorStores.{under_none}
 use Rattle.sessions.specs.AtStanding.{AreLocksAt, AreSessionsAt, owing}
 use Rattle.standing_laws.specs.Right.{AreRight}
 use Rattle.standing_laws.proofs.AloneRight.{alone-is_right, no_transactions-is_alone}
@@ -36,11 +37,13 @@ use Rattle.engine.specs.Limits.{IsWithin, Reach}
 use Rattle.engine.specs.Opening.{reach_in}
 use Rattle.engine.specs.Whole.{AreTrees, IsAt as EngineIsAt, IsOpened as EngineIsOpened, IsOpenedSafely as EngineIsOpenedSafely, contents, reach_of as engine_reach}
 use Rattle.engine.proofs.TxnGives.{gives_alone, gives_with_none}
-use Rattle.environment.specs.Valid.{AreBare, AreAt, IsValidWith, active_number, owed_by, fitting}
+use Rattle.environment.specs.Valid.{AreBare, AreAt, IsValidWith, Lives, active_number, owed_by, fitting, waiting_in}
 use Rattle.environment.specs.Whole.{IsAt, IsOpened, IsOpenedSafely, reach_of}
 use Rattle.environment.specs.Written.{AreNamesOf}
 use Rattle.environment.specs.declared.environment.Environment.{Environment}
 use Rattle.environment.specs.declared.written.OwnNames.{OwnNames}
+use Rattle.environment.proofs.Bases.{lives_at}
+use Rattle.environment.proofs.Firsts.{firsts_none}
 
 -- names that nobody wrote do not hang on the records
 pub names_of_none : (entries : List (TxnId × OwnNames)) (rows later : Rows) → AreNamesOf entries (λ t. []) rows → AreNamesOf entries (λ t. []) later
@@ -71,7 +74,7 @@ locks_alone None (Some fault) v state none at = tt
 locks_alone (Some fault) g v state none at = absurd cc
 
 pub sessions_alone : (s : Sessions) (p q : Alone) → p.fault ≡ None → AreSessionsAt s (alone p) → AreSessionsAt s (alone q)
-sessions_alone s p q none at = record { actives = at.actives; own = at.own; places = at.places; waiting = at.waiting; locks = locks_alone p.fault q.fault s.locks.locks (alone p).locks none at.locks }
+sessions_alone s p q none at = record { actives = at.actives; own = at.own; places = record { at = at.places.at; under = under_none s.cursors q.store q.numbers at.places.at.each }; waiting = at.waiting; locks = locks_alone p.fault q.fault s.locks.locks (alone p).locks none at.locks }
 
 -- and sessions owe none
 none_owed : (s : Sessions) (p : Alone) → AreSessionsAt s (alone p) → owed_by s ≡ 0
@@ -81,7 +84,7 @@ module _ {D : Type 0} where
   -- a log and trees in which nobody changed anything
   wide_valid : (observable : Bool) (state : State) (trees : LogTrees D) (kept : Kept) (entries : List (TxnId × OwnNames)) (p : Alone) → IsValid observable state trees.log (contents trees kept) p.store →
       AreTrees trees → kept.last_txn ≡ p.last_txn → kept.last_db ≡ p.last_db → number_named (committed (cells_of trees)) ≡ p.numbers → AreNamesOf entries (λ t. []) (committed (cells_of trees)) →
-      IsValidWith observable state trees.log (cells_of trees) (has_tree_of trees) (fitting trees) entries (alone p)
+      IsValidWith observable state trees.log (cells_of trees) (has_tree_of trees) (fitting trees) kept.since entries (alone p)
   unfolding gives_with_none
   wide_valid observable state trees kept entries p v are last_txn last_db numbers names =
       let rows : Rows = committed (cells_of trees) in
@@ -89,6 +92,12 @@ module _ {D : Type 0} where
       let gives : GivesRecordsWith v.log (end_of trees.log) rows p.last_txn p.last_db (λ t. false) (λ t. []) =
       subst (λ (n : ℕ). GivesRecordsWith v.log (end_of trees.log) rows n p.last_db (λ t. false) (λ t. [])) last_txn
       (subst (λ (n : ℕ). GivesRecordsWith v.log (end_of trees.log) rows kept.last_txn n (λ t. false) (λ t. [])) last_db given) in
+      let lives : Lives (fitting trees) v.log kept.since (pos_lsn (end_of trees.log)) entries gives.base =
+      subst (Lives (fitting trees) v.log kept.since (pos_lsn (end_of trees.log)) entries)
+      (sym (same_under (λ (n : ℕ). GivesRecordsWith v.log (end_of trees.log) rows n p.last_db (λ t. false) (λ t. [])) (λ n g. g.base) last_txn
+      (subst (λ (n : ℕ). GivesRecordsWith v.log (end_of trees.log) rows kept.last_txn n (λ t. false) (λ t. [])) last_db given)
+      ∙ same_under (λ (n : ℕ). GivesRecordsWith v.log (end_of trees.log) rows kept.last_txn n (λ t. false) (λ t. [])) (λ n g. g.base) last_db given))
+      (record { fits = v.fits; from = v.from; firsts = firsts_none entries rows (waiting_in v.log v.gives.base) (pos_lsn (end_of trees.log)) names }) in
       record {
         log = v.log;
         has = v.has;
@@ -108,10 +117,9 @@ module _ {D : Type 0} where
         made = are.made;
         room = λ n is. absurd (none_owing p n is);
         names = names;
-        fits = subst (λ (b : ℕ). fitting trees (placed v.log) b)
-            (sym (same_under (λ (n : ℕ). GivesRecordsWith v.log (end_of trees.log) rows n p.last_db (λ t. false) (λ t. [])) (λ n g. g.base) last_txn
-            (subst (λ (n : ℕ). GivesRecordsWith v.log (end_of trees.log) rows kept.last_txn n (λ t. false) (λ t. [])) last_db given)
-            ∙ same_under (λ (n : ℕ). GivesRecordsWith v.log (end_of trees.log) rows kept.last_txn n (λ t. false) (λ t. [])) (λ n g. g.base) last_db given)) v.fits;
+        fits = lives.fits;
+        from = lives.from;
+        firsts = lives.firsts;
       }
 
   -- an environment in which nobody is under way is where its engine is
@@ -131,6 +139,7 @@ module _ {D : Type 0} where
         totals = is.totals;
         sessions_at = at p;
         apart = tt;
+        checkpoint = is.checkpoint;
         valid = λ none.
             wide_valid observable state engine.trees engine.kept entries p (is.valid none) (here.trees (ap (λ (s : Standing). s.fault) same ∙ none)) is.last_txn is.last_db (is.numbers none) names;
       })
@@ -160,9 +169,18 @@ module _ {D : Type 0} where
             last_db = at.last_db;
             commits = at.commits;
             totals = at.totals;
+            checkpoint = at.checkpoint;
             numbers = λ none. fun_ext (at.valid none).makes.named;
             valid = λ none.
                 let v = at.valid none in
+                let lives : Lives (fitting e.engine.trees) v.log e.engine.kept.since (pos_lsn (end_of e.engine.trees.log)) e.written.by_txn.entries
+                (subst (λ (n : ℕ). GivesRecordsWith v.log (end_of e.engine.trees.log) rows n e.engine.kept.last_db (active_number []) (λ t. [])) (sym at.last_txn)
+                (subst (λ (n : ℕ). GivesRecordsWith v.log (end_of e.engine.trees.log) rows p.last_txn n (active_number []) (λ t. [])) (sym at.last_db) v.gives)).base =
+                subst (Lives (fitting e.engine.trees) v.log e.engine.kept.since (pos_lsn (end_of e.engine.trees.log)) e.written.by_txn.entries)
+                (sym (same_under (λ (n : ℕ). GivesRecordsWith v.log (end_of e.engine.trees.log) rows n e.engine.kept.last_db (active_number []) (λ t. [])) (λ n g. g.base) (sym at.last_txn)
+                (subst (λ (n : ℕ). GivesRecordsWith v.log (end_of e.engine.trees.log) rows p.last_txn n (active_number []) (λ t. [])) (sym at.last_db) v.gives)
+                ∙ same_under (λ (n : ℕ). GivesRecordsWith v.log (end_of e.engine.trees.log) rows p.last_txn n (active_number []) (λ t. [])) (λ n g. g.base) (sym at.last_db) v.gives))
+                (lives_at observable state e.engine.trees.log (cells_of e.engine.trees) (has_tree_of e.engine.trees) (fitting e.engine.trees) e.engine.kept.since e.written.by_txn.entries (alone p) v) in
                 record {
                   log = v.log;
                   has = v.has;
@@ -172,10 +190,8 @@ module _ {D : Type 0} where
                       (subst (λ (n : ℕ). GivesRecordsWith v.log (end_of e.engine.trees.log) rows p.last_txn n (active_number []) (λ t. [])) (sym at.last_db) v.gives));
                   recovers = v.recovers;
                   made = v.makes.store;
-                  fits = subst (λ (b : ℕ). fitting e.engine.trees (placed v.log) b)
-                      (sym (same_under (λ (n : ℕ). GivesRecordsWith v.log (end_of e.engine.trees.log) rows n e.engine.kept.last_db (active_number []) (λ t. [])) (λ n g. g.base) (sym at.last_txn)
-                      (subst (λ (n : ℕ). GivesRecordsWith v.log (end_of e.engine.trees.log) rows p.last_txn n (active_number []) (λ t. [])) (sym at.last_db) v.gives)
-                      ∙ same_under (λ (n : ℕ). GivesRecordsWith v.log (end_of e.engine.trees.log) rows p.last_txn n (active_number []) (λ t. [])) (λ n g. g.base) (sym at.last_db) v.gives)) v.fits;
+                  fits = lives.fits;
+                  from = lives.from;
                 };
           };
         };

@@ -30,8 +30,6 @@ use Rattle.in_tree.proofs.Far.{full_is_far}
 use Rattle.active_txns.specs.Own.{has_changes}
 use Rattle.sessions.specs.declared.all_sessions.Sessions.{Sessions}
 use Rattle.sessions.specs.AtStanding.{AreSessionsAt, owing}
-use Rattle.store_model.specs.declared.call.Call.TheVariants.{Open, Close, Dup, Count, Cur, CPutCur, CDel, CPut}
-use Rattle.standing_laws.specs.Laws.{IsPlainCall}
 use Rattle.standing_laws.proofs.StandingsStay.{standings_stay-right}
 use Rattle.standing_laws.proofs.StandingsBare.{standings_stay-bare}
 use Rattle.txn_core.specs.Known.{committed}
@@ -43,7 +41,7 @@ use Rattle.engine.proofs.ReachLaws.{planned_few}
 use Rattle.environment.specs.declared.environment.Environment.{Environment}
 use Rattle.environment.specs.declared.outcome.Outcome.{Outcome}
 use Rattle.environment.specs.Answering.{AnswersCall}
-use Rattle.environment.specs.Calls.{HasNoCursor, called}
+use Rattle.environment.specs.Calls.{called}
 use Rattle.environment.specs.Limits.{owing_after, owing_with, written_call}
 use Rattle.log_buffer.specs.Growth.{longer}
 use Rattle.log_buffer.specs.Log.{HasLog}
@@ -52,18 +50,6 @@ use Rattle.store_model.specs.declared.record_change.RecordChange.{RecordChange}
 use Rattle.environment.specs.Steps.{CallsTo, HasCalled, IsLogStep, RecoversWith}
 use Rattle.environment.specs.Valid.{owed_by}
 use Rattle.environment.specs.Whole.{HasDone, HasLimit, IsAt, disk_of, end_file, reach_of}
-
--- a call on no cursor is one that scripts have
-pub plain_call : (call : Call) → HasNoCursor call → IsPlainCall call
-plain_call (Open cursor db) is = absurd is
-plain_call (Close cursor) is = absurd is
-plain_call (Dup cursor to) is = absurd is
-plain_call (Count cursor) is = is
-plain_call (Cur cursor motion rmw) is = is
-plain_call (CPutCur cursor value) is = is
-plain_call (CDel cursor) is = is
-plain_call (CPut cursor key value mode) is = is
-plain_call call is = tt
 
 -- ---- what is owed
 
@@ -165,7 +151,7 @@ module _ {D : Type 0} where
 
     -- ---- a call of a session
 
-    module _ (old new : Environment D) (session line : ℕ) (call : Call) (cursorless : HasNoCursor call) (valid : old.engine.kept.fault ≡ None) where
+    module _ (old new : Environment D) (session line : ℕ) (call : Call) (valid : old.engine.kept.fault ≡ None) where
       fault_none : (most : ℕ) (st : Standing) → IsAt most observable (now (history (disk_of old))) old st → st.fault ≡ None
       fault_none most st here = sym here.at.fault ∙ valid
 
@@ -182,8 +168,8 @@ module _ {D : Type 0} where
             answered = has.answers;
             here = record {
               at = has.here;
-              right = λ after. standings_stay-right has.limit st (Called session line call answer victims) none (here.right none) has.answers (plain_call call cursorless);
-              bare = λ after. standings_stay-bare has.limit st (Called session line call answer victims) none (here.right none) (here.bare none) has.answers (plain_call call cursorless);
+              right = λ after. standings_stay-right has.limit st (Called session line call answer victims) none (here.right none) has.answers;
+              bare = λ after. standings_stay-bare has.limit st (Called session line call answer victims) none (here.right none) (here.bare none) has.answers;
             };
           }
 

@@ -47,13 +47,6 @@ auto_call (Put name key value mode) db is = tt
 auto_call (Delete name key) db is = tt
 auto_call call db is = absurd is
 
-pub may_wait : (call : Call) (db : List ℕ) → IsOnRecords db call → MayWait call
-may_wait (Get name key rmw) db is = tt
-may_wait (GetBoth name key value rmw) db is = tt
-may_wait (Put name key value mode) db is = tt
-may_wait (Delete name key) db is = tt
-may_wait call db is = absurd is
-
 -- what is said of a call that has its needs, and of one that was stopped
 pub ready_is : (t : Taken) (P : Type 0) → t ≡ Ready → IfReady t P → P
 ready_is t P is h = subst (λ (x : Taken). IfReady x P) is h
@@ -67,7 +60,7 @@ pub stopped_is : (old new : Sessions) (session line : ℕ) (call : Call) (db : L
 stopped_is old new session line call db kind needs t answer victims is h = subst (λ (x : Taken). IfStopped x (Stops old new session line call db kind needs)) is h
 
 module _ {D : Type 0} (most : ℕ) (observable : Bool) (history : D → History) (e : Environment D) (st : Standing) (session : ℕ) (call : Call) where
-  pub auto_at : (g : Target) (db : List ℕ) (found : FoundDb) → StandsAt most observable history e st → AreSound st → e.engine.kept.fault ≡ None → MayCall st session true → IsFoundFor st session call db found g → IsOnRecords db call →
+  pub auto_at : (g : Target) (db : List ℕ) (found : FoundDb) → StandsAt most observable history e st → AreSound st → e.engine.kept.fault ≡ None → MayCall st session true → IsFoundFor st session call db found None g → IsOnRecords db call →
       active_of session st.actives ≡ None → IsAutoAt most observable history e st session call g
   auto_at g db found at sound valid may on records outside = record {
     at = at;

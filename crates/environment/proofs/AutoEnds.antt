@@ -30,6 +30,7 @@ use Rattle.txn_core.specs.Planning.{outcome_alone, outcome_on}
 use Rattle.txn_core.specs.Totals.{totals_of}
 use Rattle.sessions.specs.declared.all_sessions.Sessions.{Sessions}
 use Rattle.sessions.specs.AtStanding.{AreSessionsAt, owing}
+use Rattle.open_cursors.specs.Places.{AreUnder}
 use Rattle.sessions.specs.Taking.{HasStopped}
 use Rattle.standing_laws.proofs.Each.{all_append}
 use Rattle.standing_laws.proofs.Stopped.{LeavesSame, victims_apart, victims_leave}
@@ -137,10 +138,11 @@ module _ {D : Type 0} (observable : Bool) (history : D → History) (sync_out re
           totals = may.at.totals ∙ ap totals_of (sym leaves.store);
           sessions_at = stop.stands;
           apart = victims_apart there a line call g stop.need victims may.at.apart (no_wait session st.actives st.waiting may.outside may.sound.waits.each);
+          checkpoint = may.at.checkpoint ∙ sym leaves.checkpoint;
           valid = λ none.
               let state = now (history (disk_below e.engine.trees.log)) in
-              valid_leaves observable state e.engine.trees.log (cells_of e.engine.trees) (has_tree_of e.engine.trees) (fitting e.engine.trees) e.written.by_txn.entries there after leaves
-              (valid_begun observable state e.engine.trees.log (cells_of e.engine.trees) (has_tree_of e.engine.trees) (fitting e.engine.trees) e.written.by_txn.entries st a may.sound may.left refl (may.at.valid may.valid));
+              valid_leaves observable state e.engine.trees.log (cells_of e.engine.trees) (has_tree_of e.engine.trees) (fitting e.engine.trees) e.engine.kept.since e.written.by_txn.entries there after leaves
+              (valid_begun observable state e.engine.trees.log (cells_of e.engine.trees) (has_tree_of e.engine.trees) (fitting e.engine.trees) e.engine.kept.since e.written.by_txn.entries st a may.sound may.left refl (may.at.valid may.valid));
         };
         numbered = unnumbered answer after.commits calm;
         fault = leaves.fault ∙ may.valid ∙ ap (λ (b : Bool). cond b (Some Disk) None) (sym (faultless answer calm));
@@ -152,12 +154,12 @@ module _ {D : Type 0} (observable : Bool) (history : D → History) (sync_out re
 
   -- where its transaction has ended
   pub sessions_closed : (s : Sessions) (x : List (ℕ × RecordChange)) (after : Standing) → AreSessionsAt s (ended a (with_locks a (all_got a.txn (needs_in there a call g) st.locks.at) there)) →
-      after.fault ≡ st.fault → after.actives ≡ (ended a there).actives → after.own ≡ st.own → ((n : ℕ) → after.places n ≡ (ended a there).places n) → after.waiting ≡ st.waiting → after.locks ≡ (ended a (with_locks a (all_got a.txn (needs_in there a call g) st.locks.at) there)).locks →
+      after.fault ≡ st.fault → (AreUnder st.store st.numbers s.cursors → AreUnder after.store after.numbers s.cursors) → after.actives ≡ (ended a there).actives → after.own ≡ st.own → ((n : ℕ) → after.places n ≡ (ended a there).places n) → after.waiting ≡ st.waiting → after.locks ≡ (ended a (with_locks a (all_got a.txn (needs_in there a call g) st.locks.at) there)).locks →
       AreSessionsAt s after
-  sessions_closed s x after at fault actives own places waiting locks = record {
+  sessions_closed s x after at fault under actives own places waiting locks = record {
     actives = at.actives ∙ sym actives;
     own = at.own ∙ own_gone a.txn.0 st.own none_yet ∙ sym own;
-    places = record { each = λ n. at.places.each n ∙ sym (places n); apart = at.places.apart };
+    places = record { at = record { each = λ n. at.places.at.each n ∙ sym (places n); apart = at.places.at.apart }; under = under at.places.under };
     waiting = at.waiting ∙ sym waiting;
     locks = subst (λ (l : _). Rattle.sessions.specs.AtStanding.AreLocksAt after.fault s.locks.locks l) (sym locks)
         (subst (λ (f : _). Rattle.sessions.specs.AtStanding.AreLocksAt f s.locks.locks (ended a (with_locks a (all_got a.txn (needs_in there a call g) st.locks.at) there)).locks) (sym fault) at.locks);
@@ -190,8 +192,8 @@ module _ {D : Type 0} (observable : Bool) (history : D → History) (sync_out re
           let none : Evaluated = record { answer = ev.answer; answered = ev.answered; changes = []; place = ev.place } in
           let after : Standing = Ended none in
           let leaves : LeavesSame (record st { last_txn = last }) after =
-          same_leaves (record st { last_txn = last }) after refl refl (sym last_is) refl refl refl (back_own []) back_actives in
-          let stands = sessions_closed s [] after at refl refl (back_own []) (gone_again a.session (moved call ev.place (st.places a.session)) st.places) refl refl in
+          same_leaves (record st { last_txn = last }) after refl refl (sym last_is) refl refl refl refl (back_own []) back_actives in
+          let stands = sessions_closed s [] after at refl (λ u. u) refl (back_own []) (gone_again a.session (moved call ev.place (st.places a.session)) st.places) refl refl in
           let owed_new = owed_is s after stands in
           let owed_old = owed_is e.sessions st may.at.sessions_at in
           let fewer : owing after ≤ owing st = leaves.owing in
@@ -226,6 +228,7 @@ module _ {D : Type 0} (observable : Bool) (history : D → History) (sync_out re
           totals = may.at.totals;
           sessions_at = at;
           apart = may.at.apart;
+          checkpoint = may.at.checkpoint;
           valid = may.at.valid;
         };
         log = same_buffer e.engine.trees.log;

@@ -43,7 +43,7 @@ module _ {D : Type 0} (most : ℕ) (observable : Bool) (history : D → History)
   sound_there = sound_begun st.last_txn st.actives st.own st.places st.waiting st.locks a may.sound (let next = next_is st.last_txn may.left in omega (arith, next)) may.outside
 
   valid_there : IsValidAt observable history e there
-  valid_there = valid_begun observable (now (history (disk_below e.engine.trees.log))) e.engine.trees.log (cells_of e.engine.trees) (has_tree_of e.engine.trees) (fitting e.engine.trees) e.written.by_txn.entries st a may.sound may.left refl
+  valid_there = valid_begun observable (now (history (disk_below e.engine.trees.log))) e.engine.trees.log (cells_of e.engine.trees) (has_tree_of e.engine.trees) (fitting e.engine.trees) e.engine.kept.since e.written.by_txn.entries st a may.sound may.left refl
       (may.at.valid may.valid)
 
   on_there : IsOnDb there may.db found g
@@ -51,7 +51,6 @@ module _ {D : Type 0} (most : ℕ) (observable : Bool) (history : D → History)
     number = number;
     kind = kind;
     name = may.on.name;
-    at = may.on.at;
     is = may.on.is;
     there = may.on.there;
     named = may.on.named;
@@ -81,4 +80,5 @@ module _ {D : Type 0} (most : ℕ) (observable : Bool) (history : D → History)
     pub needs_are : (p : AccessPlan) → p.answer ≡ (evaluation found.kind call None seen).answer → p.changes ≡ (evaluation found.kind call None seen).changes →
         p.needs.items ≡ needs_of RepeatableRead found.number found.kind call None seen (keys_of (cells_of e.engine.trees found.number)) → p.needs.items ≡ needs_in there a call g
     needs_are p answer changes needs =
-        (planned_by e.engine.trees txn RepeatableRead may.db found call rising observable history e refl (Ok p) answer changes needs there a g valid_there sound_there on_there same refl).needs_are
+        (planned_by e.engine.trees txn RepeatableRead may.db found call None rising observable history e refl (Ok (record { plan = p; place = (evaluation found.kind call None seen).place })) answer changes needs refl there a g valid_there
+        sound_there on_there may.on.stands same refl).needs_are

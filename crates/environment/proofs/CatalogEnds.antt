@@ -4,6 +4,7 @@ use Rattle.log_trees.specs.Placed.{placed}
 use Rattle.txn_log.proofs.AtStandingLaws.{same_under}
 use Rattle.std.specs.Prelude.{IfNone, IfSome}
 use mathlib.Core.Path.{fun_ext}
+use Rattle.log_buffer.specs.Flip.{pos_lsn}
 use Rattle.std.specs.declared.alloc.AllocError.{AllocError}
 use Rattle.std.proofs.lemmas.Bool.{lt-ltb}
 use Rattle.je_disk.specs.Moments.{History, now}
@@ -34,9 +35,12 @@ use Rattle.je_answers.specs.Views.{target_of}
 use Rattle.log_file.specs.Log.{Log}
 use Rattle.log_buffer.specs.Buffer.{disk_of as disk_below, end_of}
 use Rattle.log_replay.specs.Rows.{Rows}
-use Rattle.in_tree.specs.Observed.{cells_of}
-use Rattle.sessions.specs.AtStanding.{owing}
-use Rattle.standing_laws.specs.Right.{AreSound}
+use Rattle.in_tree.specs.Observed.{cells_of, has_tree_of}
+use Rattle.open_cursors.specs.declared.open_cursors.OpenCursors.{OpenCursors}
+use Rattle.sessions.specs.AtStanding.{AreCursorsOn, owing}
+use Rattle.sessions.proofs.CursorStores.{under_kept}
+use Rattle.standing_laws.specs.Right.{AreSound, IsUnder}
+use Rattle.standing_laws.proofs.CursorDatabases.{under_evaluated}
 use Rattle.txn_core.specs.declared.planned.Planned.TheVariants.{Answered}
 use Rattle.txn_core.specs.Known.{committed}
 use Rattle.txn_core.specs.Planning.{HasModel, IsPlanned, outcome_alone, performed_outcome}
@@ -55,13 +59,14 @@ use Rattle.environment.specs.Calls.{ChangesCatalog}
 use Rattle.environment.specs.Catalog.{IsFreeToChange, IsUsedBy, IsUserOf, changed_number}
 use Rattle.environment.specs.Limits.{owing_with, written_evaluated}
 use Rattle.environment.specs.Steps.{HasCome, IsLogStep, PerformsAnswer, StandsAt}
-use Rattle.environment.specs.Valid.{active_number, fitting}
+use Rattle.environment.specs.Valid.{active_number, fitting, Lives}
 use Rattle.environment.specs.Whole.{CanGoOn, HasLimit, reach_of}
 use Rattle.environment.proofs.Answering.{within_more}
 use Rattle.environment.proofs.BeginLaws.{next_is, none_left, with_begun}
 use Rattle.environment.proofs.CatalogStanding.{alone_of, answers_alike, late_alike, leaves_alike, outside, with_alone}
 use Rattle.environment.proofs.EarlyLaws.{same_buffer, same_reach}
 use Rattle.environment.proofs.ListLaws.{drawn_at}
+use Rattle.environment.proofs.Bases.{lives_at}
 
 -- ---- a change of the catalog is a transaction of its own
 
@@ -158,6 +163,35 @@ user_none st numbers (Rename db to) is e = absurd cc
 user_none st numbers (Truncate db) is e = absurd cc
 user_none st numbers call is e = absurd is
 
+-- ---- where it ends without those that are under way, it ends among them
+
+module _ (limit : Option Answer) (after : Alone) (st : Standing) (session line : ℕ) (call : Call) (answer : Answer) (is : ChangesCatalog call) (early : early_refusal st session call ≡ None) (none : st.fault ≡ None)
+    (free : late_refusal (alone (alone_of st)) session call ≡ None → IsFreeToChange st call) (ends : EndsAlone limit (alone_of st) session call answer after) where
+  out_ : active_of session st.actives ≡ None
+  out_ = outside st session call is early
+
+  alike_ : late_refusal st session call ≡ late_refusal (alone (alone_of st)) session call
+  alike_ = late_alike st session call is out_
+
+  evaluates_alone : IsEvaluated (late_refusal st session call) limit st session line call answer []
+  evaluates_alone =
+      let may : IsEvaluatedAlone (late_refusal (alone (alone_of st)) session call) limit (alone_of st) session call answer = subst (λ (f : Option Fault). IsAnsweredAlone f limit (alone_of st) session call answer) none ends.answers in
+      answers_alike (late_refusal st session call) limit st session line call answer is (λ l. free (sym alike_ ∙ l)) (subst (λ (l : Option Answer). IsEvaluatedAlone l limit (alone_of st) session call answer) (sym alike_) may)
+
+  leaves_alone : after_evaluated (late_refusal st session call) st session line call answer [] ≡ with_alone after st
+  leaves_alone = leaves_alike (late_refusal st session call) st session line call answer is out_
+      ∙ ap (λ (l : Option Answer). with_alone (evaluated_alone l call (alone_of st) session answer) st) alike_
+      ∙ ap (λ (f : Option Fault). with_alone (after_alone f call (alone_of st) session answer) st) (sym none) ∙ ap (λ (q : Alone). with_alone q st) ends.leaves
+
+  -- no cursor is on a database that it changes
+  pub cursors_alone : (o : OpenCursors) → AreCursorsOn o st.store st.numbers st.places → AreCursorsOn o after.store after.numbers st.places
+  cursors_alone o on = record {
+    at = on.at;
+    under = under_kept o st (with_alone after st)
+        (λ number name kind has u. subst (λ (x : Standing). IsUnder x number name kind) leaves_alone
+        (under_evaluated number name kind (late_refusal st session call) limit st session line call answer [] refl has evaluates_alone u)) on;
+  }
+
 module _ {D : Type 0} where
   -- what is there without those that are under way
   unfoldable pub gives_without : (log : Log) (e : Environment D) (st : Standing) → e.engine.kept.last_txn ≡ st.last_txn → e.engine.kept.last_db ≡ st.last_db →
@@ -179,9 +213,15 @@ module _ {D : Type 0} where
     last_db = at.last_db;
     commits = at.commits;
     totals = at.totals;
+    checkpoint = at.checkpoint;
     numbers = λ none. fun_ext (at.valid none).makes.named;
     valid = λ none.
         let v = at.valid none in
+        let lives = subst (Lives (fitting e.engine.trees) v.log e.engine.kept.since (pos_lsn (end_of e.engine.trees.log)) e.written.by_txn.entries)
+        (sym (same_under (λ (n : ℕ). GivesRecordsWith v.log (end_of e.engine.trees.log) (committed (cells_of e.engine.trees)) n e.engine.kept.last_db (active_number st.actives) st.own) (λ n g. g.base) (sym at.last_txn)
+        (subst (λ (n : ℕ). GivesRecordsWith v.log (end_of e.engine.trees.log) (committed (cells_of e.engine.trees)) st.last_txn n (active_number st.actives) st.own) (sym at.last_db) v.gives)
+        ∙ same_under (λ (n : ℕ). GivesRecordsWith v.log (end_of e.engine.trees.log) (committed (cells_of e.engine.trees)) st.last_txn n (active_number st.actives) st.own) (λ n g. g.base) (sym at.last_db) v.gives))
+        (lives_at observable (now (history (disk_below e.engine.trees.log))) e.engine.trees.log (cells_of e.engine.trees) (has_tree_of e.engine.trees) (fitting e.engine.trees) e.engine.kept.since e.written.by_txn.entries st v) in
         record {
           log = v.log;
           has = v.has;
@@ -189,10 +229,8 @@ module _ {D : Type 0} where
           gives = gives_without v.log e st at.last_txn at.last_db v.gives;
           recovers = v.recovers;
           made = v.makes.store;
-          fits = subst (λ (b : ℕ). fitting e.engine.trees (placed v.log) b)
-              (sym (same_under (λ (n : ℕ). GivesRecordsWith v.log (end_of e.engine.trees.log) (committed (cells_of e.engine.trees)) n e.engine.kept.last_db (active_number st.actives) st.own) (λ n g. g.base) (sym at.last_txn)
-              (subst (λ (n : ℕ). GivesRecordsWith v.log (end_of e.engine.trees.log) (committed (cells_of e.engine.trees)) st.last_txn n (active_number st.actives) st.own) (sym at.last_db) v.gives)
-              ∙ same_under (λ (n : ℕ). GivesRecordsWith v.log (end_of e.engine.trees.log) (committed (cells_of e.engine.trees)) st.last_txn n (active_number st.actives) st.own) (λ n g. g.base) (sym at.last_db) v.gives)) v.fits;
+          fits = lives.fits;
+          from = lives.from;
         };
   }
 
@@ -230,13 +268,9 @@ module _ {D : Type 0} where
         let alike : late_refusal st session call ≡ late_refusal (alone p) session call = late_alike st session call is out in
         let same : (outcome_unless (late_refusal st session call) (performed_outcome p session call)).changes ≡ changes =
         ap (λ (l : Option Answer). (outcome_unless l (performed_outcome p session call)).changes) alike ∙ outcome in
-        let may : IsEvaluatedAlone (late_refusal (alone p) session call) limit p session call answer = subst (λ (f : Option Fault). IsAnsweredAlone f limit p session call answer) none ends.answers in
         come most old new st session line call answer changes limit after out
         (written_are (late_refusal st session call) st session call is ∙ same) (committed_are (late_refusal st session call) st session call is ∙ same) has
-        (answers_alike (late_refusal st session call) limit st session line call answer is (λ l. free (sym alike ∙ l)) (subst (λ (l : Option Answer). IsEvaluatedAlone l limit p session call answer) (sym alike) may))
-        (leaves_alike (late_refusal st session call) st session line call answer is out
-        ∙ ap (λ (l : Option Answer). with_alone (evaluated_alone l call p session answer) st) alike
-        ∙ ap (λ (f : Option Fault). with_alone (after_alone f call p session answer) st) (sym none) ∙ ap (λ (q : Alone). with_alone q st) ends.leaves)
+        (evaluates_alone limit after st session line call answer is early none free ends) (leaves_alone limit after st session line call answer is early none free ends)
         here numbered fault logged near
 
     -- a number is drawn, and nothing else

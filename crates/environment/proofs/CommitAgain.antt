@@ -1,4 +1,5 @@
 -- A call that waited, is a transaction of its own, and changes something.
+use Rattle.std.specs.Prelude.{is_some}
 use Rattle.std.proofs.Common.{◌≡◌, ◌≢◌, ◌∙◌, ◌⊎◌, inl, inr, ℕ, zero, suc, ◌+◌, ◌≤◌, Bool, true, false, true≢false, cond, List, [], ◌∷◌, ◌++◌, count_by, filter, length, map, Ok, Option, None, Some, refl, ap, ap₂, sym, subst, arith}
 use Rattle.std.proofs.lemmas.Bool.{eq-eqb}
 use Rattle.std.proofs.lemmas.List.{append-nil, length-map}
@@ -45,7 +46,8 @@ use Rattle.environment.specs.Steps.{HasFailedWith, HasGrown, HasStepped, IsLogSt
 use Rattle.environment.specs.Whole.{HasLimit, reach_of}
 use Rattle.environment.specs.Written.{had_at}
 use Rattle.environment.proofs.CommitLaws.{failed_then, grown_then, had_within, is_under_way, owing_one, settled, settled_near}
-use Rattle.environment.proofs.FinishLaws.{Evaluates, Takes, calm_outcome, in_sessions}
+use Rattle.environment.proofs.FinishLaws.{Evaluates, Takes, in_sessions}
+use Rattle.environment.proofs.RecordAnswers.{calm_outcome, well_outcome}
 use Rattle.environment.specs.Valid.{owed_by}
 use Rattle.environment.specs.Writing.{WritesOwn}
 use Rattle.sessions.specs.AtStanding.{AreSessionsAt, owing, with_own}
@@ -56,8 +58,8 @@ use Rattle.engine.specs.declared.kept.Kept.{Kept}
 use Rattle.store_model.specs.Store.{change_in}
 use Rattle.environment.proofs.EndingLaws.{abandoned, abandoned_near, found_session}
 use Rattle.environment.proofs.EarlyLaws.{told_so}
-use Rattle.environment.proofs.OwnEnds.{owing_pushed, well_outcome, writes_move, writes_up}
-use Rattle.environment.specs.Access.{AccessesTo, HasAccessed, IsTakenUp}
+use Rattle.environment.proofs.OwnEnds.{owing_pushed, writes_move, writes_up}
+use Rattle.environment.specs.Access.{AccessesTo, HasAccessed, IsTakenUp, with_move}
 use Rattle.environment.specs.declared.outcome.Outcome.{Outcome}
 use Rattle.db_catalog.specs.declared.found_db.FoundDb.{FoundDb}
 use Rattle.je_answers.specs.Locking.{all_got}
@@ -288,6 +290,7 @@ module _ {D : Type 0} (observable : Bool) (history : D → History) (sync_out re
             totals = ap (λ (k : Kept). k.totals) h.kept ∙ ap (λ (k : Kept). k.totals) w.4 ∙ here.totals;
             sessions_at = record { actives = stands.actives; own = stands.own; places = stands.places; waiting = stands.waiting; locks = tt };
             apart = here.apart;
+            checkpoint = ap (λ (k : Kept). is_some k.checkpoints.under_way) h.kept ∙ ap (λ (k : Kept). is_some k.checkpoints.under_way) w.4 ∙ here.checkpoint;
             valid = λ calm. absurd cc;
           };
           numbered = tt;
@@ -340,10 +343,10 @@ module _ {D : Type 0} (observable : Bool) (history : D → History) (sync_out re
     as_ l = record { answer = outcome_.answer; answered = outcome_.answered; changes = l; place = outcome_.place }
 
     calm_ : IsCalm outcome_.answer
-    calm_ = calm_outcome st a call db g up.records up.on.at
+    calm_ = calm_outcome st a call g up.records
 
     well_ : fate_of outcome_.answer ≡ Succeeds
-    well_ = well_outcome st a call db g up.records up.on.at
+    well_ = well_outcome st a call g up.records
 
     its_ : active_of a.session st.actives ≡ Some a
     its_ = ap (λ (n : ℕ). active_of n st.actives) (found_session session a st.actives up.its) ∙ up.its
@@ -369,7 +372,7 @@ module _ {D : Type 0} (observable : Bool) (history : D → History) (sync_out re
     abbrev Came : Environment D → Wrote → Type 0
     Came mid wrote = HasPushedAndLogged observable history sync_out read_out read_of e mid a (needs_in st a call g) st g changes (Ok wrote)
 
-    up_as : (mid : Environment D) (s : Sessions) (wrote : Wrote) (p : Came mid wrote) → AreEndedBy wrote s a (needs_in st a call g) p.more st → (c : RecordChange) (cs : List RecordChange) → changes ≡ c ∷ cs →
+    up_as : (mid : Environment D) (s : Sessions) (wrote : Wrote) (p : Came mid wrote) → AreEndedBy wrote s a call outcome_.place (needs_in st a call g) p.more st → (c : RecordChange) (cs : List RecordChange) → changes ≡ c ∷ cs →
         WritesAs observable history sync_out read_out read_of (as_ (c ∷ cs)) most before (in_sessions s mid) st a call g wrote
     up_as mid s wrote p stands c cs is =
         subst (λ (l : List RecordChange). WritesAs observable history sync_out read_out read_of (as_ l) most before (in_sessions s mid) st a call g wrote) (sym up.changes_are ∙ is)
@@ -389,7 +392,8 @@ module _ {D : Type 0} (observable : Bool) (history : D → History) (sync_out re
     had_now mid p = by_first (λ l. had_at a.txn mid.written.by_txn.entries ≤ before.engine.kept.totals.records + count_by is_set l)
         (λ c cs is. had_again most before mid mid st a call g outcome_ c cs up.valid bare its_ up.on.there auto calm_ well_ (logs_as mid p c cs is) up.here)
 
-    pub accesses_done : (mid new : Environment D) (s : Sessions) (records : ℕ) (o : Outcome) (p : Came mid Done) → AreSessionsAt s (with_locks a (all_got a.txn (needs_in st a call g) st.locks.at) (with_own a.txn.0 p.more st)) →
+    pub accesses_done : (mid new : Environment D) (s : Sessions) (records : ℕ) (o : Outcome) (p : Came mid Done) →
+        AreSessionsAt s (with_move a call outcome_.place (with_locks a (all_got a.txn (needs_in st a call g) st.locks.at) (with_own a.txn.0 p.more st))) →
         HasSettled observable history sync_out read_out read_of faults (in_sessions s mid) new session a.txn records →
         records + had_at a.txn mid.written.by_txn.entries ≡ before.engine.kept.totals.records + count_by is_set changes → o.answer ≡ Logged (st.commits + 1) → o.victims ≡ [] →
         AccessesTo observable history sync_out read_out read_of most before new st a line call g (Ok o)

@@ -10,15 +10,12 @@ use Rattle.je_order.specs.declared.txn_id.TxnId.{TxnId}
 use Rattle.store_model.specs.declared.answer.Answer.{Answer}
 use Rattle.store_model.specs.declared.answer.Fault.TheVariants.{Disk}
 use Rattle.store_model.specs.declared.call.Call.{Call}
-use Rattle.store_model.specs.declared.call.Call.TheVariants.{Get, GetBoth, Put, Delete}
 use Rattle.store_model.specs.declared.kind.Kind.{Kind}
 use Rattle.store_model.specs.declared.need.Need.{Need}
 use Rattle.store_model.specs.declared.place.Place.{Place}
 use Rattle.store_model.specs.declared.record_change.RecordChange.{RecordChange}
 use Rattle.store_model.specs.declared.victim.Victim.{Victim}
-use Rattle.store_model.specs.Reads.{seen}
-use Rattle.store_model.specs.Records.{Evaluated, deleted, evaluation, exactly, found, all_of_key, first_of_key, look_of_put, put_unless, tested_for}
-use Rattle.store_model.specs.Store.{Pair}
+use Rattle.store_model.specs.Records.{Evaluated}
 use Rattle.je_answers.specs.declared.active.Active.{Active}
 use Rattle.je_answers.specs.Standing.{LockState, Standing, with_at}
 use Rattle.je_answers.specs.Views.{Target, changes_on, needs_in, outcome_of, view_of}
@@ -35,45 +32,19 @@ use Rattle.sessions.specs.declared.all_sessions.Sessions.{Sessions}
 use Rattle.sessions.specs.AtStanding.{AreSessionsAt, owing}
 use Rattle.engine.specs.declared.engine.Engine.{Engine}
 use Rattle.engine.proofs.CalmAnswers.{IsCalm, faultless, unnumbered}
-use Rattle.environment.proofs.PlacesLaws.{IsUnmoved, not_moved, still_placed}
 use Rattle.environment.specs.declared.environment.Environment.{Environment}
 use Rattle.environment.specs.declared.outcome.Outcome.{Outcome}
 use Rattle.environment.specs.declared.written.OwnNames.{OwnNames}
 use Rattle.environment.specs.declared.written.Written.{Written}
 use Rattle.db_catalog.specs.declared.found_db.FoundDb.{FoundDb}
-use Rattle.environment.specs.Access.{HasAccessed, IsTakenUp}
-use Rattle.environment.specs.Calls.{IsOnRecords}
+use Rattle.environment.specs.Access.{HasAccessed, IsTakenUp, with_move}
 use Rattle.environment.specs.Limits.{owing_with, written_taken}
 use Rattle.environment.specs.Steps.{HasStepped, IsLogStep, StandsAt}
 use Rattle.environment.specs.Valid.{IsValidWith, fitting, Forest}
 use Rattle.environment.proofs.Answering.{owed_is, within_more}
 use Rattle.environment.proofs.EarlyLaws.{same_buffer, told_so}
 use Rattle.environment.proofs.EndingLaws.{near_owed}
-
--- ---- what a call on records answers is calm
-
-calm_found : (at : Option Name) (taken : List Pair) → IsCalm (found at taken).answer
-calm_found at [] = refl
-calm_found at (p ∷ ps) = refl
-
-calm_put : (kind : Kind) (at then_at : Option Name) (key value : List ℕ) (taken : List Pair) → IsCalm (put_unless kind at then_at key value taken).answer
-calm_put kind at then_at key value [] = refl
-calm_put kind at then_at key value (p ∷ ps) = refl
-
-calm_deleted : (kind : Kind) (at : Option Name) (taken : List Pair) → IsCalm (deleted kind at taken).answer
-calm_deleted kind at [] = refl
-calm_deleted kind at (p ∷ ps) = refl
-
-calm_evaluated : (kind : Kind) (call : Call) (db : List ℕ) (pairs : List Pair) → IsOnRecords db call → IsCalm (evaluation kind call None pairs).answer
-calm_evaluated kind (Get name key rmw) db pairs on = calm_found None (seen kind (first_of_key kind key).way (first_of_key kind key).range pairs)
-calm_evaluated kind (GetBoth name key value rmw) db pairs on = calm_found None (tested_for kind value (seen kind (exactly kind key value).way (exactly kind key value).range pairs))
-calm_evaluated kind (Put name key value mode) db pairs on = calm_put kind None None key value (seen kind (look_of_put mode kind key value).way (look_of_put mode kind key value).range pairs)
-calm_evaluated kind (Delete name key) db pairs on = calm_deleted kind None (seen kind (all_of_key kind key).way (all_of_key kind key).range pairs)
-calm_evaluated kind call db pairs on = absurd on
-
-pub calm_outcome : (st : Standing) (a : Active) (call : Call) (db : List ℕ) (g : Target) → IsOnRecords db call → g.at ≡ None → IsCalm (outcome_of st a call g).answer
-calm_outcome st a call db g on at =
-    subst (λ (o : Option Name). IsCalm (evaluation g.database.kind call o (view_of st a g)).answer) (sym at) (calm_evaluated g.database.kind call db (view_of st a g) on)
+use Rattle.environment.proofs.RecordAnswers.{calm_outcome}
 
 -- ---- where nothing is changed the own changes are the same
 
@@ -89,11 +60,11 @@ abbrev Elsewhere : Standing → (ℕ → List (ℕ × RecordChange)) → (ℕ �
 Elsewhere st own places locks = record st { own = own; places = places; locks = locks }
 
 module _ {D : Type 0} where
-  pub valid_elsewhere : (observable : Bool) (state : State) (buffer : LogBuffer D) (cells : AllCells) (has_tree : ℕ → Bool) (forest : Forest) (written : List (TxnId × OwnNames)) (st : Standing) (own : ℕ → List (ℕ × RecordChange))
-      (places : ℕ → List Place) (locks : LockState) → st.own ≡ own → IsValidWith observable state buffer cells has_tree forest written st →
-      IsValidWith observable state buffer cells has_tree forest written (Elsewhere st own places locks)
-  valid_elsewhere observable state buffer cells has_tree forest written st own places locks same v =
-      subst (λ (o : ℕ → List (ℕ × RecordChange)). IsValidWith observable state buffer cells has_tree forest written (Elsewhere st o places locks)) same (record {
+  pub valid_elsewhere : (observable : Bool) (state : State) (buffer : LogBuffer D) (cells : AllCells) (has_tree : ℕ → Bool) (forest : Forest) (since : ℕ) (written : List (TxnId × OwnNames)) (st : Standing) (own : ℕ → List (ℕ × RecordChange))
+      (places : ℕ → List Place) (locks : LockState) → st.own ≡ own → IsValidWith observable state buffer cells has_tree forest since written st →
+      IsValidWith observable state buffer cells has_tree forest since written (Elsewhere st own places locks)
+  valid_elsewhere observable state buffer cells has_tree forest since written st own places locks same v =
+      subst (λ (o : ℕ → List (ℕ × RecordChange)). IsValidWith observable state buffer cells has_tree forest since written (Elsewhere st o places locks)) same (record {
         log = v.log;
         has = v.has;
         works = v.works;
@@ -113,6 +84,8 @@ module _ {D : Type 0} where
         room = v.room;
         names = v.names;
         fits = v.fits;
+        from = v.from;
+        firsts = v.firsts;
       })
 
   -- the environment with these sessions
@@ -130,7 +103,8 @@ module _ {D : Type 0} where
     totals = at.totals;
     sessions_at = stands;
     apart = at.apart;
-    valid = λ none. valid_elsewhere observable (now (history (disk_below e.engine.trees.log))) e.engine.trees.log (cells_of e.engine.trees) (has_tree_of e.engine.trees) (fitting e.engine.trees) e.written.by_txn.entries st own places locks same
+    checkpoint = at.checkpoint;
+    valid = λ none. valid_elsewhere observable (now (history (disk_below e.engine.trees.log))) e.engine.trees.log (cells_of e.engine.trees) (has_tree_of e.engine.trees) (fitting e.engine.trees) e.engine.kept.since e.written.by_txn.entries st own places locks same
         (at.valid none);
   }
 
@@ -158,12 +132,12 @@ module _ {D : Type 0} where
     abbrev pub without : Evaluated → Evaluated
     without ev = record { answer = ev.answer; answered = ev.answered; changes = []; place = ev.place }
 
-    changes_nothing : (most : ℕ) (e : Environment D) (s : Sessions) (st : Standing) (a : Active) (call : Call) (g : Target) (answer : Answer) (ev : Evaluated) → StandsAt most observable history e st → st.fault ≡ None → IsUnmoved call →
-        AreSessionsAt s (answered a call g st) → answer ≡ ev.answer → IsCalm answer → Changes most e (in_sessions s e) st a call g answer (without ev) false
-    changes_nothing most e s st a call g answer ev at none unmoved stands is calm =
+    changes_nothing : (most : ℕ) (e : Environment D) (s : Sessions) (st : Standing) (a : Active) (call : Call) (g : Target) (answer : Answer) (ev : Evaluated) → StandsAt most observable history e st → st.fault ≡ None →
+        AreSessionsAt s (with_move a call ev.place (answered a call g st)) → answer ≡ ev.answer → IsCalm answer → Changes most e (in_sessions s e) st a call g answer (without ev) false
+    changes_nothing most e s st a call g answer ev at none stands is calm =
         let after : Standing = with_outcome a call g (without ev) (answered a call g st) in
         let same : st.own ≡ after.own = same_own a.txn.0 st.own in
-        let stands_now : AreSessionsAt s after = record { actives = stands.actives; own = stands.own ∙ same; places = still_placed s.cursors st.places a.session call ev.place unmoved stands.places; waiting = stands.waiting; locks = stands.locks } in
+        let stands_now : AreSessionsAt s after = record { actives = stands.actives; own = stands.own ∙ same; places = stands.places; waiting = stands.waiting; locks = stands.locks } in
         let owes : owing after ≡ owing st = ap (λ (own : ℕ → List (ℕ × RecordChange)). length (filter (λ b. has_changes (own b.txn.0)) st.actives)) (sym same) in
         record {
           limit = None;
@@ -177,25 +151,25 @@ module _ {D : Type 0} where
         }
 
     evaluates_nothing : (most : ℕ) (e : Environment D) (s : Sessions) (st : Standing) (a : Active) (call : Call) (g : Target) (answer : Answer) (ev : Evaluated) (cs : List RecordChange) → ev.changes ≡ cs → cs ≡ [] →
-        a.is_auto ≡ false → StandsAt most observable history e st → st.fault ≡ None → IsUnmoved call → AreSessionsAt s (answered a call g st) → answer ≡ ev.answer → IsCalm answer →
+        a.is_auto ≡ false → StandsAt most observable history e st → st.fault ≡ None → AreSessionsAt s (with_move a call ev.place (answered a call g st)) → answer ≡ ev.answer → IsCalm answer →
         Evaluates most e (in_sessions s e) st a call g answer a.is_auto ev
-    evaluates_nothing most e s st a call g answer ev cs has empty auto at none unmoved stands is calm =
+    evaluates_nothing most e s st a call g answer ev cs has empty auto at none stands is calm =
         subst (λ (l : List RecordChange). Evaluates most e (in_sessions s e) st a call g answer a.is_auto (record { answer = ev.answer; answered = ev.answered; changes = l; place = ev.place })) (sym (has ∙ empty))
-        (subst (Changes most e (in_sessions s e) st a call g answer (without ev)) (sym auto) (changes_nothing most e s st a call g answer ev at none unmoved stands is calm))
+        (subst (Changes most e (in_sessions s e) st a call g answer (without ev)) (sym auto) (changes_nothing most e s st a call g answer ev at none stands is calm))
 
     pub calm_taken : (before e : Environment D) (most session : ℕ) (st : Standing) (a : Active) (call : Call) (db : List ℕ) (found : FoundDb) (g : Target) (answer : Answer) (changes : List RecordChange) →
         IsTakenUp observable history most before e st session a call db found g answer changes → IsCalm answer
-    calm_taken before e most session st a call db found g answer changes up = subst IsCalm (sym up.answer_is) (calm_outcome st a call db g up.records up.on.at)
+    calm_taken before e most session st a call db found g answer changes up = subst IsCalm (sym up.answer_is) (calm_outcome st a call g up.records)
 
     pub finishes : (before e : Environment D) (s : Sessions) (most session line : ℕ) (st : Standing) (a : Active) (call : Call) (db : List ℕ) (found : FoundDb) (g : Target) (answer : Answer) (changes : List RecordChange) (o : Outcome) →
-        IsTakenUp observable history most before e st session a call db found g answer changes → changes ≡ [] → a.is_auto ≡ false → AreSessionsAt s (with_locks a (all_got a.txn (needs_in st a call g) st.locks.at) st) →
+        IsTakenUp observable history most before e st session a call db found g answer changes → changes ≡ [] → a.is_auto ≡ false → AreSessionsAt s (with_move a call (outcome_of st a call g).place (with_locks a (all_got a.txn (needs_in st a call g) st.locks.at) st)) →
         o.answer ≡ answer → o.victims ≡ [] → HasAccessed observable history sync_out read_out read_of most before (in_sessions s e) st a line call g o.answer o.victims
     finishes before e s most session line st a call db found g answer changes o up empty auto stands told alone =
         told_so (HasAccessed observable history sync_out read_out read_of most before (in_sessions s e) st a line call g) o answer told alone
         (subst (λ (w : Written). HasAccessed observable history sync_out read_out read_of most before (record { engine = e.engine; sessions = s; written = w }) st a line call g answer []) (sym up.written)
         (subst (λ (x : Engine D). HasAccessed observable history sync_out read_out read_of most before (record { engine = x; sessions = s; written = before.written }) st a line call g answer []) (sym up.engine)
         (subst (Takes most before (in_sessions s before) st a line call g answer) (sym up.taken.free)
-        (evaluates_nothing most before s st a call g answer (outcome_of st a call g) (outcome_of st a call g).changes refl (sym up.changes_are ∙ empty) auto up.here up.valid (not_moved call db up.records) stands up.answer_is calm))))
+        (evaluates_nothing most before s st a call g answer (outcome_of st a call g) (outcome_of st a call g).changes refl (sym up.changes_are ∙ empty) auto up.here up.valid stands up.answer_is calm))))
       where
         calm : IsCalm answer
         calm = calm_taken before e most session st a call db found g answer changes up

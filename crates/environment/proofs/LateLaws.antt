@@ -10,7 +10,9 @@ use Rattle.node_core.proofs.NameOrder.{itself}
 use Rattle.store_model.specs.declared.answer.Answer.{Answer}
 use Rattle.store_model.specs.declared.answer.Answer.TheVariants.{IdsEnded, NoDatabase}
 use Rattle.store_model.specs.declared.call.Call.{Call}
-use Rattle.store_model.specs.declared.call.Call.TheVariants.{Get, GetBoth, Put, Delete}
+use Rattle.store_model.specs.declared.call.Call.TheVariants.{Get, GetBoth, Put, Delete, Count, Cur, CPutCur, CDel, CPut}
+use Rattle.store_model.specs.declared.motion.Motion.{Motion}
+use Rattle.store_model.specs.declared.motion.Motion.TheVariants.{Key, Range as InRange, Both, BothRange}
 use Rattle.store_model.specs.declared.kind.Kind.{Kind}
 use Rattle.store_model.specs.declared.store.Database.{Database}
 use Rattle.store_model.specs.declared.store.TheConstants.{LAST_TXN}
@@ -20,7 +22,7 @@ use Rattle.store_model.specs.declared.kind.Kind.TheVariants.{Plain as IsPlain, D
 use Rattle.store_model.specs.declared.put_mode.PutMode.{PutMode}
 use Rattle.store_model.specs.declared.put_mode.PutMode.TheVariants.{Overwrite, NoOverwrite, NoDupData}
 use Rattle.je_order.specs.declared.limits.TheConstants.{KEY_LIMIT}
-use Rattle.store_model.specs.Refusals.{access_refusal, data_limit, database_refuses, kind_refusal, or_refusal, pair_refusal, too_long}
+use Rattle.store_model.specs.Refusals.{access_refusal, data_limit, database_refuses, kind_refusal, motion_refusal, or_refusal, pair_refusal, too_long}
 use Rattle.environment.proofs.EarlyLaws.{IsCalmRefusal, calm_or}
 use Rattle.store_model.specs.Store.{database_of}
 use Rattle.je_answers.specs.declared.active.Active.{Active}
@@ -40,7 +42,8 @@ use Rattle.txn_log.specs.Committing.{MakesStore}
 use Rattle.txn_log.proofs.CommittingLaws.{database_numbered}
 use Rattle.engine.proofs.CalmAnswers.{IsCalm}
 use Rattle.environment.specs.Access.{IsLate}
-use Rattle.environment.specs.Calls.{IsOnRecords}
+use Rattle.standing_laws.specs.Right.{MayWait}
+use Rattle.environment.specs.Calls.{IsAtCursor, IsOnRecords}
 use Rattle.environment.specs.declared.late.Late.TheVariants.{Refused, Found}
 
 -- ---- the refusals
@@ -50,12 +53,12 @@ number_is : (last : ℕ) (o : Option Active) (kept : ℕ) → kept ≡ last → 
 number_is last None kept same none over = ap (λ (b : Bool). cond b None (Some IdsEnded)) (let test : nat_lt last LAST_TXN ≡ false = grind (arith, nat_tests) in test)
 number_is last (Some a) kept same none over = absurd (true≢false none)
 
-number_is_none : (n : Option Answer) → is_some n ≡ false → n ≡ None
+pub number_is_none : (n : Option Answer) → is_some n ≡ false → n ≡ None
 number_is_none None is = refl
 number_is_none (Some x) is = absurd (true≢false is)
 
 -- where one is wanted and none is left
-number_ended : (last : ℕ) (o : Option Active) → is_some (number_refusal last o) ≡ true → number_refusal last o ≡ Some IdsEnded
+pub number_ended : (last : ℕ) (o : Option Active) → is_some (number_refusal last o) ≡ true → number_refusal last o ≡ Some IdsEnded
 number_ended last None is = by_test (nat_lt last LAST_TXN) is
   where
     by_test : (b : Bool) → is_some (cond b None (Some IdsEnded)) ≡ true → cond b None (Some IdsEnded) ≡ Some IdsEnded
@@ -122,6 +125,55 @@ found_number (Some r) f is = by_kind r.kind is
     by_kind (SliceIndex primary offset len) e = absurd cc
     by_kind (FieldIndex primary number separator) e = absurd cc
 
+-- the database of a name is that of the name's number
+pub record IsKnownAs (st : Standing) (db : List ℕ) (d : Database) : Type 0 where
+  pub name : d.name ≡ db
+  pub above : st.numbers db ≢ 0
+  pub there : database_at (st.numbers db) st ≡ Some d
+
+pub known_as : (rows : Rows) (st : Standing) (makes : MakesStore rows st.last_db st) (db : List ℕ) (d : Database) → database_of db st.store ≡ Some d → IsKnownAs st db d
+known_as rows st makes db d here = record { name = name_is; above = above; there = by_number }
+  where
+    name_is : d.name ≡ db
+    name_is = same_is d.name db (passes (λ (x : Database). is_same_bytes x.name db) st.store.databases d here)
+
+    above : st.numbers db ≢ 0
+    above zero_ =
+        let gone = database_of-absent rows db makes.environment (makes.named db ∙ zero_) in
+        absurd (let e : None ≡ Some d = sym gone ∙ ap (database_of db) makes.store ∙ here in cc)
+
+    by_number : database_at (st.numbers db) st ≡ Some d
+    by_number =
+        let other = database_numbered rows st.last_db st db makes (λ e. above (sym (makes.named db) ∙ e)) in
+        let is : database_at (st.numbers db) st ≡ Some other.database = ap (λ (n : ℕ). database_at n st) (sym (makes.named db)) ∙ other.is in
+        let one : d ≡ other.database =
+        one_first (λ (x : Database). is_same_bytes x.name db) (λ (x : Database). st.numbers x.name == st.numbers db) st.store.databases d other.database here is
+        (ap (λ (n : List ℕ). is_same_bytes n db) other.name_is ∙ same_itself db) (eq-eqb (st.numbers d.name) (st.numbers db) (ap st.numbers name_is)) in
+        is ∙ ap Some (sym one)
+
+module _ (rows : Rows) (st : Standing) (makes : MakesStore rows st.last_db st) (db : List ℕ) where
+  found_none : (o : Option Database) (found : Option FoundDb) → IsFoundAs o found → found ≡ None → o ≡ None
+  found_none None found as_ none = refl
+  found_none (Some d) found as_ none = absurd (let e = sym none ∙ as_.1 in cc)
+
+  pub absent_by : (found : Option FoundDb) → IsFoundAs (database_of db (store_of rows)) found → found ≡ None → database_of db st.store ≡ None
+  absent_by found as_ absent = ap (database_of db) (sym makes.store) ∙ found_none (database_of db (store_of rows)) found as_ absent
+
+  pub record IsThere (found : FoundDb) : Type 0 where
+    pub database : Database
+    pub is : database_of db st.store ≡ Some database
+    pub kind : database.kind ≡ found.kind
+
+  found_there : (o : Option Database) (found : Option FoundDb) (f : FoundDb) → database_of db st.store ≡ o → IsFoundAs o found → found ≡ Some f → IsThere f
+  found_there None found f is as_ there = absurd (let e = sym as_ ∙ there in cc)
+  found_there (Some d) found f is as_ there = record { database = d; is = is; kind = ap (λ (x : FoundDb). x.kind) (some_is _ f (sym as_.1 ∙ there)) }
+
+  pub there_by : (found : Option FoundDb) (f : FoundDb) → IsFoundAs (database_of db (store_of rows)) found → found ≡ Some f → IsThere f
+  there_by found f as_ there = found_there (database_of db (store_of rows)) found f (ap (database_of db) (sym makes.store)) as_ there
+
+  pub number_by : (found : Option FoundDb) (f : FoundDb) → found ≡ found_in (record_named rows db) → found ≡ Some f → st.numbers db ≡ f.number
+  number_by found f exact there = sym (makes.named db) ∙ found_number (record_named rows db) f (sym exact ∙ there)
+
 module _ (rows : Rows) (st : Standing) (makes : MakesStore rows st.last_db st) (session : ℕ) (call : Call) (db : List ℕ) (on : IsOnRecords db call) where
   abbrev pub number : Option Answer
   number = number_refusal st.last_txn (active_of session st.actives)
@@ -136,33 +188,17 @@ module _ (rows : Rows) (st : Standing) (makes : MakesStore rows st.last_db st) (
     refl,
   )
 
-  found_none : (o : Option Database) (found : Option FoundDb) → IsFoundAs o found → found ≡ None → o ≡ None
-  found_none None found as_ none = refl
-  found_none (Some d) found as_ none = absurd (let e = sym none ∙ as_.1 in cc)
-
   pub late_absent : is_some number ≡ false → (found : Option FoundDb) → IsFoundAs (database_of db (store_of rows)) found → found ≡ None → IsLate st session call db (Refused NoDatabase)
   late_absent none found as_ absent =
-      let gone : database_of db st.store ≡ None = ap (database_of db) (sym makes.store) ∙ found_none (database_of db (store_of rows)) found as_ absent in (
+      let gone = absent_by rows st makes db found as_ absent in (
         late_on None gone ∙ ap (λ (n : Option Answer). or_refusal n (Some NoDatabase)) (number_is_none number none),
         refl,
       )
 
-  record IsThere (found : FoundDb) : Type 0 where
-    database : Database
-    is : database_of db st.store ≡ Some database
-    kind : database.kind ≡ found.kind
-
-  found_there : (o : Option Database) (found : Option FoundDb) (f : FoundDb) → database_of db st.store ≡ o → IsFoundAs o found → found ≡ Some f → IsThere f
-  found_there None found f is as_ there = absurd (let e = sym as_ ∙ there in cc)
-  found_there (Some d) found f is as_ there = record { database = d; is = is; kind = ap (λ (x : FoundDb). x.kind) (some_is _ f (sym as_.1 ∙ there)) }
-
-  there_by : (found : Option FoundDb) (f : FoundDb) → IsFoundAs (database_of db (store_of rows)) found → found ≡ Some f → IsThere f
-  there_by found f as_ there = found_there (database_of db (store_of rows)) found f (ap (database_of db) (sym makes.store)) as_ there
-
   pub late_refuses : is_some number ≡ false → (found : Option FoundDb) (f : FoundDb) → IsFoundAs (database_of db (store_of rows)) found → found ≡ Some f → (answer : Answer) → database_refuses f.kind call ≡ Some answer → IsCalm answer →
       IsLate st session call db (Refused answer)
   late_refuses none found f as_ there answer refuses calm =
-      let d = there_by found f as_ there in (
+      let d = there_by rows st makes db found f as_ there in (
         late_on (Some d.database) d.is ∙ ap (λ (n : Option Answer). or_refusal n (database_refuses d.database.kind call)) (number_is_none number none) ∙ ap (λ (k : Kind). database_refuses k call) d.kind ∙ refuses,
         calm,
       )
@@ -176,39 +212,25 @@ module _ (rows : Rows) (st : Standing) (makes : MakesStore rows st.last_db st) (
       target = target_is st session call db on ∙ ap (option_map (target (st.numbers db) None)) d.is;
       number = named_number;
       kind = d.kind;
-      name = name_is;
-      at = refl;
+      name = known.name;
+      stands = refl;
       is = d.is;
-      there = by_number;
-      named = ap st.numbers name_is;
-      above = above;
+      there = known.there;
+      named = ap st.numbers known.name;
+      above = known.above;
     },
   ) where
-    d : IsThere f
-    d = there_by found f as_ there
+    d : IsThere rows st makes db f
+    d = there_by rows st makes db found f as_ there
 
     g : Target
     g = target (st.numbers db) None d.database
 
-    name_is : d.database.name ≡ db
-    name_is = same_is d.database.name db (passes (λ (x : Database). is_same_bytes x.name db) st.store.databases d.database d.is)
+    known : IsKnownAs st db d.database
+    known = known_as rows st makes db d.database d.is
 
     named_number : st.numbers db ≡ f.number
-    named_number = sym (makes.named db) ∙ found_number (record_named rows db) f (sym exact ∙ there)
-
-    above : st.numbers db ≢ 0
-    above zero_ =
-        let gone = database_of-absent rows db makes.environment (makes.named db ∙ zero_) in
-        absurd (let e : None ≡ Some d.database = sym gone ∙ ap (database_of db) makes.store ∙ d.is in cc)
-
-    by_number : database_at (st.numbers db) st ≡ Some d.database
-    by_number =
-        let other = database_numbered rows st.last_db st db makes (λ e. above (sym (makes.named db) ∙ e)) in
-        let is : database_at (st.numbers db) st ≡ Some other.database = ap (λ (n : ℕ). database_at n st) (sym (makes.named db)) ∙ other.is in
-        let one : d.database ≡ other.database =
-        one_first (λ (x : Database). is_same_bytes x.name db) (λ (x : Database). st.numbers x.name == st.numbers db) st.store.databases d.database other.database d.is is
-        (ap (λ (n : List ℕ). is_same_bytes n db) other.name_is ∙ same_itself db) (eq-eqb (st.numbers d.database.name) (st.numbers db) (ap st.numbers name_is)) in
-        is ∙ ap Some (sym one)
+    named_number = number_by rows st makes db found f exact there
 
 -- ---- what a database refuses is calm
 
@@ -222,17 +244,57 @@ calm_long limit bytes = by_test (nat_lt limit (length bytes))
 calm_pair : (kind : Kind) (key value : List ℕ) → IsCalmRefusal (pair_refusal kind key value)
 calm_pair kind key value = calm_or (too_long KEY_LIMIT key) (too_long (data_limit kind) value) (calm_long KEY_LIMIT key) (calm_long (data_limit kind) value)
 
-calm_kind : (kind : Kind) (db key value : List ℕ) (mode : PutMode) → IsCalmRefusal (kind_refusal (Put db key value mode) kind)
-calm_kind IsPlain db key value NoDupData = refl
-calm_kind IsDup db key value NoDupData = tt
-calm_kind IsPlain db key value Overwrite = tt
-calm_kind IsDup db key value Overwrite = tt
-calm_kind IsPlain db key value NoOverwrite = tt
-calm_kind IsDup db key value NoOverwrite = tt
+calm_put : (kind : Kind) (mode : PutMode) (db key value : List ℕ) → IsCalmRefusal (kind_refusal (Put db key value mode) kind)
+calm_put IsPlain NoDupData db key value = refl
+calm_put IsDup NoDupData db key value = tt
+calm_put IsPlain Overwrite db key value = tt
+calm_put IsDup Overwrite db key value = tt
+calm_put IsPlain NoOverwrite db key value = tt
+calm_put IsDup NoOverwrite db key value = tt
 
-pub calm_refuses : (kind : Kind) (call : Call) (db : List ℕ) → IsOnRecords db call → IsCalmRefusal (database_refuses kind call)
-calm_refuses kind (Get name key rmw) db is = calm_or (kind_refusal (Get name key rmw) kind) _ tt (calm_long KEY_LIMIT key)
-calm_refuses kind (GetBoth name key value rmw) db is = calm_or (kind_refusal (GetBoth name key value rmw) kind) _ tt (calm_pair kind key value)
-calm_refuses kind (Put name key value mode) db is = calm_or (kind_refusal (Put name key value mode) kind) _ (calm_kind kind name key value mode) (calm_pair kind key value)
-calm_refuses kind (Delete name key) db is = calm_or (kind_refusal (Delete name key) kind) _ tt (calm_long KEY_LIMIT key)
-calm_refuses kind call db is = absurd is
+calm_cursor_put : (kind : Kind) (mode : PutMode) (cursor : ℕ) (key value : List ℕ) → IsCalmRefusal (kind_refusal (CPut cursor key value mode) kind)
+calm_cursor_put IsPlain NoDupData cursor key value = refl
+calm_cursor_put IsDup NoDupData cursor key value = tt
+calm_cursor_put IsPlain Overwrite cursor key value = tt
+calm_cursor_put IsDup Overwrite cursor key value = tt
+calm_cursor_put IsPlain NoOverwrite cursor key value = tt
+calm_cursor_put IsDup NoOverwrite cursor key value = tt
+
+calm_put_here : (kind : Kind) (cursor : ℕ) (value : List ℕ) → IsCalmRefusal (kind_refusal (CPutCur cursor value) kind)
+calm_put_here IsPlain cursor value = tt
+calm_put_here IsDup cursor value = refl
+
+calm_motion : (motion : Motion) (kind : Kind) → IsCalmRefusal (motion_refusal motion kind)
+calm_motion (Key key) kind = calm_long KEY_LIMIT key
+calm_motion (InRange key) kind = calm_long KEY_LIMIT key
+calm_motion (Both key value) kind = calm_pair kind key value
+calm_motion (BothRange key value) kind = calm_pair kind key value
+calm_motion motion kind = tt
+
+pub calm_refuses : (kind : Kind) (call : Call) → MayWait call → IsCalmRefusal (database_refuses kind call)
+calm_refuses kind (Get name key rmw) is = calm_or (kind_refusal (Get name key rmw) kind) _ tt (calm_long KEY_LIMIT key)
+calm_refuses kind (GetBoth name key value rmw) is = calm_or (kind_refusal (GetBoth name key value rmw) kind) _ tt (calm_pair kind key value)
+calm_refuses kind (Put name key value mode) is = calm_or (kind_refusal (Put name key value mode) kind) _ (calm_put kind mode name key value) (calm_pair kind key value)
+calm_refuses kind (Delete name key) is = calm_or (kind_refusal (Delete name key) kind) _ tt (calm_long KEY_LIMIT key)
+calm_refuses kind (Count cursor) is = tt
+calm_refuses kind (Cur cursor motion rmw) is = calm_or (kind_refusal (Cur cursor motion rmw) kind) _ tt (calm_motion motion kind)
+calm_refuses kind (CPutCur cursor value) is = calm_or (kind_refusal (CPutCur cursor value) kind) _ (calm_put_here kind cursor value) (calm_long (data_limit kind) value)
+calm_refuses kind (CDel cursor) is = tt
+calm_refuses kind (CPut cursor key value mode) is = calm_or (kind_refusal (CPut cursor key value mode) kind) _ (calm_cursor_put kind mode cursor key value) (calm_pair kind key value)
+calm_refuses kind call is = absurd is
+
+-- a call on the records of a database by its name is one on records, and so is one at a cursor
+pub may_wait : (call : Call) (db : List ℕ) → IsOnRecords db call → MayWait call
+may_wait (Get name key rmw) db on = tt
+may_wait (GetBoth name key value rmw) db on = tt
+may_wait (Put name key value mode) db on = tt
+may_wait (Delete name key) db on = tt
+may_wait call db on = absurd on
+
+pub may_wait_at : (call : Call) (cursor : ℕ) → IsAtCursor cursor call → MayWait call
+may_wait_at (Count n) cursor at = tt
+may_wait_at (Cur n motion rmw) cursor at = tt
+may_wait_at (CPutCur n value) cursor at = tt
+may_wait_at (CDel n) cursor at = tt
+may_wait_at (CPut n key value mode) cursor at = tt
+may_wait_at call cursor at = absurd at

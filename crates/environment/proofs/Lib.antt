@@ -1,5 +1,7 @@
 -- Where the life of an environment began.
 pub mod Bases
+-- The LSN that each transaction logged nothing before.
+pub mod Firsts
 -- Where an environment stands when its log was written out or synced, or the disk failed.
 pub mod Standing
 -- The calls that wait.
@@ -26,6 +28,8 @@ pub mod CommitRows
 pub mod CommitLaws
 -- What refuses a call on records late, and the database that it is on.
 pub mod LateLaws
+-- What refuses a call at a cursor late, and where its cursor stands.
+pub mod SpotLaws
 -- A call on records that is refused late, or goes on.
 pub mod AccessLaws
 -- A call on records that is refused late.
@@ -68,8 +72,12 @@ pub mod CatalogLogged
 pub mod AutoLogged
 -- A call on records in a transaction.
 pub mod OwnLaws
+-- The names of the records that a transaction sees.
+pub mod SeenNames
 -- The changes of a call that is not refused.
 pub mod LoggableLaws
+-- What a call on records answers.
+pub mod RecordAnswers
 -- A call of a transaction that changes nothing.
 pub mod FinishLaws
 -- Where an environment stands once a call that changes something has ended.
@@ -80,7 +88,19 @@ pub mod AgainLaws
 pub mod CommitAgain
 -- How it ends, by what became of its changes.
 pub mod AgainEnds
--- Where cursors stand behind calls that have none.
+-- Where cursors stand behind a call.
 pub mod PlacesLaws
 -- Whose the names are that a transaction wrote.
 pub mod OwnFree
+-- Calls that open and close cursors.
+pub mod CursorLaws
+-- A valid environment whose log got an entry of a checkpoint.
+pub mod TurnedLogs
+-- Where an environment stands behind a step of maintenance.
+pub mod TurningLaws
+-- What each step of maintenance comes to.
+pub mod TurningSteps
+-- What it comes to by what the checkpointer says.
+pub mod TurningAnswers
+-- The least first LSN of the transactions under way.
+pub mod LeastFirst

@@ -1,6 +1,6 @@
 -- Where an environment stands once a call of a transaction that changes something has ended.
 use Rattle.std.proofs.Common.{◌≡◌, ◌≢◌, ◌∙◌, ◌⊎◌, inl, inr, ℕ, ◌≤◌, ◌<◌, ◌+◌, ◌*◌, ◌^◌, ◌==◌, Bool, true, false, true≢false, cond, ◌||◌, List, [], ◌∷◌, ◌++◌, filter, length, map, Option, None, Some, Result, Ok, Err, OnErr, refl, ap, sym, subst, arith}
-use Rattle.std.specs.Prelude.{IfOk, OnOk}
+use Rattle.std.specs.Prelude.{IfOk, OnOk, is_some}
 use Rattle.std.specs.List.{AllByRecursion}
 use Rattle.std.specs.declared.alloc.AllocError.{AllocError}
 use Rattle.std.proofs.lemmas.Bool.{cond-true, eq-eqb}
@@ -19,14 +19,14 @@ use Rattle.store_model.specs.declared.answer.Answer.{Answer}
 use Rattle.store_model.specs.declared.answer.Answer.TheVariants.{Logged, LogFull, IdsEnded, DiskFault}
 use Rattle.store_model.specs.declared.answer.Fault.TheVariants.{Disk}
 use Rattle.store_model.specs.declared.call.Call.{Call}
-use Rattle.store_model.specs.declared.call.Call.TheVariants.{Get, GetBoth, Put, Delete}
 use Rattle.store_model.specs.declared.change.Change.{Change}
 use Rattle.store_model.specs.declared.kind.Kind.{Kind}
 use Rattle.store_model.specs.declared.need.Need.{Need}
 use Rattle.store_model.specs.declared.record_change.RecordChange.{RecordChange}
 use Rattle.store_model.specs.declared.victim.Victim.{Victim}
-use Rattle.store_model.specs.Reads.{seen}
-use Rattle.store_model.specs.Records.{Evaluated, deleted, evaluation, exactly, found, all_of_key, first_of_key, look_of_put, put_unless, tested_for}
+use Rattle.log_entry.specs.Fields.{IsName}
+use Rattle.log_replay.specs.Rows.{Row}
+use Rattle.store_model.specs.Records.{Evaluated, evaluation}
 use Rattle.store_model.specs.Refusals.{made_by}
 use Rattle.store_model.specs.Store.{Pair, change_in}
 use Rattle.db_catalog.specs.declared.found_db.FoundDb.{FoundDb}
@@ -59,14 +59,13 @@ use Rattle.engine.specs.declared.kept.Kept.{Kept}
 use Rattle.engine.specs.Limits.{IsWithin, limit_by, most_logged, numbers_for, reach_after}
 use Rattle.engine.specs.Whole.{end_file as end_below}
 use Rattle.engine.proofs.CalmAnswers.{IsCalm, faultless, unnumbered}
-use Rattle.environment.proofs.PlacesLaws.{IsUnmoved, not_moved, still_placed}
 use Rattle.environment.specs.declared.environment.Environment.{Environment}
 use Rattle.environment.specs.declared.outcome.Outcome.{Outcome}
 use Rattle.environment.specs.declared.written.Written.{Written}
 use Rattle.environment.specs.declared.wrote.Wrote.{Wrote}
 use Rattle.environment.specs.declared.wrote.Wrote.TheVariants.{Done, Full, NoNumbers, Failed}
 use Rattle.environment.specs.Access.{AccessesTo, HasAccessed, IsTakenUp}
-use Rattle.environment.specs.Calls.{HasCause, IsOnRecords}
+use Rattle.environment.specs.Calls.{HasCause}
 use Rattle.environment.specs.Limits.{owing_with, written_taken}
 use Rattle.environment.specs.OwnEnds.{AreEndedBy, HasPushed, HasPushedAndLogged, WritesAs, WritesUp, answer_for}
 use Rattle.environment.specs.Steps.{HasNotCome, HasStepped, IsLogStep, StandsAt}
@@ -77,9 +76,11 @@ use Rattle.environment.proofs.Answering.{owed_is, owed_with}
 use Rattle.environment.proofs.CatalogValid.{low}
 use Rattle.environment.proofs.CommitLaws.{is_under_way}
 use Rattle.environment.proofs.EarlyLaws.{same_buffer, told_so}
-use Rattle.environment.proofs.FinishLaws.{calm_outcome, in_sessions, same_own, valid_elsewhere}
+use Rattle.environment.proofs.FinishLaws.{in_sessions, same_own, valid_elsewhere}
+use Rattle.environment.proofs.RecordAnswers.{calm_outcome, well_outcome}
+use Rattle.environment.proofs.SeenNames.{seen_named}
 use Rattle.environment.proofs.LoggableLaws.{AreLoggable, entries_fit, own_loggable}
-use Rattle.environment.proofs.PlanLaws.{seen_at}
+use Rattle.environment.proofs.PlanLaws.{number_is, seen_at}
 
 abbrev Own : Type 0
 Own = List (ℕ × RecordChange)
@@ -186,31 +187,6 @@ pub left_copy : {X : Type 0} (old new : Sessions) (result : Result X AllocError)
 left_copy old new (Ok x) h = tt
 left_copy old new (Err error) h = λ a needs st taken. h true a needs st taken
 
--- ---- a call on records that is not refused succeeds, unless the log refuses its changes
-
-well_found : (at : Option Name) (taken : List Pair) → fate_of (found at taken).answer ≡ Succeeds
-well_found at [] = refl
-well_found at (p ∷ ps) = refl
-
-well_put : (kind : Kind) (at then_at : Option Name) (key value : List ℕ) (taken : List Pair) → fate_of (put_unless kind at then_at key value taken).answer ≡ Succeeds
-well_put kind at then_at key value [] = refl
-well_put kind at then_at key value (p ∷ ps) = refl
-
-well_deleted : (kind : Kind) (at : Option Name) (taken : List Pair) → fate_of (deleted kind at taken).answer ≡ Succeeds
-well_deleted kind at [] = refl
-well_deleted kind at (p ∷ ps) = refl
-
-well_evaluated : (kind : Kind) (call : Call) (db : List ℕ) (pairs : List Pair) → IsOnRecords db call → fate_of (evaluation kind call None pairs).answer ≡ Succeeds
-well_evaluated kind (Get name key rmw) db pairs on = well_found None (seen kind (first_of_key kind key).way (first_of_key kind key).range pairs)
-well_evaluated kind (GetBoth name key value rmw) db pairs on = well_found None (tested_for kind value (seen kind (exactly kind key value).way (exactly kind key value).range pairs))
-well_evaluated kind (Put name key value mode) db pairs on = well_put kind None None key value (seen kind (look_of_put mode kind key value).way (look_of_put mode kind key value).range pairs)
-well_evaluated kind (Delete name key) db pairs on = well_deleted kind None (seen kind (all_of_key kind key).way (all_of_key kind key).range pairs)
-well_evaluated kind call db pairs on = absurd on
-
-pub well_outcome : (st : Standing) (a : Active) (call : Call) (db : List ℕ) (g : Target) → IsOnRecords db call → g.at ≡ None → fate_of (outcome_of st a call g).answer ≡ Succeeds
-well_outcome st a call db g on at =
-    subst (λ (o : Option Name). fate_of (evaluation g.database.kind call o (view_of st a g)).answer ≡ Succeeds) (sym at) (well_evaluated g.database.kind call db (view_of st a g) on)
-
 -- ---- how far it reaches
 
 near_grown : (o n : Bool) (fo fn po pn x y : ℕ) → o ≡ false → n ≡ false → cond n 0 fn ≤ cond o 0 fo + x → pn ≤ po + 1 → x + 1 ≤ y → cond n 0 (fn + pn) ≤ cond o 0 (fo + po) + y
@@ -274,7 +250,7 @@ module _ {D : Type 0} (observable : Bool) (history : D → History) (sync_out re
   -- ---- each end
 
   module _ (most : ℕ) (before mid : Environment D) (s : Sessions) (st : Standing) (a : Active) (call : Call) (g : Target) (ev : Evaluated) (change : RecordChange) (more : List RecordChange)
-      (here : StandsAt most observable history before st) (none : st.fault ≡ None) (unmoved : IsUnmoved call) where
+      (here : StandsAt most observable history before st) (none : st.fault ≡ None) where
     abbrev changes_ : List RecordChange
     changes_ = change ∷ more
 
@@ -308,7 +284,7 @@ module _ {D : Type 0} (observable : Bool) (history : D → History) (sync_out re
     abbrev OwnDone : Standing
     OwnDone = with_outcome a call g ev_ (answered a call g st)
 
-    done_here : Writes before mid st a.txn.0 g changes_ (owing own_) (Ok Done) → AreEndedBy Done s a needs_ (changes_at g.db changes_) st → StandsAt most observable history new_ OwnDone
+    done_here : Writes before mid st a.txn.0 g changes_ (owing own_) (Ok Done) → AreEndedBy Done s a call ev.place needs_ (changes_at g.db changes_) st → StandsAt most observable history new_ OwnDone
     done_here w stands = record {
       file_max = w.3 ∙ here.file_max;
       fault = ap (λ (k : Kept). k.fault) w.4 ∙ here.fault;
@@ -316,9 +292,10 @@ module _ {D : Type 0} (observable : Bool) (history : D → History) (sync_out re
       last_db = ap (λ (k : Kept). k.last_db) w.4 ∙ here.last_db;
       commits = ap (λ (k : Kept). k.commits) w.4 ∙ here.commits;
       totals = ap (λ (k : Kept). k.totals) w.4 ∙ here.totals;
-      sessions_at = record { actives = stands.actives; own = stands.own; places = still_placed s.cursors st.places a.session call ev.place unmoved stands.places; waiting = stands.waiting; locks = stands.locks };
+      sessions_at = stands;
       apart = here.apart;
-      valid = λ calm. valid_elsewhere observable (now (history (disk_below mid.engine.trees.log))) mid.engine.trees.log (cells_of mid.engine.trees) (has_tree_of mid.engine.trees) (fitting mid.engine.trees) mid.written.by_txn.entries own_ own_.own
+      checkpoint = ap (λ (k : Kept). is_some k.checkpoints.under_way) w.4 ∙ here.checkpoint;
+      valid = λ calm. valid_elsewhere observable (now (history (disk_below mid.engine.trees.log))) mid.engine.trees.log (cells_of mid.engine.trees) (has_tree_of mid.engine.trees) (fitting mid.engine.trees) mid.engine.kept.since mid.written.by_txn.entries own_ own_.own
           OwnDone.places OwnDone.locks refl w.0;
     }
 
@@ -331,7 +308,7 @@ module _ {D : Type 0} (observable : Bool) (history : D → History) (sync_out re
       node = let k = ap (λ (k : Kept). k.last_node) w.4 in let room = node_room in omega (arith, k, room);
     }
 
-    done : Writes before mid st a.txn.0 g changes_ (owing own_) (Ok Done) → AreEndedBy Done s a needs_ (changes_at g.db changes_) st → owing own_ ≡ owing_with (Some a) st → IsCalm ev.answer → Step OwnDone ev.answer
+    done : Writes before mid st a.txn.0 g changes_ (owing own_) (Ok Done) → AreEndedBy Done s a call ev.place needs_ (changes_at g.db changes_) st → owing own_ ≡ owing_with (Some a) st → IsCalm ev.answer → Step OwnDone ev.answer
     done w stands owes calm = record {
       limit = None;
       has_limit = subst (λ (owed : ℕ). HasLimit before owed (changes_on g changes_) None) owes w.2;
@@ -357,7 +334,8 @@ module _ {D : Type 0} (observable : Bool) (history : D → History) (sync_out re
       totals = ap (λ (k : Kept). k.totals) left.kept ∙ here.totals;
       sessions_at = stands;
       apart = here.apart;
-      valid = λ calm. valid_elsewhere observable (now (history (disk_below mid.engine.trees.log))) mid.engine.trees.log (cells_of mid.engine.trees) (has_tree_of mid.engine.trees) (fitting mid.engine.trees) mid.written.by_txn.entries st st.own
+      checkpoint = ap (λ (k : Kept). is_some k.checkpoints.under_way) left.kept ∙ here.checkpoint;
+      valid = λ calm. valid_elsewhere observable (now (history (disk_below mid.engine.trees.log))) mid.engine.trees.log (cells_of mid.engine.trees) (has_tree_of mid.engine.trees) (fitting mid.engine.trees) mid.engine.kept.since mid.written.by_txn.entries st st.own
           st.places locks refl valid;
     }
 
@@ -400,6 +378,7 @@ module _ {D : Type 0} (observable : Bool) (history : D → History) (sync_out re
         totals = ap (λ (k : Kept). k.totals) w.3 ∙ here.totals;
         sessions_at = record { actives = stands.actives; own = stands.own; places = stands.places; waiting = stands.waiting; locks = tt };
         apart = here.apart;
+        checkpoint = ap (λ (k : Kept). is_some k.checkpoints.under_way) w.3 ∙ here.checkpoint;
         valid = λ calm. absurd cc;
       };
       numbered = tt;
@@ -412,7 +391,7 @@ module _ {D : Type 0} (observable : Bool) (history : D → History) (sync_out re
     }
 
     -- each of them
-    written_by : (wrote : Wrote) → Writes before mid st a.txn.0 g changes_ (owing own_) (Ok wrote) → AreEndedBy wrote s a needs_ (changes_at g.db changes_) st → owing own_ ≡ owing_with (Some a) st → IsCalm ev.answer →
+    written_by : (wrote : Wrote) → Writes before mid st a.txn.0 g changes_ (owing own_) (Ok wrote) → AreEndedBy wrote s a call ev.place needs_ (changes_at g.db changes_) st → owing own_ ≡ owing_with (Some a) st → IsCalm ev.answer →
         WritesAs observable history sync_out read_out read_of ev_ most before new_ st a call g wrote
     written_by Done w stands owes calm = done w stands owes calm
     written_by Full w stands owes calm = refused LogFull refl refl w.0 w.1 w.2 stands owes
@@ -420,13 +399,13 @@ module _ {D : Type 0} (observable : Bool) (history : D → History) (sync_out re
     written_by Failed w stands owes calm = failed w stands owes
 
   written_as : (most : ℕ) (before mid : Environment D) (s : Sessions) (st : Standing) (a : Active) (call : Call) (g : Target) (ev : Evaluated) (changes : List RecordChange) (wrote : Wrote) → ev.changes ≡ changes → changes ≢ [] →
-      StandsAt most observable history before st → st.fault ≡ None → IsUnmoved call → Writes before mid st a.txn.0 g changes (owing (with_own a.txn.0 (changes_at g.db changes) st)) (Ok wrote) →
-      AreEndedBy wrote s a (needs_in st a call g) (changes_at g.db changes) st → owing (with_own a.txn.0 (changes_at g.db changes) st) ≡ owing_with (Some a) st → IsCalm ev.answer →
+      StandsAt most observable history before st → st.fault ≡ None → Writes before mid st a.txn.0 g changes (owing (with_own a.txn.0 (changes_at g.db changes) st)) (Ok wrote) →
+      AreEndedBy wrote s a call ev.place (needs_in st a call g) (changes_at g.db changes) st → owing (with_own a.txn.0 (changes_at g.db changes) st) ≡ owing_with (Some a) st → IsCalm ev.answer →
       WritesAs observable history sync_out read_out read_of ev most before (in_sessions s mid) st a call g wrote
-  written_as most before mid s st a call g ev [] wrote has some here none unmoved w stands owes calm = absurd (some refl)
-  written_as most before mid s st a call g ev (change ∷ more) wrote has some here none unmoved w stands owes calm =
+  written_as most before mid s st a call g ev [] wrote has some here none w stands owes calm = absurd (some refl)
+  written_as most before mid s st a call g ev (change ∷ more) wrote has some here none w stands owes calm =
       subst (λ (l : List RecordChange). WritesAs observable history sync_out read_out read_of (record { answer = ev.answer; answered = ev.answered; changes = l; place = ev.place }) most before (in_sessions s mid) st a call g wrote)
-      (sym has) (written_by most before mid s st a call g ev change more here none unmoved wrote w stands owes calm)
+      (sym has) (written_by most before mid s st a call g ev change more here none wrote w stands owes calm)
 
   -- ---- the call of a transaction of more calls
 
@@ -507,8 +486,13 @@ module _ {D : Type 0} (observable : Bool) (history : D → History) (sync_out re
     seen_now : ((d : ℕ) → CellsRise (cells_of e.engine.trees d)) → AreSeenBy st a g (cells_of e.engine.trees)
     seen_now rising = seen_at e.engine.trees st a db f g up.sound up.on valid_now.makes valid_now.writes valid_now.may rising
 
+    named_now : ((d : ℕ) → CellsRise (cells_of e.engine.trees d)) → AllByRecursion (λ (r : Row). IsName r.0) (seen_rows a.level a.txn (cells_of e.engine.trees g.db))
+    named_now rising =
+        seen_named valid_now.log (end_of e.engine.trees.log) (cells_of e.engine.trees) st.last_txn st.last_db (active_number st.actives) st.own valid_now.gives valid_now.has.is_log valid_now.writes up.sound.own_active
+        db g.db (number_is (committed (cells_of e.engine.trees)) st valid_now.makes db f g up.on) up.on.above (rising g.db) a.level a.txn
+
     loggable : ((d : ℕ) → CellsRise (cells_of e.engine.trees d)) → AreLoggable changes
-    loggable rising = subst AreLoggable (sym up.changes_are) (own_loggable st a call db g (cells_of e.engine.trees) (seen_now rising) (rising g.db) up.on.at up.records up.plain)
+    loggable rising = subst AreLoggable (sym up.changes_are) (own_loggable st a call g (cells_of e.engine.trees) (seen_now rising) (rising g.db) (named_now rising) up.records up.plain)
 
     pub may_write : ((d : ℕ) → CellsRise (cells_of e.engine.trees d)) → changes ≢ [] → MayWrite st a.txn.0 g changes
     may_write rising some =
@@ -520,9 +504,8 @@ module _ {D : Type 0} (observable : Bool) (history : D → History) (sync_out re
           named = up.on.named;
           above = up.on.above;
           right = subst (AllByRecursion (λ c. is_right_change g.database.kind c ≡ true)) (sym up.changes_are)
-              (subst (λ (o : Option Name). AllByRecursion (λ c. is_right_change g.database.kind c ≡ true) (evaluation g.database.kind call o (view_of st a g)).changes) (sym up.on.at)
-              (subst (λ (p : List Pair). AllByRecursion (λ c. is_right_change g.database.kind c ≡ true) (evaluation g.database.kind call None p).changes) its.pairs
-              (changes-are_right g.database.kind call None (seen_rows a.level a.txn (cells_of e.engine.trees g.db)) up.plain its.right)));
+              (subst (λ (p : List Pair). AllByRecursion (λ c. is_right_change g.database.kind c ≡ true) (evaluation g.database.kind call g.at p).changes) its.pairs
+              (changes-are_right g.database.kind call g.at (seen_rows a.level a.txn (cells_of e.engine.trees g.db)) up.plain its.right));
           free = subst (AllByRecursion (λ c. Rattle.standing_laws.specs.Laws.IsOnlyOf g.db (Rattle.store_model.specs.Needs.changed_name c) a.txn.0 st.own)) (sym up.changes_are) (writers-are_free st a call g up.sound up.taken.free);
           apart = (loggable rising).apart;
         }
@@ -537,11 +520,11 @@ module _ {D : Type 0} (observable : Bool) (history : D → History) (sync_out re
     owes_now some = owing_pushed st a g.db changes some up.sound.numbers is_active_
 
     pub writes_up : (mid : Environment D) (s : Sessions) (wrote : Wrote) → changes ≢ [] → (p : HasPushedAndLogged observable history sync_out read_out read_of e mid a (needs_in st a call g) st g changes (Ok wrote)) →
-        AreEndedBy wrote s a (needs_in st a call g) p.more st → WritesUp observable history sync_out read_out read_of most before (in_sessions s mid) st a call g wrote
+        AreEndedBy wrote s a call (outcome_of st a call g).place (needs_in st a call g) p.more st → WritesUp observable history sync_out read_out read_of most before (in_sessions s mid) st a call g wrote
     writes_up mid s wrote some p stands =
-        written_as most before mid s st a call g (outcome_of st a call g) changes wrote (sym up.changes_are) some up.here up.valid (not_moved call db up.records)
+        written_as most before mid s st a call g (outcome_of st a call g) changes wrote (sym up.changes_are) some up.here up.valid
         (writes_move e before mid st a.txn.0 g changes (owing (with_own a.txn.0 (changes_at g.db changes) st)) (Ok wrote) up.engine p.writes)
-        (subst (λ (l : Own). AreEndedBy wrote s a (needs_in st a call g) l st) p.is stands) (owes_now some) (calm_outcome st a call db g up.records up.on.at)
+        (subst (λ (l : Own). AreEndedBy wrote s a call (outcome_of st a call g).place (needs_in st a call g) l st) p.is stands) (owes_now some) (calm_outcome st a call g up.records)
 
     pub ends : (new : Environment D) (line : ℕ) (wrote : Wrote) (o : Outcome) → changes ≢ [] → a.is_auto ≡ false → WritesUp observable history sync_out read_out read_of most before new st a call g wrote →
         o.answer ≡ answer_for wrote answer → o.victims ≡ [] → AccessesTo observable history sync_out read_out read_of most before new st a line call g (Ok o)
@@ -549,7 +532,7 @@ module _ {D : Type 0} (observable : Bool) (history : D → History) (sync_out re
         let ev : Evaluated = outcome_of st a call g in
         told_so (HasAccessed observable history sync_out read_out read_of most before new st a line call g) o (answer_for wrote ev.answer) (told ∙ ap (answer_for wrote) up.answer_is) alone
         (subst (Takes most before new st a line call g (answer_for wrote ev.answer)) (sym up.taken.free)
-        (evaluates most before new st a call g ev changes wrote (sym up.changes_are) some h (well_outcome st a call db g up.records up.on.at) auto))
+        (evaluates most before new st a call g ev changes wrote (sym up.changes_are) some h (well_outcome st a call g up.records) auto))
 
     pub not_ends : (mid : Environment D) (s : Sessions) (error : AllocError) → HasPushedAndLogged observable history sync_out read_out read_of e mid a (needs_in st a call g) st g changes (Err error) → AreSessionsAt s st →
         HasNotCome observable history sync_out read_out read_of most before (in_sessions s mid) st
@@ -565,6 +548,7 @@ module _ {D : Type 0} (observable : Bool) (history : D → History) (sync_out re
             totals = ap (λ (k : Kept). k.totals) w.1.kept ∙ up.here.totals;
             sessions_at = stands;
             apart = up.here.apart;
+            checkpoint = ap (λ (k : Kept). is_some k.checkpoints.under_way) w.1.kept ∙ up.here.checkpoint;
             valid = λ calm. w.0;
           };
           log = w.1.log;
@@ -579,7 +563,7 @@ module _ {D : Type 0} (observable : Bool) (history : D → History) (sync_out re
     cause_by wrote o was is told never rose = record { never_falls = never; fault = λ fault. by wrote (sym fault ∙ told) rose }
       where
         calm : IsCalm answer
-        calm = subst IsCalm (sym up.answer_is) (calm_outcome st a call db g up.records up.on.at)
+        calm = subst IsCalm (sym up.answer_is) (calm_outcome st a call g up.records)
 
         by : (w : Wrote) → DiskFault ≡ answer_for w answer → (w ≡ Failed → HasRisen was is) → HasRisen was is
         by Done e h = absurd (true≢false (ap is_disk_fault e ∙ faultless answer calm))

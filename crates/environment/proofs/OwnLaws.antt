@@ -4,7 +4,7 @@ use Rattle.std.specs.declared.alloc.AllocError.{AllocError}
 use Rattle.je_disk.specs.Moments.{History, now}
 use Rattle.store_model.specs.declared.answer.Answer.{Answer}
 use Rattle.store_model.specs.declared.call.Call.{Call}
-use Rattle.store_model.specs.declared.call.Call.TheVariants.{Get, GetBoth, Put, Delete}
+use Rattle.store_model.specs.declared.call.Call.TheVariants.{Get, GetBoth, Put, Delete, Count, Cur, CPutCur, CDel, CPut}
 use Rattle.store_model.specs.declared.victim.Victim.{Victim}
 use Rattle.je_answers.specs.declared.active.Active.{Active}
 use Rattle.je_answers.specs.Standing.{Standing, active_of}
@@ -20,8 +20,9 @@ use Rattle.sessions.specs.AtStanding.{AreSessionsAt, owing}
 use Rattle.engine.specs.Limits.{IsWithin}
 use Rattle.environment.specs.declared.environment.Environment.{Environment}
 use Rattle.environment.specs.declared.outcome.Outcome.{Outcome}
-use Rattle.environment.specs.Access.{AccessesTo, HasAccessed, IsFoundFor}
-use Rattle.environment.specs.Calls.{IsOnRecords}
+use Rattle.environment.specs.Access.{AccessesTo, HasAccessed, IsFoundFor, IsPlannedFor, IsTakenUp}
+use Rattle.standing_laws.specs.Right.{AreSound, MayWait}
+use Rattle.je_order.specs.declared.name.Name.{Name}
 use Rattle.environment.specs.Limits.{owing_after, owing_with, written_evaluated, written_on, written_performed, written_run}
 use Rattle.environment.specs.Steps.{ComesTo, HasCome, HasNotCome, HasStepped, StandsAt}
 use Rattle.environment.specs.Valid.{owed_by, fitting}
@@ -41,9 +42,8 @@ use Rattle.in_tree.specs.Observed.{cells_of, has_tree_of}
 use Rattle.sessions.specs.declared.taken.Taken.{Taken}
 use Rattle.sessions.specs.declared.taken.Taken.TheVariants.{Ready, Stopped}
 use Rattle.store_model.specs.Refusals.{database_refuses, or_refusal}
-use Rattle.je_answers.specs.Refusals.{database_refusal, number_refusal, target_refusal}
-use Rattle.environment.proofs.LateLaws.{late_by, late_is, target_is}
-use Rattle.sessions.specs.Taking.{HasStopped, IfReady, IfStopped}
+use Rattle.je_answers.specs.Refusals.{name_refusal, number_refusal, target_refusal, there_refusal}
+use Rattle.sessions.specs.Taking.{HasStopped, HasTaken, IfReady, IfStopped}
 use Rattle.standing_laws.specs.Right.{HaveOwnWaits}
 use Rattle.standing_laws.proofs.Stopped.{LeavesSame, victims_apart, victims_leave}
 use Rattle.txn_core.specs.Totals.{totals_of}
@@ -56,6 +56,8 @@ use Rattle.environment.proofs.AccessLaws.{calm_cause}
 use Rattle.environment.proofs.Answering.{within_more}
 use Rattle.environment.proofs.AutoLaws.{valid_leaves}
 use Rattle.environment.proofs.EarlyLaws.{same_buffer}
+use Rattle.environment.proofs.PlanLaws.{on_db}
+use Rattle.store_model.specs.declared.record_change.RecordChange.{RecordChange}
 
 module _ {D : Type 0} (observable : Bool) (history : D → History) (sync_out read_out : D → Option ℕ) (read_of : D → ℕ) where
   -- what a call came to in its session's transaction is what it came to
@@ -68,29 +70,34 @@ module _ {D : Type 0} (observable : Bool) (history : D → History) (sync_out re
     Run call o = HasStepped observable history sync_out read_out read_of most old new (owing_with o st) (written_run o st session call) (changes_run o st session call)
         (λ limit. IsRun o limit st session line call answer victims) (after_run o st session line call answer victims) answer
 
-    performed : (call : Call) → IsOnRecords db call → Run call (active_of session st.actives) → Performed call
+    performed : (call : Call) → MayWait call → Run call (active_of session st.actives) → Performed call
     unfolding Performed Run
     performed (Get name key rmw) is run = run
     performed (GetBoth name key value rmw) is run = run
     performed (Put name key value mode) is run = run
     performed (Delete name key) is run = run
+    performed (Count cursor) is run = run
+    performed (Cur cursor motion rmw) is run = run
+    performed (CPutCur cursor value) is run = run
+    performed (CDel cursor) is run = run
+    performed (CPut cursor key value mode) is run = run
     performed call is run = absurd is
 
-    pub accessed_comes : (call : Call) (f : FoundDb) (g : Target) (a : Active) → IsFoundFor st session call db f g → IsOnRecords db call → active_of session st.actives ≡ Some a →
+    pub accessed_comes : (call : Call) (f : FoundDb) (at : Option Name) (g : Target) (a : Active) → IsFoundFor st session call db f at g → MayWait call → active_of session st.actives ≡ Some a →
         HasAccessed observable history sync_out read_out read_of most old new st a line call g answer victims → HasCome observable history sync_out read_out read_of most old new st session line call answer victims
     unfolding Performed Run
-    accessed_comes call f g a found is its accessed =
+    accessed_comes call f at g a found is its accessed =
         let on : (t : Option Target) → Type 0 = λ t. HasStepped observable history sync_out read_out read_of most old new (owing_with (Some a) st) (written_on t st a call) (changes_in t st a call)
         (λ limit. IsOn t limit st a line call answer victims) (after_on t st st a line call answer victims) answer in
         subst (λ (late : Option Answer). HasStepped observable history sync_out read_out read_of most old new (owing_after st session) (written_evaluated late st session call) (changes_evaluated late st session call)
         (λ limit. IsEvaluated late limit st session line call answer victims) (after_evaluated late st session line call answer victims) answer) (sym found.late)
         (performed call is (subst (Run call) (sym its) (subst on (sym found.target) accessed)))
 
-  pub accesses_come : (most : ℕ) (old new : Environment D) (st : Standing) (session line : ℕ) (db : List ℕ) (call : Call) (f : FoundDb) (g : Target) (a : Active) → IsFoundFor st session call db f g → IsOnRecords db call →
+  pub accesses_come : (most : ℕ) (old new : Environment D) (st : Standing) (session line : ℕ) (db : List ℕ) (call : Call) (f : FoundDb) (at : Option Name) (g : Target) (a : Active) → IsFoundFor st session call db f at g → MayWait call →
       active_of session st.actives ≡ Some a → (result : Result Outcome AllocError) → AccessesTo observable history sync_out read_out read_of most old new st a line call g result →
       ComesTo observable history sync_out read_out read_of most old new st session line call result
-  accesses_come most old new st session line db call f g a found is its (Ok o) accessed = accessed_comes most old new st session line db o.answer o.victims call f g a found is its accessed
-  accesses_come most old new st session line db call f g a found is its (Err error) accessed = accessed
+  accesses_come most old new st session line db call f at g a found is its (Ok o) accessed = accessed_comes most old new st session line db o.answer o.victims call f at g a found is its accessed
+  accesses_come most old new st session line db call f at g a found is its (Err error) accessed = accessed
 
   -- sessions that stand where others stood
   pub stands_with : (most : ℕ) (e : Environment D) (s : Sessions) (st : Standing) → StandsAt most observable history e st → AreSessionsAt s st → StandsAt most observable history (record e { sessions = s }) st
@@ -103,6 +110,7 @@ module _ {D : Type 0} (observable : Bool) (history : D → History) (sync_out re
     totals = here.totals;
     sessions_at = at;
     apart = here.apart;
+    checkpoint = here.checkpoint;
     valid = here.valid;
   }
 
@@ -138,7 +146,7 @@ any_stopped_calm (Some owner) st a line call g n answer victims is = stopped_cal
 
 -- it leaves all but the sessions as it was
 stop_leaves : (w : Bool) (st : Standing) (a : Active) (line : ℕ) (call : Call) (g : Target) (n : Need) (vs : List Victim) → AreBare st → LeavesSame st (after_stop w st a line call g n vs)
-stop_leaves false st a line call g n vs bare = record { store = refl; numbers = refl; last_txn = refl; last_db = refl; commits = refl; fault = refl; own = refl; actives = λ t h. h; owing = omega arith }
+stop_leaves false st a line call g n vs bare = record { store = refl; numbers = refl; last_txn = refl; last_db = refl; commits = refl; fault = refl; checkpoint = refl; own = refl; actives = λ t h. h; owing = omega arith }
 stop_leaves true st a line call g n vs bare = victims_leave st a line call g n vs bare
 
 stop_apart : (w : Bool) (st : Standing) (a : Active) (line : ℕ) (call : Call) (g : Target) (n : Need) (vs : List Victim) → HaveOwnWaits st.waiting → AllByRecursion (λ v. (v.session == a.session) ≡ false) st.waiting →
@@ -159,7 +167,8 @@ module _ {D : Type 0} (observable : Bool) (history : D → History) (sync_out re
     totals = here.totals ∙ sym (ap totals_of same.store);
     sessions_at = at;
     apart = apart;
-    valid = λ none. valid_leaves observable (now (history (disk_below e.engine.trees.log))) e.engine.trees.log (cells_of e.engine.trees) (has_tree_of e.engine.trees) (fitting e.engine.trees) e.written.by_txn.entries st after same
+    checkpoint = here.checkpoint ∙ sym same.checkpoint;
+    valid = λ none. valid_leaves observable (now (history (disk_below e.engine.trees.log))) e.engine.trees.log (cells_of e.engine.trees) (has_tree_of e.engine.trees) (fitting e.engine.trees) e.engine.kept.since e.written.by_txn.entries st after same
         (here.valid (sym same.fault ∙ none));
   }
 
@@ -206,22 +215,45 @@ module _ {D : Type 0} (observable : Bool) (history : D → History) (sync_out re
   accesses_near most old new st line call g a (Ok o) accessed = tt
   accesses_near most old new st line call g a (Err error) accessed = accessed.near
 
--- ---- what was taken
-
-pub ready_so : (t : Taken) (P : Type 0) → t ≡ Ready → IfReady t P → P
-ready_so t P is h = subst (λ (x : Taken). IfReady x P) is h
-
-pub stopped_so : (t : Taken) (P : Answer → List Victim → Type 0) (answer : Answer) (victims : List Victim) → t ≡ Stopped answer victims → IfStopped t P → P answer victims
-stopped_so t P answer victims is h = subst (λ (x : Taken). IfStopped x P) is h
+-- ---- what its database refuses
 
 or_none : (a b : Option Answer) → or_refusal a b ≡ None → (a ≡ None) × (b ≡ None)
 or_none None b is = (refl, is)
 or_none (Some x) b is = absurd cc
 
 -- its database does not refuse a call that nothing refuses
-pub not_refused_there : (st : Standing) (session : ℕ) (call : Call) (db : List ℕ) (f : FoundDb) (g : Target) → IsFoundFor st session call db f g → IsOnRecords db call → database_refuses g.database.kind call ≡ None
-not_refused_there st session call db f g found is =
-    let late : late_by (number_refusal st.last_txn (active_of session st.actives)) st call db ≡ None = sym (late_is st session call db is) ∙ found.late in
-    let first = or_none (number_refusal st.last_txn (active_of session st.actives)) _ late in
-    let second = or_none (database_refusal st db) _ first.1 in
-    sym (ap (target_refusal call) (sym (target_is st session call db is) ∙ found.target)) ∙ second.1
+pub not_refused_there : (st : Standing) (session : ℕ) (call : Call) (db : List ℕ) (f : FoundDb) (at : Option Name) (g : Target) → IsFoundFor st session call db f at g → database_refuses g.database.kind call ≡ None
+not_refused_there st session call db f at g found =
+    let first = or_none (number_refusal st.last_txn (active_of session st.actives)) _ found.late in
+    let second = or_none (there_refusal st session call) _ first.1 in
+    let third = or_none (name_refusal st session call) _ second.1 in
+    ap (target_refusal call) (sym found.target) ∙ third.1
+
+-- ---- what was taken
+
+module _ {D : Type 0} (observable : Bool) (history : D → History) (sync_out read_out : D → Option ℕ) (read_of : D → ℕ) where
+  -- a call that was planned, and got its locks
+  pub taken_up : (most : ℕ) (e : Environment D) (s : Sessions) (st : Standing) (session : ℕ) (a : Active) (call : Call) (db : List ℕ) (f : FoundDb) (at : Option Name) (g : Target) (answer : Answer) (changes : List RecordChange)
+      (needs : List Need) (place : Option Name) → StandsAt most observable history e st → AreSound st → st.fault ≡ None → IsFoundFor st session call db f at g → active_of session st.actives ≡ Some a → MayWait call →
+      IsPlannedFor st a call g answer changes needs place → HasTaken s true a needs st → IsTakenUp observable history most e (record e { sessions = s }) st session a call db f g answer changes
+  taken_up most e s st session a call db f at g answer changes needs place here sound none found its may planned taken = record {
+    here = here;
+    sound = sound;
+    valid = none;
+    on = on_db st session call db f at g found;
+    its = its;
+    records = may;
+    plain = not_refused_there st session call db f at g found;
+    engine = refl;
+    written = refl;
+    taken = subst (λ (n : List Need). HasTaken s true a n st) planned.needs_are taken;
+    answer_is = planned.answer_is;
+    changes_are = planned.changes_are;
+  }
+
+
+pub ready_so : (t : Taken) (P : Type 0) → t ≡ Ready → IfReady t P → P
+ready_so t P is h = subst (λ (x : Taken). IfReady x P) is h
+
+pub stopped_so : (t : Taken) (P : Answer → List Victim → Type 0) (answer : Answer) (victims : List Victim) → t ≡ Stopped answer victims → IfStopped t P → P answer victims
+stopped_so t P answer victims is h = subst (λ (x : Taken). IfStopped x P) is h

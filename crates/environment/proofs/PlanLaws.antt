@@ -48,7 +48,7 @@ use Rattle.std.proofs.Common.{Result, Ok, Err}
 use Rattle.je_disk.specs.Moments.{History}
 use Rattle.je_order.specs.declared.txn_id.TxnId.{TxnId}
 use Rattle.store_model.specs.declared.isolation.Isolation.{Isolation}
-use Rattle.txn_views.specs.declared.access_plan.AccessPlan.{AccessPlan}
+use Rattle.txn_views.specs.declared.cursor_plan.CursorPlan.{CursorPlan}
 use Rattle.txn_views.proofs.ViewLaws.{views-are_seen}
 use Rattle.environment.specs.declared.environment.Environment.{Environment}
 use Rattle.environment.specs.Writing.{IsValidAt}
@@ -62,12 +62,11 @@ pub are_occupied : {D : Type 0} (trees : LogTrees D) (d : ℕ) → AreOccupied (
 are_occupied trees d = filter_all_pass (λ (e : Name × Occupied). is_occupied e.1) (map (λ e. (e.0, occupied_by e.1)) (cells_at trees.trees.forest d))
 
 -- the database that a call is on
-pub on_db : (st : Standing) (session : ℕ) (call : Call) (db : List ℕ) (f : FoundDb) (g : Target) → IsFoundFor st session call db f g → IsOnDb st db f g
-on_db st session call db f g found = record {
+pub on_db : (st : Standing) (session : ℕ) (call : Call) (db : List ℕ) (f : FoundDb) (at : Option Name) (g : Target) → IsFoundFor st session call db f at g → IsOnDb st db f g
+on_db st session call db f at g found = record {
   number = found.number;
   kind = found.kind;
   name = found.name;
-  at = found.at;
   is = found.is;
   there = found.there;
   named = found.named;
@@ -82,7 +81,7 @@ same_name rows last_db db other makes has same =
 
 module _ (rows : Rows) (st : Standing) (makes : MakesStore rows st.last_db st) (db : List ℕ) (f : FoundDb) (g : Target) (on : IsOnDb st db f g) where
   -- its number is in the catalog
-  number_is : number_named rows db ≡ g.db
+  pub number_is : number_named rows db ≡ g.db
   number_is = makes.named db ∙ ap st.numbers (sym on.name) ∙ on.named
 
   has : number_named rows db ≢ 0
@@ -122,26 +121,28 @@ module _ (rows : Rows) (st : Standing) (makes : MakesStore rows st.last_db st) (
   own_is_proper own may = all_weaker (MayBeCommitted rows) (λ c. c.0 ≡ g.db → IsProperChange g.database.kind c.1) (λ c m here. proper_of c m here) own may
 
 -- what a call of a transaction is planned as, from what its transaction sees
-pub planned_for : (st : Standing) (a : Active) (call : Call) (g : Target) (f : FoundDb) (cells : AllCells) (answer : Answer) (changes : List RecordChange) (needs : List Need) →
-    AreSeenBy st a g cells → g.db ≡ f.number → g.database.kind ≡ f.kind → g.at ≡ None →
-    answer ≡ (evaluation f.kind call None (map (pair_of f.kind) (seen_rows a.level a.txn (cells f.number)))).answer →
-    changes ≡ (evaluation f.kind call None (map (pair_of f.kind) (seen_rows a.level a.txn (cells f.number)))).changes →
-    needs ≡ needs_of a.level f.number f.kind call None (map (pair_of f.kind) (seen_rows a.level a.txn (cells f.number))) (keys_of (cells f.number)) →
-    IsPlannedFor st a call g answer changes needs
-planned_for st a call g f cells answer changes needs seen number kind at answer_is changes_are needs_are =
+pub planned_for : (st : Standing) (a : Active) (call : Call) (g : Target) (f : FoundDb) (at : Option Name) (cells : AllCells) (answer : Answer) (changes : List RecordChange) (needs : List Need) (place : Option Name) →
+    AreSeenBy st a g cells → g.db ≡ f.number → g.database.kind ≡ f.kind → g.at ≡ at →
+    answer ≡ (evaluation f.kind call at (map (pair_of f.kind) (seen_rows a.level a.txn (cells f.number)))).answer →
+    changes ≡ (evaluation f.kind call at (map (pair_of f.kind) (seen_rows a.level a.txn (cells f.number)))).changes →
+    needs ≡ needs_of a.level f.number f.kind call at (map (pair_of f.kind) (seen_rows a.level a.txn (cells f.number))) (keys_of (cells f.number)) →
+    place ≡ (evaluation f.kind call at (map (pair_of f.kind) (seen_rows a.level a.txn (cells f.number)))).place →
+    IsPlannedFor st a call g answer changes needs place
+planned_for st a call g f at cells answer changes needs place seen number kind stands answer_is changes_are needs_are place_is =
     let pairs : map (pair_of f.kind) (seen_rows a.level a.txn (cells f.number)) ≡ view_of st a g =
     ap (λ (k : Kind). map (pair_of k) (seen_rows a.level a.txn (cells f.number))) (sym kind) ∙ ap (λ (n : ℕ). map (pair_of g.database.kind) (seen_rows a.level a.txn (cells n))) (sym number) ∙ seen.pairs in
     let names : keys_of (cells f.number) ≡ occupied st g = ap (λ (n : ℕ). keys_of (cells n)) (sym number) ∙ seen.names in
-    let ev : evaluation f.kind call None (map (pair_of f.kind) (seen_rows a.level a.txn (cells f.number))) ≡ outcome_of st a call g =
-    ap (λ (p : List Pair). evaluation f.kind call None p) pairs ∙ ap (λ (k : Kind). evaluation k call None (view_of st a g)) (sym kind) ∙ ap (λ (o : Option Name). evaluation g.database.kind call o (view_of st a g)) (sym at) in
+    let ev : evaluation f.kind call at (map (pair_of f.kind) (seen_rows a.level a.txn (cells f.number))) ≡ outcome_of st a call g =
+    ap (λ (p : List Pair). evaluation f.kind call at p) pairs ∙ ap (λ (k : Kind). evaluation k call at (view_of st a g)) (sym kind) ∙ ap (λ (o : Option Name). evaluation g.database.kind call o (view_of st a g)) (sym stands) in
     record {
       answer_is = answer_is ∙ ap (λ (e : Evaluated). e.answer) ev;
       changes_are = changes_are ∙ ap (λ (e : Evaluated). e.changes) ev;
-      needs_are = needs_are ∙ ap (λ (p : List Pair). needs_of a.level f.number f.kind call None p (keys_of (cells f.number))) pairs
-          ∙ ap (λ (n : List Name). needs_of a.level f.number f.kind call None (view_of st a g) n) names
-          ∙ ap (λ (k : Kind). needs_of a.level f.number k call None (view_of st a g) (occupied st g)) (sym kind)
-          ∙ ap (λ (n : ℕ). needs_of a.level n g.database.kind call None (view_of st a g) (occupied st g)) (sym number)
-          ∙ ap (λ (o : Option Name). needs_of a.level g.db g.database.kind call o (view_of st a g) (occupied st g)) (sym at);
+      needs_are = needs_are ∙ ap (λ (p : List Pair). needs_of a.level f.number f.kind call at p (keys_of (cells f.number))) pairs
+          ∙ ap (λ (n : List Name). needs_of a.level f.number f.kind call at (view_of st a g) n) names
+          ∙ ap (λ (k : Kind). needs_of a.level f.number k call at (view_of st a g) (occupied st g)) (sym kind)
+          ∙ ap (λ (n : ℕ). needs_of a.level n g.database.kind call at (view_of st a g) (occupied st g)) (sym number)
+          ∙ ap (λ (o : Option Name). needs_of a.level g.db g.database.kind call o (view_of st a g) (occupied st g)) (sym stands);
+      place_is = place_is ∙ ap (λ (e : Evaluated). e.place) ev;
     }
 
 -- what a valid environment has of it
@@ -162,27 +163,28 @@ pub seen_at : {D : Type 0} (trees : LogTrees D) (st : Standing) (a : Active) (db
     HasWrites (cells_of trees) st.own → ((t : ℕ) → AllByRecursion (MayBeCommitted (committed (cells_of trees))) (st.own t)) → ((d : ℕ) → IsRising (cells_of trees d)) → AreSeenBy st a g (cells_of trees)
 seen_at trees st a db f g sound on makes writes may rising = views-are_seen st a g (cells_of trees) (cells_of_target trees st db f g sound on makes writes may rising)
 
-module _ {D : Type 0} (trees : LogTrees D) (txn : TxnId) (level : Isolation) (db : List ℕ) (f : FoundDb) (call : Call) (rising : (d : ℕ) → IsRising (cells_of trees d)) where
+module _ {D : Type 0} (trees : LogTrees D) (txn : TxnId) (level : Isolation) (db : List ℕ) (f : FoundDb) (call : Call) (at : Option Name) (rising : (d : ℕ) → IsRising (cells_of trees d)) where
   abbrev planned_on : Evaluated
-  planned_on = evaluation f.kind call None (map (pair_of f.kind) (seen_rows level txn (cells_of trees f.number)))
+  planned_on = evaluation f.kind call at (map (pair_of f.kind) (seen_rows level txn (cells_of trees f.number)))
 
   abbrev needed_on : List Need
-  needed_on = needs_of level f.number f.kind call None (map (pair_of f.kind) (seen_rows level txn (cells_of trees f.number))) (keys_of (cells_of trees f.number))
+  needed_on = needs_of level f.number f.kind call at (map (pair_of f.kind) (seen_rows level txn (cells_of trees f.number))) (keys_of (cells_of trees f.number))
 
   -- so the plan of a call is the model's
-  pub planned_by : (observable : Bool) (history : D → History) (e : Environment D) → e.engine.trees ≡ trees → (result : Result AccessPlan AllocError) → IfOk result (λ p. p.answer ≡ planned_on.answer) →
-      IfOk result (λ p. p.changes ≡ planned_on.changes) → IfOk result (λ p. p.needs.items ≡ needed_on) →
-      IfOk result (λ p. (st : Standing) (a : Active) (g : Target) → IsValidAt observable history e st → AreSound st → IsOnDb st db f g → a.txn ≡ txn → a.level ≡ level → IsPlannedFor st a call g p.answer p.changes p.needs.items)
-  planned_by observable history e same (Ok p) answer changes needs = λ st a g v sound on is_txn is_level.
+  pub planned_by : (observable : Bool) (history : D → History) (e : Environment D) → e.engine.trees ≡ trees → (result : Result CursorPlan AllocError) → IfOk result (λ p. p.plan.answer ≡ planned_on.answer) →
+      IfOk result (λ p. p.plan.changes ≡ planned_on.changes) → IfOk result (λ p. p.plan.needs.items ≡ needed_on) → IfOk result (λ p. p.place ≡ planned_on.place) →
+      IfOk result (λ p. (st : Standing) (a : Active) (g : Target) → IsValidAt observable history e st → AreSound st → IsOnDb st db f g → g.at ≡ at → a.txn ≡ txn → a.level ≡ level →
+      IsPlannedFor st a call g p.plan.answer p.plan.changes p.plan.needs.items p.place)
+  planned_by observable history e same (Ok p) answer changes needs place = λ st a g v sound on stands is_txn is_level.
       let makes = subst (λ (t : LogTrees D). MakesStore (committed (cells_of t)) st.last_db st) same v.makes in
       let writes = subst (λ (t : LogTrees D). HasWrites (cells_of t) st.own) same v.writes in
       let may = subst (λ (t : LogTrees D). (u : ℕ) → AllByRecursion (MayBeCommitted (committed (cells_of t))) (st.own u)) same v.may in
       let seen = seen_at trees st a db f g sound on makes writes may rising in
-      planned_for st a call g f (cells_of trees) p.answer p.changes p.needs.items seen on.number on.kind on.at
-      (answer ∙ sym (ap (λ (t : TxnId). (evaluation f.kind call None (map (pair_of f.kind) (seen_rows level t (cells_of trees f.number)))).answer) is_txn)
-      ∙ sym (ap (λ (l : Isolation). (evaluation f.kind call None (map (pair_of f.kind) (seen_rows l a.txn (cells_of trees f.number)))).answer) is_level))
-      (changes ∙ sym (ap (λ (t : TxnId). (evaluation f.kind call None (map (pair_of f.kind) (seen_rows level t (cells_of trees f.number)))).changes) is_txn)
-      ∙ sym (ap (λ (l : Isolation). (evaluation f.kind call None (map (pair_of f.kind) (seen_rows l a.txn (cells_of trees f.number)))).changes) is_level))
-      (needs ∙ sym (ap (λ (t : TxnId). needs_of level f.number f.kind call None (map (pair_of f.kind) (seen_rows level t (cells_of trees f.number))) (keys_of (cells_of trees f.number))) is_txn)
-      ∙ sym (ap (λ (l : Isolation). needs_of l f.number f.kind call None (map (pair_of f.kind) (seen_rows l a.txn (cells_of trees f.number))) (keys_of (cells_of trees f.number))) is_level))
-  planned_by observable history e same (Err error) answer changes needs = tt
+      let ev : TxnId → Isolation → Evaluated = λ t l. evaluation f.kind call at (map (pair_of f.kind) (seen_rows l t (cells_of trees f.number))) in
+      let needed : TxnId → Isolation → List Need = λ t l. needs_of l f.number f.kind call at (map (pair_of f.kind) (seen_rows l t (cells_of trees f.number))) (keys_of (cells_of trees f.number)) in
+      planned_for st a call g f at (cells_of trees) p.plan.answer p.plan.changes p.plan.needs.items p.place seen on.number on.kind stands
+      (answer ∙ sym (ap (λ (t : TxnId). (ev t level).answer) is_txn) ∙ sym (ap (λ (l : Isolation). (ev a.txn l).answer) is_level))
+      (changes ∙ sym (ap (λ (t : TxnId). (ev t level).changes) is_txn) ∙ sym (ap (λ (l : Isolation). (ev a.txn l).changes) is_level))
+      (needs ∙ sym (ap (λ (t : TxnId). needed t level) is_txn) ∙ sym (ap (λ (l : Isolation). needed a.txn l) is_level))
+      (place ∙ sym (ap (λ (t : TxnId). (ev t level).place) is_txn) ∙ sym (ap (λ (l : Isolation). (ev a.txn l).place) is_level))
+  planned_by observable history e same (Err error) answer changes needs place = tt

@@ -16,7 +16,6 @@ use Rattle.store_model.specs.declared.answer.Answer.{Answer}
 use Rattle.store_model.specs.declared.answer.Answer.TheVariants.{Invalid}
 use Rattle.store_model.specs.declared.answer.Fault.{Fault}
 use Rattle.store_model.specs.declared.call.Call.{Call}
-use Rattle.store_model.specs.declared.call.Call.TheVariants.{Get, GetBoth, Put, Delete}
 use Rattle.store_model.specs.declared.change.Change.{Change}
 use Rattle.store_model.specs.declared.event.Event.TheVariants.{Resume, End}
 use Rattle.store_model.specs.declared.victim.Victim.{Victim}
@@ -34,7 +33,7 @@ use Rattle.log_buffer.specs.Buffer.{IsUnchanged, disk_of as disk_below}
 use Rattle.in_tree.specs.Observed.{cells_of, has_tree_of}
 use Rattle.sessions.specs.declared.all_sessions.Sessions.{Sessions}
 use Rattle.sessions.specs.AtStanding.{AreSessionsAt}
-use Rattle.standing_laws.specs.Right.{AreNumbered, AreSound, IsWaitIn, MayWait}
+use Rattle.standing_laws.specs.Right.{AreNumbered, AreSound, IsWaitIn}
 use Rattle.standing_laws.proofs.Settling.{resumes-settle, ends-settle}
 use Rattle.standing_laws.proofs.StandingsStay.{resumed_is-right, standings_stay-right}
 use Rattle.standing_laws.proofs.StandingsBare.{standings_stay-bare}
@@ -43,7 +42,7 @@ use Rattle.engine.specs.Steps.{IsNumbered}
 use Rattle.engine.proofs.GuardLaws.{guarded_quiet}
 use Rattle.environment.specs.declared.environment.Environment.{Environment}
 use Rattle.environment.specs.declared.outcome.Outcome.{Outcome}
-use Rattle.environment.specs.Calls.{HasNoCursor, MayResume, resumed_by}
+use Rattle.environment.specs.Calls.{MayResume, resumed_by}
 use Rattle.environment.specs.Limits.{owing_after, owing_with, written_call, written_resumed, written_unless}
 use Rattle.environment.specs.Resuming.{GoesAgain, MayGoOn, ResumesCall}
 use Rattle.environment.specs.Steps.{HasCalled, HasNotCome, MayCall, StandsAt}
@@ -70,26 +69,16 @@ pub record IsItsWait (st : Standing) (session : ℕ) (w : Wait) : Type 0 where
   pub active : Active
   pub its : active_of session st.actives ≡ Some active
   pub txn : active.txn ≡ w.txn
-  pub cursorless : HasNoCursor w.call
-
-no_cursor : (call : Call) → MayWait call → HasNoCursor call
-no_cursor (Get db key rmw) may = tt
-no_cursor (GetBoth db key value rmw) may = tt
-no_cursor (Put db key value mode) may = tt
-no_cursor (Delete db key) may = tt
-no_cursor call may = absurd may
 
 pub its_wait : (st : Standing) (session : ℕ) (w : Wait) → MayGoOn st session w → IsItsWait st session w
 its_wait st session w may =
     let in_ = found_wait (IsWaitIn st.actives) session st.waiting w may.right.sound.waits.each may.its in
-    let call = found_wait (λ v. MayWait v.call) session st.waiting w may.right.calls may.its in
     record {
       own = in_.1;
       found = ap (λ (s : ℕ). wait_of s st.waiting) in_.1 ∙ may.its;
       active = in_.0.active;
       its = sym (ap (λ (s : ℕ). active_of s st.actives) in_.1) ∙ in_.0.its;
       txn = in_.0.same;
-      cursorless = no_cursor w.call call.0;
     }
 
 pub sound_again : (st : Standing) (session : ℕ) (w : Wait) → MayGoOn st session w → AreSound (resumed st w)
@@ -213,7 +202,8 @@ module _ {D : Type 0} where
     totals = at.totals;
     sessions_at = now_;
     apart = own_waits_left (λ (v : Wait). not (v.session == w.session)) st.waiting at.apart;
-    valid = λ none. valid_waiting observable (now (history (disk_below e.engine.trees.log))) e.engine.trees.log (cells_of e.engine.trees) (has_tree_of e.engine.trees) (fitting e.engine.trees) e.written.by_txn.entries st
+    checkpoint = at.checkpoint;
+    valid = λ none. valid_waiting observable (now (history (disk_below e.engine.trees.log))) e.engine.trees.log (cells_of e.engine.trees) (has_tree_of e.engine.trees) (fitting e.engine.trees) e.engine.kept.since e.written.by_txn.entries st
         (without_wait w.session st.waiting) (forgotten w.txn st.locks) (at.valid none);
   }
 
@@ -302,8 +292,8 @@ module _ {D : Type 0} where
           answered = said;
           here = record {
             at = subst (λ (x : Standing). StandsAt most observable history new x) (sym (after_is most st line m o g)) has.here;
-            right = λ after. standings_stay-right has.limit st (resumed_by session line o) g.none (here.right g.none) said tt;
-            bare = λ after. standings_stay-bare has.limit st (resumed_by session line o) g.none (here.right g.none) (here.bare g.none) said tt;
+            right = λ after. standings_stay-right has.limit st (resumed_by session line o) g.none (here.right g.none) said;
+            bare = λ after. standings_stay-bare has.limit st (resumed_by session line o) g.none (here.right g.none) (here.bare g.none) said;
           };
         }
 
@@ -315,8 +305,8 @@ module _ {D : Type 0} where
         IsAt most observable (now (history (disk_of new))) new (after_event st (End session))
     session_end most st here left none = record {
       at = left;
-      right = λ after. standings_stay-right None st (End session) none (here.right none) tt tt;
-      bare = λ after. standings_stay-bare None st (End session) none (here.right none) (here.bare none) tt tt;
+      right = λ after. standings_stay-right None st (End session) none (here.right none) tt;
+      bare = λ after. standings_stay-bare None st (End session) none (here.right none) (here.bare none) tt;
     }
 
     pub resumes_call : (result : Result Outcome AllocError) →

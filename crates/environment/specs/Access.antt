@@ -1,5 +1,5 @@
 -- A call on the records of a database, among transactions.
-use Rattle.std.specs.Prelude.{ℕ, ◌≡◌, ◌≢◌, Bool, true, List, Option, None, Some, Result, Ok, Err}
+use Rattle.std.specs.Prelude.{ℕ, ◌≡◌, ◌≢◌, Bool, true, List, Option, None, Some, IsSome, Result, Ok, Err}
 use Rattle.store_model.specs.declared.answer.Answer.{Answer}
 use Rattle.store_model.specs.declared.call.Call.{Call}
 use Rattle.store_model.specs.declared.record_change.RecordChange.{RecordChange}
@@ -8,7 +8,9 @@ use Rattle.je_answers.specs.declared.active.Active.{Active}
 use Rattle.je_answers.specs.Standing.{Standing, active_of, database_at}
 use Rattle.je_answers.specs.Views.{Target, needs_in, outcome_of, target_of}
 use Rattle.je_answers.specs.Refusals.{late_refusal}
+use Rattle.je_order.specs.declared.name.Name.{Name}
 use Rattle.store_model.specs.declared.need.Need.{Need}
+use Rattle.store_model.specs.declared.place.Place.{Place}
 use Rattle.db_catalog.specs.declared.found_db.FoundDb.{FoundDb}
 use Rattle.engine.proofs.CalmAnswers.{IsCalm}
 use Rattle.std.specs.declared.alloc.AllocError.{AllocError}
@@ -17,26 +19,29 @@ use Rattle.store_model.specs.declared.victim.Victim.{Victim}
 use Rattle.store_model.specs.Refusals.{database_refuses}
 use Rattle.je_answers.specs.Locking.{first_blocked}
 use Rattle.je_answers.specs.Events.{IsTaken}
-use Rattle.je_answers.specs.After.{after_taking}
+use Rattle.je_answers.specs.After.{after_taking, moved, moved_to}
 use Rattle.je_answers.specs.Journal.{changes_taken}
+use Rattle.sessions.specs.AtStanding.{with_places}
 use Rattle.sessions.specs.Taking.{HasTaken}
-use Rattle.standing_laws.specs.Right.{AreSound}
+use Rattle.standing_laws.specs.Right.{AreSound, MayWait}
 use Rattle.environment.specs.declared.environment.Environment.{Environment}
 use Rattle.environment.specs.declared.outcome.Outcome.{Outcome}
-use Rattle.environment.specs.Calls.{IsOnRecords}
 use Rattle.environment.specs.Limits.{owing_with, written_taken}
 use Rattle.environment.specs.Steps.{HasNotCome, HasStepped, StandsAt}
 use Rattle.environment.specs.declared.late.Late.{Late}
 use Rattle.environment.specs.declared.late.Late.TheVariants.{Refused, Found}
+use Rattle.environment.specs.declared.late_at.LateAt.{LateAt}
+use Rattle.environment.specs.declared.late_at.LateAt.TheVariants.{Refused as RefusedAt, Stands}
+use Rattle.environment.specs.declared.moving.Move.{Move}
 
--- a call that nothing refuses is on this database, which the catalog has under this number
-pub record IsFoundFor (st : Standing) (session : ℕ) (call : Call) (db : List ℕ) (found : FoundDb) (g : Target) : Type 0 where
+-- a call that nothing refuses is on this database, which the catalog has under this number, and its cursor, if it has one, stands there
+pub record IsFoundFor (st : Standing) (session : ℕ) (call : Call) (db : List ℕ) (found : FoundDb) (at : Option Name) (g : Target) : Type 0 where
   pub late : late_refusal st session call ≡ None
   pub target : target_of st session call ≡ Some g
   pub number : g.db ≡ found.number
   pub kind : g.database.kind ≡ found.kind
   pub name : g.database.name ≡ db
-  pub at : g.at ≡ None
+  pub stands : g.at ≡ at
   pub is : database_of db st.store ≡ Some g.database
   pub there : database_at g.db st ≡ Some g.database
   pub named : st.numbers g.database.name ≡ g.db
@@ -47,7 +52,6 @@ pub record IsOnDb (st : Standing) (db : List ℕ) (found : FoundDb) (g : Target)
   pub number : g.db ≡ found.number
   pub kind : g.database.kind ≡ found.kind
   pub name : g.database.name ≡ db
-  pub at : g.at ≡ None
   pub is : database_of db st.store ≡ Some g.database
   pub there : database_at g.db st ≡ Some g.database
   pub named : st.numbers g.database.name ≡ g.db
@@ -56,13 +60,33 @@ pub record IsOnDb (st : Standing) (db : List ℕ) (found : FoundDb) (g : Target)
 -- what refuses a call late, or the database that it is on
 abbrev pub IsLate : Standing → ℕ → Call → List ℕ → Late → Type 0
 IsLate st session call db (Refused answer) = (late_refusal st session call ≡ Some answer) × IsCalm answer
-IsLate st session call db (Found found) = (g : Target) × IsFoundFor st session call db found g
+IsLate st session call db (Found found) = (g : Target) × IsFoundFor st session call db found None g
 
--- what a call of a transaction comes to, and what it needs
-pub record IsPlannedFor (st : Standing) (a : Active) (call : Call) (g : Target) (answer : Answer) (changes : List RecordChange) (needs : List Need) : Type 0 where
+-- the same of a call at a cursor, which is its transaction's
+abbrev pub IsLateAt : Standing → ℕ → Call → LateAt → Type 0
+IsLateAt st session call (RefusedAt answer) = (late_refusal st session call ≡ Some answer) × IsCalm answer
+IsLateAt st session call (Stands spot) = (g : Target) × IsFoundFor st session call spot.name spot.found spot.at g × IsSome (active_of session st.actives)
+
+-- what a call of a transaction comes to, what it needs, and where its cursor then stands
+pub record IsPlannedFor (st : Standing) (a : Active) (call : Call) (g : Target) (answer : Answer) (changes : List RecordChange) (needs : List Need) (place : Option Name) : Type 0 where
   pub answer_is : answer ≡ (outcome_of st a call g).answer
   pub changes_are : changes ≡ (outcome_of st a call g).changes
   pub needs_are : needs ≡ needs_in st a call g
+  pub place_is : place ≡ (outcome_of st a call g).place
+
+-- the number of the cursor that a call moves
+abbrev pub IsCursorOf : Call → Option ℕ → Type 0
+IsCursorOf call None = (at : Option Name) (places : List Place) → moved call at places ≡ places
+IsCursorOf call (Some cursor) = (at : Option Name) (places : List Place) → moved call at places ≡ moved_to cursor at places
+
+-- a call of a session, whose cursor then stands at that place, moves this cursor or none
+abbrev pub Moves : ℕ → Call → Option Name → Option Move → Type 0
+Moves session call place None = (places : List Place) → moved call place places ≡ places
+Moves session call place (Some m) = (m.session ≡ session) × ((places : List Place) → moved call place places ≡ moved_to m.cursor m.at places)
+
+-- a standing once it has
+abbrev pub with_move : Active → Call → Option Name → Standing → Standing
+with_move a call place st = with_places a.session (moved call place (st.places a.session)) st
 
 module _ {D : Type 0} where
   -- A call of a transaction, planned as it sees the records, got all the locks that it needs. Nothing else has changed since `before`.
@@ -73,7 +97,7 @@ module _ {D : Type 0} where
     pub valid : st.fault ≡ None
     pub on : IsOnDb st db found g
     pub its : active_of session st.actives ≡ Some a
-    pub records : IsOnRecords db call
+    pub records : MayWait call
     pub plain : database_refuses g.database.kind call ≡ None
     pub engine : e.engine ≡ before.engine
     pub written : e.written ≡ before.written

@@ -48,7 +48,7 @@ module _ {D : Type 0} where
     pub db : List ℕ
     pub found : FoundDb
     pub records : IsOnRecords db call
-    pub on : IsFoundFor st session call db found g
+    pub on : IsFoundFor st session call db found None g
     pub outside : active_of session st.actives ≡ None
     pub left : nat_lt st.last_txn LAST_TXN ≡ true
 

@@ -4,7 +4,7 @@ use Rattle.std.specs.declared.alloc.AllocError.{AllocError}
 use Rattle.je_order.specs.Counts.{HasRisen}
 use Rattle.store_model.specs.declared.answer.Answer.TheVariants.{DiskFault}
 use Rattle.store_model.specs.declared.call.Call.{Call}
-use Rattle.store_model.specs.declared.call.Call.TheVariants.{Create, Remove, Rename, Truncate, Get, GetBoth, Put, Delete, Open, Close, Dup, Count, Cur, CPutCur, CDel, CPut}
+use Rattle.store_model.specs.declared.call.Call.TheVariants.{Create, Remove, Rename, Truncate, Get, GetBoth, Put, Delete, Count, Cur, CPutCur, CDel, CPut}
 use Rattle.store_model.specs.declared.event.Event.{Event}
 use Rattle.store_model.specs.declared.event.Event.TheVariants.{Call as Called, Resume}
 use Rattle.je_answers.specs.declared.wait.Wait.{Wait}
@@ -13,18 +13,6 @@ use Rattle.je_answers.specs.Events.{IsReady}
 use Rattle.je_answers.specs.After.{after_event}
 use Rattle.je_answers.specs.Journal.{IsSettling}
 use Rattle.environment.specs.declared.outcome.Outcome.{Outcome}
-
--- a call on no cursor
-abbrev pub HasNoCursor : Call → Type 0
-HasNoCursor (Open cursor db) = ⊥
-HasNoCursor (Close cursor) = ⊥
-HasNoCursor (Dup cursor to) = ⊥
-HasNoCursor (Count cursor) = ⊥
-HasNoCursor (Cur cursor motion rmw) = ⊥
-HasNoCursor (CPutCur cursor value) = ⊥
-HasNoCursor (CDel cursor) = ⊥
-HasNoCursor (CPut cursor key value mode) = ⊥
-HasNoCursor call = Unit {0}
 
 -- a call that changes the catalog, and one on the records of the database of a name
 abbrev pub ChangesCatalog : Call → Type 0
@@ -40,6 +28,15 @@ IsOnRecords name (GetBoth db key value rmw) = db ≡ name
 IsOnRecords name (Put db key value mode) = db ≡ name
 IsOnRecords name (Delete db key) = db ≡ name
 IsOnRecords name call = ⊥
+
+-- one on records at a cursor
+abbrev pub IsAtCursor : ℕ → Call → Type 0
+IsAtCursor n (Count cursor) = cursor ≡ n
+IsAtCursor n (Cur cursor motion rmw) = cursor ≡ n
+IsAtCursor n (CPutCur cursor value) = cursor ≡ n
+IsAtCursor n (CDel cursor) = cursor ≡ n
+IsAtCursor n (CPut cursor key value mode) = cursor ≡ n
+IsAtCursor n call = ⊥
 
 -- a call with what it came to, and a waiting call that was given again
 abbrev pub called : ℕ → ℕ → Call → Outcome → Event

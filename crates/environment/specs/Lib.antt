@@ -17,3 +17,7 @@ pub mod Resuming
 pub mod OwnEnds
 -- A call that waited and changes something.
 pub mod Again
+-- Calls that open and close cursors.
+pub mod Cursors
+-- Steps of maintenance.
+pub mod Turning

@@ -2,10 +2,10 @@
 use Rattle.std.specs.Prelude.{ℕ, ◌+◌, [], ◌∷◌, List, Option, None, Some, if◌then◌else◌}
 use Rattle.store_model.specs.declared.answer.Answer.{Answer}
 use Rattle.store_model.specs.declared.call.Call.{Call}
-use Rattle.store_model.specs.declared.call.Call.TheVariants.{Create, Remove, Rename, Truncate, Get, GetBoth, Put, Delete}
+use Rattle.store_model.specs.declared.call.Call.TheVariants.{Create, Remove, Rename, Truncate, Get, GetBoth, Put, Delete, Count, Cur, CPutCur, CDel, CPut}
 use Rattle.store_model.specs.declared.change.Change.{Change}
 use Rattle.store_model.specs.declared.event.Event.{Event}
-use Rattle.store_model.specs.declared.event.Event.TheVariants.{Call as Called, Resume}
+use Rattle.store_model.specs.declared.event.Event.TheVariants.{Call as Called, Resume, Turn}
 use Rattle.store_model.specs.declared.need.Need.{Need}
 use Rattle.store_model.specs.Evaluation.{evaluation}
 use Rattle.je_answers.specs.declared.active.Active.{Active}
@@ -18,7 +18,7 @@ use Rattle.je_answers.specs.Events.{auto_active, begun, resumed}
 use Rattle.je_answers.specs.After.{after_event}
 use Rattle.active_txns.specs.Own.{has_changes}
 use Rattle.sessions.specs.AtStanding.{owing}
-use Rattle.engine.specs.Limits.{IsBounded, Reach, reach_after}
+use Rattle.engine.specs.Limits.{IsBoundedBy, Reach, reach_after}
 
 -- ---- what events write
 
@@ -45,6 +45,11 @@ written_performed (Get db key rmw) st session = written_run (active_of session s
 written_performed (GetBoth db key value rmw) st session = written_run (active_of session st.actives) st session (GetBoth db key value rmw)
 written_performed (Put db key value mode) st session = written_run (active_of session st.actives) st session (Put db key value mode)
 written_performed (Delete db key) st session = written_run (active_of session st.actives) st session (Delete db key)
+written_performed (Count cursor) st session = written_run (active_of session st.actives) st session (Count cursor)
+written_performed (Cur cursor motion rmw) st session = written_run (active_of session st.actives) st session (Cur cursor motion rmw)
+written_performed (CPutCur cursor value) st session = written_run (active_of session st.actives) st session (CPutCur cursor value)
+written_performed (CDel cursor) st session = written_run (active_of session st.actives) st session (CDel cursor)
+written_performed (CPut cursor key value mode) st session = written_run (active_of session st.actives) st session (CPut cursor key value mode)
 written_performed call st session = []
 
 abbrev pub written_evaluated : Option Answer → Standing → ℕ → Call → List Change
@@ -70,10 +75,15 @@ written_by st event = []
 
 -- ---- limits
 
+-- how far a log and its trees may reach behind an event: a step of maintenance logs one entry at most, and allocates no number
+abbrev pub reach_behind : Reach → Standing → Event → Reach
+reach_behind reach st (Turn line step answer) = record { file = reach.file + 1; node = reach.node }
+reach_behind reach st event = reach_after reach (written_by st event)
+
 -- the limits of events, one after another, where a log and its trees reach so far before them
 abbrev pub AreBounded : Reach → Standing → List Event → List (Option Answer) → Type 0
 AreBounded reach st (event ∷ events) (limit ∷ limits) =
-    IsBounded reach (written_by st event) limit × AreBounded (reach_after reach (written_by st event)) (after_event st event) events limits
+    IsBoundedBy (reach_behind reach st event) limit × AreBounded (reach_behind reach st event) (after_event st event) events limits
 AreBounded reach st events limits = Unit {0}
 
 -- ---- the Commits that are owed

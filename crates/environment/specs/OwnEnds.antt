@@ -4,6 +4,7 @@ use Rattle.std.specs.declared.alloc.AllocError.{AllocError}
 use Rattle.je_disk.specs.Moments.{History}
 use Rattle.store_model.specs.declared.answer.Answer.{Answer}
 use Rattle.store_model.specs.declared.answer.Answer.TheVariants.{LogFull, IdsEnded, DiskFault}
+use Rattle.je_order.specs.declared.name.Name.{Name}
 use Rattle.store_model.specs.declared.need.Need.{Need}
 use Rattle.store_model.specs.declared.record_change.RecordChange.{RecordChange}
 use Rattle.je_answers.specs.declared.active.Active.{Active}
@@ -20,6 +21,7 @@ use Rattle.sessions.specs.Taking.{HasTaken}
 use Rattle.environment.specs.declared.environment.Environment.{Environment}
 use Rattle.environment.specs.declared.wrote.Wrote.{Wrote}
 use Rattle.environment.specs.declared.wrote.Wrote.TheVariants.{Done, Full, NoNumbers, Failed}
+use Rattle.environment.specs.Access.{with_move}
 use Rattle.environment.specs.Limits.{owing_with}
 use Rattle.environment.specs.Steps.{HasNotCome, HasStepped}
 use Rattle.environment.specs.Writing.{WritesOwn}
@@ -38,12 +40,12 @@ after_wrote Full st a call g ev = answered a call g st
 after_wrote NoNumbers st a call g ev = answered a call g st
 after_wrote Failed st a call g ev = faulted st
 
--- and where it leaves the sessions
-abbrev pub AreEndedBy : Wrote → Sessions → Active → List Need → List (ℕ × RecordChange) → Standing → Type 0
-AreEndedBy Done s a needs more st = AreSessionsAt s (with_locks a (all_got a.txn needs st.locks.at) (with_own a.txn.0 more st))
-AreEndedBy Full s a needs more st = AreSessionsAt s (with_locks a (all_got a.txn needs st.locks.at) st)
-AreEndedBy NoNumbers s a needs more st = AreSessionsAt s (with_locks a (all_got a.txn needs st.locks.at) st)
-AreEndedBy Failed s a needs more st = AreSessionsAt s st
+-- and where it leaves the sessions, with the call's cursor at that place
+abbrev pub AreEndedBy : Wrote → Sessions → Active → Call → Option Name → List Need → List (ℕ × RecordChange) → Standing → Type 0
+AreEndedBy Done s a call place needs more st = AreSessionsAt s (with_move a call place (with_locks a (all_got a.txn needs st.locks.at) (with_own a.txn.0 more st)))
+AreEndedBy Full s a call place needs more st = AreSessionsAt s (with_locks a (all_got a.txn needs st.locks.at) st)
+AreEndedBy NoNumbers s a call place needs more st = AreSessionsAt s (with_locks a (all_got a.txn needs st.locks.at) st)
+AreEndedBy Failed s a call place needs more st = AreSessionsAt s st
 
 -- a transaction has these changes more, with what its call got
 pub record HasPushed (s : Sessions) (a : Active) (needs : List Need) (n : ℕ) (more : List (ℕ × RecordChange)) (len : ℕ) (st : Standing) : Type 0 where

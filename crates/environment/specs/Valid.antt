@@ -1,5 +1,5 @@
 -- A valid environment beside the model: its log and its trees, and where the model stands.
-use Rattle.std.specs.Prelude.{ℕ, suc, ◌≡◌, Bool, true, false, List, [], None, filter, length}
+use Rattle.std.specs.Prelude.{ℕ, suc, ◌≡◌, Bool, is_some, true, false, List, [], None, filter, length}
 use Rattle.std.specs.List.{AllByRecursion}
 use Rattle.je_disk.specs.States.{State}
 use Rattle.je_order.specs.declared.txn_id.TxnId.{TxnId}
@@ -8,9 +8,12 @@ use Rattle.je_answers.specs.Standing.{Standing}
 use Rattle.log_file.specs.Log.{Log}
 use Rattle.log_buffer.specs.declared.buffer.LogBuffer.{LogBuffer}
 use Rattle.log_buffer.specs.Buffer.{end_of, file_max_of, has_failed}
+use Rattle.log_buffer.specs.Flip.{pos_lsn}
 use Rattle.log_buffer.specs.Log.{HasLog}
 use Rattle.log_replay.specs.Rows.{numbers_of}
 use Rattle.log_trees.specs.Placed.{Placed, placed}
+use Rattle.log_trees.specs.Changes.{LoggedChange}
+use Rattle.log_meaning.specs.Redo.{redone}
 use Rattle.tree_images.specs.Forest.{ForestFits}
 use Rattle.in_tree.specs.declared.logged_trees.LogTrees.{LogTrees}
 use Rattle.in_tree.specs.Limits.{HasRoomFor, commit_sizes}
@@ -23,11 +26,12 @@ use Rattle.sessions.specs.declared.all_sessions.Sessions.{Sessions}
 use Rattle.sessions.specs.AtStanding.{AreSessionsAt, owing}
 use Rattle.standing_laws.specs.Right.{HaveOwnWaits, is_active, txn_id}
 use Rattle.txn_core.specs.Known.{committed, has_number}
+use Rattle.txn_log.specs.Checkpoints.{EndsFrom}
 use Rattle.txn_log.specs.Committing.{MakesStore, MayBeCommitted}
 use Rattle.txn_log.specs.Gives.{GivesRecordsWith}
 use Rattle.txn_views.specs.Seen.{HasWrites}
 use Rattle.engine.specs.Environment.{RecoversStore}
-use Rattle.environment.specs.Written.{AreNamesOf}
+use Rattle.environment.specs.Written.{AreFirstsOf, AreNamesOf}
 use Rattle.environment.specs.declared.written.OwnNames.{OwnNames}
 
 -- what holds of a log's entries and the LSN where this life of the environment began
@@ -37,6 +41,17 @@ Forest = List Placed → ℕ → Type 0
 -- that trees fit them
 abbrev pub fitting : {D : Type 0} → LogTrees D → Forest
 fitting trees es base = ForestFits es base (last_node_of trees) (trees_of trees)
+
+-- what waits of each transaction in a log, of what was logged since this life of the environment began
+abbrev pub waiting_in : Log → ℕ → ℕ → List LoggedChange
+waiting_in log base = (redone base (placed log)).pending
+
+-- What holds of a log that ends at an LSN, and of where this life of the environment began: the trees fit it, a redo may begin at `since`, and no
+-- transaction under way logged a change before its first LSN.
+pub record Lives (forest : Forest) (log : Log) (since end : ℕ) (written : List (TxnId × OwnNames)) (base : ℕ) : Type 0 where
+  pub fits : forest (placed log) base
+  pub from : EndsFrom log base since
+  pub firsts : AreFirstsOf written (waiting_in log base) end
 
 -- whether a transaction of that number is under way
 abbrev pub active_number : List Active → ℕ → Bool
@@ -52,8 +67,9 @@ owed_by s = length (filter (λ a. has_changes (own_of s.txns.own.entries a.txn.0
 
 module _ {D : Type 0} where
   -- A log and trees with these cells, where the model stands at `st` and no fault came: the log works, gives the committed records and each
-  -- transaction's own changes, recovers the store, and has room for the Commits that are owed; the trees have the same, and fit the log.
-  pub record IsValidWith (observable : Bool) (state : State) (buffer : LogBuffer D) (cells : AllCells) (has_tree : ℕ → Bool) (forest : Forest) (written : List (TxnId × OwnNames)) (st : Standing) : Type 0 where
+  -- transaction's own changes, recovers the store, and has room for the Commits that are owed; the trees have the same, and fit the log. A redo may
+  -- begin at `since`, and no transaction under way logged a change before its first LSN.
+  pub record IsValidWith (observable : Bool) (state : State) (buffer : LogBuffer D) (cells : AllCells) (has_tree : ℕ → Bool) (forest : Forest) (since : ℕ) (written : List (TxnId × OwnNames)) (st : Standing) : Type 0 where
     pub log : Log
     pub has : HasLog observable state buffer log
     pub works : has_failed buffer ≡ false
@@ -66,6 +82,8 @@ module _ {D : Type 0} where
     pub room : (n : ℕ) → owing st ≡ suc n → HasRoomFor buffer (commit_sizes (suc n))
     pub names : AreNamesOf written st.own (committed cells)
     pub fits : forest (placed log) gives.base
+    pub from : EndsFrom log gives.base since
+    pub firsts : AreFirstsOf written (waiting_in log gives.base) (pos_lsn (end_of buffer))
 
   -- an environment of these parts, whose files have at most so many bytes, is where the model stands
   pub record AreAt (most : ℕ) (observable : Bool) (state : State) (buffer : LogBuffer D) (cells : AllCells) (has_tree : ℕ → Bool) (forest : Forest) (kept : Kept) (sessions : Sessions) (written : List (TxnId × OwnNames))
@@ -78,4 +96,5 @@ module _ {D : Type 0} where
     pub totals : kept.totals ≡ totals_of st.store
     pub sessions_at : AreSessionsAt sessions st
     pub apart : HaveOwnWaits st.waiting
-    pub valid : st.fault ≡ None → IsValidWith observable state buffer cells has_tree forest written st
+    pub checkpoint : is_some kept.checkpoints.under_way ≡ st.in_checkpoint
+    pub valid : st.fault ≡ None → IsValidWith observable state buffer cells has_tree forest kept.since written st

@@ -1,31 +1,33 @@
 // A call that is a transaction of its own, once more.
 ghost use Rattle.std.specs.Prelude.{◌≡◌, None, Some, ℕ, List as Lists, [], OnErr, true};
+ghost use Rattle.std.specs.Option.{option_copied};
 ghost use Rattle.store_model.specs.declared.call.Call.{Call as Asked};
 ghost use Rattle.db_catalog.specs.declared.found_db.FoundDb.{FoundDb as Found};
 ghost use Rattle.je_answers.specs.declared.active.Active.{Active as Transaction};
 ghost use Rattle.je_answers.specs.Standing.{Standing, active_of};
 ghost use Rattle.je_answers.specs.Refusals.{early_refusal};
-ghost use Rattle.je_answers.specs.Views.{Target};
+ghost use Rattle.je_answers.specs.Views.{Target, outcome_of};
 ghost use Rattle.engine.specs.Limits.{IsWithin};
-ghost use Rattle.standing_laws.specs.Right.{AreSound};
-ghost use Rattle.environment.specs.Access.{AccessesTo, IsFoundFor, IsTakenUp};
-ghost use Rattle.environment.specs.Calls.{HasCause, IsOnRecords};
+ghost use Rattle.standing_laws.specs.Right.{AreSound, MayWait};
+ghost use Rattle.environment.specs.Access.{AccessesTo, IsFoundFor, IsTakenUp, Moves};
+ghost use Rattle.environment.specs.Calls.{HasCause};
 ghost use Rattle.environment.specs.Steps.{ComesTo, MayCall, StandsAt};
 ghost use Rattle.environment.specs.Whole.{CanGoOn, disk_of, reach_of};
 
 use crate::calling::told;
 use crate::environment::Environment;
+use crate::moving::{Move, move_by, move_of};
 use crate::outcome::Outcome;
 use db_catalog::FoundDb;
 use je_disk::Disk;
-use je_order::{List, TxnId, Word};
+use je_order::{List, Name, TxnId, Word};
 use sessions::Taken;
 use std::alloc::{AllocError, Global};
 use store_model::{Answer, Call, Isolation, RecordChange};
-use txn_views::AccessPlan;
+use txn_views::{AccessPlan, CursorPlan};
 
 impl<D: Disk> Environment<D> {
-    // Makes a call again that waited, and is a transaction of its own.
+    // Makes a call again that waited, and is a transaction of its own, from where its cursor stands.
     pub(crate) fn access_again(
         &mut self,
         alloc: Global,
@@ -36,28 +38,31 @@ impl<D: Disk> Environment<D> {
         db: &Word,
         found: FoundDb,
         call: &Call,
+        at: Option<&Name>,
     ) -> Result<Outcome, AllocError>
-        requires here { (most : ℕ) × (st : Standing) × (g : Target) × StandsAt most D.observable D.history self.old st × AreSound st × (early_refusal st session call.now ≡ None) × IsFoundFor st session call.now db.now found g × MayCall st session true × (a : Transaction) × (active_of session st.actives ≡ Some a) × (a.txn ≡ txn) × (a.level ≡ level) × (a.is_auto ≡ true) }
+        requires here { (most : ℕ) × (st : Standing) × (g : Target) × StandsAt most D.observable D.history self.old st × AreSound st × (early_refusal st session call.now ≡ None) × IsFoundFor st session call.now db.now found (option_copied at) g × MayCall st session true × (a : Transaction) × (active_of session st.actives ≡ Some a) × (a.txn ≡ txn) × (a.level ≡ level) × (a.is_auto ≡ true) }
         requires bounds { CanGoOn self.old }
-        requires call { IsOnRecords db.now call.now }
+        requires call { MayWait call.now }
         requires valid { self.old.engine.kept.fault ≡ None }
         ensures comes { (most : ℕ) (st : Standing) (g : Target) → StandsAt most D.observable D.history self.old st → AreSound st → early_refusal st session call.now ≡ None → MayCall st session true
-            → IsFoundFor st session call.now db.now found g → (a : Transaction) → active_of session st.actives ≡ Some a → a.txn ≡ txn → a.level ≡ level → a.is_auto ≡ true → ComesTo D.observable D.history D.sync_out D.read_out D.read_of most self.old self.new st session line call.now result }
+            → IsFoundFor st session call.now db.now found (option_copied at.entry) g → (a : Transaction) → active_of session st.actives ≡ Some a → a.txn ≡ txn → a.level ≡ level → a.is_auto ≡ true → ComesTo D.observable D.history D.sync_out D.read_out D.read_of most self.old self.new st session line call.now result }
         ensures near { OnErr result (IsWithin (reach_of self.new) (reach_of self.old)) }
         ensures bounds { CanGoOn self.new }
         ensures cause { HasCause (D.faults (disk_of self.old)) (D.faults (disk_of self.new)) result }
     {
+        let CursorPlan { plan, place } = self.plan(alloc, txn, level, db, found, call, at)?;
         let AccessPlan {
             answer,
             changes,
             needs,
-        } = self.plan(alloc, txn, level, db, found, call)?;
+        } = plan;
+        let moves = move_of(session, call, place);
         let taken = self
             .sessions
             .take(alloc, session, line, call, db, found.kind, needs, true);
         match taken {
             Ok(Taken::Ready) => {
-                self.finish_again(alloc, session, txn, level, found.number, answer, changes)
+                self.finish_again(alloc, session, txn, level, found.number, answer, changes, moves)
             }
             Ok(
                 Taken::Stopped {
@@ -67,6 +72,7 @@ impl<D: Disk> Environment<D> {
             ) => {
                 drop(answer);
                 drop(changes);
+                drop(moves);
                 Ok(Outcome {
                     answer: stop,
                     victims,
@@ -75,6 +81,7 @@ impl<D: Disk> Environment<D> {
             Err(error) => {
                 drop(answer);
                 drop(changes);
+                drop(moves);
                 Err(error)
             }
         }
@@ -90,12 +97,13 @@ impl<D: Disk> Environment<D> {
         number: u32,
         answer: Answer,
         changes: List<RecordChange>,
+        moves: Option<Move>,
     ) -> Result<Outcome, AllocError>
         requires taken { (before : Environment D) × (most : ℕ) × (st : Standing) × (a : Transaction) × (asked : Asked) × (db : Lists ℕ) × (found : Found) × (g : Target)
             × IsTakenUp D.observable D.history most before self.old st session a asked db found g answer changes × (a.txn ≡ txn) × (a.level ≡ level) × (g.db ≡ number) × (a.is_auto ≡ true) × (st.own a.txn.0 ≡ []) }
         requires bounds { CanGoOn self.old }
         ensures comes { (before : Environment D) (most line : ℕ) (st : Standing) (a : Transaction) (asked : Asked) (db : Lists ℕ) (found : Found) (g : Target)
-            → IsTakenUp D.observable D.history most before self.old st session a asked db found g answer changes → a.txn ≡ txn → a.level ≡ level → g.db ≡ number → a.is_auto ≡ true → st.own a.txn.0 ≡ []
+            → IsTakenUp D.observable D.history most before self.old st session a asked db found g answer changes → Moves session asked (outcome_of st a asked g).place moves → a.txn ≡ txn → a.level ≡ level → g.db ≡ number → a.is_auto ≡ true → st.own a.txn.0 ≡ []
             → AccessesTo D.observable D.history D.sync_out D.read_out D.read_of most before self.new st a line asked g result }
         ensures bounds { CanGoOn self.new }
         ensures cause { HasCause (D.faults (disk_of self.old)) (D.faults (disk_of self.new)) result }
@@ -103,10 +111,11 @@ impl<D: Disk> Environment<D> {
         if changes.is_empty() {
             drop(changes);
             self.sessions.answered(txn, level, true);
+            move_by(&mut self.sessions, moves);
             self.abandon(session, txn);
             return Ok(told(alloc, answer));
         }
         drop(answer);
-        self.commit_again(alloc, session, txn, level, number, changes)
+        self.commit_again(alloc, session, txn, level, number, changes, moves)
     }
 }

@@ -44,12 +44,12 @@ impl<D: Disk> Environment<D> {
         found: FoundDb,
         call: &Call,
     ) -> Result<Outcome, AllocError>
-        requires here { (most : ℕ) × (st : Standing) × (g : Target) × StandsAt most D.observable D.history self.old st × AreSound st × (early_refusal st session call.now ≡ None) × IsFoundFor st session call.now db.now found g × MayCall st session true × (active_of session st.actives ≡ None) }
+        requires here { (most : ℕ) × (st : Standing) × (g : Target) × StandsAt most D.observable D.history self.old st × AreSound st × (early_refusal st session call.now ≡ None) × IsFoundFor st session call.now db.now found None g × MayCall st session true × (active_of session st.actives ≡ None) }
         requires bounds { CanGoOn self.old }
         requires call { IsOnRecords db.now call.now }
         requires valid { self.old.engine.kept.fault ≡ None }
         ensures comes { (most : ℕ) (st : Standing) (g : Target) → StandsAt most D.observable D.history self.old st → AreSound st → early_refusal st session call.now ≡ None → MayCall st session true
-            → IsFoundFor st session call.now db.now found g → active_of session st.actives ≡ None → ComesTo D.observable D.history D.sync_out D.read_out D.read_of most self.old self.new st session line call.now result }
+            → IsFoundFor st session call.now db.now found None g → active_of session st.actives ≡ None → ComesTo D.observable D.history D.sync_out D.read_out D.read_of most self.old self.new st session line call.now result }
         ensures near { OnErr result (IsWithin (reach_of self.new) (reach_of self.old)) }
         ensures bounds { CanGoOn self.new }
         ensures cause { HasCause (D.faults (disk_of self.old)) (D.faults (disk_of self.new)) result }

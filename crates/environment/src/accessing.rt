@@ -49,7 +49,7 @@ impl<D: Disk> Environment<D> {
     }
 
     // Whether a session has no transaction, and no number is left for one.
-    fn lacks_number(&self, session: u8) -> bool
+    pub(crate) fn lacks_number(&self, session: u8) -> bool
         ensures { (most : ℕ) (st : Standing) → StandsAt most D.observable D.history self.now st → result ≡ is_some (number_refusal st.last_txn (active_of session st.actives)) }
     {
         if self.sessions.of_session(session).is_some() {
@@ -79,7 +79,7 @@ impl<D: Disk> Environment<D> {
     }
 
     // Answers a call that is refused late; one outside a transaction allocates a number.
-    fn refuse(
+    pub(crate) fn refuse(
         &mut self,
         alloc: Global,
         session: u8,
@@ -100,7 +100,7 @@ impl<D: Disk> Environment<D> {
     }
 
     // Allocates a number for a call outside a transaction, where one is left.
-    fn draw(&mut self, session: u8)
+    pub(crate) fn draw(&mut self, session: u8)
         requires bounds { CanGoOn self.old }
         ensures here { (most : ℕ) (st : Standing) → StandsAt most D.observable D.history self.old st → StandsAt most D.observable D.history self.new (drawn_by (active_of session st.actives) st) }
         ensures bounds { CanGoOn self.new }
@@ -127,12 +127,12 @@ impl<D: Disk> Environment<D> {
         found: FoundDb,
         call: &Call,
     ) -> Result<Outcome, AllocError>
-        requires here { (most : ℕ) × (st : Standing) × (g : Target) × StandsAt most D.observable D.history self.old st × AreSound st × (early_refusal st session call.now ≡ None) × IsFoundFor st session call.now db.now found g × MayCall st session true }
+        requires here { (most : ℕ) × (st : Standing) × (g : Target) × StandsAt most D.observable D.history self.old st × AreSound st × (early_refusal st session call.now ≡ None) × IsFoundFor st session call.now db.now found None g × MayCall st session true }
         requires bounds { CanGoOn self.old }
         requires call { IsOnRecords db.now call.now }
         requires valid { self.old.engine.kept.fault ≡ None }
         ensures comes { (most : ℕ) (st : Standing) (g : Target) → StandsAt most D.observable D.history self.old st → AreSound st → early_refusal st session call.now ≡ None → MayCall st session true
-            → IsFoundFor st session call.now db.now found g → ComesTo D.observable D.history D.sync_out D.read_out D.read_of most self.old self.new st session line call.now result }
+            → IsFoundFor st session call.now db.now found None g → ComesTo D.observable D.history D.sync_out D.read_out D.read_of most self.old self.new st session line call.now result }
         ensures near { OnErr result (IsWithin (reach_of self.new) (reach_of self.old)) }
         ensures bounds { CanGoOn self.new }
         ensures cause { HasCause (D.faults (disk_of self.old)) (D.faults (disk_of self.new)) result }
@@ -141,9 +141,9 @@ impl<D: Disk> Environment<D> {
             Some(active) => {
                 let (txn, level) = (active.txn, active.level);
                 if active.is_auto {
-                    return self.access_again(alloc, session, txn, level, line, db, found, call);
+                    return self.access_again(alloc, session, txn, level, line, db, found, call, None);
                 }
-                self.access_own(alloc, session, txn, level, line, db, found, call)
+                self.access_own(alloc, session, txn, level, line, db, found, call, None)
             }
             None => self.access_auto(alloc, session, line, db, found, call),
         }

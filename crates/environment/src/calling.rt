@@ -5,7 +5,7 @@ ghost use Rattle.je_answers.specs.Standing.{Standing};
 ghost use Rattle.je_answers.specs.Alone.{IsAutoCommitted};
 ghost use Rattle.je_answers.specs.Refusals.{early_refusal};
 ghost use Rattle.engine.specs.Limits.{IsWithin};
-ghost use Rattle.environment.specs.Calls.{HasCause, HasNoCursor};
+ghost use Rattle.environment.specs.Calls.{HasCause};
 ghost use Rattle.environment.specs.Answering.{AnswersCall};
 ghost use Rattle.environment.specs.Steps.{CallsTo};
 ghost use Rattle.environment.specs.Whole.{CanGoOn, IsAt, disk_of, reach_of};
@@ -57,7 +57,6 @@ impl<D: Disk> Environment<D> {
     ) -> Result<Outcome, AllocError>
         requires here { (most : ℕ) × (st : Standing) × IsAt most D.observable (now (D.history (disk_of self.old))) self.old st }
         requires bounds { CanGoOn self.old }
-        requires call { HasNoCursor call.now }
         ensures answers { AnswersCall D.observable D.history self.old self.new session line call.now result }
         ensures bounds { CanGoOn self.new }
         ensures cause { HasCause (D.faults (disk_of self.old)) (D.faults (disk_of self.new)) result }
@@ -97,7 +96,6 @@ impl<D: Disk> Environment<D> {
     ) -> Result<Outcome, AllocError>
         requires here { (most : ℕ) × (st : Standing) × IsAt most D.observable (now (D.history (disk_of self.old))) self.old st }
         requires bounds { CanGoOn self.old }
-        requires call { HasNoCursor call.now }
         requires valid { self.old.engine.kept.fault ≡ None }
         ensures answers { AnswersCall D.observable D.history self.old self.new session line call.now result }
         ensures bounds { CanGoOn self.new }
@@ -116,7 +114,6 @@ impl<D: Disk> Environment<D> {
     ) -> Result<Outcome, AllocError>
         requires here { (most : ℕ) × (st : Standing) × IsAt most D.observable (now (D.history (disk_of self.old))) self.old st }
         requires bounds { CanGoOn self.old }
-        requires call { HasNoCursor call.now }
         requires valid { self.old.engine.kept.fault ≡ None }
         ensures comes { (most : ℕ) (st : Standing) → IsAt most D.observable (now (D.history (disk_of self.old))) self.old st
             → CallsTo D.observable D.history D.sync_out D.read_out D.read_of most self.old self.new st session line call.now result }

@@ -6,8 +6,8 @@ ghost use Rattle.store_model.specs.declared.answer.Answer.{Answer as Answered};
 ghost use Rattle.db_catalog.specs.declared.found_db.FoundDb.{FoundDb as Found};
 ghost use Rattle.je_answers.specs.declared.active.Active.{Active as Transaction};
 ghost use Rattle.je_answers.specs.Standing.{Standing};
-ghost use Rattle.je_answers.specs.Views.{Target};
-ghost use Rattle.environment.specs.Access.{AccessesTo, HasAccessed, IsTakenUp};
+ghost use Rattle.je_answers.specs.Views.{Target, outcome_of};
+ghost use Rattle.environment.specs.Access.{AccessesTo, HasAccessed, IsTakenUp, Moves};
 ghost use Rattle.environment.specs.Again.{HasWrittenAgain};
 ghost use Rattle.environment.specs.Calls.{HasCause};
 ghost use Rattle.environment.specs.Committing.{is_set};
@@ -16,6 +16,7 @@ ghost use Rattle.environment.specs.Whole.{CanGoOn, disk_of};
 use crate::calling::told;
 use crate::committing::{had_of, records_before, sets};
 use crate::environment::Environment;
+use crate::moving::{Move, move_by};
 use crate::outcome::Outcome;
 use crate::own_writing::{take_back, undo_own};
 use crate::wrote::Wrote;
@@ -55,13 +56,14 @@ impl<D: Disk> Environment<D> {
         level: Isolation,
         number: u32,
         changes: List<RecordChange>,
+        moves: Option<Move>,
     ) -> Result<Outcome, AllocError>
         requires taken { (before : Environment D) × (most : ℕ) × (st : Standing) × (a : Transaction) × (asked : Asked) × (db : Lists ℕ) × (found : Found) × (g : Target) × (answer : Answered)
             × IsTakenUp D.observable D.history most before self.old st session a asked db found g answer changes × (a.txn ≡ txn) × (a.level ≡ level) × (g.db ≡ number) × (a.is_auto ≡ true) × (st.own a.txn.0 ≡ []) }
         requires some { changes ≢ [] }
         requires bounds { CanGoOn self.old }
         ensures comes { (before : Environment D) (most line : ℕ) (st : Standing) (a : Transaction) (asked : Asked) (db : Lists ℕ) (found : Found) (g : Target) (answer : Answered)
-            → IsTakenUp D.observable D.history most before self.old st session a asked db found g answer changes → a.txn ≡ txn → a.level ≡ level → g.db ≡ number → a.is_auto ≡ true → st.own a.txn.0 ≡ []
+            → IsTakenUp D.observable D.history most before self.old st session a asked db found g answer changes → Moves session asked (outcome_of st a asked g).place moves → a.txn ≡ txn → a.level ≡ level → g.db ≡ number → a.is_auto ≡ true → st.own a.txn.0 ≡ []
             → AccessesTo D.observable D.history D.sync_out D.read_out D.read_of most before self.new st a line asked g result }
         ensures bounds { CanGoOn self.new }
         ensures cause { HasCause (D.faults (disk_of self.old)) (D.faults (disk_of self.new)) result }
@@ -69,14 +71,16 @@ impl<D: Disk> Environment<D> {
         let set = count_sets(changes.as_slice());
         let Some(all) = records_before(&self.engine.kept, set) else {
             drop(changes);
+            drop(moves);
             self.sessions.give_up(txn);
             return Err(AllocError);
         };
         let pushed = self.push_and_log(alloc, txn, number, changes.as_slice());
         drop(changes);
         match pushed {
-            Ok(wrote) => Ok(self.end_again(alloc, session, txn, level, all, wrote)),
+            Ok(wrote) => Ok(self.end_again(alloc, session, txn, level, all, wrote, moves)),
             Err(error) => {
+                drop(moves);
                 undo_own(&mut self.sessions, txn, 0);
                 Err(error)
             }
@@ -92,29 +96,33 @@ impl<D: Disk> Environment<D> {
         level: Isolation,
         all: u64,
         wrote: Wrote,
+        moves: Option<Move>,
     ) -> Outcome
         requires written { (before : Environment D) × (most : ℕ) × (st : Standing) × (a : Transaction) × (asked : Asked) × (g : Target)
             × HasWrittenAgain D.observable D.history D.sync_out D.read_out D.read_of most before self.old st session txn level a asked g all wrote }
         ensures comes { (before : Environment D) (most line : ℕ) (st : Standing) (a : Transaction) (asked : Asked) (g : Target)
-            → HasWrittenAgain D.observable D.history D.sync_out D.read_out D.read_of most before self.old st session txn level a asked g all wrote
+            → HasWrittenAgain D.observable D.history D.sync_out D.read_out D.read_of most before self.old st session txn level a asked g all wrote → Moves session asked (outcome_of st a asked g).place moves
             → HasAccessed D.observable D.history D.sync_out D.read_out D.read_of most before self.new st a line asked g result.answer result.victims }
         ensures bounds { CanGoOn self.new }
         ensures cause { (was : ℕ) → was ≤ D.faults (disk_of self.old) → (wrote ≡ Wrote.Failed → HasRisen was (D.faults (disk_of self.old)))
             → HasCause was (D.faults (disk_of self.new)) (Ok result) }
     {
         match wrote {
-            Wrote::Done => self.settle_again(alloc, session, txn, level, all),
+            Wrote::Done => self.settle_again(alloc, session, txn, level, all, moves),
             Wrote::Full => {
+                drop(moves);
                 take_back(&mut self.sessions, txn, level, 0);
                 self.abandon(session, txn);
                 told(alloc, Answer::LogFull)
             }
             Wrote::NoNumbers => {
+                drop(moves);
                 take_back(&mut self.sessions, txn, level, 0);
                 self.abandon(session, txn);
                 told(alloc, Answer::IdsEnded)
             }
             Wrote::Failed => {
+                drop(moves);
                 undo_own(&mut self.sessions, txn, 0);
                 told(alloc, Answer::DiskFault)
             }
@@ -129,11 +137,12 @@ impl<D: Disk> Environment<D> {
         txn: TxnId,
         level: Isolation,
         all: u64,
+        moves: Option<Move>,
     ) -> Outcome
         requires written { (before : Environment D) × (most : ℕ) × (st : Standing) × (a : Transaction) × (asked : Asked) × (g : Target)
             × HasWrittenAgain D.observable D.history D.sync_out D.read_out D.read_of most before self.old st session txn level a asked g all Wrote.Done }
         ensures comes { (before : Environment D) (most line : ℕ) (st : Standing) (a : Transaction) (asked : Asked) (g : Target)
-            → HasWrittenAgain D.observable D.history D.sync_out D.read_out D.read_of most before self.old st session txn level a asked g all Wrote.Done
+            → HasWrittenAgain D.observable D.history D.sync_out D.read_out D.read_of most before self.old st session txn level a asked g all Wrote.Done → Moves session asked (outcome_of st a asked g).place moves
             → HasAccessed D.observable D.history D.sync_out D.read_out D.read_of most before self.new st a line asked g result.answer result.victims }
         ensures bounds { CanGoOn self.new }
         ensures cause { HasCause (D.faults (disk_of self.old)) (D.faults (disk_of self.new)) (Ok result) }
@@ -142,6 +151,7 @@ impl<D: Disk> Environment<D> {
         match self.commit_own(txn, records) {
             Ok(()) => {
                 self.sessions.answered(txn, level, true);
+                move_by(&mut self.sessions, moves);
                 self.sessions.end(session, txn);
                 told(
                     alloc,
@@ -151,6 +161,7 @@ impl<D: Disk> Environment<D> {
                 )
             }
             Err(_) => {
+                drop(moves);
                 undo_own(&mut self.sessions, txn, 0);
                 told(alloc, Answer::DiskFault)
             }

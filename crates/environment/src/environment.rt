@@ -12,7 +12,7 @@ ghost use Rattle.je_answers.specs.Journal.{durability_of as durability_in, first
 ghost use Rattle.txn_core.specs.Totals.{totals_of};
 ghost use Rattle.engine.specs.Limits.{IsWithin, reach_after};
 ghost use Rattle.engine.specs.Steps.{IsNumbered};
-ghost use Rattle.environment.specs.Calls.{HasCause, HasNoCursor, MayResume, called};
+ghost use Rattle.environment.specs.Calls.{HasCause, MayResume, called};
 ghost use Rattle.environment.specs.Limits.{owing_after, written_call};
 ghost use Rattle.environment.specs.Whole.{BeginsSafely, BeginsSync, CanGoOn, EndsSync, GoesOn, GoesOnSafely, HasLimit, IsAt, IsGuarded, IsGuardedInSync, disk_of, reach_of};
 
@@ -48,7 +48,6 @@ impl<D: Disk> Environment<D> {
     ) -> Result<Outcome, AllocError>
         requires here { (most : ℕ) × (st : Standing) × IsAt most D.observable (now (D.history (disk_of self.old))) self.old st }
         requires bounds { CanGoOn self.old }
-        requires call { HasNoCursor call.now }
         ensures goes_on { (most : ℕ) (st : Standing) → IsAt most D.observable (now (D.history (disk_of self.old))) self.old st
             → GoesOn most D.observable (now (D.history (disk_of self.new))) self.old self.new st (called session line call.now) st result }
         ensures exact { (most : ℕ) (st : Standing) → IsAt most D.observable (now (D.history (disk_of self.old))) self.old st

@@ -1,7 +1,8 @@
 // What a call changes that got its locks: pushed and logged, and how it ends.
-ghost use Rattle.std.specs.Prelude.{◌≡◌, ◌≢◌, ◌≤◌, ◌<◌, ◌^◌, ℕ, [], List as Lists, true, map, IfOk, OnOk, OnErr};
+ghost use Rattle.std.specs.Prelude.{◌≡◌, ◌≢◌, ◌≤◌, ◌<◌, ◌^◌, ℕ, [], List as Lists, Option as Maybe, true, map, IfOk, OnOk, OnErr};
 ghost use Rattle.std.specs.List.{AllByRecursion};
 ghost use Rattle.je_order.specs.Counts.{HasRisen};
+ghost use Rattle.je_order.specs.declared.name.Name.{Name as Named};
 ghost use Rattle.log_entry.specs.Body.{IsEntry};
 ghost use Rattle.record_tree.specs.Logged.{entry_for};
 ghost use Rattle.txn_core.specs.Plans.{record_planned};
@@ -11,19 +12,20 @@ ghost use Rattle.store_model.specs.declared.need.Need.{Need};
 ghost use Rattle.store_model.specs.declared.record_change.RecordChange.{RecordChange as Changed};
 ghost use Rattle.je_answers.specs.declared.active.Active.{Active as Transaction};
 ghost use Rattle.je_answers.specs.Standing.{Standing};
-ghost use Rattle.je_answers.specs.Views.{Target, changes_at, needs_in};
+ghost use Rattle.je_answers.specs.Views.{Target, changes_at, needs_in, outcome_of};
 ghost use Rattle.je_answers.specs.Locking.{all_got};
 ghost use Rattle.je_answers.specs.After.{with_locks};
 ghost use Rattle.sessions.specs.AtStanding.{AreSessionsAt, owing, with_own};
 ghost use Rattle.sessions.specs.Taking.{HasTaken};
 ghost use Rattle.db_catalog.specs.declared.found_db.FoundDb.{FoundDb as Found};
-ghost use Rattle.environment.specs.Access.{IsTakenUp};
+ghost use Rattle.environment.specs.Access.{IsTakenUp, Moves};
 ghost use Rattle.environment.specs.OwnEnds.{AreEndedBy, ComesUp, HasPushed, HasPushedAndLogged, answer_for};
 ghost use Rattle.environment.specs.Valid.{active_number};
 ghost use Rattle.environment.specs.Whole.{CanGoOn, disk_of};
 ghost use Rattle.environment.specs.Writing.{IsValidAt, MayWrite, WritesOwn};
 
 use crate::environment::Environment;
+use crate::moving::{Move, move_by};
 use crate::wrote::Wrote;
 use je_disk::Disk;
 use je_order::{List, TxnId, copy_of};
@@ -101,15 +103,35 @@ pub(crate) fn undo_own(sessions: &mut Sessions, txn: TxnId, len: usize)
 }
 
 // Ends a call in the sessions, by what became of its changes.
-fn end_own(sessions: &mut Sessions, txn: TxnId, level: Isolation, len: usize, wrote: Wrote)
+fn end_own(
+    sessions: &mut Sessions,
+    txn: TxnId,
+    level: Isolation,
+    len: usize,
+    wrote: Wrote,
+    moves: Option<Move>,
+)
     requires { (a : Transaction) × (needs : Lists Need) × (more : Lists (ℕ × Changed)) × (st : Standing) × (a.txn ≡ txn) × (a.level ≡ level) × HasPushed sessions.old a needs txn.0 more len st }
-    ensures { (a : Transaction) (needs : Lists Need) (more : Lists (ℕ × Changed)) (st : Standing) → a.txn ≡ txn → a.level ≡ level → HasPushed sessions.old a needs txn.0 more len st → AreEndedBy wrote sessions.new a needs more st }
+    ensures { (a : Transaction) (call : Asked) (place : Maybe Named) (needs : Lists Need) (more : Lists (ℕ × Changed)) (st : Standing) → a.txn ≡ txn → a.level ≡ level → Moves a.session call place moves
+        → HasPushed sessions.old a needs txn.0 more len st → AreEndedBy wrote sessions.new a call place needs more st }
 {
     match wrote {
-        Wrote::Done => sessions.answered(txn, level, true),
-        Wrote::Full => take_back(sessions, txn, level, len),
-        Wrote::NoNumbers => take_back(sessions, txn, level, len),
-        Wrote::Failed => undo_own(sessions, txn, len),
+        Wrote::Done => {
+            sessions.answered(txn, level, true);
+            move_by(sessions, moves);
+        }
+        Wrote::Full => {
+            drop(moves);
+            take_back(sessions, txn, level, len);
+        }
+        Wrote::NoNumbers => {
+            drop(moves);
+            take_back(sessions, txn, level, len);
+        }
+        Wrote::Failed => {
+            drop(moves);
+            undo_own(sessions, txn, len);
+        }
     }
 }
 
@@ -136,7 +158,7 @@ pub(crate) fn answer_by(wrote: Wrote, answer: Answer) -> Answer
 
 impl<D: Disk> Environment<D> {
     // How many Commits are owed.
-    fn owed(&self) -> Result<u32, AllocError>
+    pub(crate) fn owed(&self) -> Result<u32, AllocError>
         ensures { IfOk result (λ owed. (st : Standing) → AreSessionsAt self.now.sessions st → owed ≡ owing st) }
     {
         let owing = self.sessions.owing();
@@ -203,13 +225,14 @@ impl<D: Disk> Environment<D> {
         level: Isolation,
         number: u32,
         changes: &[RecordChange],
+        moves: Option<Move>,
     ) -> Result<Wrote, AllocError>
         requires taken { (before : Environment D) × (most session : ℕ) × (st : Standing) × (a : Transaction) × (asked : Asked) × (db : Lists ℕ) × (found : Found) × (g : Target) × (answer : Answered)
             × IsTakenUp D.observable D.history most before self.old st session a asked db found g answer changes.now × (a.txn ≡ txn) × (a.level ≡ level) × (g.db ≡ number) }
         requires some { changes.now ≢ [] }
         requires bounds { CanGoOn self.old }
         ensures comes { (before : Environment D) (most session : ℕ) (st : Standing) (a : Transaction) (asked : Asked) (db : Lists ℕ) (found : Found) (g : Target) (answer : Answered)
-            → IsTakenUp D.observable D.history most before self.old st session a asked db found g answer changes.now → a.txn ≡ txn → a.level ≡ level → g.db ≡ number
+            → IsTakenUp D.observable D.history most before self.old st session a asked db found g answer changes.now → Moves session asked (outcome_of st a asked g).place moves → a.txn ≡ txn → a.level ≡ level → g.db ≡ number
             → ComesUp D.observable D.history D.sync_out D.read_out D.read_of most before self.new st a asked g result }
         ensures bounds { CanGoOn self.new }
         ensures never_falls { D.faults (disk_of self.old) ≤ D.faults (disk_of self.new) }
@@ -218,10 +241,11 @@ impl<D: Disk> Environment<D> {
         let len = self.sessions.own(txn).len();
         match self.push_and_log(alloc, txn, number, changes) {
             Ok(wrote) => {
-                end_own(&mut self.sessions, txn, level, len, wrote);
+                end_own(&mut self.sessions, txn, level, len, wrote, moves);
                 Ok(wrote)
             }
             Err(error) => {
+                drop(moves);
                 undo_own(&mut self.sessions, txn, len);
                 Err(error)
             }

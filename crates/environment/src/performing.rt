@@ -4,7 +4,7 @@ ghost use Rattle.je_answers.specs.Standing.{Standing};
 ghost use Rattle.je_answers.specs.Refusals.{early_refusal};
 ghost use Rattle.engine.specs.Limits.{IsWithin};
 ghost use Rattle.standing_laws.specs.Right.{AreSound};
-ghost use Rattle.environment.specs.Calls.{HasCause, HasNoCursor};
+ghost use Rattle.environment.specs.Calls.{HasCause};
 ghost use Rattle.environment.specs.Steps.{ComesTo, IsOnly, MayCall, Performs, StandsAt};
 ghost use Rattle.environment.specs.Whole.{CanGoOn, disk_of, reach_of};
 
@@ -37,7 +37,6 @@ impl<D: Disk> Environment<D> {
     ) -> Result<Outcome, AllocError>
         requires here { (most : ℕ) × (st : Standing) × StandsAt most D.observable D.history self.old st × AreSound st × (early_refusal st session call.now ≡ None) × MayCall st session resumed }
         requires bounds { CanGoOn self.old }
-        requires call { HasNoCursor call.now }
         requires valid { self.old.engine.kept.fault ≡ None }
         ensures comes { (most : ℕ) (st : Standing) → StandsAt most D.observable D.history self.old st → AreSound st → early_refusal st session call.now ≡ None → MayCall st session resumed
             → ComesTo D.observable D.history D.sync_out D.read_out D.read_of most self.old self.new st session line call.now result }
@@ -59,7 +58,6 @@ impl<D: Disk> Environment<D> {
     ) -> Result<Outcome, AllocError>
         requires here { (most : ℕ) × (st : Standing) × StandsAt most D.observable D.history self.old st × AreSound st × (early_refusal st session call.now ≡ None) × MayCall st session resumed }
         requires bounds { CanGoOn self.old }
-        requires call { HasNoCursor call.now }
         requires valid { self.old.engine.kept.fault ≡ None }
         ensures performs { Performs D.observable D.history D.sync_out D.read_out D.read_of D.faults self.old self.new session line call.now resumed result }
     {
@@ -80,7 +78,24 @@ impl<D: Disk> Environment<D> {
             Call::GetBoth { db, .. } => self.access(alloc, session, line, db, call, resumed),
             Call::Put { db, .. } => self.access(alloc, session, line, db, call, resumed),
             Call::Delete { db, .. } => self.access(alloc, session, line, db, call, resumed),
-            _ => unreachable!(),
+            Call::Open { cursor, db } => only(alloc, self.open_cursor(alloc, session, *cursor, db)),
+            Call::Close { cursor } => only(alloc, Ok(self.close_cursor(session, *cursor))),
+            Call::Dup { cursor, to } => only(alloc, self.duplicate_cursor(session, *cursor, *to)),
+            Call::Count { cursor } => {
+                self.access_cursor(alloc, session, line, *cursor, call, resumed)
+            }
+            Call::Cur { cursor, .. } => {
+                self.access_cursor(alloc, session, line, *cursor, call, resumed)
+            }
+            Call::CPutCur { cursor, .. } => {
+                self.access_cursor(alloc, session, line, *cursor, call, resumed)
+            }
+            Call::CDel { cursor } => {
+                self.access_cursor(alloc, session, line, *cursor, call, resumed)
+            }
+            Call::CPut { cursor, .. } => {
+                self.access_cursor(alloc, session, line, *cursor, call, resumed)
+            }
         }
     }
 }

@@ -1,5 +1,6 @@
 // What a call on records comes to for a transaction, and what it needs.
 ghost use Rattle.std.specs.Prelude.{◌≡◌, IfOk};
+ghost use Rattle.std.specs.Option.{option_copied};
 ghost use Rattle.je_answers.specs.declared.active.Active.{Active as Transaction};
 ghost use Rattle.je_answers.specs.Standing.{Standing};
 ghost use Rattle.je_answers.specs.Views.{Target};
@@ -10,14 +11,14 @@ ghost use Rattle.environment.specs.Writing.{IsValidAt};
 use crate::environment::Environment;
 use db_catalog::FoundDb;
 use je_disk::Disk;
-use je_order::{TxnId, Word};
+use je_order::{Name, TxnId, Word};
 use std::alloc::{AllocError, Global};
 use store_model::{Call, Isolation};
-use txn_views::{AccessPlan, plan_access};
+use txn_views::{CursorPlan, plan_cursor};
 
 impl<D: Disk> Environment<D> {
-    // What a call comes to for a transaction at a level, on a database that was found under a name, and the locks that it
-    // needs.
+    // What a call comes to for a transaction at a level, on a database that was found under a name and from where its cursor
+    // stands, and the locks that it needs.
     pub(crate) fn plan(
         &self,
         alloc: Global,
@@ -26,12 +27,13 @@ impl<D: Disk> Environment<D> {
         db: &Word,
         found: FoundDb,
         call: &Call,
-    ) -> Result<AccessPlan, AllocError>
-        requires here { (st : Standing) × (a : Transaction) × (g : Target) × IsValidAt D.observable D.history self.now st × AreSound st × IsOnDb st db.now found g × (a.txn ≡ txn) × (a.level ≡ level) }
-        ensures { IfOk result (λ p. (st : Standing) (a : Transaction) (g : Target) → IsValidAt D.observable D.history self.now st → AreSound st → IsOnDb st db.now found g → a.txn ≡ txn → a.level ≡ level
-            → IsPlannedFor st a call.now g p.answer p.changes p.needs.items) }
+        at: Option<&Name>,
+    ) -> Result<CursorPlan, AllocError>
+        requires here { (st : Standing) × (a : Transaction) × (g : Target) × IsValidAt D.observable D.history self.now st × AreSound st × IsOnDb st db.now found g × (g.at ≡ option_copied at) × (a.txn ≡ txn) × (a.level ≡ level) }
+        ensures { IfOk result (λ p. (st : Standing) (a : Transaction) (g : Target) → IsValidAt D.observable D.history self.now st → AreSound st → IsOnDb st db.now found g → g.at ≡ option_copied at.entry → a.txn ≡ txn → a.level ≡ level
+            → IsPlannedFor st a call.now g p.plan.answer p.plan.changes p.plan.needs.items p.place) }
     {
         self.engine.trees.are_ordered();
-        plan_access(&self.engine.trees, alloc, txn, level, found, call)
+        plan_cursor(&self.engine.trees, alloc, txn, level, found, call, at)
     }
 }

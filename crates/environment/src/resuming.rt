@@ -10,7 +10,7 @@ ghost use Rattle.je_answers.specs.Events.{IsAnswered, resumed};
 ghost use Rattle.standing_laws.specs.Right.{AreSound};
 ghost use Rattle.engine.specs.Limits.{IsWithin, reach_after};
 ghost use Rattle.engine.specs.Steps.{IsNumbered};
-ghost use Rattle.environment.specs.Calls.{HasCause, HasNoCursor, MayResume, SettlesBy, resumed_by};
+ghost use Rattle.environment.specs.Calls.{HasCause, MayResume, SettlesBy, resumed_by};
 ghost use Rattle.environment.specs.Limits.{owing_after, written_resumed};
 ghost use Rattle.environment.specs.Resuming.{GoesAgain, MayGoOn, ResumesCall};
 ghost use Rattle.environment.specs.Steps.{CallsTo, MayCall, StandsAt};
@@ -125,7 +125,6 @@ impl<D: Disk> Environment<D> {
     ) -> Result<Outcome, AllocError>
         requires here { (most : ℕ) × (st : Standing) × StandsAt most D.observable D.history self.old st × AreSound st × MayCall st session true }
         requires bounds { CanGoOn self.old }
-        requires call { HasNoCursor call.now }
         requires valid { self.old.engine.kept.fault ≡ None }
         ensures comes { (most : ℕ) (st : Standing) → StandsAt most D.observable D.history self.old st → AreSound st → MayCall st session true
             → CallsTo D.observable D.history D.sync_out D.read_out D.read_of most self.old self.new st session line call.now result }

@@ -60,7 +60,7 @@ module _ {D : Type 0} (observable : Bool) (history : D → History) (faults : D 
       synced = λ later met. tt;
       fresh = tt;
       ordered = tt;
-      only = tt;
+      steps = tt;
       sessions = subst (λ (s : Standing). AreOf (λ n. n < 256) s.actives) (sym one.starts.st_is) tt;
       bounds = bounds;
       caused = caused_none (faults (disk_of environment));

@@ -18,7 +18,6 @@ use Rattle.je_program.specs.declared.reading.TheConstants.{MOST_INPUT}
 use Rattle.je_program.specs.declared.cause.Cause.{Cause}
 use Rattle.je_program.specs.declared.cause.Cause.TheVariants.{Done, Usage, BadScript, Disk, Unreadable, Memory, Input, InputTooLong, LogFull, IdsEnded}
 use Rattle.std.specs.Fmt.{digits}
-use Rattle.std.specs.List.{AllByRecursion}
 use Rattle.je_lsn.specs.Naming.{name_of}
 use Rattle.log_replay.specs.declared.corruption.Corruption.{Corruption}
 use Rattle.log_replay.specs.declared.corruption.Corruption.TheVariants.{Damaged, Missing, Tree, VersionUnknown}
@@ -32,8 +31,9 @@ use Rattle.je_program.specs.Crash.{IsSafeProgram}
 use Rattle.script_run.specs.Ends.{AreEndsInPlace}
 use Rattle.serial_replay.specs.Replay.{ReplaysSerially}
 use Rattle.serial_replay.specs.Cycles.{NeverWaitInCycle}
-use Rattle.script_run.specs.Events.{IsOfSessions, final_store}
-use Rattle.script_run.specs.Lines.{AreFirstLines, of_session}
+use Rattle.script_run.specs.Events.{final_store}
+use Rattle.script_run.specs.Maintenance.{AreStepsInPlace}
+use Rattle.script_run.specs.Lines.{AreFirstLines, of_maintenance, of_session}
 use Rattle.je_program.specs.Run.{cause_of_journal, status_of, unwritten_status_of}
 
 -- the input was a script, and was read to its end
@@ -64,12 +64,13 @@ IsStopped left before after InputTooLong = IfSome left (λ bytes. MOST_INPUT < l
 IsStopped left before after (BadScript line) = IfSome left (λ bytes. (length bytes ≤ MOST_INPUT) × (plan_of bytes ≡ Err line))
 IsStopped left before after cause = Unit {0}
 
--- a journal holds the lines of a script that was read: all, in order; or where a call found no memory, of each session the
--- first of its lines
+-- a journal holds the lines of a script that was read: all, in order; or where a line found no memory, of each session the
+-- first of its lines, and of the steps of maintenance the first
 pub record IsGivenTo (left rest : Option (List ℕ)) (journal : List Event) (cause : Cause) (plan : RunPlan) : Type 0 where
   pub reads : ReadsPlan left rest plan
   pub all : cause ≢ Memory → lines_of journal ≡ plan.lines
   pub front : (session : ℕ) → AreFirstLines (of_session session (lines_of journal)) (of_session session plan.lines)
+  pub front_steps : AreFirstLines (of_maintenance (lines_of journal)) (of_maintenance plan.lines)
 
 -- whether the program ended before it came to its disk
 abbrev pub is_before_disk : Cause → Bool
@@ -95,7 +96,8 @@ EndsBy journal cause = (cause ≡ cause_of_journal journal) ⊎ (cause ≡ Disk)
 -- A run from one history of the disk to another, with log files of at most so many bytes. It begins where the files at entry are opened: each event
 -- of the journal answers what the model lets it from there on, within the limits of the log; its transactions are as their levels promise, and after no
 -- event do any wait in a cycle; each commit is followed at once by what its durability asks
--- for; the calls that waited go on in the order in which they began to wait, before the next line; and nothing else happens. A session ends behind the
+-- for; the calls that waited go on in the order in which they began to wait, before the next line; each step of maintenance was given by a line, and a
+-- sync that a line asks for has made all commits so far durable where it is done. A session ends behind the
 -- last line, or where it was stopped since a call of it found no memory. At every moment the disk is safe. Unless memory ran out none was stopped, and at
 -- the end no call may go on and no transaction is under way. Where all was done, each commit is acknowledged and the files mean the final store. What is
 -- counted is how much that holds.
@@ -108,7 +110,7 @@ pub record IsRunOf (file_max : ℕ) (observable : Bool) (old new : History) (ope
   pub bounded : AreBounded (reach_in starts.held starts.meaning) st journal limits
   pub synced_at_once : AreSyncedAtOnce st journal
   pub in_order : AreResumedInOrder st journal
-  pub only : AllByRecursion IsOfSessions journal
+  pub steps : AreStepsInPlace None st journal
   pub stopped : List Bool
   pub in_place : AreEndsInPlace stopped st journal
   pub none_stopped : cause ≢ Memory → (session : ℕ) → slice_index_or stopped session false ≡ false

@@ -86,7 +86,8 @@ pub fn run_je<D: Disk, S: Source, K: Sink>(
 
     // A run: its journal holds the script's lines. Each answer is the model's, from what the files at entry mean on;
     // each commit is followed at once by its sync or its write-out, as its durability asks; the calls that waited go on
-    // in the order in which they began to wait, before the next line; where all was done, each commit that waits is
+    // in the order in which they began to wait, before the next line; a step of maintenance is taken where a line asks
+    // for it, and a sync among them has made all commits so far durable; where all was done, each commit that waits is
     // acknowledged, and the files mean the opening store changed by the commits in order. Over an observable disk, at
     // each moment from the end of the opening's own sync on, what the disk reads means the opening store changed by the
     // first of the attempted commits, at least the written ones, and each image of the disk in which no checksum matches

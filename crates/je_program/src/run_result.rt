@@ -12,7 +12,7 @@ ghost use Rattle.je_answers.specs.Standing.{Standing};
 ghost use Rattle.je_answers.specs.Journal.{lines_of};
 ghost use Rattle.script_run.specs.Events.{final_store};
 ghost use Rattle.script_run.specs.Events.Awaited.{Nothing};
-ghost use Rattle.script_run.specs.Lines.{AreFirstLines, of_session};
+ghost use Rattle.script_run.specs.Lines.{AreFirstLines, of_maintenance, of_session};
 ghost use Rattle.script_run.specs.UnderWay.{Beginning, IsCaused, IsUnderWay};
 ghost use Rattle.je_program.specs.declared.cause.Cause.{Cause as Why};
 ghost use Rattle.engine.specs.Crash.{ImagesMean, IsSafeRun, KeepsEntry};
@@ -127,6 +127,7 @@ fn finish<D: Disk>(running: Running<D>, opening: Opening) -> RunResult<D>
         recorded,
         memory_ended,
         stopped: _,
+        steps_stopped: _,
         halted: _,
     } = running;
     let Recorded {
@@ -168,6 +169,7 @@ pub fn run_plan<D: Disk>(alloc: Global, disk: D, config: Config, plan: RunPlan) 
     ensures ids_ended { result.cause ≡ Why.IdsEnded → result.opened ≡ false → D.observable ≡ true → HasNoNumbers (now (D.history disk)).reads }
     ensures lines { result.opened ≡ true → result.cause ≢ Why.Memory → lines_of result.journal.items ≡ plan.lines }
     ensures front { result.opened ≡ true → (session : ℕ) → AreFirstLines (of_session session (lines_of result.journal.items)) (of_session session plan.lines) }
+    ensures front_steps { result.opened ≡ true → AreFirstLines (of_maintenance (lines_of result.journal.items)) (of_maintenance plan.lines) }
     ensures ends { result.opened ≡ true → result.cause ≢ Why.Memory → EndsBy result.journal.items result.cause }
     ensures caused { ClosesRun (D.faults disk) (D.faults result.disk) result.journal.items result.cause }
     ensures left_alone { D.observable ≡ true → LeavesUnreadable result.cause (D.history disk) (D.history result.disk) }

@@ -3,7 +3,7 @@ use crate::rows::first_wrong;
 use je_order::{Octets, Word};
 use script_text::{ParseErr, parse};
 use std::alloc::{AllocError, Global};
-use store_model::{Call, Durability, Isolation, Kind, PutMode, ScriptLine};
+use store_model::{Call, Durability, Isolation, Kind, PutMode, ScriptLine, Step};
 
 // A call on the database t, at a line of the script below.
 fn catalog_call(alloc: Global, line: u32) -> Result<Call, AllocError> {
@@ -175,8 +175,42 @@ fn reads_each_form(rt: HostRuntime) {
     assert!(rt; reads_forms(rt.alloc()) == Ok(true));
 }
 
+// The steps of maintenance of a script, with their lines.
+static STEPS: [(u32, Step); 4] = [
+    (1, Step::Begin),
+    (2, Step::Flush),
+    (4, Step::Finish),
+    (5, Step::Sync),
+];
+
+// Whether those are the steps.
+fn are_steps(lines: &[ScriptLine]) -> bool {
+    let mut same = lines.len() == STEPS.len();
+    for (given, (line, step)) in lines.iter().zip(&STEPS) {
+        let want = ScriptLine::Maintenance {
+            line: *line,
+            step: *step,
+        };
+        same = same && *given == want;
+        drop(want);
+    }
+    same
+}
+
+fn reads_steps(alloc: Global) -> Result<bool, ParseErr> {
+    let plan = parse(alloc, b"m begin\nm flush\n\nm finish\nm sync\n")?;
+    let same = are_steps(plan.lines.as_slice());
+    drop(plan);
+    Ok(same)
+}
+
+#[test]
+fn reads_each_step(rt: HostRuntime) {
+    assert!(rt; reads_steps(rt.alloc()) == Ok(true));
+}
+
 // Scripts with a bad line, and the number of the first one.
-static BAD: [(&[u8], u32); 40] = [
+static BAD: [(&[u8], u32); 45] = [
     (b" ", 1),
     (b"\n\ns1 lists", 3),
     (b"s1 list t", 1),
@@ -217,6 +251,11 @@ static BAD: [(&[u8], u32); 40] = [
     (b"s1 commit now", 1),
     (b"s1 abort t", 1),
     (b"s1 create t plain\ns1 delete t\ns1", 2),
+    (b"m", 1),
+    (b"m begin now", 1),
+    (b"m commit", 1),
+    (b"M begin", 1),
+    (b"m begin\ns1 flush", 2),
 ];
 
 // The first bad line, and what makes it bad.

@@ -74,9 +74,10 @@ pub record FitsRedo {T : Type 0} (fits : T → List Placed → ℕ → Type 0) (
   pub fit : fits trees es base
   pub logged : (txn : ℕ) → AllByRecursion (IsLogged es base) (waits kept txn)
 
--- trees that were read from a checkpoint's roots and went through a redo: they fit a log's entries as they did before it
-pub record HasReadAgain {T : Type 0} (well_formed : T → Type 0) (nodes : T → AllNodes) (stored : T → AllStored) (last_number : T → ℕ) (fits : T → List Placed → ℕ → Type 0) (trees : T) (es : List Placed) : Type 0 where
+-- trees that were read from a checkpoint's roots and went through a redo from its redo LSN on: they fit a log's entries as they did before it
+pub record HasReadAgain {T : Type 0} (well_formed : T → Type 0) (nodes : T → AllNodes) (stored : T → AllStored) (last_number : T → ℕ) (fits : T → List Placed → ℕ → Type 0) (trees : T) (redo : ℕ) (es : List Placed) : Type 0 where
   pub read : T
   pub formed : well_formed read
   pub roots : AreReadFrom es (last_checkpoint es) (nodes read) (stored read) (last_number read)
   pub fit : (base : ℕ) → AllByRecursion (λ p. p.0 < base) es → fits read es base → fits trees es base
+  pub redo_is : (last_checkpoint es).redo ≡ redo

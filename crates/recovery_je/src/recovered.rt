@@ -1,5 +1,6 @@
 // An environment that was recovered.
 use crate::OpeningStore;
+use je_lsn::Lsn;
 use log_replay::LastFile;
 use record_tree::Loads;
 
@@ -22,6 +23,8 @@ pub struct Recovered<T: Loads> {
     pub last_db: u32,
     /// The number of the last checkpoint that ended, 0 where none did.
     pub checkpoint: u64,
+    /// The LSN from which on entries were redone: that of the last checkpoint that ended, 0 where none did.
+    pub redo: Lsn,
     /// How many entries the log has.
     pub entries: u64,
     /// The last file; None where there is no file.

@@ -31,8 +31,8 @@ use std::alloc::Global;
 /// The number of the catalog.
 const CATALOG: u32 = 0;
 
-/// What a log means: its environment, the numbers that were allocated last, and the number of the last
-/// checkpoint.
+/// What a log means: its environment, the numbers that were allocated last, and the number and the
+/// redo LSN of the last checkpoint.
 #[derive(Drop)]
 pub(crate) struct Meant<T: Loads> {
     pub(crate) settled: Settled<T>,
@@ -40,6 +40,7 @@ pub(crate) struct Meant<T: Loads> {
     pub(crate) last_node: u64,
     pub(crate) last_db: u32,
     pub(crate) checkpoint: u64,
+    pub(crate) redo: Lsn,
 }
 
 // Redoes the entries from the redo LSN on over the trees of the roots, of which a redo began.
@@ -134,7 +135,7 @@ pub(crate) fn recover_entries<T: Loads + Drop>(
     requires order { AreInOrder entries.items }
     requires entries { AllByRecursion (λ p. IsEntry p.1) entries.items }
     ensures meant { IfOk result (λ m. IsMeant (map (λ f. f.0) files.now) entries.items (record { store = m.settled.opening; last_txn = m.last_txn; last_node = m.last_node; last_db = m.last_db; checkpoint = m.checkpoint }) (T.has_tree m.settled.trees) (T.stored m.settled.trees) m.settled.databases m.settled.records) }
-    ensures fits { IfOk result (λ m. HasReadAgain T.well_formed T.nodes T.stored T.last_number T.fits m.settled.trees entries.items) }
+    ensures fits { IfOk result (λ m. HasReadAgain T.well_formed T.nodes T.stored T.last_number T.fits m.settled.trees m.redo entries.items) }
     ensures found { IfErr result (λ e. IsFoundBy e (λ c. meaning_in (map (λ f. f.0) files.now) entries.items ≡ Err c)) }
 {
     let end = last_end(alloc, &entries)?;
@@ -158,5 +159,6 @@ pub(crate) fn recover_entries<T: Loads + Drop>(
         last_node,
         last_db: end.last_db.max(roots_db.max(in_trees.db.max(numbers.db))),
         checkpoint: end.number,
+        redo: end.redo,
     })
 }

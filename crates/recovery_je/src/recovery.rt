@@ -28,7 +28,7 @@ fn recover_files<T: Loads + Drop>(
     requires files { AreRisingNumbers files.now }
     requires empty { (d : ℕ) → T.has_tree trees d ≡ false }
     requires sound { AreSound read }
-    ensures recovered { (observable : Bool) (reads : Files) → AreRead observable reads files.now read → IfOk result (λ r. IsReadingOf observable reads files.now (IsRecoveredFrom (record { store = r.opening; last_txn = r.last_txn; last_node = r.last_node; last_db = r.last_db; checkpoint = r.checkpoint }) (T.has_tree r.trees) (T.stored r.trees) r.databases r.records r.entries r.tail (HasReadAgain T.well_formed T.nodes T.stored T.last_number T.fits r.trees))) }
+    ensures recovered { (observable : Bool) (reads : Files) → AreRead observable reads files.now read → IfOk result (λ r. IsReadingOf observable reads files.now (IsRecoveredFrom (record { store = r.opening; last_txn = r.last_txn; last_node = r.last_node; last_db = r.last_db; checkpoint = r.checkpoint }) (T.has_tree r.trees) (T.stored r.trees) r.databases r.records r.entries r.tail (HasReadAgain T.well_formed T.nodes T.stored T.last_number T.fits r.trees r.redo))) }
     ensures corrupt { (observable : Bool) (reads : Files) → AreRead observable reads files.now read → IfErr result (λ e. IsCorruptBy e (λ corruption. IsReadingOf observable reads files.now (λ held. reading_of held ≡ Err corruption))) }
     ensures other { IfErr result IsNoDiskErr }
 {
@@ -46,6 +46,7 @@ fn recover_files<T: Loads + Drop>(
                 last_node,
                 last_db,
                 checkpoint,
+                redo,
             } = meant;
             let Settled {
                 trees,
@@ -62,6 +63,7 @@ fn recover_files<T: Loads + Drop>(
                 last_node,
                 last_db,
                 checkpoint,
+                redo,
                 entries: count,
                 tail,
             })
@@ -82,7 +84,7 @@ pub fn recover<D: Disk, T: Loads + Drop>(
 ) -> Result<Recovered<T>, RecoverErr>
     requires files { AreRisingNumbers files.now }
     requires empty { (d : ℕ) → T.has_tree trees d ≡ false }
-    ensures recovered { IfOk result (λ r. IsReadingOf D.observable (now (D.history disk.old)).reads files.now (IsRecoveredFrom (record { store = r.opening; last_txn = r.last_txn; last_node = r.last_node; last_db = r.last_db; checkpoint = r.checkpoint }) (T.has_tree r.trees) (T.stored r.trees) r.databases r.records r.entries r.tail (HasReadAgain T.well_formed T.nodes T.stored T.last_number T.fits r.trees))) }
+    ensures recovered { IfOk result (λ r. IsReadingOf D.observable (now (D.history disk.old)).reads files.now (IsRecoveredFrom (record { store = r.opening; last_txn = r.last_txn; last_node = r.last_node; last_db = r.last_db; checkpoint = r.checkpoint }) (T.has_tree r.trees) (T.stored r.trees) r.databases r.records r.entries r.tail (HasReadAgain T.well_formed T.nodes T.stored T.last_number T.fits r.trees r.redo))) }
     ensures corrupt { IfErr result (λ e. IsCorruptBy e (λ corruption. IsReadingOf D.observable (now (D.history disk.old)).reads files.now (λ held. reading_of held ≡ Err corruption))) }
     ensures same { D.observable ≡ true → now (D.history disk.new) ≡ now (D.history disk.old) }
     ensures moments { D.observable ≡ true → Passes (D.history disk.old) (D.history disk.new) (λ s. s ≡ now (D.history disk.old)) }
@@ -114,7 +116,7 @@ pub fn recover_disk<D: Disk, T: Loads + Drop>(
     trees: T,
 ) -> Result<Recovered<T>, RecoverErr>
     requires { (d : ℕ) → T.has_tree trees d ≡ false }
-    ensures recovered { IfOk result (λ r. HasFiles D.observable (now (D.history disk.old)).reads (IsRecoveredFrom (record { store = r.opening; last_txn = r.last_txn; last_node = r.last_node; last_db = r.last_db; checkpoint = r.checkpoint }) (T.has_tree r.trees) (T.stored r.trees) r.databases r.records r.entries r.tail (HasReadAgain T.well_formed T.nodes T.stored T.last_number T.fits r.trees))) }
+    ensures recovered { IfOk result (λ r. HasFiles D.observable (now (D.history disk.old)).reads (IsRecoveredFrom (record { store = r.opening; last_txn = r.last_txn; last_node = r.last_node; last_db = r.last_db; checkpoint = r.checkpoint }) (T.has_tree r.trees) (T.stored r.trees) r.databases r.records r.entries r.tail (HasReadAgain T.well_formed T.nodes T.stored T.last_number T.fits r.trees r.redo))) }
     ensures corrupt { IfErr result (λ e. IsCorruptBy e (λ corruption. HasFiles D.observable (now (D.history disk.old)).reads (λ held. reading_of held ≡ Err corruption))) }
     ensures same { D.observable ≡ true → now (D.history disk.new) ≡ now (D.history disk.old) }
     ensures moments { D.observable ≡ true → Passes (D.history disk.old) (D.history disk.new) (λ s. s ≡ now (D.history disk.old)) }

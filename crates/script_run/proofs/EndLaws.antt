@@ -1,15 +1,18 @@
 -- Where a journal ends sessions, event after event.
-use Rattle.std.proofs.Common.{◌≡◌, ℕ, ◌<◌, ◌≤◌, ◌+◌, Bool, true, false, List, [], ◌∷◌, ◌++◌, None, refl, ap, sym, ◌∙◌, subst, inl, inr, ⊎_elim, append_assoc, arith, get_or}
+use Rattle.std.proofs.Common.{◌≡◌, ◌≢◌, ℕ, ◌<◌, ◌≤◌, ◌+◌, ◌==◌, Bool, true, false, cond, List, [], ◌∷◌, ◌++◌, None, refl, ap, sym, ◌∙◌, subst, inl, inr, ⊎_elim, append_assoc, arith, get_or}
 use Rattle.std.specs.Option.{is_some}
 use Rattle.std.specs.List.{AllByRecursion}
 use Rattle.std.proofs.lemmas.List.{append-nil}
+use Rattle.std.proofs.lemmas.Bool.{cond-false, ne_eqb}
 use Rattle.std.proofs.lemmas.List.Elements.{filter-append}
 use Rattle.je_order.proofs.Lists.{all_append, all_weaker}
 use Rattle.store_model.specs.declared.call.Call.{Call}
 use Rattle.store_model.specs.declared.event.Event.{Event}
-use Rattle.store_model.specs.declared.event.Event.TheVariants.{End}
+use Rattle.store_model.specs.declared.event.Event.TheVariants.{End, Turn}
+use Rattle.store_model.specs.declared.answer.Answer.{Answer}
+use Rattle.store_model.specs.declared.step.Step.{Step}
 use Rattle.store_model.specs.declared.plan.ScriptLine.{ScriptLine}
-use Rattle.store_model.specs.declared.plan.ScriptLine.TheVariants.{Session}
+use Rattle.store_model.specs.declared.plan.ScriptLine.TheVariants.{Session, Maintenance}
 use Rattle.je_answers.specs.Standing.{Standing, active_of}
 use Rattle.je_answers.specs.After.{after_event, after_events}
 use Rattle.je_answers.specs.Journal.{first_ready, line_of, lines_of}
@@ -117,6 +120,24 @@ pub stopped_line : (stopped : List Bool) (journal : List Event) (given : Event) 
     ((later : List Event) → IsEndStopped stopped given later) → get_or stopped session false ≡ false → AreEndsStopped stopped journal → AreEndsStopped stopped (journal ++ given ∷ [])
 stopped_line stopped journal given session line call is no_end running h = stopped_given stopped journal given
     (λ other was. ap (of_session other) is ∙ of_other other session line call (eqb_sym session other (two_sessions stopped other session was running))) no_end h
+
+-- a step of maintenance is a line, and none of a session
+step_line : (line : ℕ) (step : Step) (answer : Answer) → line ≢ 0 → lines_of (Turn line step answer ∷ []) ≡ Maintenance line step ∷ []
+step_line line step answer some = ap (λ (l : List ScriptLine). l ++ []) (cond-false (line == 0) [] (Maintenance line step ∷ []) (ne_eqb line 0 some))
+
+pub turned_lines : (before after : List Event) (line : ℕ) (step : Step) (answer : Answer) → line ≢ 0 → after ≡ before ++ Turn line step answer ∷ [] → lines_of after ≡ lines_of before ++ Maintenance line step ∷ []
+turned_lines before after line step answer some is =
+    ap lines_of is ∙ lines_of-append before (Turn line step answer ∷ []) ∙ ap (λ (l : List ScriptLine). lines_of before ++ l) (step_line line step answer some)
+
+step_of_none : (session line : ℕ) (step : Step) (answer : Answer) → of_session session (lines_of (Turn line step answer ∷ [])) ≡ []
+step_of_none session line step answer = by_number (line == 0) where
+  by_number : (none : Bool) → of_session session (cond none [] (Maintenance line step ∷ []) ++ []) ≡ []
+  by_number true = refl
+  by_number false = refl
+
+pub stopped_step : (stopped : List Bool) (before after : List Event) (line : ℕ) (step : Step) (answer : Answer) → after ≡ before ++ Turn line step answer ∷ [] → AreEndsStopped stopped before → AreEndsStopped stopped after
+stopped_step stopped before after line step answer is h =
+    subst (λ (l : List Event). AreEndsStopped stopped l) (sym is) (stopped_given stopped before (Turn line step answer) (λ other was. step_of_none other line step answer) (λ later. tt) h)
 
 -- ---- while sessions are ended
 

@@ -1,6 +1,6 @@
 -- What a run's ends of sessions leave: its journal, its flags, and who has a transaction.
 use Rattle.std.proofs.Common.{◌≡◌, ℕ, ◌+◌, ◌<◌, ◌≤◌, ◌⊎◌, Bool, true, false, true≢false, List, [], ◌∷◌, ◌++◌, length, Option, None, Some, refl, ap, sym, ◌∙◌, subst, inl, ⊎_elim, arith}
-use Rattle.std.specs.Prelude.{Result, Ok, Err, OnErr, is_err}
+use Rattle.std.specs.Prelude.{Result, Ok, Err, OnOk, OnErr, is_err}
 use Rattle.std.specs.Option.{is_some}
 use Rattle.std.proofs.lemmas.Bool.{cases_lt}
 use Rattle.store_model.specs.declared.answer.Answer.{Answer}
@@ -29,6 +29,15 @@ on_failed (Err e) P h = h
 pub not_failed : {T E : Type 0} (r : Result T E) (P : Type 0) → is_err r ≡ false → OnErr r P
 not_failed (Ok v) P h = tt
 not_failed (Err e) P h = cc
+
+-- what follows from it
+pub ok_then : {T E : Type 0} (r : Result T E) (P Q : Type 0) → (P → Q) → OnOk r P → OnOk r Q
+ok_then (Ok v) P Q then_ h = then_ h
+ok_then (Err e) P Q then_ h = tt
+
+pub err_then : {T E : Type 0} (r : Result T E) (P Q : Type 0) → (P → Q) → OnErr r P → OnErr r Q
+err_then (Ok v) P Q then_ h = tt
+err_then (Err e) P Q then_ h = then_ h
 
 module _ {D : Type 0} where
   -- ---- going on without a line

@@ -18,3 +18,5 @@ pub mod Resting
 pub mod RunLaws
 -- What a run's ends of sessions leave: its journal, its flags, and who has a transaction.
 pub mod Ending
+-- Steps of maintenance, and the syncs that they ask for.
+pub mod Steps

@@ -6,16 +6,18 @@ use Rattle.je_lsn.specs.Naming.{last_file}
 use Rattle.je_order.specs.Counts.{HasRisen}
 use Rattle.store_model.specs.declared.change.Change.{Change}
 use Rattle.store_model.specs.declared.event.Event.{Event}
+use Rattle.store_model.specs.declared.event.Event.TheVariants.{Call as Called, Resume, End, WriteOut, SyncBegin, SyncEnd, Turn}
 use Rattle.store_model.specs.declared.answer.Answer.{Answer}
 use Rattle.store_model.specs.declared.answer.Answer.TheVariants.{LogFull, IdsEnded}
 use Rattle.store_model.specs.Journal.{answers_some, is_disk_fault}
 use Rattle.je_answers.specs.Standing.{Standing}
 use Rattle.je_answers.specs.After.{AnswersAsModel, after_event, after_events}
 use Rattle.je_answers.specs.Journal.{AreResumedInOrder, AreSyncedAtOnce, IsInOrder, IsSyncedAtOnce, has_answer}
-use Rattle.engine.specs.Limits.{IsBounded, IsWithin, Reach, last_number, reach_after}
+use Rattle.engine.specs.Limits.{IsBoundedBy, IsWithin, Reach, last_number, reach_after}
 use Rattle.engine.proofs.Counts.{rose_earlier, rose_later}
-use Rattle.environment.specs.Limits.{AreBounded, written_by}
+use Rattle.environment.specs.Limits.{AreBounded, reach_behind, written_by}
 use Rattle.script_run.specs.Events.{AreSyncedBefore, reach_by}
+use Rattle.script_run.specs.Maintenance.{AreStepsInPlace, IsStepInPlace, last_after}
 use Rattle.script_run.specs.UnderWay.{IsCaused}
 
 -- ---- reach
@@ -26,6 +28,19 @@ after_within reach other changes within = record {
   file = (let h : reach.file ≤ other.file = within.file in omega (arith, h));
   node = (let h : reach.node ≤ other.node = within.node in omega (arith, h));
 }
+
+-- and behind an event
+behind_within : (reach other : Reach) (st : Standing) (event : Event) → IsWithin reach other → IsWithin (reach_behind reach st event) (reach_behind other st event)
+behind_within reach other st (Turn line step answer) within = record {
+  file = (let h : reach.file ≤ other.file = within.file in omega (arith, h));
+  node = within.node;
+}
+behind_within reach other st (Called session line call answer victims) within = after_within reach other (written_by st (Called session line call answer victims)) within
+behind_within reach other st (Resume session line answer victims) within = after_within reach other (written_by st (Resume session line answer victims)) within
+behind_within reach other st (End session) within = after_within reach other [] within
+behind_within reach other st (WriteOut answer) within = after_within reach other [] within
+behind_within reach other st (SyncBegin answer) within = after_within reach other [] within
+behind_within reach other st (SyncEnd answer) within = after_within reach other [] within
 
 pub within_then : (a b c : Reach) → IsWithin a b → IsWithin b c → IsWithin a c
 within_then a b c first next = record {
@@ -41,34 +56,31 @@ pub within_none : (old new : Reach) → IsWithin new old → IsWithin new (reach
 within_none old new within = within_then new old (reach_after old []) within (record { file = omega arith; node = omega arith })
 
 pub reach_push : (reach : Reach) (st : Standing) (journal : List Event) (event : Event) →
-    reach_by reach st (journal ++ event ∷ []) ≡ reach_after (reach_by reach st journal) (written_by (after_events st journal) event)
+    reach_by reach st (journal ++ event ∷ []) ≡ reach_behind (reach_by reach st journal) (after_events st journal) event
 reach_push reach st [] event = refl
-reach_push reach st (e ∷ events) event = reach_push (reach_after reach (written_by st e)) (after_event st e) events event
+reach_push reach st (e ∷ events) event = reach_push (reach_behind reach st e) (after_event st e) events event
 
 -- what was near stays near
 pub near_push : (first old new : Reach) (st : Standing) (journal : List Event) (event : Event) → IsWithin old (reach_by first st journal) →
-    IsWithin new (reach_after old (written_by (after_events st journal) event)) → IsWithin new (reach_by first st (journal ++ event ∷ []))
+    IsWithin new (reach_behind old (after_events st journal) event) → IsWithin new (reach_by first st (journal ++ event ∷ []))
 near_push first old new st journal event near grows =
-    let changes = written_by (after_events st journal) event in
+    let now = after_events st journal in
     subst (λ (r : Reach). IsWithin new r) (sym (reach_push first st journal event))
-    (within_then new (reach_after old changes) (reach_after (reach_by first st journal) changes) grows (after_within old (reach_by first st journal) changes near))
+    (within_then new (reach_behind old now event) (reach_behind (reach_by first st journal) now event) grows (behind_within old (reach_by first st journal) now event near))
 
 -- ---- limits
 
 -- a limit that comes where a log reaches so far comes also where it reaches farther
-bounded_later : (early late : Reach) (changes : List Change) (limit : Option Answer) → IsWithin early late → IsBounded early changes limit → IsBounded late changes limit
-bounded_later early late changes limit within bounded =
+bounded_later : (early late : Reach) (limit : Option Answer) → IsWithin early late → IsBoundedBy early limit → IsBoundedBy late limit
+bounded_later early late limit within bounded =
     ⊎_elim
     (λ (none : limit ≡ None). inl none)
     (λ more. inr (⊎_elim
-    (λ (full : (limit ≡ Some LogFull) × (last_file < (reach_after early changes).file)). inl (full.0, below last_file (reach_after early changes).file (reach_after late changes).file full.1 after.file))
-    (λ (ended : (limit ≡ Some IdsEnded) × (last_number < (reach_after early changes).node)). inr (ended.0, below last_number (reach_after early changes).node (reach_after late changes).node ended.1 after.node))
+    (λ (full : (limit ≡ Some LogFull) × (last_file < early.file)). inl (full.0, below last_file early.file late.file full.1 within.file))
+    (λ (ended : (limit ≡ Some IdsEnded) × (last_number < early.node)). inr (ended.0, below last_number early.node late.node ended.1 within.node))
     more))
     bounded
   where
-    after : IsWithin (reach_after early changes) (reach_after late changes)
-    after = after_within early late changes within
-
     below : (last near far : ℕ) → last < near → near ≤ far → last < far
     below last near far past later = omega (arith, past, later)
 
@@ -77,30 +89,44 @@ pub bounded_far : (early late : Reach) (st : Standing) (events : List Event) (li
 bounded_far early late st [] [] within b = tt
 bounded_far early late st [] (limit ∷ limits) within b = tt
 bounded_far early late st (event ∷ events) [] within b = tt
-bounded_far early late st (event ∷ events) (limit ∷ limits) within b = (
-  bounded_later early late (written_by st event) limit within b.0,
-  bounded_far (reach_after early (written_by st event)) (reach_after late (written_by st event)) (after_event st event) events limits (after_within early late (written_by st event) within) b.1,
-)
+bounded_far early late st (event ∷ events) (limit ∷ limits) within b =
+    let behind = behind_within early late st event within in (
+      bounded_later (reach_behind early st event) (reach_behind late st event) limit behind b.0,
+      bounded_far (reach_behind early st event) (reach_behind late st event) (after_event st event) events limits behind b.1,
+    )
 
 -- the limits of a journal, and that of one event more
 bounded_more : (first : Reach) (st : Standing) (limits : List (Option Answer)) (journal : List Event) (limit : Option Answer) (event : Event) → AnswersAsModel st limits journal → AreBounded first st journal limits →
-    IsBounded (reach_by first st journal) (written_by (after_events st journal) event) limit → AreBounded first st (journal ++ event ∷ []) (limits ++ limit ∷ [])
+    IsBoundedBy (reach_behind (reach_by first st journal) (after_events st journal) event) limit → AreBounded first st (journal ++ event ∷ []) (limits ++ limit ∷ [])
 bounded_more first st [] [] limit event answers b o = (o, tt)
 bounded_more first st (l ∷ limits) (e ∷ events) limit event answers b o =
-    (b.0, bounded_more (reach_after first (written_by st e)) (after_event st e) limits events limit event answers.1 b.1 o)
+    (b.0, bounded_more (reach_behind first st e) (after_event st e) limits events limit event answers.1 b.1 o)
 bounded_more first st [] (e ∷ events) limit event answers b o = absurd answers
 bounded_more first st (l ∷ limits) [] limit event answers b o = absurd answers
 
 pub bounded_push : (first near : Reach) (st : Standing) (limits : List (Option Answer)) (journal : List Event) (limit : Option Answer) (event : Event) → AnswersAsModel st limits journal → AreBounded first st journal limits →
-    IsWithin near (reach_by first st journal) → IsBounded near (written_by (after_events st journal) event) limit → AreBounded first st (journal ++ event ∷ []) (limits ++ limit ∷ [])
+    IsWithin near (reach_by first st journal) → IsBoundedBy (reach_behind near (after_events st journal) event) limit → AreBounded first st (journal ++ event ∷ []) (limits ++ limit ∷ [])
 bounded_push first near st limits journal limit event answers b within o =
-    bounded_more first st limits journal limit event answers b (bounded_later near (reach_by first st journal) (written_by (after_events st journal) event) limit within o)
+    let now = after_events st journal in
+    let behind = behind_within near (reach_by first st journal) now event within in
+    bounded_more first st limits journal limit event answers b (bounded_later (reach_behind near now event) (reach_behind (reach_by first st journal) now event) limit behind o)
 
 -- ---- order
 
 pub ordered_push : (st : Standing) (journal : List Event) (event : Event) → AreResumedInOrder st journal → IsInOrder (after_events st journal) event → AreResumedInOrder st (journal ++ event ∷ [])
 ordered_push st [] event ordered o = (o, tt)
 ordered_push st (e ∷ events) event ordered o = (ordered.0, ordered_push (after_event st e) events event ordered.1 o)
+
+-- ---- steps of maintenance
+
+pub steps_push : (last : Option Event) (st : Standing) (journal : List Event) (event : Event) → AreStepsInPlace last st journal → IsStepInPlace (last_after last journal) (after_events st journal) event →
+    AreStepsInPlace last st (journal ++ event ∷ [])
+steps_push last st [] event steps s = (s, tt)
+steps_push last st (e ∷ events) event steps s = (steps.0, steps_push (Some e) (after_event st e) events event steps.1 s)
+
+pub last_push : (last : Option Event) (journal : List Event) (event : Event) → last_after last (journal ++ event ∷ []) ≡ Some event
+last_push last [] event = refl
+last_push last (e ∷ events) event = last_push (Some e) events event
 
 -- ---- what follows commits
 

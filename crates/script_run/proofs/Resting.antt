@@ -71,6 +71,13 @@ module _ {D : Type 0} where
       (λ (e : x.halted ≡ false). e)
       (cases_Bool x.halted)
 
+  -- and so is one that may give a step of maintenance
+  pub goes_on_with : (x : Running D) → AreFlags x → x.steps_stopped ≡ false → x.halted ≡ false
+  goes_on_with x flags going = ⊎_elim
+      (λ (e : x.halted ≡ true). absurd (true≢false (sym (flags.steps e) ∙ going)))
+      (λ (e : x.halted ≡ false). e)
+      (cases_Bool x.halted)
+
   -- and so is one for whose calls there was memory
   pub not_ended : (x : Running D) → AreFlags x → x.memory_ended ≡ false → x.halted ≡ false
   not_ended x flags memory = ⊎_elim

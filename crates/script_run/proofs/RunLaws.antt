@@ -1,6 +1,5 @@
 -- A run goes on by one event.
 use Rattle.std.proofs.Common.{◌≡◌, ℕ, ◌≤◌, ◌<◌, Bool, true, List, [], ◌∷◌, ◌++◌, Option, None, Some, Ok, refl, ap, sym, ◌∙◌, subst, ⊎_elim, inl, inr}
-use Rattle.je_order.proofs.Lists.{all_append}
 use Rattle.je_order.specs.Counts.{HasRisen}
 use Rattle.je_disk.specs.Moments.{History, now}
 use Rattle.store_model.specs.declared.answer.Answer.{Answer}
@@ -12,36 +11,37 @@ use Rattle.je_answers.specs.Standing.{Standing}
 use Rattle.je_answers.specs.After.{after_event, after_events}
 use Rattle.je_answers.specs.Journal.{IsInOrder, IsSettling, IsSyncedAtOnce, first_ready}
 use Rattle.je_answers.proofs.Journals.{after_events-append, answers-push}
-use Rattle.engine.specs.Limits.{IsWithin, reach_after}
+use Rattle.engine.specs.Limits.{IsWithin}
 use Rattle.environment.specs.declared.environment.Environment.{Environment}
-use Rattle.environment.specs.Limits.{written_by}
+use Rattle.environment.specs.Limits.{reach_behind}
 use Rattle.environment.specs.Whole.{CanGoOn, HasDone, IsAt, IsGuarded, disk_of, reach_of}
 use Rattle.script_run.specs.declared.recorded.Recorded.{Recorded}
 use Rattle.script_run.specs.Ends.{AreOf}
-use Rattle.script_run.specs.Events.{Awaited, IsFresh, IsMet, IsOfSessions, reach_by}
+use Rattle.script_run.specs.Events.{Awaited, IsFresh, IsMet, reach_by}
 use Rattle.script_run.specs.Events.Awaited.{Follow, Nothing}
+use Rattle.script_run.specs.Maintenance.{IsStepInPlace, last_after}
 use Rattle.script_run.specs.Running.{Begins}
-use Rattle.script_run.specs.UnderWay.{Beginning, IsCalm, IsRunning, IsUnderWay, Settles, standing}
-use Rattle.script_run.proofs.Pushed.{bounded_push, caused_later, caused_push, near_push, ordered_push, synced_push, within_then}
+use Rattle.script_run.specs.UnderWay.{Beginning, IsCalm, IsRunning, IsUnderWay, Settles, last_event, standing}
+use Rattle.script_run.proofs.Pushed.{bounded_push, caused_later, caused_push, last_push, near_push, ordered_push, steps_push, synced_push, within_then}
 use Rattle.script_run.proofs.SessionLaws.{MayBeOf, event_keeps}
 use Rattle.script_run.proofs.Waiting.{IsAwaitedFor}
 
 module _ {D : Type 0} (observable : Bool) (history : D → History) (faults : D → ℕ) where
-  -- an event that a run may go on with, what was awaited before it and is behind it
-  pub record IsNextEvent (p : Beginning) (before awaited : Awaited) (old new : Environment D) (st : Standing) (event : Event) : Type 0 where
+  -- an event that a run may go on with behind its last one, what was awaited before it and is behind it
+  pub record IsNextEvent (p : Beginning) (before awaited : Awaited) (old new : Environment D) (last : Option Event) (st : Standing) (event : Event) : Type 0 where
     pub done : HasDone p.most observable (now (history (disk_of new))) old new st event
-    pub grows : IsWithin (reach_of new) (reach_after (reach_of old) (written_by st event))
+    pub grows : IsWithin (reach_of new) (reach_behind (reach_of old) st event)
     pub synced : (later : List Event) → IsMet awaited (after_event st event) later → IsMet before st (event ∷ later) × IsSyncedAtOnce st event later
     pub fresh : IsFresh awaited (after_event st event)
     pub ordered : IsInOrder st event
-    pub only : IsOfSessions event
+    pub steps : IsStepInPlace last st event
     pub sessions : MayBeOf (λ s. s < 256) event
     pub bounds : CanGoOn new
     pub never_falls : faults (disk_of old) ≤ faults (disk_of new)
     pub fault : answers_some is_disk_fault event ≡ true → HasRisen (faults (disk_of old)) (faults (disk_of new))
 
   pub running_push : (p : Beginning) (before awaited : Awaited) (old new : Environment D) (journal : List Event) (event : Event) → IsRunning observable history faults p before old journal →
-      IsNextEvent p before awaited old new (after_events p.st journal) event → IsRunning observable history faults p awaited new (journal ++ event ∷ [])
+      IsNextEvent p before awaited old new (last_after None journal) (after_events p.st journal) event → IsRunning observable history faults p awaited new (journal ++ event ∷ [])
   running_push p before awaited old new journal event running next =
       let st = after_events p.st journal in
       let stands = after_events-append p.st journal (event ∷ []) in
@@ -56,7 +56,7 @@ module _ {D : Type 0} (observable : Bool) (history : D → History) (faults : D 
             synced_push p.st journal event later (running.synced (event ∷ later) both.0) both.1;
         fresh = subst (λ (s : Standing). IsFresh awaited s) (sym stands) next.fresh;
         ordered = ordered_push p.st journal event running.ordered next.ordered;
-        only = all_append IsOfSessions journal (event ∷ []) running.only (next.only, tt);
+        steps = steps_push None p.st journal event running.steps next.steps;
         sessions = subst (λ (s : Standing). AreOf (λ n. n < 256) s.actives) (sym stands) (event_keeps (λ n. n < 256) st event next.sessions running.sessions);
         bounds = next.bounds;
         caused = caused_push p.faults (faults (disk_of old)) (faults (disk_of new)) journal event running.caused next.never_falls next.fault;
@@ -64,7 +64,7 @@ module _ {D : Type 0} (observable : Bool) (history : D → History) (faults : D 
 
   -- the same of an environment with its journal
   pub pushed : (p : Beginning) (before awaited : Awaited) (x y : Recorded D) (event : Event) → y.journal.items ≡ x.journal.items ++ event ∷ [] → IsUnderWay observable history faults p before x →
-      IsNextEvent p before awaited x.environment y.environment (standing p x) event →
+      IsNextEvent p before awaited x.environment y.environment (last_event x) (standing p x) event →
       (observable ≡ true → IsGuarded p.most p.st p.start (history (disk_of y.environment)) y.environment (x.journal.items ++ event ∷ [])) → IsUnderWay observable history faults p awaited y
   pushed p before awaited x y event items under next guarded = record {
     running = subst (λ (l : List Event). IsRunning observable history faults p awaited y.environment l) (sym items)
@@ -87,7 +87,7 @@ module _ {D : Type 0} (observable : Bool) (history : D → History) (faults : D 
       synced = under.running.synced;
       fresh = tt;
       ordered = under.running.ordered;
-      only = under.running.only;
+      steps = under.running.steps;
       sessions = under.running.sessions;
       bounds = bounds;
       caused = caused_later p.faults (faults (disk_of x.environment)) (faults (disk_of y.environment)) x.journal.items under.running.caused steps;
@@ -107,7 +107,27 @@ module _ {D : Type 0} (observable : Bool) (history : D → History) (faults : D 
       synced = under.running.synced;
       fresh = under.running.fresh;
       ordered = under.running.ordered;
-      only = under.running.only;
+      steps = under.running.steps;
+      sessions = under.running.sessions;
+      bounds = under.running.bounds;
+      caused = under.running.caused;
+    };
+    guarded = under.guarded;
+  }
+
+  -- where nothing is awaited a sync may be, unless the environment is invalid
+  pub may_sync : (p : Beginning) (x : Recorded D) → (standing p x).fault ≡ None → IsUnderWay observable history faults p Nothing x → IsUnderWay observable history faults p (Follow Sync) x
+  may_sync p x valid under = record {
+    running = record {
+      here = under.running.here;
+      limits = under.running.limits;
+      answers = under.running.answers;
+      bounded = under.running.bounded;
+      near = under.running.near;
+      synced = λ later met. under.running.synced later tt;
+      fresh = valid;
+      ordered = under.running.ordered;
+      steps = under.running.steps;
       sessions = under.running.sessions;
       bounds = under.running.bounds;
       caused = under.running.caused;
@@ -129,6 +149,10 @@ module _ {D : Type 0} where
   -- where the model stands behind one event more
   pub standing_push : (p : Beginning) (x y : Recorded D) (event : Event) → y.journal.items ≡ x.journal.items ++ event ∷ [] → standing p y ≡ after_event (standing p x) event
   standing_push p x y event items = ap (after_events p.st) items ∙ after_events-append p.st x.journal.items (event ∷ [])
+
+  -- the journal's last event is the one that it has more
+  pub last_pushed : (x y : Recorded D) (event : Event) → y.journal.items ≡ x.journal.items ++ event ∷ [] → last_event y ≡ Some event
+  last_pushed x y event items = ap (last_after None) items ∙ last_push None x.journal.items event
 
   -- fewer calls wait, or fewer of them may go on
   pub settles_by : (p : Beginning) (x y : Recorded D) (answer : Answer) (durability : Durability) (awaited : Option Durability) (st : Standing) → standing p y ≡ st → IsAwaitedFor answer durability awaited →

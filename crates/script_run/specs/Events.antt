@@ -4,12 +4,12 @@ use Rattle.store_model.specs.declared.store.Store.{Store}
 use Rattle.store_model.specs.declared.durability.Durability.{Durability}
 use Rattle.store_model.specs.declared.answer.Answer.TheVariants.{Durable, DiskFault}
 use Rattle.store_model.specs.declared.event.Event.{Event}
-use Rattle.store_model.specs.declared.event.Event.TheVariants.{SyncEnd, Turn}
+use Rattle.store_model.specs.declared.event.Event.TheVariants.{SyncEnd}
 use Rattle.je_answers.specs.Standing.{Standing}
 use Rattle.je_answers.specs.After.{after_event, after_events}
 use Rattle.je_answers.specs.Journal.{IsFollowed, IsSyncedAtOnce}
-use Rattle.engine.specs.Limits.{Reach, reach_after}
-use Rattle.environment.specs.Limits.{written_by}
+use Rattle.engine.specs.Limits.{Reach}
+use Rattle.environment.specs.Limits.{reach_behind}
 
 -- the store that a run leaves
 abbrev pub final_store : Standing → List Event → Store
@@ -18,12 +18,7 @@ final_store st journal = (after_events st journal).store
 -- how far a log and its trees may reach behind a journal
 abbrev pub reach_by : Reach → Standing → List Event → Reach
 reach_by reach st [] = reach
-reach_by reach st (event ∷ events) = reach_by (reach_after reach (written_by st event)) (after_event st event) events
-
--- an event of a session, or of the log on its way to the disk: a script has no line yet for a step of maintenance
-abbrev pub IsOfSessions : Event → Type 0
-IsOfSessions (Turn line step answer) = ⊥
-IsOfSessions event = Unit {0}
+reach_by reach st (event ∷ events) = reach_by (reach_behind reach st event) (after_event st event) events
 
 -- ---- what is awaited
 

@@ -1,4 +1,6 @@
 pub mod Events
+-- Where the steps of maintenance of a script stand in a journal.
+pub mod Maintenance
 pub mod Lines
 -- Where a run ends its sessions.
 pub mod Ends

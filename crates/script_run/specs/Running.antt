@@ -17,11 +17,12 @@ module _ {D : Type 0} where
   pub record AreFlags (x : Running D) : Type 0 where
     pub sessions : length x.stopped ≡ 256
     pub memory : x.halted ≡ true → x.memory_ended ≡ true
+    pub steps : x.halted ≡ true → x.steps_stopped ≡ true
     pub all : x.halted ≡ true → (session : ℕ) → session < 256 → slice_index_or x.stopped session false ≡ true
 
-  -- the lines of a script that it was given, the last of them left out where its session was ended
+  -- the lines of a script that it was given, without those whose session was ended, and the steps behind one that found no memory
   abbrev pub HasLines : Running D → List ScriptLine → Type 0
-  HasLines x lines = HasGiven x.recorded.journal.items x.memory_ended x.stopped lines
+  HasLines x lines = HasGiven x.recorded.journal.items x.memory_ended x.stopped x.steps_stopped lines
 
   -- while it gives lines only sessions are ended that were stopped
   abbrev pub EndsStopped : Running D → Type 0

@@ -1,12 +1,16 @@
 -- A run under way.
 use Rattle.std.specs.Prelude.{ℕ, ◌≡◌, ◌≤◌, ◌<◌, ◌+◌, ◌⊎◌, List, Option, None, Some, Bool, Result, Ok, Err, true, length, vec_capacity, option_map}
 use Rattle.std.specs.declared.alloc.AllocError.{AllocError}
-use Rattle.std.specs.List.{AllByRecursion}
+use Rattle.std.specs.Option.{is_some}
 use Rattle.je_order.specs.Counts.{HasRisen}
 use Rattle.je_disk.specs.Moments.{History, now}
 use Rattle.store_model.specs.declared.answer.Answer.{Answer}
+use Rattle.store_model.specs.declared.answer.Answer.TheVariants.{Durable}
 use Rattle.store_model.specs.declared.durability.Durability.{Durability}
 use Rattle.store_model.specs.declared.event.Event.{Event}
+use Rattle.store_model.specs.declared.event.Event.TheVariants.{SyncEnd}
+use Rattle.store_model.specs.declared.step.Step.{Step}
+use Rattle.store_model.specs.declared.step.Step.TheVariants.{Sync as SyncStep}
 use Rattle.store_model.specs.Journal.{is_disk_fault}
 use Rattle.je_answers.specs.Standing.{Standing, active_of}
 use Rattle.je_answers.specs.After.{AnswersAsModel, after_events}
@@ -17,9 +21,10 @@ use Rattle.environment.specs.Calls.{MayResume}
 use Rattle.environment.specs.Limits.{AreBounded}
 use Rattle.environment.specs.Whole.{CanGoOn, IsAt, IsGuarded, disk_of, reach_of}
 use Rattle.script_run.specs.declared.recorded.Recorded.{Recorded}
-use Rattle.script_run.specs.Events.{Awaited, AreSyncedBefore, IsFresh, IsMet, IsOfSessions, awaited_of, reach_by}
+use Rattle.script_run.specs.Events.{Awaited, AreSyncedBefore, IsFresh, IsMet, awaited_of, reach_by}
 use Rattle.script_run.specs.Events.Awaited.{Nothing}
 use Rattle.script_run.specs.Ends.{AreOf}
+use Rattle.script_run.specs.Maintenance.{AreStepsInPlace, HasSyncFailed, last_after}
 
 -- where a run began: the most bytes of a log file, how far the log and its trees reached, where the model stood, the disk's history, and how many faults
 -- the disk had met
@@ -47,7 +52,7 @@ module _ {D : Type 0} (observable : Bool) (history : D → History) (faults : D 
     pub synced : (later : List Event) → IsMet awaited (after_events p.st journal) later → AreSyncedBefore p.st journal later
     pub fresh : IsFresh awaited (after_events p.st journal)
     pub ordered : AreResumedInOrder p.st journal
-    pub only : AllByRecursion IsOfSessions journal
+    pub steps : AreStepsInPlace None p.st journal
     pub sessions : AreOf (λ s. s < 256) (after_events p.st journal).actives
     pub bounds : CanGoOn environment
     pub caused : IsCaused p.faults (faults (disk_of environment)) journal
@@ -82,6 +87,21 @@ module _ {D : Type 0} where
   -- no call may go on
   abbrev pub IsCalm : Beginning → Recorded D → Type 0
   IsCalm p x = first_ready (standing p x) ≡ None
+
+  -- the journal's last event
+  abbrev pub last_event : Recorded D → Option Event
+  last_event x = last_after None x.journal.items
+
+  -- a sync made all commits durable, and no more calls may go on than did; or it failed, and the environment is invalid
+  abbrev pub HasSynced : Beginning → Recorded D → Recorded D → Type 0
+  HasSynced p old new =
+      ((last_event new ≡ Some (SyncEnd (Durable (standing p new).commits))) × (first_ready (standing p new) ≡ first_ready (standing p old)))
+      ⊎ (HasSyncFailed (last_event new) × (is_some (standing p new).fault ≡ true))
+
+  -- a step may be taken: no call may go on, or the sync that it asks for failed; unless the environment is invalid, the sync that it asks for is done
+  pub record MayTurn (p : Beginning) (step : Step) (x : Recorded D) : Type 0 where
+    pub calm : (first_ready (standing p x) ≡ None) ⊎ ((step ≡ SyncStep) × HasSyncFailed (last_event x))
+    pub synced : step ≡ SyncStep → (standing p x).fault ≡ None → last_event x ≡ Some (SyncEnd (Durable (standing p x).commits))
 
   -- this session's call, which that line gave, is the first that may go on
   pub record IsNext (p : Beginning) (session line : ℕ) (x : Recorded D) : Type 0 where

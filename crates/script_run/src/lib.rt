@@ -1,9 +1,10 @@
 //! A run of a script's lines over an open environment: each line is given, what its commit waits for is
 //! done at once, the calls that waited and may go on do, and then comes the next line; at the end each
-//! session is ended. It stands on `environment` for what a call comes to, and keeps the journal of all
+//! session is ended. A line is a session's call or a step of maintenance, before which its sync is done. It stands on `environment` for what a call comes to, and keeps the journal of all
 //! events. Upward it promises that the journal answers as the model, in this order, and which lines it has.
 #![tactic(auto)]
 
+mod maintaining;
 mod recorded;
 mod running;
 

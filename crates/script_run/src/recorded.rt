@@ -1,7 +1,6 @@
 // An environment with the journal of its events. A call that is given up is let go by `drop`, which is one step
 // of a proof; the end of its scope would be one for each kind of call.
 ghost use Rattle.std.specs.Prelude.{◌≡◌, ◌≤◌, ◌<◌, ◌+◌, ◌++◌, ◌∷◌, [], ℕ, List, Bool, None, Some, true, false, length, slice_index_or, vec_capacity, OnOk, OnErr};
-ghost use Rattle.script_text.specs.Grammar.{has_line};
 ghost use Rattle.store_model.specs.declared.durability.Durability.{Durability as Asked};
 ghost use Rattle.store_model.specs.declared.durability.Durability.TheVariants.{Sync, WriteNoSync};
 ghost use Rattle.store_model.specs.declared.event.Event.TheVariants.{End};
@@ -11,15 +10,15 @@ ghost use Rattle.je_answers.specs.Journal.{lines_of};
 ghost use Rattle.script_run.specs.Ends.{AreEndsStopped, HasGained, IsStopped};
 ghost use Rattle.script_run.specs.Events.{awaited_of};
 ghost use Rattle.script_run.specs.Events.Awaited.{Nothing, Follow};
-ghost use Rattle.script_run.specs.UnderWay.{Beginning, BeginsNone, GoesOnWith, HasRoom, HasSettled, IsCalm, IsNext, IsUnderWay, MayEnd, Settles, StandsAlike};
+ghost use Rattle.script_run.specs.UnderWay.{Beginning, BeginsNone, GoesOnWith, HasRoom, HasSettled, HasSynced, IsCalm, IsNext, IsUnderWay, MayEnd, Settles, StandsAlike};
 
 use environment::{Environment, Outcome};
 use je_disk::{Disk, SyncJob};
 use std::alloc::{AllocError, Global};
 use store_model::{Answer, Call, Durability, Event};
 
-/// How many events the journal has room for before a call is given: the call with its sync, and the ends of
-/// all sessions.
+/// How many events the journal has room for before a line is given: its call or step with its sync, and the
+/// ends of all sessions.
 pub const ROOM: usize = 260;
 
 /// An open environment, and the journal of its events since then.
@@ -48,7 +47,7 @@ fn awaited(answer: &Answer, durability: Durability) -> Option<Durability>
 }
 
 // The journal gains an event, for which it has room.
-fn record(journal: &mut Vec<Event>, event: Event)
+pub(crate) fn record(journal: &mut Vec<Event>, event: Event)
     requires room { length journal.old.items < vec_capacity journal.old }
     ensures items { journal.new.items ≡ journal.old.items ++ event ∷ [] }
     ensures room { vec_capacity journal.old ≤ vec_capacity journal.new }
@@ -68,7 +67,6 @@ impl<D: Disk> Recorded<D> {
     ) -> Result<Option<Durability>, AllocError>
         requires here { (p : Beginning) × IsUnderWay D.observable D.history D.faults p Nothing self.old }
         requires room { HasRoom 3 self.old }
-        requires has_line { has_line call ≡ true }
         ensures goes_on { (p : Beginning) → IsUnderWay D.observable D.history D.faults p Nothing self.old → IsCalm p self.old → GoesOnWith D.observable D.history D.faults p result self.new }
         ensures line { OnOk result (lines_of self.new.journal.items ≡ lines_of self.old.journal.items ++ Session session line call ∷ []) }
         ensures ends { (stopped : List Bool) → slice_index_or stopped session false ≡ false → AreEndsStopped stopped self.old.journal.items → AreEndsStopped stopped self.new.journal.items }
@@ -158,13 +156,15 @@ impl<D: Disk> Recorded<D> {
         record(&mut self.journal, Event::WriteOut { answer });
     }
 
-    // Syncs the log, which a commit waits for.
-    fn sync(&mut self)
+    // Syncs the log, which a commit waits for, or a step.
+    pub(crate) fn sync(&mut self)
         requires here { (p : Beginning) × IsUnderWay D.observable D.history D.faults p (Follow Sync) self.old }
         requires room { HasRoom 2 self.old }
         ensures goes_on { (p : Beginning) → IsUnderWay D.observable D.history D.faults p (Follow Sync) self.old → IsUnderWay D.observable D.history D.faults p Nothing self.new }
         ensures alike { (p : Beginning) → StandsAlike p self.old self.new }
+        ensures synced { (p : Beginning) → IsUnderWay D.observable D.history D.faults p (Follow Sync) self.old → HasSynced p self.old self.new }
         ensures gained { (stopped : List Bool) → HasGained stopped self.old.journal.items self.new.journal.items }
+        ensures room { HasRoom 3 self.old → HasRoom 1 self.new }
     {
         let Some(job) = self.environment.sync_begin() else {
             let answer = Answer::DiskFault;
@@ -228,7 +228,6 @@ impl<D: Disk> Recorded<D> {
         call: Call,
     ) -> Result<(), AllocError>
         requires here { (p : Beginning) × IsUnderWay D.observable D.history D.faults p Nothing self.old × IsCalm p self.old }
-        requires has_line { has_line call ≡ true }
         ensures goes_on { (p : Beginning) → IsUnderWay D.observable D.history D.faults p Nothing self.old → IsCalm p self.old → IsUnderWay D.observable D.history D.faults p Nothing self.new }
         ensures line { OnOk result (lines_of self.new.journal.items ≡ lines_of self.old.journal.items ++ Session session line call ∷ []) }
         ensures ends { (stopped : List Bool) → slice_index_or stopped session false ≡ false → AreEndsStopped stopped self.old.journal.items → AreEndsStopped stopped self.new.journal.items }

@@ -1,9 +1,9 @@
 // A run of a script's lines.
-ghost use Rattle.std.specs.Prelude.{◌≡◌, ◌≤◌, ◌<◌, ◌⊎◌, ◌+◌, ◌++◌, ◌∷◌, [], ℕ, List, length, true, false, slice_index_or, IfSome, IsNone};
+ghost use Rattle.std.specs.Prelude.{◌≡◌, ◌≢◌, ◌≤◌, ◌<◌, ◌⊎◌, ◌+◌, ◌++◌, ◌∷◌, [], ℕ, List, length, true, false, slice_index_or, IfSome, IsNone};
 ghost use Rattle.std.specs.List.{list_all};
-ghost use Rattle.script_text.specs.Grammar.{has_line, is_line};
+ghost use Rattle.script_text.specs.Grammar.{is_line};
 ghost use Rattle.store_model.specs.declared.plan.ScriptLine.{ScriptLine as Line};
-ghost use Rattle.store_model.specs.declared.plan.ScriptLine.TheVariants.{Session};
+ghost use Rattle.store_model.specs.declared.plan.ScriptLine.TheVariants.{Maintenance, Session};
 ghost use Rattle.script_run.specs.Ends.{AreEndsInPlace, IsStopped};
 ghost use Rattle.script_run.specs.Events.Awaited.{Nothing};
 ghost use Rattle.script_run.specs.UnderWay.{Beginning, BeginsNone, IsCalm, IsNext, IsOutside, IsUnderWay, MayEnd, standing};
@@ -13,14 +13,16 @@ use crate::recorded::{ROOM, Recorded};
 use environment::Environment;
 use je_disk::Disk;
 use std::alloc::Global;
-use store_model::{Call, Event, ScriptLine};
+use store_model::{Call, Event, ScriptLine, Step};
 
-/// A run under way: its environment with the journal, whether a call found no memory, which sessions were
-/// ended by that, by their numbers, and whether it was halted since there was no room for even an end.
+/// A run under way: its environment with the journal, whether a line found no memory, which sessions were
+/// ended by that, by their numbers, whether no step of maintenance is given any more, since one found none,
+/// and whether it was halted since there was no room for even an end.
 pub struct Running<D> {
     pub recorded: Recorded<D>,
     pub memory_ended: bool,
     pub stopped: [bool; 256],
+    pub steps_stopped: bool,
     pub halted: bool,
 }
 
@@ -55,6 +57,7 @@ impl<D: Disk> Running<D> {
         self.memory_ended = true;
         self.halted = true;
         self.stopped = all_sessions(true);
+        self.steps_stopped = true;
     }
 
     // A session gives no further line, since there was no memory.
@@ -69,6 +72,20 @@ impl<D: Disk> Running<D> {
     {
         self.memory_ended = true;
         self.stopped[session as usize] = true;
+    }
+
+    // No further step of maintenance is given, since there was no memory.
+    fn stop_steps(&mut self)
+        requires flags { AreFlags self.old }
+        ensures flags { AreFlags self.new }
+        ensures recorded { self.new.recorded ≡ self.old.recorded }
+        ensures same { self.new.halted ≡ self.old.halted }
+        ensures stopped { self.new.steps_stopped ≡ true }
+        ensures sessions { self.new.stopped ≡ self.old.stopped }
+        ensures given { (lines : List Line) → HasLines self.old lines → HasLines self.new lines }
+    {
+        self.memory_ended = true;
+        self.steps_stopped = true;
     }
 
     // Ends a session that may end; where the journal has no room for that, the run is halted.
@@ -150,7 +167,6 @@ impl<D: Disk> Running<D> {
     fn give_line(&mut self, alloc: Global, session: u8, line: u32, call: Call)
         requires here { (p : Beginning) × IsUnderWay D.observable D.history D.faults p Nothing self.old.recorded × IsCalmOrHalted p self.old }
         requires flags { AreFlags self.old }
-        requires has_line { has_line call ≡ true }
         ensures flags { AreFlags self.new }
         ensures goes_on { (p : Beginning) → IsUnderWay D.observable D.history D.faults p Nothing self.old.recorded → IsCalmOrHalted p self.old → IsUnderWay D.observable D.history D.faults p Nothing self.new.recorded }
         ensures ends { EndsStopped self.old → EndsStopped self.new }
@@ -174,7 +190,6 @@ impl<D: Disk> Running<D> {
     fn execute_line(&mut self, alloc: Global, session: u8, line: u32, call: Call)
         requires here { (p : Beginning) × IsUnderWay D.observable D.history D.faults p Nothing self.old.recorded × IsCalmOrHalted p self.old }
         requires flags { AreFlags self.old }
-        requires has_line { has_line call ≡ true }
         ensures flags { AreFlags self.new }
         ensures goes_on { (p : Beginning) → IsUnderWay D.observable D.history D.faults p Nothing self.old.recorded → IsCalmOrHalted p self.old → IsUnderWay D.observable D.history D.faults p Nothing self.new.recorded }
         ensures calm { (p : Beginning) → IsUnderWay D.observable D.history D.faults p Nothing self.old.recorded → IsCalmOrHalted p self.old → IsCalmOrHalted p self.new }
@@ -182,6 +197,40 @@ impl<D: Disk> Running<D> {
         ensures given { (lines : List Line) → HasLines self.old lines → HasLines self.new (lines ++ Session session line call ∷ []) }
     {
         self.give_line(alloc, session, line, call);
+        self.resume_ready(alloc);
+    }
+
+    // Gives a step of maintenance, unless one found no memory.
+    fn give_step(&mut self, alloc: Global, line: u32, step: Step)
+        requires here { (p : Beginning) × IsUnderWay D.observable D.history D.faults p Nothing self.old.recorded × IsCalmOrHalted p self.old }
+        requires flags { AreFlags self.old }
+        requires line { line ≢ 0 }
+        ensures flags { AreFlags self.new }
+        ensures goes_on { (p : Beginning) → IsUnderWay D.observable D.history D.faults p Nothing self.old.recorded → IsCalmOrHalted p self.old → IsUnderWay D.observable D.history D.faults p Nothing self.new.recorded }
+        ensures ends { EndsStopped self.old → EndsStopped self.new }
+        ensures given { (lines : List Line) → HasLines self.old lines → HasLines self.new (lines ++ Maintenance line step ∷ []) }
+    {
+        if self.steps_stopped {
+            return;
+        }
+        match self.recorded.maintain(alloc, line, step) {
+            Ok(()) => {}
+            Err(_) => self.stop_steps(),
+        }
+    }
+
+    // Gives a step of maintenance; then the calls that may go on do.
+    fn execute_step(&mut self, alloc: Global, line: u32, step: Step)
+        requires here { (p : Beginning) × IsUnderWay D.observable D.history D.faults p Nothing self.old.recorded × IsCalmOrHalted p self.old }
+        requires flags { AreFlags self.old }
+        requires line { line ≢ 0 }
+        ensures flags { AreFlags self.new }
+        ensures goes_on { (p : Beginning) → IsUnderWay D.observable D.history D.faults p Nothing self.old.recorded → IsCalmOrHalted p self.old → IsUnderWay D.observable D.history D.faults p Nothing self.new.recorded }
+        ensures calm { (p : Beginning) → IsUnderWay D.observable D.history D.faults p Nothing self.old.recorded → IsCalmOrHalted p self.old → IsCalmOrHalted p self.new }
+        ensures ends { EndsStopped self.old → EndsStopped self.new }
+        ensures given { (lines : List Line) → HasLines self.old lines → HasLines self.new (lines ++ Maintenance line step ∷ []) }
+    {
+        self.give_step(alloc, line, step);
         self.resume_ready(alloc);
     }
 
@@ -202,8 +251,7 @@ impl<D: Disk> Running<D> {
                 line,
                 call,
             } => self.execute_line(alloc, session, line, call),
-            // no line of a script gives one
-            ScriptLine::Maintenance { line: _, step: _ } => unreachable!(),
+            ScriptLine::Maintenance { line, step } => self.execute_step(alloc, line, step),
         }
     }
 
@@ -267,7 +315,8 @@ impl<D: Disk> Running<D> {
 /// Gives the lines in order. What a commit waits for is done at once; then each call that waited and may go
 /// on does, in the order in which they began to wait; then comes the next line. At the end each session that
 /// has a transaction is ended. A call that finds no memory is not in the journal, and ends its session, which
-/// gives no further line; the others go on.
+/// gives no further line; the others go on. A step of maintenance that finds none is not in the journal either,
+/// and no further one is given.
 pub fn run<D: Disk>(
     alloc: Global,
     environment: Environment<D>,
@@ -289,6 +338,7 @@ pub fn run<D: Disk>(
         recorded,
         memory_ended: false,
         stopped: all_sessions(false),
+        steps_stopped: false,
         halted: false,
     };
     running.execute_all(alloc, lines);

@@ -3,7 +3,9 @@ use Rattle.std.proofs.Common.{◌≡◌, ℕ, List, [], ◌∷◌, ◌&&◌, Boo
 use Rattle.std.specs.Str.{bytes_eq}
 use Rattle.std.proofs.lemmas.Option.{same_Some}
 use Rattle.je_order.specs.Words.{is_word}
-use Rattle.script_text.specs.Grammar.{bytes_of, get_call, get_of, rmw_of}
+use Rattle.script_text.specs.Bytes.{bytes_of}
+use Rattle.script_text.specs.Cursors.{rmw_of}
+use Rattle.script_text.specs.Grammar.{get_call, get_of}
 
 pub get_is : (db key : List ℕ) (rest : List (List ℕ)) (rmw : Bool) → Some rmw ≡ rmw_of rest → cond (is_word db) (get_call db rmw (bytes_of key)) None ≡ get_of (db ∷ key ∷ rest)
 get_is db key [] rmw is = ap (λ (b : Bool). cond (is_word db) (get_call db b (bytes_of key)) None) (same_Some rmw false is)

@@ -4,7 +4,7 @@ mod TextCuts
 mod HexDigits
 -- What the lines of a script give, one line after another.
 mod ScriptLines
--- A script's plan has only calls that the grammar has lines for.
+-- A script's plan has only calls that the grammar has lines for, and steps with the numbers of lines.
 mod PlanCalls
 -- Texts sent through a buffer.
 mod BufferedText

@@ -1,9 +1,7 @@
 -- The grammar of scripts (this project's own): what the bytes of a script ask for, or the first line that is outside it.
-use Rattle.std.specs.Prelude.{ℕ, ◌+◌, ◌-◌, ◌*◌, ◌≡◌, ◌==◌, ◌&&◌, ◌++◌, ◌∷◌, [], nat_le, nat_lt, not, ◌||◌, true, false, length, codes, List, Bool, Option, Some, None, option_to_list, Result, Ok, Err, if◌then◌else◌}
+use Rattle.std.specs.Prelude.{ℕ, ◌+◌, ◌-◌, ◌*◌, ◌≡◌, ◌==◌, ◌&&◌, ◌++◌, ◌∷◌, [], nat_le, nat_lt, not, ◌||◌, true, false, codes, List, Bool, Option, Some, None, option_to_list, Result, Ok, Err, if◌then◌else◌}
 use Rattle.std.specs.List.{list_all, onto_first}
 use Rattle.std.specs.Str.{bytes_eq}
-use Rattle.hex.specs.Hex.{decode_of}
-use Rattle.hex.specs.declared.error.FromHexError.{FromHexError}
 use Rattle.je_order.specs.Words.{is_word}
 use Rattle.store_model.specs.declared.isolation.Isolation.{Isolation}
 use Rattle.store_model.specs.declared.isolation.Isolation.TheVariants.{ReadUncommitted, ReadCommitted, RepeatableRead, Serializable}
@@ -14,11 +12,15 @@ use Rattle.store_model.specs.declared.kind.Kind.TheVariants.{Plain, Dup}
 use Rattle.store_model.specs.declared.put_mode.PutMode.{PutMode}
 use Rattle.store_model.specs.declared.put_mode.PutMode.TheVariants.{Overwrite, NoOverwrite, NoDupData}
 use Rattle.store_model.specs.declared.call.Call.{Call}
-use Rattle.store_model.specs.declared.call.Call.TheVariants.{Begin, Commit, Abort, List as Lists, Create, Remove, Rename, Truncate, Put, Get, GetBoth, Delete}
+use Rattle.store_model.specs.declared.call.Call.TheVariants.{Begin, Commit, Abort, List as Lists, Create, Remove, Rename, Truncate, Put, Get, GetBoth, Delete, Open, Close, Dup as Duplicate, Count, Cur, CPutCur, CDel, CPut}
 use Rattle.store_model.specs.declared.plan.ScriptLine.{ScriptLine}
 use Rattle.store_model.specs.declared.plan.ScriptLine.TheVariants.{Session, Maintenance}
+use Rattle.store_model.specs.declared.step.Step.{Step}
+use Rattle.store_model.specs.declared.step.Step.TheVariants.{Begin as BeginStep, Flush, Finish, Sync as SyncStep}
 use Rattle.store_model.specs.declared.plan.RunPlan.{RunPlan}
 use Rattle.script_text.specs.Words.{words_of}
+use Rattle.script_text.specs.Bytes.{bytes_of}
+use Rattle.script_text.specs.Cursors.{rmw_of, cursor_call_of}
 use Rattle.script_text.specs.declared.parsing.TheConstants.{MOST_LINES}
 use Rattle.script_text.specs.declared.parsing.ParseErr.{ParseErr}
 use Rattle.script_text.specs.declared.parsing.ParseErr.TheVariants.{BadScript, Memory}
@@ -44,17 +46,6 @@ abbrev pub session_of : List ℕ → Option ℕ
 session_of (s ∷ a ∷ []) = one_digit s a
 session_of (s ∷ a ∷ b ∷ []) = two_digits s a b
 session_of word = None
-
--- bytes are pairs of hexadecimal digits of either case, at least one pair, or `-` for none; their number is no part of the grammar
-abbrev pub decoded_bytes : Result (List ℕ) FromHexError → Option (List ℕ)
-decoded_bytes (Ok bytes) = Some bytes
-decoded_bytes (Err e) = None
-
-abbrev pub bytes_of : List ℕ → Option (List ℕ)
-bytes_of word =
-    if bytes_eq word (codes "-") then Some []
-    else if length word == 0 then None
-    else decoded_bytes (decode_of word)
 
 -- `begin LEVEL DURABILITY WAIT`, each one of its words
 abbrev pub level_of : List ℕ → Option Isolation
@@ -150,12 +141,6 @@ get_of (db ∷ key ∷ []) = if is_word db then get_call db false (bytes_of key)
 get_of (db ∷ key ∷ rmw ∷ []) = if is_word db && bytes_eq rmw (codes "rmw") then get_call db true (bytes_of key) else None
 get_of words = None
 
--- whether a read is for a change, by the last words of its line; none where they are no read's
-abbrev pub rmw_of : List (List ℕ) → Option Bool
-rmw_of [] = Some false
-rmw_of (rmw ∷ []) = if bytes_eq rmw (codes "rmw") then Some true else None
-rmw_of words = None
-
 -- `getboth DB K D` and `getboth DB K D rmw`
 abbrev pub get_both_call : List ℕ → Option (List ℕ) → Option (List ℕ) → Option Bool → Option Call
 get_both_call db (Some key) (Some value) (Some rmw) = Some (GetBoth db key value rmw)
@@ -191,23 +176,45 @@ call_of verb words =
     else if bytes_eq verb (codes "get") then get_of words
     else if bytes_eq verb (codes "getboth") then get_both_of words
     else if bytes_eq verb (codes "delete") then delete_of words
+    else cursor_call_of verb words
+
+-- `begin`, `flush`, `finish` and `sync` are steps of maintenance
+abbrev pub step_of : List ℕ → Option Step
+step_of word =
+    if bytes_eq word (codes "begin") then Some BeginStep
+    else if bytes_eq word (codes "flush") then Some Flush
+    else if bytes_eq word (codes "finish") then Some Finish
+    else if bytes_eq word (codes "sync") then Some SyncStep
     else None
+
+-- a line with a step is `m`, and the step
+abbrev pub maintained_by : ℕ → Option Step → Option ScriptLine
+maintained_by line (Some step) = Some (Maintenance line step)
+maintained_by line None = None
+
+abbrev pub maintenance_of : ℕ → List (List ℕ) → Option ScriptLine
+maintenance_of line (step ∷ []) = maintained_by line (step_of step)
+maintenance_of line words = None
 
 -- a line with a call is a session, and the call's words
 abbrev pub given_by : ℕ → Option ℕ → Option Call → Option ScriptLine
 given_by line (Some session) (Some call) = Some (Session session line call)
 given_by line session call = None
 
+abbrev pub session_line : ℕ → List ℕ → List (List ℕ) → Option ScriptLine
+session_line line session (verb ∷ words) = given_by line (session_of session) (call_of verb words)
+session_line line session [] = None
+
 abbrev pub given_of : ℕ → List (List ℕ) → Option ScriptLine
-given_of line (session ∷ verb ∷ words) = given_by line (session_of session) (call_of verb words)
-given_of line words = None
+given_of line (giver ∷ words) = if bytes_eq giver (codes "m") then maintenance_of line words else session_line line giver words
+given_of line [] = None
 
 -- an empty line, and one that begins with `#`, gives nothing
 abbrev pub is_skipped : List ℕ → Bool
 is_skipped [] = true
 is_skipped (c ∷ text) = c == 35
 
--- what a line gives: nothing or a call; it is bad where it is none of these, has a byte outside ASCII, or is past the last line
+-- what a line gives: nothing, a call or a step; it is bad where it is none of these, has a byte outside ASCII, or is past the last line
 abbrev pub good_or_bad : ℕ → Option ScriptLine → Result (Option ScriptLine) ℕ
 good_or_bad line (Some given) = Ok (Some given)
 good_or_bad line None = Err line
@@ -218,7 +225,7 @@ line_gives line text =
     else if is_skipped text then Ok None
     else good_or_bad line (given_of line (words_of text))
 
--- whether the grammar has a line for a call; the others cannot be asked for by a script yet
+-- whether the grammar has a line for a call
 abbrev pub has_line : Call → Bool
 has_line (Begin level durability wait) = true
 has_line Commit = true
@@ -232,11 +239,19 @@ has_line (Put db key value mode) = true
 has_line (Get db key rmw) = true
 has_line (GetBoth db key value rmw) = true
 has_line (Delete db key) = true
-has_line call = false
+has_line (Open cursor db) = true
+has_line (Close cursor) = true
+has_line (Duplicate cursor to) = true
+has_line (Count cursor) = true
+has_line (Cur cursor motion rmw) = true
+has_line (CPutCur cursor value) = true
+has_line (CDel cursor) = true
+has_line (CPut cursor key value mode) = true
 
+-- whether it has a line of a script; these are numbered from 1
 abbrev pub is_line : ScriptLine → Bool
 is_line (Session session line call) = has_line call
-is_line (Maintenance line step) = false
+is_line (Maintenance line step) = not (line == 0)
 
 -- what a line gives and then what the lines behind it give; the first bad line counts
 abbrev pub before_others : Option ScriptLine → Result (List ScriptLine) ℕ → Result (List ScriptLine) ℕ

@@ -1,3 +1,5 @@
+pub mod Bytes
+pub mod Cursors
 pub mod Grammar
 pub mod OutBuffer
 pub mod Report

@@ -1,6 +1,6 @@
 // Keys and data as hexadecimal digits.
 ghost use Rattle.std.specs.Prelude.{◌≡◌, IfOk};
-ghost use Rattle.script_text.specs.Grammar.{bytes_of};
+ghost use Rattle.script_text.specs.Bytes.{bytes_of};
 
 use hex::FromHexError;
 use je_order::Octets;

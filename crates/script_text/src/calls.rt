@@ -1,9 +1,12 @@
 // The forms of calls.
 ghost use Rattle.std.specs.Prelude.{◌≡◌, true, IfOk, if◌then◌else◌};
 ghost use Rattle.je_order.specs.Words.{is_word};
-ghost use Rattle.script_text.specs.Grammar.{call_of, begin_of, level_of, durability_of, wait_of, commit_of, abort_of, list_of, kind_of, create_call, create_of, remove_of, rename_of, truncate_of, put_call, put_of, get_of, get_call, rmw_of, get_both_call, get_both_of, delete_call, delete_of, bytes_of};
+ghost use Rattle.script_text.specs.Grammar.{call_of, begin_of, level_of, durability_of, wait_of, commit_of, abort_of, list_of, kind_of, create_call, create_of, remove_of, rename_of, truncate_of, put_call, put_of, get_of, get_call, get_both_call, get_both_of, delete_call, delete_of};
+ghost use Rattle.script_text.specs.Bytes.{bytes_of};
+ghost use Rattle.script_text.specs.Cursors.{rmw_of};
 
 use crate::bytes::bytes_of;
+use crate::cursor_calls::cursor_call_of;
 use crate::words::Words;
 use je_order::Word;
 use std::alloc::{AllocError, Global};
@@ -42,7 +45,7 @@ pub fn call_of(alloc: Global, verb: &[u8], words: Words) -> Result<Option<Call>,
     } else if verb == b"delete".as_slice() {
         delete_of(alloc, words)
     } else {
-        Ok(None)
+        cursor_call_of(alloc, verb, words)
     }
 }
 

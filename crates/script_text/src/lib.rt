@@ -8,6 +8,7 @@ mod answer_texts;
 mod bytes;
 mod calls;
 mod counting;
+mod cursor_calls;
 mod cutting;
 mod event_lines;
 mod lines;

@@ -1,7 +1,7 @@
 // Reading a script.
 ghost use Rattle.std.specs.Prelude.{◌≡◌, ◌≤◌, ◌++◌, nat_lt, option_to_list, true, IfOk, OnOk};
 ghost use Rattle.std.specs.List.{list_all};
-ghost use Rattle.script_text.specs.Grammar.{Gives, given_of, is_line, is_skipped, line_gives, plan_of};
+ghost use Rattle.script_text.specs.Grammar.{Gives, given_of, is_line, is_skipped, line_gives, maintenance_of, plan_of, session_line, step_of};
 ghost use Rattle.script_text.specs.Words.{words_of};
 
 use crate::calls::call_of;
@@ -10,7 +10,7 @@ use crate::session::session_number;
 use crate::words::Words;
 use je_order::List;
 use std::alloc::{AllocError, AllocFailed, Global};
-use store_model::{RunPlan, ScriptLine};
+use store_model::{RunPlan, ScriptLine, Step};
 
 /// The most lines that a script may have.
 pub const MOST_LINES: u32 = 1_000_000;
@@ -81,7 +81,7 @@ fn keep(lines: &mut Vec<ScriptLine>, given: Option<ScriptLine>) -> Result<(), Al
     Ok(())
 }
 
-// What one line gives: a call, or nothing.
+// What one line gives: a call, a step of maintenance, or nothing.
 fn given_by_line(alloc: Global, line: u32, text: &[u8]) -> Result<Option<ScriptLine>, ParseErr>
     ensures answer { Gives result (line_gives line text.now) }
     ensures within { OnOk result (line ≤ MOST_LINES) }
@@ -110,14 +110,60 @@ fn is_skipped(text: &[u8]) -> bool
     text.is_empty() || text[0] == b'#'
 }
 
-// The call of a line, if it is one.
+// What a line asks for, if it is one of the grammar.
 fn given_of(alloc: Global, line: u32, text: &[u8]) -> Result<Option<ScriptLine>, AllocError>
     ensures { IfOk result (λ given. given ≡ given_of line (words_of text.now)) }
 {
     let mut words = Words::new(text);
-    let Some(session) = words.next() else {
+    let Some(giver) = words.next() else {
         return Ok(None);
     };
+    if giver == b"m".as_slice() {
+        return Ok(maintenance_of(line, words));
+    }
+    session_line(alloc, line, giver, words)
+}
+
+// The step that a word names, if it names one.
+fn step_of(word: &[u8]) -> Option<Step>
+    ensures { result ≡ step_of word.now }
+{
+    if word == b"begin".as_slice() {
+        Some(Step::Begin)
+    } else if word == b"flush".as_slice() {
+        Some(Step::Flush)
+    } else if word == b"finish".as_slice() {
+        Some(Step::Finish)
+    } else if word == b"sync".as_slice() {
+        Some(Step::Sync)
+    } else {
+        None
+    }
+}
+
+// The step of maintenance of a line, by the words behind its first, if it is one.
+fn maintenance_of(line: u32, mut words: Words) -> Option<ScriptLine>
+    ensures { result ≡ maintenance_of line words.entry }
+{
+    let step = words.next()?;
+    if words.next().is_some() {
+        return None;
+    }
+    Some(ScriptLine::Maintenance {
+        line,
+        step: step_of(step)?,
+    })
+}
+
+// The call of a session's line, by the words behind its first, if it is one.
+fn session_line(
+    alloc: Global,
+    line: u32,
+    session: &[u8],
+    mut words: Words,
+) -> Result<Option<ScriptLine>, AllocError>
+    ensures { IfOk result (λ given. given ≡ session_line line session.now words.entry) }
+{
     let Some(verb) = words.next() else {
         return Ok(None);
     };

@@ -25,31 +25,31 @@ use Rattle.store_model.specs.declared.call.Call.{Call}
 use Rattle.store_model.specs.declared.need.Need.{Need}
 use Rattle.store_model.specs.declared.store.Store.{Store}
 use Rattle.store_model.specs.declared.answer.Answer.{Answer}
-use Rattle.store_model.specs.declared.answer.Answer.TheVariants.{Rec}
+use Rattle.store_model.specs.declared.answer.Answer.TheVariants.{Rec, NoPosition}
 use Rattle.store_model.specs.declared.record_change.RecordChange.{RecordChange}
-use Rattle.store_model.specs.Store.{Pair, name_of, all_pairs_changed}
+use Rattle.store_model.specs.Store.{Pair, name_of, all_pairs_changed, IsStore}
 use Rattle.store_model.specs.Reads.{Look, Range, is_within, seen, passed_to, at_name}
-use Rattle.store_model.specs.Reads.Way.{Lowest}
-use Rattle.store_model.specs.Records.{Evaluated, look_of, conclude}
-use Rattle.store_model.specs.Needs.{Part, need, part_of, part_needs, ends, write_type, write_needs, insert_needs, first_from, changed_name}
+use Rattle.store_model.specs.Records.{Evaluated, look_of, early_of, conclude, unless_early, evaluation}
+use Rattle.store_model.specs.Needs.{Part, need, part_of, part_needs, ends, write_type, write_needs, insert_needs, first_from, changed_name, needs_unless, place_range, look_range, ranges_of}
 use Rattle.je_answers.specs.declared.active.Active.{Active}
 use Rattle.je_answers.specs.Standing.{Standing, database_at, with_at}
 use Rattle.je_answers.specs.Views.{Target, of_db, seen_changes, view_of, occupied, changes_at, needs_in, outcome_of}
 use Rattle.je_answers.specs.Locking.{Queues, record_of, all_got, first_blocked, given_back}
+use Rattle.je_answers.specs.After.{moved}
 use Rattle.standing_laws.specs.Right.{AreSound, HasWrite, HoldsWrite, MayWait}
 use Rattle.standing_laws.proofs.Owners.{read_keeps as write_stays}
-use Rattle.standing_laws.proofs.Among.{IsAmong, all_at, all_of, among_map, among_filter, filter_among, among_append, among_first}
+use Rattle.standing_laws.proofs.Among.{IsAmong, all_at, all_of, among_map, among_filter, filter_among, among_append, among_first, among_second}
 use Rattle.standing_laws.proofs.Writers.{write_is}
-use Rattle.serial_replay.specs.Replay.{AnsweredCall, database_of_call}
+use Rattle.serial_replay.specs.Replay.{AnsweredCall, is_evaluated}
 use Rattle.serial_replay.proofs.Rising.{RisesBy, one_of_name, rises_kept, same_items, same_names}
-use Rattle.serial_replay.proofs.Locality.{same_there, within_behind}
+use Rattle.serial_replay.proofs.Locality.{same_there}
 use Rattle.serial_replay.proofs.Changing.{name_in, unchanged, one_or_none, rises_changed}
 use Rattle.serial_replay.proofs.Holding.{Sort, IsSort, Holds, writes, to_write, ranges, any_lock, range_can, weaker, all_got_keeps, all_got_gets, read_keeps, IsFreeNeed, free_needs}
 use Rattle.serial_replay.proofs.Occupied.{HasRecord, IsWritten, IsOccupied, of_db_is, occupied_is, occupied_has, occupied_rises}
-use Rattle.serial_replay.proofs.Shut.{Closed, is_inside, place, IsThere, IsShut, MayWrite, no_phantom, closed_by, IsEndedBy, ended_by, lowest_there, covers, shuts}
+use Rattle.serial_replay.proofs.Shut.{Closed, is_inside, place, IsThere, IsShut, only, only_shut, MayWrite, no_phantom, closed_by, IsEndedBy, ended_by, taken_there, covers, shuts}
 use Rattle.serial_replay.proofs.Stores.{Base, Numbers, base_of, pairs_of, base_in, pairs_in, base_at, pairs_at, IsFit, pairs_rise}
-use Rattle.serial_replay.proofs.Keeping.{Said, view_in, occupied_at, base_of_call, IsSer, IsHeldRecord, IsRepeatableAs, IsRepeatable, IsStable, IsKept, keeps, IsGround}
-use Rattle.serial_replay.proofs.Calls.{evaluation_is, needs_are, IsSerPart, ser_part, nothing_seen, AnswersRecord, answers_record}
+use Rattle.serial_replay.proofs.Keeping.{Said, view_in, occupied_at, IsUsedBy, IsSer, IsHeldRecord, IsRepeatableAs, IsRepeatable, IsStable, IsKept, shut_kept, keeps, IsGround}
+use Rattle.serial_replay.proofs.Calls.{IsEarly, early_is, evaluation_early, needs_early, IsSerPart, ser_part, nothing_seen, IsFirst, AnswersRecord, answers_record, answers_late, IsPlaceOf, place_is}
 
 -- ---- lists
 
@@ -139,10 +139,24 @@ seen_owned ReadCommitted st txn c k = (txn, k)
 seen_owned RepeatableRead st txn c k = (txn, k)
 seen_owned Serializable st txn c k = (txn, k)
 
+-- ---- the ranges that a call shuts: where its cursor stands, and what it passes if it looks
+
+abbrev closed_at : Option Name → List Closed
+closed_at None = []
+closed_at (Some n) = only n ∷ []
+
+abbrev closed_part : Range → Bool → List Name → Option Part → List Closed
+closed_part passed ended names None = []
+closed_part passed ended names (Some p) = closed_by passed ended names ∷ []
+
+abbrev closed_read : Range → Bool → List Name → Option Part → Option Answer → List Closed
+closed_read passed ended names part None = closed_part passed ended names part
+closed_read passed ended names part (Some answer) = []
+
 -- ---- the call
 
-module _ (st : Standing) (a : Active) (call : Call) (g : Target) (told : List AnsweredCall) (may : MayWait call) (sound : AreSound st) (ground : IsGround st told) (nowhere : g.at ≡ None) (here : database_at g.db st ≡ Some g.database)
-    (named : g.database.name ≡ database_of_call call) (free : first_blocked a.txn (needs_in st a call g) st.locks.at ≡ None) where
+module _ (st : Standing) (a : Active) (call : Call) (g : Target) (told : List AnsweredCall) (may : MayWait call) (sound : AreSound st) (ground : IsGround st told) (here : database_at g.db st ≡ Some g.database)
+    (free : first_blocked a.txn (needs_in st a call g) st.locks.at ≡ None) where
   abbrev kind : Kind
   kind = g.database.kind
 
@@ -153,22 +167,25 @@ module _ (st : Standing) (a : Active) (call : Call) (g : Target) (told : List An
   names = occupied st g
 
   abbrev look : Look
-  look = look_of g.database.kind call None
+  look = look_of g.database.kind call g.at
 
   abbrev taken : List Pair
-  taken = seen g.database.kind (look_of g.database.kind call None).way (look_of g.database.kind call None).range (view_of st a g)
+  taken = seen g.database.kind (look_of g.database.kind call g.at).way (look_of g.database.kind call g.at).range (view_of st a g)
 
-  abbrev pub comes_to : Evaluated
-  comes_to = conclude g.database.kind call None (seen g.database.kind (look_of g.database.kind call None).way (look_of g.database.kind call None).range (view_of st a g))
+  abbrev early : Option Answer
+  early = early_of g.database.kind call g.at (view_of st a g)
+
+  abbrev concluded : Evaluated
+  concluded = conclude g.database.kind call g.at (seen g.database.kind (look_of g.database.kind call g.at).way (look_of g.database.kind call g.at).range (view_of st a g))
 
   abbrev passed : Range
-  passed = passed_to g.database.kind (look_of g.database.kind call None).way (look_of g.database.kind call None).range
-      (seen g.database.kind (look_of g.database.kind call None).way (look_of g.database.kind call None).range (view_of st a g))
+  passed = passed_to g.database.kind (look_of g.database.kind call g.at).way (look_of g.database.kind call g.at).range
+      (seen g.database.kind (look_of g.database.kind call g.at).way (look_of g.database.kind call g.at).range (view_of st a g))
 
   abbrev ended : Bool
-  ended = ends (look_of g.database.kind call None).way
-      (conclude g.database.kind call None (seen g.database.kind (look_of g.database.kind call None).way (look_of g.database.kind call None).range (view_of st a g))).answered
-      (seen g.database.kind (look_of g.database.kind call None).way (look_of g.database.kind call None).range (view_of st a g))
+  ended = ends (look_of g.database.kind call g.at).way
+      (conclude g.database.kind call g.at (seen g.database.kind (look_of g.database.kind call g.at).way (look_of g.database.kind call g.at).range (view_of st a g))).answered
+      (seen g.database.kind (look_of g.database.kind call g.at).way (look_of g.database.kind call g.at).range (view_of st a g))
 
   abbrev occ : Name → Type 0
   occ x = occupied_at st g.db g.database.kind x
@@ -176,8 +193,8 @@ module _ (st : Standing) (a : Active) (call : Call) (g : Target) (told : List An
   abbrev base : Base
   base = (g.database.name, g.database.kind)
 
-  pub outcome_is : outcome_of st a call g ≡ comes_to
-  outcome_is = evaluation_is g.database.kind call g.at (view_of st a g) may nowhere
+  outcome_is : (o : Option Answer) → early ≡ o → outcome_of st a call g ≡ unless_early o g.at concluded
+  outcome_is o e = evaluation_early g.database.kind call g.at (view_of st a g) o e
 
   pub base_is : base_at g.db st ≡ Some base
   base_is = ap base_of here
@@ -227,21 +244,27 @@ module _ (st : Standing) (a : Active) (call : Call) (g : Target) (told : List An
   front = part_needs g.db (part_of a.level call) passed ended (occupied st g)
 
   abbrev back : List Need
-  back = flat_map (write_needs a.level g.db g.database.kind (view_of st a g) (occupied st g)) comes_to.changes
+  back = flat_map (write_needs a.level g.db g.database.kind (view_of st a g) (occupied st g)) concluded.changes
 
-  needs_parts : needs_in st a call g ≡ front ++ back
-  needs_parts = needs_are a.level g.db g.database.kind call g.at (view_of st a g) (occupied st g) may nowhere
-
-  free_parts : first_blocked a.txn (front ++ back) st.locks.at ≡ None
-  free_parts = subst (λ (l : List Need). first_blocked a.txn l st.locks.at ≡ None) needs_parts free
+  needs_are : (o : Option Answer) → early ≡ o → needs_in st a call g ≡ needs_unless o (front ++ back)
+  needs_are o e = needs_early a.level g.db g.database.kind call g.at (view_of st a g) (occupied st g) o e
 
   -- what holds of all needs holds of those of a change
-  of_change : (P : Need → Type 0) (c : RecordChange) → IsAmong c comes_to.changes → AllByRecursion P (front ++ back) → AllByRecursion P (write_needs a.level g.db kind view names c)
-  of_change P c k h = each_of P (write_needs a.level g.db kind view names) comes_to.changes c (all_behind P front back h) k
+  of_change : (P : Need → Type 0) (c : RecordChange) → IsAmong c (outcome_of st a call g).changes → AllByRecursion P (needs_in st a call g) → AllByRecursion P (write_needs a.level g.db kind view names c)
+  of_change P c k h = by early refl
+    where
+      by : (o : Option Answer) → early ≡ o → AllByRecursion P (write_needs a.level g.db kind view names c)
+      by None e = each_of P (write_needs a.level g.db kind view names) concluded.changes c (all_behind P front back (subst (AllByRecursion P) (needs_are None e) h))
+          (subst (λ (v : Evaluated). IsAmong c v.changes) (outcome_is None e) k)
+      by (Some answer) e = absurd (subst (λ (v : Evaluated). IsAmong c v.changes) (outcome_is (Some answer) e) k)
 
-  may_write : (c : RecordChange) → IsAmong c comes_to.changes → MayWrite st.locks.at occ names a.txn g.db (changed_name c)
+  -- and of those of what it read, if it looked
+  of_read : (P : Need → Type 0) → early ≡ None → AllByRecursion P (needs_in st a call g) → AllByRecursion P front
+  of_read P e h = all_front P front back (subst (AllByRecursion P) (needs_are None e) h)
+
+  may_write : (c : RecordChange) → IsAmong c (outcome_of st a call g).changes → MayWrite st.locks.at occ names a.txn g.db (changed_name c)
   may_write c k =
-      let h = of_change (IsFreeNeed a.txn st.locks.at) c k (free_needs a.txn (front ++ back) st.locks.at free_parts) in
+      let h = of_change (IsFreeNeed a.txn st.locks.at) c k (free_needs a.txn (needs_in st a call g) st.locks.at free) in
       record { asked = write_type a.level; writes = write_is a.level; free = h.0; comes = by (at_name kind (changed_name c) view) refl h.1 }
     where
       by : (l : List Pair) → at_name kind (changed_name c) view ≡ l → AllByRecursion (IsFreeNeed a.txn st.locks.at) (insert_needs g.db l (first_from (Behind (changed_name c)) names))
@@ -256,7 +279,7 @@ module _ (st : Standing) (a : Active) (call : Call) (g : Target) (told : List An
   other_txn t apart = ⊎_elim (λ e. absurd (apart (same_is t a.txn e))) (λ e. e) (cases_Bool (is_same_txn t a.txn))
 
   -- no change is in another transaction's range
-  out : (t : TxnId) → (t ≡ a.txn → ⊥) → (c : Closed) → IsShut st.locks.at occ t g.db c → (r : RecordChange) → IsAmong r comes_to.changes → is_inside c (changed_name r) ≡ true → ⊥
+  out : (t : TxnId) → (t ≡ a.txn → ⊥) → (c : Closed) → IsShut st.locks.at occ t g.db c → (r : RecordChange) → IsAmong r (outcome_of st a call g).changes → is_inside c (changed_name r) ≡ true → ⊥
   out t apart c shut r k h = no_phantom st.locks.at occ names listed has names_up t a.txn (other_txn t apart) g.db c shut (changed_name r) (may_write r k) h
 
   -- ---- where it leaves the environment
@@ -267,7 +290,8 @@ module _ (st : Standing) (a : Active) (call : Call) (g : Target) (told : List An
     pub numbers : new.numbers ≡ st.numbers
     pub last_db : new.last_db ≡ st.last_db
     pub last_txn : new.last_txn ≡ st.last_txn
-    pub own : (t : ℕ) → new.own t ≡ with_at a.txn.0 (st.own a.txn.0 ++ changes_at g.db comes_to.changes) st.own t
+    pub own : (t : ℕ) → new.own t ≡ with_at a.txn.0 (st.own a.txn.0 ++ changes_at g.db (outcome_of st a call g).changes) st.own t
+    pub places : (session : ℕ) → new.places session ≡ with_at a.session (moved call (outcome_of st a call g).place (st.places a.session)) st.places session
     pub locks : (r : RecordId) → new.locks.at r ≡ given_back a.level a.txn (all_got a.txn (needs_in st a call g) st.locks.at) r
 
   module _ (new : Standing) (step : IsCallOf new) where
@@ -281,30 +305,30 @@ module _ (st : Standing) (a : Active) (call : Call) (g : Target) (told : List An
     stable_call t n b used e = base_new n ∙ e
 
     pub own_other : (t : ℕ) → (t ≡ a.txn.0 → ⊥) → new.own t ≡ st.own t
-    own_other t apart = step.own t ∙ cond-false (t == a.txn.0) (st.own a.txn.0 ++ changes_at g.db comes_to.changes) (st.own t) (⊎_elim (λ e. absurd (apart (eqb-true t a.txn.0 e))) (λ e. e) (cases_Bool (t == a.txn.0)))
+    own_other t apart = step.own t ∙ cond-false (t == a.txn.0) (st.own a.txn.0 ++ changes_at g.db (outcome_of st a call g).changes) (st.own t) (⊎_elim (λ e. absurd (apart (eqb-true t a.txn.0 e))) (λ e. e) (cases_Bool (t == a.txn.0)))
 
-    pub own_its : new.own a.txn.0 ≡ st.own a.txn.0 ++ changes_at g.db comes_to.changes
-    own_its = step.own a.txn.0 ∙ cond-true (a.txn.0 == a.txn.0) (st.own a.txn.0 ++ changes_at g.db comes_to.changes) (st.own a.txn.0) (grind (arith, nat_tests))
+    pub own_its : new.own a.txn.0 ≡ st.own a.txn.0 ++ changes_at g.db (outcome_of st a call g).changes
+    own_its = step.own a.txn.0 ∙ cond-true (a.txn.0 == a.txn.0) (st.own a.txn.0 ++ changes_at g.db (outcome_of st a call g).changes) (st.own a.txn.0) (grind (arith, nat_tests))
 
     -- a name that this call wrote
     abbrev IsNewAt : ℕ → Name → Type 0
-    IsNewAt n x = (n ≡ g.db) × ((c : RecordChange) × IsAmong c comes_to.changes × (changed_name c ≡ x))
+    IsNewAt n x = (n ≡ g.db) × ((c : RecordChange) × IsAmong c (outcome_of st a call g).changes × (changed_name c ≡ x))
 
     written_now : (n : ℕ) (x : Name) → IsWritten new.own n x → IsWritten st.own n x ⊎ IsNewAt n x
     written_now n x w = ⊎_elim
-        (λ e. its (among_append (st.own a.txn.0) (changes_at g.db comes_to.changes) (n, w.change)
-        (subst (IsAmong (n, w.change)) (step.own w.txn ∙ cond-true (w.txn == a.txn.0) (st.own a.txn.0 ++ changes_at g.db comes_to.changes) (st.own w.txn) e) w.there)))
+        (λ e. its (among_append (st.own a.txn.0) (changes_at g.db (outcome_of st a call g).changes) (n, w.change)
+        (subst (IsAmong (n, w.change)) (step.own w.txn ∙ cond-true (w.txn == a.txn.0) (st.own a.txn.0 ++ changes_at g.db (outcome_of st a call g).changes) (st.own w.txn) e) w.there)))
         (λ e. inl (record {
           txn = w.txn;
           change = w.change;
           named = w.named;
-          there = subst (IsAmong (n, w.change)) (step.own w.txn ∙ cond-false (w.txn == a.txn.0) (st.own a.txn.0 ++ changes_at g.db comes_to.changes) (st.own w.txn) e) w.there;
+          there = subst (IsAmong (n, w.change)) (step.own w.txn ∙ cond-false (w.txn == a.txn.0) (st.own a.txn.0 ++ changes_at g.db (outcome_of st a call g).changes) (st.own w.txn) e) w.there;
         }))
         (cases_Bool (w.txn == a.txn.0))
       where
-        its : IsAmong (n, w.change) (st.own a.txn.0) ⊎ IsAmong (n, w.change) (changes_at g.db comes_to.changes) → IsWritten st.own n x ⊎ IsNewAt n x
+        its : IsAmong (n, w.change) (st.own a.txn.0) ⊎ IsAmong (n, w.change) (changes_at g.db (outcome_of st a call g).changes) → IsWritten st.own n x ⊎ IsNewAt n x
         its (inl k) = inl (record { txn = a.txn.0; change = w.change; there = k; named = w.named })
-        its (inr k) = let r = changes_at_is g.db comes_to.changes n w.change k in inr (r.0, (w.change, r.1, w.named))
+        its (inr k) = let r = changes_at_is g.db (outcome_of st a call g).changes n w.change k in inr (r.0, (w.change, r.1, w.named))
 
     written_still : (n : ℕ) (x : Name) → IsWritten st.own n x → IsWritten new.own n x
     written_still n x w = ⊎_elim
@@ -312,14 +336,14 @@ module _ (st : Standing) (a : Active) (call : Call) (g : Target) (told : List An
           txn = w.txn;
           change = w.change;
           named = w.named;
-          there = subst (IsAmong (n, w.change)) (sym (step.own w.txn ∙ cond-true (w.txn == a.txn.0) (st.own a.txn.0 ++ changes_at g.db comes_to.changes) (st.own w.txn) e))
-              (among_first (st.own a.txn.0) (changes_at g.db comes_to.changes) (n, w.change) (subst (λ (m : ℕ). IsAmong (n, w.change) (st.own m)) (eqb-true w.txn a.txn.0 e) w.there));
+          there = subst (IsAmong (n, w.change)) (sym (step.own w.txn ∙ cond-true (w.txn == a.txn.0) (st.own a.txn.0 ++ changes_at g.db (outcome_of st a call g).changes) (st.own w.txn) e))
+              (among_first (st.own a.txn.0) (changes_at g.db (outcome_of st a call g).changes) (n, w.change) (subst (λ (m : ℕ). IsAmong (n, w.change) (st.own m)) (eqb-true w.txn a.txn.0 e) w.there));
         })
         (λ e. record {
           txn = w.txn;
           change = w.change;
           named = w.named;
-          there = subst (IsAmong (n, w.change)) (sym (step.own w.txn ∙ cond-false (w.txn == a.txn.0) (st.own a.txn.0 ++ changes_at g.db comes_to.changes) (st.own w.txn) e)) w.there;
+          there = subst (IsAmong (n, w.change)) (sym (step.own w.txn ∙ cond-false (w.txn == a.txn.0) (st.own a.txn.0 ++ changes_at g.db (outcome_of st a call g).changes) (st.own w.txn) e)) w.there;
         })
         (cases_Bool (w.txn == a.txn.0))
 
@@ -341,7 +365,7 @@ module _ (st : Standing) (a : Active) (call : Call) (g : Target) (told : List An
     same_at n b x = ap (at_name b.1 x) (sym (pairs_new n))
 
     out_at : (t : TxnId) → (t ≡ a.txn → ⊥) → (n : ℕ) (b : Base) → n ≡ g.db → base_at n st ≡ Some b → (c : Closed) → IsShut st.locks.at (occupied_at st n b.1) t n c
-        → (r : RecordChange) → IsAmong r comes_to.changes → is_inside c (changed_name r) ≡ true → ⊥
+        → (r : RecordChange) → IsAmong r (outcome_of st a call g).changes → is_inside c (changed_name r) ≡ true → ⊥
     out_at t apart n b e is c shut r k h =
         let same : b.1 ≡ kind = ap (λ (q : Base). q.1) (some_base b base (sym is ∙ (ap (λ (m : ℕ). base_at m st) e ∙ base_is))) in
         out t apart c (subst (λ (m : ℕ). IsShut st.locks.at (occupied_at st m kind) t m c) e (subst (λ (q : Kind). IsShut st.locks.at (occupied_at st n q) t n c) same shut)) r k h
@@ -365,28 +389,28 @@ module _ (st : Standing) (a : Active) (call : Call) (g : Target) (told : List An
 
     -- ---- the transaction's own calls before this one
 
-    locks_new : keeps a.level ≡ true → (r : RecordId) → new.locks.at r ≡ all_got a.txn (front ++ back) st.locks.at r
-    locks_new k r = step.locks r ∙ (back_none a.level a.txn (all_got a.txn (needs_in st a call g) st.locks.at) r k ∙ ap (λ (l : List Need). all_got a.txn l st.locks.at r) needs_parts)
+    locks_new : keeps a.level ≡ true → (r : RecordId) → new.locks.at r ≡ all_got a.txn (needs_in st a call g) st.locks.at r
+    locks_new k r = step.locks r ∙ back_none a.level a.txn (all_got a.txn (needs_in st a call g) st.locks.at) r k
 
     -- what it needed it has
-    gets : (sort : Sort) → IsSort sort → keeps a.level ≡ true → AllByRecursion (λ m. sort m.asked ≡ true → Holds sort a.txn (new.locks.at (record_of m)).0) (front ++ back)
-    gets sort s k = all_each (λ m. sort m.asked ≡ true → Holds sort a.txn (all_got a.txn (front ++ back) st.locks.at (record_of m)).0) (λ m. sort m.asked ≡ true → Holds sort a.txn (new.locks.at (record_of m)).0)
-        (λ m h e. subst (λ (q : List Lock × List Lock). Holds sort a.txn q.0) (sym (locks_new k (record_of m))) (h e)) (front ++ back) (all_got_gets sort s a.txn (front ++ back) st.locks.at free_parts)
+    gets : (sort : Sort) → IsSort sort → keeps a.level ≡ true → AllByRecursion (λ m. sort m.asked ≡ true → Holds sort a.txn (new.locks.at (record_of m)).0) (needs_in st a call g)
+    gets sort s k = all_each (λ m. sort m.asked ≡ true → Holds sort a.txn (all_got a.txn (needs_in st a call g) st.locks.at (record_of m)).0) (λ m. sort m.asked ≡ true → Holds sort a.txn (new.locks.at (record_of m)).0)
+        (λ m h e. subst (λ (q : List Lock × List Lock). Holds sort a.txn q.0) (sym (locks_new k (record_of m))) (h e)) (needs_in st a call g) (all_got_gets sort s a.txn (needs_in st a call g) st.locks.at free)
       where
         all_each : (P Q : Need → Type 0) → ((m : Need) → P m → Q m) → (l : List Need) → AllByRecursion P l → AllByRecursion Q l
         all_each P Q f [] h = tt
         all_each P Q f (m ∷ l) h = (f m h.0, all_each P Q f l h.1)
 
     -- what it changes it then holds for writing
-    pub writes_held : AllByRecursion (λ c. HoldsWrite new.locks.at a.txn (g.db, c)) comes_to.changes
-    writes_held = all_of (λ c. HoldsWrite new.locks.at a.txn (g.db, c)) comes_to.changes (λ c i.
+    pub writes_held : AllByRecursion (λ c. HoldsWrite new.locks.at a.txn (g.db, c)) (outcome_of st a call g).changes
+    writes_held = all_of (λ c. HoldsWrite new.locks.at a.txn (g.db, c)) (outcome_of st a call g).changes (λ c i.
         let r : RecordId = place g.db (On (changed_name c)) in
-        let h = (of_change (λ m. is_write m.asked ≡ true → Holds is_write a.txn (all_got a.txn (front ++ back) st.locks.at (record_of m)).0) c i (all_got_gets is_write writes a.txn (front ++ back) st.locks.at free_parts)).0 (write_is a.level) in
+        let h = (of_change (λ m. is_write m.asked ≡ true → Holds is_write a.txn (all_got a.txn (needs_in st a call g) st.locks.at (record_of m)).0) c i
+        (all_got_gets is_write writes a.txn (needs_in st a call g) st.locks.at free)).0 (write_is a.level) in
         subst (λ (q : List Lock × List Lock). HasWrite a.txn q.0) (sym (step.locks r))
-        (write_back a.level a.txn a.txn (all_got a.txn (needs_in st a call g) st.locks.at) r
-        (subst (λ (l : List Need). HasWrite a.txn (all_got a.txn l st.locks.at r).0) (sym needs_parts) (to_write a.txn (all_got a.txn (front ++ back) st.locks.at r).0 h))))
+        (write_back a.level a.txn a.txn (all_got a.txn (needs_in st a call g) st.locks.at) r (to_write a.txn (all_got a.txn (needs_in st a call g) st.locks.at r).0 h)))
 
-    new_held : a.level ≡ Serializable → (c : RecordChange) → IsAmong c comes_to.changes → Holds is_range a.txn (new.locks.at (place g.db (On (changed_name c)))).0
+    new_held : a.level ≡ Serializable → (c : RecordChange) → IsAmong c (outcome_of st a call g).changes → Holds is_range a.txn (new.locks.at (place g.db (On (changed_name c)))).0
     new_held ser c k = (of_change (λ m. is_range m.asked ≡ true → Holds is_range a.txn (new.locks.at (record_of m)).0) c k (gets is_range ranges (keeps_ser a.level ser))).0
         (ap (λ (l : Isolation). is_range (write_type l)) ser)
 
@@ -396,7 +420,7 @@ module _ (st : Standing) (a : Active) (call : Call) (g : Target) (told : List An
 
     pub kept_own : keeps a.level ≡ true → IsKept a.txn a.level st new
     kept_own k = record {
-      locks = λ sort s r h. subst (λ (q : List Lock × List Lock). Holds sort a.txn q.0) (sym (locks_new k r)) (all_got_keeps sort s a.txn a.txn (front ++ back) st.locks.at r h);
+      locks = λ sort s r h. subst (λ (q : List Lock × List Lock). Holds sort a.txn q.0) (sym (locks_new k r)) (all_got_keeps sort s a.txn a.txn (needs_in st a call g) st.locks.at r h);
       alike = λ n b x used e. inl (same_at n b x);
       occupied = λ ser n b x used e o. by ser n b x (occupied_now n b.1 x o);
       stays = λ n b x used e h o. occupied_still n b.1 x o;
@@ -409,116 +433,206 @@ module _ (st : Standing) (a : Active) (call : Call) (g : Target) (told : List An
 
     -- ---- this call
 
-    abbrev closed_in : Option Part → Option Closed
-    closed_in None = None
-    closed_in (Some p) = Some (closed_by passed ended (occupied st g))
-
     abbrev pub said_now : Said
-    said_now = record { db = g.db; kind = g.database.kind; call = call; taken = taken; before = st.own a.txn.0; closed = closed_in (part_of a.level call) }
+    said_now = record {
+      db = g.db;
+      base = (g.database.name, g.database.kind);
+      call = call;
+      at = g.at;
+      came = outcome_of st a call g;
+      before = st.own a.txn.0;
+      closed = closed_at g.at ++ closed_read passed ended (occupied st g) (part_of a.level call) early;
+    }
 
     view_now : keeps a.level ≡ true → view_in new said_now ≡ view
     view_now k = ap₂ (λ (l : List (ℕ × RecordChange)) (ps : List Pair). all_pairs_changed kind (of_db g.db l) ps) (sym (own_seen a.level st a.txn.0 k)) (pairs_new g.db ∙ pairs_are)
 
     is_end : ended ≡ true → IsEndedBy kind view look.range passed
-    is_end e = ended_by kind look.way look.range view comes_to.answered taken refl e
+    is_end e = ended_by kind look.way look.range view concluded.answered taken refl e
 
-    there_now : base_at g.db new ≡ Some (base_of_call said_now)
-    there_now = base_new g.db ∙ (base_is ∙ ap (λ (n : List ℕ). Some (n, kind)) named)
+    there_now : base_at g.db new ≡ Some said_now.base
+    there_now = base_new g.db ∙ base_is
 
-    pub ser_now : a.level ≡ Serializable → IsSer new a.txn said_now
-    ser_now ser = by (ser_part kind call may)
-      where
-        k : keeps a.level ≡ true
-        k = keeps_ser a.level ser
+    abbrev names_now : Name → Type 0
+    names_now x = occupied_at new g.db kind x
 
-        part_is : part_of a.level call ≡ part_of Serializable call
-        part_is = ap (λ (l : Isolation). part_of l call) ser
+    -- at serializable, where the place of its cursor was shut
+    module _ (ser : a.level ≡ Serializable) (at_place : (n : Name) → g.at ≡ Some n → IsShut st.locks.at occ a.txn g.db (only n)) where
+      k : keeps a.level ≡ true
+      k = keeps_ser a.level ser
 
-        seen_now : seen kind look.way look.range (view_in new said_now) ≡ taken
-        seen_now = ap (seen kind look.way look.range) (view_now k)
+      part_is : part_of a.level call ≡ part_of Serializable call
+      part_is = ap (λ (l : Isolation). part_of l call) ser
 
-        widen : (c : Closed) → IsShut new.locks.at occ a.txn g.db c → IsShut new.locks.at (occupied_at new g.db kind) a.txn g.db c
-        widen c h = record { inside = λ x o i. ⊎_elim (λ old. h.inside x old i) (λ now. new_held_at ser g.db x now) (occupied_now g.db kind x o); top = h.top; stays = still c.top h.stays }
-          where
-            still : (top : Bound) → IsThere occ top → IsThere (occupied_at new g.db kind) top
-            still (On y) o = occupied_still g.db kind y o
-            still top o = tt
+      place_still : (n : Name) → g.at ≡ Some n → IsShut new.locks.at names_now a.txn g.db (only n)
+      place_still n e = shut_kept a.txn a.level st new stable_call (kept_own k) ground.store (subst IsStore (sym step.store) ground.store) ser g.db base (only n) base_is (at_place n e)
 
-        closes : (p : Part) → part_of a.level call ≡ Some p → said_now.closed ≡ Some (closed_by passed ended names)
-        closes p e = ap closed_in e
+      -- what it passed, if it looked and reads anything
+      shut_read : early ≡ None → (inside behind : LockType) → part_of Serializable call ≡ Some (record { inside = inside; behind = Some behind }) → is_range inside ≡ true → is_range behind ≡ true
+          → IsShut new.locks.at occ a.txn g.db (closed_by passed ended names)
+      shut_read late inside behind e r q =
+          let p : Part = record { inside = inside; behind = Some behind } in
+          shuts kind view look.range passed ended names is_end new.locks.at a.txn g.db inside behind p refl r q
+          (subst (λ (o : Option Part). AllByRecursion (λ (m : Need). is_range m.asked ≡ true → Holds is_range a.txn (new.locks.at (record_of m)).0) (part_needs g.db o passed ended names)) (part_is ∙ e)
+          (of_read (λ (m : Need). is_range m.asked ≡ true → Holds is_range a.txn (new.locks.at (record_of m)).0) late (gets is_range ranges k)))
+          occ listed has names_up view_seen
 
-        closed_is : (c d : Closed) → said_now.closed ≡ Some d → said_now.closed ≡ Some c → d ≡ c
-        closed_is c d e f = some_is d c (sym e ∙ f)
-          where
-            some_is : (x y : Closed) → Some x ≡ Some y → x ≡ y
-            some_is x y h = cc (h)
+      widen : (c : Closed) → IsShut new.locks.at occ a.txn g.db c → IsShut new.locks.at names_now a.txn g.db c
+      widen c h = record { inside = λ x o i. ⊎_elim (λ old. h.inside x old i) (λ now. new_held_at ser g.db x now) (occupied_now g.db kind x o); top = h.top; stays = still c.top h.stays }
+        where
+          still : (top : Bound) → IsThere occ top → IsThere names_now top
+          still (On y) o = occupied_still g.db kind y o
+          still top o = tt
 
-        shut_now : (inside behind : LockType) → part_of Serializable call ≡ Some (record { inside = inside; behind = Some behind }) → is_range inside ≡ true → is_range behind ≡ true
-            → IsShut new.locks.at occ a.txn g.db (closed_by passed ended names)
-        shut_now inside behind e r q =
-            let p : Part = record { inside = inside; behind = Some behind } in
-            shuts kind view look.range passed ended names is_end new.locks.at a.txn g.db inside behind p refl r q
-            (subst (λ (o : Option Part). AllByRecursion (λ (m : Need). is_range m.asked ≡ true → Holds is_range a.txn (new.locks.at (record_of m)).0) (part_needs g.db o passed ended names)) (part_is ∙ e)
-            (all_front (λ (m : Need). is_range m.asked ≡ true → Holds is_range a.txn (new.locks.at (record_of m)).0) front back (gets is_range ranges k)))
-            occ listed has names_up view_seen
+      -- ---- where it leaves its cursor
 
-        by : IsSerPart kind call (part_of Serializable call) → IsSer new a.txn said_now
-        by (inl p) =
-            let c : Closed = closed_by passed ended names in
-            let is : said_now.closed ≡ Some c = closes (record { inside = p.0; behind = Some p.1 }) (part_is ∙ p.2) in
-            let shut = shut_now p.0 p.1 p.2 p.3 p.4 in
-            record {
-              may = may;
-              covers = λ x w. (c, is, covers kind view look.range passed ended names is_end x w);
-              there = there_now;
-              used = record { its = place g.db c.top; there = refl; held = weaker is_range can_be_held range_can a.txn (new.locks.at (place g.db c.top)).0 shut.top };
-              seen_is = seen_now;
-              shut = λ d e. subst (λ (z : Closed). IsShut new.locks.at (occupied_at new g.db kind) a.txn g.db z) (closed_is d c is e) (widen c shut);
-            }
-        by (inr p) =
-            let one = p.2 taken (ap (λ (l : Look). seen kind l.way l.range view) p.1 ∙ nothing_seen kind view) in
-            let it : IsAmong one.0 comes_to.changes = subst (IsAmong one.0) (sym one.1) (inl refl) in
-            record {
-              may = may;
-              covers = λ x w. absurd (outside x (subst (λ (l : Look). is_within (passed_to kind l.way l.range taken) x ≡ true) p.1 w));
-              there = there_now;
-              used = record { its = place g.db (On (changed_name one.0)); there = refl; held = weaker is_range can_be_held range_can a.txn (new.locks.at (place g.db (On (changed_name one.0)))).0 (new_held ser one.0 it) };
-              seen_is = seen_now;
-              shut = λ d e. absurd (no_closed d (ap closed_in (part_is ∙ p.0)) e);
-            }
-          where
-            outside : (x : Name) → false ≡ true → ⊥
-            outside x h = both_ways false refl h
+      pub place_now : (n : Name) → (outcome_of st a call g).place ≡ Some n → IsShut new.locks.at names_now a.txn g.db (only n)
+      place_now n h = by early refl
+        where
+          at_first : early ≡ None → (p : Pair) → IsFirst p taken → name_of kind p ≡ n → IsSerPart kind call g.at (part_of Serializable call) → IsShut new.locks.at names_now a.txn g.db (only n)
+          at_first e p f is (inr q) =
+              let none : [] ≡ p ∷ f.0 = sym (ap (λ (l : Look). seen kind l.way l.range view) q.1 ∙ nothing_seen kind view) ∙ f.1 in absurd (cc (none))
+          at_first e p f is (inl q) =
+              let t = taken_there kind look.way look.range view p f.0 f.1 in
+              let o : occ (name_of kind p) = view_seen (name_of kind p) (record { pair = p; there = t.0; named = refl }) in
+              let w : is_within passed (name_of kind p) ≡ true = subst (λ (l : List Pair). is_within (passed_to kind look.way look.range l) (name_of kind p) ≡ true) (sym f.1) t.1 in
+              let s = shut_read e q.0 q.1 q.2 q.3 q.4 in
+              subst (λ (m : Name). IsShut new.locks.at names_now a.txn g.db (only m)) is
+              (only_shut new.locks.at names_now a.txn g.db (name_of kind p) (occupied_still g.db kind (name_of kind p) o)
+              (s.inside (name_of kind p) o (covers kind view look.range passed ended names is_end (name_of kind p) w)))
 
-            no_closed : (d : Closed) → said_now.closed ≡ None → said_now.closed ≡ Some d → ⊥
-            no_closed d e f = let h = sym e ∙ f in absurd (cc (h))
+          written : (c : RecordChange) → IsAmong c (outcome_of st a call g).changes → names_now (changed_name c)
+          written c i = inr (record {
+            txn = a.txn.0;
+            change = c;
+            named = refl;
+            there = subst (IsAmong (g.db, c)) (sym own_its)
+                (among_second (st.own a.txn.0) (changes_at g.db (outcome_of st a call g).changes) (g.db, c) (among_map (λ (x : RecordChange). (g.db, x)) (outcome_of st a call g).changes c i));
+          })
+
+          late : early ≡ None → IsPlaceOf kind g.at taken concluded.changes n → IsShut new.locks.at names_now a.txn g.db (only n)
+          late e (inl is) = place_still n is
+          late e (inr (inl q)) = at_first e q.0 q.1 q.2 (ser_part kind call g.at may)
+          late e (inr (inr q)) =
+              let i : IsAmong q.0 (outcome_of st a call g).changes = subst (λ (v : Evaluated). IsAmong q.0 v.changes) (sym (outcome_is None e)) q.1 in
+              subst (λ (m : Name). IsShut new.locks.at names_now a.txn g.db (only m)) q.2
+              (only_shut new.locks.at names_now a.txn g.db (changed_name q.0) (written q.0 i) (new_held ser q.0 i))
+
+          by : (o : Option Answer) → early ≡ o → IsShut new.locks.at names_now a.txn g.db (only n)
+          by None e = late e (place_is kind call g.at taken n may (sym (ap (λ (v : Evaluated). v.place) (outcome_is None e)) ∙ h))
+          by (Some answer) e = place_still n (sym (ap (λ (v : Evaluated). v.place) (outcome_is (Some answer) e)) ∙ h)
+
+      -- ---- what it depends on
+
+      at_covers : (o : Option Name) (r : Range) → IsAmong r (place_range o) → (x : Name) → is_within r x ≡ true → (c : Closed) × IsAmong c (closed_at o) × (is_inside c x ≡ true)
+      at_covers None r i x w = absurd i
+      at_covers (Some n) r (inl e) x w = (only n, inl refl, subst (λ (q : Range). is_within q x ≡ true) (sym e) w)
+      at_covers (Some n) r (inr i) x w = absurd i
+
+      at_shut : (o : Option Name) → g.at ≡ o → (c : Closed) → IsAmong c (closed_at o) → IsShut new.locks.at names_now a.txn g.db c
+      at_shut None e c i = absurd i
+      at_shut (Some n) e c (inl is) = subst (λ (z : Closed). IsShut new.locks.at names_now a.txn g.db z) is (place_still n e)
+      at_shut (Some n) e c (inr i) = absurd i
+
+      abbrev read : Option Answer → List Closed
+      read o = closed_read passed ended (occupied st g) (part_of a.level call) o
+
+      read_is : (p : Part) → part_of Serializable call ≡ Some p → read None ≡ closed_by passed ended names ∷ []
+      read_is p e = ap (closed_part passed ended (occupied st g)) (part_is ∙ e)
+
+      read_none : part_of Serializable call ≡ None → read None ≡ []
+      read_none e = ap (closed_part passed ended (occupied st g)) (part_is ∙ e)
+
+      read_covers : (o : Option Answer) (r : Range) → IsAmong r (look_range o passed) → (x : Name) → is_within r x ≡ true → (c : Closed) × IsAmong c (read o) × (is_inside c x ≡ true)
+      read_covers (Some answer) r i x w = absurd i
+      read_covers None r (inr i) x w = absurd i
+      read_covers None r (inl e) x w = by (ser_part kind call g.at may)
+        where
+          its : is_within passed x ≡ true
+          its = subst (λ (q : Range). is_within q x ≡ true) (sym e) w
+
+          by : IsSerPart kind call g.at (part_of Serializable call) → (c : Closed) × IsAmong c (read None) × (is_inside c x ≡ true)
+          by (inl p) = (
+            closed_by passed ended names,
+            subst (IsAmong (closed_by passed ended names)) (sym (read_is (record { inside = p.0; behind = Some p.1 }) p.2)) (inl refl),
+            covers kind view look.range passed ended names is_end x its,
+          )
+          by (inr p) = absurd (both_ways false refl (subst (λ (l : Look). is_within (passed_to kind l.way l.range taken) x ≡ true) p.1 its))
+
+      read_shut : (o : Option Answer) → early ≡ o → (c : Closed) → IsAmong c (read o) → IsShut new.locks.at names_now a.txn g.db c
+      read_shut (Some answer) e c i = absurd i
+      read_shut None e c i = by (ser_part kind call g.at may)
+        where
+          its : (p : Part) → part_of Serializable call ≡ Some p → IsAmong c (closed_by passed ended names ∷ []) → closed_by passed ended names ≡ c
+          its p f (inl is) = is
+          its p f (inr k) = absurd k
+
+          by : IsSerPart kind call g.at (part_of Serializable call) → IsShut new.locks.at names_now a.txn g.db c
+          by (inl p) =
+              let q : Part = record { inside = p.0; behind = Some p.1 } in
+              subst (λ (z : Closed). IsShut new.locks.at names_now a.txn g.db z) (its q p.2 (subst (IsAmong c) (read_is q p.2) i))
+              (widen (closed_by passed ended names) (shut_read e p.0 p.1 p.2 p.3 p.4))
+          by (inr p) = absurd (subst (IsAmong c) (read_none p.0) i)
+
+      used_at : (c : Closed) → IsShut new.locks.at names_now a.txn g.db c → IsUsedBy new a.txn g.db
+      used_at c s = record { its = place g.db c.top; there = refl; held = weaker is_range can_be_held range_can a.txn (new.locks.at (place g.db c.top)).0 s.top }
+
+      pub ser_now : is_evaluated (outcome_of st a call g).answer ≡ true → IsSer new a.txn said_now
+      ser_now evaluated = record {
+        there = there_now;
+        used = used g.at refl;
+        is = ap (evaluation kind call g.at) (view_now k);
+        covers = λ r i x w. covered r (subst (λ (v : List Pair). IsAmong r (ranges_of kind call g.at v)) (view_now k) i) x w;
+        shut = λ c i. ⊎_elim (at_shut g.at refl c) (read_shut early refl c) (among_append (closed_at g.at) (read early) c i);
+      }
+        where
+          covered : (r : Range) → IsAmong r (ranges_of kind call g.at view) → (x : Name) → is_within r x ≡ true → (c : Closed) × IsAmong c said_now.closed × (is_inside c x ≡ true)
+          covered r i x w = ⊎_elim
+              (λ j. let c = at_covers g.at r j x w in (c.0, among_first (closed_at g.at) (read early) c.0 c.1, c.2))
+              (λ j. let c = read_covers early r j x w in (c.0, among_second (closed_at g.at) (read early) c.0 c.1, c.2))
+              (among_append (place_range g.at) (look_range early passed) r i)
+
+          -- it looked, or wrote
+          looked : g.at ≡ None → early ≡ None → IsSerPart kind call g.at (part_of Serializable call) → IsUsedBy new a.txn g.db
+          looked none e (inl p) = used_at (closed_by passed ended names) (widen (closed_by passed ended names) (shut_read e p.0 p.1 p.2 p.3 p.4))
+          looked none e (inr p) =
+              let one = p.2 taken view (ap (λ (l : Look). seen kind l.way l.range view) p.1 ∙ nothing_seen kind view) none e in
+              let it : IsAmong one.0 (outcome_of st a call g).changes =
+              subst (λ (v : Evaluated). IsAmong one.0 v.changes) (sym (outcome_is None e)) (subst (IsAmong one.0) (sym one.1) (inl refl)) in
+              record { its = place g.db (On (changed_name one.0)); there = refl; held = weaker is_range can_be_held range_can a.txn (new.locks.at (place g.db (On (changed_name one.0)))).0 (new_held ser one.0 it) }
+
+          by_early : g.at ≡ None → IsEarly early g.at → IsUsedBy new a.txn g.db
+          by_early none (inl e) = looked none e (ser_part kind call g.at may)
+          by_early none (inr (inl p)) = let h = sym none ∙ p.1 in absurd (cc (h))
+          by_early none (inr (inr p)) = absurd (both_ways (is_evaluated (outcome_of st a call g).answer) (ap (λ (v : Evaluated). is_evaluated v.answer) (outcome_is (Some NoPosition) p.0)) evaluated)
+
+          used : (o : Option Name) → g.at ≡ o → IsUsedBy new a.txn g.db
+          used (Some n) e = used_at (only n) (place_still n e)
+          used None e = by_early e (early_is kind call g.at view)
 
     pub repeatable_now : a.level ≡ RepeatableRead → IsRepeatable new a.txn said_now
-    repeatable_now level = by comes_to.answer refl
+    repeatable_now level = by (outcome_of st a call g).answer refl
       where
         k : keeps a.level ≡ true
         k = keeps_repeatable a.level level
 
-        record_now : (key value : List ℕ) → comes_to.answer ≡ Rec key value → IsHeldRecord new a.txn said_now (key, value)
+        record_now : (key value : List ℕ) → (outcome_of st a call g).answer ≡ Rec key value → IsHeldRecord new a.txn said_now (key, value)
         record_now key value e = record { there = there_now; held = held; stands = ap (at_name kind (name_of kind p)) (view_now k) ∙ at_is kind view p view_up first.0 }
           where
             p : Pair
             p = (key, value)
 
-            r : AnswersRecord kind call taken (key, value)
-            r = answers_record kind call taken key value may e
+            late : early ≡ None
+            late = answers_late kind call g.at view key value e
 
-            seen_lowest : seen kind Lowest look.range view ≡ (key, value) ∷ r.rest
-            seen_lowest = ap (λ (w : _). seen kind w look.range view) (sym r.lowest) ∙ r.first
+            r : AnswersRecord call taken (key, value)
+            r = answers_record kind call g.at taken key value may (sym (ap (λ (v : Evaluated). v.answer) (outcome_is None late)) ∙ e)
 
-            first : IsAmong (key, value) view × (is_within look.range (name_of kind (key, value)) ≡ true)
-            first = lowest_there kind look.range view (key, value) r.rest seen_lowest
-
-            passed_is : passed ≡ passed_to kind Lowest look.range ((key, value) ∷ r.rest)
-            passed_is = ap₂ (λ (w : _) (l : List Pair). passed_to kind w look.range l) r.lowest r.first
+            first : IsAmong (key, value) view × (is_within (passed_to kind look.way look.range ((key, value) ∷ r.first.0)) (name_of kind (key, value)) ≡ true)
+            first = taken_there kind look.way look.range view (key, value) r.first.0 r.first.1
 
             within : is_within passed (name_of kind (key, value)) ≡ true
-            within = subst (λ (q : Range). is_within q (name_of kind (key, value)) ≡ true) (sym passed_is) (within_behind look.range (name_of kind (key, value)) (name_of kind (key, value)) first.1 (inl refl))
+            within = subst (λ (l : List Pair). is_within (passed_to kind look.way look.range l) (name_of kind (key, value)) ≡ true) (sym r.first.1) first.1
 
             among : IsAmong (name_of kind (key, value)) names
             among = has (name_of kind (key, value)) (view_seen (name_of kind (key, value)) (record { pair = (key, value); there = first.0; named = refl }))
@@ -529,11 +643,11 @@ module _ (st : Standing) (a : Active) (call : Call) (g : Target) (told : List An
             held : Holds can_be_held a.txn (new.locks.at (place g.db (On (name_of kind (key, value))))).0
             held = all_at (λ (m : Need). can_be_held m.asked ≡ true → Holds can_be_held a.txn (new.locks.at (record_of m)).0) (part_needs g.db (Some part) passed ended names) (need g.db (On (name_of kind (key, value))) r.inside)
                 (subst (λ (o : Option Part). AllByRecursion (λ (m : Need). can_be_held m.asked ≡ true → Holds can_be_held a.txn (new.locks.at (record_of m)).0) (part_needs g.db o passed ended names)) (ap (λ (l : Isolation). part_of l call) level ∙ r.part)
-                (all_front (λ (m : Need). can_be_held m.asked ≡ true → Holds can_be_held a.txn (new.locks.at (record_of m)).0) front back (gets can_be_held any_lock k)))
+                (of_read (λ (m : Need). can_be_held m.asked ≡ true → Holds can_be_held a.txn (new.locks.at (record_of m)).0) late (gets can_be_held any_lock k)))
                 (among_first (map (λ m. need g.db (On m) r.inside) (filter (is_within passed) names)) [] (need g.db (On (name_of kind (key, value))) r.inside)
                 (among_map (λ (m : Name). need g.db (On m) r.inside) (filter (is_within passed) names) (name_of kind (key, value)) (among_filter (is_within passed) names (name_of kind (key, value)) among within)))
                 r.can
 
-        by : (answer : Answer) → comes_to.answer ≡ answer → IsRepeatableAs new a.txn said_now answer
+        by : (answer : Answer) → (outcome_of st a call g).answer ≡ answer → IsRepeatableAs new a.txn said_now answer
         by (Rec key value) e = record_now key value e
         by answer e = tt

@@ -15,7 +15,7 @@ use Rattle.store_model.specs.declared.store.Database.{Database}
 use Rattle.store_model.specs.declared.change.Change.TheVariants.{Make, Remove, Rename, Empty}
 use Rattle.store_model.specs.Store.{IsStore, database_of, with_pairs, with_name, databases_with, databases_without, databases_renamed, changed}
 use Rattle.store_model.specs.Reads.{at_name}
-use Rattle.je_answers.specs.Standing.{Standing, database_at, with_number, numbered}
+use Rattle.je_answers.specs.Standing.{Standing, place_at, database_at, with_number, numbered}
 use Rattle.je_answers.specs.Locking.{IsUnused}
 use Rattle.standing_laws.specs.Right.{AreSound}
 use Rattle.standing_laws.proofs.Among.{IsAmong, among_map, mapped_among, among_append, among_first, among_second, among_filter, filter_among, any_from, find_some, found_is}
@@ -33,6 +33,7 @@ pub record IsCatalogStep (st new : Standing) : Type 0 where
   pub last_txn : st.last_txn ≤ new.last_txn
   pub actives : new.actives ≡ st.actives
   pub own : (t : ℕ) → new.own t ≡ st.own t
+  pub places : (session : ℕ) → new.places session ≡ st.places session
   pub locks : (r : RecordId) → new.locks.at r ≡ st.locks.at r
   pub same : (t : TxnId) (n : ℕ) (d : Database) → IsUsedBy st t n → database_at n st ≡ Some d → database_at n new ≡ Some d
 
@@ -71,7 +72,7 @@ module _ (st new : Standing) (told : List AnsweredCall) (sound : AreSound st) (s
       fits = λ t. subst (AllByRecursion (IsFit new)) (sym (step.own t)) (fits_kept st new t sound (known.ground.fits t) stable);
       last = all_each (λ (c : AnsweredCall). c.txn.0 ≤ st.last_txn) (λ c. c.txn.0 ≤ new.last_txn) (λ c h. let k = step.last_txn in omega (arith, h, k)) told known.ground.last;
     };
-    each = λ b k keep. keeps_kept b.txn b.level st new told told stable known.ground.store step.store (kept b.txn b.level)
+    each = λ b k keep. keeps_kept b.txn b.level b.session b.is_auto st new told told stable known.ground.store step.store (kept b.txn b.level) (λ own_call cursor. ap (place_at cursor) (step.places b.session))
         (λ c i. own_same st new b.txn sound (known.ground.fits b.txn.0) stable c i) (step.own b.txn.0) refl (known.each b (subst (IsAmong b) step.actives k) keep);
   }
 

@@ -10,7 +10,7 @@ use Rattle.waits_for.specs.Cycles.{is_in}
 use Rattle.lock_table.specs.Locks.{lock_of}
 use Rattle.lock_mgr.specs.Deadlock.{HasNoCycle, AreVictims}
 use Rattle.store_model.specs.declared.call.Call.{Call}
-use Rattle.store_model.specs.declared.call.Call.TheVariants.{Begin, Commit, Abort, List as Lists, Create, Remove, Rename, Truncate, Get, GetBoth, Put, Delete, Open, Close, Dup}
+use Rattle.store_model.specs.declared.call.Call.TheVariants.{Begin, Commit, Abort, List as Lists, Create, Remove, Rename, Truncate, Get, GetBoth, Put, Delete, Open, Close, Dup, Count, Cur, CPutCur, CDel, CPut}
 use Rattle.store_model.specs.declared.change.Change.{Change}
 use Rattle.store_model.specs.declared.record_change.RecordChange.{RecordChange}
 use Rattle.store_model.specs.declared.need.Need.{Need}
@@ -35,13 +35,12 @@ use Rattle.je_answers.specs.After.{Fate, fate_of, drawn_by, committed_if_any, en
 use Rattle.je_answers.specs.After.Fate.{Succeeds, IsRefused, Faults}
 use Rattle.je_answers.specs.Alone.{alone}
 use Rattle.standing_laws.specs.Right.{AreRight, IsSoundAt, IsWaitIn, MayWait, is_active}
-use Rattle.standing_laws.specs.Laws.{IsPlainCall, IsPlainEvent}
-use Rattle.standing_laws.proofs.Among.{any_from, all_at, found_is}
+use Rattle.standing_laws.proofs.Among.{any_from, found_is}
 use Rattle.standing_laws.proofs.Steps.{state, sound_all_got, granted_free, stopped_behind, sound_back, waits_nowhere}
 use Rattle.standing_laws.proofs.Moves.{begun_found, drawn_untold}
 use Rattle.standing_laws.proofs.Victims.{txns, victims_in, all_wait}
 use Rattle.standing_laws.proofs.Gone.{same_gone}
-use Rattle.standing_laws.proofs.StandingsStay.{MayRun, there_is, may_run, early_parts, has_number, late_number, next_is, begun_is-right, resumed_is-right, plain, standings_stay-right}
+use Rattle.standing_laws.proofs.StandingsStay.{MayRun, there_is, may_run, early_parts, has_number, late_number, next_is, begun_is-right, resumed_is-right, standings_stay-right}
 use Rattle.standing_laws.proofs.AloneRight.{alone-is_right}
 use Rattle.serial_replay.specs.Cycles.{waits_at, NeverWaitInCycle}
 use Rattle.serial_replay.specs.Laws.{CyclesNeverStand}
@@ -173,34 +172,38 @@ opened_free : (o : Option Place) (to session : ℕ) (st : Standing) → IsFree s
 opened_free None to session st free = free
 opened_free (Some p) to session st free = free
 
-performed_free : (call : Call) (limit : Option Answer) (st : Standing) (session line : ℕ) (answer : Answer) (vs : List Victim) → IsPlainCall call → AreRight st → IsFree st → waits_refusal st (active_of session st.actives) ≡ None
+performed_free : (call : Call) (limit : Option Answer) (st : Standing) (session line : ℕ) (answer : Answer) (vs : List Victim) → AreRight st → IsFree st → waits_refusal st (active_of session st.actives) ≡ None
     → number_refusal st.last_txn (active_of session st.actives) ≡ None → IsPerformed call limit st session line answer vs → IsFree (after_performed call st session line answer vs)
-performed_free (Begin level durability wait) limit st session line answer vs p r free untold number is = free
-performed_free Commit limit st session line answer vs p r free untold number is = ending_free (active_of session st.actives) st answer (queues_of st.locks r.sound.tables) free
-performed_free Abort limit st session line answer vs p r free untold number is = if_any_free (active_of session st.actives) st (queues_of st.locks r.sound.tables) free
-performed_free Lists limit st session line answer vs p r free untold number is = same_free st (drawn_by (active_of session st.actives) st) (drawn_locks (active_of session st.actives) st) free
-performed_free (Create db kind) limit st session line answer vs p r free untold number is = catalog_free (fate_of answer) (evaluation (Create db kind) st.store).changes (active_of session st.actives) st free
-performed_free (Remove db) limit st session line answer vs p r free untold number is = catalog_free (fate_of answer) (evaluation (Remove db) st.store).changes (active_of session st.actives) st free
-performed_free (Rename db to) limit st session line answer vs p r free untold number is = catalog_free (fate_of answer) (evaluation (Rename db to) st.store).changes (active_of session st.actives) st free
-performed_free (Truncate db) limit st session line answer vs p r free untold number is = catalog_free (fate_of answer) (evaluation (Truncate db) st.store).changes (active_of session st.actives) st free
-performed_free (Get db key rmw) limit st session line answer vs p r free untold number is = run_free (active_of session st.actives) limit st session line (Get db key rmw) answer vs tt r free refl untold number is
-performed_free (GetBoth db key value rmw) limit st session line answer vs p r free untold number is = run_free (active_of session st.actives) limit st session line (GetBoth db key value rmw) answer vs tt r free refl untold number is
-performed_free (Put db key value mode) limit st session line answer vs p r free untold number is = run_free (active_of session st.actives) limit st session line (Put db key value mode) answer vs tt r free refl untold number is
-performed_free (Delete db key) limit st session line answer vs p r free untold number is = run_free (active_of session st.actives) limit st session line (Delete db key) answer vs tt r free refl untold number is
-performed_free (Open cursor db) limit st session line answer vs p r free untold number is = free
-performed_free (Close cursor) limit st session line answer vs p r free untold number is = free
-performed_free (Dup cursor to) limit st session line answer vs p r free untold number is = opened_free (place_at cursor (st.places session)) to session st free
-performed_free call limit st session line answer vs p r free untold number is = absurd p
+performed_free (Begin level durability wait) limit st session line answer vs r free untold number is = free
+performed_free Commit limit st session line answer vs r free untold number is = ending_free (active_of session st.actives) st answer (queues_of st.locks r.sound.tables) free
+performed_free Abort limit st session line answer vs r free untold number is = if_any_free (active_of session st.actives) st (queues_of st.locks r.sound.tables) free
+performed_free Lists limit st session line answer vs r free untold number is = same_free st (drawn_by (active_of session st.actives) st) (drawn_locks (active_of session st.actives) st) free
+performed_free (Create db kind) limit st session line answer vs r free untold number is = catalog_free (fate_of answer) (evaluation (Create db kind) st.store).changes (active_of session st.actives) st free
+performed_free (Remove db) limit st session line answer vs r free untold number is = catalog_free (fate_of answer) (evaluation (Remove db) st.store).changes (active_of session st.actives) st free
+performed_free (Rename db to) limit st session line answer vs r free untold number is = catalog_free (fate_of answer) (evaluation (Rename db to) st.store).changes (active_of session st.actives) st free
+performed_free (Truncate db) limit st session line answer vs r free untold number is = catalog_free (fate_of answer) (evaluation (Truncate db) st.store).changes (active_of session st.actives) st free
+performed_free (Get db key rmw) limit st session line answer vs r free untold number is = run_free (active_of session st.actives) limit st session line (Get db key rmw) answer vs tt r free refl untold number is
+performed_free (GetBoth db key value rmw) limit st session line answer vs r free untold number is = run_free (active_of session st.actives) limit st session line (GetBoth db key value rmw) answer vs tt r free refl untold number is
+performed_free (Put db key value mode) limit st session line answer vs r free untold number is = run_free (active_of session st.actives) limit st session line (Put db key value mode) answer vs tt r free refl untold number is
+performed_free (Delete db key) limit st session line answer vs r free untold number is = run_free (active_of session st.actives) limit st session line (Delete db key) answer vs tt r free refl untold number is
+performed_free (Open cursor db) limit st session line answer vs r free untold number is = free
+performed_free (Close cursor) limit st session line answer vs r free untold number is = free
+performed_free (Dup cursor to) limit st session line answer vs r free untold number is = opened_free (place_at cursor (st.places session)) to session st free
+performed_free (Count cursor) limit st session line answer vs r free untold number is = run_free (active_of session st.actives) limit st session line (Count cursor) answer vs tt r free refl untold number is
+performed_free (Cur cursor motion rmw) limit st session line answer vs r free untold number is = run_free (active_of session st.actives) limit st session line (Cur cursor motion rmw) answer vs tt r free refl untold number is
+performed_free (CPutCur cursor value) limit st session line answer vs r free untold number is = run_free (active_of session st.actives) limit st session line (CPutCur cursor value) answer vs tt r free refl untold number is
+performed_free (CDel cursor) limit st session line answer vs r free untold number is = run_free (active_of session st.actives) limit st session line (CDel cursor) answer vs tt r free refl untold number is
+performed_free (CPut cursor key value mode) limit st session line answer vs r free untold number is = run_free (active_of session st.actives) limit st session line (CPut cursor key value mode) answer vs tt r free refl untold number is
 
-evaluated_free : (o : Option Answer) (limit : Option Answer) (st : Standing) (session line : ℕ) (call : Call) (answer : Answer) (vs : List Victim) → IsPlainCall call → AreRight st → IsFree st → early_refusal st session call ≡ None
+evaluated_free : (o : Option Answer) (limit : Option Answer) (st : Standing) (session line : ℕ) (call : Call) (answer : Answer) (vs : List Victim) → AreRight st → IsFree st → early_refusal st session call ≡ None
     → late_refusal st session call ≡ o → IsEvaluated o limit st session line call answer vs → IsFree (after_evaluated o st session line call answer vs)
-evaluated_free (Some refusal) limit st session line call answer vs p r free early late is = same_free st (drawn_by (active_of session st.actives) st) (drawn_locks (active_of session st.actives) st) free
-evaluated_free None limit st session line call answer vs p r free early late is = let e = early_parts st session call early in performed_free call limit st session line answer vs p r free e.0 (late_number st session call late) is
+evaluated_free (Some refusal) limit st session line call answer vs r free early late is = same_free st (drawn_by (active_of session st.actives) st) (drawn_locks (active_of session st.actives) st) free
+evaluated_free None limit st session line call answer vs r free early late is = let e = early_parts st session call early in performed_free call limit st session line answer vs r free e.0 (late_number st session call late) is
 
-call_free : (o : Option Answer) (limit : Option Answer) (st : Standing) (session line : ℕ) (call : Call) (answer : Answer) (vs : List Victim) → IsPlainCall call → AreRight st → IsFree st → early_refusal st session call ≡ o
+call_free : (o : Option Answer) (limit : Option Answer) (st : Standing) (session line : ℕ) (call : Call) (answer : Answer) (vs : List Victim) → AreRight st → IsFree st → early_refusal st session call ≡ o
     → IsCallAnswered o limit st session line call answer vs → IsFree (after_call o st session line call answer vs)
-call_free (Some refusal) limit st session line call answer vs p r free early is = free
-call_free None limit st session line call answer vs p r free early is = evaluated_free (late_refusal st session call) limit st session line call answer vs p r free early refl is
+call_free (Some refusal) limit st session line call answer vs r free early is = free
+call_free None limit st session line call answer vs r free early is = evaluated_free (late_refusal st session call) limit st session line call answer vs r free early refl is
 
 -- ---- the other events
 
@@ -210,7 +213,7 @@ resumed_free None limit st session line answer vs fault r free its is = free
 resumed_free (Some w) limit st session line answer vs fault r free its is =
     let f = found_is (λ (v : Wait). v.session == session) st.waiting w its in
     let same : w.session ≡ session = eqb-true w.session session f.1 in
-    call_free (early_refusal (resumed st w) session w.call) limit (resumed st w) session line w.call answer vs (plain w.call (all_at (λ (v : Wait). MayWait v.call) st.waiting w r.calls f.0))
+    call_free (early_refusal (resumed st w) session w.call) limit (resumed st w) session line w.call answer vs
     (resumed_is-right st w r (ap (λ (n : ℕ). wait_of n st.waiting) same ∙ its) (subst (λ (x : Option Fault). IsReady x st w.txn) fault is.1))
     (forgotten_free w.txn st.locks free) refl is.2
 
@@ -231,14 +234,14 @@ turn_free Finish answer st free = if_free answer st free
 turn_free Flush answer st free = if_free answer st free
 turn_free SyncStep answer st free = if_free answer st free
 
-event_free : (limit : Option Answer) (st : Standing) (event : Event) → st.fault ≡ None → AreRight st → IsFree st → IsAnswered limit st event → IsPlainEvent event → IsFree (after_event st event)
-event_free limit st (Called session line call answer victims) fault r free is p = call_free (early_refusal st session call) limit st session line call answer victims p r free refl is
-event_free limit st (Resume session line answer victims) fault r free is p = resumed_free (wait_of session st.waiting) limit st session line answer victims fault r free refl is
-event_free limit st (End session) fault r free is p = if_any_free (active_of session st.actives) (record st { waiting = without_wait session st.waiting }) (queues_of st.locks r.sound.tables) free
-event_free limit st (WriteOut answer) fault r free is p = if_free answer st free
-event_free limit st (SyncBegin answer) fault r free is p = sync_free answer st free
-event_free limit st (SyncEnd answer) fault r free is p = if_free answer (record st { begun = None }) free
-event_free limit st (Turn line step answer) fault r free is p = turn_free step answer st free
+event_free : (limit : Option Answer) (st : Standing) (event : Event) → st.fault ≡ None → AreRight st → IsFree st → IsAnswered limit st event → IsFree (after_event st event)
+event_free limit st (Called session line call answer victims) fault r free is = call_free (early_refusal st session call) limit st session line call answer victims r free refl is
+event_free limit st (Resume session line answer victims) fault r free is = resumed_free (wait_of session st.waiting) limit st session line answer victims fault r free refl is
+event_free limit st (End session) fault r free is = if_any_free (active_of session st.actives) (record st { waiting = without_wait session st.waiting }) (queues_of st.locks r.sound.tables) free
+event_free limit st (WriteOut answer) fault r free is = if_free answer st free
+event_free limit st (SyncBegin answer) fault r free is = sync_free answer st free
+event_free limit st (SyncEnd answer) fault r free is = if_free answer (record st { begun = None }) free
+event_free limit st (Turn line step answer) fault r free is = turn_free step answer st free
 
 -- ---- after a fault calls are refused, and only sessions end
 
@@ -291,21 +294,21 @@ free_now : (st : Standing) → Carries st → HasNoCycle (waits_at st)
 free_now st (inl c) = c.2
 free_now st (inr c) = c.1.1
 
-carried : (limit : Option Answer) (st : Standing) (event : Event) → Carries st → IsAnswered limit st event → IsPlainEvent event → Carries (after_event st event)
-carried limit st event (inl c) is p = by (after_event st event).fault refl
+carried : (limit : Option Answer) (st : Standing) (event : Event) → Carries st → IsAnswered limit st event → Carries (after_event st event)
+carried limit st event (inl c) is = by (after_event st event).fault refl
   where
     right : AreRight (after_event st event)
-    right = standings_stay-right limit st event c.0 c.1 is p
+    right = standings_stay-right limit st event c.0 c.1 is
 
     by : (o : Option Fault) → (after_event st event).fault ≡ o → Carries (after_event st event)
-    by None e = inl (e, right, event_free limit st event c.0 c.1 c.2 is p)
-    by (Some first) e = inr ((first, e), (queues_of (after_event st event).locks right.sound.tables, event_free limit st event c.0 c.1 c.2 is p))
-carried limit st event (inr c) is p = inr (fault_stays st event c.0, rest_event st event c.0 c.1)
+    by None e = inl (e, right, event_free limit st event c.0 c.1 c.2 is)
+    by (Some first) e = inr ((first, e), (queues_of (after_event st event).locks right.sound.tables, event_free limit st event c.0 c.1 c.2 is))
+carried limit st event (inr c) is = inr (fault_stays st event c.0, rest_event st event c.0 c.1)
 
-never : (limits : List (Option Answer)) (journal : List Event) (st : Standing) → Carries st → AnswersAsModel st limits journal → AllByRecursion IsPlainEvent journal → NeverWaitInCycle st journal
-never limits [] st c is p = free_now st c
-never [] (event ∷ journal) st c is p = absurd is
-never (limit ∷ limits) (event ∷ journal) st c is p = (free_now st c, never limits journal (after_event st event) (carried limit st event c is.0 p.0) is.1 p.1)
+never : (limits : List (Option Answer)) (journal : List Event) (st : Standing) → Carries st → AnswersAsModel st limits journal → NeverWaitInCycle st journal
+never limits [] st c is = free_now st c
+never [] (event ∷ journal) st c is = absurd is
+never (limit ∷ limits) (event ∷ journal) st c is = (free_now st c, never limits journal (after_event st event) (carried limit st event c is.0) is.1)
 
 -- nobody waits at the beginning
 nothing : HasNoCycle (λ (x y : TxnId). false)
@@ -314,7 +317,7 @@ nothing (x ∷ []) = refl
 nothing (x ∷ (y ∷ ys)) = refl
 
 pub cycles_never-stand : CyclesNeverStand
-cycles_never-stand p limits journal is plain_ = never limits journal (alone p) (first p.fault refl) is plain_
+cycles_never-stand p limits journal is = never limits journal (alone p) (first p.fault refl) is
   where
     first : (o : Option Fault) → p.fault ≡ o → Carries (alone p)
     first None e = inl (e, alone-is_right p, nothing)

@@ -23,7 +23,7 @@ use Rattle.store_model.specs.Reads.{at_name}
 use Rattle.store_model.specs.Refusals.{made_by}
 use Rattle.store_model.specs.Needs.{changed_name}
 use Rattle.je_answers.specs.declared.active.Active.{Active}
-use Rattle.je_answers.specs.Standing.{Standing, with_at, all_numbered}
+use Rattle.je_answers.specs.Standing.{Standing, place_at, with_at, all_numbered}
 use Rattle.je_answers.specs.Views.{of_db, changes_in, changes_named}
 use Rattle.je_answers.specs.After.{committed_if_any, ended, without_session}
 use Rattle.standing_laws.specs.Right.{AreSound, HoldsWrite, HasWrite, txn_id}
@@ -92,6 +92,7 @@ pub record IsEndOf (st : Standing) (a : Active) (cs : List (ℕ × RecordChange)
   pub last_txn : new.last_txn ≡ st.last_txn
   pub actives : new.actives ≡ without_session a.session st.actives
   pub own : (t : ℕ) → new.own t ≡ with_at a.txn.0 [] st.own t
+  pub places : (session : ℕ) → new.places session ≡ with_at a.session [] st.places session
   pub locks : (r : RecordId) → new.locks.at r ≡ after_release a.txn (st.locks.at r)
 
 end_by : (st : Standing) (a : Active) (cs : List (ℕ × RecordChange)) (changes : List Change) → changes ≡ changes_named st cs → AllByRecursion IsOfRecords changes → IsEndOf st a cs (ended a (committed_if_any changes st))
@@ -102,6 +103,7 @@ end_by st a cs [] e h = record {
   last_txn = refl;
   actives = refl;
   own = λ t. refl;
+  places = λ session. refl;
   locks = λ r. refl;
 }
 end_by st a cs (c ∷ changes) e h = record {
@@ -111,6 +113,7 @@ end_by st a cs (c ∷ changes) e h = record {
   last_txn = refl;
   actives = refl;
   own = λ t. refl;
+  places = λ session. refl;
   locks = λ r. refl;
 }
   where
@@ -228,7 +231,8 @@ module _ (st : Standing) (a : Active) (cs : List (ℕ × RecordChange)) (new : S
   known_end each = record {
     ground = ground_end;
     each = λ b k keep. let f = filter_among (λ (c : Active). not (c.session == a.session)) st.actives b (subst (IsAmong b) end.actives k) in
-        keeps_kept b.txn b.level st new told told stable_end ground.store right_end (kept_end b.txn b.level (apart b f.0 f.1)) (λ c i. own_same st new b.txn sound (ground.fits b.txn.0) stable_end c i)
+        keeps_kept b.txn b.level b.session b.is_auto st new told told stable_end ground.store right_end (kept_end b.txn b.level (apart b f.0 f.1))
+        (λ own_call cursor. ap (place_at cursor) (end.places b.session ∙ cond-false (b.session == a.session) [] (st.places b.session) (not_true (b.session == a.session) f.1))) (λ c i. own_same st new b.txn sound (ground.fits b.txn.0) stable_end c i)
         (own_others b.txn.0 (λ e. apart b f.0 f.1 (ap (λ (m : ℕ). txn_id m) e))) refl (each b f.0 (apart b f.0 f.1) keep);
   }
     where

@@ -1,45 +1,46 @@
 -- Each step of an event keeps what holds of the calls: a call on records.
-use Rattle.std.proofs.Common.{◌≡◌, inl, inr, ℕ, ◌==◌, Bool, true, false, List, [], ◌∷◌, ◌++◌, find, Option, None, Some, refl, ap, sym, ◌∙◌, subst, ⊎_elim, arith}
+use Rattle.std.proofs.Common.{◌≡◌, ◌⊎◌, inl, inr, ℕ, ◌==◌, Bool, true, false, List, [], ◌∷◌, ◌++◌, find, Option, None, Some, refl, ap, sym, ◌∙◌, subst, ⊎_elim, arith, append-nil}
 use Rattle.std.specs.List.{AllByRecursion}
 use Rattle.std.specs.Option.{option_map}
-use Rattle.std.proofs.lemmas.Bool.{eqb-true, cases_Bool, cond-false}
+use Rattle.std.proofs.lemmas.Bool.{eqb-true, cases_Bool, cond-true, cond-false}
 use Rattle.je_order.specs.Transactions.{is_same_txn}
 use Rattle.je_order.proofs.TxnIds.{same_itself}
 use Rattle.lock_table.specs.declared.record_id.RecordId.{RecordId}
 use Rattle.store_model.specs.declared.call.Call.{Call}
-use Rattle.store_model.specs.declared.call.Call.TheVariants.{Get, GetBoth, Put, Delete}
+use Rattle.store_model.specs.declared.call.Call.TheVariants.{Get, GetBoth, Put, Delete, Count, Cur, CPutCur, CDel, CPut}
 use Rattle.store_model.specs.declared.store.Database.{Database}
 use Rattle.store_model.specs.declared.change.Change.{Change}
 use Rattle.store_model.specs.declared.record_change.RecordChange.{RecordChange}
 use Rattle.store_model.specs.declared.need.Need.{Need}
 use Rattle.store_model.specs.declared.victim.Victim.{Victim}
 use Rattle.store_model.specs.declared.answer.Answer.{Answer}
-use Rattle.je_order.specs.Order.{is_same_bytes}
+use Rattle.je_order.specs.declared.name.Name.{Name}
+use Rattle.store_model.specs.declared.place.Place.{Place}
 use Rattle.store_model.specs.Store.{database_of, change_in}
 use Rattle.store_model.specs.Records.{Evaluated}
 use Rattle.je_answers.specs.declared.active.Active.{Active}
-use Rattle.je_answers.specs.Standing.{active_of, Standing, database_at, with_at}
-use Rattle.je_answers.specs.Views.{Target, target, named_target, target_of, changes_at, changes_on, changes_in, changes_named, needs_in, outcome_of}
+use Rattle.je_answers.specs.Standing.{active_of, Standing, place_at, database_at}
+use Rattle.je_answers.specs.Views.{Target, target, named_target, target_at, cursor_target, target_of, view_of, changes_at, changes_on, changes_in, changes_named, needs_in, outcome_of}
 use Rattle.je_answers.specs.Locking.{Queues, all_got, granted_part, first_blocked, given_back}
 use Rattle.je_answers.specs.Events.{locks_before}
 use Rattle.je_answers.specs.After.{faulted, ended, committed_if_any, moved, with_locks, answered, with_outcome, closed, marked_by, without_waits_of, with_waiting, txns_of, after_stop}
 use Rattle.standing_laws.specs.Right.{AreSound, MayWait, HoldsWrite, is_active}
-use Rattle.standing_laws.proofs.Among.{IsAmong, any_from, mapped_among, found_is}
+use Rattle.standing_laws.proofs.Among.{IsAmong, any_from, mapped_among}
 use Rattle.standing_laws.proofs.Steps.{state, sound_all_got, sound_back}
 use Rattle.standing_laws.proofs.Moves.{sound_own}
-use Rattle.standing_laws.proofs.Marks.{same_txn}
 use Rattle.standing_laws.proofs.Stays.{same_active}
 use Rattle.standing_laws.proofs.StandingsStay.{MayRun, there_is}
-use Rattle.serial_replay.specs.Replay.{AnsweredCall, database_of_call, is_evaluated, with_told}
+use Rattle.serial_replay.specs.Replay.{AnsweredCall, is_evaluated, name_on, with_told, cursor_of}
 use Rattle.serial_replay.proofs.Holding.{all_got_keeps, wait_keeps}
-use Rattle.serial_replay.proofs.Stores.{by_number, bytes_exact}
-use Rattle.serial_replay.proofs.Keeping.{keeps, IsGround, IsKnown}
+use Rattle.serial_replay.proofs.Stores.{by_number}
+use Rattle.serial_replay.proofs.Places.{moved_at, moved_is, IsAtCursor, IsTargetOf, stays_lost}
+use Rattle.serial_replay.proofs.Keeping.{KeepsPlaces, keeps, IsGround, IsKnown}
+use Rattle.serial_replay.proofs.Calls.{IsLost}
 use Rattle.serial_replay.proofs.Ending.{end_is, end_named, known_end}
-use Rattle.serial_replay.proofs.Calling.{comes_to, outcome_is, IsCallOf, own_its, writes_held}
+use Rattle.serial_replay.proofs.Calling.{IsCallOf, own_its, writes_held}
 use Rattle.serial_replay.proofs.Told.{ground_call, others_call, known_call}
-use Rattle.serial_replay.proofs.Quiet.{IsQuiet, known_quiet, same_locks, locks_with}
+use Rattle.serial_replay.proofs.Quiet.{IsQuiet, KeepsLocks, IsSameOne, as_before, known_quiet, same_locks, same_places, locks_with}
 use Rattle.serial_replay.proofs.Victims.{victims_keep}
-use Rattle.serial_replay.proofs.Replies.{comes_evaluated}
 
 -- ---- nothing more is told
 
@@ -47,38 +48,51 @@ pub as_told : (st new : Standing) (o : Option AnsweredCall) (told : List Answere
 as_told st new o told e known = subst (λ (x : Option AnsweredCall). IsKnown new (with_told x told)) (sym e) known
 
 -- nothing but the marks of syncs, checkpoints and faults changes
-pub same_known : (st new : Standing) (told : List AnsweredCall) → AreSound st → IsQuiet st new → ((r : RecordId) → new.locks.at r ≡ st.locks.at r) → new.actives ≡ st.actives → IsKnown st told → IsKnown new told
-same_known st new told sound quiet locks actives known = known_quiet st new told sound quiet known (λ b k keep. inl (b, subst (IsAmong b) actives k, refl, refl, same_locks b.txn st new locks))
+pub same_known : (st new : Standing) (told : List AnsweredCall) → AreSound st → IsQuiet st new → ((r : RecordId) → new.locks.at r ≡ st.locks.at r) → ((session : ℕ) → new.places session ≡ st.places session) → new.actives ≡ st.actives
+    → IsKnown st told → IsKnown new told
+same_known st new told sound quiet locks places actives known = known_quiet st new told sound quiet known
+    (λ b k keep. inl (as_before st new b (subst (IsAmong b) actives k) (same_locks b.txn st new locks) (λ own. same_places b.session st new (places b.session))))
 
 pub faulted_known : (st : Standing) (told : List AnsweredCall) → AreSound st → IsKnown st told → IsKnown (faulted st) told
-faulted_known st told sound known = same_known st (faulted st) told sound (record { store = refl; numbers = refl; last_db = refl; last_txn = (omega arith); own = λ t. refl }) (λ r. refl) refl known
+faulted_known st told sound known = same_known st (faulted st) told sound (record { store = refl; numbers = refl; last_db = refl; last_txn = (omega arith); own = λ t. refl }) (λ r. refl) (λ session. refl) refl known
 
 -- ---- the database that a call is on
 
-pub record IsTargetOf (st : Standing) (call : Call) (g : Target) : Type 0 where
-  pub nowhere : g.at ≡ None
-  pub here : database_at g.db st ≡ Some g.database
-  pub named : g.database.name ≡ database_of_call call
+some_target : (x y : Target) → Some x ≡ Some y → x ≡ y
+some_target x y h = cc (h)
 
-named_facts : (st : Standing) (told : List AnsweredCall) (db : List ℕ) (g : Target) (call : Call) → IsGround st told → named_target st db ≡ Some g → db ≡ database_of_call call → IsTargetOf st call g
-named_facts st told db g call ground e same = by (database_of db st.store) refl e
+named_facts : (st : Standing) (told : List AnsweredCall) (db : List ℕ) (g : Target) → IsGround st told → named_target st db ≡ Some g → (database_at g.db st ≡ Some g.database) × (g.at ≡ None)
+named_facts st told db g ground e = by (database_of db st.store) refl e
   where
-    some_is : (x y : Target) → Some x ≡ Some y → x ≡ y
-    some_is x y h = cc (h)
-
-    by : (o : Option Database) → database_of db st.store ≡ o → option_map (target (st.numbers db) None) o ≡ Some g → IsTargetOf st call g
+    by : (o : Option Database) → database_of db st.store ≡ o → option_map (target (st.numbers db) None) o ≡ Some g → (database_at g.db st ≡ Some g.database) × (g.at ≡ None)
     by None f h = absurd (cc (h))
-    by (Some d) f h = subst (IsTargetOf st call) (some_is (target (st.numbers db) None d) g h) (record {
-      nowhere = refl;
-      here = by_number st.numbers st.last_db st.store db d ground.numbers f;
-      named = bytes_exact d.name db (found_is (λ (x : Database). is_same_bytes x.name db) st.store.databases d f).1 ∙ same;
-    })
+    by (Some d) f h = subst (λ (x : Target). (database_at x.db st ≡ Some x.database) × (x.at ≡ None)) (some_target (target (st.numbers db) None d) g h) (by_number st.numbers st.last_db st.store db d ground.numbers f, refl)
 
-pub target_facts : (st : Standing) (told : List AnsweredCall) (session : ℕ) (call : Call) (g : Target) → MayWait call → IsGround st told → target_of st session call ≡ Some g → IsTargetOf st call g
-target_facts st told session (Get db key rmw) g may ground e = named_facts st told db g (Get db key rmw) ground e refl
-target_facts st told session (GetBoth db key value rmw) g may ground e = named_facts st told db g (GetBoth db key value rmw) ground e refl
-target_facts st told session (Put db key value mode) g may ground e = named_facts st told db g (Put db key value mode) ground e refl
-target_facts st told session (Delete db key) g may ground e = named_facts st told db g (Delete db key) ground e refl
+cursor_facts : (st : Standing) (session cursor : ℕ) (g : Target) → cursor_target st session cursor ≡ Some g → (database_at g.db st ≡ Some g.database) × IsAtCursor (st.places session) (Some cursor) g
+cursor_facts st session cursor g e = by (place_at cursor (st.places session)) refl e
+  where
+    Facts : Target → Type 0
+    Facts x = (database_at x.db st ≡ Some x.database) × IsAtCursor (st.places session) (Some cursor) x
+
+    found : (p : Place) → place_at cursor (st.places session) ≡ Some p → (o : Option Database) → database_at p.db st ≡ o → option_map (target p.db p.at) o ≡ Some g → Facts g
+    found p f None i h = absurd (cc (h))
+    found p f (Some d) i h = subst (λ (x : Target). (database_at x.db st ≡ Some x.database) × IsAtCursor (st.places session) (Some cursor) x) (some_target (target p.db p.at d) g h) (i, (p, f, refl, refl))
+
+    by : (o : Option Place) → place_at cursor (st.places session) ≡ o → target_at st o ≡ Some g → Facts g
+    by None f h = absurd (cc (h))
+    by (Some p) f h = found p f (database_at p.db st) refl h
+
+pub target_facts : (st : Standing) (told : List AnsweredCall) (session : ℕ) (call : Call) (g : Target) → MayWait call → IsGround st told → target_of st session call ≡ Some g
+    → (database_at g.db st ≡ Some g.database) × IsAtCursor (st.places session) (cursor_of call) g
+target_facts st told session (Get db key rmw) g may ground e = named_facts st told db g ground e
+target_facts st told session (GetBoth db key value rmw) g may ground e = named_facts st told db g ground e
+target_facts st told session (Put db key value mode) g may ground e = named_facts st told db g ground e
+target_facts st told session (Delete db key) g may ground e = named_facts st told db g ground e
+target_facts st told session (Count cursor) g may ground e = cursor_facts st session cursor g e
+target_facts st told session (Cur cursor motion rmw) g may ground e = cursor_facts st session cursor g e
+target_facts st told session (CPutCur cursor value) g may ground e = cursor_facts st session cursor g e
+target_facts st told session (CDel cursor) g may ground e = cursor_facts st session cursor g e
+target_facts st told session (CPut cursor key value mode) g may ground e = cursor_facts st session cursor g e
 target_facts st told session call g may ground e = absurd may
 
 -- ---- a transaction ends without a commit
@@ -91,7 +105,7 @@ known_ended st a told sound there known = known_end st a [] (ended a st) told so
 
 -- ---- a call on records, of a transaction that may run it
 
-module _ (st : Standing) (a : Active) (call : Call) (g : Target) (told : List AnsweredCall) (may : MayWait call) (m : MayRun st a) (known : IsKnown st told) (on : IsTargetOf st call g) where
+module _ (st : Standing) (a : Active) (call : Call) (g : Target) (told : List AnsweredCall) (may : MayWait call) (m : MayRun st a) (known : IsKnown st told) (on : IsTargetOf st a call g) where
   active : is_active a.txn st.actives ≡ true
   active = any_from (λ (b : Active). is_same_txn a.txn b.txn) st.actives a (there_is st a m) (same_itself a.txn)
 
@@ -109,28 +123,27 @@ module _ (st : Standing) (a : Active) (call : Call) (g : Target) (told : List An
   known_locks ns =
       let new : Standing = with_locks a (all_got a.txn ns st.locks.at) st in
       known_quiet st new told sound (quiet_with (all_got a.txn ns st.locks.at)) known
-      (λ b k keep. inl (b, k, refl, refl, locks_with a.level a.txn b.txn ns st new (λ r. refl) (λ e. ap (λ (x : Active). keeps x.level) (same_one b k e) ∙ keep)))
+      (λ b k keep. inl (as_before st new b k (locks_with a.level a.txn b.txn ns st new (λ r. refl) (λ e. ap (λ (x : Active). keeps x.level) (same_one b k e) ∙ keep)) (λ own. same_places b.session st new refl)))
 
   -- ---- it is stopped
 
   abbrev stopped_at : ℕ → Need → List Victim → Standing
   stopped_at line n vs = without_waits_of vs (with_waiting st a line call g n vs)
 
-  same_level : (o : Option Victim) (b : Active) → (marked_by o b).level ≡ b.level
-  same_level None b = refl
-  same_level (Some v) b = refl
+  -- a mark tells of the cycle alone
+  marked_one : (o : Option Victim) (new : Standing) (b : Active) → IsAmong b st.actives → KeepsLocks (marked_by o b).txn st new → KeepsPlaces b.session st new → IsSameOne st new (marked_by o b)
+  marked_one None new b k locks places = as_before st new b k locks (λ own. places)
+  marked_one (Some v) new b k locks places = record { old = b; there = k; txn = refl; level = refl; session = refl; auto = refl; locks = locks; places = λ own. places }
 
   known_waiting : (line : ℕ) (n : Need) (vs : List Victim) → IsKnown (stopped_at line n vs) told
   known_waiting line n vs =
       known_quiet st (stopped_at line n vs) told sound (record { store = refl; numbers = refl; last_db = refl; last_txn = (omega arith); own = λ t. refl }) known
       (λ b k keep. let c = mapped_among (λ (x : Active). marked_by (find (λ (v : Victim). v.session == x.session) vs) x) st.actives b k in
-      inl (
-        c.0,
-        c.1,
-        sym (same_txn (find (λ (v : Victim). v.session == c.0.session) vs) c.0) ∙ ap (λ (x : Active). x.txn) c.2,
-        sym (same_level (find (λ (v : Victim). v.session == c.0.session) vs) c.0) ∙ ap (λ (x : Active). x.level) c.2,
-        λ sort s r h. wait_keeps sort s a.txn b.txn n (txns_of vs st.actives) (locks_before st a call g) r (all_got_keeps sort s a.txn b.txn (granted_part a.txn (needs_in st a call g) st.locks.at) st.locks.at r h),
-      ))
+      inl (subst (IsSameOne st (stopped_at line n vs)) c.2
+      (marked_one (find (λ (v : Victim). v.session == c.0.session) vs) (stopped_at line n vs) c.0 c.1
+      (λ sort s r h. wait_keeps sort s a.txn (marked_by (find (λ (v : Victim). v.session == c.0.session) vs) c.0).txn n (txns_of vs st.actives) (locks_before st a call g) r
+      (all_got_keeps sort s a.txn (marked_by (find (λ (v : Victim). v.session == c.0.session) vs) c.0).txn (granted_part a.txn (needs_in st a call g) st.locks.at) st.locks.at r h))
+      (same_places c.0.session st (stopped_at line n vs) refl))))
 
   pub known_stop : (b : Bool) (line : ℕ) (n : Need) (vs : List Victim) → first_blocked a.txn (needs_in st a call g) st.locks.at ≡ Some n → IsKnown (after_stop b st a line call g n vs) told
   known_stop false line n vs stopped = known_locks (granted_part a.txn (needs_in st a call g) st.locks.at)
@@ -139,34 +152,45 @@ module _ (st : Standing) (a : Active) (call : Call) (g : Target) (told : List An
   -- ---- it gets its locks
 
   module _ (free : first_blocked a.txn (needs_in st a call g) st.locks.at ≡ None) where
-    abbrev came : Evaluated
-    came = comes_to st a call g told may m.right.sound known.ground on.nowhere on.here on.named free
-
     abbrev done : Standing
     done = with_outcome a call g (outcome_of st a call g) (answered a call g st)
 
-    came_is : outcome_of st a call g ≡ came
-    came_is = outcome_is st a call g told may m.right.sound known.ground on.nowhere on.here on.named free
+    step : IsCallOf st a call g told may m.right.sound known.ground on.here free done
+    step = record { store = refl; numbers = refl; last_db = refl; last_txn = refl; own = λ t. refl; places = λ session. refl; locks = λ r. refl }
 
-    -- it is an answer of evaluation
-    pub came_evaluated : is_evaluated (outcome_of st a call g).answer ≡ true
-    came_evaluated = ap (λ (e : Evaluated). is_evaluated e.answer) came_is ∙ comes_evaluated g.database.kind call _ may
+    -- a transaction that goes on, and is told an answer of evaluation
+    pub known_done : a.is_auto ≡ false → name_on (target_of st a.session call) ≡ g.database.name → is_evaluated (outcome_of st a call g).answer ≡ true → (answer : Answer) → answer ≡ (outcome_of st a call g).answer
+        → IsKnown done (told ++ record { txn = a.txn; call = call; db = name_on (target_of st a.session call); answer = answer; own = changes_named st (st.own a.txn.0) } ∷ [])
+    known_done auto named evaluated answer e =
+        subst (λ (x : Answer). IsKnown done (told ++ record { txn = a.txn; call = call; db = name_on (target_of st a.session call); answer = x; own = changes_named st (st.own a.txn.0) } ∷ [])) (sym e)
+        (known_call st a call g told may m.right.sound known.ground on free done step (there_is st a m) refl auto named evaluated known)
 
-    step : IsCallOf st a call g told may m.right.sound known.ground on.nowhere on.here on.named free done
-    step = record {
-      store = refl;
-      numbers = refl;
-      last_db = refl;
-      last_txn = refl;
-      own = λ t. ap (λ (e : Evaluated). with_at a.txn.0 (st.own a.txn.0 ++ changes_at g.db e.changes) st.own t) came_is;
-      locks = λ r. refl;
-    }
+    -- where the cursor stands at no record nothing is as it was not
+    pub known_lost : IsLost g.database.kind call g.at (view_of st a g) → IsKnown done told
+    known_lost lost =
+        known_quiet st done told sound (record { store = refl; numbers = refl; last_db = refl; last_txn = (omega arith); own = same_own }) known
+        (λ b k keep. inl (as_before st done b k
+        (locks_with a.level a.txn b.txn (needs_in st a call g) st done (λ r. refl) (λ e. ap (λ (x : Active). keeps x.level) (same_one b k e) ∙ keep))
+        (λ own cursor. same_place b cursor (cases_Bool (b.session == a.session)))))
+      where
+        same_own : (t : ℕ) → done.own t ≡ st.own t
+        same_own t = ⊎_elim
+            (λ e. cond-true (t == a.txn.0) (st.own a.txn.0 ++ changes_at g.db (outcome_of st a call g).changes) (st.own t) e
+            ∙ (ap (λ (v : Evaluated). st.own a.txn.0 ++ changes_at g.db v.changes) lost.is ∙ (append-nil (st.own a.txn.0) ∙ ap st.own (sym (eqb-true t a.txn.0 e)))))
+            (λ e. cond-false (t == a.txn.0) (st.own a.txn.0 ++ changes_at g.db (outcome_of st a call g).changes) (st.own t) e)
+            (cases_Bool (t == a.txn.0))
 
-    -- a transaction that goes on
-    pub known_done : (answer : Answer) → answer ≡ (outcome_of st a call g).answer → IsKnown done (told ++ record { txn = a.txn; call = call; answer = answer; own = changes_named st (st.own a.txn.0) } ∷ [])
-    known_done answer e =
-        subst (λ (x : Answer). IsKnown done (told ++ record { txn = a.txn; call = call; answer = x; own = changes_named st (st.own a.txn.0) } ∷ [])) (sym (e ∙ ap (λ (v : Evaluated). v.answer) came_is))
-        (known_call st a call g told may m.right.sound known.ground on.nowhere on.here on.named free done step (there_is st a m) refl known)
+        moved_none : (cursor : ℕ) → place_at cursor (moved call (outcome_of st a call g).place (st.places a.session)) ≡ place_at cursor (st.places a.session)
+        moved_none cursor =
+            ap (place_at cursor) (moved_is call (outcome_of st a call g).place (st.places a.session)
+            ∙ ap (λ (o : Option Name). moved_at (cursor_of call) o (st.places a.session)) (ap (λ (v : Evaluated). v.place) lost.is ∙ lost.none))
+            ∙ stays_lost (cursor_of call) g (st.places a.session) cursor on.its lost.none
+
+        same_place : (b : Active) (cursor : ℕ) → ((b.session == a.session) ≡ true) ⊎ ((b.session == a.session) ≡ false) → place_at cursor (done.places b.session) ≡ place_at cursor (st.places b.session)
+        same_place b cursor (inl e) =
+            ap (place_at cursor) (cond-true (b.session == a.session) (moved call (outcome_of st a call g).place (st.places a.session)) (st.places b.session) e)
+            ∙ (moved_none cursor ∙ ap (λ (n : ℕ). place_at cursor (st.places n)) (sym (eqb-true b.session a.session e)))
+        same_place b cursor (inr e) = ap (place_at cursor) (cond-false (b.session == a.session) (moved call (outcome_of st a call g).place (st.places a.session)) (st.places b.session) e)
 
     sound_answered : AreSound (answered a call g st)
     sound_answered = sound_back st.last_txn st.actives st.own st.places st.waiting (state (all_got a.txn (needs_in st a call g) st.locks.at) st.locks.pending) a.level a.txn
@@ -181,8 +205,7 @@ module _ (st : Standing) (a : Active) (call : Call) (g : Target) (told : List An
 
     -- a transaction of one call, which is committed and ends
     held : AllByRecursion (λ c. HoldsWrite (given_back a.level a.txn (all_got a.txn (needs_in st a call g) st.locks.at)) a.txn (g.db, c)) (outcome_of st a call g).changes
-    held = subst (λ (e : Evaluated). AllByRecursion (λ c. HoldsWrite (given_back a.level a.txn (all_got a.txn (needs_in st a call g) st.locks.at)) a.txn (g.db, c)) e.changes) (sym came_is)
-        (writes_held st a call g told may m.right.sound known.ground on.nowhere on.here on.named free done step)
+    held = writes_held st a call g told may m.right.sound known.ground on.here free done step
 
     sound_done : AreSound done
     sound_done =
@@ -212,12 +235,11 @@ module _ (st : Standing) (a : Active) (call : Call) (g : Target) (told : List An
     among_behind (x ∷ xs) ys c k = inr (among_behind xs ys c k)
 
     its : (c : ℕ × RecordChange) → IsAmong c (changes_at g.db (outcome_of st a call g).changes) → IsAmong c (done.own a.txn.0)
-    its c k = subst (IsAmong c) (sym (own_its st a call g told may m.right.sound known.ground on.nowhere on.here on.named free done step))
-        (among_behind (st.own a.txn.0) (changes_at g.db came.changes) c (subst (λ (e : Evaluated). IsAmong c (changes_at g.db e.changes)) came_is k))
+    its c k = subst (IsAmong c) (sym (own_its st a call g told may m.right.sound known.ground on.here free done step)) (among_behind (st.own a.txn.0) (changes_at g.db (outcome_of st a call g).changes) c k)
 
     pub known_committed : IsKnown (ended a (committed_if_any (changes_on g (outcome_of st a call g).changes) done)) told
     known_committed =
         known_end done a (changes_at g.db (outcome_of st a call g).changes) (ended a (committed_if_any (changes_on g (outcome_of st a call g).changes) done)) told sound_done (there_is st a m)
-        (ground_call st a call g told may m.right.sound known.ground on.nowhere on.here on.named free done step) its
+        (ground_call st a call g told may m.right.sound known.ground on free done step) its
         (end_named done a (changes_at g.db (outcome_of st a call g).changes) (changes_on g (outcome_of st a call g).changes) (on_named (outcome_of st a call g).changes))
-        (others_call st a call g told may m.right.sound known.ground on.nowhere on.here on.named free done step (λ b k apart. known.each b k))
+        (others_call st a call g told may m.right.sound known.ground on free done step (there_is st a m) (λ b k apart. known.each b k))

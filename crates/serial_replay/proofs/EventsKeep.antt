@@ -1,5 +1,5 @@
 -- Each event keeps what holds of the calls: by cases of the event, cut as after_event is.
-use Rattle.std.proofs.Common.{◌≡◌, ◌≤◌, ◌<◌, ◌+◌, ◌⊎◌, inl, inr, ℕ, ◌==◌, Bool, true, false, cond, ◌&&◌, List, [], ◌∷◌, ◌++◌, Option, None, Some, refl, ap, sym, ◌∙◌, subst, ⊎_elim, arith, nat_lt, is_some}
+use Rattle.std.proofs.Common.{◌≡◌, ◌≤◌, ◌<◌, ◌+◌, ◌⊎◌, inl, inr, ℕ, ◌==◌, Bool, true, false, cond, ◌&&◌, ◌||◌, List, [], ◌∷◌, ◌++◌, Option, None, Some, refl, ap, sym, ◌∙◌, subst, ⊎_elim, arith, nat_lt, is_some}
 use Rattle.std.proofs.lemmas.Bool.{cases_Bool, cond-true, cond-false, both_ways, eqb-true}
 use Rattle.je_order.specs.declared.txn_id.TxnId.{TxnId}
 use Rattle.je_order.specs.Transactions.{is_same_txn}
@@ -8,7 +8,7 @@ use Rattle.lock_table.specs.declared.record_id.RecordId.{RecordId}
 use Rattle.store_model.specs.declared.store.TheConstants.{LAST_TXN}
 use Rattle.store_model.specs.declared.kind.Kind.{Kind}
 use Rattle.store_model.specs.declared.call.Call.{Call}
-use Rattle.store_model.specs.declared.call.Call.TheVariants.{Begin, Commit, Abort, List as Lists, Create, Remove, Rename, Truncate, Get, GetBoth, Put, Delete, Open, Close, Dup}
+use Rattle.store_model.specs.declared.call.Call.TheVariants.{Begin, Commit, Abort, List as Lists, Create, Remove, Rename, Truncate, Get, GetBoth, Put, Delete, Open, Close, Dup, Count, Cur, CPutCur, CDel, CPut}
 use Rattle.store_model.specs.declared.store.Database.{Database}
 use Rattle.store_model.specs.declared.change.Change.{Change}
 use Rattle.store_model.specs.declared.change.Change.TheVariants.{Make, Remove as Removed, Rename as Renamed, Empty}
@@ -24,33 +24,35 @@ use Rattle.store_model.specs.declared.event.Event.{Event}
 use Rattle.store_model.specs.declared.event.Event.TheVariants.{Call as Called, Resume, End, WriteOut, SyncBegin, SyncEnd, Turn}
 use Rattle.store_model.specs.Store.{IsStore, database_of, changed}
 use Rattle.store_model.proofs.StoreLaws.{changed_is_right}
+use Rattle.store_model.specs.Records.{Evaluated}
 use Rattle.store_model.specs.Evaluation.{Outcome, evaluation, evaluation_in}
 use Rattle.store_model.specs.Refusals.{or_refusal, creation_refusal, access_refusal, taken_refusal, next_txn}
 use Rattle.je_answers.specs.declared.active.Active.{Active}
 use Rattle.je_answers.specs.declared.wait.Wait.{Wait}
-use Rattle.je_order.specs.declared.name.Name.{Name}
 use Rattle.store_model.specs.declared.place.Place.{Place}
 use Rattle.je_answers.specs.Standing.{Standing, place_at, active_of, wait_of, without_wait, database_at}
-use Rattle.je_answers.specs.Views.{Target, target_of, changes_on, changes_named, needs_in, outcome_of}
+use Rattle.je_answers.specs.Views.{Target, target_at, target_of, view_of, changes_on, changes_named, needs_in, outcome_of}
 use Rattle.je_answers.specs.Refusals.{waits_refusal, txn_refusal, early_refusal, late_refusal, number_refusal, there_refusal, name_refusal, target_refusal}
 use Rattle.je_answers.specs.Locking.{IsUnused, first_blocked, owner_before}
 use Rattle.je_answers.specs.Events.{log_limit, auto_active, begun, due, waiting_answer, cycle_of, lock_target, queues_before, resumed, IsLogged, IsDone, IsWaiting, IsStopped, IsTaken, IsOn, IsRun, IsExclusive, IsPerformed, IsEvaluated, IsCallAnswered, IsReady, IsResumed, IsAnswered}
-use Rattle.je_answers.specs.After.{opened, opened_at, closed_cursor, Fate, fate_of, drawn_by, faulted, committed_if_any, ended, ended_if_any, closed, with_outcome, answered, after_fate, after_changes, after_taking, after_on, after_run, after_commit, after_ending, after_catalog, after_performed, after_evaluated, after_call, after_resumed, faulted_if, after_begin, after_end, after_turn, after_event}
+use Rattle.je_answers.specs.After.{Fate, fate_of, drawn_by, faulted, committed_if_any, ended, ended_if_any, closed, with_outcome, answered, after_fate, after_changes, after_taking, after_on, after_run, after_commit, after_ending, after_catalog, after_performed, after_evaluated, after_call, after_resumed, faulted_if, after_begin, after_end, after_turn, after_event}
 use Rattle.je_answers.specs.After.Fate.{Succeeds, IsRefused, Faults}
 use Rattle.standing_laws.specs.Right.{AreSound, AreRight, MayWait, is_active, txn_id}
-use Rattle.standing_laws.specs.Laws.{IsPlainCall, IsPlainEvent}
-use Rattle.standing_laws.proofs.Among.{IsAmong, any_some, all_at, among_append, found_is, its_session}
+use Rattle.standing_laws.proofs.Among.{IsAmong, any_some, among_append, found_is, its_session}
 use Rattle.standing_laws.proofs.Moves.{begun_found, drawn_untold}
-use Rattle.standing_laws.proofs.StandingsStay.{MayRun, may_run, early_parts, has_number, late_number, next_is, begun_is-right, resumed_is-right, no_active, plain}
-use Rattle.serial_replay.specs.Replay.{AnsweredCall, is_on_records, is_evaluated, told_if, told_within, told_of, told_resumed, told_by, with_told}
+use Rattle.standing_laws.proofs.StandingsStay.{MayRun, may_run, early_parts, has_number, late_number, next_is, begun_is-right, resumed_is-right, no_active}
+use Rattle.serial_replay.specs.Replay.{AnsweredCall, is_of_cursors, is_on_records, is_evaluated, name_on, cursor_of, told_if, told_within, told_of, told_resumed, told_by, with_told}
 use Rattle.serial_replay.proofs.Stores.{number_of_found}
 use Rattle.serial_replay.proofs.Keeping.{IsUsedBy, KeepsOf, IsKnown}
 use Rattle.serial_replay.proofs.Ending.{end_is, known_end}
 use Rattle.serial_replay.proofs.Told.{none_told, numbered_le}
-use Rattle.serial_replay.proofs.Quiet.{known_quiet, same_locks}
+use Rattle.serial_replay.proofs.Quiet.{as_before, known_quiet, same_locks, same_places}
 use Rattle.serial_replay.proofs.CatalogSteps.{IsCatalogStep, known_catalog, found_there, used_other, IsDone as IsCatalogDone, made_done, removed_done, renamed_done, emptied_done}
 use Rattle.serial_replay.proofs.Replies.{early_other, late_other, limit_is, evaluated_succeeds, not_told, not_on_records, auto_untold, is_told}
-use Rattle.serial_replay.proofs.EventSteps.{as_told, same_known, faulted_known, IsTargetOf, target_facts, known_ended, known_stop, known_done, known_refused, known_committed, came_evaluated}
+use Rattle.serial_replay.proofs.Calls.{IsLost, comes_evaluated}
+use Rattle.serial_replay.proofs.Places.{on_records, IsAtCursor, IsTargetOf}
+use Rattle.serial_replay.proofs.Cursors.{known_opened, known_closed, known_copied}
+use Rattle.serial_replay.proofs.EventSteps.{as_told, same_known, faulted_known, target_facts, known_ended, known_stop, known_done, known_lost, known_refused, known_committed}
 
 -- ---- what a call that is stopped answers
 
@@ -68,19 +70,38 @@ stopped_other (Some owner) b st a line call g n answer vs e is = by b (subst (λ
 
 -- ---- a call on records
 
+may_tell : (call : Call) → MayWait call → (is_of_cursors call || is_on_records call) ≡ true
+may_tell call may = let k = on_records call may in ap (λ (b : Bool). b || is_on_records call) k.0 ∙ k.1
+
 module _ (limit : Option Answer) (old st : Standing) (a : Active) (line : ℕ) (call : Call) (g : Target) (told : List AnsweredCall) (answer : Answer) (vs : List Victim) (o : Option AnsweredCall) (may : MayWait call) (m : MayRun st a) (known : IsKnown st told)
-    (on : IsTargetOf st call g) (sound_old : AreSound old) (known_old : IsKnown old told) (o_is : o ≡ told_of (Some a) st call answer) where
+    (on : IsTargetOf st a call g) (named : a.is_auto ≡ false → name_on (target_of st a.session call) ≡ g.database.name) (sound_old : AreSound old) (known_old : IsKnown old told) (o_is : o ≡ told_of (Some a) st call answer) where
   untold : is_evaluated answer ≡ false → (new : Standing) → IsKnown new told → IsKnown new (with_told o told)
   untold e new k = as_told st new o told (o_is ∙ not_told (Some a) st call answer e) k
+
+  -- an answer of evaluation, or that its cursor stands at no record
+  came : (is_evaluated (outcome_of st a call g).answer ≡ true) ⊎ IsLost g.database.kind call g.at (view_of st a g)
+  came = comes_evaluated g.database.kind call g.at (view_of st a g) may
 
   succeeds : first_blocked a.txn (needs_in st a call g) st.locks.at ≡ None → (b : Bool) → a.is_auto ≡ b → (b ≡ false → answer ≡ (outcome_of st a call g).answer)
       → IsKnown (closed b a (changes_on g (outcome_of st a call g).changes) (with_outcome a call g (outcome_of st a call g) (answered a call g st))) (with_told o told)
   succeeds free true e f =
       as_told st _ o told (o_is ∙ auto_untold a st call answer e) (known_committed st a call g told may m known on free)
-  succeeds free false e f =
-      subst (λ (x : Option AnsweredCall). IsKnown (with_outcome a call g (outcome_of st a call g) (answered a call g st)) (with_told x told))
-      (sym (o_is ∙ is_told a st call answer e may (ap is_evaluated (f refl) ∙ came_evaluated st a call g told may m known on free)))
-      (known_done st a call g told may m known on free answer (f refl))
+  succeeds free false e f = by came
+    where
+      by : (is_evaluated (outcome_of st a call g).answer ≡ true) ⊎ IsLost g.database.kind call g.at (view_of st a g) → IsKnown (with_outcome a call g (outcome_of st a call g) (answered a call g st)) (with_told o told)
+      by (inl evaluated) =
+          subst (λ (x : Option AnsweredCall). IsKnown (with_outcome a call g (outcome_of st a call g) (answered a call g st)) (with_told x told))
+          (sym (o_is ∙ is_told a st call answer e (may_tell call may) (ap is_evaluated (f refl) ∙ evaluated)))
+          (known_done st a call g told may m known on free e (named e) evaluated answer (f refl))
+      by (inr lost) = untold (ap is_evaluated (f refl) ∙ ap (λ (v : Evaluated). is_evaluated v.answer) lost.is) _ (known_lost st a call g told may m known on free lost)
+
+  -- what it comes to is logged as done
+  came_succeeds : fate_of (outcome_of st a call g).answer ≡ Succeeds
+  came_succeeds = by came
+    where
+      by : (is_evaluated (outcome_of st a call g).answer ≡ true) ⊎ IsLost g.database.kind call g.at (view_of st a g) → fate_of (outcome_of st a call g).answer ≡ Succeeds
+      by (inl evaluated) = evaluated_succeeds (outcome_of st a call g).answer evaluated
+      by (inr lost) = ap (λ (v : Evaluated). fate_of v.answer) lost.is
 
   at_fate : (f : Fate) → fate_of answer ≡ f → IsKnown (after_fate f old st a call g (outcome_of st a call g)) (with_told o told) → IsKnown (after_fate (fate_of answer) old st a call g (outcome_of st a call g)) (with_told o told)
   at_fate f e k = subst (λ (x : Fate). IsKnown (after_fate x old st a call g (outcome_of st a call g)) (with_told o told)) (sym e) k
@@ -94,7 +115,7 @@ module _ (limit : Option Answer) (old st : Standing) (a : Active) (line : ℕ) (
       due_of true e h = at_fate Succeeds (ap fate_of (h ∙ cond-true a.is_auto (Logged (st.commits + 1)) (outcome_of st a call g).answer e)) (succeeds free a.is_auto refl (λ k. absurd (both_ways a.is_auto k e)))
       due_of false e h =
           let is_its : answer ≡ (outcome_of st a call g).answer = h ∙ cond-false a.is_auto (Logged (st.commits + 1)) (outcome_of st a call g).answer e in
-          at_fate Succeeds (evaluated_succeeds answer (ap is_evaluated is_its ∙ came_evaluated st a call g told may m known on free)) (succeeds free a.is_auto refl (λ k. is_its))
+          at_fate Succeeds (ap fate_of is_its ∙ came_succeeds) (succeeds free a.is_auto refl (λ k. is_its))
 
       by : (l : Option Answer) → log_limit limit ≡ l → IsLogged l (due st a (outcome_of st a call g)) answer → IsKnown (after_fate (fate_of answer) old st a call g (outcome_of st a call g)) (with_told o told)
       by (Some l) e h = let k = limit_is limit l e in
@@ -108,18 +129,18 @@ module _ (limit : Option Answer) (old st : Standing) (a : Active) (line : ℕ) (
       untold (stopped_other (owner_before a.txn n (queues_before st a call g)) a.waits st a line call g n answer vs refl is) _ (known_stop st a call g told may m known on a.waits line n vs e)
 
 known_on : (t : Option Target) (limit : Option Answer) (old st : Standing) (a : Active) (line : ℕ) (call : Call) (told : List AnsweredCall) (answer : Answer) (vs : List Victim) (o : Option AnsweredCall) → MayWait call → MayRun st a → IsKnown st told
-    → ((g : Target) → t ≡ Some g → IsTargetOf st call g) → AreSound old → IsKnown old told → o ≡ told_of (Some a) st call answer → IsOn t limit st a line call answer vs
+    → ((g : Target) → t ≡ Some g → IsTargetOf st a call g) → ((g : Target) → t ≡ Some g → a.is_auto ≡ false → name_on (target_of st a.session call) ≡ g.database.name) → AreSound old → IsKnown old told → o ≡ told_of (Some a) st call answer → IsOn t limit st a line call answer vs
     → IsKnown (after_on t old st a line call answer vs) (with_told o told)
-known_on None limit old st a line call told answer vs o may m known on sound_old known_old o_is is = absurd is
-known_on (Some g) limit old st a line call told answer vs o may m known on sound_old known_old o_is is =
-    known_taking limit old st a line call g told answer vs o may m known (on g refl) sound_old known_old o_is (first_blocked a.txn (needs_in st a call g) st.locks.at) refl is
+known_on None limit old st a line call told answer vs o may m known on named sound_old known_old o_is is = absurd is
+known_on (Some g) limit old st a line call told answer vs o may m known on named sound_old known_old o_is is =
+    known_taking limit old st a line call g told answer vs o may m known (on g refl) (named g refl) sound_old known_old o_is (first_blocked a.txn (needs_in st a call g) st.locks.at) refl is
 
 -- ---- transactions begin
 
-known_with : (st : Standing) (a : Active) (told : List AnsweredCall) → AreSound st → IsKnown st told → a.txn.0 ≡ next_txn st.last_txn → nat_lt st.last_txn LAST_TXN ≡ true → IsKnown (record st { actives = st.actives ++ a ∷ []; last_txn = next_txn st.last_txn }) told
-known_with st a told sound known is more =
+known_with : (st : Standing) (a : Active) (told : List AnsweredCall) → AreSound st → IsKnown st told → active_of a.session st.actives ≡ None → a.txn.0 ≡ next_txn st.last_txn → nat_lt st.last_txn LAST_TXN ≡ true → IsKnown (record st { actives = st.actives ++ a ∷ []; last_txn = next_txn st.last_txn }) told
+known_with st a told sound known none is more =
     known_quiet st new told sound (record { store = refl; numbers = refl; last_db = refl; last_txn = (let h = next_is st.last_txn more in omega (arith, h)); own = λ t. refl }) known
-    (λ b k keep. ⊎_elim (λ old. inl (b, old, refl, refl, same_locks b.txn st new (λ r. refl))) (λ now. inr (its b now)) (among_append st.actives (a ∷ []) b k))
+    (λ b k keep. ⊎_elim (λ old. inl (as_before st new b old (same_locks b.txn st new (λ r. refl)) (λ own. same_places b.session st new refl))) (λ now. inr (its b now)) (among_append st.actives (a ∷ []) b k))
   where
     new : Standing
     new = record st { actives = st.actives ++ a ∷ []; last_txn = next_txn st.last_txn }
@@ -136,13 +157,24 @@ known_with st a told sound known is more =
         (λ e. e)
         (cases_Bool (is_active (txn_id a.txn.0) st.actives)))
 
-    its : (b : Active) → IsAmong b (a ∷ []) → KeepsOf (record st { actives = st.actives ++ a ∷ []; last_txn = next_txn st.last_txn }) told b.txn b.level
-    its b (inl e) = subst (λ (x : Active). KeepsOf new told x.txn x.level) e (record { said = []; calls = none_told a.txn st.last_txn told above known.ground.last; follows = none_own; ser = λ h. tt; repeatable = λ h. tt })
+    no_place : (cursor : ℕ) (p : Place) → place_at cursor (st.places a.session) ≡ Some p → ⊥
+    no_place cursor p e = let k = sym (ap (place_at cursor) (sound.places a.session none)) ∙ e in absurd (cc (k))
+
+    its : (b : Active) → IsAmong b (a ∷ []) → KeepsOf (record st { actives = st.actives ++ a ∷ []; last_txn = next_txn st.last_txn }) told b.txn b.level b.session b.is_auto
+    its b (inl e) = subst (λ (x : Active). KeepsOf new told x.txn x.level x.session x.is_auto) e (record {
+      said = [];
+      calls = none_told a.txn st.last_txn told above known.ground.last;
+      follows = none_own;
+      positions = λ own cursor p f. absurd (no_place cursor p f);
+      ser = λ h. tt;
+      places = λ own h cursor p f n i. absurd (no_place cursor p f);
+      repeatable = λ h. tt;
+    })
     its b (inr k) = absurd k
 
 known_drawn : (o : Option Active) (st : Standing) (told : List AnsweredCall) → AreSound st → IsKnown st told → IsKnown (drawn_by o st) told
 known_drawn None st told sound known =
-    same_known st (record st { last_txn = next_txn st.last_txn }) told sound (record { store = refl; numbers = refl; last_db = refl; last_txn = more (nat_lt st.last_txn LAST_TXN); own = λ t. refl }) (λ r. refl) refl known
+    same_known st (record st { last_txn = next_txn st.last_txn }) told sound (record { store = refl; numbers = refl; last_db = refl; last_txn = more (nat_lt st.last_txn LAST_TXN); own = λ t. refl }) (λ r. refl) (λ session. refl) refl known
   where
     more : (b : Bool) → st.last_txn ≤ cond b (st.last_txn + 1) st.last_txn
     more true = omega arith
@@ -155,8 +187,12 @@ known_run : (active : Option Active) (limit : Option Answer) (st : Standing) (se
     → waits_refusal st active ≡ None → number_refusal st.last_txn active ≡ None → IsRun active limit st session line call answer vs
     → IsKnown (after_run active st session line call answer vs) (with_told (told_of active st call answer) told)
 known_run (Some a) limit st session line call answer vs told may r known its free number is =
-    known_on (target_of st session call) limit st st a line call told answer vs (told_of (Some a) st call answer) may (may_run st session a r its free) known (λ g e. target_facts st told session call g may known.ground e)
-    r.sound known refl is
+    known_on (target_of st session call) limit st st a line call told answer vs (told_of (Some a) st call answer) may (may_run st session a r its free) known
+    (λ g e. let k = target_facts st told session call g may known.ground e in record { here = k.0; its = subst (λ (n : ℕ). IsAtCursor (st.places n) (cursor_of call) g) (sym same) k.1 })
+    (λ g e auto. ap (λ (n : ℕ). name_on (target_of st n call)) same ∙ ap name_on e) r.sound known refl is
+  where
+    same : a.session ≡ session
+    same = (its_session session st.actives a its).1
 known_run None limit st session line call answer vs told may r known its free number is =
     known_on (target_of st session call) limit st (begun st session) (auto_active st session) line call told answer vs None may
     (record {
@@ -164,9 +200,9 @@ known_run None limit st session line call answer vs told may r known its free nu
       its = begun_found st.actives (auto_active st session) its;
       told = drawn_untold st.last_txn st.actives st.own st.places st.waiting st.locks (auto_active st session).txn r.sound (next_is st.last_txn (has_number st.last_txn number));
     })
-    (known_with st (auto_active st session) told r.sound known refl (has_number st.last_txn number))
-    (λ g e. let k = target_facts st told session call g may known.ground e in record { nowhere = k.nowhere; here = k.here; named = k.named })
-    r.sound known (sym (auto_untold (auto_active st session) (begun st session) call answer refl)) is
+    (known_with st (auto_active st session) told r.sound known its refl (has_number st.last_txn number))
+    (λ g e. let k = target_facts st told session call g may known.ground e in record { here = k.0; its = k.1 })
+    (λ g e auto. absurd (both_ways true auto refl)) r.sound known (sym (auto_untold (auto_active st session) (begun st session) call answer refl)) is
 
 -- ---- commits and ends
 
@@ -212,6 +248,7 @@ step_from None st c stays right stay done = record {
   last_txn = more (nat_lt st.last_txn LAST_TXN);
   actives = refl;
   own = λ t. refl;
+  places = λ session. refl;
   locks = λ r. refl;
   same = λ t n d used e.
       let k = done.there d (found_is (λ (x : Database). st.numbers x.name == n) st.store.databases d e).0 (stay d t n used e) in
@@ -227,6 +264,7 @@ step_from (Some a) st c stays right stay done = record {
   last_txn = (omega arith);
   actives = refl;
   own = λ t. refl;
+  places = λ session. refl;
   locks = λ r. refl;
   same = λ t n d used e.
       let k = done.there d (found_is (λ (x : Database). st.numbers x.name == n) st.store.databases d e).0 (stay d t n used e) in
@@ -292,122 +330,122 @@ late_parts st session call h =
     let b = or_none (there_refusal st session call) (or_refusal (name_refusal st session call) (target_refusal call (target_of st session call))) a.1 in
     (b.0, (or_none (name_refusal st session call) (target_refusal call (target_of st session call)) b.1).0)
 
--- ---- cursors
-
-known_opened : (cursor db : ℕ) (at : Option Name) (session : ℕ) (st : Standing) (told : List AnsweredCall) → AreSound st → IsKnown st told → IsKnown (opened cursor db at session st) told
-known_opened cursor db at session st told sound known =
-    same_known st (opened cursor db at session st) told sound (record { store = refl; numbers = refl; last_db = refl; last_txn = (omega arith); own = λ t. refl }) (λ r. refl) refl known
-
-known_opened_at : (o : Option Place) (to session : ℕ) (st : Standing) (told : List AnsweredCall) → AreSound st → IsKnown st told → IsKnown (opened_at o to session st) told
-known_opened_at None to session st told sound known = known
-known_opened_at (Some p) to session st told sound known = known_opened to p.db p.at session st told sound known
-
-known_closed : (cursor session : ℕ) (st : Standing) (told : List AnsweredCall) → AreSound st → IsKnown st told → IsKnown (closed_cursor cursor session st) told
-known_closed cursor session st told sound known =
-    same_known st (closed_cursor cursor session st) told sound (record { store = refl; numbers = refl; last_db = refl; last_txn = (omega arith); own = λ t. refl }) (λ r. refl) refl known
-
 -- ---- a call
 
-known_performed : (call : Call) (limit : Option Answer) (st : Standing) (session line : ℕ) (answer : Answer) (vs : List Victim) (told : List AnsweredCall) → IsPlainCall call → AreRight st → IsKnown st told
+known_performed : (call : Call) (limit : Option Answer) (st : Standing) (session line : ℕ) (answer : Answer) (vs : List Victim) (told : List AnsweredCall) → AreRight st → IsKnown st told
     → waits_refusal st (active_of session st.actives) ≡ None → txn_refusal call (active_of session st.actives) ≡ None → late_refusal st session call ≡ None → IsPerformed call limit st session line answer vs
     → IsKnown (after_performed call st session line answer vs) (with_told (told_of (active_of session st.actives) st call answer) told)
-known_performed (Begin level durability wait) limit st session line answer vs told p r known free txn late is =
+known_performed (Begin level durability wait) limit st session line answer vs told r known free txn late is =
     let none = no_active (active_of session st.actives) (Begin level durability wait) (λ a h. absurd (cc (h))) txn in
     as_told st _ (told_of (active_of session st.actives) st (Begin level durability wait) answer) told (not_on_records (active_of session st.actives) st (Begin level durability wait) answer refl)
-    (known_with st (record { txn = record { 0 = next_txn st.last_txn }; session = session; level = level; durability = durability; waits = wait; is_auto = false; deadlock = None }) told r.sound known refl
+    (known_with st (record { txn = record { 0 = next_txn st.last_txn }; session = session; level = level; durability = durability; waits = wait; is_auto = false; deadlock = None }) told r.sound known none refl
     (has_number st.last_txn (subst (λ (o : Option Active). number_refusal st.last_txn o ≡ None) none (late_number st session (Begin level durability wait) late))))
-known_performed Commit limit st session line answer vs told p r known free txn late is =
+known_performed Commit limit st session line answer vs told r known free txn late is =
     as_told st _ (told_of (active_of session st.actives) st Commit answer) told (not_on_records (active_of session st.actives) st Commit answer refl) (known_ending (active_of session st.actives) st session answer told r.sound known refl)
-known_performed Abort limit st session line answer vs told p r known free txn late is =
+known_performed Abort limit st session line answer vs told r known free txn late is =
     as_told st _ (told_of (active_of session st.actives) st Abort answer) told (not_on_records (active_of session st.actives) st Abort answer refl) (known_abort (active_of session st.actives) st session told r.sound known refl)
-known_performed Lists limit st session line answer vs told p r known free txn late is =
+known_performed Lists limit st session line answer vs told r known free txn late is =
     as_told st _ (told_of (active_of session st.actives) st Lists answer) told (not_on_records (active_of session st.actives) st Lists answer refl) (known_drawn (active_of session st.actives) st told r.sound known)
-known_performed (Create db kind) limit st session line answer vs told p r known free txn late is =
+known_performed (Create db kind) limit st session line answer vs told r known free txn late is =
     as_told st _ (told_of (active_of session st.actives) st (Create db kind) answer) told (not_on_records (active_of session st.actives) st (Create db kind) answer refl)
     (known_fate (fate_of answer) (Make db kind ∷ []) (active_of session st.actives) st told r.sound known
     (known_made (active_of session st.actives) st db kind told r.sound known (not_created (database_of db st.store) _ (late_parts st session (Create db kind) late).1)))
-known_performed (Remove db) limit st session line answer vs told p r known free txn late is =
+known_performed (Remove db) limit st session line answer vs told r known free txn late is =
     let d = is_there (database_of db st.store) (late_parts st session (Remove db) late).0 in
     as_told st _ (told_of (active_of session st.actives) st (Remove db) answer) told (not_on_records (active_of session st.actives) st (Remove db) answer refl)
     (known_exclusive (st.numbers db) (evaluation (Remove db) st.store) limit (active_of session st.actives) st answer told r.sound known
     (λ unused. subst (λ (x : Option Database). IsKnown (committed_if_any (evaluation_in (Remove db) st.store x).changes (drawn_by (active_of session st.actives) st)) told) (sym d.1)
     (known_removed (active_of session st.actives) st db told r.sound known unused)) is.0)
-known_performed (Rename db to) limit st session line answer vs told p r known free txn late is =
+known_performed (Rename db to) limit st session line answer vs told r known free txn late is =
     let k = late_parts st session (Rename db to) late in
     let d = is_there (database_of db st.store) k.0 in
     as_told st _ (told_of (active_of session st.actives) st (Rename db to) answer) told (not_on_records (active_of session st.actives) st (Rename db to) answer refl)
     (known_exclusive (st.numbers db) (evaluation (Rename db to) st.store) limit (active_of session st.actives) st answer told r.sound known
     (λ unused. subst (λ (x : Option Database). IsKnown (committed_if_any (evaluation_in (Rename db to) st.store x).changes (drawn_by (active_of session st.actives) st)) told) (sym d.1)
     (known_renamed (active_of session st.actives) st db to d.0 told r.sound known d.1 (not_taken (database_of to st.store) k.1) unused)) is.0)
-known_performed (Truncate db) limit st session line answer vs told p r known free txn late is =
+known_performed (Truncate db) limit st session line answer vs told r known free txn late is =
     let d = is_there (database_of db st.store) (late_parts st session (Truncate db) late).0 in
     as_told st _ (told_of (active_of session st.actives) st (Truncate db) answer) told (not_on_records (active_of session st.actives) st (Truncate db) answer refl)
     (known_exclusive (st.numbers db) (evaluation (Truncate db) st.store) limit (active_of session st.actives) st answer told r.sound known
     (λ unused. subst (λ (x : Option Database). IsKnown (committed_if_any (evaluation_in (Truncate db) st.store x).changes (drawn_by (active_of session st.actives) st)) told) (sym d.1)
     (known_emptied (active_of session st.actives) st db told r.sound known unused)) is.0)
-known_performed (Get db key rmw) limit st session line answer vs told p r known free txn late is =
+known_performed (Get db key rmw) limit st session line answer vs told r known free txn late is =
     known_run (active_of session st.actives) limit st session line (Get db key rmw) answer vs told tt r known refl free (late_number st session (Get db key rmw) late) is
-known_performed (GetBoth db key value rmw) limit st session line answer vs told p r known free txn late is =
+known_performed (GetBoth db key value rmw) limit st session line answer vs told r known free txn late is =
     known_run (active_of session st.actives) limit st session line (GetBoth db key value rmw) answer vs told tt r known refl free (late_number st session (GetBoth db key value rmw) late) is
-known_performed (Put db key value mode) limit st session line answer vs told p r known free txn late is =
+known_performed (Put db key value mode) limit st session line answer vs told r known free txn late is =
     known_run (active_of session st.actives) limit st session line (Put db key value mode) answer vs told tt r known refl free (late_number st session (Put db key value mode) late) is
-known_performed (Delete db key) limit st session line answer vs told p r known free txn late is =
+known_performed (Delete db key) limit st session line answer vs told r known free txn late is =
     known_run (active_of session st.actives) limit st session line (Delete db key) answer vs told tt r known refl free (late_number st session (Delete db key) late) is
-known_performed (Open cursor db) limit st session line answer vs told p r known free txn late is =
-    as_told st _ (told_of (active_of session st.actives) st (Open cursor db) answer) told (not_on_records (active_of session st.actives) st (Open cursor db) answer refl) (known_opened cursor (st.numbers db) None session st told r.sound known)
-known_performed (Close cursor) limit st session line answer vs told p r known free txn late is =
-    as_told st _ (told_of (active_of session st.actives) st (Close cursor) answer) told (not_on_records (active_of session st.actives) st (Close cursor) answer refl) (known_closed cursor session st told r.sound known)
-known_performed (Dup cursor to) limit st session line answer vs told p r known free txn late is =
-    as_told st _ (told_of (active_of session st.actives) st (Dup cursor to) answer) told (not_on_records (active_of session st.actives) st (Dup cursor to) answer refl)
-    (known_opened_at (place_at cursor (st.places session)) to session st told r.sound known)
-known_performed call limit st session line answer vs told p r known free txn late is = absurd p
-
--- a call is on records, or is not told
-on_or_not : (call : Call) → IsPlainCall call → MayWait call ⊎ (is_on_records call ≡ false)
-on_or_not (Get db key rmw) p = inl tt
-on_or_not (GetBoth db key value rmw) p = inl tt
-on_or_not (Put db key value mode) p = inl tt
-on_or_not (Delete db key) p = inl tt
-on_or_not call p = inr refl
+known_performed (Open cursor db) limit st session line answer vs told r known free txn late is =
+    known_opened st session cursor db told answer is.0 r.sound known (not_taken (place_at cursor (st.places session)) (late_parts st session (Open cursor db) late).1)
+known_performed (Close cursor) limit st session line answer vs told r known free txn late is = known_closed st session cursor told answer is.0 r.sound known
+known_performed (Dup cursor to) limit st session line answer vs told r known free txn late is =
+    let k = late_parts st session (Dup cursor to) late in
+    known_copied st session cursor to told answer is.0 r.sound known k.0 (not_taken (place_at to (st.places session)) k.1)
+known_performed (Count cursor) limit st session line answer vs told r known free txn late is =
+    known_run (active_of session st.actives) limit st session line (Count cursor) answer vs told tt r known refl free (late_number st session (Count cursor) late) is
+known_performed (Cur cursor motion rmw) limit st session line answer vs told r known free txn late is =
+    known_run (active_of session st.actives) limit st session line (Cur cursor motion rmw) answer vs told tt r known refl free (late_number st session (Cur cursor motion rmw) late) is
+known_performed (CPutCur cursor value) limit st session line answer vs told r known free txn late is =
+    known_run (active_of session st.actives) limit st session line (CPutCur cursor value) answer vs told tt r known refl free (late_number st session (CPutCur cursor value) late) is
+known_performed (CDel cursor) limit st session line answer vs told r known free txn late is =
+    known_run (active_of session st.actives) limit st session line (CDel cursor) answer vs told tt r known refl free (late_number st session (CDel cursor) late) is
+known_performed (CPut cursor key value mode) limit st session line answer vs told r known free txn late is =
+    known_run (active_of session st.actives) limit st session line (CPut cursor key value mode) answer vs told tt r known refl free (late_number st session (CPut cursor key value mode) late) is
 
 -- a refusal is not told
-refused_untold : (st : Standing) (session : ℕ) (call : Call) (answer refusal : Answer) → IsPlainCall call → answer ≡ refusal → late_refusal st session call ≡ Some refusal → told_of (active_of session st.actives) st call answer ≡ None
-refused_untold st session call answer refusal p is late = ⊎_elim
-    (λ may. not_told (active_of session st.actives) st call answer (ap is_evaluated is ∙ (late_other st session call refusal may late).evaluated))
-    (λ e. not_on_records (active_of session st.actives) st call answer e)
-    (on_or_not call p)
+refused_untold : (st : Standing) (session : ℕ) (call : Call) (answer refusal : Answer) → answer ≡ refusal → late_refusal st session call ≡ Some refusal → told_of (active_of session st.actives) st call answer ≡ None
+refused_untold st session call answer refusal is late = not_told (active_of session st.actives) st call answer (ap is_evaluated is ∙ (late_other st session call refusal late).evaluated)
 
-known_evaluated : (o : Option Answer) (limit : Option Answer) (st : Standing) (session line : ℕ) (call : Call) (answer : Answer) (vs : List Victim) (told : List AnsweredCall) → IsPlainCall call → AreRight st → IsKnown st told
+known_evaluated : (o : Option Answer) (limit : Option Answer) (st : Standing) (session line : ℕ) (call : Call) (answer : Answer) (vs : List Victim) (told : List AnsweredCall) → AreRight st → IsKnown st told
     → early_refusal st session call ≡ None → late_refusal st session call ≡ o → IsEvaluated o limit st session line call answer vs
     → IsKnown (after_evaluated o st session line call answer vs) (with_told (told_of (active_of session st.actives) st call answer) told)
-known_evaluated (Some refusal) limit st session line call answer vs told p r known early late is =
-    as_told st (drawn_by (active_of session st.actives) st) (told_of (active_of session st.actives) st call answer) told (refused_untold st session call answer refusal p is.0 late)
+known_evaluated (Some refusal) limit st session line call answer vs told r known early late is =
+    as_told st (drawn_by (active_of session st.actives) st) (told_of (active_of session st.actives) st call answer) told (refused_untold st session call answer refusal is.0 late)
     (known_drawn (active_of session st.actives) st told r.sound known)
-known_evaluated None limit st session line call answer vs told p r known early late is =
-    let e = early_parts st session call early in known_performed call limit st session line answer vs told p r known e.0 e.1 late is
+known_evaluated None limit st session line call answer vs told r known early late is =
+    let e = early_parts st session call early in known_performed call limit st session line answer vs told r known e.0 e.1 late is
 
-pub known_call_answered : (o : Option Answer) (limit : Option Answer) (st : Standing) (session line : ℕ) (call : Call) (answer : Answer) (vs : List Victim) (told : List AnsweredCall) → IsPlainCall call → AreRight st → IsKnown st told
+pub known_call_answered : (o : Option Answer) (limit : Option Answer) (st : Standing) (session line : ℕ) (call : Call) (answer : Answer) (vs : List Victim) (told : List AnsweredCall) → AreRight st → IsKnown st told
     → early_refusal st session call ≡ o → IsCallAnswered o limit st session line call answer vs
     → IsKnown (after_call o st session line call answer vs) (with_told (told_of (active_of session st.actives) st call answer) told)
-known_call_answered (Some refusal) limit st session line call answer vs told p r known early is =
+known_call_answered (Some refusal) limit st session line call answer vs told r known early is =
     as_told st st (told_of (active_of session st.actives) st call answer) told
     (not_told (active_of session st.actives) st call answer (ap is_evaluated is.0 ∙ (early_other st session call refusal early).evaluated)) known
-known_call_answered None limit st session line call answer vs told p r known early is =
-    known_evaluated (late_refusal st session call) limit st session line call answer vs told p r known early refl is
+known_call_answered None limit st session line call answer vs told r known early is =
+    known_evaluated (late_refusal st session call) limit st session line call answer vs told r known early refl is
 
 -- ---- the other events
+
+at_place : (o : Option Place) (st : Standing) (w : Wait) → target_at (resumed st w) o ≡ target_at st o
+at_place None st w = refl
+at_place (Some p) st w = refl
+
+-- a call that goes on is on the same database
+target_going : (st : Standing) (w : Wait) (session : ℕ) (call : Call) → target_of (resumed st w) session call ≡ target_of st session call
+target_going st w session (Get db key rmw) = refl
+target_going st w session (GetBoth db key value rmw) = refl
+target_going st w session (Put db key value mode) = refl
+target_going st w session (Delete db key) = refl
+target_going st w session (Count cursor) = at_place (place_at cursor (st.places session)) st w
+target_going st w session (Cur cursor motion rmw) = at_place (place_at cursor (st.places session)) st w
+target_going st w session (CPutCur cursor value) = at_place (place_at cursor (st.places session)) st w
+target_going st w session (CDel cursor) = at_place (place_at cursor (st.places session)) st w
+target_going st w session (CPut cursor key value mode) = at_place (place_at cursor (st.places session)) st w
+target_going st w session call = refl
 
 told_going : (o : Option Active) (st : Standing) (w : Wait) (call : Call) (answer : Answer) → told_of o (resumed st w) call answer ≡ told_of o st call answer
 told_going None st w call answer = refl
 told_going (Some a) st w call answer = within a.is_auto
   where
     if_it : (b : Bool) → told_if b a (resumed st w) call answer ≡ told_if b a st call answer
-    if_it true = refl
+    if_it true = ap (λ (t : Option Target). Some (record { txn = a.txn; call = call; db = name_on t; answer = answer; own = changes_named st (st.own a.txn.0) })) (target_going st w a.session call)
     if_it false = refl
 
     within : (b : Bool) → told_within b a (resumed st w) call answer ≡ told_within b a st call answer
     within true = refl
-    within false = if_it (is_on_records call && is_evaluated answer)
+    within false = if_it ((is_of_cursors call || is_on_records call) && is_evaluated answer)
 
 known_resumed : (o : Option Wait) (limit : Option Answer) (st : Standing) (session line : ℕ) (answer : Answer) (vs : List Victim) (told : List AnsweredCall) → st.fault ≡ None → AreRight st → IsKnown st told → wait_of session st.waiting ≡ o
     → IsResumed o limit st session line answer vs → IsKnown (after_resumed o st session line answer vs) (with_told (told_resumed o st session answer) told)
@@ -415,51 +453,50 @@ known_resumed None limit st session line answer vs told fault r known its is = a
 known_resumed (Some w) limit st session line answer vs told fault r known its is =
     let f = found_is (λ (v : Wait). v.session == session) st.waiting w its in
     let same : w.session ≡ session = eqb-true w.session session f.1 in
-    let p : IsPlainCall w.call = plain w.call (all_at (λ (v : Wait). MayWait v.call) st.waiting w r.calls f.0) in
     subst (λ (x : Option AnsweredCall). IsKnown (after_call (early_refusal (resumed st w) session w.call) (resumed st w) session line w.call answer vs) (with_told x told)) (told_going (active_of session st.actives) st w w.call answer)
-    (known_call_answered (early_refusal (resumed st w) session w.call) limit (resumed st w) session line w.call answer vs told p
+    (known_call_answered (early_refusal (resumed st w) session w.call) limit (resumed st w) session line w.call answer vs told
     (resumed_is-right st w r (ap (λ (n : ℕ). wait_of n st.waiting) same ∙ its) (subst (λ (x : Option Fault). IsReady x st w.txn) fault is.1))
-    (same_known st (resumed st w) told r.sound (record { store = refl; numbers = refl; last_db = refl; last_txn = (omega arith); own = λ t. refl }) (λ x. refl) refl known) refl is.2)
+    (same_known st (resumed st w) told r.sound (record { store = refl; numbers = refl; last_db = refl; last_txn = (omega arith); own = λ t. refl }) (λ x. refl) (λ n. refl) refl known) refl is.2)
 
 -- a session ends, and its waiting call with it
 known_session : (o : Option Active) (st : Standing) (session : ℕ) (told : List AnsweredCall) → AreRight st → IsKnown st told → active_of session st.actives ≡ o → IsKnown (ended_if_any o (record st { waiting = without_wait session st.waiting })) told
 known_session None st session told r known its =
-    same_known st (record st { waiting = without_wait session st.waiting }) told r.sound (record { store = refl; numbers = refl; last_db = refl; last_txn = (omega arith); own = λ t. refl }) (λ x. refl) refl known
+    same_known st (record st { waiting = without_wait session st.waiting }) told r.sound (record { store = refl; numbers = refl; last_db = refl; last_txn = (omega arith); own = λ t. refl }) (λ x. refl) (λ n. refl) refl known
 known_session (Some a) st session told r known its =
     known_end st a [] (ended a (record st { waiting = without_wait session st.waiting })) told r.sound (its_session session st.actives a its).0 known.ground (λ c k. absurd k)
-    (record { store = refl; numbers = refl; last_db = refl; last_txn = refl; actives = refl; own = λ t. refl; locks = λ x. refl }) (λ b k apart. known.each b k)
+    (record { store = refl; numbers = refl; last_db = refl; last_txn = refl; actives = refl; own = λ t. refl; places = λ n. refl; locks = λ x. refl }) (λ b k apart. known.each b k)
 
 -- marks of syncs, checkpoints and faults
 known_mark : (st new : Standing) (told : List AnsweredCall) → AreSound st → IsKnown st told → new.store ≡ st.store → new.numbers ≡ st.numbers → new.last_db ≡ st.last_db → new.last_txn ≡ st.last_txn → ((t : ℕ) → new.own t ≡ st.own t)
-    → ((x : RecordId) → new.locks.at x ≡ st.locks.at x) → new.actives ≡ st.actives → IsKnown new told
-known_mark st new told sound known a b c d e f g = same_known st new told sound (record { store = a; numbers = b; last_db = c; last_txn = omega (arith, d); own = e }) f g known
+    → ((x : RecordId) → new.locks.at x ≡ st.locks.at x) → ((session : ℕ) → new.places session ≡ st.places session) → new.actives ≡ st.actives → IsKnown new told
+known_mark st new told sound known a b c d e f p g = same_known st new told sound (record { store = a; numbers = b; last_db = c; last_txn = omega (arith, d); own = e }) f p g known
 
 known_faulted : (answer : Answer) (st : Standing) (told : List AnsweredCall) → AreSound st → IsKnown st told → IsKnown (faulted_if answer st) told
 known_faulted DiskFault st told sound known = faulted_known st told sound known
 known_faulted answer st told sound known = known
 
 known_sync : (answer : Answer) (st : Standing) (told : List AnsweredCall) → AreSound st → IsKnown st told → IsKnown (after_begin st answer) told
-known_sync Done st told sound known = known_mark st (record st { begun = Some st.commits }) told sound known refl refl refl refl (λ t. refl) (λ x. refl) refl
+known_sync Done st told sound known = known_mark st (record st { begun = Some st.commits }) told sound known refl refl refl refl (λ t. refl) (λ x. refl) (λ n. refl) refl
 known_sync DiskFault st told sound known = faulted_known st told sound known
 known_sync answer st told sound known = known
 
 known_synced : (answer : Answer) (st : Standing) (told : List AnsweredCall) → AreSound st → IsKnown st told → IsKnown (after_end st answer) told
-known_synced answer st told sound known = known_faulted answer (record st { begun = None }) told sound (known_mark st (record st { begun = None }) told sound known refl refl refl refl (λ t. refl) (λ x. refl) refl)
+known_synced answer st told sound known = known_faulted answer (record st { begun = None }) told sound (known_mark st (record st { begun = None }) told sound known refl refl refl refl (λ t. refl) (λ x. refl) (λ n. refl) refl)
 
 known_turn : (step : Step) (answer : Answer) (st : Standing) (told : List AnsweredCall) → AreSound st → IsKnown st told → IsKnown (after_turn step st answer) told
-known_turn BeginStep Done st told sound known = known_mark st (record st { in_checkpoint = true }) told sound known refl refl refl refl (λ t. refl) (λ x. refl) refl
-known_turn Finish Done st told sound known = known_mark st (record st { in_checkpoint = false }) told sound known refl refl refl refl (λ t. refl) (λ x. refl) refl
+known_turn BeginStep Done st told sound known = known_mark st (record st { in_checkpoint = true }) told sound known refl refl refl refl (λ t. refl) (λ x. refl) (λ n. refl) refl
+known_turn Finish Done st told sound known = known_mark st (record st { in_checkpoint = false }) told sound known refl refl refl refl (λ t. refl) (λ x. refl) (λ n. refl) refl
 known_turn BeginStep answer st told sound known = known_faulted answer st told sound known
 known_turn Finish answer st told sound known = known_faulted answer st told sound known
 known_turn Flush answer st told sound known = known_faulted answer st told sound known
 known_turn SyncStep answer st told sound known = known_faulted answer st told sound known
 
-pub event_known : (limit : Option Answer) (st : Standing) (event : Event) (told : List AnsweredCall) → st.fault ≡ None → AreRight st → IsKnown st told → IsAnswered limit st event → IsPlainEvent event
+pub event_known : (limit : Option Answer) (st : Standing) (event : Event) (told : List AnsweredCall) → st.fault ≡ None → AreRight st → IsKnown st told → IsAnswered limit st event
     → IsKnown (after_event st event) (with_told (told_by st event) told)
-event_known limit st (Called session line call answer victims) told fault r known is p = known_call_answered (early_refusal st session call) limit st session line call answer victims told p r known refl is
-event_known limit st (Resume session line answer victims) told fault r known is p = known_resumed (wait_of session st.waiting) limit st session line answer victims told fault r known refl is
-event_known limit st (End session) told fault r known is p = known_session (active_of session st.actives) st session told r known refl
-event_known limit st (WriteOut answer) told fault r known is p = known_faulted answer st told r.sound known
-event_known limit st (SyncBegin answer) told fault r known is p = known_sync answer st told r.sound known
-event_known limit st (SyncEnd answer) told fault r known is p = known_synced answer st told r.sound known
-event_known limit st (Turn line step answer) told fault r known is p = known_turn step answer st told r.sound known
+event_known limit st (Called session line call answer victims) told fault r known is = known_call_answered (early_refusal st session call) limit st session line call answer victims told r known refl is
+event_known limit st (Resume session line answer victims) told fault r known is = known_resumed (wait_of session st.waiting) limit st session line answer victims told fault r known refl is
+event_known limit st (End session) told fault r known is = known_session (active_of session st.actives) st session told r known refl
+event_known limit st (WriteOut answer) told fault r known is = known_faulted answer st told r.sound known
+event_known limit st (SyncBegin answer) told fault r known is = known_sync answer st told r.sound known
+event_known limit st (SyncEnd answer) told fault r known is = known_synced answer st told r.sound known
+event_known limit st (Turn line step answer) told fault r known is = known_turn step answer st told r.sound known

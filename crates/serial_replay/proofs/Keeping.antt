@@ -14,43 +14,42 @@ use Rattle.store_model.specs.declared.isolation.Isolation.TheVariants.{ReadUncom
 use Rattle.store_model.specs.declared.call.Call.{Call}
 use Rattle.store_model.specs.declared.record_change.RecordChange.{RecordChange}
 use Rattle.store_model.specs.declared.answer.Answer.{Answer}
-use Rattle.store_model.specs.declared.answer.Answer.TheVariants.{Rec}
+use Rattle.store_model.specs.declared.answer.Answer.TheVariants.{Done, Rec}
 use Rattle.store_model.specs.Store.{Pair, name_of, all_pairs_changed, IsStore}
-use Rattle.store_model.specs.Reads.{Look, is_within, seen, passed_to, at_name}
-use Rattle.store_model.specs.Records.{Evaluated, look_of, conclude}
+use Rattle.store_model.specs.declared.place.Place.{Place}
+use Rattle.store_model.specs.Reads.{Range, is_within, at_name}
+use Rattle.store_model.specs.Records.{Evaluated, evaluation, says}
+use Rattle.store_model.specs.Needs.{ranges_of}
 use Rattle.je_answers.specs.declared.active.Active.{Active}
-use Rattle.je_answers.specs.Standing.{Standing}
+use Rattle.je_answers.specs.Standing.{Standing, place_at}
 use Rattle.je_answers.specs.Views.{of_db, changes_at, changes_named}
-use Rattle.standing_laws.specs.Right.{MayWait, AreSound, HoldsWrite, place_of, txn_id}
+use Rattle.standing_laws.specs.Right.{AreSound, HoldsWrite, place_of, txn_id}
 use Rattle.standing_laws.proofs.Among.{IsAmong, all_at, all_of, among_first}
-use Rattle.serial_replay.specs.Replay.{AnsweredCall, database_of_call, calls_of}
-use Rattle.serial_replay.proofs.Locality.{AgreeWithin, read_is_local}
+use Rattle.serial_replay.specs.Replay.{AnsweredCall, Positions, calls_of, is_of_cursors, cursor_of, nowhere, position_of, positions_after}
+use Rattle.serial_replay.proofs.Locality.{AgreeWithin}
+use Rattle.serial_replay.proofs.Ranges.{evaluation_is_local}
 use Rattle.serial_replay.proofs.Changing.{alike, rises_changed}
 use Rattle.serial_replay.proofs.Holding.{Sort, IsSort, Holds, ranges, any_lock, range_can, weaker, from_write}
 use Rattle.serial_replay.proofs.Occupied.{IsOccupied}
-use Rattle.serial_replay.proofs.Shut.{Closed, is_inside, place, IsThere, IsShut}
+use Rattle.serial_replay.proofs.Shut.{Closed, is_inside, place, IsThere, IsShut, only}
 use Rattle.serial_replay.proofs.Stores.{Base, base_at, pairs_at, IsFit, AreNumbered, pairs_rise, named_same}
 
 -- ---- a call that was answered
 
--- its database and kind, what it took of the records, its transaction's changes before it, and the range that its locks shut, if any
+-- its database, with its name and kind, where its cursor stood, what it came to, its transaction's changes before it, and the ranges that the
+-- transaction's locks shut
 pub record Said : Type 0 where
   pub db : ℕ
-  pub kind : Kind
+  pub base : Base
   pub call : Call
-  pub taken : List Pair
+  pub at : Option Name
+  pub came : Evaluated
   pub before : List (ℕ × RecordChange)
-  pub closed : Option Closed
-
-abbrev pub look_in : Said → Look
-look_in s = look_of s.kind s.call None
-
-abbrev pub came_to : Said → Evaluated
-came_to s = conclude s.kind s.call None s.taken
+  pub closed : List Closed
 
 -- the records that it would see now
 abbrev pub view_in : Standing → Said → List Pair
-view_in st s = all_pairs_changed s.kind (of_db s.db s.before) (pairs_at s.db st)
+view_in st s = all_pairs_changed s.base.1 (of_db s.db s.before) (pairs_at s.db st)
 
 abbrev pub occupied_at : Standing → ℕ → Kind → Name → Type 0
 occupied_at st n kind x = IsOccupied kind (pairs_at n st) st.own n x
@@ -63,30 +62,40 @@ pub record IsUsedBy (st : Standing) (t : TxnId) (n : ℕ) : Type 0 where
 
 -- ---- what holds of it
 
-abbrev pub base_of_call : Said → Base
-base_of_call s = (database_of_call s.call, s.kind)
-
--- at serializable: it would take the same, and what it passed is shut
+-- at serializable: it would come to the same, and all that it depends on is shut
 pub record IsSer (st : Standing) (t : TxnId) (s : Said) : Type 0 where
-  pub may : MayWait s.call
-  pub covers : (x : Name) → is_within (passed_to s.kind (look_in s).way (look_in s).range s.taken) x ≡ true → (c : Closed) × (s.closed ≡ Some c) × (is_inside c x ≡ true)
-  pub there : base_at s.db st ≡ Some (base_of_call s)
+  pub there : base_at s.db st ≡ Some s.base
   pub used : IsUsedBy st t s.db
-  pub seen_is : seen s.kind (look_in s).way (look_in s).range (view_in st s) ≡ s.taken
-  pub shut : (c : Closed) → s.closed ≡ Some c → IsShut st.locks.at (occupied_at st s.db s.kind) t s.db c
+  pub is : evaluation s.base.1 s.call s.at (view_in st s) ≡ s.came
+  pub covers : (r : Range) → IsAmong r (ranges_of s.base.1 s.call s.at (view_in st s)) → (x : Name) → is_within r x ≡ true → (c : Closed) × IsAmong c s.closed × (is_inside c x ≡ true)
+  pub shut : (c : Closed) → IsAmong c s.closed → IsShut st.locks.at (occupied_at st s.db s.base.1) t s.db c
+
+-- a call that only opens a cursor or closes it is done
+abbrev pub IsSerAs : Bool → Standing → TxnId → Said → Type 0
+IsSerAs true st t s = s.came ≡ says Done None
+IsSerAs false st t s = IsSer st t s
+
+abbrev pub IsSerial : Standing → TxnId → Said → Type 0
+IsSerial st t s = IsSerAs (is_of_cursors s.call) st t s
 
 -- at repeatable read: the record that it answered stands, and is locked
 pub record IsHeldRecord (st : Standing) (t : TxnId) (s : Said) (p : Pair) : Type 0 where
-  pub there : base_at s.db st ≡ Some (base_of_call s)
-  pub held : Holds can_be_held t (st.locks.at (place s.db (On (name_of s.kind p)))).0
-  pub stands : at_name s.kind (name_of s.kind p) (view_in st s) ≡ p ∷ []
+  pub there : base_at s.db st ≡ Some s.base
+  pub held : Holds can_be_held t (st.locks.at (place s.db (On (name_of s.base.1 p)))).0
+  pub stands : at_name s.base.1 (name_of s.base.1 p) (view_in st s) ≡ p ∷ []
 
 abbrev pub IsRepeatableAs : Standing → TxnId → Said → Answer → Type 0
 IsRepeatableAs st t s (Rec key value) = IsHeldRecord st t s (key, value)
 IsRepeatableAs st t s answer = Unit {0}
 
 abbrev pub IsRepeatable : Standing → TxnId → Said → Type 0
-IsRepeatable st t s = IsRepeatableAs st t s (came_to s).answer
+IsRepeatable st t s = IsRepeatableAs st t s s.came.answer
+
+-- at serializable: the place of a cursor is shut
+pub record IsShutPlace (st : Standing) (t : TxnId) (db : ℕ) (n : Name) : Type 0 where
+  pub base : Base
+  pub there : base_at db st ≡ Some base
+  pub shut : IsShut st.locks.at (occupied_at st db base.1) t db (only n)
 
 -- ---- what another event leaves a transaction
 
@@ -107,59 +116,72 @@ module _ (t : TxnId) (level : Isolation) (st new : Standing) (stable : IsStable 
   used_kept : (n : ℕ) → IsUsedBy st t n → IsUsedBy new t n
   used_kept n u = record { its = u.its; there = u.there; held = kept.locks can_be_held any_lock u.its u.held }
 
-  pub ser_kept : level ≡ Serializable → (s : Said) → IsSer st t s → IsSer new t s
-  ser_kept ser s h = record {
-    may = h.may;
-    covers = h.covers;
-    there = there_new;
-    used = used_kept s.db h.used;
-    seen_is = sym (read_is_local s.kind (look_in s).way (look_in s).range (view_in st s) (view_in new s)
-        (rises_changed s.kind (of_db s.db s.before) (pairs_at s.db st) (pairs_rise st.numbers s.db st.store (base_of_call s) right h.there))
-        (rises_changed s.kind (of_db s.db s.before) (pairs_at s.db new) (pairs_rise new.numbers s.db new.store (base_of_call s) right_new there_new))
-        agree) ∙ h.seen_is;
-    shut = shut_new;
+  pub shut_kept : level ≡ Serializable → (n : ℕ) (b : Base) (c : Closed) → base_at n st ≡ Some b → IsShut st.locks.at (occupied_at st n b.1) t n c → IsShut new.locks.at (occupied_at new n b.1) t n c
+  shut_kept ser n b c there k = record {
+    inside = λ x o i. ⊎_elim (λ old. kept.locks is_range ranges (place n (On x)) (k.inside x old i)) (λ f. f c k i) (kept.occupied ser n b x used there o);
+    top = kept.locks is_range ranges (place n c.top) k.top;
+    stays = by c.top k.top k.stays;
   }
     where
-      there_new : base_at s.db new ≡ Some (base_of_call s)
-      there_new = stable t s.db (base_of_call s) h.used h.there
+      used : IsUsedBy st t n
+      used = record { its = place n c.top; there = refl; held = weaker is_range can_be_held range_can t (st.locks.at (place n c.top)).0 k.top }
 
-      agree : AgreeWithin s.kind (passed_to s.kind (look_in s).way (look_in s).range (seen s.kind (look_in s).way (look_in s).range (view_in st s))) (view_in st s) (view_in new s)
-      agree x w =
-          let c = h.covers x (subst (λ (l : List Pair). is_within (passed_to s.kind (look_in s).way (look_in s).range l) x ≡ true) h.seen_is w) in
-          by c.0 c.1 c.2 (kept.alike s.db (base_of_call s) x h.used h.there)
+      by : (top : Bound) → Holds is_range t (st.locks.at (place n top)).0 → IsThere (occupied_at st n b.1) top → IsThere (occupied_at new n b.1) top
+      by AtEnd held o = tt
+      by (On y) held o = kept.stays n b y used there (weaker is_range can_be_held range_can t (st.locks.at (place n (On y))).0 held) o
+
+  pub place_kept : level ≡ Serializable → (db : ℕ) (n : Name) → IsShutPlace st t db n → IsShutPlace new t db n
+  place_kept ser db n p = record { base = p.base; there = stable t db p.base used p.there; shut = shut_kept ser db p.base (only n) p.there p.shut }
+    where
+      used : IsUsedBy st t db
+      used = record { its = place db (On n); there = refl; held = weaker is_range can_be_held range_can t (st.locks.at (place db (On n))).0 p.shut.top }
+
+  ser_kept : level ≡ Serializable → (s : Said) → IsSer st t s → IsSer new t s
+  ser_kept ser s h = record {
+    there = there_new;
+    used = used_kept s.db h.used;
+    is = sym same.0 ∙ h.is;
+    covers = λ r a x w. h.covers r (subst (IsAmong r) (sym same.1) a) x w;
+    shut = λ c a. shut_kept ser s.db s.base c h.there (h.shut c a);
+  }
+    where
+      there_new : base_at s.db new ≡ Some s.base
+      there_new = stable t s.db s.base h.used h.there
+
+      agree : (r : Range) → IsAmong r (ranges_of s.base.1 s.call s.at (view_in st s)) → AgreeWithin s.base.1 r (view_in st s) (view_in new s)
+      agree r a x w = let c = h.covers r a x w in by c.0 c.1 c.2 (kept.alike s.db s.base x h.used h.there)
         where
-          by : (c : Closed) → s.closed ≡ Some c → is_inside c x ≡ true
-              → (at_name s.kind x (pairs_at s.db st) ≡ at_name s.kind x (pairs_at s.db new)) ⊎ (occupied_at st s.db s.kind x × (Holds can_be_held t (st.locks.at (place s.db (On x))).0 → ⊥))
-              → at_name s.kind x (view_in st s) ≡ at_name s.kind x (view_in new s)
-          by c e i (inl same) = alike s.kind (of_db s.db s.before) x (pairs_at s.db st) (pairs_at s.db new) same
+          by : (c : Closed) → IsAmong c s.closed → is_inside c x ≡ true
+              → (at_name s.base.1 x (pairs_at s.db st) ≡ at_name s.base.1 x (pairs_at s.db new)) ⊎ (occupied_at st s.db s.base.1 x × (Holds can_be_held t (st.locks.at (place s.db (On x))).0 → ⊥))
+              → at_name s.base.1 x (view_in st s) ≡ at_name s.base.1 x (view_in new s)
+          by c e i (inl eq) = alike s.base.1 (of_db s.db s.before) x (pairs_at s.db st) (pairs_at s.db new) eq
           by c e i (inr o) = absurd (o.1 (weaker is_range can_be_held range_can t (st.locks.at (place s.db (On x))).0 ((h.shut c e).inside x o.0 i)))
 
-      shut_new : (c : Closed) → s.closed ≡ Some c → IsShut new.locks.at (occupied_at new s.db s.kind) t s.db c
-      shut_new c e = record {
-        inside = λ x o i. ⊎_elim (λ old. kept.locks is_range ranges (place s.db (On x)) (k.inside x old i)) (λ f. f c k i) (kept.occupied ser s.db (base_of_call s) x h.used h.there o);
-        top = kept.locks is_range ranges (place s.db c.top) k.top;
-        stays = by c.top k.top k.stays;
-      }
-        where
-          k : IsShut st.locks.at (occupied_at st s.db s.kind) t s.db c
-          k = h.shut c e
+      same : (evaluation s.base.1 s.call s.at (view_in st s) ≡ evaluation s.base.1 s.call s.at (view_in new s)) × (ranges_of s.base.1 s.call s.at (view_in st s) ≡ ranges_of s.base.1 s.call s.at (view_in new s))
+      same = evaluation_is_local s.base.1 s.call s.at (view_in st s) (view_in new s)
+          (rises_changed s.base.1 (of_db s.db s.before) (pairs_at s.db st) (pairs_rise st.numbers s.db st.store s.base right h.there))
+          (rises_changed s.base.1 (of_db s.db s.before) (pairs_at s.db new) (pairs_rise new.numbers s.db new.store s.base right_new there_new))
+          agree
 
-          by : (top : Bound) → Holds is_range t (st.locks.at (place s.db top)).0 → IsThere (occupied_at st s.db s.kind) top → IsThere (occupied_at new s.db s.kind) top
-          by AtEnd held o = tt
-          by (On y) held o = kept.stays s.db (base_of_call s) y h.used h.there (weaker is_range can_be_held range_can t (st.locks.at (place s.db (On y))).0 held) o
+  pub serial_kept : level ≡ Serializable → (s : Said) → IsSerial st t s → IsSerial new t s
+  serial_kept ser s h = by (is_of_cursors s.call) h
+    where
+      by : (b : Bool) → IsSerAs b st t s → IsSerAs b new t s
+      by true k = k
+      by false k = ser_kept ser s k
 
   record_kept : (s : Said) (p : Pair) → IsHeldRecord st t s p → IsHeldRecord new t s p
   record_kept s p h = record {
-    there = stable t s.db (base_of_call s) used h.there;
-    held = kept.locks can_be_held any_lock (place s.db (On (name_of s.kind p))) h.held;
+    there = stable t s.db s.base used h.there;
+    held = kept.locks can_be_held any_lock (place s.db (On (name_of s.base.1 p))) h.held;
     stands = ⊎_elim
-        (λ same. sym (alike s.kind (of_db s.db s.before) (name_of s.kind p) (pairs_at s.db st) (pairs_at s.db new) same) ∙ h.stands)
+        (λ same. sym (alike s.base.1 (of_db s.db s.before) (name_of s.base.1 p) (pairs_at s.db st) (pairs_at s.db new) same) ∙ h.stands)
         (λ o. absurd (o.1 h.held))
-        (kept.alike s.db (base_of_call s) (name_of s.kind p) used h.there);
+        (kept.alike s.db s.base (name_of s.base.1 p) used h.there);
   }
     where
       used : IsUsedBy st t s.db
-      used = record { its = place s.db (On (name_of s.kind p)); there = refl; held = h.held }
+      used = record { its = place s.db (On (name_of s.base.1 p)); there = refl; held = h.held }
 
   pub repeatable_kept : (s : Said) (answer : Answer) → IsRepeatableAs st t s answer → IsRepeatableAs new t s answer
   repeatable_kept s (Rec key value) h = record_kept s (key, value) h
@@ -167,19 +189,34 @@ module _ (t : TxnId) (level : Isolation) (st new : Standing) (stable : IsStable 
 
 -- ---- the calls of a transaction
 
--- the changes before each call are those of the calls before it, and in the end all of the transaction's
-abbrev pub Follows : List (ℕ × RecordChange) → List Said → List (ℕ × RecordChange) → Type 0
-Follows before [] own = own ≡ before
-Follows before (s ∷ said) own = (s.before ≡ before) × Follows (before ++ changes_at s.db (came_to s).changes) said own
+-- the changes before each call are those of the calls before it, and in the end all of the transaction's; each is made where those before it left its cursor
+abbrev pub Follows : List (ℕ × RecordChange) → Positions → List Said → List (ℕ × RecordChange) → Type 0
+Follows before at [] own = own ≡ before
+Follows before at (s ∷ said) own = (s.before ≡ before) × (s.at ≡ position_of (cursor_of s.call) at) × Follows (before ++ changes_at s.db s.came.changes) (positions_after s.call s.came.place at) said own
+
+-- where calls leave the cursors
+abbrev pub positions_by : List Said → Positions → Positions
+positions_by [] at = at
+positions_by (s ∷ said) at = positions_by said (positions_after s.call s.came.place at)
 
 abbrev pub call_by : Standing → TxnId → Said → AnsweredCall
-call_by st t s = record { txn = t; call = s.call; answer = (came_to s).answer; own = changes_named st s.before }
+call_by st t s = record { txn = t; call = s.call; db = s.base.0; answer = s.came.answer; own = changes_named st s.before }
 
-pub record KeepsOf (st : Standing) (told : List AnsweredCall) (t : TxnId) (level : Isolation) : Type 0 where
+-- a session's cursors stand where its calls left them
+abbrev pub AreWhere : Standing → ℕ → Positions → Type 0
+AreWhere st session at = (cursor : ℕ) (p : Place) → place_at cursor (st.places session) ≡ Some p → p.at ≡ at cursor
+
+abbrev pub AreShutPlaces : Standing → TxnId → ℕ → Type 0
+AreShutPlaces st t session = (cursor : ℕ) (p : Place) → place_at cursor (st.places session) ≡ Some p → (n : Name) → p.at ≡ Some n → IsShutPlace st t p.db n
+
+-- what holds of a session's transaction at a level; one of a single call tells none
+pub record KeepsOf (st : Standing) (told : List AnsweredCall) (t : TxnId) (level : Isolation) (session : ℕ) (auto : Bool) : Type 0 where
   pub said : List Said
   pub calls : calls_of t told ≡ map (call_by st t) said
-  pub follows : Follows [] said (st.own t.0)
-  pub ser : level ≡ Serializable → AllByRecursion (IsSer st t) said
+  pub follows : Follows [] nowhere said (st.own t.0)
+  pub positions : auto ≡ false → AreWhere st session (positions_by said nowhere)
+  pub ser : level ≡ Serializable → AllByRecursion (IsSerial st t) said
+  pub places : auto ≡ false → level ≡ Serializable → AreShutPlaces st t session
   pub repeatable : level ≡ RepeatableRead → AllByRecursion (IsRepeatable st t) said
 
 -- the levels of whose calls something holds
@@ -190,14 +227,17 @@ keeps RepeatableRead = true
 keeps Serializable = true
 
 -- the changes before a call are among the transaction's
-pub follows_from : (before : List (ℕ × RecordChange)) (said : List Said) (own : List (ℕ × RecordChange)) (c : ℕ × RecordChange) → Follows before said own → IsAmong c before → IsAmong c own
-follows_from before [] own c h a = subst (IsAmong c) (sym h) a
-follows_from before (s ∷ said) own c h a = follows_from (before ++ changes_at s.db (came_to s).changes) said own c h.1 (among_first before (changes_at s.db (came_to s).changes) c a)
+pub follows_from : (before : List (ℕ × RecordChange)) (at : Positions) (said : List Said) (own : List (ℕ × RecordChange)) (c : ℕ × RecordChange) → Follows before at said own → IsAmong c before → IsAmong c own
+follows_from before at [] own c h a = subst (IsAmong c) (sym h) a
+follows_from before at (s ∷ said) own c h a =
+    follows_from (before ++ changes_at s.db s.came.changes) (positions_after s.call s.came.place at) said own c h.2 (among_first before (changes_at s.db s.came.changes) c a)
 
-pub before_own : (before : List (ℕ × RecordChange)) (said : List Said) (own : List (ℕ × RecordChange)) → Follows before said own → AllByRecursion (λ s. (c : ℕ × RecordChange) → IsAmong c s.before → IsAmong c own) said
-before_own before [] own h = tt
-before_own before (s ∷ said) own h =
-    (λ c a. follows_from before (s ∷ said) own c h (subst (IsAmong c) h.0 a), before_own (before ++ changes_at s.db (came_to s).changes) said own h.1)
+pub before_own : (before : List (ℕ × RecordChange)) (at : Positions) (said : List Said) (own : List (ℕ × RecordChange)) → Follows before at said own → AllByRecursion (λ s. (c : ℕ × RecordChange) → IsAmong c s.before → IsAmong c own) said
+before_own before at [] own h = tt
+before_own before at (s ∷ said) own h = (
+  λ c a. follows_from before at (s ∷ said) own c h (subst (IsAmong c) h.0 a),
+  before_own (before ++ changes_at s.db s.came.changes) (positions_after s.call s.came.place at) said own h.2,
+)
 
 all_each : {X : Type 0} (P Q : X → Type 0) → ((x : X) → P x → Q x) → (xs : List X) → AllByRecursion P xs → AllByRecursion Q xs
 all_each P Q f [] h = tt
@@ -209,18 +249,24 @@ pub same_calls : (st new : Standing) (t : TxnId) (own : List (ℕ × RecordChang
 same_calls st new t own same [] h = refl
 same_calls st new t own same (s ∷ said) h =
     ap₂ (λ (c : AnsweredCall) (l : List AnsweredCall). c ∷ l)
-    (ap (λ (cs : _). record { txn = t; call = s.call; answer = (came_to s).answer; own = cs }) (named_same st.numbers new.numbers st.store new.store s.before (λ c a. same c (h.0 c a))))
+    (ap (λ (cs : _). record { txn = t; call = s.call; db = s.base.0; answer = s.came.answer; own = cs }) (named_same st.numbers new.numbers st.store new.store s.before (λ c a. same c (h.0 c a))))
     (same_calls st new t own same said h.1)
 
-module _ (t : TxnId) (level : Isolation) (st new : Standing) (told told_new : List AnsweredCall) (stable : IsStable st new) (right : IsStore st.store) (right_new : IsStore new.store) where
-  pub keeps_kept : IsKept t level st new → ((c : ℕ × RecordChange) → IsAmong c (st.own t.0) → base_at c.0 st ≡ base_at c.0 new) → new.own t.0 ≡ st.own t.0 → calls_of t told_new ≡ calls_of t told
-      → KeepsOf st told t level → KeepsOf new told_new t level
-  keeps_kept kept same own calls k = record {
+-- a session's cursors stand where they stood
+abbrev pub KeepsPlaces : ℕ → Standing → Standing → Type 0
+KeepsPlaces session st new = (cursor : ℕ) → place_at cursor (new.places session) ≡ place_at cursor (st.places session)
+
+module _ (t : TxnId) (level : Isolation) (session : ℕ) (auto : Bool) (st new : Standing) (told told_new : List AnsweredCall) (stable : IsStable st new) (right : IsStore st.store) (right_new : IsStore new.store) where
+  pub keeps_kept : IsKept t level st new → (auto ≡ false → KeepsPlaces session st new) → ((c : ℕ × RecordChange) → IsAmong c (st.own t.0) → base_at c.0 st ≡ base_at c.0 new) → new.own t.0 ≡ st.own t.0 → calls_of t told_new ≡ calls_of t told
+      → KeepsOf st told t level session auto → KeepsOf new told_new t level session auto
+  keeps_kept kept moved same own calls k = record {
     said = k.said;
-    calls = calls ∙ (k.calls ∙ same_calls st new t (st.own t.0) same k.said (before_own [] k.said (st.own t.0) k.follows));
-    follows = subst (λ (l : List (ℕ × RecordChange)). Follows [] k.said l) (sym own) k.follows;
-    ser = λ e. all_each (IsSer st t) (IsSer new t) (λ s h. ser_kept t level st new stable kept right right_new e s h) k.said (k.ser e);
-    repeatable = λ e. all_each (IsRepeatable st t) (IsRepeatable new t) (λ s h. repeatable_kept t level st new stable kept right right_new s (came_to s).answer h) k.said (k.repeatable e);
+    calls = calls ∙ (k.calls ∙ same_calls st new t (st.own t.0) same k.said (before_own [] nowhere k.said (st.own t.0) k.follows));
+    follows = subst (λ (l : List (ℕ × RecordChange)). Follows [] nowhere k.said l) (sym own) k.follows;
+    positions = λ own_call cursor p e. k.positions own_call cursor p (sym (moved own_call cursor) ∙ e);
+    ser = λ e. all_each (IsSerial st t) (IsSerial new t) (λ s h. serial_kept t level st new stable kept right right_new e s h) k.said (k.ser e);
+    places = λ own_call e cursor p f n h. place_kept t level st new stable kept right right_new e p.db n (k.places own_call e cursor p (sym (moved own_call cursor) ∙ f) n h);
+    repeatable = λ e. all_each (IsRepeatable st t) (IsRepeatable new t) (λ s h. repeatable_kept t level st new stable kept right right_new s s.came.answer h) k.said (k.repeatable e);
   }
 
 -- ---- a standing
@@ -246,7 +292,7 @@ pub record IsGround (st : Standing) (told : List AnsweredCall) : Type 0 where
   pub last : AllByRecursion (λ c. c.txn.0 ≤ st.last_txn) told
 
 abbrev pub KeepsIf : Standing → List AnsweredCall → Active → Type 0
-KeepsIf st told a = keeps a.level ≡ true → KeepsOf st told a.txn a.level
+KeepsIf st told a = keeps a.level ≡ true → KeepsOf st told a.txn a.level a.session a.is_auto
 
 -- and of these, but for one transaction
 abbrev pub EachBut : TxnId → Standing → List AnsweredCall → List Active → Type 0

@@ -2,6 +2,8 @@
 pub mod Rising
 -- A read depends on the names that it passes.
 pub mod Locality
+-- What a call comes to depends on its ranges alone.
+pub mod Ranges
 -- A change is of one name.
 pub mod Changing
 -- Locks of a sort, which a transaction holds until it ends, and whom they stop.
@@ -14,6 +16,8 @@ pub mod EdgeOrder
 pub mod Shut
 -- Databases by name and by number, and how changes of records change a store.
 pub mod Stores
+-- Where cursors stand, and where calls leave them.
+pub mod Places
 -- What holds of each transaction's calls, and of the environment that they were answered in.
 pub mod Keeping
 -- The calls on records, one by one.
@@ -26,6 +30,8 @@ pub mod Calling
 pub mod Told
 -- Steps that change locks alone.
 pub mod Quiet
+-- Cursors are opened and closed.
+pub mod Cursors
 -- Changes of the catalog.
 pub mod CatalogSteps
 -- Which answers evaluation gives, and which it never gives.

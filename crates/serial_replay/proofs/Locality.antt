@@ -124,7 +124,7 @@ last_is kind (p ∷ q ∷ l) up = by (last_is kind (q ∷ l) up.1)
         greatest x (inr a) = k.greatest x a
 
 -- a name from one that was taken on was passed
-within_from : (r : Range) (x y : Name) → is_within r x ≡ true → (y ≡ x) ⊎ (name_cmp y x ≡ Less) → is_within (range (At y) r.upto) x ≡ true
+pub within_from : (r : Range) (x y : Name) → is_within r x ≡ true → (y ≡ x) ⊎ (name_cmp y x ≡ Less) → is_within (range (At y) r.upto) x ≡ true
 within_from r x y h k = both_from (is_below (At y) x) (is_below r.upto x) (from k) (both_parts (is_below r.from x) (is_below r.upto x) h).1
   where
     from : (y ≡ x) ⊎ (name_cmp y x ≡ Less) → is_gt (name_cmp y x) ≡ false

@@ -6,6 +6,7 @@ use Rattle.je_order.specs.declared.txn_id.TxnId.{TxnId}
 use Rattle.store_model.specs.declared.kind.Kind.{Kind}
 use Rattle.store_model.specs.declared.isolation.Isolation.{Isolation}
 use Rattle.store_model.specs.declared.isolation.Isolation.TheVariants.{ReadUncommitted, ReadCommitted, RepeatableRead, Serializable}
+use Rattle.je_order.specs.declared.name.Name.{Name}
 use Rattle.store_model.specs.declared.call.Call.{Call}
 use Rattle.store_model.specs.declared.call.Call.TheVariants.{Commit}
 use Rattle.store_model.specs.declared.store.Database.{Database}
@@ -23,8 +24,7 @@ use Rattle.store_model.specs.declared.event.Event.{Event}
 use Rattle.store_model.specs.declared.event.Event.TheVariants.{Call as Called, Resume, End, WriteOut, SyncBegin, SyncEnd, Turn}
 use Rattle.store_model.specs.Store.{Pair, name_of, IsStore, database_of, change_in, all_changed, all_pairs_changed}
 use Rattle.store_model.specs.Reads.{at_name}
-use Rattle.store_model.specs.Records.{Evaluated, conclude, evaluation}
-use Rattle.store_model.specs.Evaluation.{Outcome}
+use Rattle.store_model.specs.Records.{Evaluated, evaluation}
 use Rattle.store_model.specs.Refusals.{or_refusal}
 use Rattle.je_answers.specs.declared.active.Active.{Active}
 use Rattle.je_answers.specs.declared.wait.Wait.{Wait}
@@ -36,15 +36,13 @@ use Rattle.je_answers.specs.After.{ended_if_any, faulted_if, after_begin, after_
 use Rattle.je_answers.specs.Journal.{changes_ended, changes_evaluated, changes_of, changes_by}
 use Rattle.je_answers.specs.Alone.{Alone, alone}
 use Rattle.standing_laws.specs.Right.{AreRight}
-use Rattle.standing_laws.specs.Laws.{IsPlainEvent}
 use Rattle.standing_laws.proofs.Among.{IsAmong, all_at, all_of, find_some, any_from, its_session}
 use Rattle.standing_laws.proofs.StandingsStay.{standings_stay-right}
 use Rattle.standing_laws.proofs.AloneRight.{alone-is_right}
-use Rattle.serial_replay.specs.Replay.{AnsweredCall, database_of_call, calls_of, comes_to, on_store, replayed, GivesAgain, IsRecordOf, StandsAgain, IsOwedTo, is_committed, IsOwedBy, IsOwedAt, told_by, with_told, ReplaysFrom}
+use Rattle.serial_replay.specs.Replay.{AnsweredCall, Positions, Reply, calls_of, is_of_cursors, cursor_of, nowhere, position_of, positions_after, comes_to, on_store, replayed, GivesAgain, IsRecordOf, StandsAgain, IsOwedTo, is_committed, IsOwedBy, IsOwedAt, told_by, with_told, ReplaysFrom}
 use Rattle.serial_replay.specs.Laws.{HaveNumbers, JournalsReplay}
 use Rattle.serial_replay.proofs.Stores.{Numbers, IsBased, pairs_of, base_at, pairs_at, based, numbered_in, same_bytes, IsFit, AreNumbered, named_append, named_one, all_append, all_base, all_pairs, numbered_all, by_found}
-use Rattle.serial_replay.proofs.Keeping.{Said, came_to, view_in, base_of_call, IsSer, IsRepeatableAs, IsRepeatable, Follows, follows_from, before_own, call_by, KeepsOf, keeps, IsGround, IsKnown}
-use Rattle.serial_replay.proofs.Calls.{evaluation_is}
+use Rattle.serial_replay.proofs.Keeping.{Said, view_in, IsSerAs, IsSerial, IsRepeatableAs, IsRepeatable, Follows, follows_from, before_own, call_by, KeepsOf, keeps, IsGround, IsKnown}
 use Rattle.serial_replay.proofs.Replies.{early_other}
 use Rattle.serial_replay.proofs.EventsKeep.{event_known}
 
@@ -52,9 +50,9 @@ use Rattle.serial_replay.proofs.EventsKeep.{event_known}
 
 pub record IsThen (st : Standing) (s : Said) (store : Store) : Type 0 where
   pub database : Database
-  pub found : database_of (database_of_call s.call) store ≡ Some database
-  pub name : database.name ≡ database_of_call s.call
-  pub kind : database.kind ≡ s.kind
+  pub found : database_of s.base.0 store ≡ Some database
+  pub name : database.name ≡ s.base.0
+  pub kind : database.kind ≡ s.base.1
   pub pairs : database.pairs ≡ view_in st s
 
 -- the store with the changes before a call
@@ -62,7 +60,7 @@ abbrev store_then : Standing → List (ℕ × RecordChange) → Store
 store_then st before = all_changed (changes_named st before) st.store
 
 module _ (st : Standing) (told : List AnsweredCall) (ground : IsGround st told) where
-  is_then : (s : Said) (before : List (ℕ × RecordChange)) → AllByRecursion (IsFit st) before → s.before ≡ before → base_at s.db st ≡ Some (base_of_call s) → IsThen st s (store_then st before)
+  is_then : (s : Said) (before : List (ℕ × RecordChange)) → AllByRecursion (IsFit st) before → s.before ≡ before → base_at s.db st ≡ Some s.base → IsThen st s (store_then st before)
   is_then s before fit same there = record {
     database = i.database;
     found = subst (λ (n : List ℕ). database_of n (store_then st before) ≡ Some i.database) i.name
@@ -70,91 +68,96 @@ module _ (st : Standing) (told : List AnsweredCall) (ground : IsGround st told) 
     name = i.name;
     kind = i.kind;
     pairs = ap pairs_of (sym i.is)
-        ∙ (all_pairs st.numbers st.store before st.store fit (λ n. refl) s.db (base_of_call s) there
-        ∙ ap (λ (l : List (ℕ × RecordChange)). all_pairs_changed s.kind (of_db s.db l) (pairs_at s.db st)) (sym same));
+        ∙ (all_pairs st.numbers st.store before st.store fit (λ n. refl) s.db s.base there
+        ∙ ap (λ (l : List (ℕ × RecordChange)). all_pairs_changed s.base.1 (of_db s.db l) (pairs_at s.db st)) (sym same));
   }
     where
-      i : IsBased (numbered_in st.numbers s.db (store_then st before)) (base_of_call s)
-      i = based (numbered_in st.numbers s.db (store_then st before)) (base_of_call s) (all_base st.numbers st.store before st.store fit (λ n. refl) s.db ∙ there)
+      i : IsBased (numbered_in st.numbers s.db (store_then st before)) s.base
+      i = based (numbered_in st.numbers s.db (store_then st before)) s.base (all_base st.numbers st.store before st.store fit (λ n. refl) s.db ∙ there)
 
-  -- made again there it comes to the same
-  comes_again : (s : Said) (t : TxnId) (before : List (ℕ × RecordChange)) → AllByRecursion (IsFit st) before → s.before ≡ before → IsSer st t s
-      → on_store s.call (store_then st before) ≡ record { answer = (came_to s).answer; changes = map (change_in (database_of_call s.call)) (came_to s).changes }
-  comes_again s t before fit same ser =
+  -- what a call comes to again
+  abbrev reply_of : Said → Reply
+  reply_of s = record { answer = s.came.answer; changes = map (change_in s.base.0) s.came.changes; place = s.came.place }
+
+  -- made again there, from where its cursor stood, it comes to the same
+  comes_again : (s : Said) (t : TxnId) (before : List (ℕ × RecordChange)) → AllByRecursion (IsFit st) before → s.before ≡ before → (b : Bool) → IsSerAs b st t s → on_store b (call_by st t s) s.at (store_then st before) ≡ reply_of s
+  comes_again s t before fit same true ser = ap (λ (v : Evaluated). record { answer = v.answer; changes = map (change_in s.base.0) v.changes; place = v.place }) (sym ser)
+  comes_again s t before fit same false ser =
       let d = is_then s before fit same ser.there in
-      ap (λ (o : Option Database). comes_to o s.call) d.found ∙ by d.database d.name d.kind d.pairs
+      ap (λ (o : Option Database). comes_to o s.call s.at) d.found ∙ by d.database d.name d.kind d.pairs
     where
-      again : Kind → List Pair → Evaluated
-      again kind pairs = evaluation kind s.call None pairs
-
-      outcome : List ℕ → Evaluated → Outcome
-      outcome name e = record { answer = e.answer; changes = map (change_in name) e.changes }
-
-      by : (d : Database) → d.name ≡ database_of_call s.call → d.kind ≡ s.kind → d.pairs ≡ view_in st s
-          → comes_to (Some d) s.call ≡ record { answer = (came_to s).answer; changes = map (change_in (database_of_call s.call)) (came_to s).changes }
+      by : (d : Database) → d.name ≡ s.base.0 → d.kind ≡ s.base.1 → d.pairs ≡ view_in st s → comes_to (Some d) s.call s.at ≡ reply_of s
       by d name kind pairs =
-          ap₂ (λ (n : List ℕ) (e : Evaluated). record { answer = e.answer; changes = map (change_in n) e.changes }) name
-          (ap₂ (λ (k : Kind) (ps : List Pair). evaluation k s.call None ps) kind pairs
-          ∙ (evaluation_is s.kind s.call None (view_in st s) ser.may refl ∙ ap (conclude s.kind s.call None) ser.seen_is))
+          ap₂ (λ (n : List ℕ) (e : Evaluated). record { answer = e.answer; changes = map (change_in n) e.changes; place = e.place }) name
+          (ap₂ (λ (k : Kind) (ps : List Pair). evaluation k s.call s.at ps) kind pairs ∙ ser.is)
 
   -- its changes, named by its database
-  named_again : (s : Said) (cs : List RecordChange) → base_at s.db st ≡ Some (base_of_call s) → changes_named st (changes_at s.db cs) ≡ map (change_in (database_of_call s.call)) cs
-  named_again s [] there = refl
-  named_again s (c ∷ cs) there =
-      ap₂ (λ (a b : List Change). a ++ b) (named_one st.numbers st.store (s.db, c) (base_of_call s) there) (named_again s cs there)
+  based_again : (s : Said) (cs : List RecordChange) → base_at s.db st ≡ Some s.base → changes_named st (changes_at s.db cs) ≡ map (change_in s.base.0) cs
+  based_again s [] there = refl
+  based_again s (c ∷ cs) there = ap₂ (λ (a b : List Change). a ++ b) (named_one st.numbers st.store (s.db, c) s.base there) (based_again s cs there)
+
+  named_again : (s : Said) (t : TxnId) (b : Bool) → IsSerAs b st t s → changes_named st (changes_at s.db s.came.changes) ≡ map (change_in s.base.0) s.came.changes
+  named_again s t true ser = ap (λ (v : Evaluated). changes_named st (changes_at s.db v.changes)) ser ∙ ap (λ (v : Evaluated). map (change_in s.base.0) v.changes) (sym ser)
+  named_again s t false ser = based_again s s.came.changes ser.there
 
   -- the calls one after another
-  record GivesThen (said : List Said) (t : TxnId) (before own : List (ℕ × RecordChange)) : Type 0 where
-    pub answers : map (λ o. o.answer) (replayed (map (λ c. c.call) (map (call_by st t) said)) (store_then st before)) ≡ map (λ c. c.answer) (map (call_by st t) said)
-    pub changes : changes_named st before ++ flat_map (λ o. o.changes) (replayed (map (λ c. c.call) (map (call_by st t) said)) (store_then st before)) ≡ changes_named st own
+  record GivesThen (said : List Said) (t : TxnId) (before : List (ℕ × RecordChange)) (at : Positions) (own : List (ℕ × RecordChange)) : Type 0 where
+    pub answers : map (λ r. r.answer) (replayed (map (call_by st t) said) at (store_then st before)) ≡ map (λ c. c.answer) (map (call_by st t) said)
+    pub changes : changes_named st before ++ flat_map (λ r. r.changes) (replayed (map (call_by st t) said) at (store_then st before)) ≡ changes_named st own
 
-  fits_of : (before : List (ℕ × RecordChange)) (said : List Said) (own : List (ℕ × RecordChange)) → Follows before said own → AllByRecursion (IsFit st) own → AllByRecursion (IsFit st) before
-  fits_of before said own follows fit = all_of (IsFit st) before (λ c k. all_at (IsFit st) own c fit (follows_from before said own c follows k))
+  fits_of : (before : List (ℕ × RecordChange)) (at : Positions) (said : List Said) (own : List (ℕ × RecordChange)) → Follows before at said own → AllByRecursion (IsFit st) own → AllByRecursion (IsFit st) before
+  fits_of before at said own follows fit = all_of (IsFit st) before (λ c k. all_at (IsFit st) own c fit (follows_from before at said own c follows k))
 
-  gives_then : (said : List Said) (t : TxnId) (before own : List (ℕ × RecordChange)) → Follows before said own → AllByRecursion (IsFit st) own → AllByRecursion (IsSer st t) said → GivesThen said t before own
-  gives_then [] t before own follows fit ser = record { answers = refl; changes = append-nil (changes_named st before) ∙ ap (changes_named st) (sym follows) }
-  gives_then (s ∷ said) t before own follows fit ser =
-      join (comes_again s t before (fits_of before (s ∷ said) own follows fit) follows.0 ser.0) (gives_then said t (before ++ changes_at s.db (came_to s).changes) own follows.1 fit ser.1)
+  gives_then : (said : List Said) (t : TxnId) (before : List (ℕ × RecordChange)) (at : Positions) (own : List (ℕ × RecordChange)) → Follows before at said own → AllByRecursion (IsFit st) own → AllByRecursion (IsSerial st t) said
+      → GivesThen said t before at own
+  gives_then [] t before at own follows fit ser = record { answers = refl; changes = append-nil (changes_named st before) ∙ ap (changes_named st) (sym follows) }
+  gives_then (s ∷ said) t before at own follows fit ser =
+      join
+      (ap (λ (n : Option Name). on_store (is_of_cursors s.call) (call_by st t s) n (store_then st before)) (sym follows.1)
+      ∙ comes_again s t before (fits_of before at (s ∷ said) own follows fit) follows.0 (is_of_cursors s.call) ser.0)
+      (gives_then said t (before ++ changes_at s.db s.came.changes) (positions_after s.call s.came.place at) own follows.2 fit ser.1)
     where
-      calls : List Call
-      calls = map (λ c. c.call) (map (call_by st t) said)
+      calls : List AnsweredCall
+      calls = map (call_by st t) said
 
       named : List Change
-      named = map (change_in (database_of_call s.call)) (came_to s).changes
+      named = map (change_in s.base.0) s.came.changes
 
       next : List (ℕ × RecordChange)
-      next = before ++ changes_at s.db (came_to s).changes
+      next = before ++ changes_at s.db s.came.changes
 
-      named_next : changes_named st (before ++ changes_at s.db (came_to s).changes) ≡ changes_named st before ++ map (change_in (database_of_call s.call)) (came_to s).changes
-      named_next = named_append st.numbers st.store before (changes_at s.db (came_to s).changes) ∙ ap (λ (l : List Change). changes_named st before ++ l) (named_again s (came_to s).changes ser.0.there)
+      then_at : Positions
+      then_at = positions_after s.call s.came.place at
 
-      store_next : all_changed (map (change_in (database_of_call s.call)) (came_to s).changes) (store_then st before) ≡ store_then st (before ++ changes_at s.db (came_to s).changes)
-      store_next = sym (all_append (changes_named st before) (map (change_in (database_of_call s.call)) (came_to s).changes) st.store) ∙ ap (λ (l : List Change). all_changed l st.store) (sym named_next)
+      named_next : changes_named st (before ++ changes_at s.db s.came.changes) ≡ changes_named st before ++ map (change_in s.base.0) s.came.changes
+      named_next = named_append st.numbers st.store before (changes_at s.db s.came.changes) ∙ ap (λ (l : List Change). changes_named st before ++ l) (named_again s t (is_of_cursors s.call) ser.0)
 
-      join : on_store s.call (store_then st before) ≡ record { answer = (came_to s).answer; changes = map (change_in (database_of_call s.call)) (came_to s).changes }
-          → GivesThen said t (before ++ changes_at s.db (came_to s).changes) own → GivesThen (s ∷ said) t before own
+      store_next : all_changed (map (change_in s.base.0) s.came.changes) (store_then st before) ≡ store_then st (before ++ changes_at s.db s.came.changes)
+      store_next = sym (all_append (changes_named st before) (map (change_in s.base.0) s.came.changes) st.store) ∙ ap (λ (l : List Change). all_changed l st.store) (sym named_next)
+
+      join : on_store (is_of_cursors s.call) (call_by st t s) (position_of (cursor_of s.call) at) (store_then st before) ≡ record { answer = s.came.answer; changes = map (change_in s.base.0) s.came.changes; place = s.came.place }
+          → GivesThen said t (before ++ changes_at s.db s.came.changes) (positions_after s.call s.came.place at) own → GivesThen (s ∷ said) t before at own
       join e rest = record {
         answers =
-            ap (λ (o : Outcome). o.answer ∷ map (λ x. x.answer) (replayed (map (λ c. c.call) (map (call_by st t) said)) (all_changed o.changes (store_then st before)))) e
-            ∙ (ap (λ (x : Store). (came_to s).answer ∷ map (λ o. o.answer) (replayed (map (λ c. c.call) (map (call_by st t) said)) x)) store_next
-            ∙ ap (λ (l : List Answer). (came_to s).answer ∷ l) rest.answers);
+            ap (λ (o : Reply). o.answer ∷ map (λ r. r.answer) (replayed (map (call_by st t) said) (positions_after s.call o.place at) (all_changed o.changes (store_then st before)))) e
+            ∙ (ap (λ (x : Store). s.came.answer ∷ map (λ r. r.answer) (replayed (map (call_by st t) said) then_at x)) store_next ∙ ap (λ (l : List Answer). s.came.answer ∷ l) rest.answers);
         changes =
-            ap (λ (o : Outcome). changes_named st before ++ (o.changes ++ flat_map (λ x. x.changes) (replayed (map (λ c. c.call) (map (call_by st t) said)) (all_changed o.changes (store_then st before))))) e
-            ∙ (ap (λ (x : Store). changes_named st before ++ (named ++ flat_map (λ o. o.changes) (replayed (map (λ c. c.call) (map (call_by st t) said)) x))) store_next
-            ∙ (sym (append_assoc (changes_named st before) named (flat_map (λ o. o.changes) (replayed (map (λ c. c.call) (map (call_by st t) said)) (store_then st next))))
-            ∙ (ap (λ (l : List Change). l ++ flat_map (λ o. o.changes) (replayed (map (λ c. c.call) (map (call_by st t) said)) (store_then st next))) (sym named_next)
+            ap (λ (o : Reply). changes_named st before ++ (o.changes ++ flat_map (λ r. r.changes) (replayed (map (call_by st t) said) (positions_after s.call o.place at) (all_changed o.changes (store_then st before))))) e
+            ∙ (ap (λ (x : Store). changes_named st before ++ (named ++ flat_map (λ r. r.changes) (replayed (map (call_by st t) said) then_at x))) store_next
+            ∙ (sym (append_assoc (changes_named st before) named (flat_map (λ r. r.changes) (replayed (map (call_by st t) said) then_at (store_then st next))))
+            ∙ (ap (λ (l : List Change). l ++ flat_map (λ r. r.changes) (replayed (map (call_by st t) said) then_at (store_then st next))) (sym named_next)
             ∙ rest.changes)));
       }
 
-  pub gives_again : (t : TxnId) (level : Isolation) → level ≡ Serializable → KeepsOf st told t level → GivesAgain (calls_of t told) st.store (changes_named st (st.own t.0))
-  gives_again t level e k = subst (λ (l : List AnsweredCall). GivesAgain l st.store (changes_named st (st.own t.0))) (sym k.calls) (record { answers = g.answers; changes = g.changes })
+  pub gives_again : (t : TxnId) (level : Isolation) (session : ℕ) (auto : Bool) → level ≡ Serializable → KeepsOf st told t level session auto → GivesAgain (calls_of t told) st.store (changes_named st (st.own t.0))
+  gives_again t level session auto e k = subst (λ (l : List AnsweredCall). GivesAgain l st.store (changes_named st (st.own t.0))) (sym k.calls) (record { answers = g.answers; changes = g.changes })
     where
-      g : GivesThen k.said t [] (st.own t.0)
-      g = gives_then k.said t [] (st.own t.0) k.follows (ground.fits t.0) (k.ser e)
+      g : GivesThen k.said t [] nowhere (st.own t.0)
+      g = gives_then k.said t [] nowhere (st.own t.0) k.follows (ground.fits t.0) (k.ser e)
 
   -- ---- records that stand
 
-  stands_by : (o : Option Database) (s : Said) (t : TxnId) (before : List (ℕ × RecordChange)) → AllByRecursion (IsFit st) before → s.before ≡ before → database_of (database_of_call s.call) (store_then st before) ≡ o
+  stands_by : (o : Option Database) (s : Said) (t : TxnId) (before : List (ℕ × RecordChange)) → AllByRecursion (IsFit st) before → s.before ≡ before → database_of s.base.0 (store_then st before) ≡ o
       → (answer : Answer) → IsRepeatableAs st t s answer → IsRecordOf o answer
   stands_by None s t before fit same e (Rec key value) h = let d = is_then s before fit same h.there in let n = sym e ∙ d.found in absurd (cc (n))
   stands_by (Some d) s t before fit same e (Rec key value) h =
@@ -164,28 +167,29 @@ module _ (st : Standing) (told : List AnsweredCall) (ground : IsGround st told) 
       some_is : (x y : Database) → Some x ≡ Some y → x ≡ y
       some_is x y k = cc (k)
 
-      by : (x : Database) → x.kind ≡ s.kind → x.pairs ≡ view_in st s → at_name s.kind (name_of s.kind (key, value)) (view_in st s) ≡ (key, value) ∷ [] → at_name x.kind (name_of x.kind (key, value)) x.pairs ≡ (key, value) ∷ []
+      by : (x : Database) → x.kind ≡ s.base.1 → x.pairs ≡ view_in st s → at_name s.base.1 (name_of s.base.1 (key, value)) (view_in st s) ≡ (key, value) ∷ [] → at_name x.kind (name_of x.kind (key, value)) x.pairs ≡ (key, value) ∷ []
       by x kind pairs k = ap₂ (λ (q : Kind) (ps : List Pair). at_name q (name_of q (key, value)) ps) kind pairs ∙ k
   stands_by None s t before fit same e answer h = tt
   stands_by (Some d) s t before fit same e answer h = tt
 
-  pub stands_again : (t : TxnId) (level : Isolation) → level ≡ RepeatableRead → KeepsOf st told t level → AllByRecursion (StandsAgain st.store) (calls_of t told)
-  stands_again t level e k = subst (AllByRecursion (StandsAgain st.store)) (sym k.calls) (each k.said (before_own [] k.said (st.own t.0) k.follows) (k.repeatable e))
+  pub stands_again : (t : TxnId) (level : Isolation) (session : ℕ) (auto : Bool) → level ≡ RepeatableRead → KeepsOf st told t level session auto → AllByRecursion (StandsAgain st.store) (calls_of t told)
+  stands_again t level session auto e k = subst (AllByRecursion (StandsAgain st.store)) (sym k.calls) (each k.said (before_own [] nowhere k.said (st.own t.0) k.follows) (k.repeatable e))
     where
       each : (said : List Said) → AllByRecursion (λ s. (c : ℕ × RecordChange) → IsAmong c s.before → IsAmong c (st.own t.0)) said → AllByRecursion (IsRepeatable st t) said → AllByRecursion (StandsAgain st.store) (map (call_by st t) said)
       each [] own h = tt
       each (s ∷ said) own h = (
-        stands_by (database_of (database_of_call s.call) (store_then st s.before)) s t s.before (all_of (IsFit st) s.before (λ c i. all_at (IsFit st) (st.own t.0) c (ground.fits t.0) (own.0 c i))) refl refl (came_to s).answer h.0,
+        stands_by (database_of s.base.0 (store_then st s.before)) s t s.before (all_of (IsFit st) s.before (λ c i. all_at (IsFit st) (st.own t.0) c (ground.fits t.0) (own.0 c i))) refl refl s.came.answer h.0,
         each said own.1 h.1,
       )
 
 -- ---- a commit
 
-owed_at_level : (st : Standing) (told : List AnsweredCall) (t : TxnId) (level : Isolation) → IsGround st told → (keeps level ≡ true → KeepsOf st told t level) → IsOwedTo level (calls_of t told) st.store (changes_named st (st.own t.0))
-owed_at_level st told t ReadUncommitted ground k = tt
-owed_at_level st told t ReadCommitted ground k = tt
-owed_at_level st told t RepeatableRead ground k = stands_again st told ground t RepeatableRead refl (k refl)
-owed_at_level st told t Serializable ground k = gives_again st told ground t Serializable refl (k refl)
+owed_at_level : (st : Standing) (told : List AnsweredCall) (t : TxnId) (level : Isolation) (session : ℕ) (auto : Bool) → IsGround st told → (keeps level ≡ true → KeepsOf st told t level session auto)
+    → IsOwedTo level (calls_of t told) st.store (changes_named st (st.own t.0))
+owed_at_level st told t ReadUncommitted session auto ground k = tt
+owed_at_level st told t ReadCommitted session auto ground k = tt
+owed_at_level st told t RepeatableRead session auto ground k = stands_again st told ground t RepeatableRead session auto refl (k refl)
+owed_at_level st told t Serializable session auto ground k = gives_again st told ground t Serializable session auto refl (k refl)
 
 -- what a commit that was not refused is to commit
 commit_late : (st : Standing) (session : ℕ) (a : Active) → active_of session st.actives ≡ Some a → late_refusal st session Commit ≡ None
@@ -211,7 +215,7 @@ owed_commit (Some refusal) limit st session line answer vs told known early is =
 owed_commit None limit st session line answer vs told known early is =
     owed_by (is_committed answer) (active_of session st.actives) st told (changes_by st (Called session line Commit answer vs)) (λ a its.
     subst (λ (cs : List Change). IsOwedTo a.level (calls_of a.txn told) st.store cs) (sym (commit_changes st session line answer vs a early its))
-    (owed_at_level st told a.txn a.level known.ground (λ keep. known.each a (its_session session st.actives a its).0 keep)))
+    (owed_at_level st told a.txn a.level a.session a.is_auto known.ground (λ keep. known.each a (its_session session st.actives a its).0 keep)))
 
 owed_event : (limit : Option Answer) (st : Standing) (event : Event) (told : List AnsweredCall) → IsKnown st told → IsAnswered limit st event → IsOwedAt st told event
 owed_event limit st (Called session line Commit answer vs) told known is = owed_commit (early_refusal st session Commit) limit st session line answer vs told known refl is
@@ -277,23 +281,23 @@ fault_stays st (Turn line step answer) f = fault_turned step answer st f
 abbrev Carries : Standing → List AnsweredCall → Type 0
 Carries st told = ((st.fault ≡ None) × AreRight st × IsKnown st told) ⊎ HasFault st
 
-carried : (limit : Option Answer) (st : Standing) (event : Event) (told : List AnsweredCall) → Carries st told → IsAnswered limit st event → IsPlainEvent event → Carries (after_event st event) (with_told (told_by st event) told)
-carried limit st event told (inl c) is p = by (after_event st event).fault refl
+carried : (limit : Option Answer) (st : Standing) (event : Event) (told : List AnsweredCall) → Carries st told → IsAnswered limit st event → Carries (after_event st event) (with_told (told_by st event) told)
+carried limit st event told (inl c) is = by (after_event st event).fault refl
   where
     by : (o : Option Fault) → (after_event st event).fault ≡ o → Carries (after_event st event) (with_told (told_by st event) told)
-    by None e = inl (e, standings_stay-right limit st event c.0 c.1 is p, event_known limit st event told c.0 c.1 c.2 is p)
+    by None e = inl (e, standings_stay-right limit st event c.0 c.1 is, event_known limit st event told c.0 c.1 c.2 is)
     by (Some first) e = inr (first, e)
-carried limit st event told (inr f) is p = inr (fault_stays st event f)
+carried limit st event told (inr f) is = inr (fault_stays st event f)
 
 owed : (limit : Option Answer) (st : Standing) (event : Event) (told : List AnsweredCall) → Carries st told → IsAnswered limit st event → IsOwedAt st told event
 owed limit st event told (inl c) is = owed_event limit st event told c.2 is
 owed limit st event told (inr f) is = owed_faulted limit st event told f.0 f.1 is
 
-replays : (limits : List (Option Answer)) (journal : List Event) (st : Standing) (told : List AnsweredCall) → Carries st told → AnswersAsModel st limits journal → AllByRecursion IsPlainEvent journal → ReplaysFrom st told journal
-replays limits [] st told c is p = tt
-replays [] (event ∷ journal) st told c is p = absurd is
-replays (limit ∷ limits) (event ∷ journal) st told c is p =
-    (owed limit st event told c is.0, replays limits journal (after_event st event) (with_told (told_by st event) told) (carried limit st event told c is.0 p.0) is.1 p.1)
+replays : (limits : List (Option Answer)) (journal : List Event) (st : Standing) (told : List AnsweredCall) → Carries st told → AnswersAsModel st limits journal → ReplaysFrom st told journal
+replays limits [] st told c is = tt
+replays [] (event ∷ journal) st told c is = absurd is
+replays (limit ∷ limits) (event ∷ journal) st told c is =
+    (owed limit st event told c is.0, replays limits journal (after_event st event) (with_told (told_by st event) told) (carried limit st event told c is.0) is.1)
 
 -- ---- the beginning
 
@@ -315,7 +319,7 @@ known_first p right numbers = record {
 }
 
 pub journals-replay : JournalsReplay
-journals-replay p limits journal right numbers is plain = replays limits journal (alone p) [] (first p.fault refl) is plain
+journals-replay p limits journal right numbers is = replays limits journal (alone p) [] (first p.fault refl) is
   where
     first : (o : Option Fault) → p.fault ≡ o → Carries (alone p) []
     first None e = inl (e, alone-is_right p, known_first p right numbers)

@@ -1,30 +1,30 @@
 -- Which answers evaluation gives, and which it never gives: refusals, waits and limits of the log.
-use Rattle.std.proofs.Common.{◌≡◌, ℕ, Bool, true, false, cond, ◌&&◌, List, [], ◌∷◌, Option, None, Some, refl, ap, ◌∙◌, subst, is_some, nat_lt, length}
+use Rattle.std.proofs.Common.{◌≡◌, ℕ, Bool, true, false, cond, ◌&&◌, ◌||◌, List, Option, None, Some, refl, ap, ◌∙◌, subst, is_some, nat_lt, nat_le, length}
 use Rattle.std.proofs.lemmas.Bool.{both_ways, and_right}
 use Rattle.je_order.specs.declared.txn_id.TxnId.{TxnId}
 use Rattle.je_order.specs.declared.limits.TheConstants.{KEY_LIMIT}
-use Rattle.store_model.specs.declared.store.TheConstants.{LAST_TXN}
+use Rattle.store_model.specs.declared.store.TheConstants.{LAST_TXN, MOST_DATABASES}
 use Rattle.store_model.specs.declared.kind.Kind.{Kind}
 use Rattle.store_model.specs.declared.kind.Kind.TheVariants.{Plain, Dup}
-use Rattle.store_model.specs.declared.put_mode.PutMode.{PutMode}
-use Rattle.store_model.specs.declared.put_mode.PutMode.TheVariants.{Overwrite, NoOverwrite, NoDupData}
+use Rattle.store_model.specs.declared.put_mode.PutMode.TheVariants.{NoDupData}
+use Rattle.store_model.specs.declared.motion.Motion.{Motion}
+use Rattle.store_model.specs.declared.motion.Motion.TheVariants.{Key, Range as InRange, Both, BothRange}
+use Rattle.store_model.specs.declared.place.Place.{Place}
 use Rattle.store_model.specs.declared.call.Call.{Call}
-use Rattle.store_model.specs.declared.call.Call.TheVariants.{Begin, Commit, Abort, Create, Remove, Rename, Truncate, Get, GetBoth, Put, Delete, Open}
+use Rattle.store_model.specs.declared.call.Call.TheVariants.{Begin, Commit, Abort, Create, Remove, Rename, Truncate, Get, GetBoth, Put, Delete, Open, Close, Dup as Duplicate, Count as Counts, Cur, CPutCur, CDel, CPut}
 use Rattle.store_model.specs.declared.answer.Answer.{Answer}
-use Rattle.store_model.specs.declared.answer.Answer.TheVariants.{Done, Rec, Count, NotFound, KeyExist, KeyEmpty, MustAbort, SessionWaits, NoTxn, InTxn, NoDatabase, OnlyOnDuplicates, TooLong, LogFull, IdsEnded, Invalid}
+use Rattle.store_model.specs.declared.answer.Answer.TheVariants.{Done, Rec, Count, NotFound, KeyExist, KeyEmpty, MustAbort, SessionWaits, NoTxn, InTxn, NoDatabase, NoCursor, NameTaken, TooMany, NotOnDuplicates, OnlyOnDuplicates, TooLong, LogFull, IdsEnded, Invalid}
 use Rattle.store_model.specs.declared.answer.Fault.{Fault}
-use Rattle.store_model.specs.Store.{Pair, database_of}
-use Rattle.store_model.specs.Records.{conclude, found, deleted, put_unless, tested_for}
-use Rattle.store_model.specs.Refusals.{or_refusal, database_refuses, kind_refusal, pair_refusal, too_long, data_limit}
+use Rattle.store_model.specs.Store.{database_of}
+use Rattle.store_model.specs.Refusals.{or_refusal, kind_refusal, size_refusal, motion_refusal, pair_refusal, too_long, data_limit}
 use Rattle.je_answers.specs.declared.active.Active.{Active}
-use Rattle.je_answers.specs.Standing.{Standing, active_of}
+use Rattle.je_answers.specs.Standing.{Standing, active_of, place_at}
 use Rattle.je_answers.specs.Views.{Target, target_of}
-use Rattle.je_answers.specs.Refusals.{fault_refusal, waits_refusal, victim_refusal, abort_refusal, txn_refusal, early_refusal, number_refusal, there_refusal, name_refusal, target_refusal, late_refusal}
+use Rattle.je_answers.specs.Refusals.{fault_refusal, waits_refusal, victim_refusal, abort_refusal, txn_refusal, early_refusal, number_refusal, database_refusal, cursor_refusal, there_refusal, name_refusal, target_refusal, late_refusal}
 use Rattle.je_answers.specs.Events.{log_limit}
 use Rattle.je_answers.specs.After.{fate_of}
 use Rattle.je_answers.specs.After.Fate.{Succeeds, IsRefused}
-use Rattle.standing_laws.specs.Right.{MayWait}
-use Rattle.serial_replay.specs.Replay.{is_on_records, is_evaluated, is_committed, told_if, told_within, told_of}
+use Rattle.serial_replay.specs.Replay.{is_of_cursors, is_on_records, is_evaluated, is_committed, told_if, told_within, told_of}
 
 -- ---- refusals
 
@@ -92,52 +92,78 @@ of_long limit bytes r h = when (nat_lt limit (length bytes)) (TooLong (length by
 of_pair : (kind : Kind) (key value : List ℕ) (r : Answer) → pair_refusal kind key value ≡ Some r → IsOther r
 of_pair kind key value r h = either (too_long KEY_LIMIT key) (too_long (data_limit kind) value) r h (of_long KEY_LIMIT key r) (of_long (data_limit kind) value r)
 
-of_kind : (kind : Kind) (db key value : List ℕ) (mode : PutMode) (r : Answer) → kind_refusal (Put db key value mode) kind ≡ Some r → IsOther r
-of_kind Plain db key value Overwrite r h = none_is r h
-of_kind Plain db key value NoOverwrite r h = none_is r h
-of_kind Plain db key value NoDupData r h = plainly OnlyOnDuplicates r refl refl h
-of_kind Dup db key value Overwrite r h = none_is r h
-of_kind Dup db key value NoOverwrite r h = none_is r h
-of_kind Dup db key value NoDupData r h = none_is r h
+of_motion : (motion : Motion) (kind : Kind) (r : Answer) → motion_refusal motion kind ≡ Some r → IsOther r
+of_motion (Key key) kind r h = of_long KEY_LIMIT key r h
+of_motion (InRange key) kind r h = of_long KEY_LIMIT key r h
+of_motion (Both key value) kind r h = of_pair kind key value r h
+of_motion (BothRange key value) kind r h = of_pair kind key value r h
+of_motion motion kind r h = none_is r h
 
-of_database : (kind : Kind) (call : Call) (r : Answer) → MayWait call → database_refuses kind call ≡ Some r → IsOther r
-of_database Plain (Get db key rmw) r may h = of_long KEY_LIMIT key r h
-of_database Dup (Get db key rmw) r may h = of_long KEY_LIMIT key r h
-of_database Plain (GetBoth db key value rmw) r may h = of_pair Plain key value r h
-of_database Dup (GetBoth db key value rmw) r may h = of_pair Dup key value r h
-of_database kind (Put db key value mode) r may h = either (kind_refusal (Put db key value mode) kind) (pair_refusal kind key value) r h (of_kind kind db key value mode r) (of_pair kind key value r)
-of_database Plain (Delete db key) r may h = of_long KEY_LIMIT key r h
-of_database Dup (Delete db key) r may h = of_long KEY_LIMIT key r h
-of_database kind call r may h = absurd may
+of_kind : (call : Call) (kind : Kind) (r : Answer) → kind_refusal call kind ≡ Some r → IsOther r
+of_kind (CPutCur cursor value) Dup r h = plainly NotOnDuplicates r refl refl h
+of_kind (Put db key value NoDupData) Plain r h = plainly OnlyOnDuplicates r refl refl h
+of_kind (CPut cursor key value NoDupData) Plain r h = plainly OnlyOnDuplicates r refl refl h
+of_kind call kind r h = none_is r h
 
-of_target : (call : Call) (o : Option Target) (r : Answer) → MayWait call → target_refusal call o ≡ Some r → IsOther r
-of_target call None r may h = none_is r h
-of_target call (Some g) r may h = of_database g.database.kind call r may h
+of_size : (call : Call) (kind : Kind) (r : Answer) → size_refusal call kind ≡ Some r → IsOther r
+of_size (Get db key rmw) kind r h = of_long KEY_LIMIT key r h
+of_size (GetBoth db key value rmw) kind r h = of_pair kind key value r h
+of_size (Put db key value mode) kind r h = of_pair kind key value r h
+of_size (Delete db key) kind r h = of_long KEY_LIMIT key r h
+of_size (Cur cursor motion rmw) kind r h = of_motion motion kind r h
+of_size (CPutCur cursor value) kind r h = of_long (data_limit kind) value r h
+of_size (CPut cursor key value mode) kind r h = of_pair kind key value r h
+of_size call kind r h = none_is r h
 
-of_there : (st : Standing) (session : ℕ) (call : Call) (r : Answer) → MayWait call → there_refusal st session call ≡ Some r → IsOther r
-of_there st session (Get db key rmw) r may h = unless (is_some (database_of db st.store)) NoDatabase r refl refl h
-of_there st session (GetBoth db key value rmw) r may h = unless (is_some (database_of db st.store)) NoDatabase r refl refl h
-of_there st session (Put db key value mode) r may h = unless (is_some (database_of db st.store)) NoDatabase r refl refl h
-of_there st session (Delete db key) r may h = unless (is_some (database_of db st.store)) NoDatabase r refl refl h
-of_there st session call r may h = absurd may
+of_target : (call : Call) (o : Option Target) (r : Answer) → target_refusal call o ≡ Some r → IsOther r
+of_target call None r h = none_is r h
+of_target call (Some g) r h = either (kind_refusal call g.database.kind) (size_refusal call g.database.kind) r h (of_kind call g.database.kind r) (of_size call g.database.kind r)
 
-of_name : (st : Standing) (session : ℕ) (call : Call) (r : Answer) → MayWait call → name_refusal st session call ≡ Some r → IsOther r
-of_name st session (Get db key rmw) r may h = none_is r h
-of_name st session (GetBoth db key value rmw) r may h = none_is r h
-of_name st session (Put db key value mode) r may h = none_is r h
-of_name st session (Delete db key) r may h = none_is r h
-of_name st session call r may h = absurd may
+of_no_database : (st : Standing) (db : List ℕ) (r : Answer) → database_refusal st db ≡ Some r → IsOther r
+of_no_database st db r h = unless (is_some (database_of db st.store)) NoDatabase r refl refl h
+
+of_no_cursor : (cursor : ℕ) (places : List Place) (r : Answer) → cursor_refusal cursor places ≡ Some r → IsOther r
+of_no_cursor cursor places r h = unless (is_some (place_at cursor places)) NoCursor r refl refl h
+
+of_there : (st : Standing) (session : ℕ) (call : Call) (r : Answer) → there_refusal st session call ≡ Some r → IsOther r
+of_there st session (Remove db) r h = of_no_database st db r h
+of_there st session (Rename db to) r h = of_no_database st db r h
+of_there st session (Truncate db) r h = of_no_database st db r h
+of_there st session (Get db key rmw) r h = of_no_database st db r h
+of_there st session (GetBoth db key value rmw) r h = of_no_database st db r h
+of_there st session (Put db key value mode) r h = of_no_database st db r h
+of_there st session (Delete db key) r h = of_no_database st db r h
+of_there st session (Open cursor db) r h = of_no_database st db r h
+of_there st session (Close cursor) r h = of_no_cursor cursor (st.places session) r h
+of_there st session (Duplicate cursor to) r h = of_no_cursor cursor (st.places session) r h
+of_there st session (Counts cursor) r h = of_no_cursor cursor (st.places session) r h
+of_there st session (Cur cursor motion rmw) r h = of_no_cursor cursor (st.places session) r h
+of_there st session (CPutCur cursor value) r h = of_no_cursor cursor (st.places session) r h
+of_there st session (CDel cursor) r h = of_no_cursor cursor (st.places session) r h
+of_there st session (CPut cursor key value mode) r h = of_no_cursor cursor (st.places session) r h
+of_there st session call r h = none_is r h
+
+of_creation : (taken full : Bool) (r : Answer) → cond taken (Some NameTaken) (cond full (Some (TooMany MOST_DATABASES)) None) ≡ Some r → IsOther r
+of_creation true full r h = plainly NameTaken r refl refl h
+of_creation false full r h = when full (TooMany MOST_DATABASES) r refl refl h
+
+of_name : (st : Standing) (session : ℕ) (call : Call) (r : Answer) → name_refusal st session call ≡ Some r → IsOther r
+of_name st session (Create db kind) r h = of_creation (is_some (database_of db st.store)) (nat_le MOST_DATABASES (length st.store.databases)) r h
+of_name st session (Rename db to) r h = when (is_some (database_of to st.store)) NameTaken r refl refl h
+of_name st session (Open cursor db) r h = when (is_some (place_at cursor (st.places session))) NameTaken r refl refl h
+of_name st session (Duplicate cursor to) r h = when (is_some (place_at to (st.places session))) NameTaken r refl refl h
+of_name st session call r h = none_is r h
 
 of_number : (last : ℕ) (o : Option Active) (r : Answer) → number_refusal last o ≡ Some r → IsOther r
 of_number last None r h = unless (nat_lt last LAST_TXN) IdsEnded r refl refl h
 of_number last (Some a) r h = none_is r h
 
-pub late_other : (st : Standing) (session : ℕ) (call : Call) (r : Answer) → MayWait call → late_refusal st session call ≡ Some r → IsOther r
-late_other st session call r may h =
+pub late_other : (st : Standing) (session : ℕ) (call : Call) (r : Answer) → late_refusal st session call ≡ Some r → IsOther r
+late_other st session call r h =
     either (number_refusal st.last_txn (active_of session st.actives)) (or_refusal (there_refusal st session call) (or_refusal (name_refusal st session call) (target_refusal call (target_of st session call)))) r h
     (of_number st.last_txn (active_of session st.actives) r)
-    (λ k. either (there_refusal st session call) (or_refusal (name_refusal st session call) (target_refusal call (target_of st session call))) r k (of_there st session call r may)
-    (λ m. either (name_refusal st session call) (target_refusal call (target_of st session call)) r m (of_name st session call r may) (of_target call (target_of st session call) r may)))
+    (λ k. either (there_refusal st session call) (or_refusal (name_refusal st session call) (target_refusal call (target_of st session call))) r k (of_there st session call r)
+    (λ m. either (name_refusal st session call) (target_refusal call (target_of st session call)) r m (of_name st session call r) (of_target call (target_of st session call) r)))
 
 -- ---- limits of the log
 
@@ -160,25 +186,7 @@ limit_is (Some answer) r h = absurd (cc (h))
 
 -- ---- evaluation
 
-found_evaluated : (l : List Pair) → is_evaluated (found None l).answer ≡ true
-found_evaluated [] = refl
-found_evaluated (p ∷ l) = refl
-
-put_evaluated : (kind : Kind) (key value : List ℕ) (l : List Pair) → is_evaluated (put_unless kind None None key value l).answer ≡ true
-put_evaluated kind key value [] = refl
-put_evaluated kind key value (p ∷ l) = refl
-
-deleted_evaluated : (kind : Kind) (l : List Pair) → is_evaluated (deleted kind None l).answer ≡ true
-deleted_evaluated kind [] = refl
-deleted_evaluated kind (p ∷ l) = refl
-
-pub comes_evaluated : (kind : Kind) (call : Call) (taken : List Pair) → MayWait call → is_evaluated (conclude kind call None taken).answer ≡ true
-comes_evaluated kind (Get db key rmw) taken may = found_evaluated taken
-comes_evaluated kind (GetBoth db key value rmw) taken may = found_evaluated (tested_for kind value taken)
-comes_evaluated kind (Put db key value mode) taken may = put_evaluated kind key value taken
-comes_evaluated kind (Delete db key) taken may = deleted_evaluated kind taken
-comes_evaluated kind call taken may = absurd may
-
+-- an answer of evaluation comes where nothing went wrong
 pub evaluated_succeeds : (answer : Answer) → is_evaluated answer ≡ true → fate_of answer ≡ Succeeds
 evaluated_succeeds Done h = refl
 evaluated_succeeds (Rec key value) h = refl
@@ -190,29 +198,21 @@ evaluated_succeeds answer h = absurd (both_ways false refl h)
 
 -- ---- what is not told
 
-pub on_records : (call : Call) → MayWait call → is_on_records call ≡ true
-on_records (Get db key rmw) may = refl
-on_records (GetBoth db key value rmw) may = refl
-on_records (Put db key value mode) may = refl
-on_records (Delete db key) may = refl
-on_records call may = absurd may
-
-not_within : (b : Bool) (a : Active) (st : Standing) (call : Call) (answer : Answer) → (is_on_records call && is_evaluated answer) ≡ false → told_within b a st call answer ≡ None
+not_within : (b : Bool) (a : Active) (st : Standing) (call : Call) (answer : Answer) → ((is_of_cursors call || is_on_records call) && is_evaluated answer) ≡ false → told_within b a st call answer ≡ None
 not_within true a st call answer h = refl
 not_within false a st call answer h = ap (λ (x : Bool). told_if x a st call answer) h
 
 pub not_told : (o : Option Active) (st : Standing) (call : Call) (answer : Answer) → is_evaluated answer ≡ false → told_of o st call answer ≡ None
 not_told None st call answer h = refl
-not_told (Some a) st call answer h = not_within a.is_auto a st call answer (and_right (is_on_records call) (is_evaluated answer) h)
+not_told (Some a) st call answer h = not_within a.is_auto a st call answer (and_right (is_of_cursors call || is_on_records call) (is_evaluated answer) h)
 
-pub not_on_records : (o : Option Active) (st : Standing) (call : Call) (answer : Answer) → is_on_records call ≡ false → told_of o st call answer ≡ None
+pub not_on_records : (o : Option Active) (st : Standing) (call : Call) (answer : Answer) → (is_of_cursors call || is_on_records call) ≡ false → told_of o st call answer ≡ None
 not_on_records None st call answer h = refl
 not_on_records (Some a) st call answer h = not_within a.is_auto a st call answer (ap (λ (x : Bool). x && is_evaluated answer) h)
 
 pub auto_untold : (a : Active) (st : Standing) (call : Call) (answer : Answer) → a.is_auto ≡ true → told_of (Some a) st call answer ≡ None
 auto_untold a st call answer h = ap (λ (b : Bool). told_within b a st call answer) h
 
-pub is_told : (a : Active) (st : Standing) (call : Call) (answer : Answer) → a.is_auto ≡ false → MayWait call → is_evaluated answer ≡ true → told_of (Some a) st call answer ≡ told_if true a st call answer
-is_told a st call answer h may e =
-    ap (λ (b : Bool). told_within b a st call answer) h
-    ∙ (ap (λ (b : Bool). told_if (b && is_evaluated answer) a st call answer) (on_records call may) ∙ ap (λ (b : Bool). told_if b a st call answer) e)
+pub is_told : (a : Active) (st : Standing) (call : Call) (answer : Answer) → a.is_auto ≡ false → (is_of_cursors call || is_on_records call) ≡ true → is_evaluated answer ≡ true → told_of (Some a) st call answer ≡ told_if true a st call answer
+is_told a st call answer h on e =
+    ap (λ (b : Bool). told_within b a st call answer) h ∙ (ap (λ (b : Bool). told_if (b && is_evaluated answer) a st call answer) on ∙ ap (λ (b : Bool). told_if b a st call answer) e)

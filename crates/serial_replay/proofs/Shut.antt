@@ -1,11 +1,12 @@
 -- Ranges that a transaction's locks shut: each occupied name in it is locked, and so is its upper end, which stays occupied.
-use Rattle.std.proofs.Common.{◌≡◌, ◌⊎◌, inl, inr, ℕ, Bool, true, false, not, ◌&&◌, List, [], ◌∷◌, map, filter, find, Option, None, Some, refl, ap, sym, ◌∙◌, subst, ⊎_elim, Less, is_ge}
+use Rattle.std.proofs.Common.{◌≡◌, ◌⊎◌, inl, inr, ℕ, Bool, true, false, not, ◌&&◌, List, [], ◌∷◌, map, filter, find, Option, None, Some, refl, ap, sym, ◌∙◌, subst, ⊎_elim, Ordering, Less, Equal, Greater, is_gt, is_ge}
 use Rattle.std.specs.List.{AllByRecursion}
 use Rattle.std.proofs.lemmas.Bool.{cases_Bool, both_ways}
 use Rattle.je_order.specs.Edges.{Edge, is_below}
 use Rattle.je_order.specs.Edges.Edge.{First, At, Behind, End}
 use Rattle.je_order.specs.Order.{name_cmp}
 use Rattle.je_order.specs.declared.name.Name.{Name}
+use Rattle.je_order.proofs.Orderings.{name_exact}
 use Rattle.je_order.specs.declared.bound.Bound.{Bound}
 use Rattle.je_order.specs.declared.bound.Bound.TheVariants.{At as On, End as AtEnd}
 use Rattle.je_order.specs.declared.txn_id.TxnId.{TxnId}
@@ -17,12 +18,13 @@ use Rattle.lock_table.specs.Locks.{is_range, is_write}
 use Rattle.store_model.specs.declared.kind.Kind.{Kind}
 use Rattle.store_model.specs.declared.need.Need.{Need}
 use Rattle.store_model.specs.Store.{Pair, name_of}
-use Rattle.store_model.specs.Reads.{Way, Range, is_within, range, seen, passed_to, taken_by}
+use Rattle.store_model.specs.Reads.{Way, Range, is_within, range, seen, passed_to, last_of, taken_by}
 use Rattle.store_model.specs.Reads.Way.{Lowest, Highest, Each}
 use Rattle.store_model.specs.Needs.{Part, need, ends, place_of, first_from, needs_behind, part_needs}
 use Rattle.je_answers.specs.Locking.{Queues, record_of}
 use Rattle.standing_laws.proofs.Among.{IsAmong, all_at, among_filter, filter_among, among_map, among_first, among_second, found_is}
 use Rattle.serial_replay.proofs.Rising.{RisesBy, found_least, none_passes, same_names}
+use Rattle.serial_replay.proofs.Locality.{within_behind, within_from}
 use Rattle.serial_replay.proofs.EdgeOrder.{at_or_below, less_is_below, less_not_ge, not_ge_less, below_less, not_below_up}
 use Rattle.serial_replay.proofs.Holding.{Holds, IsFreeNeed, range_can, conflicts_write, conflicts_insert}
 use Rattle.serial_replay.proofs.Occupied.{HasRecord}
@@ -53,6 +55,10 @@ pub record IsShut (at : Queues) (occupied : Name → Type 0) (t : TxnId) (n : �
   pub inside : (x : Name) → occupied x → is_inside c x ≡ true → Holds is_range t (at (place n (On x))).0
   pub top : Holds is_range t (at (place n c.top)).0
   pub stays : IsThere occupied c.top
+
+-- the range of one name alone
+abbrev pub only : Name → Closed
+only n = record { from = At n; top = On n }
 
 -- ---- tests of two parts
 
@@ -101,6 +107,19 @@ first_taken (q ∷ l) p ps e = inl (head e)
 -- the first of a range is there, and within it
 pub lowest_there : (kind : Kind) (r : Range) (view : List Pair) (p : Pair) (ps : List Pair) → seen kind Lowest r view ≡ p ∷ ps → IsAmong p view × (is_within r (name_of kind p) ≡ true)
 lowest_there kind r view p ps e = filter_among (λ (q : Pair). is_within r (name_of kind q)) view p (first_taken (filter (λ q. is_within r (name_of kind q)) view) p ps e)
+
+last_among : (l : List Pair) (p : Pair) → IsAmong p (last_of l) → IsAmong p l
+last_among [] p a = a
+last_among (q ∷ []) p a = a
+last_among (q ∷ x ∷ l) p a = inr (last_among (x ∷ l) p a)
+
+-- what was taken is there, and was passed
+pub taken_there : (kind : Kind) (way : Way) (r : Range) (view : List Pair) (p : Pair) (ps : List Pair) → seen kind way r view ≡ p ∷ ps → IsAmong p view × (is_within (passed_to kind way r (p ∷ ps)) (name_of kind p) ≡ true)
+taken_there kind Lowest r view p ps e = let k = lowest_there kind r view p ps e in (k.0, within_behind r (name_of kind p) (name_of kind p) k.1 (inl refl))
+taken_there kind Highest r view p ps e =
+    let test : Pair → Bool = λ q. is_within r (name_of kind q) in
+    let f = filter_among test view p (last_among (filter test view) p (subst (IsAmong p) (sym e) (inl refl))) in (f.0, within_from r (name_of kind p) (name_of kind p) f.1 (inl refl))
+taken_there kind Each r view p ps e = filter_among (λ (q : Pair). is_within r (name_of kind q)) view p (subst (IsAmong p) (sym e) (inl refl))
 
 pub ended_by : (kind : Kind) (way : Way) (r : Range) (view : List Pair) (answered : Bool) (taken : List Pair) → seen kind way r view ≡ taken → ends way answered taken ≡ true → IsEndedBy kind view r (passed_to kind way r taken)
 ended_by kind Lowest r view answered [] e h = absurd (cc (h))
@@ -220,6 +239,24 @@ module _ (kind : Kind) (view : List Pair) (r passed : Range) (ended : Bool) (nam
             found : (o : Option Name) → find (λ m. not (is_below passed.upto m)) names ≡ o → IsThere occupied (place_of o)
             found None f = tt
             found (Some y) f = listed y (found_is (λ m. not (is_below passed.upto m)) names y f).0
+
+-- ---- one name
+
+only_is : (x y : Name) → is_inside (only x) y ≡ true → x ≡ y
+only_is x y h = by (name_cmp x y) refl (parts (is_below (At x) y) (is_upto (On x) y) h)
+  where
+    by : (o : Ordering) → name_cmp x y ≡ o → (is_gt (name_cmp x y) ≡ false) × (is_ge (name_cmp x y) ≡ true) → x ≡ y
+    by Less e p = absurd (both_ways (is_ge (name_cmp x y)) (ap is_ge e) p.1)
+    by Equal e p = name_exact x y e
+    by Greater e p = absurd (both_ways (is_gt (name_cmp x y)) p.0 (ap is_gt e))
+
+-- an occupied name that is locked is shut
+pub only_shut : (at : Queues) (occupied : Name → Type 0) (t : TxnId) (n : ℕ) (x : Name) → occupied x → Holds is_range t (at (place n (On x))).0 → IsShut at occupied t n (only x)
+only_shut at occupied t n x o h = record {
+  inside = λ y k i. subst (λ (m : Name). Holds is_range t (at (place n (On m))).0) (only_is x y i) h;
+  top = h;
+  stays = o;
+}
 
 -- ---- no name comes into a range
 

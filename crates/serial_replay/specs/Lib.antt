@@ -1,3 +1,4 @@
 pub mod Replay
 pub mod Cycles
 pub mod Laws
+pub mod Worked

@@ -1,16 +1,17 @@
 -- What isolation promises of the transactions of a journal (Getting Started with Transaction Processing, "Isolation"): a serializable one comes to
 -- the same where all its calls are made again, one after another, right before its commit; at repeatable read each record that was read stands there.
 -- It is said of the journal, the stores and evaluation alone: neither locks nor the order of calls of different transactions come in.
-use Rattle.std.specs.Prelude.{◌≡◌, ◌&&◌, ◌++◌, ◌∷◌, [], ℕ, List, Option, None, Some, Bool, true, false, filter, map}
+use Rattle.std.specs.Prelude.{◌≡◌, ◌&&◌, ◌||◌, ◌++◌, ◌∷◌, [], ℕ, List, Option, None, Some, Bool, true, false, filter, map}
 use Rattle.std.specs.List.{flat_map, AllByRecursion}
 use Rattle.je_order.specs.declared.txn_id.TxnId.{TxnId}
+use Rattle.je_order.specs.declared.name.Name.{Name}
 use Rattle.je_order.specs.Transactions.{is_same_txn}
 use Rattle.store_model.specs.declared.store.Store.{Store}
 use Rattle.store_model.specs.declared.store.Database.{Database}
 use Rattle.store_model.specs.declared.isolation.Isolation.{Isolation}
 use Rattle.store_model.specs.declared.isolation.Isolation.TheVariants.{RepeatableRead, Serializable}
 use Rattle.store_model.specs.declared.call.Call.{Call}
-use Rattle.store_model.specs.declared.call.Call.TheVariants.{Commit, Get, GetBoth, Put, Delete}
+use Rattle.store_model.specs.declared.call.Call.TheVariants.{Commit, Get, GetBoth, Put, Delete, Open, Close, Dup, Count as Counts, Cur, CPutCur, CDel, CPut}
 use Rattle.store_model.specs.declared.change.Change.{Change}
 use Rattle.store_model.specs.declared.answer.Answer.{Answer}
 use Rattle.store_model.specs.declared.answer.Answer.TheVariants.{Done, Logged, Rec, Count, NotFound, KeyExist, KeyEmpty, NoDatabase}
@@ -19,39 +20,45 @@ use Rattle.store_model.specs.declared.event.Event.TheVariants.{Call as Called, R
 use Rattle.store_model.specs.Store.{name_of, database_of, change_in, all_changed}
 use Rattle.store_model.specs.Reads.{at_name}
 use Rattle.store_model.specs.Records.{evaluation}
-use Rattle.store_model.specs.Evaluation.{Outcome, answers}
 use Rattle.je_answers.specs.declared.active.Active.{Active}
 use Rattle.je_answers.specs.declared.wait.Wait.{Wait}
-use Rattle.je_answers.specs.Standing.{Standing, active_of, wait_of}
-use Rattle.je_answers.specs.Views.{changes_named}
+use Rattle.je_answers.specs.Standing.{Standing, active_of, wait_of, with_at}
+use Rattle.je_answers.specs.Views.{Target, target_of, changes_named}
 use Rattle.je_answers.specs.Journal.{changes_by}
 use Rattle.je_answers.specs.After.{after_event}
 
 -- ---- what a journal says that a transaction was answered
 
--- a call on records in a transaction, its answer, and the changes that the transaction had made before
+-- a call in a transaction, the name of the database that it was on, its answer, and the changes that the transaction had made before
 pub record AnsweredCall : Type 0 where
   pub txn : TxnId
   pub call : Call
+  pub db : List ℕ
   pub answer : Answer
   pub own : List Change
 
--- the calls on records, and the database that each names
+-- the calls that only open cursors and close them
+abbrev pub is_of_cursors : Call → Bool
+is_of_cursors (Open cursor db) = true
+is_of_cursors (Close cursor) = true
+is_of_cursors (Dup cursor to) = true
+is_of_cursors call = false
+
+-- the calls on records, by the name of a database or at a cursor
 abbrev pub is_on_records : Call → Bool
 is_on_records (Get db key rmw) = true
 is_on_records (GetBoth db key value rmw) = true
 is_on_records (Put db key value mode) = true
 is_on_records (Delete db key) = true
+is_on_records (Counts cursor) = true
+is_on_records (Cur cursor motion rmw) = true
+is_on_records (CPutCur cursor value) = true
+is_on_records (CDel cursor) = true
+is_on_records (CPut cursor key value mode) = true
 is_on_records call = false
 
-abbrev pub database_of_call : Call → List ℕ
-database_of_call (Get db key rmw) = db
-database_of_call (GetBoth db key value rmw) = db
-database_of_call (Put db key value mode) = db
-database_of_call (Delete db key) = db
-database_of_call call = []
-
--- the answers that evaluation gives; a refusal, a wait, a deadlock, a full log and a fault are others
+-- the answers that evaluation gives; a refusal, a wait, a deadlock, a full log and a fault are others. A call at a cursor that stands at no record,
+-- and needs one, reads nothing, and is left out
 abbrev pub is_evaluated : Answer → Bool
 is_evaluated Done = true
 is_evaluated (Rec key value) = true
@@ -61,14 +68,18 @@ is_evaluated KeyExist = true
 is_evaluated KeyEmpty = true
 is_evaluated answer = false
 
+abbrev pub name_on : Option Target → List ℕ
+name_on None = []
+name_on (Some g) = g.database.name
+
 -- a call of a transaction that was evaluated; a transaction of one call ends with it, and is left out
 abbrev pub told_if : Bool → Active → Standing → Call → Answer → Option AnsweredCall
-told_if true a st call answer = Some (record { txn = a.txn; call = call; answer = answer; own = changes_named st (st.own a.txn.0) })
+told_if true a st call answer = Some (record { txn = a.txn; call = call; db = name_on (target_of st a.session call); answer = answer; own = changes_named st (st.own a.txn.0) })
 told_if false a st call answer = None
 
 abbrev pub told_within : Bool → Active → Standing → Call → Answer → Option AnsweredCall
 told_within true a st call answer = None
-told_within false a st call answer = told_if (is_on_records call && is_evaluated answer) a st call answer
+told_within false a st call answer = told_if ((is_of_cursors call || is_on_records call) && is_evaluated answer) a st call answer
 
 abbrev pub told_of : Option Active → Standing → Call → Answer → Option AnsweredCall
 told_of None st call answer = None
@@ -92,29 +103,71 @@ with_told (Some c) told = told ++ c ∷ []
 abbrev pub calls_of : TxnId → List AnsweredCall → List AnsweredCall
 calls_of t told = filter (λ c. is_same_txn t c.txn) told
 
+-- ---- cursors
+
+-- where each cursor stands, by its number
+abbrev pub Positions : Type 0
+Positions = ℕ → Option Name
+
+abbrev pub nowhere : Positions
+nowhere cursor = None
+
+-- the cursor that a call on records is at
+abbrev pub cursor_of : Call → Option ℕ
+cursor_of (Counts cursor) = Some cursor
+cursor_of (Cur cursor motion rmw) = Some cursor
+cursor_of (CPutCur cursor value) = Some cursor
+cursor_of (CDel cursor) = Some cursor
+cursor_of (CPut cursor key value mode) = Some cursor
+cursor_of call = None
+
+abbrev pub position_of : Option ℕ → Positions → Option Name
+position_of None at = None
+position_of (Some cursor) at = at cursor
+
+abbrev pub with_position : Option ℕ → Option Name → Positions → Positions
+with_position None place at = at
+with_position (Some cursor) place at = with_at cursor place at
+
+-- where a call leaves the cursors; no call asks for the place of a closed one until it is opened again
+abbrev pub positions_after : Call → Option Name → Positions → Positions
+positions_after (Open cursor db) place at = with_at cursor None at
+positions_after (Dup cursor to) place at = with_at to (at cursor) at
+positions_after call place at = with_position (cursor_of call) place at
+
 -- ---- calls made again
 
--- what a call comes to on a store: evaluation in the database that it names
-abbrev pub comes_to : Option Database → Call → Outcome
-comes_to None call = answers NoDatabase
-comes_to (Some d) call =
-    let evaluated = evaluation d.kind call None d.pairs in
-    record { answer = evaluated.answer; changes = map (change_in d.name) evaluated.changes }
+-- what a call answers and changes, and where its cursor then stands
+pub record Reply : Type 0 where
+  pub answer : Answer
+  pub changes : List Change
+  pub place : Option Name
 
-abbrev pub on_store : Call → Store → Outcome
-on_store call store = comes_to (database_of (database_of_call call) store) call
+-- what a call comes to on a store, from where its cursor stands: evaluation in the database that it was on
+abbrev pub comes_to : Option Database → Call → Option Name → Reply
+comes_to None call at = record { answer = NoDatabase; changes = []; place = at }
+comes_to (Some d) call at =
+    let evaluated = evaluation d.kind call at d.pairs in
+    record { answer = evaluated.answer; changes = map (change_in d.name) evaluated.changes; place = evaluated.place }
 
--- calls one after another, each on the store as those before it leave it
-abbrev pub replayed : List Call → Store → List Outcome
-replayed [] store = []
-replayed (call ∷ calls) store = let outcome = on_store call store in outcome ∷ replayed calls (all_changed outcome.changes store)
+-- a call that only opens a cursor or closes it is done, whatever the store holds
+abbrev pub on_store : Bool → AnsweredCall → Option Name → Store → Reply
+on_store true c at store = record { answer = Done; changes = []; place = None }
+on_store false c at store = comes_to (database_of c.db store) c.call at
+
+-- calls one after another, each on the store and from the places that those before it leave
+abbrev pub replayed : List AnsweredCall → Positions → Store → List Reply
+replayed [] at store = []
+replayed (c ∷ calls) at store =
+    let reply = on_store (is_of_cursors c.call) c (position_of (cursor_of c.call) at) store in
+    reply ∷ replayed calls (positions_after c.call reply.place at) (all_changed reply.changes store)
 
 -- ---- what is owed at a commit
 
--- made again on this store, the calls give their answers, and their changes in order are those that are committed
+-- made again on this store, with no cursor open, the calls give their answers, and their changes in order are those that are committed
 pub record GivesAgain (calls : List AnsweredCall) (store : Store) (committed : List Change) : Type 0 where
-  pub answers : map (λ o. o.answer) (replayed (map (λ c. c.call) calls) store) ≡ map (λ c. c.answer) calls
-  pub changes : flat_map (λ o. o.changes) (replayed (map (λ c. c.call) calls) store) ≡ committed
+  pub answers : map (λ r. r.answer) (replayed calls nowhere store) ≡ map (λ c. c.answer) calls
+  pub changes : flat_map (λ r. r.changes) (replayed calls nowhere store) ≡ committed
 
 -- a record that was answered is a record of its database
 abbrev pub IsRecordOf : Option Database → Answer → Type 0
@@ -124,7 +177,7 @@ IsRecordOf d answer = Unit {0}
 
 -- on this store, with the changes that the transaction had made before the call
 abbrev pub StandsAgain : Store → AnsweredCall → Type 0
-StandsAgain store c = IsRecordOf (database_of (database_of_call c.call) (all_changed c.own store)) c.answer
+StandsAgain store c = IsRecordOf (database_of c.db (all_changed c.own store)) c.answer
 
 -- what a level owes at the commit of its transaction, which had these calls, on the store just before
 abbrev pub IsOwedTo : Isolation → List AnsweredCall → Store → List Change → Type 0

@@ -20,3 +20,7 @@ pub mod Takes
 pub mod Users
 -- The first transaction whose session has a cursor on a database.
 mod CursorUsers
+-- What two clauses on a `Result` say together.
+mod Results
+-- The databases of open cursors go by their names in a store that changed.
+pub mod CursorStores

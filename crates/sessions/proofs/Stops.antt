@@ -8,10 +8,9 @@ use Rattle.je_answers.specs.After.{marked, is_victim, all_ended, autos_in, witho
 use Rattle.active_txns.specs.Marks.{HaveOwnSessions}
 use Rattle.active_txns.specs.Own.{own_of}
 use Rattle.open_cursors.specs.declared.open_cursors.OpenCursors.{OpenCursors}
-use Rattle.open_cursors.specs.Places.{AreCursorsAt}
 use Rattle.txn_locks.specs.declared.call_locks.CallLocks.{CallLocks}
 use Rattle.sessions.specs.declared.all_sessions.Sessions.{Sessions}
-use Rattle.sessions.specs.AtStanding.{AreSessionsAt, AreLocksAt}
+use Rattle.sessions.specs.AtStanding.{AreCursorsOn, AreSessionsAt, AreLocksAt}
 use Rattle.standing_laws.proofs.Marks.{marked_own, ends_marked}
 
 -- what telling left, and the ends after it
@@ -25,7 +24,7 @@ stop_stands vs us w old mid new is marks own waiting locks cursors ends st apart
     let there : AreSessionsAt mid next = record {
       actives = marks ∙ ap (marked vs) at.actives;
       own = ap own_of own ∙ at.own;
-      places = subst (λ (o : OpenCursors). AreCursorsAt o st.places) (sym cursors) at.places;
+      places = subst (λ (o : OpenCursors). AreCursorsOn o st.store st.numbers st.places) (sym cursors) at.places;
       waiting = waiting ∙ ap (λ (ws : List Wait). filter (λ x. not (is_victim x.session vs)) (ws ++ w ∷ [])) at.waiting;
       locks = subst (λ (l : CallLocks). AreLocksAt st.fault l.locks st.locks) (sym locks) at.locks;
     } in

@@ -190,7 +190,7 @@ no_cursor st db sound none session = by (active_of session st.actives) refl
 -- the one that is found by the code
 pub cursor_user : (s : Sessions) (st : Standing) (db : ℕ) (o : Option TxnId) → AreSessionsAt s st
     → ((places : ℕ → List Place) → AreCursorsAt s.cursors places → o ≡ option_map (λ (a : Active). a.txn) (find (λ a. has_cursor_on db (places a.session)) s.txns.actives.items)) → o ≡ first_with db st.places st.actives
-cursor_user s st db o at is = is st.places at.places ∙ ap (first_with db st.places) at.actives
+cursor_user s st db o at is = is st.places at.places.at ∙ ap (first_with db st.places) at.actives
 
 -- ---- the lesser of two
 

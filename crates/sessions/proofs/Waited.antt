@@ -31,9 +31,8 @@ use Rattle.sessions.specs.declared.stop_room.StopRoom.{StopRoom}
 use Rattle.active_txns.specs.declared.active_txns.ActiveTxns.{ActiveTxns}
 use Rattle.active_txns.specs.Own.{own_of}
 use Rattle.open_cursors.specs.declared.open_cursors.OpenCursors.{OpenCursors}
-use Rattle.open_cursors.specs.Places.{AreCursorsAt}
 use Rattle.lock_table.specs.Table.{Locks}
-use Rattle.sessions.specs.AtStanding.{AreSessionsAt, AreLocksAt}
+use Rattle.sessions.specs.AtStanding.{AreCursorsOn, AreSessionsAt, AreLocksAt}
 use Rattle.sessions.specs.Taking.{HasStopped}
 use Rattle.sessions.specs.Spares.{IsShort}
 use Rattle.sessions.specs.Waiting.{HasTold, HasWaited}
@@ -140,7 +139,7 @@ waited (Stopped answer victims) k session line call db kind needs ns room b old 
     let there_at : AreSessionsAt mid (record st { locks = state_of mid.locks.locks }) = record {
       actives = ap (λ (t : ActiveTxns). t.actives.items) txns_is ∙ at.actives;
       own = ap (λ (t : ActiveTxns). own_of t.own.entries) txns_is ∙ at.own;
-      places = subst (λ (o : OpenCursors). AreCursorsAt o st.places) (sym cursors_is) at.places;
+      places = subst (λ (o : OpenCursors). AreCursorsOn o st.store st.numbers st.places) (sym cursors_is) at.places;
       waiting = list;
       locks = its_own st.fault mid.locks.locks;
     } in

@@ -17,6 +17,7 @@ use Rattle.je_answers.specs.declared.active.Active.{Active}
 use Rattle.je_answers.specs.declared.wait.Wait.{Wait}
 use Rattle.je_answers.specs.Standing.{LockState, Standing, with_at}
 use Rattle.active_txns.specs.Own.{own_of, has_changes}
+use Rattle.open_cursors.specs.declared.open_cursors.OpenCursors.{OpenCursors}
 use Rattle.open_cursors.specs.Places.{AreCursorsAt, AreUnder}
 use Rattle.txn_locks.specs.Taking.{state_of}
 use Rattle.sessions.specs.declared.all_sessions.Sessions.{Sessions}
@@ -26,17 +27,22 @@ abbrev pub AreLocksAt : Option Fault → Locks → LockState → Type 0
 AreLocksAt None v state = state_of v ≡ state
 AreLocksAt (Some first) v state = Unit {0}
 
--- the sessions have these transactions, own changes, cursors, waits and locks
-pub record HaveParts (s : Sessions) (fault : Option Fault) (as_ : List Active) (changes : ℕ → List (ℕ × RecordChange)) (cursors : ℕ → List Place) (ws : List Wait) (state : LockState) : Type 0 where
+-- the open cursors of each session are these, and the database of each goes by its name in a store
+pub record AreCursorsOn (open_ : OpenCursors) (store : Store) (numbers : List ℕ → ℕ) (cursors : ℕ → List Place) : Type 0 where
+  pub at : AreCursorsAt open_ cursors
+  pub under : AreUnder store numbers open_
+
+-- the sessions have these transactions, own changes, cursors, waits and locks, and a store has the databases of the cursors
+pub record HaveParts (s : Sessions) (fault : Option Fault) (store : Store) (numbers : List ℕ → ℕ) (as_ : List Active) (changes : ℕ → List (ℕ × RecordChange)) (cursors : ℕ → List Place) (ws : List Wait) (state : LockState) : Type 0 where
   pub actives : s.txns.actives.items ≡ as_
   pub own : own_of s.txns.own.entries ≡ changes
-  pub places : AreCursorsAt s.cursors cursors
+  pub places : AreCursorsOn s.cursors store numbers cursors
   pub waiting : s.waiting.items ≡ ws
   pub locks : AreLocksAt fault s.locks.locks state
 
 -- the sessions stand where the environment stands
 abbrev pub AreSessionsAt : Sessions → Standing → Type 0
-AreSessionsAt s st = HaveParts s st.fault st.actives st.own st.places st.waiting st.locks
+AreSessionsAt s st = HaveParts s st.fault st.store st.numbers st.actives st.own st.places st.waiting st.locks
 
 -- a standing with one transaction more
 abbrev pub with_active : Active → Standing → Standing
@@ -49,10 +55,6 @@ with_own n more st = record st { own = with_at n (st.own n ++ more) st.own }
 -- a standing in which a session has other cursors
 abbrev pub with_places : ℕ → List Place → Standing → Standing
 with_places session others st = record st { places = with_at session others st.places }
-
--- a database that each open cursor is on still goes by its name, whatever store that is
-abbrev pub KeepsNames : Sessions → Sessions → Type 0
-KeepsNames old new = (store : Store) (numbers : List ℕ → ℕ) → AreUnder store numbers old.cursors → AreUnder store numbers new.cursors
 
 -- a standing without the waiting call of a session
 abbrev pub without_call : ℕ → Standing → Standing

@@ -14,14 +14,13 @@ use Rattle.je_answers.specs.Locking.{first_blocked, owner_before}
 use Rattle.je_answers.specs.Events.{queues_before, IsStopped}
 use Rattle.je_answers.specs.After.{after_stop}
 use Rattle.active_txns.specs.Own.{own_of}
-use Rattle.open_cursors.specs.Places.{AreCursorsAt}
 use Rattle.txn_locks.specs.Taking.{state_of, with_all, when_answered}
 use Rattle.txn_locks.specs.Undoing.{AreGot, HasNoRead, AreReadsAmong}
 use Rattle.standing_laws.specs.Right.{HaveWaits}
 use Rattle.sessions.specs.declared.all_sessions.Sessions.{Sessions}
 use Rattle.sessions.specs.declared.taken.Taken.{Taken}
 use Rattle.sessions.specs.declared.taken.Taken.TheVariants.{Ready, Stopped}
-use Rattle.sessions.specs.AtStanding.{AreSessionsAt}
+use Rattle.sessions.specs.AtStanding.{AreCursorsOn, AreSessionsAt}
 
 -- a session's transaction may ask for locks: it waits for none. At read committed it has no READ lock, unless its call waited before
 pub record MayAsk (s : Sessions) (session : ℕ) (resumed : Bool) : Type 0 where
@@ -35,7 +34,7 @@ pub record MayAsk (s : Sessions) (session : ℕ) (resumed : Bool) : Type 0 where
 pub record HasTaken (s : Sessions) (resumed : Bool) (a : Active) (needs : List Need) (st : Standing) : Type 0 where
   pub actives : s.txns.actives.items ≡ st.actives
   pub own : own_of s.txns.own.entries ≡ st.own
-  pub places : AreCursorsAt s.cursors st.places
+  pub places : AreCursorsOn s.cursors st.store st.numbers st.places
   pub waiting : s.waiting.items ≡ st.waiting
   pub free : first_blocked a.txn needs st.locks.at ≡ None
   pub locks : when_answered a.level a.txn (state_of s.locks.locks) ≡ when_answered a.level a.txn (with_all a.txn needs st.locks)

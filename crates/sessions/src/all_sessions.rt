@@ -4,7 +4,6 @@ ghost use Rattle.std.specs.Option.{option_copied, is_some, IfSome, IfNone};
 ghost use Rattle.je_order.specs.declared.txn_id.TxnId.{TxnId};
 ghost use Rattle.store_model.specs.declared.record_change.RecordChange.{RecordChange};
 ghost use Rattle.store_model.specs.declared.need.Need.{Need};
-ghost use Rattle.store_model.specs.declared.store.Store.{Store as Records};
 ghost use Rattle.je_answers.specs.declared.active.Active.{Active};
 ghost use Rattle.je_answers.specs.declared.wait.Wait.{Wait as WaitingCall};
 ghost use Rattle.je_answers.specs.Standing.{Standing, active_of, place_at, wait_of as wait_in};
@@ -17,8 +16,7 @@ ghost use Rattle.je_answers.specs.After.{ended, moved_to, with_locks};
 ghost use Rattle.je_answers.specs.Journal.{first_ready};
 ghost use Rattle.standing_laws.specs.Right.{AreSound, AreTables, MayWait};
 ghost use Rattle.open_cursors.specs.Under.{IsUnderIn};
-ghost use Rattle.open_cursors.specs.Places.{AreUnder};
-ghost use Rattle.sessions.specs.AtStanding.{AreSessionsAt, KeepsNames, with_active, with_own, with_places, without_call, owing as owing_in};
+ghost use Rattle.sessions.specs.AtStanding.{AreSessionsAt, with_active, with_own, with_places, without_call, owing as owing_in};
 ghost use Rattle.sessions.specs.Taking.{MayAsk, HasTaken, HasStopped, IfReady, IfStopped, AreNeedsOf};
 
 use crate::Taken;
@@ -49,7 +47,6 @@ impl Sessions {
     /// No session has a transaction. It takes no memory.
     pub fn new(alloc: Global) -> Sessions
         ensures stands { (p : Alone) → AreSessionsAt result (alone p) }
-        ensures names { (store : Records) (numbers : List ℕ → ℕ) → AreUnder store numbers result.cursors }
     {
         Sessions {
             txns: ActiveTxns::new(alloc),
@@ -114,7 +111,6 @@ impl Sessions {
     ) -> Result<(), AllocError>
         ensures stands { OnOk result ((st : Standing) → AreSessionsAt self.old st → AreSessionsAt self.new (with_active (record { txn = txn; session = session; level = level; durability = durability; waits = waits; is_auto = is_auto; deadlock = None }) st)) }
         ensures err { OnErr result ((st : Standing) → AreSessionsAt self.old st → AreSessionsAt self.new st) }
-        ensures names { KeepsNames self.old self.new }
     {
         self.txns
             .begin(txn, session, level, durability, waits, is_auto)
@@ -124,7 +120,6 @@ impl Sessions {
     /// memory ran out in its first call. It takes no memory.
     pub fn undo_begin(&mut self)
         ensures stands { (st : Standing) (a : Active) → AreSessionsAt self.old (with_active a st) → AreSessionsAt self.new st }
-        ensures names { KeepsNames self.old self.new }
     {
         self.txns.undo_begin();
     }
@@ -133,7 +128,6 @@ impl Sessions {
     /// and waits go. It takes no memory.
     pub fn end(&mut self, session: u8, txn: TxnId)
         ensures stands { (st : Standing) (a : Active) → a.session ≡ session → a.txn ≡ txn → AreSessionsAt self.old st → AreSessionsAt self.new (ended a st) }
-        ensures names { KeepsNames self.old self.new }
     {
         end_one(self, session, txn);
     }
@@ -158,7 +152,6 @@ impl Sessions {
         ensures ready { IfOk result (λ taken. IfReady taken ((st : Standing) (a : Active) → st.fault ≡ None → active_of session st.actives ≡ Some a → AreSessionsAt self.old st → HasTaken self.new resumed a needs.items st)) }
         ensures stopped { IfOk result (λ taken. IfStopped taken (λ answer victims. (st : Standing) (a : Active) (g : Target) → st.fault ≡ None → AreNeedsOf st session call.now db.now kind needs.items a g → AreSessionsAt self.old st → HasStopped self.new st a line call.now g answer victims)) }
         ensures err { OnErr result ((st : Standing) → AreSessionsAt self.old st → AreSessionsAt self.new st) }
-        ensures names { KeepsNames self.old self.new }
     {
         take_for(self, alloc, session, line, call, db, kind, needs, resumed)
     }
@@ -168,7 +161,6 @@ impl Sessions {
     pub fn answered(&mut self, txn: TxnId, level: Isolation, resumed: bool)
         requires { (a : Active) × (needs : List Need) × (st : Standing) × (a.txn ≡ txn) × (a.level ≡ level) × HasTaken self.old resumed a needs st }
         ensures stands { (a : Active) (needs : List Need) (st : Standing) → a.txn ≡ txn → a.level ≡ level → HasTaken self.old resumed a needs st → AreSessionsAt self.new (with_locks a (all_got a.txn needs st.locks.at) st) }
-        ensures names { KeepsNames self.old self.new }
     {
         self.locks.answered(txn, level, resumed);
     }
@@ -177,7 +169,6 @@ impl Sessions {
     pub fn give_up(&mut self, txn: TxnId)
         requires { (resumed : Bool) × (a : Active) × (needs : List Need) × (st : Standing) × (a.txn ≡ txn) × HasTaken self.old resumed a needs st }
         ensures stands { (resumed : Bool) (a : Active) (needs : List Need) (st : Standing) → a.txn ≡ txn → HasTaken self.old resumed a needs st → AreSessionsAt self.new st }
-        ensures names { KeepsNames self.old self.new }
     {
         self.locks.give_up(txn);
     }
@@ -193,7 +184,6 @@ impl Sessions {
     ) -> Result<(), AllocError>
         ensures taken { OnOk result ((resumed : Bool) (a : Active) (needs : List Need) (st : Standing) → HasTaken self.old resumed a needs st → HasTaken self.new resumed a needs (with_own txn.0 (changes_at db changes) st)) }
         ensures err { OnErr result ((resumed : Bool) (a : Active) (needs : List Need) (st : Standing) → HasTaken self.old resumed a needs st → HasTaken self.new resumed a needs st) }
-        ensures names { KeepsNames self.old self.new }
     {
         self.txns.push_all(alloc, txn, db, changes)
     }
@@ -202,7 +192,6 @@ impl Sessions {
     /// not take these. It takes no memory.
     pub fn truncate_own(&mut self, txn: TxnId, len: usize)
         ensures taken { (resumed : Bool) (a : Active) (needs : List Need) (st : Standing) (more : List (ℕ × RecordChange)) → len ≡ length (st.own txn.0) → HasTaken self.old resumed a needs (with_own txn.0 more st) → HasTaken self.new resumed a needs st }
-        ensures names { KeepsNames self.old self.new }
     {
         self.txns.truncate_own(txn, len);
     }
@@ -226,7 +215,6 @@ impl Sessions {
     pub fn forget(&mut self, session: u8) -> Option<Wait>
         ensures wait { (st : Standing) → AreSessionsAt self.old st → result ≡ wait_in session st.waiting }
         ensures stands { (st : Standing) (w : WaitingCall) → wait_in session st.waiting ≡ Some w → IsReady st.fault st w.txn → AreSessionsAt self.old st → AreSessionsAt self.new (resumed_in st w) }
-        ensures names { KeepsNames self.old self.new }
     {
         let wait = taken_out(&mut self.waiting, session);
         forget_for(&mut self.locks.locks, &wait);
@@ -237,7 +225,6 @@ impl Sessions {
     /// takes no memory.
     pub fn withdraw(&mut self, session: u8)
         ensures stands { (st : Standing) → AreSessionsAt self.old st → AreSessionsAt self.new (without_call session st) }
-        ensures names { KeepsNames self.old self.new }
     {
         leave_out(&mut self.waiting, session);
     }
@@ -268,7 +255,7 @@ impl Sessions {
     pub fn cursor(&self, session: u8, cursor: u8) -> Option<&OpenCursor>
         ensures place { (st : Standing) → AreSessionsAt self.now st → option_map (λ c. c.place) (option_copied result) ≡ place_at cursor (st.places session) }
         ensures its { IfSome result (λ c. c.now.session ≡ session) }
-        ensures under { (store : Records) (numbers : List ℕ → ℕ) → AreUnder store numbers self.now.cursors → IfSome result (λ c. IsUnderIn store numbers c.now.place.db c.now.name c.now.kind) }
+        ensures under { (st : Standing) → AreSessionsAt self.now st → IfSome result (λ c. IsUnderIn st.store st.numbers c.now.place.db c.now.name c.now.kind) }
     {
         self.cursors.cursor(session, cursor)
     }
@@ -276,10 +263,9 @@ impl Sessions {
     /// Opens a cursor, whose number its session has not open. The only error is out of memory, and nothing is
     /// changed by it.
     pub fn open_cursor(&mut self, opened: OpenCursor) -> Result<(), AllocError>
-        ensures stands { OnOk result ((st : Standing) → AreSessionsAt self.old st → place_at opened.place.cursor (st.places opened.session) ≡ None → AreSessionsAt self.new (with_places opened.session (st.places opened.session ++ opened.place ∷ []) st)) }
-        ensures under { OnOk result ((store : Records) (numbers : List ℕ → ℕ) → IsUnderIn store numbers opened.place.db opened.name opened.kind → AreUnder store numbers self.old.cursors → AreUnder store numbers self.new.cursors) }
+        ensures stands { OnOk result ((st : Standing) → AreSessionsAt self.old st → place_at opened.place.cursor (st.places opened.session) ≡ None → IsUnderIn st.store st.numbers opened.place.db opened.name opened.kind
+            → AreSessionsAt self.new (with_places opened.session (st.places opened.session ++ opened.place ∷ []) st)) }
         ensures err { OnErr result ((st : Standing) → AreSessionsAt self.old st → AreSessionsAt self.new st) }
-        ensures names { OnErr result (KeepsNames self.old self.new) }
     {
         self.cursors.open(opened)
     }
@@ -293,7 +279,7 @@ impl Sessions {
     ) -> Result<Option<OpenCursor>, AllocError>
         ensures place { IfOk result (λ copy. (st : Standing) → AreSessionsAt self.now st → option_map (λ c. c.place) copy ≡ option_map (λ p. record { cursor = to; db = p.db; at = p.at }) (place_at cursor (st.places session))) }
         ensures its { IfOk result (λ copy. IfSome copy (λ c. c.session ≡ session)) }
-        ensures under { IfOk result (λ copy. (store : Records) (numbers : List ℕ → ℕ) → AreUnder store numbers self.now.cursors → IfSome copy (λ c. IsUnderIn store numbers c.place.db c.name c.kind)) }
+        ensures under { IfOk result (λ copy. (st : Standing) → AreSessionsAt self.now st → IfSome copy (λ c. IsUnderIn st.store st.numbers c.place.db c.name c.kind)) }
     {
         self.cursors.copied(session, cursor, to)
     }
@@ -301,7 +287,6 @@ impl Sessions {
     /// Closes a session's cursor. It takes no memory.
     pub fn close_cursor(&mut self, session: u8, cursor: u8)
         ensures stands { (st : Standing) → AreSessionsAt self.old st → AreSessionsAt self.new (with_places session (filter (λ p. not (p.cursor == cursor)) (st.places session)) st) }
-        ensures names { KeepsNames self.old self.new }
     {
         self.cursors.close(session, cursor);
     }
@@ -309,7 +294,6 @@ impl Sessions {
     /// Moves a session's cursor to a record, once a call that got its needs is answered so. It takes no memory.
     pub fn move_cursor(&mut self, session: u8, cursor: u8, at: Option<Name>)
         ensures stands { (st : Standing) → AreSessionsAt self.old st → AreSessionsAt self.new (with_places session (moved_to cursor at (st.places session)) st) }
-        ensures names { KeepsNames self.old self.new }
     {
         self.cursors.move_to(session, cursor, at);
     }

@@ -5,7 +5,7 @@ ghost use Rattle.je_answers.specs.Standing.{Standing};
 ghost use Rattle.je_answers.specs.After.{is_victim as is_told, without_session, ended, all_ended, autos_in};
 ghost use Rattle.je_answers.specs.declared.active.Active.{Active as Begun};
 ghost use Rattle.active_txns.specs.Marks.{HaveOwnSessions};
-ghost use Rattle.sessions.specs.AtStanding.{AreSessionsAt, KeepsNames};
+ghost use Rattle.sessions.specs.AtStanding.{AreSessionsAt};
 ghost use Rattle.sessions.specs.Waiting.{is_auto_victim, first_auto_in};
 
 use crate::Sessions;
@@ -54,7 +54,6 @@ pub(crate) fn leave_victims_out(waiting: &mut Vec<Wait>, victims: &[Victim])
 pub(crate) fn end_one(sessions: &mut Sessions, session: u8, txn: TxnId)
     ensures stands { (st : Standing) (a : Begun) → a.session ≡ session → a.txn ≡ txn → AreSessionsAt sessions.old st → AreSessionsAt sessions.new (ended a st) }
     ensures actives { sessions.new.txns.actives.items ≡ without_session session sessions.old.txns.actives.items }
-    ensures names { KeepsNames sessions.old sessions.new }
 {
     sessions.txns.end(session, txn);
     sessions.cursors.close_all(session);
@@ -64,7 +63,6 @@ pub(crate) fn end_one(sessions: &mut Sessions, session: u8, txn: TxnId)
 // Ends each victim that is the transaction of one call, in the order of their numbers. It takes no memory.
 pub(crate) fn end_autos(sessions: &mut Sessions, victims: &[Victim])
     ensures stands { (st : Standing) → HaveOwnSessions st.actives → AreSessionsAt sessions.old st → AreSessionsAt sessions.new (all_ended (autos_in victims.now st.actives) st) }
-    ensures names { KeepsNames sessions.old sessions.new }
 {
     while let Some((session, txn)) = first_auto(sessions.txns.actives(), victims) {
         end_one(sessions, session, txn);

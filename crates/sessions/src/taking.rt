@@ -16,7 +16,7 @@ ghost use Rattle.je_answers.specs.Views.{Target};
 ghost use Rattle.je_answers.specs.Locking.{first_blocked};
 ghost use Rattle.txn_locks.specs.Taking.{state_of, when_answered};
 ghost use Rattle.standing_laws.specs.Right.{MayWait, HaveWaits};
-ghost use Rattle.sessions.specs.AtStanding.{AreSessionsAt, KeepsNames};
+ghost use Rattle.sessions.specs.AtStanding.{AreSessionsAt};
 ghost use Rattle.sessions.specs.Taking.{MayAsk, HasTaken, HasStopped, IfReady, IfStopped, AreNeedsOf};
 ghost use Rattle.sessions.specs.Spares.{IsShort};
 ghost use Rattle.sessions.specs.Waiting.{HasRoomFor, HasTold, HasWaited};
@@ -128,7 +128,6 @@ fn stop(
     requires few { length blocked.victims.items ≤ length sessions.old.waiting.items + 1 }
     requires short { AllByRecursion (IsShort (length sessions.old.waiting.items + 1)) blocked.victims.items }
     ensures told { HasTold result room kind needs.items blocked sessions.old sessions.new }
-    ensures names { KeepsNames sessions.old sessions.new }
 {
     let (answer, victims) = tell(sessions, room, kind, needs, blocked);
     end_autos(sessions, victims.as_slice());
@@ -156,7 +155,6 @@ fn wait_for(
     requires waits { HaveWaits sessions.old.txns.actives.items sessions.old.waiting.items (state_of sessions.old.locks.locks).pending }
     ensures told { IfOk result (λ taken. HasWaited taken asker.now session line call.now db.now kind needs.items sessions.old sessions.new) }
     ensures err { OnErr result ((st : Standing) → AreSessionsAt sessions.old st → AreSessionsAt sessions.new st) }
-    ensures names { KeepsNames sessions.old sessions.new }
 {
     let calls = sessions.waiting.len() + 1;
     let room = room_for(alloc, calls, asker.txn, session, line, call, db)?;
@@ -205,7 +203,6 @@ pub(crate) fn take_for(
     ensures ready { IfOk result (λ taken. IfReady taken ((st : Standing) (a : Active) → st.fault ≡ None → active_of session st.actives ≡ Some a → AreSessionsAt sessions.old st → HasTaken sessions.new resumed a needs.items st)) }
     ensures stopped { IfOk result (λ taken. IfStopped taken (λ answer victims. (st : Standing) (a : Active) (g : Target) → st.fault ≡ None → AreNeedsOf st session call.now db.now kind needs.items a g → AreSessionsAt sessions.old st → HasStopped sessions.new st a line call.now g answer victims)) }
     ensures err { OnErr result ((st : Standing) → AreSessionsAt sessions.old st → AreSessionsAt sessions.new st) }
-    ensures names { KeepsNames sessions.old sessions.new }
 {
     let asker = asker_of(&sessions.txns, session);
     let owner = ask(&mut sessions.locks, alloc, &asker, needs.as_slice())?;

@@ -38,8 +38,26 @@ use Rattle.standing_laws.specs.Right.{IsUnder, HasCursorOn}
 use Rattle.standing_laws.specs.Laws.{CursorsKeepDatabases}
 use Rattle.standing_laws.proofs.NamedDatabases.{IsOther, IsOfRecord, under_all, under_made, under_removed, under_renamed, under_emptied}
 
+-- ---- changes of records
+
+of_record : (db : List ℕ) (change : RecordChange) → IsOfRecord (change_in db change)
+of_record db (SetRecord at value) = tt
+of_record db (UnsetRecord at) = tt
+
+pub all_on : (g : Target) (changes : List RecordChange) → AllByRecursion IsOfRecord (changes_on g changes)
+all_on g [] = tt
+all_on g (change ∷ changes) = (of_record g.database.name change, all_on g changes)
+
+all_in : (o : Option Database) (change : RecordChange) (more : List Change) → AllByRecursion IsOfRecord more → AllByRecursion IsOfRecord (changes_in o change ++ more)
+all_in None change more all = all
+all_in (Some d) change more all = (of_record d.name change, all)
+
+pub all_named : (st : Standing) (own : List (ℕ × RecordChange)) → AllByRecursion IsOfRecord (changes_named st own)
+all_named st [] = tt
+all_named st (c ∷ own) = all_in (database_at c.0 st) c.1 (changes_named st own) (all_named st own)
+
 module _ (number : ℕ) (name : List ℕ) (kind : Kind) where
-  abbrev Keeps : Standing → Type 0
+  abbrev pub Keeps : Standing → Type 0
   Keeps st = IsUnder st number name kind
 
   -- ---- small steps
@@ -59,24 +77,6 @@ module _ (number : ℕ) (name : List ℕ) (kind : Kind) where
   under_all_ended : (as_ : List Active) (st : Standing) → Keeps st → Keeps (all_ended as_ st)
   under_all_ended [] st u = u
   under_all_ended (a ∷ as_) st u = under_all_ended as_ (ended a st) u
-
-  -- ---- changes of records
-
-  of_record : (db : List ℕ) (change : RecordChange) → IsOfRecord (change_in db change)
-  of_record db (SetRecord at value) = tt
-  of_record db (UnsetRecord at) = tt
-
-  all_on : (g : Target) (changes : List RecordChange) → AllByRecursion IsOfRecord (changes_on g changes)
-  all_on g [] = tt
-  all_on g (change ∷ changes) = (of_record g.database.name change, all_on g changes)
-
-  all_in : (o : Option Database) (change : RecordChange) (more : List Change) → AllByRecursion IsOfRecord more → AllByRecursion IsOfRecord (changes_in o change ++ more)
-  all_in None change more all = all
-  all_in (Some d) change more all = (of_record d.name change, all)
-
-  all_named : (st : Standing) (own : List (ℕ × RecordChange)) → AllByRecursion IsOfRecord (changes_named st own)
-  all_named st [] = tt
-  all_named st (c ∷ own) = all_in (database_at c.0 st) c.1 (changes_named st own) (all_named st own)
 
   -- ---- a call on records
 
@@ -221,7 +221,7 @@ module _ (number : ℕ) (name : List ℕ) (kind : Kind) where
   under_performed (CDel cursor) limit st session line answer vs has late is u = under_run (active_of session st.actives) st session line (CDel cursor) answer vs u
   under_performed (CPut cursor key value mode) limit st session line answer vs has late is u = under_run (active_of session st.actives) st session line (CPut cursor key value mode) answer vs u
 
-  under_evaluated : (o : Option Answer) (limit : Option Answer) (st : Standing) (session line : ℕ) (call : Call) (answer : Answer) (vs : List Victim) → late_refusal st session call ≡ o → HasCursorOn st number
+  pub under_evaluated : (o : Option Answer) (limit : Option Answer) (st : Standing) (session line : ℕ) (call : Call) (answer : Answer) (vs : List Victim) → late_refusal st session call ≡ o → HasCursorOn st number
       → IsEvaluated o limit st session line call answer vs → Keeps st → Keeps (after_evaluated o st session line call answer vs)
   under_evaluated (Some refusal) limit st session line call answer vs late has is u = under_drawn (active_of session st.actives) st u
   under_evaluated None limit st session line call answer vs late has is u = under_performed call limit st session line answer vs has late is u

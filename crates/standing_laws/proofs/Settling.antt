@@ -18,7 +18,7 @@ use Rattle.lock_table.specs.Records.{is_record}
 use Rattle.lock_table.proofs.CallSteps.{record_same}
 use Rattle.store_model.specs.declared.need.Need.{Need}
 use Rattle.store_model.specs.declared.call.Call.{Call}
-use Rattle.store_model.specs.declared.call.Call.TheVariants.{Get, GetBoth, Put, Delete}
+use Rattle.store_model.specs.declared.call.Call.TheVariants.{Get, GetBoth, Put, Delete, Count, Cur, CPutCur, CDel, CPut}
 use Rattle.store_model.specs.declared.change.Change.{Change}
 use Rattle.store_model.specs.declared.record_change.RecordChange.{RecordChange}
 use Rattle.store_model.specs.declared.lock_target.LockTarget.{LockTarget}
@@ -507,6 +507,11 @@ module _ (limit : Option Answer) (st : Standing) (w : Wait) (session line : ℕ)
   performed (GetBoth db key value rmw) same may has right calm found ready own h = run (active_of session st.actives) (GetBoth db key value rmw) same refl has right calm found ready own h
   performed (Put db key value mode) same may has right calm found ready own h = run (active_of session st.actives) (Put db key value mode) same refl has right calm found ready own h
   performed (Delete db key) same may has right calm found ready own h = run (active_of session st.actives) (Delete db key) same refl has right calm found ready own h
+  performed (Count cursor) same may has right calm found ready own h = run (active_of session st.actives) (Count cursor) same refl has right calm found ready own h
+  performed (Cur cursor motion rmw) same may has right calm found ready own h = run (active_of session st.actives) (Cur cursor motion rmw) same refl has right calm found ready own h
+  performed (CPutCur cursor value) same may has right calm found ready own h = run (active_of session st.actives) (CPutCur cursor value) same refl has right calm found ready own h
+  performed (CDel cursor) same may has right calm found ready own h = run (active_of session st.actives) (CDel cursor) same refl has right calm found ready own h
+  performed (CPut cursor key value mode) same may has right calm found ready own h = run (active_of session st.actives) (CPut cursor key value mode) same refl has right calm found ready own h
   performed call same may has right calm found ready own h = absurd may
 
   evaluated : (o : Option Answer) → IsRightOrFaulted st → st.fault ≡ None → wait_of w.session st.waiting ≡ Some w → was_granted_in w.txn st.locks ≡ true → session ≡ w.session →

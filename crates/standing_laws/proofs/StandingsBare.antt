@@ -7,7 +7,7 @@ use Rattle.je_order.specs.declared.txn_id.TxnId.{TxnId}
 use Rattle.je_order.specs.Transactions.{is_same_txn}
 use Rattle.je_order.proofs.TxnIds.{same_is}
 use Rattle.store_model.specs.declared.call.Call.{Call}
-use Rattle.store_model.specs.declared.call.Call.TheVariants.{Begin, Commit, Abort, List as Lists, Create, Remove, Rename, Truncate, Get, GetBoth, Put, Delete, Open, Close, Dup}
+use Rattle.store_model.specs.declared.call.Call.TheVariants.{Begin, Commit, Abort, List as Lists, Create, Remove, Rename, Truncate, Get, GetBoth, Put, Delete, Open, Close, Dup, Count, Cur, CPutCur, CDel, CPut}
 use Rattle.store_model.specs.declared.change.Change.{Change}
 use Rattle.store_model.specs.declared.record_change.RecordChange.{RecordChange}
 use Rattle.store_model.specs.declared.place.Place.{Place}
@@ -30,13 +30,13 @@ use Rattle.je_answers.specs.Locking.{first_blocked}
 use Rattle.je_answers.specs.Events.{auto_active, begun, resumed, IsReady, IsResumed}
 use Rattle.je_answers.specs.After.{marked_by, Fate, fate_of, drawn_by, without_session, ended, ended_if_any, committed_if_any, answered, with_outcome, opened_at, closed, after_fate, after_changes, marked, all_ended, autos_in, without_waits_of, with_waiting, after_stop, after_taking, after_on, after_run, after_commit, after_ending, after_catalog, after_performed, after_evaluated, after_call, after_resumed, faulted_if, after_begin, after_turn}
 use Rattle.je_answers.specs.After.Fate.{Succeeds, IsRefused, Faults}
-use Rattle.standing_laws.specs.Right.{AreNumbered, MayWait, is_active, AreRight}
-use Rattle.standing_laws.specs.Laws.{IsPlainCall, AreBare, StandingsStayBare, BegunIsBare}
+use Rattle.standing_laws.specs.Right.{AreNumbered, is_active, AreRight}
+use Rattle.standing_laws.specs.Laws.{AreBare, StandingsStayBare, BegunIsBare}
 use Rattle.standing_laws.proofs.Among.{IsAmong, any_some, all_at, all_of, found_is}
 use Rattle.standing_laws.proofs.Steps.{Changes}
 use Rattle.standing_laws.proofs.Moves.{all_filter, begun_found, drawn_untold}
 use Rattle.standing_laws.proofs.Stays.{same_active}
-use Rattle.standing_laws.proofs.StandingsStay.{resumed_is-right, begun_is-right, MayRun, there_is, early_parts, has_number, late_number, may_run, next_is, plain}
+use Rattle.standing_laws.proofs.StandingsStay.{resumed_is-right, begun_is-right, MayRun, there_is, early_parts, has_number, late_number, may_run, next_is}
 
 same_number : (m : ℕ) → (m == m) ≡ true
 same_number m = grind (arith, nat_tests)
@@ -195,34 +195,38 @@ bare_opened_at : (o : Option Place) (to session : ℕ) (st : Standing) → AreBa
 bare_opened_at None to session st h = h
 bare_opened_at (Some p) to session st h = h
 
-bare_performed : (call : Call) (st : Standing) (session line : ℕ) (answer : Answer) (vs : List Victim) → IsPlainCall call → AreRight st → AreBare st → waits_refusal st (active_of session st.actives) ≡ None
+bare_performed : (call : Call) (st : Standing) (session line : ℕ) (answer : Answer) (vs : List Victim) → AreRight st → AreBare st → waits_refusal st (active_of session st.actives) ≡ None
     → number_refusal st.last_txn (active_of session st.actives) ≡ None → AreBare (after_performed call st session line answer vs)
-bare_performed (Begin level durability wait) st session line answer vs plain_ r h free number =
+bare_performed (Begin level durability wait) st session line answer vs r h free number =
     bare_and st.own st.actives (record { txn = record { 0 = next_txn st.last_txn }; session = session; level = level; durability = durability; waits = wait; is_auto = false; deadlock = None }) h (λ auto. absurd (both_ways false refl auto))
-bare_performed Commit st session line answer vs plain_ r h free number = bare_ending (active_of session st.actives) st answer h
-bare_performed Abort st session line answer vs plain_ r h free number = bare_any_ended (active_of session st.actives) st h
-bare_performed Lists st session line answer vs plain_ r h free number = bare_drawn (active_of session st.actives) st h
-bare_performed (Create db kind) st session line answer vs plain_ r h free number = bare_catalog (fate_of answer) _ (active_of session st.actives) st h
-bare_performed (Remove db) st session line answer vs plain_ r h free number = bare_catalog (fate_of answer) _ (active_of session st.actives) st h
-bare_performed (Rename db to) st session line answer vs plain_ r h free number = bare_catalog (fate_of answer) _ (active_of session st.actives) st h
-bare_performed (Truncate db) st session line answer vs plain_ r h free number = bare_catalog (fate_of answer) _ (active_of session st.actives) st h
-bare_performed (Get db key rmw) st session line answer vs plain_ r h free number = bare_run (active_of session st.actives) st session line (Get db key rmw) answer vs r h refl free number
-bare_performed (GetBoth db key value rmw) st session line answer vs plain_ r h free number = bare_run (active_of session st.actives) st session line (GetBoth db key value rmw) answer vs r h refl free number
-bare_performed (Put db key value mode) st session line answer vs plain_ r h free number = bare_run (active_of session st.actives) st session line (Put db key value mode) answer vs r h refl free number
-bare_performed (Delete db key) st session line answer vs plain_ r h free number = bare_run (active_of session st.actives) st session line (Delete db key) answer vs r h refl free number
-bare_performed (Open cursor db) st session line answer vs plain_ r h free number = h
-bare_performed (Close cursor) st session line answer vs plain_ r h free number = h
-bare_performed (Dup cursor to) st session line answer vs plain_ r h free number = bare_opened_at (place_at cursor (st.places session)) to session st h
-bare_performed call st session line answer vs plain_ r h free number = absurd plain_
+bare_performed Commit st session line answer vs r h free number = bare_ending (active_of session st.actives) st answer h
+bare_performed Abort st session line answer vs r h free number = bare_any_ended (active_of session st.actives) st h
+bare_performed Lists st session line answer vs r h free number = bare_drawn (active_of session st.actives) st h
+bare_performed (Create db kind) st session line answer vs r h free number = bare_catalog (fate_of answer) _ (active_of session st.actives) st h
+bare_performed (Remove db) st session line answer vs r h free number = bare_catalog (fate_of answer) _ (active_of session st.actives) st h
+bare_performed (Rename db to) st session line answer vs r h free number = bare_catalog (fate_of answer) _ (active_of session st.actives) st h
+bare_performed (Truncate db) st session line answer vs r h free number = bare_catalog (fate_of answer) _ (active_of session st.actives) st h
+bare_performed (Get db key rmw) st session line answer vs r h free number = bare_run (active_of session st.actives) st session line (Get db key rmw) answer vs r h refl free number
+bare_performed (GetBoth db key value rmw) st session line answer vs r h free number = bare_run (active_of session st.actives) st session line (GetBoth db key value rmw) answer vs r h refl free number
+bare_performed (Put db key value mode) st session line answer vs r h free number = bare_run (active_of session st.actives) st session line (Put db key value mode) answer vs r h refl free number
+bare_performed (Delete db key) st session line answer vs r h free number = bare_run (active_of session st.actives) st session line (Delete db key) answer vs r h refl free number
+bare_performed (Open cursor db) st session line answer vs r h free number = h
+bare_performed (Close cursor) st session line answer vs r h free number = h
+bare_performed (Dup cursor to) st session line answer vs r h free number = bare_opened_at (place_at cursor (st.places session)) to session st h
+bare_performed (Count cursor) st session line answer vs r h free number = bare_run (active_of session st.actives) st session line (Count cursor) answer vs r h refl free number
+bare_performed (Cur cursor motion rmw) st session line answer vs r h free number = bare_run (active_of session st.actives) st session line (Cur cursor motion rmw) answer vs r h refl free number
+bare_performed (CPutCur cursor value) st session line answer vs r h free number = bare_run (active_of session st.actives) st session line (CPutCur cursor value) answer vs r h refl free number
+bare_performed (CDel cursor) st session line answer vs r h free number = bare_run (active_of session st.actives) st session line (CDel cursor) answer vs r h refl free number
+bare_performed (CPut cursor key value mode) st session line answer vs r h free number = bare_run (active_of session st.actives) st session line (CPut cursor key value mode) answer vs r h refl free number
 
-bare_evaluated : (o : Option Answer) (st : Standing) (session line : ℕ) (call : Call) (answer : Answer) (vs : List Victim) → IsPlainCall call → AreRight st → AreBare st → early_refusal st session call ≡ None → late_refusal st session call ≡ o
+bare_evaluated : (o : Option Answer) (st : Standing) (session line : ℕ) (call : Call) (answer : Answer) (vs : List Victim) → AreRight st → AreBare st → early_refusal st session call ≡ None → late_refusal st session call ≡ o
     → AreBare (after_evaluated o st session line call answer vs)
-bare_evaluated (Some refusal) st session line call answer vs plain_ r h early late = bare_drawn (active_of session st.actives) st h
-bare_evaluated None st session line call answer vs plain_ r h early late = bare_performed call st session line answer vs plain_ r h (early_parts st session call early).0 (late_number st session call late)
+bare_evaluated (Some refusal) st session line call answer vs r h early late = bare_drawn (active_of session st.actives) st h
+bare_evaluated None st session line call answer vs r h early late = bare_performed call st session line answer vs r h (early_parts st session call early).0 (late_number st session call late)
 
-bare_call : (o : Option Answer) (st : Standing) (session line : ℕ) (call : Call) (answer : Answer) (vs : List Victim) → IsPlainCall call → AreRight st → AreBare st → early_refusal st session call ≡ o → AreBare (after_call o st session line call answer vs)
-bare_call (Some refusal) st session line call answer vs plain_ r h early = h
-bare_call None st session line call answer vs plain_ r h early = bare_evaluated (late_refusal st session call) st session line call answer vs plain_ r h early refl
+bare_call : (o : Option Answer) (st : Standing) (session line : ℕ) (call : Call) (answer : Answer) (vs : List Victim) → AreRight st → AreBare st → early_refusal st session call ≡ o → AreBare (after_call o st session line call answer vs)
+bare_call (Some refusal) st session line call answer vs r h early = h
+bare_call None st session line call answer vs r h early = bare_evaluated (late_refusal st session call) st session line call answer vs r h early refl
 
 -- ---- the other events
 
@@ -232,7 +236,7 @@ bare_resumed None limit st session line answer vs fault r h its is = h
 bare_resumed (Some w) limit st session line answer vs fault r h its is =
     let f = found_is (λ (v : Wait). v.session == session) st.waiting w its in
     let same : w.session ≡ session = eqb-true w.session session f.1 in
-    bare_call (early_refusal (resumed st w) session w.call) (resumed st w) session line w.call answer vs (plain w.call (all_at (λ (v : Wait). MayWait v.call) st.waiting w r.calls f.0))
+    bare_call (early_refusal (resumed st w) session w.call) (resumed st w) session line w.call answer vs
     (resumed_is-right st w r (ap (λ (n : ℕ). wait_of n st.waiting) same ∙ its) (subst (λ (x : Option Fault). IsReady x st w.txn) fault is.1)) h refl
 
 bare_faulted : (answer : Answer) (st : Standing) → AreBare st → AreBare (faulted_if answer st)
@@ -253,10 +257,10 @@ bare_turn Flush answer st h = bare_faulted answer st h
 bare_turn SyncStep answer st h = bare_faulted answer st h
 
 pub standings_stay-bare : StandingsStayBare
-standings_stay-bare limit st (Called session line call answer victims) fault r h is plain_ = bare_call (early_refusal st session call) st session line call answer victims plain_ r h refl
-standings_stay-bare limit st (Resume session line answer victims) fault r h is plain_ = bare_resumed (wait_of session st.waiting) limit st session line answer victims fault r h refl is
-standings_stay-bare limit st (End session) fault r h is plain_ = bare_any_ended (active_of session st.actives) (record st { waiting = without_wait session st.waiting }) h
-standings_stay-bare limit st (WriteOut answer) fault r h is plain_ = bare_faulted answer st h
-standings_stay-bare limit st (SyncBegin answer) fault r h is plain_ = bare_begin_sync answer st h
-standings_stay-bare limit st (SyncEnd answer) fault r h is plain_ = bare_faulted answer (record st { begun = None }) h
-standings_stay-bare limit st (Turn line step answer) fault r h is plain_ = bare_turn step answer st h
+standings_stay-bare limit st (Called session line call answer victims) fault r h is = bare_call (early_refusal st session call) st session line call answer victims r h refl
+standings_stay-bare limit st (Resume session line answer victims) fault r h is = bare_resumed (wait_of session st.waiting) limit st session line answer victims fault r h refl is
+standings_stay-bare limit st (End session) fault r h is = bare_any_ended (active_of session st.actives) (record st { waiting = without_wait session st.waiting }) h
+standings_stay-bare limit st (WriteOut answer) fault r h is = bare_faulted answer st h
+standings_stay-bare limit st (SyncBegin answer) fault r h is = bare_begin_sync answer st h
+standings_stay-bare limit st (SyncEnd answer) fault r h is = bare_faulted answer (record st { begun = None }) h
+standings_stay-bare limit st (Turn line step answer) fault r h is = bare_turn step answer st h

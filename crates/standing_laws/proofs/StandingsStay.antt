@@ -17,7 +17,7 @@ use Rattle.store_model.specs.declared.isolation.Isolation.TheVariants.{ReadUncom
 use Rattle.store_model.specs.declared.durability.Durability.{Durability}
 use Rattle.store_model.specs.declared.kind.Kind.{Kind}
 use Rattle.store_model.specs.declared.call.Call.{Call}
-use Rattle.store_model.specs.declared.call.Call.TheVariants.{Begin, Commit, Abort, List as Lists, Create, Remove, Rename, Truncate, Get, GetBoth, Put, Delete, Open, Close, Dup}
+use Rattle.store_model.specs.declared.call.Call.TheVariants.{Begin, Commit, Abort, List as Lists, Create, Remove, Rename, Truncate, Get, GetBoth, Put, Delete, Open, Close, Dup, Count, Cur, CPutCur, CDel, CPut}
 use Rattle.store_model.specs.declared.change.Change.{Change}
 use Rattle.store_model.specs.declared.record_change.RecordChange.{RecordChange}
 use Rattle.store_model.specs.declared.place.Place.{Place}
@@ -44,7 +44,7 @@ use Rattle.je_answers.specs.Events.{auto_active, begun, asking, locks_before, re
 use Rattle.je_answers.specs.After.{Fate, fate_of, drawn_by, ended, ended_if_any, committed_if_any, moved, with_locks, answered, with_outcome, opened, opened_at, closed_cursor, closed, after_fate, after_changes, marked, is_victim, autos_in, without_waits_of, with_victims, with_waiting, after_stop, after_taking, after_on, after_run, begun_by, after_commit, after_ending, after_catalog, after_performed, after_evaluated, after_call, after_resumed, faulted_if, after_begin, after_turn}
 use Rattle.je_answers.specs.After.Fate.{Succeeds, IsRefused, Faults}
 use Rattle.standing_laws.specs.Right.{HasWrite, HoldsWrite, IsWaitIn, MayWait, is_active, AreRight, IsSoundAt, IsRightAt}
-use Rattle.standing_laws.specs.Laws.{IsPlainCall, StandingsStayRight, BegunIsRight, ResumedIsRight, UntoldHasNoWait}
+use Rattle.standing_laws.specs.Laws.{StandingsStayRight, BegunIsRight, ResumedIsRight, UntoldHasNoWait}
 use Rattle.standing_laws.proofs.Among.{IsAmong, any_from, all_at, all_of, filter_among, among_filter, found_is, its_session}
 use Rattle.standing_laws.proofs.Owners.{read_keeps}
 use Rattle.standing_laws.proofs.Waiters.{wait_of_told}
@@ -400,45 +400,42 @@ right_begin : (st : Standing) (session : ℕ) (level : Isolation) (durability : 
 right_begin st session level durability wait r none more =
     right_with st (record { txn = record { 0 = next_txn st.last_txn }; session = session; level = level; durability = durability; waits = wait; is_auto = false; deadlock = None }) r refl none more
 
-right_performed : (call : Call) (st : Standing) (session line : ℕ) (answer : Answer) (vs : List Victim) → IsPlainCall call → AreRight st → waits_refusal st (active_of session st.actives) ≡ None → txn_refusal call (active_of session st.actives) ≡ None
+right_performed : (call : Call) (st : Standing) (session line : ℕ) (answer : Answer) (vs : List Victim) → AreRight st → waits_refusal st (active_of session st.actives) ≡ None → txn_refusal call (active_of session st.actives) ≡ None
     → number_refusal st.last_txn (active_of session st.actives) ≡ None → AreRight (after_performed call st session line answer vs)
-right_performed (Begin level durability wait) st session line answer vs plain_ r free txn number =
+right_performed (Begin level durability wait) st session line answer vs r free txn number =
     let none = no_active (active_of session st.actives) (Begin level durability wait) (λ a h. absurd (cc (h))) txn in
     right_begin st session level durability wait r none (has_number st.last_txn (subst (λ (o : Option Active). number_refusal st.last_txn o ≡ None) none number))
-right_performed Commit st session line answer vs plain_ r free txn number = right_ending (active_of session st.actives) st session answer r refl free
-right_performed Abort st session line answer vs plain_ r free txn number = right_abort (active_of session st.actives) st session r refl free
-right_performed Lists st session line answer vs plain_ r free txn number = right_drawn (active_of session st.actives) st r
-right_performed (Create db kind) st session line answer vs plain_ r free txn number = right_catalog (fate_of answer) _ (active_of session st.actives) st r
-right_performed (Remove db) st session line answer vs plain_ r free txn number = right_catalog (fate_of answer) _ (active_of session st.actives) st r
-right_performed (Rename db to) st session line answer vs plain_ r free txn number = right_catalog (fate_of answer) _ (active_of session st.actives) st r
-right_performed (Truncate db) st session line answer vs plain_ r free txn number = right_catalog (fate_of answer) _ (active_of session st.actives) st r
-right_performed (Get db key rmw) st session line answer vs plain_ r free txn number = right_run (active_of session st.actives) st session line (Get db key rmw) answer vs tt r refl free number
-right_performed (GetBoth db key value rmw) st session line answer vs plain_ r free txn number = right_run (active_of session st.actives) st session line (GetBoth db key value rmw) answer vs tt r refl free number
-right_performed (Put db key value mode) st session line answer vs plain_ r free txn number = right_run (active_of session st.actives) st session line (Put db key value mode) answer vs tt r refl free number
-right_performed (Delete db key) st session line answer vs plain_ r free txn number = right_run (active_of session st.actives) st session line (Delete db key) answer vs tt r refl free number
-right_performed (Open cursor db) st session line answer vs plain_ r free txn number =
+right_performed Commit st session line answer vs r free txn number = right_ending (active_of session st.actives) st session answer r refl free
+right_performed Abort st session line answer vs r free txn number = right_abort (active_of session st.actives) st session r refl free
+right_performed Lists st session line answer vs r free txn number = right_drawn (active_of session st.actives) st r
+right_performed (Create db kind) st session line answer vs r free txn number = right_catalog (fate_of answer) _ (active_of session st.actives) st r
+right_performed (Remove db) st session line answer vs r free txn number = right_catalog (fate_of answer) _ (active_of session st.actives) st r
+right_performed (Rename db to) st session line answer vs r free txn number = right_catalog (fate_of answer) _ (active_of session st.actives) st r
+right_performed (Truncate db) st session line answer vs r free txn number = right_catalog (fate_of answer) _ (active_of session st.actives) st r
+right_performed (Get db key rmw) st session line answer vs r free txn number = right_run (active_of session st.actives) st session line (Get db key rmw) answer vs tt r refl free number
+right_performed (GetBoth db key value rmw) st session line answer vs r free txn number = right_run (active_of session st.actives) st session line (GetBoth db key value rmw) answer vs tt r refl free number
+right_performed (Put db key value mode) st session line answer vs r free txn number = right_run (active_of session st.actives) st session line (Put db key value mode) answer vs tt r refl free number
+right_performed (Delete db key) st session line answer vs r free txn number = right_run (active_of session st.actives) st session line (Delete db key) answer vs tt r refl free number
+right_performed (Open cursor db) st session line answer vs r free txn number =
     right_opened (active_of session st.actives) st session cursor (st.numbers db) None r refl (opens_in (active_of session st.actives) cursor db txn)
-right_performed (Close cursor) st session line answer vs plain_ r free txn number = right_closed_cursor st session cursor r
-right_performed (Dup cursor to) st session line answer vs plain_ r free txn number = right_opened_at (place_at cursor (st.places session)) st session cursor to r refl
-right_performed call st session line answer vs plain_ r free txn number = absurd plain_
+right_performed (Close cursor) st session line answer vs r free txn number = right_closed_cursor st session cursor r
+right_performed (Dup cursor to) st session line answer vs r free txn number = right_opened_at (place_at cursor (st.places session)) st session cursor to r refl
+right_performed (Count cursor) st session line answer vs r free txn number = right_run (active_of session st.actives) st session line (Count cursor) answer vs tt r refl free number
+right_performed (Cur cursor motion rmw) st session line answer vs r free txn number = right_run (active_of session st.actives) st session line (Cur cursor motion rmw) answer vs tt r refl free number
+right_performed (CPutCur cursor value) st session line answer vs r free txn number = right_run (active_of session st.actives) st session line (CPutCur cursor value) answer vs tt r refl free number
+right_performed (CDel cursor) st session line answer vs r free txn number = right_run (active_of session st.actives) st session line (CDel cursor) answer vs tt r refl free number
+right_performed (CPut cursor key value mode) st session line answer vs r free txn number = right_run (active_of session st.actives) st session line (CPut cursor key value mode) answer vs tt r refl free number
 
-right_evaluated : (o : Option Answer) (st : Standing) (session line : ℕ) (call : Call) (answer : Answer) (vs : List Victim) → IsPlainCall call → AreRight st → early_refusal st session call ≡ None → late_refusal st session call ≡ o
+right_evaluated : (o : Option Answer) (st : Standing) (session line : ℕ) (call : Call) (answer : Answer) (vs : List Victim) → AreRight st → early_refusal st session call ≡ None → late_refusal st session call ≡ o
     → AreRight (after_evaluated o st session line call answer vs)
-right_evaluated (Some refusal) st session line call answer vs plain_ r early late = right_drawn (active_of session st.actives) st r
-right_evaluated None st session line call answer vs plain_ r early late = let e = early_parts st session call early in right_performed call st session line answer vs plain_ r e.0 e.1 (late_number st session call late)
+right_evaluated (Some refusal) st session line call answer vs r early late = right_drawn (active_of session st.actives) st r
+right_evaluated None st session line call answer vs r early late = let e = early_parts st session call early in right_performed call st session line answer vs r e.0 e.1 (late_number st session call late)
 
-pub right_call : (o : Option Answer) (st : Standing) (session line : ℕ) (call : Call) (answer : Answer) (vs : List Victim) → IsPlainCall call → AreRight st → early_refusal st session call ≡ o → AreRight (after_call o st session line call answer vs)
-right_call (Some refusal) st session line call answer vs plain_ r early = r
-right_call None st session line call answer vs plain_ r early = right_evaluated (late_refusal st session call) st session line call answer vs plain_ r early refl
+pub right_call : (o : Option Answer) (st : Standing) (session line : ℕ) (call : Call) (answer : Answer) (vs : List Victim) → AreRight st → early_refusal st session call ≡ o → AreRight (after_call o st session line call answer vs)
+right_call (Some refusal) st session line call answer vs r early = r
+right_call None st session line call answer vs r early = right_evaluated (late_refusal st session call) st session line call answer vs r early refl
 
 -- ---- the other events
-
-pub plain : (call : Call) → MayWait call → IsPlainCall call
-plain (Get db key rmw) may = tt
-plain (GetBoth db key value rmw) may = tt
-plain (Put db key value mode) may = tt
-plain (Delete db key) may = tt
-plain call may = absurd may
 
 right_resumed : (o : Option Wait) (limit : Option Answer) (st : Standing) (session line : ℕ) (answer : Answer) (vs : List Victim) → st.fault ≡ None → AreRight st → wait_of session st.waiting ≡ o → IsResumed o limit st session line answer vs
     → AreRight (after_resumed o st session line answer vs)
@@ -446,7 +443,7 @@ right_resumed None limit st session line answer vs fault r its is = r
 right_resumed (Some w) limit st session line answer vs fault r its is =
     let f = found_is (λ (v : Wait). v.session == session) st.waiting w its in
     let same : w.session ≡ session = eqb-true w.session session f.1 in
-    right_call (early_refusal (resumed st w) session w.call) (resumed st w) session line w.call answer vs (plain w.call (all_at (λ (v : Wait). MayWait v.call) st.waiting w r.calls f.0))
+    right_call (early_refusal (resumed st w) session w.call) (resumed st w) session line w.call answer vs
     (resumed_is-right st w r (ap (λ (n : ℕ). wait_of n st.waiting) same ∙ its) (subst (λ (x : Option Fault). IsReady x st w.txn) fault is.1)) refl
 
 -- a session ends with its waiting call
@@ -516,10 +513,10 @@ right_turn Flush answer st r = right_faulted answer st r
 right_turn SyncStep answer st r = right_faulted answer st r
 
 pub standings_stay-right : StandingsStayRight
-standings_stay-right limit st (Called session line call answer victims) fault r is plain_ = right_call (early_refusal st session call) st session line call answer victims plain_ r refl
-standings_stay-right limit st (Resume session line answer victims) fault r is plain_ = right_resumed (wait_of session st.waiting) limit st session line answer victims fault r refl is
-standings_stay-right limit st (End session) fault r is plain_ = right_session (active_of session st.actives) st session r refl
-standings_stay-right limit st (WriteOut answer) fault r is plain_ = right_faulted answer st r
-standings_stay-right limit st (SyncBegin answer) fault r is plain_ = right_begin_sync answer st r
-standings_stay-right limit st (SyncEnd answer) fault r is plain_ = right_faulted answer (record st { begun = None }) r
-standings_stay-right limit st (Turn line step answer) fault r is plain_ = right_turn step answer st r
+standings_stay-right limit st (Called session line call answer victims) fault r is = right_call (early_refusal st session call) st session line call answer victims r refl
+standings_stay-right limit st (Resume session line answer victims) fault r is = right_resumed (wait_of session st.waiting) limit st session line answer victims fault r refl is
+standings_stay-right limit st (End session) fault r is = right_session (active_of session st.actives) st session r refl
+standings_stay-right limit st (WriteOut answer) fault r is = right_faulted answer st r
+standings_stay-right limit st (SyncBegin answer) fault r is = right_begin_sync answer st r
+standings_stay-right limit st (SyncEnd answer) fault r is = right_faulted answer (record st { begun = None }) r
+standings_stay-right limit st (Turn line step answer) fault r is = right_turn step answer st r

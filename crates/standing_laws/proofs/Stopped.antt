@@ -35,12 +35,13 @@ pub record LeavesSame (old new : Standing) : Type 0 where
   pub last_db : new.last_db ≡ old.last_db
   pub commits : new.commits ≡ old.commits
   pub fault : new.fault ≡ old.fault
+  pub checkpoint : new.in_checkpoint ≡ old.in_checkpoint
   pub own : new.own ≡ old.own
   pub actives : (t : TxnId) → is_active t new.actives ≡ true → is_active t old.actives ≡ true
   pub owing : changing new.own new.actives ≤ changing old.own old.actives
 
 leaves_itself : (st : Standing) → LeavesSame st st
-leaves_itself st = record { store = refl; numbers = refl; last_txn = refl; last_db = refl; commits = refl; fault = refl; own = refl; actives = λ t h. h; owing = omega arith }
+leaves_itself st = record { store = refl; numbers = refl; last_txn = refl; last_db = refl; commits = refl; fault = refl; checkpoint = refl; own = refl; actives = λ t h. h; owing = omega arith }
 
 le_trans : (a b c : ℕ) → a ≤ b → b ≤ c → a ≤ c
 le_trans a b c h k = omega arith
@@ -53,6 +54,7 @@ leaves_then a b c h k = record {
   last_db = k.last_db ∙ h.last_db;
   commits = k.commits ∙ h.commits;
   fault = k.fault ∙ h.fault;
+  checkpoint = k.checkpoint ∙ h.checkpoint;
   own = k.own ∙ h.own;
   actives = λ t x. h.actives t (k.actives t x);
   owing = le_trans (changing c.own c.actives) (changing b.own b.actives) (changing a.own a.actives) k.owing h.owing;
@@ -88,6 +90,7 @@ ended_leaves st a none = record {
   last_db = refl;
   commits = refl;
   fault = refl;
+  checkpoint = refl;
   own = same_own st.own a.txn.0 none;
   actives = λ t h. let b = any_some (λ (x : Active). is_same_txn t x.txn) (without_session a.session st.actives) h in
       any_from (λ (x : Active). is_same_txn t x.txn) st.actives b.0 (filter_among (λ (x : Active). not (x.session == a.session)) st.actives b.0 b.1).0 b.2;
@@ -123,6 +126,7 @@ marked_leaves st vs waiting locks = record {
   last_db = refl;
   commits = refl;
   fault = refl;
+  checkpoint = refl;
   own = refl;
   actives = λ t h. sym (marked_active t vs st.actives) ∙ h;
   owing = let k = same_count st.own vs st.actives in omega (arith, k);

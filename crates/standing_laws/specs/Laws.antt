@@ -6,13 +6,12 @@ use Rattle.je_order.specs.Order.{name_cmp}
 use Rattle.je_order.specs.declared.name.Name.{Name}
 use Rattle.store_model.specs.declared.kind.Kind.{Kind}
 use Rattle.store_model.specs.declared.call.Call.{Call}
-use Rattle.store_model.specs.declared.call.Call.TheVariants.{Count, Cur, CPutCur, CDel, CPut}
 use Rattle.store_model.specs.declared.record_change.RecordChange.{RecordChange}
 use Rattle.store_model.specs.declared.answer.Answer.{Answer}
 use Rattle.store_model.specs.declared.answer.Fault.{Fault}
 use Rattle.store_model.specs.declared.victim.Victim.{Victim}
 use Rattle.store_model.specs.declared.event.Event.{Event}
-use Rattle.store_model.specs.declared.event.Event.TheVariants.{Call as Called, Resume, End}
+use Rattle.store_model.specs.declared.event.Event.TheVariants.{Resume, End}
 use Rattle.store_model.specs.declared.store.TheConstants.{LAST_TXN}
 use Rattle.je_answers.specs.declared.wait.Wait.{Wait}
 use Rattle.store_model.specs.Needs.{changed_name}
@@ -68,21 +67,8 @@ EndsSettle = (st : Standing) (session : ℕ) → is_some (wait_of session st.wai
 
 -- ---- each event keeps what holds
 
--- a call that is not on records at a cursor
-abbrev pub IsPlainCall : Call → Type 0
-IsPlainCall (Count cursor) = ⊥
-IsPlainCall (Cur cursor motion rmw) = ⊥
-IsPlainCall (CPutCur cursor value) = ⊥
-IsPlainCall (CDel cursor) = ⊥
-IsPlainCall (CPut cursor key value mode) = ⊥
-IsPlainCall call = Unit {0}
-
-abbrev pub IsPlainEvent : Event → Type 0
-IsPlainEvent (Called session line call answer victims) = IsPlainCall call
-IsPlainEvent event = Unit {0}
-
 abbrev pub StandingsStayRight : Type 0
-StandingsStayRight = (limit : Option Answer) (st : Standing) (event : Event) → st.fault ≡ None → AreRight st → IsAnswered limit st event → IsPlainEvent event → AreRight (after_event st event)
+StandingsStayRight = (limit : Option Answer) (st : Standing) (event : Event) → st.fault ≡ None → AreRight st → IsAnswered limit st event → AreRight (after_event st event)
 
 -- a call of its own begins its transaction; a call that waited goes on
 abbrev pub BegunIsRight : Type 0
@@ -100,7 +86,7 @@ abbrev pub AreBare : Standing → Type 0
 AreBare st = AllByRecursion (λ a. a.is_auto ≡ true → st.own a.txn.0 ≡ []) st.actives
 
 abbrev pub StandingsStayBare : Type 0
-StandingsStayBare = (limit : Option Answer) (st : Standing) (event : Event) → st.fault ≡ None → AreRight st → AreBare st → IsAnswered limit st event → IsPlainEvent event → AreBare (after_event st event)
+StandingsStayBare = (limit : Option Answer) (st : Standing) (event : Event) → st.fault ≡ None → AreRight st → AreBare st → IsAnswered limit st event → AreBare (after_event st event)
 
 -- and when a call of its own begins, its transaction has changed nothing
 abbrev pub BegunIsBare : Type 0

@@ -13,7 +13,7 @@ use Rattle.lock_table.specs.Locks.{has_lock, held_by, is_write, IsSettled}
 use Rattle.store_model.specs.declared.kind.Kind.{Kind}
 use Rattle.store_model.specs.declared.place.Place.{Place}
 use Rattle.store_model.specs.declared.call.Call.{Call}
-use Rattle.store_model.specs.declared.call.Call.TheVariants.{Get, GetBoth, Put, Delete}
+use Rattle.store_model.specs.declared.call.Call.TheVariants.{Get, GetBoth, Put, Delete, Count, Cur, CPutCur, CDel, CPut}
 use Rattle.store_model.specs.declared.record_change.RecordChange.{RecordChange}
 use Rattle.store_model.specs.Needs.{changed_name}
 use Rattle.je_answers.specs.declared.active.Active.{Active}
@@ -62,12 +62,17 @@ pub record HaveWaits (actives : List Active) (waiting : List Wait) (pending : Tx
   pub apart : HaveOwnWaits waiting
   pub told : (t : TxnId) (r : RecordId) → pending t ≡ Some r → has_wait t waiting ≡ true
 
--- a call that may wait: one on the records of a database by its name
+-- a call that may wait: one on records
 abbrev pub MayWait : Call → Type 0
 MayWait (Get db key rmw) = Unit {0}
 MayWait (GetBoth db key value rmw) = Unit {0}
 MayWait (Put db key value mode) = Unit {0}
 MayWait (Delete db key) = Unit {0}
+MayWait (Count cursor) = Unit {0}
+MayWait (Cur cursor motion rmw) = Unit {0}
+MayWait (CPutCur cursor value) = Unit {0}
+MayWait (CDel cursor) = Unit {0}
+MayWait (CPut cursor key value mode) = Unit {0}
 MayWait call = ⊥
 
 -- ---- locks

@@ -31,8 +31,8 @@ pub fn resumes_settle()
     ensures { ResumesSettle }
 {}
 
-/// Each event that answers what it may leaves a standing that is right, where no call is on records at a
-/// cursor and the disk has not failed before.
+/// Each event that answers what it may leaves a standing that is right, where the disk has not failed
+/// before.
 pub fn standings_stay_right()
     ensures { StandingsStayRight }
 {}

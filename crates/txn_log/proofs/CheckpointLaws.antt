@@ -30,8 +30,8 @@ use Rattle.crash_recovery.specs.Recovery.{RecoversLog}
 use Rattle.crash_recovery.proofs.LongerLogs.{longer_is_named, longer_recovers}
 use Rattle.txn_log.specs.Own.{OwnChange, is_live}
 use Rattle.txn_log.specs.Gives.{GivesRecordsWith}
-use Rattle.txn_log.specs.Buffers.{HasGiven}
-use Rattle.txn_log.specs.Checkpoints.{AreNeutral, EndParts, end_entry, MayHaveEnd, NeutralsAreGiven, NeutralsAreRecovered, TriedNeutralsAreRecovered, EndIsGiven, EndIsRecovered, TriedEndIsRecovered}
+use Rattle.txn_log.specs.Buffers.{HasAdded, HasGiven}
+use Rattle.txn_log.specs.Checkpoints.{AreNeutral, EndParts, end_entry, IsEndOf, MayHaveEnd, NeutralsAreGiven, NeutralsAreRecovered, TriedNeutralsAreRecovered, EndIsGiven, EndIsRecovered, TriedEndIsRecovered}
 use Rattle.txn_log.proofs.BufferLaws.{rises, longer_placed}
 use Rattle.txn_log.proofs.Recovering.{leaves_all, gives_store}
 
@@ -124,6 +124,13 @@ module _ {D : Type 0} (observable : Bool) (history : D → History) where
           };
         }
 
+    -- this life of the environment began where it did
+    pub neutrals_leave_base : (old new : LogBuffer D) (log : Log) (rows : Rows) (last_txn last_db : ℕ) (is_active : Flags) (own : Owns) (h : HasGiven observable history old log rows last_txn last_db is_active own)
+        (a : HasAdded observable history sync_out read_out read_of old new AreNeutral) →
+        (neutrals_are_given old new log rows last_txn last_db is_active own h a).gives.base ≡ h.gives.base
+    unfolding neutrals_are_given
+    neutrals_leave_base old new log rows last_txn last_db is_active own h a = refl
+
     pub neutrals_are_recovered : NeutralsAreRecovered observable history sync_out read_out read_of
     neutrals_are_recovered old new log rows last_txn last_db is_active own first opening found transactions h a is =
         neutrals_recovered old log rows last_txn last_db is_active own a.entries first opening found transactions h a.logs a.room is
@@ -159,6 +166,13 @@ module _ {D : Type 0} (observable : Bool) (history : D → History) where
             numbers = h.gives.numbers;
           };
         }
+
+    pub end_leaves_base : (old new : LogBuffer D) (log : Log) (rows : Rows) (last_txn last_db : ℕ) (is_active : Flags) (own : Owns) (first : ℕ) (opening : Store) (found : ℕ)
+        (transactions : List (List Change)) (p : EndParts) (summary : Option ℕ) (h : HasGiven observable history old log rows last_txn last_db is_active own) (is : RecoversLog first opening found transactions log)
+        (may : MayHaveEnd observable history old log rows last_txn last_db is_active own h first p summary) (a : HasAdded observable history sync_out read_out read_of old new (IsEndOf p summary)) →
+        (end_is_given old new log rows last_txn last_db is_active own first opening found transactions p summary h is may a).gives.base ≡ h.gives.base
+    unfolding end_is_given
+    end_leaves_base old new log rows last_txn last_db is_active own first opening found transactions p summary h is may a = refl
 
     pub end_is_recovered : EndIsRecovered observable history sync_out read_out read_of
     end_is_recovered old new log rows last_txn last_db is_active own first opening found transactions p summary h may a is =

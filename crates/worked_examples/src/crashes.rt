@@ -61,7 +61,7 @@ fn without_last(alloc: Global, files: &Files) -> Result<Files, AllocError> {
 // A script that reads the store, and what it writes for each prefix of the commits. The images that were
 // opened stand beside them: how many commits the files meant, with this file the last one, at each length.
 #[derive(Drop)]
-struct Prefixes {
+pub struct Prefixes {
     reading: Vec<u8>,
     texts: Vec<String>,
     last: FileNo,
@@ -69,6 +69,16 @@ struct Prefixes {
 }
 
 impl Prefixes {
+    // No image was opened yet.
+    pub fn new(alloc: Global, reading: &[u8], texts: Vec<String>) -> Result<Prefixes, AllocError> {
+        Ok(Prefixes {
+            reading: Vec::from_slice(alloc, reading)?,
+            texts,
+            last: FileNo(0),
+            found: Vec::new(alloc),
+        })
+    }
+
     // Which of the texts this is, at least so far on; none where it is no such text.
     fn place_of(&self, text: &str, least: usize) -> Option<usize> {
         for (count, wanted) in self.texts.iter().enumerate().skip(least) {
@@ -287,7 +297,7 @@ fn stop_after(
 
 // Such runs, each one call longer, up to one that comes to its end: how many files that one leaves. None
 // where 1,000 calls are too few.
-fn stop_at_each_call(
+pub fn stop_at_each_call(
     rt: &impl Abort,
     alloc: Global,
     args: &[&str],
@@ -310,12 +320,7 @@ fn first_prefixes(alloc: Global) -> Result<Prefixes, AllocError> {
         "1 s1 notfound\nend commits 0 databases 1 records 0\n",
         "1 s1 ok 61 31\nend commits 0 databases 1 records 1\n",
     ];
-    Ok(Prefixes {
-        reading: Vec::from_slice(alloc, b"s1 get t 61\n")?,
-        texts: strings(alloc, &texts)?,
-        last: FileNo(0),
-        found: Vec::new(alloc),
-    })
+    Prefixes::new(alloc, b"s1 get t 61\n", strings(alloc, &texts)?)
 }
 
 #[test]
@@ -349,12 +354,11 @@ fn change_prefixes(alloc: Global) -> Result<Prefixes, AllocError> {
         "1 s1 ok u\n2 s1 nodatabase\n3 s1 notfound\nend commits 0 databases 1 records 0\n",
         "1 s1 ok\n2 s1 nodatabase\n3 s1 nodatabase\nend commits 0 databases 0 records 0\n",
     ];
-    Ok(Prefixes {
-        reading: Vec::from_slice(alloc, b"s1 list\ns1 get t 61\ns1 get u 61\n")?,
-        texts: strings(alloc, &texts)?,
-        last: FileNo(0),
-        found: Vec::new(alloc),
-    })
+    Prefixes::new(
+        alloc,
+        b"s1 list\ns1 get t 61\ns1 get u 61\n",
+        strings(alloc, &texts)?,
+    )
 }
 
 #[test]
@@ -379,7 +383,7 @@ fn data_of(alloc: Global, line: usize) -> Result<String, AllocError> {
     if is_deletion(line) {
         return Ok(data);
     }
-    let len = if line % 20 == 10 { 3_600 } else { 3 };
+    let len = if line % 10 == 0 { 3_600 } else { 3 };
     let digits = format!(in alloc; "{line:02}")?;
     for _ in 0..len {
         data.push_str(&digits)?;
@@ -393,7 +397,7 @@ fn key_of(alloc: Global, key: usize) -> Result<String, AllocError> {
 }
 
 // A line of the long script.
-fn line_of(alloc: Global, line: usize) -> Result<String, AllocError> {
+pub fn line_of(alloc: Global, line: usize) -> Result<String, AllocError> {
     let key = key_of(alloc, line % KEYS)?;
     let data = data_of(alloc, line)?;
     if data.is_empty() {
@@ -452,25 +456,16 @@ fn text_of(alloc: Global, lines: &[usize]) -> Result<String, AllocError> {
 const NO_DATABASE: &str =
     "1 s1 nodatabase\n2 s1 nodatabase\n3 s1 nodatabase\n4 s1 nodatabase\n5 s1 nodatabase\n6 s1 nodatabase\nend commits 0 databases 0 records 0\n";
 
-// What is read of each prefix of the long script's commits, one a line.
-fn long_texts(alloc: Global) -> Result<Vec<String>, AllocError> {
+// What is read of each prefix of the commits of a long script, one a line, which has so many.
+pub fn long_prefixes(alloc: Global, count: usize) -> Result<Prefixes, AllocError> {
     let mut texts = strings(alloc, &[NO_DATABASE])?;
     let mut lines = [0; KEYS];
     texts.push(text_of(alloc, &lines)?)?;
-    for line in 1..40usize {
+    for line in 1..count {
         lines[line % KEYS] = line;
         texts.push(text_of(alloc, &lines)?)?;
     }
-    Ok(texts)
-}
-
-fn long_prefixes(alloc: Global) -> Result<Prefixes, AllocError> {
-    Ok(Prefixes {
-        reading: reading(alloc)?.into_bytes(),
-        texts: long_texts(alloc)?,
-        last: FileNo(0),
-        found: Vec::new(alloc),
-    })
+    Prefixes::new(alloc, reading(alloc)?.as_bytes(), texts)
 }
 
 // Files of 4,096 bytes, five of them in the end. A build that checks as it runs takes minutes over the
@@ -479,7 +474,7 @@ fn long_prefixes(alloc: Global) -> Result<Prefixes, AllocError> {
 fn stops_in_many_files(rt: HostRuntime) -> Result<(), Fail> {
     let alloc = rt.alloc();
     let script = long_script(alloc)?;
-    let mut prefixes = long_prefixes(alloc)?;
+    let mut prefixes = long_prefixes(alloc, 40)?;
     let files = stop_at_each_call(&rt, alloc, &RUN_SMALL, script.as_bytes(), &mut prefixes)?;
     assert!(rt; files == Some(5));
     Ok(())

@@ -9,7 +9,11 @@ mod agreeing;
 #[cfg(test)]
 mod chain;
 #[cfg(test)]
+mod checkpoints;
+#[cfg(test)]
 mod crashes;
+#[cfg(test)]
+mod cursors;
 #[cfg(test)]
 mod databases;
 #[cfg(test)]
@@ -20,6 +24,8 @@ mod files;
 mod fixture;
 #[cfg(test)]
 mod phantoms;
+#[cfg(test)]
+mod range_phantoms;
 #[cfg(test)]
 mod reports;
 #[cfg(test)]

@@ -9,7 +9,7 @@ use Rattle.engine.specs.Crash.{KeepsEntry}
 use Rattle.engine.specs.Opening.{reach_in}
 use Rattle.je_program.specs.Crash.{IsSafeProgram}
 use Rattle.je_program.specs.Program.{EndsBy, ClosesRun, IsRunOf, RunsIf, cause_of_opening, is_before_disk}
-use Rattle.script_run.specs.Lines.{AreFirstLines, of_session}
+use Rattle.script_run.specs.Lines.{AreFirstLines, of_maintenance, of_session}
 use Rattle.je_program.proofs.BeginLaws.{beginning, begins, opened_as_one, starts_valid}
 use Rattle.je_program.proofs.FinishLaws.{done_acknowledged, done_is_no_memory, ran_cause, runs_if, ran_after_reading, ran_not_unreadable, ends_by, memory_left}
 use Rattle.script_run.proofs.Pushed.{bounded_far, caused_earlier, synced_all}
@@ -61,8 +61,6 @@ returns-in-Ok-clause-run g c = λ is_opened.
     let starts = begins observable history faults most (now old).reads opening environment one c.in-Ok.ensures.bounds in
     let under = ran.ensures.goes_on p starts in
     let valid : st.fault ≡ None = starts_valid observable (now old).reads opening st one.starts in
-    let front : (session : ℕ) → AreFirstLines (of_session session (lines_of journal)) (of_session session c.args.plan.lines) = λ session.
-    subst (λ (l : List ScriptLine). AreFirstLines (of_session session (lines_of journal)) (of_session session l)) c.into_vec.ensures (ran.ensures.given.front session) in
     let synced = synced_all st journal (under.running.synced [] tt) in
     let safe : observable ≡ true → IsSafeProgram old new st journal cause = λ observed. record {
       start = p.start;
@@ -75,12 +73,12 @@ returns-in-Ok-clause-run g c = λ is_opened.
       starts = one.starts;
       limits = under.running.limits;
       answers = under.running.answers;
-      replays = run_replays observable (now old).reads opening st under.running.limits journal c.args.plan.lines one.starts under.running.answers c.requires.lines front;
-      no_cycle = run_never_cycles observable (now old).reads opening st under.running.limits journal c.args.plan.lines one.starts under.running.answers c.requires.lines front;
+      replays = run_replays observable (now old).reads opening st under.running.limits journal one.starts under.running.answers;
+      no_cycle = run_never_cycles observable (now old).reads opening st under.running.limits journal one.starts under.running.answers;
       bounded = bounded_far p.first (reach_in one.starts.held one.starts.meaning) st journal under.running.limits one.reach under.running.bounded;
       synced_at_once = synced;
       in_order = under.running.ordered;
-      only = under.running.only;
+      steps = under.running.steps;
       stopped = ran.result.stopped;
       in_place = ran.ensures.ends p starts;
       none_stopped = λ other. ran.ensures.given.none_stopped (memory_left ran.result.memory_ended cause f.ensures.memory other);
@@ -111,6 +109,17 @@ returns-in-Ok-clause-front g c = λ opened session.
     let front = c.run-running.ensures.given.front session in
     subst (λ (j : List Event). AreFirstLines (of_session session (lines_of j)) (of_session session c.args.plan.lines)) (sym c.finish.ensures.journal)
     (subst (λ (l : List ScriptLine). AreFirstLines (of_session session (lines_of c.run-running.result.recorded.journal.items)) (of_session session l)) c.into_vec.ensures front)
+
+pub returns-in-Ok-clause-lines : goal.returns-in-Ok-clause-lines
+returns-in-Ok-clause-lines g c = λ opened other.
+    let f = c.finish in
+    ap lines_of f.ensures.journal ∙ c.run-running.ensures.given.all (memory_left c.run-running.result.memory_ended f.result.cause f.ensures.memory other) ∙ c.into_vec.ensures
+
+pub returns-in-Ok-clause-front_steps : goal.returns-in-Ok-clause-front_steps
+returns-in-Ok-clause-front_steps g c = λ opened.
+    let front = c.run-running.ensures.given.front_steps in
+    subst (λ (j : List Event). AreFirstLines (of_maintenance (lines_of j)) (of_maintenance c.args.plan.lines)) (sym c.finish.ensures.journal)
+    (subst (λ (l : List ScriptLine). AreFirstLines (of_maintenance (lines_of c.run-running.result.recorded.journal.items)) (of_maintenance l)) c.into_vec.ensures front)
 
 pub returns-in-Ok-clause-ends : goal.returns-in-Ok-clause-ends
 returns-in-Ok-clause-ends g c = λ opened other.

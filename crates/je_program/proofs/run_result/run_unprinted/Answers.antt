@@ -15,7 +15,7 @@ returns-in-Err-clause-left_alone g c = λ observed.
 
 pub returns-in-Ok-clause-given : goal.returns-in-Ok-clause-given
 returns-in-Ok-clause-given g c = λ opened.
-    (c.in-Ok.field-0.plan, record { reads = c.in-Ok.ensures.read; all = c.run_plan.ensures.lines opened; front = c.run_plan.ensures.front opened })
+    (c.in-Ok.field-0.plan, record { reads = c.in-Ok.ensures.read; all = c.run_plan.ensures.lines opened; front = c.run_plan.ensures.front opened; front_steps = c.run_plan.ensures.front_steps opened })
 
 pub returns-in-Ok-clause-runs : goal.returns-in-Ok-clause-runs
 returns-in-Ok-clause-runs g c = c.run_plan.ensures.runs

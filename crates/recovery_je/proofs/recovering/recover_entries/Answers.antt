@@ -79,4 +79,5 @@ returns-clause-fits g c =
       roots = are_read files es e numbers begun nodes (g.T.Loads.nodes read) before (g.T.Loads.stored read) walk c.max-last_node.result (g.T.Loads.last_number read) c.requires.entries at walked put
           (λ d k low. g.met.T.Loads.no_nodes c.args.trees d k low (c.requires.empty d)) c.begin_redo.ensures.nodes c.begin_redo.ensures.stored le c.begin_redo.ensures.numbers;
       fit = λ base below fit. c.in_ok-settled.ensures.fits es base (c.in_ok-trees.ensures.fits base below fit);
+      redo_is = sym (ap (λ (k : Checkpoint). k.redo) at);
     }

@@ -24,5 +24,5 @@ returns-in_ok-meant-in-All-clause-recovered g c observable reads read =
     recovered observable reads c.args.files.now c.in-All.entries.items c.in-All.tail
     (record { store = made.settled.opening; last_txn = made.last_txn; last_node = made.last_node; last_db = made.last_db; checkpoint = made.checkpoint })
     (g.T.Loads.has_tree made.settled.trees) (g.T.Loads.stored made.settled.trees) made.settled.databases made.settled.records c.len-count.result
-    (HasReadAgain g.T.Loads.well_formed g.T.Loads.nodes g.T.Loads.stored g.T.Loads.last_number g.T.Loads.fits made.settled.trees) c.requires.files
+    (HasReadAgain g.T.Loads.well_formed g.T.Loads.nodes g.T.Loads.stored g.T.Loads.last_number g.T.Loads.fits made.settled.trees made.redo) c.requires.files
     (subst (AreRead observable reads c.args.files.now) c.in-All.is read) (omega (arith, c.len-count.ensures, c.in-All.entries.ok.0)) c.in_ok-meant-in-All.ensures.meant c.in_ok-meant-in-All.ensures.fits

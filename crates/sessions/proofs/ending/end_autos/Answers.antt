@@ -7,10 +7,10 @@ loop-session-smaller c =
     ending_less c.args.victims.now c.loop-session.sessions c.end_one.new.sessions _ c.in-Some.session c.in-Some.txn c.actives.ensures (sym c.in-Some.is ∙ c.first_auto.ensures) c.end_one.ensures.actives
 
 pub loop-session-preserved : goal.loop-session-preserved
-loop-session-preserved c = (
-  ending_goes_on c.args.victims.now c.args.sessions.now c.loop-session.sessions c.end_one.new.sessions _ c.in-Some.session c.in-Some.txn c.actives.ensures (sym c.in-Some.is ∙ c.first_auto.ensures) c.end_one.ensures.stands c.loop-session.invariant.0,
-  λ store numbers under. c.end_one.ensures.names store numbers (c.loop-session.invariant.1 store numbers under),
-)
+loop-session-preserved c =
+    ending_goes_on c.args.victims.now c.args.sessions.now c.loop-session.sessions c.end_one.new.sessions _ c.in-Some.session c.in-Some.txn c.actives.ensures (sym c.in-Some.is ∙ c.first_auto.ensures) c.end_one.ensures.stands c.loop-session.invariant
 
-pub returns-clause-stands : goal.returns-clause-stands
-returns-clause-stands c = ending_ends c.args.victims.now c.args.sessions.now c.loop-session.sessions _ c.actives.ensures (sym c.in_default.is ∙ c.first_auto.ensures) c.loop-session.invariant.0
+pub returns : goal.returns
+returns c = record {
+  stands = ending_ends c.args.victims.now c.args.sessions.now c.loop-session.sessions _ c.actives.ensures (sym c.in_default.is ∙ c.first_auto.ensures) c.loop-session.invariant;
+}

@@ -7,7 +7,10 @@ pub returns-clause-stands : goal.returns-clause-stands
 returns-clause-stands c = λ st a session txn at. record {
   actives = search rules;
   own = search rules;
-  places = subst (λ (n : ℕ). AreCursorsAt c.close_all.new.self (with_at n [] st.places)) (sym session) (c.close_all.ensures.closed st.places at.places);
+  places = record {
+    at = subst (λ (n : ℕ). AreCursorsAt c.close_all.new.self (with_at n [] st.places)) (sym session) (c.close_all.ensures.closed st.places at.places.at);
+    under = c.close_all.ensures.under st.store st.numbers at.places.under;
+  };
   waiting = at.waiting;
   locks = search rules;
 }

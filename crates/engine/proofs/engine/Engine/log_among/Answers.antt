@@ -43,6 +43,7 @@ returns-in-Ok-clause-logs g c =
         last_node = node;
         commits = refl;
         fault = refl;
+        checkpoints = refl;
       },
       within_last planned.last_db left.0,
       no_limit _ kept.last_node count (subst (λ (cs : List TreeChange). limit_in old cs c.args.owed ≡ None) same c.in-Ok.ensures.room) left.1,

@@ -47,7 +47,7 @@ returns-in-Err-clause-begins g c = λ most st here none.
           alone_at = record p { fault = Some Disk; begun = p.begun };
           st_is = ap (λ (s : Standing). after_event s (SyncBegin DiskFault)) here.at.st_is;
           here = faulted_at most g.D.Disk.observable (state (disk_of old.trees.log)) (state (disk_of new)) old.trees.log new (contents_of old) (record (contents_of old) { fault = Some Disk }) p p.begun here.at.here
-              (record { totals = refl; last_txn = refl; last_db = refl; last_node = refl; commits = refl; fault = refl }) c.sync_begin.ensures.file_max;
+              (record { totals = refl; last_txn = refl; last_db = refl; last_node = refl; commits = refl; fault = refl; checkpoints = refl }) c.sync_begin.ensures.file_max;
         };
         trees = λ valid. record { quiet = trees.quiet; made = trees.made };
       },

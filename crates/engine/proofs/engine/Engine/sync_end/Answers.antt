@@ -48,7 +48,7 @@ returns-in-Err-clause-ends g c = λ most st here none.
           alone_at = record p { fault = Some Disk; begun = None };
           st_is = ap (λ (s : Standing). after_event (record s { begun = Some s.commits }) (SyncEnd DiskFault)) here.at.st_is;
           here = faulted_at most g.D.Disk.observable (state (disk_of old.trees.log)) (state (disk_of new)) old.trees.log new (contents_of old) (record (contents_of old) { fault = Some Disk }) p None here.at.here
-              (record { totals = refl; last_txn = refl; last_db = refl; last_node = refl; commits = refl; fault = refl }) c.sync_end.ensures.kept.max;
+              (record { totals = refl; last_txn = refl; last_db = refl; last_node = refl; commits = refl; fault = refl; checkpoints = refl }) c.sync_end.ensures.kept.max;
         };
         trees = λ valid. record { quiet = trees.quiet; made = trees.made };
       },

@@ -1,4 +1,5 @@
-use Rattle.environment.proofs.AutoCalls.{auto_at, may_wait}
+use Rattle.environment.proofs.AutoCalls.{auto_at}
+use Rattle.environment.proofs.LateLaws.{may_wait}
 use Rattle.environment.proofs.AutoEnds.{near_by}
 use Rattle.environment.proofs.environment.Environment.access_auto.Goals as goal
 

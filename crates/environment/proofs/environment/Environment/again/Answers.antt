@@ -1,5 +1,5 @@
 use Rattle.je_answers.specs.Events.{resumed}
-use Rattle.environment.proofs.ResumeLaws.{gone_again, its_wait, may_again, sound_again}
+use Rattle.environment.proofs.ResumeLaws.{gone_again, may_again, sound_again}
 use Rattle.environment.proofs.environment.Environment.again.Goals as goal
 
 pub call_again-result-requires-clause-here : goal.call_again-result-requires-clause-here
@@ -7,9 +7,6 @@ call_again-result-requires-clause-here g c =
     let st = c.requires.here.1 in
     let may = c.requires.here.3 in
     (c.requires.here.0, resumed st c.args.wait, c.requires.here.2, sound_again st c.args.session c.args.wait may, may_again st c.args.session c.args.wait may)
-
-pub call_again-result-requires-clause-call : goal.call_again-result-requires-clause-call
-call_again-result-requires-clause-call g c = (its_wait c.requires.here.1 c.args.session c.args.wait c.requires.here.3).cursorless
 
 pub returns-in-Ok-clause-again : goal.returns-in-Ok-clause-again
 returns-in-Ok-clause-again g c = λ most st at may. c.in-Ok.ensures.comes most (resumed st c.args.wait) at (sound_again st c.args.session c.args.wait may) (may_again st c.args.session c.args.wait may)

@@ -10,7 +10,7 @@ use Rattle.environment.proofs.OwnEnds.{goes_on, has_pushed, not_ends}
 use Rattle.environment.proofs.environment.Environment.commit_again.Goals as goal
 
 pub returns-in_default-clause-comes : goal.returns-in_default-clause-comes
-returns-in_default-clause-comes g c = λ before most line st a asked db found t answer up is level number auto bare.
+returns-in_default-clause-comes g c = λ before most line st a asked db found t answer up moves is level number auto bare.
     not_again g.D.Disk.observable g.D.Disk.history g.D.Disk.sync_out g.D.Disk.read_out g.D.Disk.read_of before c.args.self.now c.give_up.new.self most c.args.session st a asked db found t answer c.args.changes up (c.give_up.ensures.stands _ a _ st is up.taken)
 
 pub push_and_log-pushed-requires-clause-taken : goal.push_and_log-pushed-requires-clause-taken
@@ -45,17 +45,17 @@ undo_own-requires g c =
     (r.3, needs, pushed.more, r.2, r.10, has_pushed g.D.Disk.observable g.D.Disk.history g.D.Disk.sync_out g.D.Disk.read_out g.D.Disk.read_of c.push_and_log-pushed.new.self.sessions r.3 c.args.txn needs pushed.more 0 r.2 r.10 (len_none r.2 r.3 c.args.txn r.10 r.14) pushed.taken)
 
 pub returns-in-Ok-clause-comes : goal.returns-in-Ok-clause-comes
-returns-in-Ok-clause-comes g c before most line st a asked db found t answer up is level number auto bare =
+returns-in-Ok-clause-comes g c before most line st a asked db found t answer up moves is level number auto bare =
     let here = subst (IsTakenUp g.D.Disk.observable g.D.Disk.history most before c.args.self.now st c.args.session a asked db found t answer) (sym c.as_slice-2.ensures) up in
     let pushed = c.in-Ok.ensures.writes before most c.args.session st a asked db found t answer here is number in
     c.end_again.ensures.comes before most line st a asked t (written_again g.D.Disk.observable g.D.Disk.history g.D.Disk.sync_out g.D.Disk.read_out g.D.Disk.read_of g.D.Disk.faults most before c.args.self.now c.push_and_log-pushed.new.self st c.args.session c.args.txn c.args.level a asked db found t answer c.as_slice-2.result.now c.in-Some.all c.in-Ok.wrote here
-    (subst (λ (l : List RecordChange). l ≢ []) (sym c.as_slice-2.ensures) c.requires.some) is level auto bare pushed (c.in-Some.ensures.counted ∙ ap (λ (n : ℕ). c.args.self.now.engine.kept.totals.records + n) (c.count_sets-set.ensures ∙ ap (count_by is_set) (c.as_slice.ensures ∙ sym c.as_slice-2.ensures))) c.in-Some.ensures.fits c.in-Some.ensures.next)
+    (subst (λ (l : List RecordChange). l ≢ []) (sym c.as_slice-2.ensures) c.requires.some) is level auto bare pushed (c.in-Some.ensures.counted ∙ ap (λ (n : ℕ). c.args.self.now.engine.kept.totals.records + n) (c.count_sets-set.ensures ∙ ap (count_by is_set) (c.as_slice.ensures ∙ sym c.as_slice-2.ensures))) c.in-Some.ensures.fits c.in-Some.ensures.next) moves
 
 pub returns-in-Ok-clause-cause : goal.returns-in-Ok-clause-cause
 returns-in-Ok-clause-cause g c = c.end_again.ensures.cause (g.D.Disk.faults _) c.push_and_log-pushed.ensures.never_falls c.in-Ok.ensures.rose
 
 pub returns-in-Err-clause-comes : goal.returns-in-Err-clause-comes
-returns-in-Err-clause-comes g c before most line st a asked db found t answer up is level number auto bare =
+returns-in-Err-clause-comes g c before most line st a asked db found t answer up moves is level number auto bare =
     let here = subst (IsTakenUp g.D.Disk.observable g.D.Disk.history most before c.args.self.now st c.args.session a asked db found t answer) (sym c.as_slice-2.ensures) up in
     let p = c.in-Err.ensures.writes before most c.args.session st a asked db found t answer here is number in
     let needs = needs_in st a asked t in

@@ -17,10 +17,10 @@ returns-clause-goes_on g c = λ most st here. record {
     at = c.leave.ensures.stands most st here.at (λ none. (here.right none).sound.numbers);
     right = λ none.
         let before = sym (ended_fault (active_of c.args.session st.actives) (without_call c.args.session st)) ∙ none in
-        standings_stay-right None st (End c.args.session) before (here.right before) tt tt;
+        standings_stay-right None st (End c.args.session) before (here.right before) tt;
     bare = λ none.
         let before = sym (ended_fault (active_of c.args.session st.actives) (without_call c.args.session st)) ∙ none in
-        standings_stay-bare None st (End c.args.session) before (here.right before) (here.bare before) tt tt;
+        standings_stay-bare None st (End c.args.session) before (here.right before) (here.bare before) tt;
   };
 }
 

@@ -2,7 +2,7 @@ use Rattle.std.proofs.Common.{◌∙◌, sym, subst}
 use Rattle.in_tree.specs.Observed.{cells_of}
 use Rattle.txn_core.specs.Known.{committed}
 use Rattle.environment.proofs.EarlyLaws.{IsCalmRefusal}
-use Rattle.environment.proofs.LateLaws.{late_number, late_absent, late_refuses, late_found, calm_refuses}
+use Rattle.environment.proofs.LateLaws.{late_number, late_absent, late_refuses, late_found, calm_refuses, may_wait}
 use Rattle.environment.proofs.environment.Environment.late.Goals as goal
 
 pub returns-then-lacks_number : goal.returns-then-lacks_number
@@ -22,7 +22,7 @@ returns-in-Some-refusal g c = λ most st here.
     let refuses = sym c.refusal.ensures ∙ c.in-Some-refusal.is in
     late_refuses (committed (cells_of c.args.self.now.engine.trees)) st v.makes c.args.session c.args.call.now c.args.db.now c.requires.call (sym (c.lacks_number.ensures most st here) ∙ c.if-lacks_number.false)
     c.in_ok-found.field-0 c.in-Some.found c.in_ok-found.ensures.seen c.in-Some.is c.in-Some-refusal.answer refuses
-    (subst IsCalmRefusal refuses (calm_refuses c.in-Some.found.kind c.args.call.now c.args.db.now c.requires.call))
+    (subst IsCalmRefusal refuses (calm_refuses c.in-Some.found.kind c.args.call.now (may_wait c.args.call.now c.args.db.now c.requires.call)))
 
 pub returns-in-None : goal.returns-in-None
 returns-in-None g c = λ most st here.

@@ -1,10 +1,13 @@
 use Rattle.std.proofs.Common.{◌∙◌, ◌+◌, ◌≤◌, ℕ, ap, sym, subst}
-use Rattle.je_answers.specs.Views.{changes_at, needs_in}
+use Rattle.je_answers.specs.Views.{changes_at, needs_in, outcome_of}
+use Rattle.je_answers.specs.Locking.{all_got}
+use Rattle.je_answers.specs.After.{with_locks}
 use Rattle.in_tree.specs.Observed.{cells_of}
 use Rattle.txn_core.specs.Known.{committed}
 use Rattle.sessions.specs.AtStanding.{with_own}
 use Rattle.environment.specs.declared.wrote.Wrote.TheVariants.{Done}
 use Rattle.environment.proofs.OwnFree.{own_free}
+use Rattle.environment.proofs.PlacesLaws.{its_moves}
 use Rattle.environment.proofs.AgainEnds.{had_settles, pushed_again, room_settles, settled_again, taken_again, unsettled_again}
 use Rattle.environment.proofs.environment.Environment.settle_again.Goals as goal
 
@@ -27,15 +30,18 @@ commit_own-requires-clause-own g c =
     own_free (cells_of e.engine.trees) (with_own r.3.txn.0 (changes_at r.5.db r.6.changes) r.2).own (committed (cells_of e.engine.trees)) e.written.by_txn.entries c.args.txn valid.writes valid.names
 
 pub returns-in-Ok-clause-comes : goal.returns-in-Ok-clause-comes
-returns-in-Ok-clause-comes g c before most line st a asked t w =
+returns-in-Ok-clause-comes g c before most line st a asked t w moves =
     let taken = taken_again g.D.Disk.observable g.D.Disk.history g.D.Disk.sync_out g.D.Disk.read_out g.D.Disk.read_of g.D.Disk.faults most before c.args.self.now st c.args.session c.args.txn c.args.level a asked t c.args.all Done w
     c.commit_own.new.self.sessions c.commit_own.ensures.sessions in
     settled_again g.D.Disk.observable g.D.Disk.history g.D.Disk.sync_out g.D.Disk.read_out g.D.Disk.read_of g.D.Disk.faults most before c.args.self.now st c.args.session c.args.txn c.args.level a asked t c.args.all c.commit_own.new.self
-    c.answered.new.self c.end.new.self c.less-records.result line c.told.result w c.in-Ok.ensures.done (c.answered.ensures.stands a (needs_in st a asked t) (with_own a.txn.0 w.pushed.more st) w.its_txn w.its_level taken) c.end.ensures.stands
+    c.move_by.new.sessions c.end.new.self c.less-records.result line c.told.result w c.in-Ok.ensures.done 
+    (c.move_by.ensures (with_locks a (all_got a.txn (needs_in st a asked t) st.locks.at) (with_own a.txn.0 w.pushed.more st)) a asked (outcome_of st a asked t).place (its_moves c.args.session a st.actives asked (outcome_of st a asked t).place c.args.moves w.up.its moves)
+    (c.answered.ensures.stands a (needs_in st a asked t) (with_own a.txn.0 w.pushed.more st) w.its_txn w.its_level taken))
+    c.end.ensures.stands
     (ap (λ (n : ℕ). c.less-records.result + n) (sym c.had_of.ensures) ∙ c.less-records.ensures) c.told.ensures.answer c.told.ensures.victims
 
 pub returns-in-Err-clause-comes : goal.returns-in-Err-clause-comes
-returns-in-Err-clause-comes g c before most line st a asked t w =
+returns-in-Err-clause-comes g c before most line st a asked t w moves =
     let pushed = pushed_again g.D.Disk.observable g.D.Disk.history g.D.Disk.sync_out g.D.Disk.read_out g.D.Disk.read_of g.D.Disk.faults most before c.args.self.now st c.args.session c.args.txn c.args.level a asked t c.args.all Done w
     c.commit_own.new.self.sessions c.commit_own.ensures.sessions in
     unsettled_again g.D.Disk.observable g.D.Disk.history g.D.Disk.sync_out g.D.Disk.read_out g.D.Disk.read_of g.D.Disk.faults most before c.args.self.now st c.args.session c.args.txn c.args.level a asked t c.args.all c.commit_own.new.self

@@ -4,9 +4,9 @@ use Rattle.environment.proofs.OwnEnds.{cause_by, ends}
 use Rattle.environment.proofs.environment.Environment.write_own.Goals as goal
 
 pub returns-in-Ok-clause-comes : goal.returns-in-Ok-clause-comes
-returns-in-Ok-clause-comes g c before most session line st a asked db found t up is level number auto =
+returns-in-Ok-clause-comes g c before most session line st a asked db found t up moves is level number auto =
     ends g.D.Disk.observable g.D.Disk.history g.D.Disk.sync_out g.D.Disk.read_out g.D.Disk.read_of before c.args.self.now most session st a asked db found t c.args.answer c.args.changes up c.write_up.new.self line c.in-Ok.wrote c.told.result
-    c.requires.some auto (c.in-Ok.ensures.comes before most session st a asked db found t c.args.answer (subst (IsTakenUp g.D.Disk.observable g.D.Disk.history most before c.args.self.now st session a asked db found t c.args.answer) (sym c.as_slice.ensures) up) is level number) (c.told.ensures.answer ∙ c.answer_by.ensures) c.told.ensures.victims
+    c.requires.some auto (c.in-Ok.ensures.comes before most session st a asked db found t c.args.answer (subst (IsTakenUp g.D.Disk.observable g.D.Disk.history most before c.args.self.now st session a asked db found t c.args.answer) (sym c.as_slice.ensures) up) moves is level number) (c.told.ensures.answer ∙ c.answer_by.ensures) c.told.ensures.victims
 
 pub returns-in-Ok-clause-cause : goal.returns-in-Ok-clause-cause
 returns-in-Ok-clause-cause g c =
@@ -15,7 +15,7 @@ returns-in-Ok-clause-cause g c =
     (g.D.Disk.faults _) (g.D.Disk.faults _) (c.told.ensures.answer ∙ c.answer_by.ensures) c.write_up.ensures.never_falls c.in-Ok.ensures.rose
 
 pub returns-in-Err-clause-comes : goal.returns-in-Err-clause-comes
-returns-in-Err-clause-comes g c before most session line st a asked db found t up is level number auto = c.in-Err.ensures.comes before most session st a asked db found t c.args.answer (subst (IsTakenUp g.D.Disk.observable g.D.Disk.history most before c.args.self.now st session a asked db found t c.args.answer) (sym c.as_slice.ensures) up) is level number
+returns-in-Err-clause-comes g c before most session line st a asked db found t up moves is level number auto = c.in-Err.ensures.comes before most session st a asked db found t c.args.answer (subst (IsTakenUp g.D.Disk.observable g.D.Disk.history most before c.args.self.now st session a asked db found t c.args.answer) (sym c.as_slice.ensures) up) moves is level number
 
 pub write_up-requires-clause-taken : goal.write_up-requires-clause-taken
 write_up-requires-clause-taken g c =

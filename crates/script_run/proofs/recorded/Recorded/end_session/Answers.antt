@@ -19,7 +19,7 @@ returns-clause-goes_on g c = λ p under may.
       synced = λ later met. (tt, tt);
       fresh = tt;
       ordered = may;
-      only = tt;
+      steps = tt;
       sessions = tt;
       bounds = e.bounds under.running.bounds;
       never_falls = (let faults = g.D.Disk.faults in subst (λ d. faults (disk_of x.environment) ≤ faults d) (sym e.same_disk) (omega arith));

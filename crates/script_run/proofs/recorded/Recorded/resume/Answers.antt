@@ -27,7 +27,7 @@ returns-in-Err-clause-goes_on g c = λ p under next.
       synced = λ later met. (tt, tt);
       fresh = tt;
       ordered = inr (first_of (first_ready (standing p x)) c.args.session c.args.line next.first);
-      only = tt;
+      steps = tt;
       sessions = tt;
       bounds = c.resume.ensures.bounds;
       never_falls = e.cause.never_falls;
@@ -66,7 +66,7 @@ returns-clause-goes_on g c = λ p under next.
       );
       fresh = fresh_after o.answer durability awaited (after_event st event) for_ (λ logged. gone_on_valid done.limit st session line o.answer o.victims logged done.answered);
       ordered = first_of (first_ready st) session line next.first;
-      only = tt;
+      steps = tt;
       sessions = within;
       bounds = c.resume.ensures.bounds;
       never_falls = e.cause.never_falls;

@@ -46,7 +46,7 @@ returns-clause-goes_on g c = λ p under calm.
       );
       fresh = fresh_after o.answer durability awaited (after_event st event) for_ (λ logged. called_valid done.limit st session line call o.answer o.victims logged done.answered);
       ordered = calm;
-      only = tt;
+      steps = tt;
       sessions = within;
       bounds = c.step.ensures.bounds;
       never_falls = e.cause.never_falls;

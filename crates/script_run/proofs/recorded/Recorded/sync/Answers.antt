@@ -1,17 +1,20 @@
 use Rattle.script_run.proofs.EndLaws.{gained_one, gained_then}
 use Rattle.script_run.proofs.Standings.{alike_by, faulted_actives, faulted_waits}
+use Rattle.script_run.proofs.Steps.{synced_by}
 use Rattle.std.proofs.Common.{List, [], ◌∷◌, ◌++◌, ◌≡◌, None, Option, refl, inl, inr, ap, sym, ◌∙◌, subst}
+use Rattle.std.specs.Option.{is_some}
 use Rattle.je_disk.specs.Moments.{now}
 use Rattle.je_answers.specs.Events.{IsSyncBegun, IsSyncEnded}
 use Rattle.je_answers.specs.After.{after_event, after_events, faulted_if}
 use Rattle.je_answers.specs.Standing.{Standing}
 use Rattle.je_answers.proofs.Journals.{after_events-append}
 use Rattle.script_run.proofs.Pushed.{within_none}
-use Rattle.script_run.proofs.RunLaws.{IsNextEvent, pushed, running_push, standing_push}
+use Rattle.script_run.proofs.RunLaws.{IsNextEvent, last_pushed, pushed, running_push, standing_push}
 use Rattle.script_run.proofs.Waiting.{begun_is, ended_is, fault_is, unbegun_is}
 use Rattle.script_run.specs.UnderWay.{IsRunning, standing}
 use Rattle.script_run.specs.declared.recorded.Recorded.{Recorded}
 use Rattle.script_run.specs.Events.Awaited.{Ending, Follow, Nothing}
+use Rattle.script_run.specs.Maintenance.{last_after}
 use Rattle.store_model.specs.declared.answer.Fault.{Fault}
 use Rattle.store_model.specs.declared.answer.Answer.TheVariants.{Done, DiskFault}
 use Rattle.store_model.specs.declared.durability.Durability.TheVariants.{Sync}
@@ -38,7 +41,7 @@ returns-in_default-clause-goes_on g c = λ p under.
       synced = λ later met. (unbegun_is st later, tt);
       fresh = tt;
       ordered = tt;
-      only = tt;
+      steps = tt;
       sessions = tt;
       bounds = c.sync_begin.ensures.bounds under.running.bounds;
       never_falls = c.sync_begin.ensures.never_falls;
@@ -70,7 +73,7 @@ returns-clause-goes_on g c = λ p under.
       synced = λ later met. (begun_is st later met, tt);
       fresh = (valid, refl);
       ordered = tt;
-      only = tt;
+      steps = tt;
       sessions = tt;
       bounds = c.sync_begin.ensures.bounds under.running.bounds;
       never_falls = c.sync_begin.ensures.never_falls;
@@ -82,13 +85,13 @@ returns-clause-goes_on g c = λ p under.
     subst (λ (s : Standing). IsAt p.most observable (now (history (disk_of middle))) middle s) stands syncing.here in
     let ends = e.ends p.most st1 here1 valid in
     let done = running_push observable history faults p Ending Nothing middle new begun (SyncEnd ending) syncing
-    (subst (λ (s : Standing). IsNextEvent observable history faults p Ending Nothing middle new s (SyncEnd ending)) (sym stands) (record {
+    (subst (λ (s : Standing). IsNextEvent observable history faults p Ending Nothing middle new (last_after None begun) s (SyncEnd ending)) (sym stands) (record {
       done = record { limit = None; bounded = inl refl; answered = subst (λ (f : Option Fault). IsSyncEnded f st1.begun ending) (sym valid) ends.0; here = ends.1 };
       grows = within_none (reach_of middle) (reach_of new) e.within;
       synced = λ later met. (ended_is st1 ending later ends.0, tt);
       fresh = tt;
       ordered = tt;
-      only = tt;
+      steps = tt;
       sessions = tt;
       bounds = e.bounds (c.sync_begin.ensures.bounds under.running.bounds);
       never_falls = e.never_falls;
@@ -130,3 +133,19 @@ returns-clause-gained g c = λ stopped.
     let after = c.record-3.new.journal.items in
     gained_then stopped before middle after (gained_one stopped before middle (SyncBegin Done) c.record-2.ensures.items refl tt)
     (gained_one stopped middle after (SyncEnd c.sync_end-answer.result) c.record-3.ensures.items refl tt)
+
+pub returns-in_default-clause-synced : goal.returns-in_default-clause-synced
+returns-in_default-clause-synced g c = λ p under.
+    let x = c.args.self.now in
+    let y : Recorded g.row.D.Denot = record { environment = c.sync_begin.new.self; journal = c.record.new.journal } in
+    inr (inl (last_pushed x y (SyncBegin DiskFault) c.record.ensures.items), ap (λ (s : Standing). is_some s.fault) (standing_push p x y (SyncBegin DiskFault) c.record.ensures.items))
+
+pub returns-clause-synced : goal.returns-clause-synced
+returns-clause-synced g c = λ p under.
+    let x = c.args.self.now in
+    let st = standing p x in
+    let valid : st.fault ≡ None = under.running.fresh in
+    let m : Recorded g.row.D.Denot = record { environment = c.sync_begin.new.self; journal = c.record-2.new.journal } in
+    let y : Recorded g.row.D.Denot = record { environment = c.sync_end-answer.new.self; journal = c.record-3.new.journal } in
+    synced_by p x m y c.sync_end-answer.result c.record-2.ensures.items c.record-3.ensures.items
+    (c.sync_end-answer.ensures.ends p.most (after_event st (SyncBegin Done)) (c.in-Some.ensures.begins p.most st under.running.here valid).1 valid).0

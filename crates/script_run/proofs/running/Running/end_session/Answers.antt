@@ -22,5 +22,5 @@ returns-else-is_err-clause-ended g c = inl (record {
 pub returns-else-is_err-clause-given : goal.returns-else-is_err-clause-given
 returns-else-is_err-clause-given g c = λ lines has.
     let x = c.args.self.now in
-    given_same x.recorded.journal.items c.end_session.new.self.journal.items x.memory_ended x.stopped lines
+    given_same x.recorded.journal.items c.end_session.new.self.journal.items x.memory_ended x.stopped x.steps_stopped lines
     (ended_lines c.make_room.new.self.journal.items c.end_session.new.self.journal.items c.args.session c.end_session.ensures.ended ∙ ap lines_of c.make_room.ensures.items) has

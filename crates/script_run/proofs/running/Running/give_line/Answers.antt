@@ -13,7 +13,7 @@ use Rattle.script_run.proofs.running.Running.give_line.Goals as goal
 pub returns-then-self-session-clause-given : goal.returns-then-self-session-clause-given
 returns-then-self-session-clause-given g c = λ lines has.
     let x = c.args.self.now in
-    given_skipped x.recorded.journal.items x.memory_ended x.stopped lines c.args.session c.args.line c.args.call has c.if-self-session.true
+    given_skipped x.recorded.journal.items x.memory_ended x.stopped x.steps_stopped lines c.args.session c.args.line c.args.call has c.if-self-session.true
 
 pub execute-requires-clause-here : goal.execute-requires-clause-here
 execute-requires-clause-here g c =
@@ -38,7 +38,7 @@ returns-in-Ok-clause-goes_on g c = λ p under calm.
 pub returns-in-Ok-clause-given : goal.returns-in-Ok-clause-given
 returns-in-Ok-clause-given g c = λ lines has.
     let x = c.args.self.now in
-    given_line x.recorded.journal.items c.execute.new.self.journal.items x.memory_ended x.stopped lines c.args.session c.args.line c.args.call has c.if-self-session.false c.in-Ok.ensures.line
+    given_line x.recorded.journal.items c.execute.new.self.journal.items x.memory_ended x.stopped x.steps_stopped lines c.args.session c.args.line c.args.call has c.if-self-session.false c.in-Ok.ensures.line
 
 pub returns-in-Err-clause-goes_on : goal.returns-in-Err-clause-goes_on
 returns-in-Err-clause-goes_on g c = λ p under was_calm.
@@ -55,8 +55,8 @@ pub returns-in-Err-clause-given : goal.returns-in-Err-clause-given
 returns-in-Err-clause-given g c = λ lines has.
     let x = c.args.self.now in
     let new = c.end_session.new.self in
-    let failed = given_same x.recorded.journal.items c.execute.new.self.journal.items x.memory_ended x.stopped lines (ap lines_of c.in-Err.ensures.err) has in
-    given_skipped new.recorded.journal.items new.memory_ended new.stopped lines c.args.session c.args.line c.args.call
+    let failed = given_same x.recorded.journal.items c.execute.new.self.journal.items x.memory_ended x.stopped x.steps_stopped lines (ap lines_of c.in-Err.ensures.err) has in
+    given_skipped new.recorded.journal.items new.memory_ended new.stopped new.steps_stopped lines c.args.session c.args.line c.args.call
     (c.end_session.ensures.given lines (c.stop.ensures.given lines failed)) (ended_stopped c.args.session c.stop.new.self new c.stop.ensures.stopped c.end_session.ensures.ended)
 
 pub returns-in-Ok-clause-ends : goal.returns-in-Ok-clause-ends
@@ -67,5 +67,5 @@ returns-in-Err-clause-ends g c = λ ends.
     let x = c.args.self.now in
     let s = c.stop.new.self in
     let y = c.end_session.new.self in
-    let e : Running g.row.D.Denot = record { recorded = c.execute.new.self; memory_ended = x.memory_ended; stopped = x.stopped; halted = x.halted } in
+    let e : Running g.row.D.Denot = record { recorded = c.execute.new.self; memory_ended = x.memory_ended; stopped = x.stopped; steps_stopped = x.steps_stopped; halted = x.halted } in
     stopped_then x y (gone_on_from x e y c.in-Err.ensures.err refl refl (gone_on_then e s y c.stop.ensures.gone_on (ended_gone_on c.args.session s y c.stop.ensures.stopped c.end_session.ensures.ended))) ends

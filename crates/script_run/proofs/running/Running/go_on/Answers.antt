@@ -40,7 +40,7 @@ returns-then-is_err-2-clause-given g c = λ lines has.
     let stopped = c.stop-then-is_err-2.new.self.stopped in
     let gained = c.go_on.ensures.gained stopped (on_failed c.go_on.result (IsStopped stopped c.args.session) c.stop-then-is_err-2.ensures.stopped) in
     c.stop-then-is_err-2.ensures.given lines
-    (given_same x.recorded.journal.items c.go_on.new.self.journal.items x.memory_ended x.stopped lines
+    (given_same x.recorded.journal.items c.go_on.new.self.journal.items x.memory_ended x.stopped x.steps_stopped lines
     (gained_lines stopped c.make_room.new.self.journal.items c.go_on.new.self.journal.items gained ∙ ap lines_of c.make_room.ensures.items) has)
 
 pub returns-else-is_err-2-clause-goes_on : goal.returns-else-is_err-2-clause-goes_on
@@ -59,7 +59,7 @@ returns-else-is_err-2-clause-settles g c = λ p under next halted.
 pub returns-else-is_err-2-clause-given : goal.returns-else-is_err-2-clause-given
 returns-else-is_err-2-clause-given g c = λ lines has.
     let x = c.args.self.now in
-    given_same x.recorded.journal.items c.go_on.new.self.journal.items x.memory_ended x.stopped lines
+    given_same x.recorded.journal.items c.go_on.new.self.journal.items x.memory_ended x.stopped x.steps_stopped lines
     (gained_lines x.stopped c.make_room.new.self.journal.items c.go_on.new.self.journal.items (c.go_on.ensures.gained x.stopped (not_failed c.go_on.result (IsStopped x.stopped c.args.session) (sym c.is_err-2.ensures.value ∙ c.if-is_err-2.false))) ∙ ap lines_of c.make_room.ensures.items) has
 
 pub returns-then-is_err-clause-begins_none : goal.returns-then-is_err-clause-begins_none
@@ -74,7 +74,7 @@ returns-then-is_err-clause-gone_on g c =
     let x = c.args.self.now in
     let s = c.stop.new.self in
     let y = c.end_session.new.self in
-    let m : Running g.row.D.Denot = record { recorded = c.make_room.new.self; memory_ended = x.memory_ended; stopped = x.stopped; halted = x.halted } in
+    let m : Running g.row.D.Denot = record { recorded = c.make_room.new.self; memory_ended = x.memory_ended; stopped = x.stopped; steps_stopped = x.steps_stopped; halted = x.halted } in
     gone_on_from x m y c.make_room.ensures.items refl refl (gone_on_then m s y c.stop.ensures.gone_on (ended_gone_on c.args.session s y c.stop.ensures.stopped c.end_session.ensures.ended))
 
 pub returns-then-is_err-2-clause-begins_none : goal.returns-then-is_err-2-clause-begins_none

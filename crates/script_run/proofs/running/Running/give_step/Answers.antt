@@ -1,0 +1,34 @@
+use Rattle.std.proofs.Common.{List, Bool, ap, sym, subst}
+use Rattle.script_run.specs.declared.recorded.Recorded.{Recorded}
+use Rattle.script_run.specs.Ends.{AreEndsStopped}
+use Rattle.script_run.proofs.GivenLaws.{given_same, given_step, step_skipped}
+use Rattle.script_run.proofs.Resting.{goes_on_with}
+use Rattle.script_run.proofs.running.Running.give_step.Goals as goal
+
+pub returns-then-self-clause-given : goal.returns-then-self-clause-given
+returns-then-self-clause-given g c = λ lines has.
+    let x = c.args.self.now in
+    step_skipped x.recorded.journal.items x.memory_ended x.stopped x.steps_stopped lines c.args.line c.args.step has c.if-self.true
+
+pub returns-in-Ok-clause-given : goal.returns-in-Ok-clause-given
+returns-in-Ok-clause-given g c = λ lines has.
+    let x = c.args.self.now in
+    given_step x.recorded.journal.items c.maintain.new.self.journal.items x.memory_ended x.stopped x.steps_stopped lines c.args.line c.args.step has c.if-self.false c.in-Ok.ensures.line
+
+pub returns-in-Err-clause-given : goal.returns-in-Err-clause-given
+returns-in-Err-clause-given g c = λ lines has.
+    let x = c.args.self.now in
+    let s = c.stop_steps.new.self in
+    step_skipped s.recorded.journal.items s.memory_ended s.stopped s.steps_stopped lines c.args.line c.args.step
+    (c.stop_steps.ensures.given lines
+    (given_same x.recorded.journal.items c.maintain.new.self.journal.items x.memory_ended x.stopped x.steps_stopped lines c.in-Err.ensures.err has)) c.stop_steps.ensures.stopped
+
+pub returns-in-Ok-clause-ends : goal.returns-in-Ok-clause-ends
+returns-in-Ok-clause-ends g c = λ ends. c.maintain.ensures.ends c.args.self.now.stopped ends
+
+pub returns-in-Err-clause-ends : goal.returns-in-Err-clause-ends
+returns-in-Err-clause-ends g c = λ ends.
+    let x = c.args.self.now in
+    let s = c.stop_steps.new.self in
+    subst (λ (l : List Bool). AreEndsStopped l s.recorded.journal.items) (sym {A = List Bool} c.stop_steps.ensures.sessions)
+    (subst (λ (r : Recorded g.row.D.Denot). AreEndsStopped x.stopped r.journal.items) (sym c.stop_steps.ensures.recorded) (c.maintain.ensures.ends x.stopped ends))
