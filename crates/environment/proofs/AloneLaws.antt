@@ -1,6 +1,5 @@
 -- Where no transaction is under way: what an environment is beside its engine.
 use Rattle.std.proofs.Common.{◌≡◌, ℕ, ◌+◌, suc, Bool, true, false, cond, List, [], Option, None, Some, filter, length, refl, ap, sym, ◌∙◌, subst, arith}
-use Rattle.log_trees.specs.Placed.{placed}
 use Rattle.txn_log.proofs.AtStandingLaws.{same_under}
 use mathlib.Core.Path.{fun_ext}
 use Rattle.std.proofs.lemmas.Option.{none-some}
@@ -14,6 +13,7 @@ use Rattle.je_answers.specs.Alone.{Alone, alone}
 use Rattle.je_answers.specs.Standing.{LockState, Standing}
 use Rattle.lock_table.specs.Table.{Locks}
 use Rattle.log_buffer.specs.Buffer.{end_of, has_failed}
+use Rattle.log_buffer.specs.Flip.{pos_lsn}
 use Rattle.log_replay.specs.Rows.{Rows}
 use Rattle.log_replay.specs.Logging.{number_named}
 use Rattle.in_tree.specs.declared.logged_trees.LogTrees.{LogTrees}
@@ -36,11 +36,13 @@ use Rattle.engine.specs.Limits.{IsWithin, Reach}
 use Rattle.engine.specs.Opening.{reach_in}
 use Rattle.engine.specs.Whole.{AreTrees, IsAt as EngineIsAt, IsOpened as EngineIsOpened, IsOpenedSafely as EngineIsOpenedSafely, contents, reach_of as engine_reach}
 use Rattle.engine.proofs.TxnGives.{gives_alone, gives_with_none}
-use Rattle.environment.specs.Valid.{AreBare, AreAt, IsValidWith, active_number, owed_by, fitting}
+use Rattle.environment.specs.Valid.{AreBare, AreAt, IsValidWith, Lives, active_number, owed_by, fitting, waiting_in}
 use Rattle.environment.specs.Whole.{IsAt, IsOpened, IsOpenedSafely, reach_of}
 use Rattle.environment.specs.Written.{AreNamesOf}
 use Rattle.environment.specs.declared.environment.Environment.{Environment}
 use Rattle.environment.specs.declared.written.OwnNames.{OwnNames}
+use Rattle.environment.proofs.Bases.{lives_at}
+use Rattle.environment.proofs.Firsts.{firsts_none}
 
 -- names that nobody wrote do not hang on the records
 pub names_of_none : (entries : List (TxnId × OwnNames)) (rows later : Rows) → AreNamesOf entries (λ t. []) rows → AreNamesOf entries (λ t. []) later
@@ -81,7 +83,7 @@ module _ {D : Type 0} where
   -- a log and trees in which nobody changed anything
   wide_valid : (observable : Bool) (state : State) (trees : LogTrees D) (kept : Kept) (entries : List (TxnId × OwnNames)) (p : Alone) → IsValid observable state trees.log (contents trees kept) p.store →
       AreTrees trees → kept.last_txn ≡ p.last_txn → kept.last_db ≡ p.last_db → number_named (committed (cells_of trees)) ≡ p.numbers → AreNamesOf entries (λ t. []) (committed (cells_of trees)) →
-      IsValidWith observable state trees.log (cells_of trees) (has_tree_of trees) (fitting trees) entries (alone p)
+      IsValidWith observable state trees.log (cells_of trees) (has_tree_of trees) (fitting trees) kept.since entries (alone p)
   unfolding gives_with_none
   wide_valid observable state trees kept entries p v are last_txn last_db numbers names =
       let rows : Rows = committed (cells_of trees) in
@@ -89,6 +91,12 @@ module _ {D : Type 0} where
       let gives : GivesRecordsWith v.log (end_of trees.log) rows p.last_txn p.last_db (λ t. false) (λ t. []) =
       subst (λ (n : ℕ). GivesRecordsWith v.log (end_of trees.log) rows n p.last_db (λ t. false) (λ t. [])) last_txn
       (subst (λ (n : ℕ). GivesRecordsWith v.log (end_of trees.log) rows kept.last_txn n (λ t. false) (λ t. [])) last_db given) in
+      let lives : Lives (fitting trees) v.log kept.since (pos_lsn (end_of trees.log)) entries gives.base =
+      subst (Lives (fitting trees) v.log kept.since (pos_lsn (end_of trees.log)) entries)
+      (sym (same_under (λ (n : ℕ). GivesRecordsWith v.log (end_of trees.log) rows n p.last_db (λ t. false) (λ t. [])) (λ n g. g.base) last_txn
+      (subst (λ (n : ℕ). GivesRecordsWith v.log (end_of trees.log) rows kept.last_txn n (λ t. false) (λ t. [])) last_db given)
+      ∙ same_under (λ (n : ℕ). GivesRecordsWith v.log (end_of trees.log) rows kept.last_txn n (λ t. false) (λ t. [])) (λ n g. g.base) last_db given))
+      (record { fits = v.fits; from = v.from; firsts = firsts_none entries rows (waiting_in v.log v.gives.base) (pos_lsn (end_of trees.log)) names }) in
       record {
         log = v.log;
         has = v.has;
@@ -108,10 +116,9 @@ module _ {D : Type 0} where
         made = are.made;
         room = λ n is. absurd (none_owing p n is);
         names = names;
-        fits = subst (λ (b : ℕ). fitting trees (placed v.log) b)
-            (sym (same_under (λ (n : ℕ). GivesRecordsWith v.log (end_of trees.log) rows n p.last_db (λ t. false) (λ t. [])) (λ n g. g.base) last_txn
-            (subst (λ (n : ℕ). GivesRecordsWith v.log (end_of trees.log) rows kept.last_txn n (λ t. false) (λ t. [])) last_db given)
-            ∙ same_under (λ (n : ℕ). GivesRecordsWith v.log (end_of trees.log) rows kept.last_txn n (λ t. false) (λ t. [])) (λ n g. g.base) last_db given)) v.fits;
+        fits = lives.fits;
+        from = lives.from;
+        firsts = lives.firsts;
       }
 
   -- an environment in which nobody is under way is where its engine is
@@ -131,6 +138,7 @@ module _ {D : Type 0} where
         totals = is.totals;
         sessions_at = at p;
         apart = tt;
+        checkpoint = is.checkpoint;
         valid = λ none.
             wide_valid observable state engine.trees engine.kept entries p (is.valid none) (here.trees (ap (λ (s : Standing). s.fault) same ∙ none)) is.last_txn is.last_db (is.numbers none) names;
       })
@@ -160,9 +168,18 @@ module _ {D : Type 0} where
             last_db = at.last_db;
             commits = at.commits;
             totals = at.totals;
+            checkpoint = at.checkpoint;
             numbers = λ none. fun_ext (at.valid none).makes.named;
             valid = λ none.
                 let v = at.valid none in
+                let lives : Lives (fitting e.engine.trees) v.log e.engine.kept.since (pos_lsn (end_of e.engine.trees.log)) e.written.by_txn.entries
+                (subst (λ (n : ℕ). GivesRecordsWith v.log (end_of e.engine.trees.log) rows n e.engine.kept.last_db (active_number []) (λ t. [])) (sym at.last_txn)
+                (subst (λ (n : ℕ). GivesRecordsWith v.log (end_of e.engine.trees.log) rows p.last_txn n (active_number []) (λ t. [])) (sym at.last_db) v.gives)).base =
+                subst (Lives (fitting e.engine.trees) v.log e.engine.kept.since (pos_lsn (end_of e.engine.trees.log)) e.written.by_txn.entries)
+                (sym (same_under (λ (n : ℕ). GivesRecordsWith v.log (end_of e.engine.trees.log) rows n e.engine.kept.last_db (active_number []) (λ t. [])) (λ n g. g.base) (sym at.last_txn)
+                (subst (λ (n : ℕ). GivesRecordsWith v.log (end_of e.engine.trees.log) rows p.last_txn n (active_number []) (λ t. [])) (sym at.last_db) v.gives)
+                ∙ same_under (λ (n : ℕ). GivesRecordsWith v.log (end_of e.engine.trees.log) rows p.last_txn n (active_number []) (λ t. [])) (λ n g. g.base) (sym at.last_db) v.gives))
+                (lives_at observable state e.engine.trees.log (cells_of e.engine.trees) (has_tree_of e.engine.trees) (fitting e.engine.trees) e.engine.kept.since e.written.by_txn.entries (alone p) v) in
                 record {
                   log = v.log;
                   has = v.has;
@@ -172,10 +189,8 @@ module _ {D : Type 0} where
                       (subst (λ (n : ℕ). GivesRecordsWith v.log (end_of e.engine.trees.log) rows p.last_txn n (active_number []) (λ t. [])) (sym at.last_db) v.gives));
                   recovers = v.recovers;
                   made = v.makes.store;
-                  fits = subst (λ (b : ℕ). fitting e.engine.trees (placed v.log) b)
-                      (sym (same_under (λ (n : ℕ). GivesRecordsWith v.log (end_of e.engine.trees.log) rows n e.engine.kept.last_db (active_number []) (λ t. [])) (λ n g. g.base) (sym at.last_txn)
-                      (subst (λ (n : ℕ). GivesRecordsWith v.log (end_of e.engine.trees.log) rows p.last_txn n (active_number []) (λ t. [])) (sym at.last_db) v.gives)
-                      ∙ same_under (λ (n : ℕ). GivesRecordsWith v.log (end_of e.engine.trees.log) rows p.last_txn n (active_number []) (λ t. [])) (λ n g. g.base) (sym at.last_db) v.gives)) v.fits;
+                  fits = lives.fits;
+                  from = lives.from;
                 };
           };
         };

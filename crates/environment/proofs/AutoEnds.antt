@@ -137,10 +137,11 @@ module _ {D : Type 0} (observable : Bool) (history : D → History) (sync_out re
           totals = may.at.totals ∙ ap totals_of (sym leaves.store);
           sessions_at = stop.stands;
           apart = victims_apart there a line call g stop.need victims may.at.apart (no_wait session st.actives st.waiting may.outside may.sound.waits.each);
+          checkpoint = may.at.checkpoint ∙ sym leaves.checkpoint;
           valid = λ none.
               let state = now (history (disk_below e.engine.trees.log)) in
-              valid_leaves observable state e.engine.trees.log (cells_of e.engine.trees) (has_tree_of e.engine.trees) (fitting e.engine.trees) e.written.by_txn.entries there after leaves
-              (valid_begun observable state e.engine.trees.log (cells_of e.engine.trees) (has_tree_of e.engine.trees) (fitting e.engine.trees) e.written.by_txn.entries st a may.sound may.left refl (may.at.valid may.valid));
+              valid_leaves observable state e.engine.trees.log (cells_of e.engine.trees) (has_tree_of e.engine.trees) (fitting e.engine.trees) e.engine.kept.since e.written.by_txn.entries there after leaves
+              (valid_begun observable state e.engine.trees.log (cells_of e.engine.trees) (has_tree_of e.engine.trees) (fitting e.engine.trees) e.engine.kept.since e.written.by_txn.entries st a may.sound may.left refl (may.at.valid may.valid));
         };
         numbered = unnumbered answer after.commits calm;
         fault = leaves.fault ∙ may.valid ∙ ap (λ (b : Bool). cond b (Some Disk) None) (sym (faultless answer calm));
@@ -190,7 +191,7 @@ module _ {D : Type 0} (observable : Bool) (history : D → History) (sync_out re
           let none : Evaluated = record { answer = ev.answer; answered = ev.answered; changes = []; place = ev.place } in
           let after : Standing = Ended none in
           let leaves : LeavesSame (record st { last_txn = last }) after =
-          same_leaves (record st { last_txn = last }) after refl refl (sym last_is) refl refl refl (back_own []) back_actives in
+          same_leaves (record st { last_txn = last }) after refl refl (sym last_is) refl refl refl refl (back_own []) back_actives in
           let stands = sessions_closed s [] after at refl refl (back_own []) (gone_again a.session (moved call ev.place (st.places a.session)) st.places) refl refl in
           let owed_new = owed_is s after stands in
           let owed_old = owed_is e.sessions st may.at.sessions_at in
@@ -226,6 +227,7 @@ module _ {D : Type 0} (observable : Bool) (history : D → History) (sync_out re
           totals = may.at.totals;
           sessions_at = at;
           apart = may.at.apart;
+          checkpoint = may.at.checkpoint;
           valid = may.at.valid;
         };
         log = same_buffer e.engine.trees.log;

@@ -26,6 +26,7 @@ use Rattle.je_answers.specs.After.{after_changes, after_evaluated, after_on, aft
 use Rattle.je_answers.specs.Journal.{changes_evaluated, changes_in, changes_run, changes_taken}
 use Rattle.log_buffer.specs.declared.buffer.LogBuffer.{LogBuffer}
 use Rattle.log_buffer.specs.Buffer.{disk_of as disk_below, end_of, has_failed}
+use Rattle.log_buffer.specs.Flip.{pos_lsn}
 use Rattle.log_replay.specs.Rows.{Rows}
 use Rattle.record_tree.specs.Occupied.{AllCells}
 use Rattle.in_tree.specs.Limits.{HasRoomFor, commit_sizes}
@@ -46,20 +47,21 @@ use Rattle.environment.specs.declared.written.OwnNames.{OwnNames}
 use Rattle.environment.specs.Calls.{IsOnRecords}
 use Rattle.environment.specs.Limits.{owing_after, owing_with, written_evaluated, written_on, written_run, written_taken}
 use Rattle.environment.specs.Steps.{HasCome, HasStepped, StandsAt}
-use Rattle.environment.specs.Valid.{IsValidWith, active_number, owed_by, fitting, Forest}
+use Rattle.environment.specs.Valid.{IsValidWith, Lives, active_number, owed_by, fitting, Forest}
 use Rattle.environment.specs.Whole.{reach_of}
 use Rattle.environment.specs.Written.{AreNamesOf}
 use Rattle.environment.proofs.BeginLaws.{with_begun}
 use Rattle.environment.proofs.EndingLaws.{room_fewer}
 use Rattle.environment.proofs.ListLaws.{valid_drawn}
+use Rattle.environment.proofs.Bases.{lives_at}
 
 -- ---- a valid environment goes on where perhaps fewer transactions are under way
 
 module _ {D : Type 0} where
-  pub valid_leaves : (observable : Bool) (state : State) (buffer : LogBuffer D) (cells : AllCells) (has_tree : ℕ → Bool) (forest : Forest) (written : List (TxnId × OwnNames)) (st after : Standing) → LeavesSame st after →
-      IsValidWith observable state buffer cells has_tree forest written st → IsValidWith observable state buffer cells has_tree forest written after
+  pub valid_leaves : (observable : Bool) (state : State) (buffer : LogBuffer D) (cells : AllCells) (has_tree : ℕ → Bool) (forest : Forest) (since : ℕ) (written : List (TxnId × OwnNames)) (st after : Standing) → LeavesSame st after →
+      IsValidWith observable state buffer cells has_tree forest since written st → IsValidWith observable state buffer cells has_tree forest since written after
   unfolding still_gives
-  valid_leaves observable state buffer cells has_tree forest written st after same v = record {
+  valid_leaves observable state buffer cells has_tree forest since written st after same v = record {
     log = v.log;
     has = v.has;
     works = v.works;
@@ -79,13 +81,21 @@ module _ {D : Type 0} where
     made = v.made;
     room = λ n is. by_owing n is (owing st) refl;
     names = subst (λ (own : ℕ → List (ℕ × RecordChange)). AreNamesOf written own (committed cells)) (sym same.own) v.names;
-    fits = subst (λ (b : ℕ). forest (placed v.log) b)
-        (sym (same_under (λ (d : ℕ). Rattle.txn_log.specs.Gives.GivesRecordsWith v.log (end_of buffer) (committed cells) after.last_txn d (active_number after.actives) after.own) (λ d g. g.base) (sym same.last_db) still)) v.fits;
+    fits = lives.fits;
+    from = lives.from;
+    firsts = lives.firsts;
   }
     where
       still : Rattle.txn_log.specs.Gives.GivesRecordsWith v.log (end_of buffer) (committed cells) after.last_txn st.last_db (active_number after.actives) after.own
       still = still_gives v.log (end_of buffer) (committed cells) st.last_txn after.last_txn st.last_db (active_number st.actives) (active_number after.actives) st.own after.own v.gives
           (let more = same.last_txn in omega (arith, more)) (λ t is. inl (same.actives (txn_id t) is, ap (λ (f : ℕ → List (ℕ × RecordChange)). f t) same.own))
+
+      lives : Lives forest v.log since (pos_lsn (end_of buffer)) written
+          (subst (λ (d : ℕ). Rattle.txn_log.specs.Gives.GivesRecordsWith v.log (end_of buffer) (committed cells) after.last_txn d (active_number after.actives) after.own) (sym same.last_db) still).base
+      lives =
+          subst (Lives forest v.log since (pos_lsn (end_of buffer)) written)
+          (sym (same_under (λ (d : ℕ). Rattle.txn_log.specs.Gives.GivesRecordsWith v.log (end_of buffer) (committed cells) after.last_txn d (active_number after.actives) after.own) (λ d g. g.base) (sym same.last_db) still))
+          (lives_at observable state buffer cells has_tree forest since written st v)
 
       by_owing : (n : ℕ) → owing after ≡ suc n → (m : ℕ) → owing st ≡ m → HasRoomFor buffer (commit_sizes (suc n))
       by_owing n is zero e = let less : owing after ≤ owing st = same.owing in absurd (omega (arith, less, is, e))
@@ -116,14 +126,15 @@ own_gone n own none = fun_ext (λ m. ⊎_elim
 
 -- a standing with others of the same transactions and own changes
 pub same_leaves : (st after : Standing) → after.store ≡ st.store → after.numbers ≡ st.numbers → after.last_txn ≡ st.last_txn → after.last_db ≡ st.last_db → after.commits ≡ st.commits → after.fault ≡ st.fault →
-    after.own ≡ st.own → after.actives ≡ st.actives → LeavesSame st after
-same_leaves st after store numbers last_txn last_db commits fault own actives = record {
+    after.in_checkpoint ≡ st.in_checkpoint → after.own ≡ st.own → after.actives ≡ st.actives → LeavesSame st after
+same_leaves st after store numbers last_txn last_db commits fault checkpoint own actives = record {
   store = store;
   numbers = numbers;
   last_txn = last_txn;
   last_db = last_db;
   commits = commits;
   fault = fault;
+  checkpoint = checkpoint;
   own = own;
   actives = λ t is. subst (λ (l : List Active). is_active t l ≡ true) actives is;
   owing =
@@ -153,10 +164,11 @@ module _ {D : Type 0} where
     totals = at.totals ∙ ap totals_of (sym same.store);
     sessions_at = sessions_now;
     apart = apart;
+    checkpoint = at.checkpoint ∙ sym same.checkpoint;
     valid = λ none.
         let state = now (history (disk_below e.engine.trees.log)) in
-        valid_leaves observable state e.engine.trees.log (cells_of e.engine.trees) (has_tree_of e.engine.trees) (fitting e.engine.trees) e.written.by_txn.entries (record st { last_txn = last }) after same
-        (valid_drawn observable state e.engine.trees.log (cells_of e.engine.trees) (has_tree_of e.engine.trees) (fitting e.engine.trees) e.written.by_txn.entries st last more (at.valid (sym same.fault ∙ none)));
+        valid_leaves observable state e.engine.trees.log (cells_of e.engine.trees) (has_tree_of e.engine.trees) (fitting e.engine.trees) e.engine.kept.since e.written.by_txn.entries (record st { last_txn = last }) after same
+        (valid_drawn observable state e.engine.trees.log (cells_of e.engine.trees) (has_tree_of e.engine.trees) (fitting e.engine.trees) e.engine.kept.since e.written.by_txn.entries st last more (at.valid (sym same.fault ∙ none)));
   }
 
   -- sessions that owe no more Commits reach no farther

@@ -53,7 +53,7 @@ use Rattle.txn_core.specs.Transactions.{LeavesWrites}
 use Rattle.txn_log.specs.Buffers.{HasAdded}
 use Rattle.txn_log.specs.Own.{row_of}
 use Rattle.engine.specs.declared.engine.Engine.{Engine}
-use Rattle.engine.specs.Contents.{HasLogged, known, rows_after}
+use Rattle.engine.specs.Contents.{HasLogged, known, rows_after, Checkpoints}
 use Rattle.engine.specs.Limits.{IsWithin, limit_by, reach_after}
 use Rattle.engine.specs.Steps.{HasAppended, LogsChanges, txn_of, CarriesTrees}
 use Rattle.engine.specs.Whole.{EndsNear, LeavesCells, LeavesOthers, contents_of}
@@ -124,7 +124,8 @@ module _ {D : Type 0} (observable : Bool) (history : D → History) (sync_out re
     totals = at.totals ∙ ap totals_of (sym same.store);
     sessions_at = sessions;
     apart = apart;
-    valid = λ none. valid_leaves observable (now (history (disk_below e.engine.trees.log))) e.engine.trees.log (cells_of e.engine.trees) (has_tree_of e.engine.trees) (fitting e.engine.trees) e.written.by_txn.entries st after same
+    checkpoint = at.checkpoint ∙ sym same.checkpoint;
+    valid = λ none. valid_leaves observable (now (history (disk_below e.engine.trees.log))) e.engine.trees.log (cells_of e.engine.trees) (has_tree_of e.engine.trees) (fitting e.engine.trees) e.engine.kept.since e.written.by_txn.entries st after same
         (at.valid (sym same.fault ∙ none));
   }
 
@@ -264,7 +265,7 @@ module _ {D : Type 0} (observable : Bool) (history : D → History) (sync_out re
         let same : after_changes (c ∷ cs) st there_ a_ call g (with_changes (c ∷ cs)) answer ≡ after =
         ap (λ (f : Rattle.je_answers.specs.After.Fate). Rattle.je_answers.specs.After.after_fate f st there_ a_ call g (with_changes (c ∷ cs))) fate in
         let own_is : after.own ≡ st.own = own_gone a_.txn.0 st.own none_own_yet in
-        let leaves : LeavesSame drawn after = same_leaves drawn after refl refl refl refl refl refl own_is back_actives in
+        let leaves : LeavesSame drawn after = same_leaves drawn after refl refl refl refl refl refl refl own_is back_actives in
         let less : owing after ≤ owing drawn = leaves.owing in
         let sessions : AreSessionsAt s after = sessions_closed observable history sync_out read_out read_of most e st session call g may s [] after closed refl refl own_is (λ n. refl) refl refl in
         comes_by n s answer drawn c cs is logs near stands
@@ -285,7 +286,7 @@ module _ {D : Type 0} (observable : Bool) (history : D → History) (sync_out re
     valid_logged : (n : Engine D) → planned.last_db ≤ LAST_DATABASE → HasLogged (contents_of e.engine) (contents_of n) planned → LeavesOthers e.engine.trees n.trees planned (owing st + 1) →
         (h : HasAppended observable history sync_out read_out read_of e.engine.trees.log n.trees.log (txn_of (e.engine.kept.last_txn + 1)) planned.changes.items) →
         CarriesTrees observable history sync_out read_out read_of e.engine.trees.log h.entries (contents_of e.engine) (contents_of n) →
-        IsValidWith observable (now (history (disk_below n.trees.log))) n.trees.log (cells_of n.trees) (has_tree_of n.trees) (fitting n.trees) e.written.by_txn.entries (commits all_ (record st { last_txn = next_txn st.last_txn }))
+        IsValidWith observable (now (history (disk_below n.trees.log))) n.trees.log (cells_of n.trees) (has_tree_of n.trees) (fitting n.trees) n.kept.since e.written.by_txn.entries (commits all_ (record st { last_txn = next_txn st.last_txn }))
     valid_logged n low has leaves h carries =
         let t : TxnId = txn_of (e.engine.kept.last_txn + 1) in
         let v = may.at.valid may.valid in
@@ -294,7 +295,7 @@ module _ {D : Type 0} (observable : Bool) (history : D → History) (sync_out re
         let a : HasAdded observable history sync_out read_out read_of e.engine.trees.log n.trees.log (LogsTransaction t planned.changes.items) =
         record { entries = h.entries; logs = h.logs; grew = h.grew; room = record { max = e.engine.trees.log.max; entries_are = h.fits.entries_are; room = h.fits.room } } in
         lone_valid rows_ st t log.change log.more planned.changes.items (low_of low) above_all (subst (λ (k : ℕ). AreOnly k st.own planned.changes.items) (sym its) only) (ap st.own its ∙ none_own_yet) number
-        observable history sync_out read_out read_of e.engine.trees.log n.trees.log (cells_of e.engine.trees) (cells_of n.trees) (has_tree_of e.engine.trees) (has_tree_of n.trees) (fitting e.engine.trees) (fitting n.trees) e.written.by_txn.entries refl next_ v a carries
+        observable history sync_out read_out read_of e.engine.trees.log n.trees.log (cells_of e.engine.trees) (cells_of n.trees) (has_tree_of e.engine.trees) (has_tree_of n.trees) (fitting e.engine.trees) (fitting n.trees) e.engine.kept.since n.kept.since e.written.by_txn.entries refl next_ v a carries (ap (λ (k : Checkpoints). k.since) has.checkpoints)
         (fun_ext has.rows ∙ ap (λ (o : Option ℕ). rows_after planned.changes.items o rows_) none_gone)
         (subst (λ (o : Option ℕ). LeavesWrites planned.changes.items o (cells_of e.engine.trees) (cells_of n.trees)) none_gone leaves.writes)
         (trees_logged (contents_of e.engine) (contents_of n) (alone_in st) session call planned (has_tree_of e.engine.trees) (has_tree_of n.trees)
@@ -316,7 +317,7 @@ module _ {D : Type 0} (observable : Bool) (history : D → History) (sync_out re
             let after : Standing = ended a_ (commits (changes_on g (c ∷ cs)) (with_outcome a_ call g (with_changes (c ∷ cs)) (answered a_ call g there_))) in
             let own_is : after.own ≡ st.own = own_back a_.txn.0 (st.own a_.txn.0 ++ changes_at g.db (c ∷ cs)) st.own none_own_yet in
             let same : LeavesSame Done_ after =
-            same_leaves Done_ after (ap (λ (l : List Change). all_changed l st.store) is) (ap (λ (l : List Change). all_numbered l st.last_db st.numbers) is) refl (ap (λ (l : List Change). st.last_db + made_by l) is) refl refl own_is
+            same_leaves Done_ after (ap (λ (l : List Change). all_changed l st.store) is) (ap (λ (l : List Change). all_numbered l st.last_db st.numbers) is) refl (ap (λ (l : List Change). st.last_db + made_by l) is) refl refl refl own_is
             back_actives in
             let less : owing after ≤ owing Done_ = same.owing in
             comes_by n s (Logged commit) Done_ c cs is logs near
@@ -356,7 +357,7 @@ module _ {D : Type 0} (observable : Bool) (history : D → History) (sync_out re
         HasCome observable history sync_out read_out read_of most e (with_both e n s) st session line call DiskFault []
     comes_failed n s logs near back_at = by_shape DiskFault (with_both e n s) (λ c cs is.
         let after : Standing = faulted st in
-        let same : LeavesSame after after = same_leaves after after refl refl refl refl refl refl refl refl in
+        let same : LeavesSame after after = same_leaves after after refl refl refl refl refl refl refl refl refl in
         comes_by n s DiskFault after c cs is logs near
         (stands_on observable history sync_out read_out read_of most e n st (faulted_alone (alone_in st)) may.at (sessions_faulted e.sessions st st.begun may.at.sessions_at)
         (faulted_at most observable (now (history (disk_below e.engine.trees.log))) (now (history (disk_below n.trees.log))) e.engine.trees.log n.trees.log (contents_of e.engine) (contents_of n) (alone_in st) st.begun
@@ -369,7 +370,7 @@ module _ {D : Type 0} (observable : Bool) (history : D → History) (sync_out re
     pub comes_not : (n : Engine D) (s : Sessions) (error : AllocError) → Logs_ n (Err error) → Near_ n (Err error) → Rattle.engine.specs.Whole.AreSameCells e.engine.trees n.trees → AreSessionsAt s st →
         HasNotCome observable history sync_out read_out read_of most e (with_both e n s) st
     comes_not n s error logs near cells back_at =
-        let same : LeavesSame st st = same_leaves st st refl refl refl refl refl refl refl refl in
+        let same : LeavesSame st st = same_leaves st st refl refl refl refl refl refl refl refl refl in
         record {
           here = restand most (with_engine e n) s st st (undrawn_same observable history sync_out read_out read_of most e n st may.at logs.0 logs.1 cells) same back_at may.at.apart;
           log = logs.1;

@@ -43,7 +43,7 @@ module _ {D : Type 0} (most : ℕ) (observable : Bool) (history : D → History)
   sound_there = sound_begun st.last_txn st.actives st.own st.places st.waiting st.locks a may.sound (let next = next_is st.last_txn may.left in omega (arith, next)) may.outside
 
   valid_there : IsValidAt observable history e there
-  valid_there = valid_begun observable (now (history (disk_below e.engine.trees.log))) e.engine.trees.log (cells_of e.engine.trees) (has_tree_of e.engine.trees) (fitting e.engine.trees) e.written.by_txn.entries st a may.sound may.left refl
+  valid_there = valid_begun observable (now (history (disk_below e.engine.trees.log))) e.engine.trees.log (cells_of e.engine.trees) (has_tree_of e.engine.trees) (fitting e.engine.trees) e.engine.kept.since e.written.by_txn.entries st a may.sound may.left refl
       (may.at.valid may.valid)
 
   on_there : IsOnDb there may.db found g

@@ -1,11 +1,12 @@
 -- The changes of a call that is a transaction of its own: what they leave of records, and of the own changes of others.
 use mathlib.Core.Path.{fun_ext}
+use Rattle.engine.proofs.CallEntries.{transaction_no_ends}
 use Rattle.log_buffer.specs.Log.{HasLog}
 use Rattle.log_file.specs.Log.{Log}
 use Rattle.txn_log.proofs.Giving.{transaction_gives, transaction_on, still_gives}
 use Rattle.log_buffer.specs.Flip.{pos_lsn}
 use Rattle.log_trees.specs.Placed.{placed}
-use Rattle.environment.proofs.Bases.{begun_with}
+use Rattle.environment.proofs.Bases.{begun_with, lives_on}
 use Rattle.std.proofs.Common.{◌≤◌, ◌≡◌, ◌≢◌, ◌∙◌, ℕ, suc, ◌+◌, ◌==◌, Bool, true, false, true≢false, cond, ◌&&◌, List, [], ◌∷◌, ◌++◌, find, map, reverse, Option, None, Some, is_some, is_eq, refl, ap, ap₂, sym, subst, inl, inr, ⊎_elim, arith}
 use Rattle.std.specs.List.{AllByRecursion}
 use Rattle.std.specs.Option.{option_or}
@@ -63,7 +64,7 @@ use Rattle.engine.proofs.CatalogLogs.{numbers_alike}
 use Rattle.engine.proofs.PlannedRows.{ArePlanned, LeavesRows, eqb-turned, planned_rows}
 use Rattle.engine.proofs.TxnGives.{leaves_records}
 use Rattle.environment.specs.declared.written.OwnNames.{OwnNames}
-use Rattle.environment.specs.Valid.{IsValidWith, active_number, Forest}
+use Rattle.environment.specs.Valid.{IsValidWith, active_number, Forest, Lives}
 use Rattle.environment.specs.Written.{AreNamesOf}
 use Rattle.environment.proofs.AutoLaws.{own_gone}
 
@@ -224,13 +225,13 @@ module _ (rows : Rows) (st : Standing) (t : TxnId) (change : Change) (more : Lis
   }
 
   module _ {D : Type 0} (observable : Bool) (history : D → History) (sync_out read_out : D → Option ℕ) (read_of : D → ℕ) where
-    pub lone_valid : (old new : LogBuffer D) (cells later : AllCells) (has_tree later_tree : ℕ → Bool) (forest later_forest : Forest) (written : List (TxnId × OwnNames)) → rows ≡ committed cells → next_txn st.last_txn ≡ st.last_txn + 1 →
-        IsValidWith observable (now (history (disk_of old))) old cells has_tree forest written st → (a : HasAdded observable history sync_out read_out read_of old new (LogsTransaction t planned)) →
-        ((log : Log) (base : ℕ) → HasLog observable (now (history (disk_of old))) old log → base ≤ pos_lsn (end_of old) → forest (placed log) base → later_forest (placed (longer old a.entries log)) base) →
+    pub lone_valid : (old new : LogBuffer D) (cells later : AllCells) (has_tree later_tree : ℕ → Bool) (forest later_forest : Forest) (since later_since : ℕ) (written : List (TxnId × OwnNames)) → rows ≡ committed cells → next_txn st.last_txn ≡ st.last_txn + 1 →
+        IsValidWith observable (now (history (disk_of old))) old cells has_tree forest since written st → (a : HasAdded observable history sync_out read_out read_of old new (LogsTransaction t planned)) →
+        ((log : Log) (base : ℕ) → HasLog observable (now (history (disk_of old))) old log → base ≤ pos_lsn (end_of old) → forest (placed log) base → later_forest (placed (longer old a.entries log)) base) → later_since ≡ since →
         committed later ≡ Later → LeavesWrites planned None cells later → ((db : ℕ) → later_tree db ≡ has_number (numbers_of (committed later)) db) → ((n : ℕ) → owing st ≡ suc n → HasRoomFor new (commit_sizes (suc n))) →
-        IsValidWith observable (now (history (disk_of new))) new later later_tree later_forest written (commits (change ∷ more) (record st { last_txn = next_txn st.last_txn }))
+        IsValidWith observable (now (history (disk_of new))) new later later_tree later_forest later_since written (commits (change ∷ more) (record st { last_txn = next_txn st.last_txn }))
     unfolding transaction_leaves_log transaction_is_given transaction_gives transaction_on still_gives
-    lone_valid old new cells later has_tree later_tree forest later_forest written rows_are step v a carries later_are writes made room =
+    lone_valid old new cells later has_tree later_tree forest later_forest since later_since written rows_are step v a carries since_is later_are writes made room =
         let after : Standing = commits (change ∷ more) (record st { last_txn = next_txn st.last_txn }) in
         let at : IsLogAt observable history old v.log rows (active_number st.actives) st = subst (λ (r : Rows). IsLogAt observable history old v.log r (active_number st.actives) st) (sym rows_are)
         (record { given = record { has = v.has; gives = v.gives }; makes = v.makes; may = v.may }) in
@@ -242,6 +243,13 @@ module _ (rows : Rows) (st : Standing) (t : TxnId) (change : Change) (more : Lis
         (λ u. all_weaker (MayBeCommitted rows) (MayBeCommitted Later) (λ c m. may_stay rows Later c catalog m) (st.own u) (at.may u))
         a (record { store = refl; numbers = refl; last_db = refl }) (omega (arith, step))
         (λ u is. inl (is, ap (λ (f : ℕ → List OwnChange). f u) (sym (own_gone t.0 st.own none)))) in
+        let lives = subst (Lives later_forest (longer old a.entries v.log) later_since (pos_lsn (end_of new)) written)
+        (sym (same_under (λ (r : Rows). GivesRecordsWith (longer old a.entries v.log) (end_of new) r after.last_txn after.last_db (active_number st.actives) st.own) (λ r g. g.base) (sym later_are) on.given.gives
+        ∙ same_under (λ (r : Rows). IsLogAt observable history old v.log r (active_number st.actives) st) (λ r (l : IsLogAt observable history old v.log r (active_number st.actives) st). l.given.gives.base) (sym rows_are)
+        (record { given = record { has = v.has; gives = v.gives }; makes = v.makes; may = v.may })))
+        (subst (λ (n : ℕ). Lives later_forest (longer old a.entries v.log) n (pos_lsn (end_of new)) written v.gives.base) (sym since_is)
+        (lives_on observable history sync_out read_out read_of old new v.log a.entries later_forest since v.gives.base written v.has a.grew (transaction_no_ends t planned a.entries a.logs)
+        (carries v.log v.gives.base v.has (begun_with v.log (end_of old) (committed cells) st.last_txn st.last_db (active_number st.actives) st.own v.gives) v.fits) v.from v.firsts)) in
         record {
           log = longer old a.entries v.log;
           has = on.given.has;
@@ -262,9 +270,7 @@ module _ (rows : Rows) (st : Standing) (t : TxnId) (change : Change) (more : Lis
           made = made;
           room = room;
           names = subst (AreNamesOf written st.own) (sym later_are) (names_later written (subst (AreNamesOf written st.own) (sym rows_are) v.names));
-          fits = subst (λ (b : ℕ). later_forest (placed (longer old a.entries v.log)) b)
-              (sym (same_under (λ (r : Rows). GivesRecordsWith (longer old a.entries v.log) (end_of new) r after.last_txn after.last_db (active_number st.actives) st.own) (λ r g. g.base) (sym later_are) on.given.gives
-              ∙ same_under (λ (r : Rows). IsLogAt observable history old v.log r (active_number st.actives) st) (λ r (l : IsLogAt observable history old v.log r (active_number st.actives) st). l.given.gives.base) (sym rows_are)
-              (record { given = record { has = v.has; gives = v.gives }; makes = v.makes; may = v.may })))
-              (carries v.log v.gives.base v.has (begun_with v.log (end_of old) (committed cells) st.last_txn st.last_db (active_number st.actives) st.own v.gives) v.fits);
+          fits = lives.fits;
+          from = lives.from;
+          firsts = lives.firsts;
         }

@@ -106,11 +106,11 @@ owing_begun st a none =
 
 module _ {D : Type 0} where
   -- a transaction that begins changes nothing of a log and its trees
-  pub valid_begun : (observable : Bool) (state : State) (buffer : LogBuffer D) (cells : AllCells) (has_tree : ℕ → Bool) (forest : Forest) (written : List (TxnId × OwnNames)) (st : Standing) (a : Active) → AreSound st →
-      nat_lt st.last_txn LAST_TXN ≡ true → a.txn.0 ≡ next_txn st.last_txn → IsValidWith observable state buffer cells has_tree forest written st →
-      IsValidWith observable state buffer cells has_tree forest written (begun_with a st)
+  pub valid_begun : (observable : Bool) (state : State) (buffer : LogBuffer D) (cells : AllCells) (has_tree : ℕ → Bool) (forest : Forest) (since : ℕ) (written : List (TxnId × OwnNames)) (st : Standing) (a : Active) → AreSound st →
+      nat_lt st.last_txn LAST_TXN ≡ true → a.txn.0 ≡ next_txn st.last_txn → IsValidWith observable state buffer cells has_tree forest since written st →
+      IsValidWith observable state buffer cells has_tree forest since written (begun_with a st)
   unfolding still_gives
-  valid_begun observable state buffer cells has_tree forest written st a sound left is v = record {
+  valid_begun observable state buffer cells has_tree forest since written st a sound left is v = record {
     log = v.log;
     has = v.has;
     works = v.works;
@@ -131,6 +131,8 @@ module _ {D : Type 0} where
     room = λ n owed. v.room n (sym (owing_begun st a (none_own st a sound left is)) ∙ owed);
     names = v.names;
     fits = v.fits;
+    from = v.from;
+    firsts = v.firsts;
   }
 
   -- an environment with another number and other sessions
@@ -148,7 +150,8 @@ module _ {D : Type 0} where
     totals = at.totals;
     sessions_at = sessions_now;
     apart = at.apart;
-    valid = λ none. valid_begun observable (now (history (disk_below e.engine.trees.log))) e.engine.trees.log (cells_of e.engine.trees) (has_tree_of e.engine.trees) (fitting e.engine.trees) e.written.by_txn.entries st a sound left is (at.valid none);
+    checkpoint = at.checkpoint;
+    valid = λ none. valid_begun observable (now (history (disk_below e.engine.trees.log))) e.engine.trees.log (cells_of e.engine.trees) (has_tree_of e.engine.trees) (fitting e.engine.trees) e.engine.kept.since e.written.by_txn.entries st a sound left is (at.valid none);
   }
 
   -- an environment with other sessions that stand at the same
@@ -163,6 +166,7 @@ module _ {D : Type 0} where
     totals = at.totals;
     sessions_at = same;
     apart = at.apart;
+    checkpoint = at.checkpoint;
     valid = at.valid;
   }
 

@@ -4,6 +4,7 @@ use Rattle.log_trees.specs.Placed.{placed}
 use Rattle.txn_log.proofs.AtStandingLaws.{same_under}
 use Rattle.std.specs.Prelude.{IfNone, IfSome}
 use mathlib.Core.Path.{fun_ext}
+use Rattle.log_buffer.specs.Flip.{pos_lsn}
 use Rattle.std.specs.declared.alloc.AllocError.{AllocError}
 use Rattle.std.proofs.lemmas.Bool.{lt-ltb}
 use Rattle.je_disk.specs.Moments.{History, now}
@@ -34,7 +35,7 @@ use Rattle.je_answers.specs.Views.{target_of}
 use Rattle.log_file.specs.Log.{Log}
 use Rattle.log_buffer.specs.Buffer.{disk_of as disk_below, end_of}
 use Rattle.log_replay.specs.Rows.{Rows}
-use Rattle.in_tree.specs.Observed.{cells_of}
+use Rattle.in_tree.specs.Observed.{cells_of, has_tree_of}
 use Rattle.sessions.specs.AtStanding.{owing}
 use Rattle.standing_laws.specs.Right.{AreSound}
 use Rattle.txn_core.specs.declared.planned.Planned.TheVariants.{Answered}
@@ -55,13 +56,14 @@ use Rattle.environment.specs.Calls.{ChangesCatalog}
 use Rattle.environment.specs.Catalog.{IsFreeToChange, IsUsedBy, IsUserOf, changed_number}
 use Rattle.environment.specs.Limits.{owing_with, written_evaluated}
 use Rattle.environment.specs.Steps.{HasCome, IsLogStep, PerformsAnswer, StandsAt}
-use Rattle.environment.specs.Valid.{active_number, fitting}
+use Rattle.environment.specs.Valid.{active_number, fitting, Lives}
 use Rattle.environment.specs.Whole.{CanGoOn, HasLimit, reach_of}
 use Rattle.environment.proofs.Answering.{within_more}
 use Rattle.environment.proofs.BeginLaws.{next_is, none_left, with_begun}
 use Rattle.environment.proofs.CatalogStanding.{alone_of, answers_alike, late_alike, leaves_alike, outside, with_alone}
 use Rattle.environment.proofs.EarlyLaws.{same_buffer, same_reach}
 use Rattle.environment.proofs.ListLaws.{drawn_at}
+use Rattle.environment.proofs.Bases.{lives_at}
 
 -- ---- a change of the catalog is a transaction of its own
 
@@ -179,9 +181,15 @@ module _ {D : Type 0} where
     last_db = at.last_db;
     commits = at.commits;
     totals = at.totals;
+    checkpoint = at.checkpoint;
     numbers = λ none. fun_ext (at.valid none).makes.named;
     valid = λ none.
         let v = at.valid none in
+        let lives = subst (Lives (fitting e.engine.trees) v.log e.engine.kept.since (pos_lsn (end_of e.engine.trees.log)) e.written.by_txn.entries)
+        (sym (same_under (λ (n : ℕ). GivesRecordsWith v.log (end_of e.engine.trees.log) (committed (cells_of e.engine.trees)) n e.engine.kept.last_db (active_number st.actives) st.own) (λ n g. g.base) (sym at.last_txn)
+        (subst (λ (n : ℕ). GivesRecordsWith v.log (end_of e.engine.trees.log) (committed (cells_of e.engine.trees)) st.last_txn n (active_number st.actives) st.own) (sym at.last_db) v.gives)
+        ∙ same_under (λ (n : ℕ). GivesRecordsWith v.log (end_of e.engine.trees.log) (committed (cells_of e.engine.trees)) st.last_txn n (active_number st.actives) st.own) (λ n g. g.base) (sym at.last_db) v.gives))
+        (lives_at observable (now (history (disk_below e.engine.trees.log))) e.engine.trees.log (cells_of e.engine.trees) (has_tree_of e.engine.trees) (fitting e.engine.trees) e.engine.kept.since e.written.by_txn.entries st v) in
         record {
           log = v.log;
           has = v.has;
@@ -189,10 +197,8 @@ module _ {D : Type 0} where
           gives = gives_without v.log e st at.last_txn at.last_db v.gives;
           recovers = v.recovers;
           made = v.makes.store;
-          fits = subst (λ (b : ℕ). fitting e.engine.trees (placed v.log) b)
-              (sym (same_under (λ (n : ℕ). GivesRecordsWith v.log (end_of e.engine.trees.log) (committed (cells_of e.engine.trees)) n e.engine.kept.last_db (active_number st.actives) st.own) (λ n g. g.base) (sym at.last_txn)
-              (subst (λ (n : ℕ). GivesRecordsWith v.log (end_of e.engine.trees.log) (committed (cells_of e.engine.trees)) st.last_txn n (active_number st.actives) st.own) (sym at.last_db) v.gives)
-              ∙ same_under (λ (n : ℕ). GivesRecordsWith v.log (end_of e.engine.trees.log) (committed (cells_of e.engine.trees)) st.last_txn n (active_number st.actives) st.own) (λ n g. g.base) (sym at.last_db) v.gives)) v.fits;
+          fits = lives.fits;
+          from = lives.from;
         };
   }
 

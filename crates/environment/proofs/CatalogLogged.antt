@@ -64,7 +64,7 @@ use Rattle.txn_log.proofs.CommittingLaws.{own_above}
 use Rattle.txn_views.specs.Seen.{HasWrites, IsWriteOf, last_own}
 use Rattle.txn_views.proofs.OwnLaws.{none_in}
 use Rattle.engine.specs.declared.engine.Engine.{Engine}
-use Rattle.engine.specs.Contents.{Contents, IsSame, drawn_contents, known, rows_after, HasLogged}
+use Rattle.engine.specs.Contents.{Checkpoints, Contents, IsSame, drawn_contents, known, rows_after, HasLogged}
 use Rattle.engine.specs.Environment.{AreAlone, GivesRecords}
 use Rattle.engine.specs.Limits.{IsWithin, limit_by, reach_after}
 use Rattle.engine.specs.Steps.{HasAppended, HasTried, LogsChanges, txn_of, HasStepCause, IsNumbered, CarriesTrees}
@@ -243,7 +243,7 @@ module _ {D : Type 0} where
 
     pub stands_on : (most : ℕ) (e : Environment D) (n : Engine D) (st : Standing) (q : Alone) → StandsAt most observable history e st → AreSessionsAt e.sessions (with_alone q st) →
         AreAlone most observable (now (history (disk_below n.trees.log))) n.trees.log (contents_of n) q →
-        (q.fault ≡ None → IsValidWith observable (now (history (disk_below n.trees.log))) n.trees.log (cells_of n.trees) (has_tree_of n.trees) (fitting n.trees) e.written.by_txn.entries (with_alone q st)) →
+        (q.fault ≡ None → IsValidWith observable (now (history (disk_below n.trees.log))) n.trees.log (cells_of n.trees) (has_tree_of n.trees) (fitting n.trees) n.kept.since e.written.by_txn.entries (with_alone q st)) →
         StandsAt most observable history (with_engine e n) (with_alone q st)
     stands_on most e n st q at sessions here valid = record {
       file_max = here.file_max;
@@ -254,13 +254,14 @@ module _ {D : Type 0} where
       totals = here.totals;
       sessions_at = sessions;
       apart = at.apart;
+      checkpoint = here.checkpoint;
       valid = valid;
     }
 
-    valid_same : (old new : LogBuffer D) (cells later : AllCells) (has_tree later_tree : ℕ → Bool) (forest later_forest : Forest) (written : List (TxnId × OwnNames)) (st : Standing) → IsUnchanged old new → ((d : ℕ) → later d ≡ cells d) →
-        ((d : ℕ) → later_tree d ≡ has_tree d) → ((es : List Placed) (base : ℕ) → forest es base → later_forest es base) → IsValidWith observable (now (history (disk_below old))) old cells has_tree forest written st →
-        IsValidWith observable (now (history (disk_below new))) new later later_tree later_forest written st
-    valid_same old new cells later has_tree later_tree forest later_forest written st same cells_are trees_are carries v =
+    valid_same : (old new : LogBuffer D) (cells later : AllCells) (has_tree later_tree : ℕ → Bool) (forest later_forest : Forest) (since later_since : ℕ) (written : List (TxnId × OwnNames)) (st : Standing) → IsUnchanged old new → ((d : ℕ) → later d ≡ cells d) →
+        ((d : ℕ) → later_tree d ≡ has_tree d) → ((es : List Placed) (base : ℕ) → forest es base → later_forest es base) → later_since ≡ since → IsValidWith observable (now (history (disk_below old))) old cells has_tree forest since written st →
+        IsValidWith observable (now (history (disk_below new))) new later later_tree later_forest later_since written st
+    valid_same old new cells later has_tree later_tree forest later_forest since later_since written st same cells_are trees_are carries since_is v =
         let like : IsLike observable (now (history (disk_below old))) (now (history (disk_below new))) old new = record {
           logs = (grew_unchanged observable history sync_out read_out read_of old new same).log;
           end = same.kept.end;
@@ -268,9 +269,10 @@ module _ {D : Type 0} where
           works = same.failed ∙ v.works;
           room = same.kept.room;
         } in
-        subst (λ (c : AllCells). IsValidWith observable (now (history (disk_below new))) new c later_tree later_forest written st) (sym (fun_ext cells_are))
-        (subst (λ (t : ℕ → Bool). IsValidWith observable (now (history (disk_below new))) new cells t later_forest written st) (sym (fun_ext trees_are))
-        (valid_fits observable (now (history (disk_below new))) new cells has_tree forest later_forest written st carries (valid_like observable (now (history (disk_below old))) (now (history (disk_below new))) old new cells has_tree forest written st st.begun like v)))
+        subst (λ (c : AllCells). IsValidWith observable (now (history (disk_below new))) new c later_tree later_forest later_since written st) (sym (fun_ext cells_are))
+        (subst (λ (t : ℕ → Bool). IsValidWith observable (now (history (disk_below new))) new cells t later_forest later_since written st) (sym (fun_ext trees_are))
+        (subst (λ (n : ℕ). IsValidWith observable (now (history (disk_below new))) new cells has_tree later_forest n written st) (sym since_is)
+        (valid_fits observable (now (history (disk_below new))) new cells has_tree forest later_forest since written st carries (valid_like observable (now (history (disk_below old))) (now (history (disk_below new))) old new cells has_tree forest since written st st.begun like v))))
 
     -- nothing was logged: a number was drawn, or not even that
     pub drawn_same : (most : ℕ) (e : Environment D) (n : Engine D) (st : Standing) → StandsAt most observable history e st → e.engine.kept.last_txn < LAST_TXN → IsSame (drawn_contents (contents_of e.engine)) (contents_of n) →
@@ -283,15 +285,15 @@ module _ {D : Type 0} where
         stands_on most e n st (drawn_alone p) at at.sessions_at
         (same_at observable history sync_out read_out read_of most e.engine.trees.log n.trees.log (drawn_contents (contents_of e.engine)) (contents_of n) (drawn_alone p)
         (drawn_alone_at observable history sync_out read_out read_of most state e.engine.trees.log (contents_of e.engine) p (alone_at most observable history e st at) below) same log)
-        (λ none. valid_same e.engine.trees.log n.trees.log (cells_of e.engine.trees) (cells_of n.trees) (has_tree_of e.engine.trees) (has_tree_of n.trees) (fitting e.engine.trees) (fitting n.trees) e.written.by_txn.entries (record st { last_txn = next_txn st.last_txn }) log cells.cells cells.made same.fits
-        (valid_drawn observable state e.engine.trees.log (cells_of e.engine.trees) (has_tree_of e.engine.trees) (fitting e.engine.trees) e.written.by_txn.entries st (next_txn st.last_txn) (omega (arith, next)) (at.valid none)))
+        (λ none. valid_same e.engine.trees.log n.trees.log (cells_of e.engine.trees) (cells_of n.trees) (has_tree_of e.engine.trees) (has_tree_of n.trees) (fitting e.engine.trees) (fitting n.trees) e.engine.kept.since n.kept.since e.written.by_txn.entries (record st { last_txn = next_txn st.last_txn }) log cells.cells cells.made same.fits (ap (λ (k : Checkpoints). k.since) same.checkpoints)
+        (valid_drawn observable state e.engine.trees.log (cells_of e.engine.trees) (has_tree_of e.engine.trees) (fitting e.engine.trees) e.engine.kept.since e.written.by_txn.entries st (next_txn st.last_txn) (omega (arith, next)) (at.valid none)))
 
     pub undrawn_same : (most : ℕ) (e : Environment D) (n : Engine D) (st : Standing) → StandsAt most observable history e st → IsSame (contents_of e.engine) (contents_of n) →
         IsUnchanged e.engine.trees.log n.trees.log → AreSameCells e.engine.trees n.trees → StandsAt most observable history (with_engine e n) st
     undrawn_same most e n st at same log cells =
         stands_on most e n st (alone_of st) at at.sessions_at
         (same_at observable history sync_out read_out read_of most e.engine.trees.log n.trees.log (contents_of e.engine) (contents_of n) (alone_of st) (alone_at most observable history e st at) same log)
-        (λ none. valid_same e.engine.trees.log n.trees.log (cells_of e.engine.trees) (cells_of n.trees) (has_tree_of e.engine.trees) (has_tree_of n.trees) (fitting e.engine.trees) (fitting n.trees) e.written.by_txn.entries st log cells.cells cells.made same.fits (at.valid none))
+        (λ none. valid_same e.engine.trees.log n.trees.log (cells_of e.engine.trees) (cells_of n.trees) (has_tree_of e.engine.trees) (has_tree_of n.trees) (fitting e.engine.trees) (fitting n.trees) e.engine.kept.since n.kept.since e.written.by_txn.entries st log cells.cells cells.made same.fits (ap (λ (k : Checkpoints). k.since) same.checkpoints) (at.valid none))
 
     -- ---- what is recovered
 
@@ -351,7 +353,7 @@ module _ {D : Type 0} where
           HasLogged (contents_of e.engine) (contents_of n) planned → LeavesOthers e.engine.trees n.trees planned (owing st + 1) →
           (a : HasAppended observable history sync_out read_out read_of e.engine.trees.log n.trees.log (txn_of (e.engine.kept.last_txn + 1)) planned.changes.items) →
           CarriesTrees observable history sync_out read_out read_of e.engine.trees.log a.entries (contents_of e.engine) (contents_of n) →
-          IsValidWith observable (now (history (disk_below n.trees.log))) n.trees.log (cells_of n.trees) (has_tree_of n.trees) (fitting n.trees) e.written.by_txn.entries (with_alone (committed_alone (log.change ∷ log.more) (drawn_alone (alone_of st))) st)
+          IsValidWith observable (now (history (disk_below n.trees.log))) n.trees.log (cells_of n.trees) (has_tree_of n.trees) (fitting n.trees) n.kept.since e.written.by_txn.entries (with_alone (committed_alone (log.change ∷ log.more) (drawn_alone (alone_of st))) st)
       valid_logged n sound is free below has leaves a carries =
           let p : Alone = alone_of st in
           let c : Contents = contents_of e.engine in
@@ -364,10 +366,10 @@ module _ {D : Type 0} where
           let are : ArePlanned rows st.last_db log.change [] planned.changes.items planned.gone =
           subst (λ (m : List Change). ArePlanned rows st.last_db log.change m planned.changes.items planned.gone) one.1
           (subst (λ (x : ℕ). ArePlanned rows x log.change log.more planned.changes.items planned.gone) at.last_db are_of) in
-          logged_valid observable history sync_out read_out read_of e.engine.trees.log n.trees.log (cells_of e.engine.trees) (cells_of n.trees) (has_tree_of e.engine.trees) (has_tree_of n.trees) (fitting e.engine.trees) (fitting n.trees) e.written.by_txn.entries st
+          logged_valid observable history sync_out read_out read_of e.engine.trees.log n.trees.log (cells_of e.engine.trees) (cells_of n.trees) (has_tree_of e.engine.trees) (has_tree_of n.trees) (fitting e.engine.trees) (fitting n.trees) e.engine.kept.since n.kept.since e.written.by_txn.entries st
           (with_alone (committed_alone (log.change ∷ log.more) (drawn_alone p)) st) (txn_of (e.engine.kept.last_txn + 1)) log.change planned.changes.items planned.gone v
           (of_catalog call log.change one.0) are sound.numbers (next_is st.last_txn left) (ap (λ (x : ℕ). x + 1) at.last_txn)
-          (λ u. elsewhere_of rows st call log.change u v.makes.named sound free one.0) added carries (fun_ext has.rows) leaves.writes
+          (λ u. elsewhere_of rows st call log.change u v.makes.named sound free one.0) added carries (ap (λ (k : Checkpoints). k.since) has.checkpoints) (fun_ext has.rows) leaves.writes
           (trees_logged c (contents_of n) p session call planned (has_tree_of e.engine.trees) (has_tree_of n.trees)
           (sound_at most observable (now (history (disk_below e.engine.trees.log))) e.engine.trees.log c p (alone_at most observable history e st at) none) log (omega (arith, low)) has v.made leaves.trees)
           (λ x owed. subst (λ (k : ℕ). HasRoomFor n.trees.log (commit_sizes k)) owed (leaves.room (owing st) (omega arith)))

@@ -1,4 +1,5 @@
 -- A valid environment goes on by a change of the catalog.
+use Rattle.engine.proofs.CallEntries.{transaction_no_ends}
 use Rattle.std.proofs.Common.{◌≡◌, ◌≢◌, inl, inr, ℕ, suc, ◌+◌, ◌≤◌, ◌==◌, Bool, true, false, true≢false, cond, ◌&&◌, ◌||◌, List, [], ◌∷◌, find, reverse, Option, None, Some, is_some, is_eq, refl, ap, ap₂, sym, ◌∙◌, subst, arith}
 use Rattle.log_buffer.specs.Log.{HasLog}
 use Rattle.log_file.specs.Log.{Log}
@@ -6,7 +7,7 @@ use Rattle.txn_log.proofs.Giving.{transaction_gives, transaction_on, still_gives
 use Rattle.txn_log.proofs.BufferLaws.{transaction_is_given}
 use Rattle.log_buffer.specs.Flip.{pos_lsn}
 use Rattle.log_trees.specs.Placed.{placed}
-use Rattle.environment.proofs.Bases.{begun_with}
+use Rattle.environment.proofs.Bases.{begun_with, lives_on}
 use Rattle.txn_log.proofs.AtStandingLaws.{same_under, transaction_leaves_log}
 use Rattle.std.specs.List.{AllByRecursion, list_any}
 use Rattle.std.specs.Option.{option_or}
@@ -54,7 +55,7 @@ use Rattle.engine.specs.Environment.{RecoversStore}
 use Rattle.engine.proofs.CatalogLogs.{IsOfCatalog, catalog_leaves_log, planned_in_catalog}
 use Rattle.engine.proofs.PlannedRows.{ArePlanned, LeavesRows, planned_rows}
 use Rattle.environment.specs.declared.written.OwnNames.{OwnNames}
-use Rattle.environment.specs.Valid.{IsValidWith, active_number, Forest}
+use Rattle.environment.specs.Valid.{IsValidWith, active_number, Forest, Lives}
 use Rattle.environment.specs.Written.{AreNamesOf}
 use Rattle.environment.proofs.CatalogStanding.{alone_of, with_alone}
 
@@ -144,18 +145,18 @@ module _ (rows : Rows) (change : Change) (planned : List TreeChange) (gone : Opt
 
 module _ {D : Type 0} (observable : Bool) (history : D → History) (sync_out read_out : D → Option ℕ) (read_of : D → ℕ) where
   -- a change was logged with its Commit
-  pub logged_valid : (old new : LogBuffer D) (cells later : AllCells) (has_tree later_tree : ℕ → Bool) (forest later_forest : Forest) (written : List (TxnId × OwnNames)) (st after : Standing) (t : TxnId) (change : Change) (planned : List TreeChange)
-      (gone : Option ℕ) (v : IsValidWith observable (now (history (disk_of old))) old cells has_tree forest written st) →
+  pub logged_valid : (old new : LogBuffer D) (cells later : AllCells) (has_tree later_tree : ℕ → Bool) (forest later_forest : Forest) (since later_since : ℕ) (written : List (TxnId × OwnNames)) (st after : Standing) (t : TxnId) (change : Change) (planned : List TreeChange)
+      (gone : Option ℕ) (v : IsValidWith observable (now (history (disk_of old))) old cells has_tree forest since written st) →
       IsOfCatalog change → ArePlanned (committed cells) st.last_db change [] planned gone → AreNumbered st.last_txn st.actives → next_txn st.last_txn ≡ st.last_txn + 1 → t.0 ≡ st.last_txn + 1 →
       ((u : ℕ) → AllByRecursion (λ (c : OwnChange). IsElsewhere (committed cells) change c.0) (st.own u)) →
       (a : HasAdded observable history sync_out read_out read_of old new (LogsTransaction t planned)) →
-      ((log : Log) (base : ℕ) → HasLog observable (now (history (disk_of old))) old log → base ≤ pos_lsn (end_of old) → forest (placed log) base → later_forest (placed (longer old a.entries log)) base) →
+      ((log : Log) (base : ℕ) → HasLog observable (now (history (disk_of old))) old log → base ≤ pos_lsn (end_of old) → forest (placed log) base → later_forest (placed (longer old a.entries log)) base) → later_since ≡ since →
       committed later ≡ rows_after planned gone (committed cells) → LeavesWrites planned gone cells later → ((db : ℕ) → later_tree db ≡ has_number (numbers_of (committed later)) db) →
       ((n : ℕ) → owing st ≡ suc n → HasRoomFor new (commit_sizes (suc n))) → RecoversStore (longer old a.entries v.log) after.store →
       after ≡ with_alone (committed_alone (change ∷ []) (drawn_alone (alone_of st))) st →
-      IsValidWith observable (now (history (disk_of new))) new later later_tree later_forest written after
+      IsValidWith observable (now (history (disk_of new))) new later later_tree later_forest later_since written after
   unfolding catalog_leaves_log transaction_leaves_log transaction_is_given transaction_gives transaction_on still_gives
-  logged_valid old new cells later has_tree later_tree forest later_forest written st after t change planned gone v of_catalog are numbers step next elsewhere a carries rows_are writes made room recovers after_is =
+  logged_valid old new cells later has_tree later_tree forest later_forest since later_since written st after t change planned gone v of_catalog are numbers step next elsewhere a carries since_is rows_are writes made room recovers after_is =
       let rows : Rows = committed cells in
       let leaves : LeavesRows rows (rows_after planned gone rows) st.last_db (change ∷ []) planned gone = planned_rows rows st.last_db change [] planned gone are in
       let in_db = planned_in_catalog rows st.last_db change planned gone of_catalog are in
@@ -170,6 +171,13 @@ module _ {D : Type 0} (observable : Bool) (history : D → History) (sync_out re
       (subst (λ (own : ℕ → List OwnChange). (u : ℕ) → AllByRecursion (MayBeCommitted rows) (own u)) (sym own_is) v.may)
       a (record { store = ap (λ (s : Standing). s.store) after_is; numbers = ap (λ (s : Standing). s.numbers) after_is; last_db = ap (λ (s : Standing). s.last_db) after_is }) (omega (arith, last_is))
       (λ u is. inl (is, ap (λ (f : ℕ → List OwnChange). f u) own_is ∙ kept u (low st.last_txn u st.actives numbers is))) in
+      let lives = subst (Lives later_forest (longer old a.entries v.log) later_since (pos_lsn (end_of new)) written)
+      (sym (same_under (λ (as_ : List Active). GivesRecordsWith (longer old a.entries v.log) (end_of new) (committed later) after.last_txn after.last_db (active_number as_) after.own) (λ x g. g.base) (sym actives_is)
+      (subst (λ (r : Rows). GivesRecordsWith (longer old a.entries v.log) (end_of new) r after.last_txn after.last_db (active_number st.actives) after.own) (sym rows_are) on.given.gives)
+      ∙ same_under (λ (r : Rows). GivesRecordsWith (longer old a.entries v.log) (end_of new) r after.last_txn after.last_db (active_number st.actives) after.own) (λ x g. g.base) (sym rows_are) on.given.gives))
+      (subst (λ (n : ℕ). Lives later_forest (longer old a.entries v.log) n (pos_lsn (end_of new)) written v.gives.base) (sym since_is)
+      (lives_on observable history sync_out read_out read_of old new v.log a.entries later_forest since v.gives.base written v.has a.grew (transaction_no_ends t planned a.entries a.logs)
+      (carries v.log v.gives.base v.has (begun_with v.log (end_of old) rows st.last_txn st.last_db (active_number st.actives) st.own v.gives) v.fits) v.from v.firsts)) in
       record {
         log = longer old a.entries v.log;
         has = on.given.has;
@@ -184,11 +192,9 @@ module _ {D : Type 0} (observable : Bool) (history : D → History) (sync_out re
         room = λ n is. room n (sym (ap owing after_is) ∙ is);
         names = subst (λ (own : ℕ → List OwnChange). AreNamesOf written own (committed later)) (sym own_is) (subst (AreNamesOf written st.own) (sym rows_are)
             (names_after rows change planned gone st.own are.gone_is in_db elsewhere v.may (rows_after planned gone rows) written leaves.data_is v.names));
-        fits = subst (λ (b : ℕ). later_forest (placed (longer old a.entries v.log)) b)
-            (sym (same_under (λ (as_ : List Active). GivesRecordsWith (longer old a.entries v.log) (end_of new) (committed later) after.last_txn after.last_db (active_number as_) after.own) (λ x g. g.base) (sym actives_is)
-            (subst (λ (r : Rows). GivesRecordsWith (longer old a.entries v.log) (end_of new) r after.last_txn after.last_db (active_number st.actives) after.own) (sym rows_are) on.given.gives)
-            ∙ same_under (λ (r : Rows). GivesRecordsWith (longer old a.entries v.log) (end_of new) r after.last_txn after.last_db (active_number st.actives) after.own) (λ x g. g.base) (sym rows_are) on.given.gives))
-            (carries v.log v.gives.base v.has (begun_with v.log (end_of old) rows st.last_txn st.last_db (active_number st.actives) st.own v.gives) v.fits);
+        fits = lives.fits;
+        from = lives.from;
+        firsts = lives.firsts;
       }
     where
       kept : (u : ℕ) → u ≤ st.last_txn → st.own u ≡ with_at t.0 [] st.own u

@@ -1,4 +1,5 @@
 -- A call that waited, is a transaction of its own, and changes something.
+use Rattle.std.specs.Prelude.{is_some}
 use Rattle.std.proofs.Common.{◌≡◌, ◌≢◌, ◌∙◌, ◌⊎◌, inl, inr, ℕ, zero, suc, ◌+◌, ◌≤◌, Bool, true, false, true≢false, cond, List, [], ◌∷◌, ◌++◌, count_by, filter, length, map, Ok, Option, None, Some, refl, ap, ap₂, sym, subst, arith}
 use Rattle.std.proofs.lemmas.Bool.{eq-eqb}
 use Rattle.std.proofs.lemmas.List.{append-nil, length-map}
@@ -288,6 +289,7 @@ module _ {D : Type 0} (observable : Bool) (history : D → History) (sync_out re
             totals = ap (λ (k : Kept). k.totals) h.kept ∙ ap (λ (k : Kept). k.totals) w.4 ∙ here.totals;
             sessions_at = record { actives = stands.actives; own = stands.own; places = stands.places; waiting = stands.waiting; locks = tt };
             apart = here.apart;
+            checkpoint = ap (λ (k : Kept). is_some k.checkpoints.under_way) h.kept ∙ ap (λ (k : Kept). is_some k.checkpoints.under_way) w.4 ∙ here.checkpoint;
             valid = λ calm. absurd cc;
           };
           numbered = tt;

@@ -1,8 +1,12 @@
 -- Where an environment stands once a transaction has committed.
+use Rattle.std.specs.Prelude.{is_some}
+use Rattle.log_buffer.specs.Flip.{pos_lsn}
+use Rattle.txn_log.specs.Checkpoints.{EndsFrom}
+use Rattle.engine.proofs.CallEntries.{commit_no_end}
 use Rattle.std.proofs.Common.{◌≡◌, ◌≢◌, ◌⊎◌, inl, inr, ℕ, zero, suc, ◌+◌, ◌≤◌, ◌<◌, ◌==◌, Bool, true, false, true≢false, cond, not, List, [], ◌∷◌, ◌++◌, filter, length, map, count_by, Option, None, Some, Ok, Bor, refl, ap, ap₂, sym, ◌∙◌, subst, arith}
 use Rattle.txn_log.proofs.Giving.{transaction_gives, transaction_on, still_gives}
 use Rattle.log_trees.specs.Placed.{placed}
-use Rattle.environment.proofs.Bases.{begun_with}
+use Rattle.environment.proofs.Bases.{begun_with, lives_on}
 use Rattle.std.specs.List.{AllByRecursion}
 use Rattle.std.specs.Option.{option_copied}
 use Rattle.std.proofs.lemmas.Bool.{cond-true, cond-false, eq-eqb}
@@ -76,12 +80,13 @@ use Rattle.environment.specs.Committing.{HasNotSettled, HasSettled, is_set}
 use Rattle.environment.specs.Ending.{HasAbandoned}
 use Rattle.environment.specs.Limits.{owing_after, written_evaluated}
 use Rattle.environment.specs.Steps.{HasCome, HasFailedWith, HasGrown, HasStepped, IsLogStep, PerformsAnswer, RecoversWith, StandsAt}
-use Rattle.environment.specs.Valid.{IsValidWith, active_number, owed_by, fitting}
+use Rattle.environment.specs.Valid.{IsValidWith, active_number, owed_by, fitting, Lives, waiting_in}
 use Rattle.environment.specs.Whole.{CanGoOn, disk_of, reach_of}
 use Rattle.environment.specs.Written.{AreNamesOf, had_at, names_at}
 use Rattle.environment.proofs.Answering.{owed_is, within_more}
 use Rattle.environment.proofs.CommitRows.{commit_rows, others_stay}
 use Rattle.environment.proofs.EndingLaws.{abandoned, abandoned_near, any_left, fewer_of, fewer_pass, found_session, room_fewer}
+use Rattle.environment.proofs.Firsts.{firsts_lower}
 
 abbrev Own : Type 0
 Own = List (ℕ × RecordChange)
@@ -239,7 +244,7 @@ module _ {D : Type 0} (observable : Bool) (history : D → History) (sync_out re
     Settled = HasSettled observable history sync_out read_out read_of faults old new a.session a.txn records
 
     abbrev Valid : Type 0
-    Valid = IsValidWith observable (now (history (disk_below log_old))) log_old (cells_of old.engine.trees) (has_tree_of old.engine.trees) (fitting old.engine.trees) old.written.by_txn.entries st
+    Valid = IsValidWith observable (now (history (disk_below log_old))) log_old (cells_of old.engine.trees) (has_tree_of old.engine.trees) (fitting old.engine.trees) old.engine.kept.since old.written.by_txn.entries st
 
     abbrev Sum : Type 0
     Sum = records + had_at a.txn old.written.by_txn.entries ≡ old.engine.kept.totals.records + count_by (λ (c : ℕ × RecordChange). is_set c.1) own_it
@@ -318,11 +323,18 @@ module _ {D : Type 0} (observable : Bool) (history : D → History) (sync_out re
     }
 
     valid_then : (v : Valid) → (h : Settled) → active_of a.session st.actives ≡ Some a → own_it ≢ [] →
-        IsValidWith observable (now (history (disk_below log_new))) log_new (cells_of new.engine.trees) (has_tree_of new.engine.trees) (fitting new.engine.trees) new.written.by_txn.entries then_
+        IsValidWith observable (now (history (disk_below log_new))) log_new (cells_of new.engine.trees) (has_tree_of new.engine.trees) (fitting new.engine.trees) new.engine.kept.since new.written.by_txn.entries then_
     unfolding log_then log_at own_commit_leaves_log commit_own transaction_leaves_log transaction_is_given transaction_gives transaction_on still_gives
     valid_then v h is some =
         let at = log_then v h is in
         let rows = sym (rows_then v h) in
+        let lives = subst (Lives (fitting new.engine.trees) (longer log_old (Committed a.txn ∷ []) v.log) new.engine.kept.since (pos_lsn (end_of log_new)) new.written.by_txn.entries)
+        (sym (same_under (λ (r : Rows). GivesRecordsWith (longer log_old (Committed a.txn ∷ []) v.log) (end_of log_new) r then_.last_txn then_.last_db (active_number then_.actives) then_.own) (λ r g. g.base) rows at.given.gives))
+        (lives_on observable history sync_out read_out read_of log_old log_new v.log (Committed a.txn ∷ []) (fitting new.engine.trees) new.engine.kept.since v.gives.base new.written.by_txn.entries v.has h.committed.grew.grew
+        (commit_no_end a.txn)
+        (h.committed.fits v.log v.gives.base v.has (begun_with v.log (end_of log_old) rows_old st.last_txn st.last_db (active_number st.actives) st.own v.gives) v.fits)
+        (subst (λ (k : Kept). EndsFrom v.log v.gives.base k.since) (sym h.committed.kept) v.from)
+        (firsts_lower old.written.by_txn.entries new.written.by_txn.entries (waiting_in v.log v.gives.base) (pos_lsn (end_of log_old)) h.committed.firsts v.firsts)) in
         record {
           log = longer log_old (Committed a.txn ∷ []) v.log;
           has = at.given.has;
@@ -335,9 +347,9 @@ module _ {D : Type 0} (observable : Bool) (history : D → History) (sync_out re
           made = λ db. h.committed.has_tree db ∙ v.made db ∙ ap (λ (l : List Row). has_number (map number_of_row l) db) (sym (catalog_same v)) ∙ ap (λ (r : Rows). has_number (numbers_of r) db) rows;
           room = room_then v h is some;
           names = subst (λ (r : Rows). AreNamesOf new.written.by_txn.entries then_.own r) rows (names_then v h);
-          fits = subst (λ (b : ℕ). fitting new.engine.trees (placed (longer log_old (Committed a.txn ∷ []) v.log)) b)
-              (sym (same_under (λ (r : Rows). GivesRecordsWith (longer log_old (Committed a.txn ∷ []) v.log) (end_of log_new) r then_.last_txn then_.last_db (active_number then_.actives) then_.own) (λ r g. g.base) rows at.given.gives))
-              (h.committed.fits v.log v.gives.base v.has (begun_with v.log (end_of log_old) rows_old st.last_txn st.last_db (active_number st.actives) st.own v.gives) v.fits);
+          fits = lives.fits;
+          from = lives.from;
+          firsts = lives.firsts;
         }
 
     totals_then : Valid → Settled → Sum → old.engine.kept.totals ≡ totals_of st.store → new.engine.kept.totals ≡ totals_of then_.store
@@ -368,6 +380,7 @@ module _ {D : Type 0} (observable : Bool) (history : D → History) (sync_out re
       totals = totals_then (at.valid none) h sum at.totals;
       sessions_at = h.sessions (committed_to changes_it st) a refl refl at.sessions_at;
       apart = at.apart;
+      checkpoint = ap (λ (k : Kept). is_some k.checkpoints.under_way) h.committed.kept ∙ at.checkpoint;
       valid = λ calm_. valid_then (at.valid none) h is some;
     } where
       last_same : then_.last_db ≡ st.last_db
@@ -481,6 +494,7 @@ module _ {D : Type 0} (observable : Bool) (history : D → History) (sync_out re
       sessions_at = subst (λ (s : Sessions). AreSessionsAt s (faulted st)) (sym h.sessions)
           (record { actives = at.sessions_at.actives; own = at.sessions_at.own; places = at.sessions_at.places; waiting = at.sessions_at.waiting; locks = tt });
       apart = at.apart;
+      checkpoint = ap (λ (k : Kept). is_some k.checkpoints.under_way) h.kept ∙ at.checkpoint;
       valid = λ none. absurd (none-some Disk (sym none));
     }
 

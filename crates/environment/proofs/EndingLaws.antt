@@ -1,5 +1,7 @@
 -- Where an environment stands once a transaction has ended without a commit.
 use mathlib.Core.Path.{fun_ext}
+use Rattle.engine.specs.declared.kept.Kept.{Kept}
+use Rattle.std.specs.Prelude.{is_some}
 use Rattle.log_trees.specs.Placed.{placed}
 use Rattle.txn_log.proofs.AtStandingLaws.{same_under}
 use Rattle.std.proofs.Common.{◌≡◌, ◌≢◌, ◌⊎◌, inl, inr, ℕ, zero, suc, ◌+◌, ◌-◌, ◌≤◌, ◌<◌, ◌==◌, Bool, true, false, true≢false, cond, not, ◌||◌, List, [], ◌∷◌, ◌++◌, filter, length, Option, None, Some, refl, ap, sym, ◌∙◌, subst, arith}
@@ -29,7 +31,7 @@ use Rattle.log_file.specs.Log.{Log}
 use Rattle.log_buffer.specs.declared.buffer.LogBuffer.{LogBuffer}
 use Rattle.log_buffer.specs.declared.log_pos.LogPos.{LogPos}
 use Rattle.log_buffer.specs.Buffer.{IsUnchanged, disk_of, end_of, file_max_of, has_failed}
-use Rattle.log_buffer.specs.Flip.{end_after_all}
+use Rattle.log_buffer.specs.Flip.{end_after_all, pos_lsn}
 use Rattle.log_buffer.specs.Log.{HasLog}
 use Rattle.log_buffer.proofs.BufferLog.{log_kept}
 use Rattle.log_buffer.proofs.LogPositions.{all_after, appends_join}
@@ -57,10 +59,11 @@ use Rattle.environment.specs.declared.environment.Environment.{Environment}
 use Rattle.environment.specs.declared.written.OwnNames.{OwnNames}
 use Rattle.environment.specs.Ending.{HasAbandoned}
 use Rattle.environment.specs.Steps.{StandsAt}
-use Rattle.environment.specs.Valid.{IsValidWith, active_number, owed_by, fitting, Forest}
+use Rattle.environment.specs.Valid.{IsValidWith, active_number, owed_by, fitting, Forest, Lives}
 use Rattle.environment.specs.Whole.{reach_of}
 use Rattle.environment.specs.Written.{AreNamesOf, had_at, names_at}
 use Rattle.environment.proofs.Answering.{owed_is}
+use Rattle.environment.proofs.Bases.{lives_same}
 
 -- ---- the committed records stay
 
@@ -316,8 +319,8 @@ module _ {D : Type 0} where
             (room_fewer old.engine.trees.log (suc n) (suc m) (omega (arith, less, e, is)) (room m e))
 
     valid_still : HasAbandoned old new a.session a.txn → AreNumbered st.last_txn st.actives → active_of a.session st.actives ≡ Some a →
-        IsValidWith observable (state_of (disk_of old.engine.trees.log)) old.engine.trees.log (cells_of old.engine.trees) (has_tree_of old.engine.trees) (fitting old.engine.trees) old.written.by_txn.entries st →
-        IsValidWith observable (state_of (disk_of new.engine.trees.log)) new.engine.trees.log (cells_of new.engine.trees) (has_tree_of new.engine.trees) (fitting new.engine.trees) new.written.by_txn.entries after_
+        IsValidWith observable (state_of (disk_of old.engine.trees.log)) old.engine.trees.log (cells_of old.engine.trees) (has_tree_of old.engine.trees) (fitting old.engine.trees) old.engine.kept.since old.written.by_txn.entries st →
+        IsValidWith observable (state_of (disk_of new.engine.trees.log)) new.engine.trees.log (cells_of new.engine.trees) (has_tree_of new.engine.trees) (fitting new.engine.trees) new.engine.kept.since new.written.by_txn.entries after_
     unfolding still_gives
     valid_still h numbers is v = record {
       log = v.log;
@@ -341,11 +344,9 @@ module _ {D : Type 0} where
       made = λ db. h.has_tree db ∙ v.made db ∙ ap (λ (r : Rows). has_number (numbers_of r) db) (sym same);
       room = room_still h.log v.room;
       names = subst (λ (r : Rows). AreNamesOf new.written.by_txn.entries after_.own r) (sym same) (names_still h v.names);
-      fits = subst (λ (b : ℕ). fitting new.engine.trees (placed v.log) b)
-          (sym (same_under (λ (e : LogPos). GivesRecordsWith v.log e rows_new st.last_txn st.last_db (active_number after_.actives) after_.own) (λ e g. g.base) (sym h.log.kept.end)
-          (subst (λ (r : Rows). GivesRecordsWith v.log (end_of old.engine.trees.log) r st.last_txn st.last_db (active_number after_.actives) after_.own) (sym same) still)
-          ∙ same_under (λ (r : Rows). GivesRecordsWith v.log (end_of old.engine.trees.log) r st.last_txn st.last_db (active_number after_.actives) after_.own) (λ r g. g.base) (sym same) still))
-          (h.fits (placed v.log) v.gives.base v.fits);
+      fits = lives.fits;
+      from = lives.from;
+      firsts = lives.firsts;
     } where
       same : rows_new ≡ rows_old
       same = rows_same h
@@ -353,6 +354,18 @@ module _ {D : Type 0} where
       still : GivesRecordsWith v.log (end_of old.engine.trees.log) rows_old st.last_txn st.last_db (active_number after_.actives) after_.own
       still = still_gives v.log (end_of old.engine.trees.log) rows_old st.last_txn st.last_txn st.last_db (active_number st.actives) (active_number after_.actives) st.own after_.own v.gives (omega arith)
           (still_active st a numbers is)
+
+      lives : Lives (fitting new.engine.trees) v.log new.engine.kept.since (pos_lsn (end_of new.engine.trees.log)) new.written.by_txn.entries
+          (subst (λ (e : LogPos). GivesRecordsWith v.log e rows_new st.last_txn st.last_db (active_number after_.actives) after_.own) (sym h.log.kept.end)
+          (subst (λ (r : Rows). GivesRecordsWith v.log (end_of old.engine.trees.log) r st.last_txn st.last_db (active_number after_.actives) after_.own) (sym same) still)).base
+      lives =
+          subst (Lives (fitting new.engine.trees) v.log new.engine.kept.since (pos_lsn (end_of new.engine.trees.log)) new.written.by_txn.entries)
+          (sym (same_under (λ (e : LogPos). GivesRecordsWith v.log e rows_new st.last_txn st.last_db (active_number after_.actives) after_.own) (λ e g. g.base) (sym h.log.kept.end)
+          (subst (λ (r : Rows). GivesRecordsWith v.log (end_of old.engine.trees.log) r st.last_txn st.last_db (active_number after_.actives) after_.own) (sym same) still)
+          ∙ same_under (λ (r : Rows). GivesRecordsWith v.log (end_of old.engine.trees.log) r st.last_txn st.last_db (active_number after_.actives) after_.own) (λ r g. g.base) (sym same) still))
+          (lives_same (fitting old.engine.trees) (fitting new.engine.trees) v.log old.engine.kept.since new.engine.kept.since (pos_lsn (end_of old.engine.trees.log)) (pos_lsn (end_of new.engine.trees.log))
+          old.written.by_txn.entries new.written.by_txn.entries v.gives.base (record { fits = v.fits; from = v.from; firsts = v.firsts }) (h.fits (placed v.log) v.gives.base)
+          (ap (λ (k : Kept). k.since) h.kept) (ap pos_lsn h.log.kept.end) h.firsts)
 
     pub abandoned : HasAbandoned old new a.session a.txn → active_of a.session st.actives ≡ Some a → (st.fault ≡ None → AreNumbered st.last_txn st.actives) →
         StandsAt most observable history old st → StandsAt most observable history new after_
@@ -365,6 +378,7 @@ module _ {D : Type 0} where
       totals = ap (λ k. k.totals) h.kept ∙ at.totals;
       sessions_at = h.sessions st a refl refl at.sessions_at;
       apart = at.apart;
+      checkpoint = ap (λ (k : Kept). is_some k.checkpoints.under_way) h.kept ∙ at.checkpoint;
       valid = λ none. valid_still h (numbers none) is (at.valid none);
     }
 
@@ -393,9 +407,9 @@ module _ {D : Type 0} where
   -- ---- a session that ends
 
   -- what waits is no part of a log and its trees
-  pub valid_waiting : (observable : Bool) (state : State) (buffer : LogBuffer D) (cells : AllCells) (has_tree : ℕ → Bool) (forest : Forest) (written : List (TxnId × OwnNames)) (st : Standing) (waiting : List Wait) (locks : LockState) →
-      IsValidWith observable state buffer cells has_tree forest written st → IsValidWith observable state buffer cells has_tree forest written (record st { waiting = waiting; locks = locks })
-  valid_waiting observable state buffer cells has_tree forest written st waiting locks v = record {
+  pub valid_waiting : (observable : Bool) (state : State) (buffer : LogBuffer D) (cells : AllCells) (has_tree : ℕ → Bool) (forest : Forest) (since : ℕ) (written : List (TxnId × OwnNames)) (st : Standing) (waiting : List Wait) (locks : LockState) →
+      IsValidWith observable state buffer cells has_tree forest since written st → IsValidWith observable state buffer cells has_tree forest since written (record st { waiting = waiting; locks = locks })
+  valid_waiting observable state buffer cells has_tree forest since written st waiting locks v = record {
     log = v.log;
     has = v.has;
     works = v.works;
@@ -415,6 +429,8 @@ module _ {D : Type 0} where
     room = v.room;
     names = v.names;
     fits = v.fits;
+    from = v.from;
+    firsts = v.firsts;
   }
 
   -- a session's call no longer waits
@@ -429,7 +445,8 @@ module _ {D : Type 0} where
     totals = at.totals;
     sessions_at = now_;
     apart = own_waits_left (λ (w : Wait). not (w.session == session)) st.waiting at.apart;
-    valid = λ none. valid_waiting observable (now (history (disk_of e.engine.trees.log))) e.engine.trees.log (cells_of e.engine.trees) (has_tree_of e.engine.trees) (fitting e.engine.trees) e.written.by_txn.entries st
+    checkpoint = at.checkpoint;
+    valid = λ none. valid_waiting observable (now (history (disk_of e.engine.trees.log))) e.engine.trees.log (cells_of e.engine.trees) (has_tree_of e.engine.trees) (fitting e.engine.trees) e.engine.kept.since e.written.by_txn.entries st
         (without_call session st).waiting st.locks (at.valid none);
   }
 

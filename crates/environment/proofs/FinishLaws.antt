@@ -89,11 +89,11 @@ abbrev Elsewhere : Standing → (ℕ → List (ℕ × RecordChange)) → (ℕ �
 Elsewhere st own places locks = record st { own = own; places = places; locks = locks }
 
 module _ {D : Type 0} where
-  pub valid_elsewhere : (observable : Bool) (state : State) (buffer : LogBuffer D) (cells : AllCells) (has_tree : ℕ → Bool) (forest : Forest) (written : List (TxnId × OwnNames)) (st : Standing) (own : ℕ → List (ℕ × RecordChange))
-      (places : ℕ → List Place) (locks : LockState) → st.own ≡ own → IsValidWith observable state buffer cells has_tree forest written st →
-      IsValidWith observable state buffer cells has_tree forest written (Elsewhere st own places locks)
-  valid_elsewhere observable state buffer cells has_tree forest written st own places locks same v =
-      subst (λ (o : ℕ → List (ℕ × RecordChange)). IsValidWith observable state buffer cells has_tree forest written (Elsewhere st o places locks)) same (record {
+  pub valid_elsewhere : (observable : Bool) (state : State) (buffer : LogBuffer D) (cells : AllCells) (has_tree : ℕ → Bool) (forest : Forest) (since : ℕ) (written : List (TxnId × OwnNames)) (st : Standing) (own : ℕ → List (ℕ × RecordChange))
+      (places : ℕ → List Place) (locks : LockState) → st.own ≡ own → IsValidWith observable state buffer cells has_tree forest since written st →
+      IsValidWith observable state buffer cells has_tree forest since written (Elsewhere st own places locks)
+  valid_elsewhere observable state buffer cells has_tree forest since written st own places locks same v =
+      subst (λ (o : ℕ → List (ℕ × RecordChange)). IsValidWith observable state buffer cells has_tree forest since written (Elsewhere st o places locks)) same (record {
         log = v.log;
         has = v.has;
         works = v.works;
@@ -113,6 +113,8 @@ module _ {D : Type 0} where
         room = v.room;
         names = v.names;
         fits = v.fits;
+        from = v.from;
+        firsts = v.firsts;
       })
 
   -- the environment with these sessions
@@ -130,7 +132,8 @@ module _ {D : Type 0} where
     totals = at.totals;
     sessions_at = stands;
     apart = at.apart;
-    valid = λ none. valid_elsewhere observable (now (history (disk_below e.engine.trees.log))) e.engine.trees.log (cells_of e.engine.trees) (has_tree_of e.engine.trees) (fitting e.engine.trees) e.written.by_txn.entries st own places locks same
+    checkpoint = at.checkpoint;
+    valid = λ none. valid_elsewhere observable (now (history (disk_below e.engine.trees.log))) e.engine.trees.log (cells_of e.engine.trees) (has_tree_of e.engine.trees) (fitting e.engine.trees) e.engine.kept.since e.written.by_txn.entries st own places locks same
         (at.valid none);
   }
 

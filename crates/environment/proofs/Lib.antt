@@ -1,5 +1,7 @@
 -- Where the life of an environment began.
 pub mod Bases
+-- The LSN that each transaction logged nothing before.
+pub mod Firsts
 -- Where an environment stands when its log was written out or synced, or the disk failed.
 pub mod Standing
 -- The calls that wait.

@@ -62,10 +62,10 @@ logs_nothing known st planned store last plan = let log = plan (model_of st) 0 (
 
 module _ {D : Type 0} where
   -- a number that is drawn changes nothing of a log and its trees
-  pub valid_drawn : (observable : Bool) (state : State) (buffer : LogBuffer D) (cells : AllCells) (has_tree : ℕ → Bool) (forest : Forest) (written : List (TxnId × OwnNames)) (st : Standing) (last : ℕ) → st.last_txn ≤ last →
-      IsValidWith observable state buffer cells has_tree forest written st → IsValidWith observable state buffer cells has_tree forest written (record st { last_txn = last })
+  pub valid_drawn : (observable : Bool) (state : State) (buffer : LogBuffer D) (cells : AllCells) (has_tree : ℕ → Bool) (forest : Forest) (since : ℕ) (written : List (TxnId × OwnNames)) (st : Standing) (last : ℕ) → st.last_txn ≤ last →
+      IsValidWith observable state buffer cells has_tree forest since written st → IsValidWith observable state buffer cells has_tree forest since written (record st { last_txn = last })
   unfolding still_gives
-  valid_drawn observable state buffer cells has_tree forest written st last more v = record {
+  valid_drawn observable state buffer cells has_tree forest since written st last more v = record {
     log = v.log;
     has = v.has;
     works = v.works;
@@ -85,6 +85,8 @@ module _ {D : Type 0} where
     room = v.room;
     names = v.names;
     fits = v.fits;
+    from = v.from;
+    firsts = v.firsts;
   }
 
   pub drawn_at : (most : ℕ) (observable : Bool) (history : D → History) (e : Environment D) (last : ℕ) (st : Standing) → st.last_txn ≤ last → StandsAt most observable history e st →
@@ -98,7 +100,8 @@ module _ {D : Type 0} where
     totals = at.totals;
     sessions_at = at.sessions_at;
     apart = at.apart;
-    valid = λ none. valid_drawn observable (now (history (disk_below e.engine.trees.log))) e.engine.trees.log (cells_of e.engine.trees) (has_tree_of e.engine.trees) (fitting e.engine.trees) e.written.by_txn.entries st last more (at.valid none);
+    checkpoint = at.checkpoint;
+    valid = λ none. valid_drawn observable (now (history (disk_below e.engine.trees.log))) e.engine.trees.log (cells_of e.engine.trees) (has_tree_of e.engine.trees) (fitting e.engine.trees) e.engine.kept.since e.written.by_txn.entries st last more (at.valid none);
   }
 
 -- ---- the call

@@ -1,5 +1,5 @@
 -- What transactions wrote, after a change of the map.
-use Rattle.std.proofs.Common.{◌≡◌, ◌≤◌, ◌<◌, ◌+◌, ◌^◌, ℕ, List, [], Some, Option, Result, Ok, Err, OnOk, ap, ◌∙◌, subst, ⊎_elim, length}
+use Rattle.std.proofs.Common.{◌≡◌, ◌≤◌, ◌<◌, ◌+◌, ◌^◌, ℕ, Bool, true, cond, List, [], ◌∷◌, ◌++◌, None, Some, Option, Result, Ok, Err, OnOk, refl, sym, ap, ◌∙◌, subst, ⊎_elim, length, arith}
 use Rattle.std.specs.Prelude.{vec_capacity}
 use Rattle.std.specs.Option.{option_map_or}
 use Rattle.std.proofs.lemmas.Bool.{cases_Bool}
@@ -10,7 +10,7 @@ use Rattle.lock_table.specs.Table.{at_txn}
 use Rattle.lock_table.proofs.RecordLists.{IsChangedAt, changed_here, changed_there}
 use Rattle.record_tree.specs.declared.tree_name.TreeName.{TreeName}
 use Rattle.environment.specs.declared.written.OwnNames.{OwnNames}
-use Rattle.environment.specs.Written.{HasRoomAt, had_at, names_at}
+use Rattle.environment.specs.Written.{HasRoomAt, had_at, names_at, first_at, first_for, first_in}
 
 abbrev pub Entries : Type 0
 Entries = List (TxnId × OwnNames)
@@ -20,6 +20,9 @@ names_in o = option_map_or (λ (x : OwnNames). x.names.items) o []
 
 abbrev had_in : Option OwnNames → ℕ
 had_in o = option_map_or (λ (x : OwnNames). x.had) o 0
+
+abbrev first_of : Option OwnNames → ℕ
+first_of o = option_map_or (λ (x : OwnNames). first_in x.names.items x.first) o 0
 
 -- one transaction's entry is another one, with the names and the count that it had
 pub names_stay : (old new : Entries) (u : TxnId) (o : Option OwnNames) (w : OwnNames) → o ≡ at_txn u old → IsChangedAt old new u (Some w) → w.names.items ≡ names_in o → (t : TxnId) → names_at t new ≡ names_at t old
@@ -34,9 +37,80 @@ had_stays old new u o w has c is t = ⊎_elim
     (λ h. ap had_in (changed_there old new u (Some w) c t h))
     (cases_Bool (is_same_txn u t))
 
+-- and with its first LSN, where it has names
+first_kept : (had names : List TreeName) (first end : ℕ) → names ≡ had → first_in names (first_for had first end) ≡ first_in had first
+first_kept had [] first end is = ap (λ (l : List TreeName). first_in l first) is
+first_kept [] (name ∷ names) first end is = cc
+first_kept (n ∷ had) (name ∷ names) first end is = refl
+
+pub firsts_stay : (old new : Entries) (u : TxnId) (was w : OwnNames) (end : ℕ) → Some was ≡ at_txn u old → IsChangedAt old new u (Some w) → w.names.items ≡ was.names.items → w.first ≡ first_for was.names.items was.first end →
+    (t : TxnId) → first_at t new ≡ first_at t old
+firsts_stay old new u was w end has c names is t = ⊎_elim
+    (λ h. ap first_of (changed_here old new u (Some w) c t h) ∙ ap (first_in w.names.items) is ∙ first_kept was.names.items w.names.items was.first end names
+    ∙ ap first_of (subst (λ (x : TxnId). Some was ≡ at_txn x old) (same_is u t h) has))
+    (λ h. ap first_of (changed_there old new u (Some w) c t h))
+    (cases_Bool (is_same_txn u t))
+
+pub firsts_same : (old new : Entries) (u : TxnId) (was : OwnNames) → Some was ≡ at_txn u old → IsChangedAt old new u (Some was) → (t : TxnId) → first_at t new ≡ first_at t old
+firsts_same old new u was has c t = ⊎_elim
+    (λ h. ap first_of (changed_here old new u (Some was) c t h) ∙ ap first_of (subst (λ (x : TxnId). Some was ≡ at_txn x old) (same_is u t h) has))
+    (λ h. ap first_of (changed_there old new u (Some was) c t h))
+    (cases_Bool (is_same_txn u t))
+
+-- an entry more, without names
+pub firsts_made : (old new : Entries) (u : TxnId) (w : OwnNames) → None ≡ at_txn u old → IsChangedAt old new u (Some w) → w.names.items ≡ [] → (t : TxnId) → first_at t new ≡ first_at t old
+firsts_made old new u w has c none t = ⊎_elim
+    (λ h. ap first_of (changed_here old new u (Some w) c t h) ∙ ap (λ (l : List TreeName). first_in l w.first) none ∙ ap first_of (subst (λ (x : TxnId). None ≡ at_txn x old) (same_is u t h) has))
+    (λ h. ap first_of (changed_there old new u (Some w) c t h))
+    (cases_Bool (is_same_txn u t))
+
+-- and one less
+pub firsts_less : (old new : Entries) (u : TxnId) → IsChangedAt old new u None → (t : TxnId) → first_at t new ≤ first_at t old
+firsts_less old new u c t = ⊎_elim
+    (λ h. let is : first_at t new ≡ 0 = ap first_of (changed_here old new u None c t h) in omega (arith, is))
+    (λ h. let is : first_at t new ≡ first_at t old = ap first_of (changed_there old new u None c t h) in omega (arith, is))
+    (cases_Bool (is_same_txn u t))
+
+-- names at the end of those that were there
+first_more : (had more : List TreeName) (own first : ℕ) → (had ≡ [] → own ≡ first) → first_in (had ++ more) own ≤ first_for had (first_in had own) first
+first_more [] [] own first is = omega arith
+first_more [] (name ∷ more) own first is = let same = is refl in omega (arith, same)
+first_more (n ∷ had) more own first is = omega arith
+
+pub firsts_more : (old new : Entries) (u : TxnId) (was w : OwnNames) (count had first : ℕ) (more : List TreeName) → Some was ≡ at_txn u old → IsChangedAt old new u (Some w) → w.names.items ≡ was.names.items ++ more → w.first ≡ was.first →
+    HasRoomAt u count had first old → (t : TxnId) → first_at t new ≤ cond (is_same_txn u t) (first_for (names_at u old) (first_at u old) first) (first_at t old)
+firsts_more old new u was w count had first more has c names same room t = ⊎_elim
+    (λ h. subst (λ (b : Bool). first_at t new ≤ cond b (first_for (names_at u old) (first_at u old) first) (first_at t old)) (sym h) (here h))
+    (λ h. subst (λ (b : Bool). first_at t new ≤ cond b (first_for (names_at u old) (first_at u old) first) (first_at t old)) (sym h)
+    (let is : first_at t new ≡ first_at t old = ap first_of (changed_there old new u (Some w) c t h) in omega (arith, is)))
+    (cases_Bool (is_same_txn u t))
+  where
+    same_own : (a b : OwnNames) → Some a ≡ Some b → a ≡ b
+    same_own a b is = cc
+
+    was_is : was ≡ room.own
+    was_is = same_own was room.own (has ∙ room.its)
+
+    none : was.names.items ≡ [] → was.first ≡ first
+    none = subst (λ (o : OwnNames). o.names.items ≡ [] → o.first ≡ first) (sym was_is) room.first_is
+
+    low : first_in (was.names.items ++ more) was.first ≤ first_for (names_at u old) (first_at u old) first
+    low = subst (λ (o : Option OwnNames). first_in (was.names.items ++ more) was.first ≤ first_for (names_in o) (first_of o) first) has (first_more was.names.items more was.first first none)
+
+    here : is_same_txn u t ≡ true → first_at t new ≤ first_for (names_at u old) (first_at u old) first
+    here h = subst (λ (n : ℕ). n ≤ first_for (names_at u old) (first_at u old) first)
+        (sym (ap first_of (changed_here old new u (Some w) c t h) ∙ ap (λ (l : List TreeName). first_in l w.first) names ∙ ap (first_in (was.names.items ++ more)) same)) low
+
 -- the entry that is there has the room
-pub has_room : (old new : Entries) (u : TxnId) (w : OwnNames) (count had : ℕ) → IsChangedAt old new u (Some w) → length w.names.items + count ≤ vec_capacity w.names → w.had + had < 2 ^ 64 → HasRoomAt u count had new
-has_room old new u w count had c room fits = record { own = w; its = changed_here old new u (Some w) c u (same_itself u); room = room; fits = fits }
+pub has_room : (old new : Entries) (u : TxnId) (w : OwnNames) (count had first : ℕ) → IsChangedAt old new u (Some w) → length w.names.items + count ≤ vec_capacity w.names → w.had + had < 2 ^ 64 →
+    (w.names.items ≡ [] → w.first ≡ first) → HasRoomAt u count had first new
+has_room old new u w count had first c room fits is = record { own = w; its = changed_here old new u (Some w) c u (same_itself u); room = room; fits = fits; first_is = is }
+
+-- where it had no names it has this first LSN
+pub first_fresh : (names had : List TreeName) (own first : ℕ) → names ≡ had → names ≡ [] → first_for had own first ≡ first
+first_fresh names [] own first is none = refl
+first_fresh [] (n ∷ had) own first is none = cc
+first_fresh (name ∷ names) (n ∷ had) own first is none = cc
 
 pub on_ok : {T E : Type 0} {A B : Type 0} → (r : Result T E) → OnOk r A → (A → B) → OnOk r B
 on_ok (Ok t) a f = f a

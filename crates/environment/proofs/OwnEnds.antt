@@ -1,6 +1,6 @@
 -- Where an environment stands once a call of a transaction that changes something has ended.
 use Rattle.std.proofs.Common.{◌≡◌, ◌≢◌, ◌∙◌, ◌⊎◌, inl, inr, ℕ, ◌≤◌, ◌<◌, ◌+◌, ◌*◌, ◌^◌, ◌==◌, Bool, true, false, true≢false, cond, ◌||◌, List, [], ◌∷◌, ◌++◌, filter, length, map, Option, None, Some, Result, Ok, Err, OnErr, refl, ap, sym, subst, arith}
-use Rattle.std.specs.Prelude.{IfOk, OnOk}
+use Rattle.std.specs.Prelude.{IfOk, OnOk, is_some}
 use Rattle.std.specs.List.{AllByRecursion}
 use Rattle.std.specs.declared.alloc.AllocError.{AllocError}
 use Rattle.std.proofs.lemmas.Bool.{cond-true, eq-eqb}
@@ -318,7 +318,8 @@ module _ {D : Type 0} (observable : Bool) (history : D → History) (sync_out re
       totals = ap (λ (k : Kept). k.totals) w.4 ∙ here.totals;
       sessions_at = record { actives = stands.actives; own = stands.own; places = still_placed s.cursors st.places a.session call ev.place unmoved stands.places; waiting = stands.waiting; locks = stands.locks };
       apart = here.apart;
-      valid = λ calm. valid_elsewhere observable (now (history (disk_below mid.engine.trees.log))) mid.engine.trees.log (cells_of mid.engine.trees) (has_tree_of mid.engine.trees) (fitting mid.engine.trees) mid.written.by_txn.entries own_ own_.own
+      checkpoint = ap (λ (k : Kept). is_some k.checkpoints.under_way) w.4 ∙ here.checkpoint;
+      valid = λ calm. valid_elsewhere observable (now (history (disk_below mid.engine.trees.log))) mid.engine.trees.log (cells_of mid.engine.trees) (has_tree_of mid.engine.trees) (fitting mid.engine.trees) mid.engine.kept.since mid.written.by_txn.entries own_ own_.own
           OwnDone.places OwnDone.locks refl w.0;
     }
 
@@ -357,7 +358,8 @@ module _ {D : Type 0} (observable : Bool) (history : D → History) (sync_out re
       totals = ap (λ (k : Kept). k.totals) left.kept ∙ here.totals;
       sessions_at = stands;
       apart = here.apart;
-      valid = λ calm. valid_elsewhere observable (now (history (disk_below mid.engine.trees.log))) mid.engine.trees.log (cells_of mid.engine.trees) (has_tree_of mid.engine.trees) (fitting mid.engine.trees) mid.written.by_txn.entries st st.own
+      checkpoint = ap (λ (k : Kept). is_some k.checkpoints.under_way) left.kept ∙ here.checkpoint;
+      valid = λ calm. valid_elsewhere observable (now (history (disk_below mid.engine.trees.log))) mid.engine.trees.log (cells_of mid.engine.trees) (has_tree_of mid.engine.trees) (fitting mid.engine.trees) mid.engine.kept.since mid.written.by_txn.entries st st.own
           st.places locks refl valid;
     }
 
@@ -400,6 +402,7 @@ module _ {D : Type 0} (observable : Bool) (history : D → History) (sync_out re
         totals = ap (λ (k : Kept). k.totals) w.3 ∙ here.totals;
         sessions_at = record { actives = stands.actives; own = stands.own; places = stands.places; waiting = stands.waiting; locks = tt };
         apart = here.apart;
+        checkpoint = ap (λ (k : Kept). is_some k.checkpoints.under_way) w.3 ∙ here.checkpoint;
         valid = λ calm. absurd cc;
       };
       numbered = tt;
@@ -565,6 +568,7 @@ module _ {D : Type 0} (observable : Bool) (history : D → History) (sync_out re
             totals = ap (λ (k : Kept). k.totals) w.1.kept ∙ up.here.totals;
             sessions_at = stands;
             apart = up.here.apart;
+            checkpoint = ap (λ (k : Kept). is_some k.checkpoints.under_way) w.1.kept ∙ up.here.checkpoint;
             valid = λ calm. w.0;
           };
           log = w.1.log;

@@ -103,6 +103,7 @@ module _ {D : Type 0} (observable : Bool) (history : D → History) (sync_out re
     totals = here.totals;
     sessions_at = at;
     apart = here.apart;
+    checkpoint = here.checkpoint;
     valid = here.valid;
   }
 
@@ -138,7 +139,7 @@ any_stopped_calm (Some owner) st a line call g n answer victims is = stopped_cal
 
 -- it leaves all but the sessions as it was
 stop_leaves : (w : Bool) (st : Standing) (a : Active) (line : ℕ) (call : Call) (g : Target) (n : Need) (vs : List Victim) → AreBare st → LeavesSame st (after_stop w st a line call g n vs)
-stop_leaves false st a line call g n vs bare = record { store = refl; numbers = refl; last_txn = refl; last_db = refl; commits = refl; fault = refl; own = refl; actives = λ t h. h; owing = omega arith }
+stop_leaves false st a line call g n vs bare = record { store = refl; numbers = refl; last_txn = refl; last_db = refl; commits = refl; fault = refl; checkpoint = refl; own = refl; actives = λ t h. h; owing = omega arith }
 stop_leaves true st a line call g n vs bare = victims_leave st a line call g n vs bare
 
 stop_apart : (w : Bool) (st : Standing) (a : Active) (line : ℕ) (call : Call) (g : Target) (n : Need) (vs : List Victim) → HaveOwnWaits st.waiting → AllByRecursion (λ v. (v.session == a.session) ≡ false) st.waiting →
@@ -159,7 +160,8 @@ module _ {D : Type 0} (observable : Bool) (history : D → History) (sync_out re
     totals = here.totals ∙ sym (ap totals_of same.store);
     sessions_at = at;
     apart = apart;
-    valid = λ none. valid_leaves observable (now (history (disk_below e.engine.trees.log))) e.engine.trees.log (cells_of e.engine.trees) (has_tree_of e.engine.trees) (fitting e.engine.trees) e.written.by_txn.entries st after same
+    checkpoint = here.checkpoint ∙ sym same.checkpoint;
+    valid = λ none. valid_leaves observable (now (history (disk_below e.engine.trees.log))) e.engine.trees.log (cells_of e.engine.trees) (has_tree_of e.engine.trees) (fitting e.engine.trees) e.engine.kept.since e.written.by_txn.entries st after same
         (here.valid (sym same.fault ∙ none));
   }
 

@@ -1,9 +1,12 @@
 -- Where an environment stands once changes of a transaction under way were to be logged.
 use mathlib.Core.Path.{fun_ext}
+use Rattle.txn_log.specs.Checkpoints.{EndsFrom}
+use Rattle.engine.specs.declared.kept.Kept.{Kept}
+use Rattle.engine.proofs.CallEntries.{changes_no_ends}
 use Rattle.log_file.specs.Log.{Log}
 use Rattle.log_buffer.specs.Flip.{pos_lsn}
 use Rattle.log_trees.specs.Placed.{placed}
-use Rattle.environment.proofs.Bases.{begun_with}
+use Rattle.environment.proofs.Bases.{begun_with, lives_on, lives_same}
 use Rattle.std.proofs.Common.{arith, ◌≡◌, inl, ℕ, suc, ◌+◌, ◌≤◌, ◌==◌, nat_lt, Bool, true, false, true≢false, cond, ◌||◌, List, [], ◌∷◌, ◌++◌, map, length, Option, None, Some, Result, Ok, Err, count_by, refl, ap, ap₂, sym, ◌∙◌, subst}
 use Rattle.std.specs.declared.alloc.AllocError.{AllocError}
 use Rattle.std.specs.List.{AllByRecursion}
@@ -60,12 +63,13 @@ use Rattle.engine.proofs.TxnGives.{failed}
 use Rattle.environment.specs.declared.environment.Environment.{Environment}
 use Rattle.environment.specs.declared.wrote.Wrote.{Wrote}
 use Rattle.environment.specs.declared.wrote.Wrote.TheVariants.{Done, Full, NoNumbers, Failed}
-use Rattle.environment.specs.Valid.{active_number, fitting}
+use Rattle.environment.specs.Valid.{active_number, fitting, Lives, waiting_in}
 use Rattle.environment.specs.Whole.{HasLimit}
-use Rattle.environment.specs.Written.{AreNamesOf, had_at, names_at}
+use Rattle.environment.specs.Written.{AreNamesOf, had_at, names_at, AreFirstsOf}
 use Rattle.environment.specs.Writing.{HasWrittenNone, HasWrittenOwn, IsLeft, IsValidAt, MayWrite, WritesAll, WritesOwn, has_record, wrote_by}
 use Rattle.environment.proofs.EndingLaws.{room_unchanged}
 use Rattle.environment.proofs.WritingLaws.{had_counted, kind_at, made_none, may_all, names_append, names_free, own_planned, planned_free, planned_there, rows_stay}
+use Rattle.environment.proofs.Firsts.{firsts_written, waiting_none}
 
 module _ {D : Type 0} (observable : Bool) (history : D → History) (sync_out read_out : D → Option ℕ) (read_of : D → ℕ) (faults : D → ℕ) where
   abbrev state_of : Environment D → State
@@ -127,6 +131,13 @@ module _ {D : Type 0} (observable : Bool) (history : D → History) (sync_out re
   left_valid old new st h v =
       let same : cells_of new.engine.trees ≡ cells_of old.engine.trees = fun_ext h.trees.cells in
       let log = h.trees.log in
+      let lives = subst (Lives (fitting new.engine.trees) v.log new.engine.kept.since (pos_lsn (end_of new.engine.trees.log)) new.written.by_txn.entries)
+      (sym (same_under (λ (e : LogPos). GivesRecordsWith v.log e (rows_in new) st.last_txn st.last_db (active_number st.actives) st.own) (λ e g. g.base) (sym log.kept.end)
+      (subst (λ (c : AllCells). GivesRecordsWith v.log (end_of old.engine.trees.log) (committed c) st.last_txn st.last_db (active_number st.actives) st.own) (sym same) v.gives)
+      ∙ same_under (λ (c : AllCells). GivesRecordsWith v.log (end_of old.engine.trees.log) (committed c) st.last_txn st.last_db (active_number st.actives) st.own) (λ c g. g.base) (sym same) v.gives))
+      (lives_same (fitting old.engine.trees) (fitting new.engine.trees) v.log old.engine.kept.since new.engine.kept.since (pos_lsn (end_of old.engine.trees.log)) (pos_lsn (end_of new.engine.trees.log))
+      old.written.by_txn.entries new.written.by_txn.entries v.gives.base (record { fits = v.fits; from = v.from; firsts = v.firsts }) (h.trees.fits (placed v.log) v.gives.base) (ap (λ (k : Kept). k.since) h.kept)
+      (ap pos_lsn log.kept.end) (λ t. let is = h.written.firsts t in omega (arith, is))) in
       record {
         log = v.log;
         has = subst (λ (d : D). HasLog observable (now (history d)) new.engine.trees.log v.log) (sym log.disk)
@@ -144,11 +155,9 @@ module _ {D : Type 0} (observable : Bool) (history : D → History) (sync_out re
           names = λ t. h.written.names (txn_id t) ∙ v.names.names t;
           had = λ t. h.written.had (txn_id t) ∙ v.names.had t;
         });
-        fits = subst (λ (b : ℕ). fitting new.engine.trees (placed v.log) b)
-            (sym (same_under (λ (e : LogPos). GivesRecordsWith v.log e (rows_in new) st.last_txn st.last_db (active_number st.actives) st.own) (λ e g. g.base) (sym log.kept.end)
-            (subst (λ (c : AllCells). GivesRecordsWith v.log (end_of old.engine.trees.log) (committed c) st.last_txn st.last_db (active_number st.actives) st.own) (sym same) v.gives)
-            ∙ same_under (λ (c : AllCells). GivesRecordsWith v.log (end_of old.engine.trees.log) (committed c) st.last_txn st.last_db (active_number st.actives) st.own) (λ c g. g.base) (sym same) v.gives))
-            (h.trees.fits (placed v.log) v.gives.base v.fits);
+        fits = lives.fits;
+        from = lives.from;
+        firsts = lives.firsts;
       }
 
   pub is_left : (old new : Environment D) → HasWrittenNone old new → IsLeft old new
@@ -228,6 +237,11 @@ module _ {D : Type 0} (observable : Bool) (history : D → History) (sync_out re
           ∙ sym (had_go_on rows_ (st.own txn.0) own_)
       by_had t false = v.names.had t
 
+    firsts_on : Written → AreFirstsOf new.written.by_txn.entries (waiting_in v.log v.gives.base) (pos_lsn (end_of old.engine.trees.log))
+    firsts_on w =
+        firsts_written old.written.by_txn.entries new.written.by_txn.entries (waiting_in v.log v.gives.base) (pos_lsn (end_of old.engine.trees.log)) txn
+        (waiting_none v.log (end_of old.engine.trees.log) rows_ st.last_txn st.last_db (active_number st.actives) st.own v.gives old.written.by_txn.entries txn.0 v.names active) w.firsts v.firsts
+
     done_valid : Written → (a : Added) →
         ((log : Log) (base : ℕ) → HasLog observable (now (history (disk_below old.engine.trees.log))) old.engine.trees.log log → base ≤ pos_lsn (end_of old.engine.trees.log) → fitting old.engine.trees (placed log) base →
         fitting new.engine.trees (placed (longer old.engine.trees.log a.entries log)) base) →
@@ -235,6 +249,13 @@ module _ {D : Type 0} (observable : Bool) (history : D → History) (sync_out re
     done_valid w a carries owes =
         let same : rows_in new ≡ rows_ = rows_stay txn planned_ (cells_of old.engine.trees) (cells_of new.engine.trees) w.was_rising w.rising w.writes in
         let on = log_on a in
+        let lives = subst (Lives (fitting new.engine.trees) (longer old.engine.trees.log a.entries v.log) new.engine.kept.since (pos_lsn (end_of new.engine.trees.log)) new.written.by_txn.entries)
+        (sym (same_under (λ (r : Rows). GivesRecordsWith (longer old.engine.trees.log a.entries v.log) (end_of new.engine.trees.log) r st.last_txn st.last_db (active_number st.actives) after_.own) (λ r g. g.base) (sym same) on.given.gives
+        ∙ base_on a))
+        (lives_on observable history sync_out read_out read_of old.engine.trees.log new.engine.trees.log v.log a.entries (fitting new.engine.trees) new.engine.kept.since v.gives.base new.written.by_txn.entries v.has a.grew
+        (changes_no_ends txn planned_ a.entries a.logs)
+        (carries v.log v.gives.base v.has (begun_with v.log (end_of old.engine.trees.log) rows_ st.last_txn st.last_db (active_number st.actives) st.own v.gives) v.fits)
+        (subst (λ (k : Kept). EndsFrom v.log v.gives.base k.since) (sym w.kept) v.from) (firsts_on w)) in
         record {
           log = longer old.engine.trees.log a.entries v.log;
           has = on.given.has;
@@ -255,10 +276,9 @@ module _ {D : Type 0} (observable : Bool) (history : D → History) (sync_out re
           made = λ d. w.made d ∙ ap (λ (b : Bool). b || has_tree_of old.engine.trees d) (made_none d g.db changes) ∙ v.made d ∙ sym (ap (λ (r : Rows). has_number (numbers_of r) d) same);
           room = λ n is. subst (λ (k : ℕ). HasRoomFor new.engine.trees.log (commit_sizes k)) (owes ∙ is) w.room;
           names = subst (λ (r : Rows). AreNamesOf new.written.by_txn.entries after_.own r) (sym same) (names_on w);
-          fits = subst (λ (b : ℕ). fitting new.engine.trees (placed (longer old.engine.trees.log a.entries v.log)) b)
-              (sym (same_under (λ (r : Rows). GivesRecordsWith (longer old.engine.trees.log a.entries v.log) (end_of new.engine.trees.log) r st.last_txn st.last_db (active_number st.actives) after_.own) (λ r g. g.base) (sym same) on.given.gives
-              ∙ base_on a))
-              (carries v.log v.gives.base v.has (begun_with v.log (end_of old.engine.trees.log) rows_ st.last_txn st.last_db (active_number st.actives) st.own v.gives) v.fits);
+          fits = lives.fits;
+          from = lives.from;
+          firsts = lives.firsts;
         }
 
     near : Written → end_file new.engine.trees ≤ end_file old.engine.trees + most_entries (length changes)

@@ -11,6 +11,7 @@ use Rattle.log_file.specs.Log.{Log}
 use Rattle.log_buffer.specs.declared.buffer.LogBuffer.{LogBuffer}
 use Rattle.log_buffer.specs.declared.log_pos.LogPos.{LogPos}
 use Rattle.log_buffer.specs.Buffer.{HasRoom, end_of, file_max_of, has_failed}
+use Rattle.log_buffer.specs.Flip.{pos_lsn}
 use Rattle.log_buffer.specs.Flip.{end_after_all}
 use Rattle.log_buffer.specs.Log.{HasLog}
 use Rattle.in_tree.specs.Limits.{HasRoomFor, commit_sizes}
@@ -23,8 +24,9 @@ use Rattle.txn_log.specs.Gives.{GivesRecordsWith}
 use Rattle.engine.specs.declared.kept.Kept.{Kept}
 use Rattle.environment.specs.declared.environment.Environment.{Environment}
 use Rattle.environment.specs.declared.written.OwnNames.{OwnNames}
-use Rattle.environment.specs.Valid.{AreAt, IsValidWith, active_number, Forest}
+use Rattle.environment.specs.Valid.{AreAt, IsValidWith, Lives, active_number, Forest}
 use Rattle.environment.specs.Whole.{IsAt}
+use Rattle.environment.proofs.Bases.{lives_at}
 
 -- a sync that is under way is no part of what holds of a standing
 pub right_begun : (st : Standing) (begun : Option ℕ) → AreRight st → AreRight (record st { begun = begun })
@@ -55,10 +57,10 @@ module _ {D : Type 0} where
   }
 
   -- trees over such a log
-  pub valid_like : (observable : Bool) (before after : State) (buffer other : LogBuffer D) (cells : AllCells) (has_tree : ℕ → Bool) (forest : Forest) (written : List (TxnId × OwnNames)) (st : Standing) (begun : Option ℕ) →
-      IsLike observable before after buffer other → IsValidWith observable before buffer cells has_tree forest written st →
-      IsValidWith observable after other cells has_tree forest written (record st { begun = begun })
-  valid_like observable before after buffer other cells has_tree forest written st begun like v = record {
+  pub valid_like : (observable : Bool) (before after : State) (buffer other : LogBuffer D) (cells : AllCells) (has_tree : ℕ → Bool) (forest : Forest) (since : ℕ) (written : List (TxnId × OwnNames)) (st : Standing) (begun : Option ℕ) →
+      IsLike observable before after buffer other → IsValidWith observable before buffer cells has_tree forest since written st →
+      IsValidWith observable after other cells has_tree forest since written (record st { begun = begun })
+  valid_like observable before after buffer other cells has_tree forest since written st begun like v = record {
     log = v.log;
     has = like.logs v.log v.has;
     works = like.works;
@@ -77,9 +79,17 @@ module _ {D : Type 0} where
     made = v.made;
     room = λ n is. room_like observable before after buffer other (commit_sizes (suc n)) like (v.room n is);
     names = v.names;
-    fits = subst (λ (b : ℕ). forest (placed v.log) b)
-        (sym (same_under (λ (e : LogPos). GivesRecordsWith v.log e (committed cells) st.last_txn st.last_db (active_number st.actives) st.own) (λ e g. g.base) (sym like.end) v.gives)) v.fits;
+    fits = lives.fits;
+    from = lives.from;
+    firsts = lives.firsts;
   }
+    where
+      lives : Lives forest v.log since (pos_lsn (end_of other)) written
+          (subst (λ (e : LogPos). GivesRecordsWith v.log e (committed cells) st.last_txn st.last_db (active_number st.actives) st.own) (sym like.end) v.gives).base
+      lives =
+          subst (Lives forest v.log since (pos_lsn (end_of other)) written)
+          (sym (same_under (λ (e : LogPos). GivesRecordsWith v.log e (committed cells) st.last_txn st.last_db (active_number st.actives) st.own) (λ e g. g.base) (sym like.end) v.gives))
+          (subst (λ (e : LogPos). Lives forest v.log since (pos_lsn e) written v.gives.base) (sym like.end) (lives_at observable before buffer cells has_tree forest since written st v))
 
   -- an environment with another buffer, and one whose disk failed
   pub at_like : (most : ℕ) (observable : Bool) (before after : State) (buffer other : LogBuffer D) (cells : AllCells) (has_tree : ℕ → Bool) (forest : Forest) (kept : Kept) (sessions : Sessions) (written : List (TxnId × OwnNames))
@@ -94,7 +104,8 @@ module _ {D : Type 0} where
     totals = at.totals;
     sessions_at = sessions_begun sessions st begun at.sessions_at;
     apart = at.apart;
-    valid = λ none. valid_like observable before after buffer other cells has_tree forest written st begun like (at.valid none);
+    checkpoint = at.checkpoint;
+    valid = λ none. valid_like observable before after buffer other cells has_tree forest kept.since written st begun like (at.valid none);
   }
 
   pub at_failed : (most : ℕ) (observable : Bool) (before after : State) (buffer other : LogBuffer D) (cells later : AllCells) (has_tree later_tree : ℕ → Bool) (forest later_forest : Forest) (kept : Kept) (sessions : Sessions)
@@ -110,6 +121,7 @@ module _ {D : Type 0} where
     totals = at.totals;
     sessions_at = sessions_faulted sessions st begun at.sessions_at;
     apart = at.apart;
+    checkpoint = at.checkpoint;
     valid = λ none. absurd cc;
   }
 

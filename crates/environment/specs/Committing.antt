@@ -28,7 +28,7 @@ use Rattle.engine.specs.declared.engine.Engine.{Engine}
 use Rattle.engine.specs.declared.kept.Kept.{Kept}
 use Rattle.environment.specs.declared.environment.Environment.{Environment}
 use Rattle.environment.specs.declared.written.OwnNames.{OwnNames}
-use Rattle.environment.specs.Written.{names_at, had_at}
+use Rattle.environment.specs.Written.{first_at, names_at, had_at}
 
 -- whether a change sets a name
 abbrev pub is_set : RecordChange → Bool
@@ -55,6 +55,7 @@ module _ {D : Type 0} where
     pub waits : waits_of new.trees ≡ waits_of old.trees
     pub names : (t : TxnId) → names_at t is ≡ (if is_same_txn txn t then [] else names_at t was)
     pub had : (t : TxnId) → had_at t is ≡ (if is_same_txn txn t then 0 else had_at t was)
+    pub firsts : (t : TxnId) → first_at t is ≤ first_at t was
 
   -- a session's transaction has committed, and is at its end
   pub record HasSettled (observable : Bool) (history : D → History) (sync_out read_out : D → Option ℕ) (read_of faults : D → ℕ) (old new : Environment D) (session : ℕ) (txn : TxnId)

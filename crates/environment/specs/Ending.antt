@@ -13,7 +13,7 @@ use Rattle.je_answers.specs.Standing.{Standing}
 use Rattle.je_answers.specs.After.{ended}
 use Rattle.sessions.specs.AtStanding.{AreSessionsAt}
 use Rattle.environment.specs.declared.environment.Environment.{Environment}
-use Rattle.environment.specs.Written.{names_at, had_at}
+use Rattle.environment.specs.Written.{first_at, names_at, had_at}
 
 module _ {D : Type 0} where
   -- what a session's transaction wrote was given up, and its locks are gone; nothing was logged
@@ -28,4 +28,5 @@ module _ {D : Type 0} where
     pub fits : (es : List Placed) (base : ℕ) → fitting old.engine.trees es base → fitting new.engine.trees es base
     pub names : (t : TxnId) → names_at t new.written.by_txn.entries ≡ (if is_same_txn txn t then [] else names_at t old.written.by_txn.entries)
     pub had : (t : TxnId) → had_at t new.written.by_txn.entries ≡ (if is_same_txn txn t then 0 else had_at t old.written.by_txn.entries)
+    pub firsts : (t : TxnId) → first_at t new.written.by_txn.entries ≤ first_at t old.written.by_txn.entries
     pub sessions : (st : Standing) (a : Active) → a.session ≡ session → a.txn ≡ txn → AreSessionsAt old.sessions st → AreSessionsAt new.sessions (ended a st)

@@ -12,6 +12,8 @@ use Rattle.log_buffer.specs.Flip.{pos_lsn}
 use Rattle.log_buffer.specs.Log.{HasLog}
 use Rattle.log_replay.specs.Rows.{numbers_of}
 use Rattle.log_trees.specs.Placed.{Placed, placed}
+use Rattle.log_trees.specs.Changes.{LoggedChange}
+use Rattle.log_meaning.specs.Redo.{redone}
 use Rattle.tree_images.specs.Forest.{ForestFits}
 use Rattle.in_tree.specs.declared.logged_trees.LogTrees.{LogTrees}
 use Rattle.in_tree.specs.Limits.{HasRoomFor, commit_sizes}
@@ -39,6 +41,17 @@ Forest = List Placed → ℕ → Type 0
 -- that trees fit them
 abbrev pub fitting : {D : Type 0} → LogTrees D → Forest
 fitting trees es base = ForestFits es base (last_node_of trees) (trees_of trees)
+
+-- what waits of each transaction in a log, of what was logged since this life of the environment began
+abbrev pub waiting_in : Log → ℕ → ℕ → List LoggedChange
+waiting_in log base = (redone base (placed log)).pending
+
+-- What holds of a log that ends at an LSN, and of where this life of the environment began: the trees fit it, a redo may begin at `since`, and no
+-- transaction under way logged a change before its first LSN.
+pub record Lives (forest : Forest) (log : Log) (since end : ℕ) (written : List (TxnId × OwnNames)) (base : ℕ) : Type 0 where
+  pub fits : forest (placed log) base
+  pub from : EndsFrom log base since
+  pub firsts : AreFirstsOf written (waiting_in log base) end
 
 -- whether a transaction of that number is under way
 abbrev pub active_number : List Active → ℕ → Bool
@@ -70,7 +83,7 @@ module _ {D : Type 0} where
     pub names : AreNamesOf written st.own (committed cells)
     pub fits : forest (placed log) gives.base
     pub from : EndsFrom log gives.base since
-    pub firsts : AreFirstsOf written gives.logged (pos_lsn (end_of buffer))
+    pub firsts : AreFirstsOf written (waiting_in log gives.base) (pos_lsn (end_of buffer))
 
   -- an environment of these parts, whose files have at most so many bytes, is where the model stands
   pub record AreAt (most : ℕ) (observable : Bool) (state : State) (buffer : LogBuffer D) (cells : AllCells) (has_tree : ℕ → Bool) (forest : Forest) (kept : Kept) (sessions : Sessions) (written : List (TxnId × OwnNames))

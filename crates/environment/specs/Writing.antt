@@ -43,7 +43,7 @@ use Rattle.environment.specs.declared.wrote.Wrote.TheVariants.{Done, Full, NoNum
 use Rattle.environment.specs.Steps.{HasFailedWith, HasGrown}
 use Rattle.environment.specs.Valid.{IsValidWith, fitting}
 use Rattle.environment.specs.Whole.{HasLimit}
-use Rattle.environment.specs.Written.{had_at, names_at}
+use Rattle.environment.specs.Written.{first_at, first_for, had_at, names_at}
 
 -- whether the name of a change has a record that a transaction sees, with its own changes
 abbrev pub has_record : TxnId → AllCells → TreeChange → Bool
@@ -104,6 +104,7 @@ module _ {D : Type 0} where
   pub record HaveNames (old new : Environment D) : Type 0 where
     pub names : (t : TxnId) → names_at t new.written.by_txn.entries ≡ names_at t old.written.by_txn.entries
     pub had : (t : TxnId) → had_at t new.written.by_txn.entries ≡ had_at t old.written.by_txn.entries
+    pub firsts : (t : TxnId) → first_at t new.written.by_txn.entries ≡ first_at t old.written.by_txn.entries
 
   -- nothing was written
   pub record HasWrittenNone (old new : Environment D) : Type 0 where
@@ -130,6 +131,9 @@ module _ {D : Type 0} where
       pub names : (t : TxnId) → names_at t new.written.by_txn.entries ≡ (if is_same_txn txn t then names_at txn old.written.by_txn.entries ++ more else names_at t old.written.by_txn.entries)
       pub had : (t : TxnId) → had_at t new.written.by_txn.entries
           ≡ (if is_same_txn txn t then had_at txn old.written.by_txn.entries + count_by (has_record txn (cells_of old.engine.trees)) changes else had_at t old.written.by_txn.entries)
+      pub firsts : (t : TxnId) → first_at t new.written.by_txn.entries
+          ≤ (if is_same_txn txn t then first_for (names_at txn old.written.by_txn.entries) (first_at txn old.written.by_txn.entries) (pos_lsn (end_of old.engine.trees.log))
+          else first_at t old.written.by_txn.entries)
 
     -- what changes that are to be logged come to, whatever the model is
     abbrev pub WritesAll : Environment D → Environment D → TxnId → List TreeChange → List TreeName → ℕ → Result Wrote AllocError → Type 0
@@ -145,7 +149,7 @@ module _ {D : Type 0} where
   -- an environment's log and trees are where a valid standing is
   abbrev pub IsValidAt : Bool → (D → History) → Environment D → Standing → Type 0
   IsValidAt observable history e st =
-      IsValidWith observable (now (history (disk_below e.engine.trees.log))) e.engine.trees.log (cells_of e.engine.trees) (has_tree_of e.engine.trees) (fitting e.engine.trees) e.written.by_txn.entries st
+      IsValidWith observable (now (history (disk_below e.engine.trees.log))) e.engine.trees.log (cells_of e.engine.trees) (has_tree_of e.engine.trees) (fitting e.engine.trees) e.engine.kept.since e.written.by_txn.entries st
 
   -- nothing was logged
   pub record IsLeft (old new : Environment D) : Type 0 where

@@ -1,5 +1,5 @@
 -- What transactions under way wrote, beside their own changes.
-use Rattle.std.specs.Prelude.{ℕ, ◌≡◌, ◌≤◌, ◌<◌, ◌+◌, ◌^◌, [], List, Some, length, vec_capacity}
+use Rattle.std.specs.Prelude.{ℕ, ◌≡◌, ◌≤◌, ◌<◌, ◌+◌, ◌^◌, [], List, Some, length, vec_capacity, ◌∷◌}
 use Rattle.std.specs.List.{AllByRecursion}
 use Rattle.std.specs.Option.{option_map_or}
 use Rattle.je_order.specs.declared.txn_id.TxnId.{TxnId}
@@ -21,9 +21,19 @@ names_at t entries = option_map_or (λ o. o.names.items) (at_txn t entries) []
 abbrev pub had_at : TxnId → List (TxnId × OwnNames) → ℕ
 had_at t entries = option_map_or (λ o. o.had) (at_txn t entries) 0
 
+-- an LSN where there are names; 0 where there are none
+abbrev pub first_in : List TreeName → ℕ → ℕ
+first_in [] first = 0
+first_in (name ∷ names) first = first
+
 -- the LSN that it logged no change before; 0 where it wrote none
 abbrev pub first_at : TxnId → List (TxnId × OwnNames) → ℕ
-first_at t entries = option_map_or (λ o. o.first) (at_txn t entries) 0
+first_at t entries = option_map_or (λ o. first_in o.names.items o.first) (at_txn t entries) 0
+
+-- the LSN that it had where it had names, else this one
+abbrev pub first_for : List TreeName → ℕ → ℕ → ℕ
+first_for [] had first = first
+first_for (name ∷ names) had first = had
 
 -- the names of each transaction are those of its own changes, and so many of these were of a name that had a record
 pub record AreNamesOf (entries : List (TxnId × OwnNames)) (own : ℕ → List (ℕ × RecordChange)) (rows : Rows) : Type 0 where
@@ -39,12 +49,13 @@ pub record AreFirstsOf (entries : List (TxnId × OwnNames)) (logged : ℕ → Li
 pub record IsRoomFor (own : OwnNames) (count first : ℕ) : Type 0 where
   pub none : own.names.items ≡ []
   pub had : own.had ≡ 0
-  pub first : own.first ≡ first
+  pub first_is : own.first ≡ first
   pub room : length own.names.items + count ≤ vec_capacity own.names
 
--- a transaction has room for so many names more, so many of which had a record
-pub record HasRoomAt (t : TxnId) (count had : ℕ) (entries : List (TxnId × OwnNames)) : Type 0 where
+-- a transaction has room for so many names more, so many of which had a record; where it has none so far, it logs nothing before an LSN
+pub record HasRoomAt (t : TxnId) (count had first : ℕ) (entries : List (TxnId × OwnNames)) : Type 0 where
   pub own : OwnNames
   pub its : at_txn t entries ≡ Some own
   pub room : length own.names.items + count ≤ vec_capacity own.names
   pub fits : own.had + had < 2 ^ 64
+  pub first_is : own.names.items ≡ [] → own.first ≡ first

@@ -16,7 +16,7 @@ ghost use Rattle.sessions.specs.AtStanding.{AreSessionsAt};
 ghost use Rattle.engine.specs.Limits.{IsWithin};
 ghost use Rattle.environment.specs.Ending.{HasAbandoned};
 ghost use Rattle.environment.specs.Steps.{StandsAt};
-ghost use Rattle.environment.specs.Written.{names_at, had_at};
+ghost use Rattle.environment.specs.Written.{first_at, names_at, had_at};
 ghost use Rattle.environment.specs.Whole.{CanGoOn, HasDone, IsAt, IsGuarded, disk_of, reach_of};
 
 use crate::environment::Environment;
@@ -31,6 +31,7 @@ pub(crate) fn take_names(written: &mut BTreeMap<TxnId, OwnNames>, txn: TxnId) ->
     ensures taken { result ≡ at_txn txn written.old.entries }
     ensures names { (t : Txn) → names_at t written.new.entries ≡ (if is_same_txn txn t then [] else names_at t written.old.entries) }
     ensures had { (t : Txn) → had_at t written.new.entries ≡ (if is_same_txn txn t then 0 else had_at t written.old.entries) }
+    ensures firsts { (t : Txn) → first_at t written.new.entries ≤ first_at t written.old.entries }
 {
     written.remove(&txn)
 }

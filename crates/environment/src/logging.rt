@@ -71,7 +71,8 @@ impl<D: Disk> Environment<D> {
         if are_new(changes.len(), had) {
             return Err(AllocError);
         }
-        make_room_at(&mut self.written.by_txn, alloc, txn, names.len(), had)?;
+        let first = self.engine.trees.log.end();
+        make_room_at(&mut self.written.by_txn, alloc, txn, names.len(), had, first)?;
         let wrote = write_changes(&mut self.engine.trees, alloc, txn, changes, owed)?;
         self.engine.trees.are_ordered();
         match wrote {

@@ -1,4 +1,4 @@
-use Rattle.std.proofs.Common.{ℕ, List, ◌≡◌, ◌∙◌, ◌+◌, ap, sym, subst}
+use Rattle.std.proofs.Common.{ℕ, List, ◌≡◌, ◌∙◌, ◌+◌, refl, ap, sym, subst}
 use Rattle.je_order.specs.declared.txn_id.TxnId.{TxnId}
 use Rattle.store_model.specs.declared.answer.Answer.{Answer}
 use Rattle.store_model.specs.declared.victim.Victim.{Victim}
@@ -9,6 +9,7 @@ use Rattle.txn_core.specs.declared.planned.Planned.{Planned}
 use Rattle.engine.proofs.CalmAnswers.{IsCalm, outcome_calm}
 use Rattle.environment.specs.Auto.{IsPlannedAuto, alone_in, with_sessions}
 use Rattle.environment.specs.Steps.{HasCome}
+use Rattle.environment.proofs.AccessLaws.{calm_cause}
 use Rattle.environment.proofs.AutoCalls.{auto_call}
 use Rattle.environment.proofs.AutoEnds.{answered_comes}
 use Rattle.environment.proofs.BeginLaws.{next_is, with_begun}
@@ -36,3 +37,10 @@ returns-in-Answered-clause-comes g c = λ most s st line call on may plan taken 
     (answered_comes g.D.Disk.observable g.D.Disk.history g.D.Disk.sync_out g.D.Disk.read_out g.D.Disk.read_of most e st c.args.session call on may c.close_auto.new.sessions last line c.in-Answered.answer
     (ap (λ (n : ℕ). n + 1) may.at.last_txn ∙ sym (next_is st.last_txn may.left)) taken.free calm planned
     (c.close_auto.ensures st (needs_in (begun st c.args.session) (auto_active st c.args.session) call on) its taken))
+
+pub returns-in-Answered-clause-cause : goal.returns-in-Answered-clause-cause
+returns-in-Answered-clause-cause g c =
+    let h = c.requires.here in
+    let planned = subst (λ (p : Planned). IsPlannedAuto c.args.self.now h.2 c.args.session h.3 p) c.in-Answered.is h.6 in
+    calm_cause _ _ c.told.result c.in-Answered.answer c.told.ensures.answer
+    (subst (λ (o : Outcome). IsCalm o.answer) planned (outcome_calm (alone_in h.2) c.args.session h.3 (auto_call h.3 h.5.db h.5.records))) refl
