@@ -41,3 +41,19 @@ returns-in-Create g c = record {
   performs = performs_only g.D.Disk.observable g.D.Disk.history g.D.Disk.sync_out g.D.Disk.read_out g.D.Disk.read_of g.D.Disk.faults c.args.self.now c.change_catalog.new.self c.args.session c.args.line c.args.call.now c.args.resumed
       c.change_catalog.result c.only-in-Create.result c.only-in-Create.ensures c.change_catalog.ensures.performs;
 }
+
+pub returns-in-Open : goal.returns-in-Open
+returns-in-Open g c = record {
+  performs = performs_only g.D.Disk.observable g.D.Disk.history g.D.Disk.sync_out g.D.Disk.read_out g.D.Disk.read_of g.D.Disk.faults c.args.self.now c.open_cursor.new.self c.args.session c.args.line c.args.call.now c.args.resumed
+      c.open_cursor.result c.only-in-Open.result c.only-in-Open.ensures
+      (subst (λ (x : Call). PerformsAnswer g.D.Disk.observable g.D.Disk.history g.D.Disk.sync_out g.D.Disk.read_out g.D.Disk.read_of g.D.Disk.faults c.args.self.now c.open_cursor.new.self c.args.session x c.open_cursor.result)
+      (sym c.in-Open.is) c.open_cursor.ensures.performs);
+}
+
+pub returns-in-Dup : goal.returns-in-Dup
+returns-in-Dup g c = record {
+  performs = performs_only g.D.Disk.observable g.D.Disk.history g.D.Disk.sync_out g.D.Disk.read_out g.D.Disk.read_of g.D.Disk.faults c.args.self.now c.duplicate_cursor.new.self c.args.session c.args.line c.args.call.now c.args.resumed
+      c.duplicate_cursor.result c.only-in-Dup.result c.only-in-Dup.ensures
+      (subst (λ (x : Call). PerformsAnswer g.D.Disk.observable g.D.Disk.history g.D.Disk.sync_out g.D.Disk.read_out g.D.Disk.read_of g.D.Disk.faults c.args.self.now c.duplicate_cursor.new.self c.args.session x c.duplicate_cursor.result)
+      (sym c.in-Dup.is) c.duplicate_cursor.ensures.performs);
+}
