@@ -29,7 +29,7 @@ use Rattle.store_model.specs.declared.isolation.Isolation.TheVariants.{Repeatabl
 use Rattle.store_model.specs.declared.kind.Kind.{Kind}
 use Rattle.store_model.specs.declared.need.Need.{Need}
 use Rattle.sessions.proofs.Takes.{may_ask}
-use Rattle.standing_laws.specs.Right.{AreSound, MayWait}
+use Rattle.standing_laws.specs.Right.{AreSound}
 use Rattle.standing_laws.proofs.Moves.{begun_found, drawn_untold, sound_begun}
 use Rattle.standing_laws.proofs.StandingsStay.{has_number, late_number}
 use Rattle.db_catalog.specs.declared.found_db.FoundDb.{FoundDb}

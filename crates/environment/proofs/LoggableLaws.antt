@@ -1,27 +1,23 @@
 -- The changes of a call that is not refused are of different names, and can be logged, wherever its cursor stands.
-use Rattle.std.proofs.Common.{◌≡◌, ◌⊎◌, inl, inr, ℕ, ◌<◌, ◌≤◌, ◌^◌, ◌==◌, nat_lt, nat_le, List, [], ◌∷◌, Bool, true, false, cond, not, Option, None, Some, map, filter, length, refl, ap, sym, ◌∙◌, subst, arith, Ordering, Less, Equal, Greater, is_eq, is_gt}
-use Rattle.std.specs.Ordering.{is_ge, on, ordering_then}
+use Rattle.std.proofs.Common.{◌≡◌, ◌⊎◌, inl, inr, ℕ, ◌<◌, ◌≤◌, ◌^◌, nat_lt, List, [], ◌∷◌, Bool, true, false, cond, Option, None, Some, map, filter, length, refl, ap, sym, ◌∙◌, subst, arith, Less, is_eq}
+use Rattle.std.specs.Ordering.{on}
 use Rattle.std.specs.List.{AllByRecursion}
 use Rattle.std.specs.List.Sorted.{IsStrictlySortedBy}
-use Rattle.std.proofs.lemmas.Bool.{and_parts, ltb-false, eqb-true, leb-true}
+use Rattle.std.proofs.lemmas.Bool.{ltb-false}
 use Rattle.std.proofs.lemmas.Option.{none-some}
 use Rattle.std.proofs.lemmas.List.Kept.{IsStrictlySortedBy-filter}
-use Rattle.std.proofs.lemmas.Map.Lookups.{exact_bytes}
 use Rattle.je_order.specs.declared.name.Name.{Name}
 use Rattle.je_order.specs.declared.txn_id.TxnId.{TxnId}
 use Rattle.je_order.specs.declared.limits.TheConstants.{KEY_LIMIT}
-use Rattle.je_order.specs.Order.{bytes_cmp, name_cmp}
-use Rattle.je_order.specs.Edges.{is_below}
+use Rattle.je_order.specs.Order.{name_cmp}
 use Rattle.je_order.proofs.Orderings.{equal_from_test, name_exact}
-use Rattle.je_order.proofs.Lists.{all_kept, all_weaker, filter_all_pass}
-use Rattle.cursor_je.proofs.EdgeLaws.{below_behind_key, just_that}
+use Rattle.je_order.proofs.Lists.{all_kept, all_weaker}
 use Rattle.log_entry.specs.Body.{IsEntry}
 use Rattle.log_entry.specs.Fields.{IsName}
 use Rattle.record_map.specs.Cells.{IsRising as CellsRise}
 use Rattle.record_tree.specs.Logged.{entry_for}
 use Rattle.record_tree.specs.Occupied.{AllCells}
 use Rattle.record_tree.specs.declared.tree_change.TreeChange.{TreeChange}
-use Rattle.store_model.specs.declared.store.TheConstants.{DUP_LIMIT}
 use Rattle.store_model.specs.declared.kind.Kind.{Kind}
 use Rattle.store_model.specs.declared.kind.Kind.TheVariants.{Plain, Dup}
 use Rattle.store_model.specs.declared.call.Call.{Call}
@@ -38,9 +34,9 @@ use Rattle.store_model.specs.Records.{Evaluated, all_of_key, conclude, deleted, 
 use Rattle.store_model.specs.Refusals.{or_refusal, too_long, data_limit, pair_refusal, kind_refusal, database_refuses}
 use Rattle.je_answers.specs.declared.active.Active.{Active}
 use Rattle.je_answers.specs.Standing.{Standing}
-use Rattle.je_answers.specs.Views.{Target, outcome_of, view_of}
+use Rattle.je_answers.specs.Views.{Target, outcome_of}
 use Rattle.log_replay.specs.Rows.{Row, is_right_row, are_right, IsRising, pair_of}
-use Rattle.log_replay.proofs.ListLaws.{all_true, all_both, all_to_map, map-map, map_same}
+use Rattle.log_replay.proofs.ListLaws.{all_true, all_to_map, map-map, map_same}
 use Rattle.log_replay.proofs.RowLaws.{name_of-right, rising_head, rising_tail}
 use Rattle.txn_core.specs.Plans.{record_planned}
 use Rattle.txn_core.proofs.ViewLaws.{searched}

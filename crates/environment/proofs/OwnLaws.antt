@@ -251,7 +251,6 @@ module _ {D : Type 0} (observable : Bool) (history : D → History) (sync_out re
     changes_are = planned.changes_are;
   }
 
-
 pub ready_so : (t : Taken) (P : Type 0) → t ≡ Ready → IfReady t P → P
 ready_so t P is h = subst (λ (x : Taken). IfReady x P) is h
 

@@ -1,5 +1,5 @@
 -- What a call on records answers, wherever its cursor stands: no limit and no fault.
-use Rattle.std.proofs.Common.{◌≡◌, ℕ, Bool, true, false, cond, List, [], ◌∷◌, Option, None, Some, map, refl}
+use Rattle.std.proofs.Common.{◌≡◌, ℕ, Bool, true, false, cond, List, [], ◌∷◌, Option, None, Some, refl}
 use Rattle.je_order.specs.declared.name.Name.{Name}
 use Rattle.store_model.specs.declared.answer.Answer.{Answer}
 use Rattle.store_model.specs.declared.answer.Answer.TheVariants.{Done, Rec, Count as Counted, NotFound, KeyExist, KeyEmpty, NoPosition}
@@ -7,8 +7,8 @@ use Rattle.store_model.specs.declared.call.Call.{Call}
 use Rattle.store_model.specs.declared.call.Call.TheVariants.{Get, GetBoth, Put, Delete, Count, Cur, CPutCur, CDel, CPut}
 use Rattle.store_model.specs.declared.kind.Kind.{Kind}
 use Rattle.store_model.specs.Reads.{at_name, seen}
-use Rattle.store_model.specs.Records.{Evaluated, all_of_key, conclude, deleted, early_of, empty_if, evaluation, exactly, first_of_key, found, look_at_key, look_at_place, look_of, look_of_motion, look_of_put, place_needs, place_refusal, put_at_place, put_unless, tested, tested_for, unless_early, went}
-use Rattle.store_model.specs.Store.{Pair}
+use Rattle.store_model.specs.Records.{Evaluated, conclude, deleted, empty_if, evaluation, found, look_of, place_needs, place_refusal, put_at_place, put_unless, tested, tested_for, unless_early, went}
+use Rattle.store_model.specs.Store.{Pair, name_of}
 use Rattle.je_answers.specs.declared.active.Active.{Active}
 use Rattle.je_answers.specs.Standing.{Standing}
 use Rattle.je_answers.specs.Views.{Target, outcome_of, view_of}
@@ -57,7 +57,7 @@ module _ (P : Answer → Type 0) (h : HoldsOf P) where
   of_concluded kind (Cur cursor motion rmw) at taken may = of_went kind at (tested kind motion taken)
   of_concluded kind (CPutCur cursor value) at taken may = of_put_here at value
   of_concluded kind (CDel cursor) at taken may = of_deleted kind at taken
-  of_concluded kind (CPut cursor key value mode) at taken may = of_put kind at (Some (Rattle.store_model.specs.Store.name_of kind (key, value))) key value taken
+  of_concluded kind (CPut cursor key value mode) at taken may = of_put kind at (Some (name_of kind (key, value))) key value taken
   of_concluded kind call at taken may = absurd may
 
   -- where the cursor's place alone answers it

@@ -2,7 +2,7 @@
 use Rattle.std.proofs.Common.{◌≡◌, ◌≢◌, ◌∙◌, ℕ, ◌<◌, ◌^◌, ◌==◌, ◌&&◌, nat_le, nat_lt, Bool, true, false, cond, List, [], ◌∷◌, ◌++◌, map, Option, None, Some, is_eq, refl, ap, sym, subst}
 use Rattle.std.specs.Option.{option_and_then, option_or}
 use Rattle.std.specs.List.{AllByRecursion}
-use Rattle.std.proofs.lemmas.Bool.{and_parts, cond_both, cases_Bool}
+use Rattle.std.proofs.lemmas.Bool.{and_parts, cond_both}
 use Rattle.std.proofs.lemmas.Option.{none-some, same_Some}
 use Rattle.je_order.specs.declared.name.Name.{Name}
 use Rattle.je_order.specs.declared.txn_id.TxnId.{TxnId}
@@ -20,9 +20,9 @@ use Rattle.log_buffer.specs.declared.log_pos.LogPos.{LogPos}
 use Rattle.log_trees.specs.Placed.{Placed, entry_at, placed}
 use Rattle.log_trees.specs.Changes.{LoggedChange, Written, is_of, last_of, unwritten}
 use Rattle.log_trees.specs.Images.{NamedLsn}
-use Rattle.log_trees.specs.Trees.{data_in, data_of, loaded, rows_of_root, rows_of_roots, slots_of_tree}
+use Rattle.log_trees.specs.Trees.{data_in, loaded, rows_of_root, rows_of_roots, slots_of_tree}
 use Rattle.log_trees.proofs.Staying.{all_flat}
-use Rattle.log_meaning.specs.Redo.{Redo, emptied, from, nothing_redone, pushed, redo_all, redo_entry, redone, set_at, unset_at}
+use Rattle.log_meaning.specs.Redo.{Redo, from, nothing_redone, pushed, redo_all, redo_entry, redone, set_at, unset_at}
 use Rattle.log_meaning.specs.Checkpoint.{last_checkpoint, restarted}
 use Rattle.log_replay.specs.Rows.{Row, Rows, catalog_number, data_at}
 use Rattle.log_replay.specs.Logging.{number_named}
@@ -33,7 +33,6 @@ use Rattle.record_map.specs.Cells.{IsRising, value_at}
 use Rattle.record_tree.specs.Occupied.{AllCells, Occupied, value_in, write_in}
 use Rattle.tree_images.proofs.Neighbours.{own_values}
 use Rattle.store_model.specs.declared.isolation.Isolation.{Isolation}
-use Rattle.store_model.specs.declared.isolation.Isolation.TheVariants.{ReadUncommitted, ReadCommitted, RepeatableRead, Serializable}
 use Rattle.store_model.specs.declared.record_change.RecordChange.{RecordChange}
 use Rattle.store_model.specs.Evaluation.{plain_name}
 use Rattle.store_model.specs.Needs.{changed_name}

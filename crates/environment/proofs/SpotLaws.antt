@@ -1,5 +1,5 @@
 -- What refuses a call at a cursor late, and where its cursor stands.
-use Rattle.std.proofs.Common.{◌≡◌, ◌∙◌, ℕ, List, [], Bool, true, false, cond, Option, None, Some, is_some, option_map, refl, ap, sym, subst}
+use Rattle.std.proofs.Common.{◌≡◌, ◌∙◌, ℕ, true, false, cond, Option, None, Some, is_some, option_map, refl, ap, sym, subst}
 use Rattle.std.specs.Prelude.{IsSome}
 use Rattle.std.proofs.lemmas.Option.{none-some}
 use Rattle.store_model.specs.declared.answer.Answer.{Answer}
@@ -12,7 +12,7 @@ use Rattle.store_model.specs.declared.store.Database.{Database}
 use Rattle.store_model.specs.Refusals.{database_refuses, or_refusal}
 use Rattle.je_answers.specs.declared.active.Active.{Active}
 use Rattle.je_answers.specs.Standing.{Standing, active_of, database_at, place_at}
-use Rattle.je_answers.specs.Views.{Target, cursor_target, target, target_at, target_of}
+use Rattle.je_answers.specs.Views.{cursor_target, target, target_at, target_of}
 use Rattle.je_answers.specs.Refusals.{cursor_refusal, late_refusal, number_refusal, target_refusal}
 use Rattle.log_replay.specs.Rows.{Rows}
 use Rattle.open_cursors.specs.declared.open_cursor.OpenCursor.{OpenCursor}

@@ -62,7 +62,16 @@ impl<D: Disk> Environment<D> {
             .take(alloc, session, line, call, db, found.kind, needs, true);
         match taken {
             Ok(Taken::Ready) => {
-                self.finish_again(alloc, session, txn, level, found.number, answer, changes, moves)
+                self.finish_again(
+                    alloc,
+                    session,
+                    txn,
+                    level,
+                    found.number,
+                    answer,
+                    changes,
+                    moves,
+                )
             }
             Ok(
                 Taken::Stopped {

@@ -141,7 +141,9 @@ impl<D: Disk> Environment<D> {
             Some(active) => {
                 let (txn, level) = (active.txn, active.level);
                 if active.is_auto {
-                    return self.access_again(alloc, session, txn, level, line, db, found, call, None);
+                    return self.access_again(
+                        alloc, session, txn, level, line, db, found, call, None,
+                    );
                 }
                 self.access_own(alloc, session, txn, level, line, db, found, call, None)
             }

@@ -1,4 +1,3 @@
-use Rattle.std.proofs.Common.{sym}
 use Rattle.environment.proofs.PlacesLaws.{moves_none, moves_some}
 use Rattle.environment.proofs.moving.move_of.Goals as goal
 

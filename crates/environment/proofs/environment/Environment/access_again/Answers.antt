@@ -1,8 +1,6 @@
-use Rattle.std.proofs.Common.{◌≡◌, ◌∙◌, List, Option, true, refl, sym, subst}
+use Rattle.std.proofs.Common.{◌∙◌, Option, refl, sym, subst}
 use Rattle.std.specs.Option.{option_copied}
 use Rattle.je_order.specs.declared.name.Name.{Name}
-use Rattle.store_model.specs.declared.need.Need.{Need}
-use Rattle.sessions.specs.Taking.{HasTaken}
 use Rattle.environment.specs.Access.{Moves}
 use Rattle.environment.proofs.OwnLaws.{accesses_come, accessed_comes, accesses_near, not_taken, reach_with, ready_so, stopped_accesses, stopped_cause, stopped_so, taken_up}
 use Rattle.environment.proofs.AgainLaws.{bare_own}

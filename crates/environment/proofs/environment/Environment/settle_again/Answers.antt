@@ -34,7 +34,7 @@ returns-in-Ok-clause-comes g c before most line st a asked t w moves =
     let taken = taken_again g.D.Disk.observable g.D.Disk.history g.D.Disk.sync_out g.D.Disk.read_out g.D.Disk.read_of g.D.Disk.faults most before c.args.self.now st c.args.session c.args.txn c.args.level a asked t c.args.all Done w
     c.commit_own.new.self.sessions c.commit_own.ensures.sessions in
     settled_again g.D.Disk.observable g.D.Disk.history g.D.Disk.sync_out g.D.Disk.read_out g.D.Disk.read_of g.D.Disk.faults most before c.args.self.now st c.args.session c.args.txn c.args.level a asked t c.args.all c.commit_own.new.self
-    c.move_by.new.sessions c.end.new.self c.less-records.result line c.told.result w c.in-Ok.ensures.done 
+    c.move_by.new.sessions c.end.new.self c.less-records.result line c.told.result w c.in-Ok.ensures.done
     (c.move_by.ensures (with_locks a (all_got a.txn (needs_in st a asked t) st.locks.at) (with_own a.txn.0 w.pushed.more st)) a asked (outcome_of st a asked t).place (its_moves c.args.session a st.actives asked (outcome_of st a asked t).place c.args.moves w.up.its moves)
     (c.answered.ensures.stands a (needs_in st a asked t) (with_own a.txn.0 w.pushed.more st) w.its_txn w.its_level taken))
     c.end.ensures.stands
