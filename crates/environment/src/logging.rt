@@ -72,7 +72,14 @@ impl<D: Disk> Environment<D> {
             return Err(AllocError);
         }
         let first = self.engine.trees.log.end();
-        make_room_at(&mut self.written.by_txn, alloc, txn, names.len(), had, first)?;
+        make_room_at(
+            &mut self.written.by_txn,
+            alloc,
+            txn,
+            names.len(),
+            had,
+            first,
+        )?;
         let wrote = write_changes(&mut self.engine.trees, alloc, txn, changes, owed)?;
         self.engine.trees.are_ordered();
         match wrote {
