@@ -1,6 +1,5 @@
 -- A call on records that is a transaction of its own, among others: where its transaction ends, or waits.
 use mathlib.Core.Path.{fun_ext}
-use Rattle.log_trees.specs.Placed.{placed}
 use Rattle.txn_log.proofs.AtStandingLaws.{same_under}
 use Rattle.std.proofs.Common.{◌≡◌, ◌∙◌, ℕ, suc, ◌≤◌, ◌<◌, zero, ◌+◌, ◌==◌, Bool, true, false, cond, not, List, [], ◌∷◌, ◌++◌, Option, None, Some, refl, ap, sym, subst, inl, ⊎_elim, arith}
 use Rattle.std.specs.List.{AllByRecursion}

@@ -1,6 +1,5 @@
 -- How a change of the catalog ends where others are under way.
 use Rattle.std.proofs.Common.{◌≡◌, ◌∙◌, ◌⊎◌, inl, ◌≤◌, ◌<◌, ◌+◌, ℕ, Bool, true, false, true≢false, cond, nat_lt, List, [], ◌∷◌, Option, None, Some, Ok, Err, ap, refl, sym, subst, arith}
-use Rattle.log_trees.specs.Placed.{placed}
 use Rattle.txn_log.proofs.AtStandingLaws.{same_under}
 use Rattle.std.specs.Prelude.{IfNone, IfSome}
 use mathlib.Core.Path.{fun_ext}

@@ -5,7 +5,6 @@ use Rattle.txn_log.specs.Checkpoints.{EndsFrom}
 use Rattle.engine.proofs.CallEntries.{commit_no_end}
 use Rattle.std.proofs.Common.{◌≡◌, ◌≢◌, ◌⊎◌, inl, inr, ℕ, zero, suc, ◌+◌, ◌≤◌, ◌<◌, ◌==◌, Bool, true, false, true≢false, cond, not, List, [], ◌∷◌, ◌++◌, filter, length, map, count_by, Option, None, Some, Ok, Bor, refl, ap, ap₂, sym, ◌∙◌, subst, arith}
 use Rattle.txn_log.proofs.Giving.{transaction_gives, transaction_on, still_gives}
-use Rattle.log_trees.specs.Placed.{placed}
 use Rattle.environment.proofs.Bases.{begun_with, lives_on}
 use Rattle.std.specs.List.{AllByRecursion}
 use Rattle.std.specs.Option.{option_copied}

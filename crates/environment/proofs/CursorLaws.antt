@@ -1,15 +1,11 @@
 -- Calls that open and close cursors.
-use Rattle.std.proofs.Common.{◌≡◌, ◌∙◌, ℕ, ◌==◌, ◌+◌, ◌≤◌, Bool, true, false, true≢false, cond, not, filter, inl, List, [], ◌∷◌, ◌++◌, Option, None, Some, is_some, Result, Ok, Err, refl, ap, sym, subst, arith}
+use Rattle.std.proofs.Common.{◌≡◌, ◌∙◌, ℕ, ◌==◌, Bool, true, false, true≢false, cond, not, filter, inl, List, [], ◌∷◌, ◌++◌, Option, None, Some, is_some, Ok, refl, ap, sym, subst, arith}
 use Rattle.std.proofs.Common.{Bor}
 use Rattle.std.specs.Option.{option_copied, option_map, IfSome}
-use Rattle.std.specs.declared.alloc.AllocError.{AllocError}
-use Rattle.std.proofs.lemmas.Option.{none-some}
 use Rattle.je_disk.specs.Moments.{History}
-use Rattle.je_order.specs.declared.name.Name.{Name}
 use Rattle.store_model.specs.declared.place.Place.{Place}
 use Rattle.store_model.specs.declared.store.Database.{Database}
 use Rattle.store_model.specs.declared.change.Change.{Change}
-use Rattle.store_model.specs.declared.victim.Victim.{Victim}
 use Rattle.store_model.specs.declared.answer.Answer.{Answer}
 use Rattle.store_model.specs.declared.answer.Answer.TheVariants.{Done, IdsEnded, NoCursor, NoDatabase, NameTaken, DiskFault}
 use Rattle.store_model.specs.declared.call.Call.{Call}
@@ -34,21 +30,19 @@ use Rattle.db_catalog.specs.Planning.{IsFoundAs, found_in}
 use Rattle.txn_log.specs.Committing.{MakesStore}
 use Rattle.engine.specs.Limits.{IsWithin}
 use Rattle.engine.specs.Steps.{HasStepCause}
-use Rattle.engine.proofs.CalmAnswers.{IsCalm, faultless, unnumbered}
+use Rattle.engine.proofs.CalmAnswers.{IsCalm, faultless}
 use Rattle.environment.specs.declared.environment.Environment.{Environment}
-use Rattle.environment.specs.declared.outcome.Outcome.{Outcome}
-use Rattle.environment.specs.declared.to_open.ToOpen.{ToOpen}
 use Rattle.environment.specs.declared.to_open.ToOpen.TheVariants.{Refused, Opens}
 use Rattle.environment.specs.Cursors.{OpensOrCloses, IsOpening, IsToOpen}
 use Rattle.environment.specs.Limits.{owing_after, written_evaluated, written_performed}
-use Rattle.environment.specs.Steps.{ComesToAnswer, HasCome, HasNotCome, HasStepped, IsLogStep, PerformsAnswer, StandsAt}
+use Rattle.environment.specs.Steps.{HasCome, HasNotCome, HasStepped, PerformsAnswer, StandsAt}
 use Rattle.environment.specs.Whole.{CanGoOn, HasLimit, disk_of, reach_of}
 use Rattle.environment.proofs.Answering.{owed_is, within_more}
 use Rattle.environment.proofs.BeginLaws.{sessions_same}
 use Rattle.environment.proofs.EarlyLaws.{not_early, same_buffer}
 use Rattle.environment.proofs.EndingLaws.{near_owed}
 use Rattle.environment.proofs.FinishLaws.{elsewhere_at, in_sessions}
-use Rattle.environment.proofs.LateLaws.{IsThere, absent_by, number_by, number_ended, number_is_none, there_by}
+use Rattle.environment.proofs.LateLaws.{IsThere, number_by, number_ended, number_is_none, there_by}
 use Rattle.environment.proofs.RefusedLaws.{refused_late}
 
 -- what is told of what is there

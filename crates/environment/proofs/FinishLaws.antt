@@ -1,16 +1,14 @@
 -- A call of a transaction under way that changes nothing.
 use mathlib.Core.Path.{fun_ext}
-use Rattle.std.proofs.Common.{◌≡◌, ◌≢◌, ◌∙◌, ℕ, ◌==◌, Bool, true, false, cond, List, [], ◌∷◌, ◌++◌, filter, length, Option, None, Some, inl, inr, ◌⊎◌, ap, refl, sym, subst}
+use Rattle.std.proofs.Common.{◌≡◌, ◌≢◌, ◌∙◌, ℕ, ◌==◌, Bool, true, false, cond, List, [], ◌++◌, filter, length, Option, None, Some, inl, inr, ◌⊎◌, ap, refl, sym, subst}
 use Rattle.std.proofs.lemmas.Bool.Decides.{eqb_tells}
 use Rattle.std.proofs.lemmas.List.{append-nil}
 use Rattle.je_disk.specs.States.{State}
 use Rattle.je_disk.specs.Moments.{History, now}
-use Rattle.je_order.specs.declared.name.Name.{Name}
 use Rattle.je_order.specs.declared.txn_id.TxnId.{TxnId}
 use Rattle.store_model.specs.declared.answer.Answer.{Answer}
 use Rattle.store_model.specs.declared.answer.Fault.TheVariants.{Disk}
 use Rattle.store_model.specs.declared.call.Call.{Call}
-use Rattle.store_model.specs.declared.kind.Kind.{Kind}
 use Rattle.store_model.specs.declared.need.Need.{Need}
 use Rattle.store_model.specs.declared.place.Place.{Place}
 use Rattle.store_model.specs.declared.record_change.RecordChange.{RecordChange}
@@ -18,7 +16,7 @@ use Rattle.store_model.specs.declared.victim.Victim.{Victim}
 use Rattle.store_model.specs.Records.{Evaluated}
 use Rattle.je_answers.specs.declared.active.Active.{Active}
 use Rattle.je_answers.specs.Standing.{LockState, Standing, with_at}
-use Rattle.je_answers.specs.Views.{Target, changes_on, needs_in, outcome_of, view_of}
+use Rattle.je_answers.specs.Views.{Target, changes_on, needs_in, outcome_of}
 use Rattle.je_answers.specs.Locking.{all_got}
 use Rattle.je_answers.specs.Events.{IsDone, IsTaken}
 use Rattle.je_answers.specs.After.{after_changes, after_taking, answered, closed, with_locks, with_outcome}

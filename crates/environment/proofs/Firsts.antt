@@ -1,5 +1,5 @@
 -- The LSN that each transaction logged nothing before.
-use Rattle.std.proofs.Common.{◌≡◌, ◌<◌, ◌≤◌, ◌+◌, ℕ, Bool, true, false, cond, List, [], ◌∷◌, ◌++◌, Option, None, Some, map, refl, sym, subst, ◌∙◌, arith, ⊎_elim}
+use Rattle.std.proofs.Common.{◌≡◌, ◌<◌, ◌≤◌, ℕ, Bool, true, false, cond, List, [], ◌∷◌, Option, None, Some, map, refl, sym, subst, ◌∙◌, arith, ⊎_elim}
 use Rattle.std.specs.Prelude.{◌≢◌}
 use Rattle.std.specs.Option.{option_map_or}
 use Rattle.std.specs.List.{AllByRecursion}
@@ -12,14 +12,14 @@ use Rattle.lock_table.specs.Table.{at_txn}
 use Rattle.log_file.specs.Log.{Log}
 use Rattle.log_buffer.specs.declared.log_pos.LogPos.{LogPos}
 use Rattle.log_replay.specs.Rows.{Rows}
-use Rattle.log_trees.specs.Changes.{LoggedChange, changes_from}
+use Rattle.log_trees.specs.Changes.{LoggedChange}
 use Rattle.log_meaning.proofs.Lasts.{all_from}
 use Rattle.record_tree.specs.declared.tree_name.TreeName.{TreeName}
 use Rattle.standing_laws.specs.Right.{txn_id}
 use Rattle.txn_log.specs.Gives.{GivesRecordsWith}
 use Rattle.txn_log.specs.Own.{is_live, own_by}
 use Rattle.txn_log.proofs.OwnLaws.{live_active, live_parts}
-use Rattle.txn_views.specs.Laws.{own_name, own_names}
+use Rattle.txn_views.specs.Laws.{own_name}
 use Rattle.environment.specs.declared.written.OwnNames.{OwnNames}
 use Rattle.environment.specs.Valid.{waiting_in}
 use Rattle.environment.specs.Written.{AreFirstsOf, AreNamesOf, first_at, first_for, first_in, names_at}

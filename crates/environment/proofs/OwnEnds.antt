@@ -8,7 +8,6 @@ use Rattle.std.proofs.lemmas.Bool.Decides.{eqb_tells}
 use Rattle.std.proofs.lemmas.List.{length-map}
 use Rattle.je_disk.specs.Moments.{History, now}
 use Rattle.je_order.specs.Counts.{HasRisen}
-use Rattle.je_order.specs.declared.name.Name.{Name}
 use Rattle.je_order.specs.declared.txn_id.TxnId.{TxnId}
 use Rattle.log_entry.specs.Body.{IsEntry}
 use Rattle.record_tree.specs.Logged.{entry_for, is_made, most_entries}
@@ -20,7 +19,6 @@ use Rattle.store_model.specs.declared.answer.Answer.TheVariants.{Logged, LogFull
 use Rattle.store_model.specs.declared.answer.Fault.TheVariants.{Disk}
 use Rattle.store_model.specs.declared.call.Call.{Call}
 use Rattle.store_model.specs.declared.change.Change.{Change}
-use Rattle.store_model.specs.declared.kind.Kind.{Kind}
 use Rattle.store_model.specs.declared.need.Need.{Need}
 use Rattle.store_model.specs.declared.record_change.RecordChange.{RecordChange}
 use Rattle.store_model.specs.declared.victim.Victim.{Victim}
@@ -32,7 +30,7 @@ use Rattle.store_model.specs.Store.{Pair, change_in}
 use Rattle.db_catalog.specs.declared.found_db.FoundDb.{FoundDb}
 use Rattle.je_answers.specs.declared.active.Active.{Active}
 use Rattle.je_answers.specs.Standing.{Standing, with_at}
-use Rattle.je_answers.specs.Views.{Target, changes_at, changes_on, needs_in, outcome_of, view_of}
+use Rattle.je_answers.specs.Views.{Target, changes_at, changes_on, needs_in, outcome_of}
 use Rattle.je_answers.specs.Locking.{all_got}
 use Rattle.je_answers.specs.Events.{IsDone, IsLogged, IsTaken, log_limit}
 use Rattle.je_answers.specs.After.{Fate, after_changes, after_fate, after_taking, answered, closed, fate_of, faulted, with_locks, with_outcome}

@@ -1,6 +1,5 @@
 -- Where an environment stands when its log was written out or synced, or the disk failed.
 use Rattle.std.proofs.Common.{◌≡◌, ℕ, suc, ◌∙◌, Bool, false, List, Option, None, Some, refl, sym, subst, ◌≤◌}
-use Rattle.log_trees.specs.Placed.{placed}
 use Rattle.txn_log.proofs.AtStandingLaws.{same_under}
 use Rattle.je_disk.specs.States.{State}
 use Rattle.je_order.specs.declared.txn_id.TxnId.{TxnId}

@@ -1,5 +1,4 @@
 use Rattle.store_model.specs.declared.call.Call.TheVariants.{Dup}
-use Rattle.environment.proofs.EarlyLaws.{same_buffer, same_reach}
 use Rattle.environment.proofs.environment.Environment.duplicate_cursor.Goals as goal
 
 pub open_unless-requires-clause-here : goal.open_unless-requires-clause-here
