@@ -15,11 +15,11 @@ returns-then-self-session-clause-given g c = λ lines has.
     let x = c.args.self.now in
     given_skipped x.recorded.journal.items x.memory_ended x.stopped x.steps_stopped lines c.args.session c.args.line c.args.call has c.if-self-session.true
 
-pub execute-requires-clause-here : goal.execute-requires-clause-here
-execute-requires-clause-here g c =
+pub execute-requires : goal.execute-requires
+execute-requires g c =
     let h = c.requires.here in
     let within : c.args.session < 256 = omega arith in
-    (h.0, h.1, h.2 (not_halted c.args.self.now c.args.session c.requires.flags within c.if-self-session.false))
+    record { here = (h.0, h.1, h.2 (not_halted c.args.self.now c.args.session c.requires.flags within c.if-self-session.false)) }
 
 pub end_session-requires-clause-here : goal.end_session-requires-clause-here
 end_session-requires-clause-here g c =

@@ -16,6 +16,11 @@ loop-session-init g c =
       given = λ lines has. has;
     }
 
+pub next_ready-requires : goal.next_ready-requires
+next_ready-requires g c =
+    let h = c.requires.here in
+    record { here = (h.0, c.loop-session.invariant.goes_on h.0 h.1) }
+
 pub go_on-requires-clause-here : goal.go_on-requires-clause-here
 go_on-requires-clause-here g c =
     let h = c.requires.here in
