@@ -1,2 +1,2 @@
-pub mod Noted
+pub mod Numbers
 pub mod Steps

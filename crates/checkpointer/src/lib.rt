@@ -1,15 +1,14 @@
-//! The checkpoints of an environment: which nodes are noted, which of them comes next, and when the end may be logged.
-//! It stands on `record_tree` for the nodes of trees, of which it knows only which are dirty. It has no log. A checkpoint
-//! under way has noted the nodes that were dirty as it began, and those above them; each is logged if it is dirty as its
-//! turn comes, the lowest level first. Upward it promises that an end is logged only where no noted node is dirty and no node
-//! lacks what was logged before this life of the environment, and that its redo LSN is above neither its own beginning nor
-//! the first entry of a transaction under way.
+//! The checkpoints of an environment: their numbers, their steps, and when the end may be logged. It stands on `record_tree` for
+//! the trees, which know the nodes that are noted: those that were dirty as the checkpoint began, those above them, and those
+//! that were split off a noted one or put above a noted root since. It has no log. Upward it promises that a flush
+//! logs the next node that is noted and dirty, the lowest level first, that an end is logged only where there is none, and that its redo LSN is
+//! above neither its own beginning nor the first entry of a transaction under way, nor what an image of a node lacks.
 #![tactic(auto)]
 
 pub mod checkpointer;
-mod choosing;
 pub mod ended;
 pub mod finish;
+mod numbers;
 mod stepping;
 pub mod under_way;
 

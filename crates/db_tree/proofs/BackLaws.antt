@@ -11,7 +11,7 @@ use Rattle.tree_nodes.specs.Nodes.{NodeRow, least}
 use Rattle.tree_nodes.specs.Levels.{row_of, AreParts, HasPutAt}
 use Rattle.db_tree.specs.declared.node_split.NodeSplit.{NodeSplit}
 use Rattle.db_tree.specs.Splitting.{AreSameByName, IsSplitAt, AreSplit}
-use Rattle.db_tree.proofs.Seen.{same_lists}
+use Rattle.tree_nodes.proofs.RisingLists.{same_lists}
 
 -- ---- levels that are the same
 

@@ -1,7 +1,6 @@
 -- Images that are made of a node's content show it.
 use Rattle.std.proofs.Common.{◌≡◌, ◌⊎◌, List, [], ◌∷◌, ◌++◌, Bool, true, false, cond, not, ◌&&◌, Option, None, Some, IsSome, filter, option_map, find, refl, ap, ap₂, sym, subst, ◌∙◌, inl, inr, Ordering, Less, Equal, Greater, is_eq, is_gt, Bor, IfSome, option_copied}
 use Rattle.std.specs.Ordering.{is_ge}
-use Rattle.std.specs.List.{AllByRecursion}
 use Rattle.std.specs.List.Sorted.{IsStrictlySortedBy}
 use Rattle.std.specs.Map.{keys_of}
 use Rattle.std.proofs.lemmas.Bool.{true≢false}
@@ -21,6 +20,7 @@ use Rattle.record_map.proofs.NameLaws.{same_or_other, name_same, other_stays, sa
 use Rattle.tree_nodes.specs.declared.node.Node.{Node}
 use Rattle.tree_nodes.specs.Nodes.{NodeRow, IsUpTo, IsOver, low_behind}
 use Rattle.tree_nodes.specs.Levels.{row_of}
+use Rattle.tree_nodes.proofs.RisingLists.{none_behind}
 use Rattle.db_tree.specs.Images.{record_in, lsn_in, IsBin}
 use Rattle.db_tree.specs.Content.{held_by, lsn_of, lsn_under, slot_for, record_slots}
 use Rattle.db_tree.specs.Laws.{BinImagesShowCells}
@@ -140,12 +140,6 @@ passed_is {V} p (e ∷ row) x h = by_test (p e.0) (passed_is p row x) h
     by_test false rest there = more (is_eq (name_cmp x e.0)) (rest there)
 
 -- ---- BINs
-
--- a name before all others has nothing
-pub none_behind : {V : Type 0} (x : Name) (row : List (Name × V)) → AllByRecursion (λ y. name_cmp x y ≡ Less) (keys_of row) → value_at x row ≡ None
-none_behind x [] all = refl
-none_behind x (e ∷ row) all =
-    other_stays x e.0 (Some e.1) (value_at x row) (ap is_eq all.0) ∙ none_behind x row all.1
 
 -- the slots of cells that pass a test show what is held under a name that passes it
 shows_held : (p : Name → Bool) (cells : List (Name × Cell)) (x : Name) → IsStrictlySortedBy name_cmp (keys_of cells) → p x ≡ true →

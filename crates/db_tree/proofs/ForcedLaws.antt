@@ -28,7 +28,7 @@ use Rattle.db_tree.specs.Waiting.{is_same_name, is_forced, is_among, waits_in, w
 use Rattle.db_tree.proofs.BackLaws.{same_levels}
 use Rattle.db_tree.proofs.Marking.{marked_or_split}
 use Rattle.db_tree.proofs.Over.{over_low}
-use Rattle.db_tree.proofs.Seen.{same_lists}
+use Rattle.tree_nodes.proofs.RisingLists.{same_lists}
 use Rattle.db_tree.proofs.SplitLaws.{level_cases}
 use Rattle.db_tree.proofs.WaitLaws.{lows_same, keys_at, put_lows, filter_ext}
 

@@ -66,3 +66,5 @@ pub mod NodeSteps
 pub mod WaitingNodes
 -- Nodes that are put while a log is read again.
 pub mod LoadingLaws
+-- Nodes that are noted.
+pub mod NotingLaws

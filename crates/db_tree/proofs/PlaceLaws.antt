@@ -31,7 +31,7 @@ use Rattle.db_tree.specs.Waiting.{is_among, logged_for, still_waiting, waiting_o
 use Rattle.db_tree.proofs.ForcedLaws.{force_lows, clear_waiting, force_begin}
 use Rattle.db_tree.proofs.ImageLaws.{images_kept, sizes_are, number_kept}
 use Rattle.db_tree.proofs.Records.{kept_cell}
-use Rattle.db_tree.proofs.Seen.{same_lists}
+use Rattle.tree_nodes.proofs.RisingLists.{same_lists}
 use Rattle.db_tree.proofs.ShapeLaws.{shape_is}
 use Rattle.db_tree.proofs.WaitCounts.{count_both}
 

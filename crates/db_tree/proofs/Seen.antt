@@ -1,70 +1,24 @@
 -- What transactions see of cells.
-use Rattle.std.proofs.Common.{◌≡◌, ◌⊎◌, ℕ, List, [], ◌∷◌, Bool, true, false, cond, Option, None, Some, IsSome, option_map, is_some, refl, ap, ap₂, sym, subst, ◌∙◌, inl, inr, Ordering, Less, Equal, Greater, is_eq, Box}
+use Rattle.std.proofs.Common.{◌≡◌, ◌⊎◌, ℕ, List, [], ◌∷◌, Bool, true, false, cond, Option, None, Some, IsSome, option_map, is_some, refl, ap, ap₂, sym, subst, ◌∙◌, inl, inr, Less, is_eq, Box}
 use Rattle.std.specs.Global.{Global}
 use Rattle.std.specs.List.{AllByRecursion}
 use Rattle.std.specs.List.Sorted.{IsStrictlySortedBy}
 use Rattle.std.specs.Map.{keys_of}
-use Rattle.std.specs.Ordering.{ordering_reverse}
 use Rattle.std.proofs.lemmas.Bool.{true≢false}
-use Rattle.std.proofs.lemmas.Option.{none-some, same_Some}
 use Rattle.je_order.specs.Order.{name_cmp}
 use Rattle.je_order.specs.declared.name.Name.{Name}
 use Rattle.node_core.specs.declared.slot.Version.{Version}
 use Rattle.node_core.specs.declared.slot.Version.TheVariants.{There, Deleted, Unset}
 use Rattle.node_core.specs.Changes.{is_committed}
-use Rattle.record_map.specs.Held.{names_are_ordered}
 use Rattle.record_map.specs.declared.cell.Cell.{Cell}
 use Rattle.record_map.specs.declared.write.Write.{Write}
 use Rattle.record_map.specs.Cells.{value_at, IsRising, committed, with_committed, with_write, committed_by}
-use Rattle.record_map.proofs.NameLaws.{same_or_other, name_same, name_exact, other_stays, same_gets}
+use Rattle.record_map.proofs.NameLaws.{same_or_other, name_same, other_stays}
 use Rattle.record_tree.specs.Occupied.{Occupied, occupied_by, is_occupied, if_occupied, after_commit, after_abort, value_in, write_in, committed_value}
 use Rattle.db_tree.specs.Trees.{HasCell, cell_or_fresh, given_up}
 use Rattle.db_tree.specs.Seen.{occupied, seen, with_change, with_value}
 use Rattle.db_tree.specs.Stored.{with_logged}
-use Rattle.db_tree.proofs.Contents.{none_behind}
-
--- ---- rising lists
-
-below_all : (q y : Name) (names : List Name) → name_cmp q y ≡ Less → AllByRecursion (λ z. name_cmp y z ≡ Less) names → AllByRecursion (λ z. name_cmp q z ≡ Less) names
-below_all q y [] less all = tt
-below_all q y (z ∷ names) less all = (names_are_ordered.trans q y z less all.0, below_all q y names less all.1)
-
-head_found : {V : Type 0} (e : Name × V) (row : List (Name × V)) → value_at e.0 (e ∷ row) ≡ Some e.1
-head_found e row = same_gets e.0 (Some e.1) (value_at e.0 row)
-
-less_first : {V : Type 0} (q : Name) (e : Name × V) (row : List (Name × V)) → IsRising (e ∷ row) → name_cmp q e.0 ≡ Less → value_at q (e ∷ row) ≡ None
-unfolding IsStrictlySortedBy
-less_first q e row up less = none_behind q (e ∷ row) (less, below_all q e.0 (keys_of row) less up.0)
-
-tails_same : {V : Type 0} (e f : Name × V) (a b : List (Name × V)) → e.0 ≡ f.0 → IsRising (e ∷ a) → IsRising (f ∷ b) → ((q : Name) → value_at q (e ∷ a) ≡ value_at q (f ∷ b)) → (q : Name) → value_at q a ≡ value_at q b
-unfolding IsStrictlySortedBy
-tails_same e f a b same up_a up_b h q = by_name (same_or_other q e.0)
-  where
-    by_name : (q ≡ e.0) ⊎ (is_eq (name_cmp q e.0) ≡ false) → value_at q a ≡ value_at q b
-    by_name (inl is) =
-        subst (λ (y : Name). value_at y a ≡ None) (sym is) (none_behind e.0 a up_a.0)
-        ∙ sym (subst (λ (y : Name). value_at y b ≡ None) (sym same ∙ sym is) (none_behind f.0 b up_b.0))
-    by_name (inr apart) =
-        sym (other_stays q e.0 (Some e.1) (value_at q a) apart) ∙ h q ∙ other_stays q f.0 (Some f.1) (value_at q b) (subst (λ (y : Name). is_eq (name_cmp q y) ≡ false) same apart)
-
--- lists that rise, and in which each name finds the same, are the same
-pub same_lists : {V : Type 0} (a b : List (Name × V)) → IsRising a → IsRising b → ((q : Name) → value_at q a ≡ value_at q b) → a ≡ b
-unfolding IsStrictlySortedBy
-same_lists [] [] up_a up_b h = refl
-same_lists [] (f ∷ b) up_a up_b h = absurd (none-some f.1 (h f.0 ∙ head_found f b))
-same_lists (e ∷ a) [] up_a up_b h = absurd (none-some e.1 (sym (h e.0) ∙ head_found e a))
-same_lists {V} (e ∷ a) (f ∷ b) up_a up_b h = by_order (name_cmp e.0 f.0) refl (λ tails. same_lists a b up_a.1 up_b.1 tails)
-  where
-    by_order : (o : Ordering) → name_cmp e.0 f.0 ≡ o → (((q : Name) → value_at q a ≡ value_at q b) → a ≡ b) → e ∷ a ≡ f ∷ b
-    by_order Less is rest = absurd (none-some e.1 (sym (less_first e.0 f b up_b is) ∙ sym (h e.0) ∙ head_found e a))
-    by_order Equal is rest =
-        let same : e.0 ≡ f.0 = name_exact e.0 f.0 is in
-        let there : value_at e.0 (f ∷ b) ≡ Some f.1 = ap (λ (y : Name). value_at y (f ∷ b)) same ∙ head_found f b in
-        let values : e.1 ≡ f.1 = same_Some e.1 f.1 (sym (head_found e a) ∙ h e.0 ∙ there) in
-        ap₂ (λ (x : Name × V) (l : List (Name × V)). x ∷ l) (ap₂ (λ (n : Name) (v : V). (n, v)) same values) (rest (tails_same e f a b same up_a up_b h))
-    by_order Greater is rest =
-        let less : name_cmp f.0 e.0 ≡ Less = names_are_ordered.antisymm f.0 e.0 ∙ ap ordering_reverse is in
-        absurd (none-some f.1 (sym (less_first f.0 e a up_a less) ∙ h f.0 ∙ head_found f b))
+use Rattle.tree_nodes.proofs.RisingLists.{none_behind, same_lists}
 
 -- ---- what is seen
 

@@ -19,7 +19,7 @@ use Rattle.tree_nodes.proofs.LowLaws.{lows_at_is}
 use Rattle.db_tree.specs.NodeImages.{number_in, number_of}
 use Rattle.db_tree.specs.Shapes.{AreAlike}
 use Rattle.db_tree.specs.Waiting.{is_forced, waits_in, waits_at, waiting_in, waiting_of, waiting_raised}
-use Rattle.db_tree.proofs.Seen.{same_lists}
+use Rattle.tree_nodes.proofs.RisingLists.{same_lists}
 use Rattle.db_tree.proofs.SplitLaws.{level_cases}
 
 -- ---- levels with the same lows

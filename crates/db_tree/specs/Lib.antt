@@ -13,3 +13,4 @@ pub mod Placing
 pub mod Numbers
 pub mod NodeSteps
 pub mod Loading
+pub mod Notes

@@ -9,9 +9,10 @@ use Rattle.je_order.specs.declared.name.Name.{Name}
 use Rattle.log_entry.specs.declared.entry.Entry.{Entry}
 use Rattle.record_map.specs.declared.cell.Cell.{Cell}
 use Rattle.record_map.specs.Cells.{value_at, between_edges, upper_edge}
-use Rattle.tree_nodes.specs.Nodes.{NodeRow, IsOver, low_behind}
+use Rattle.tree_nodes.specs.Nodes.{NodeRow, IsOver, least, low_behind}
 use Rattle.tree_nodes.specs.Levels.{row_of, AreParts, HasPutAt}
 use Rattle.db_tree.specs.declared.node_split.NodeSplit.{NodeSplit}
+use Rattle.db_tree.specs.Notes.{is_noted_at}
 use Rattle.db_tree.specs.Content.{child_slot_for, lsn_of, in_image}
 
 -- the node that is split off another one: a copy of it with a number of its own, which does not wait
@@ -47,6 +48,10 @@ AreSameByName old new = (k : ℕ) (x : Name) → value_at x (row_of new k) ≡ v
 
 -- ---- splits that can be taken back
 
+-- a node begins at a name of a level, noted where the node is that it was part of
+abbrev pub IsSplitOff : List NodeRow → List NodeRow → ℕ → Name → Type 0
+IsSplitOff old new level middle = (node : Node) × HasPutAt old new level middle node × ((e : Name × Node) → IsOver (row_of old level) middle e → node.noted ≡ e.1.noted)
+
 -- a node of a level was split: a new node begins at a name at which none began
 pub record IsSplitAt (old new : List NodeRow) (level : ℕ) (middle : Name) : Type 0 where
   pub parts : AreParts old
@@ -54,15 +59,17 @@ pub record IsSplitAt (old new : List NodeRow) (level : ℕ) (middle : Name) : Ty
   pub free : value_at middle (row_of old level) ≡ None
   pub node : Node
   pub put : HasPutAt old new level middle node
+  -- it is noted where the node is that it was part of
+  pub noted : (e : Name × Node) → IsOver (row_of old level) middle e → node.noted ≡ e.1.noted
 
 -- nodes were split, one of each level from one on
 abbrev pub AreSplit : ℕ → List NodeSplit → List NodeRow → List NodeRow → Type 0
 AreSplit level [] old new = new ≡ old
 AreSplit level (split ∷ splits) old new = (mid : List NodeRow) × IsSplitAt old mid level split.middle × AreSplit (suc level) splits mid new
 
--- a root was put above the top, or not
+-- a root was put above the top, noted where the old one is, or not
 abbrev pub IsRaisedFrom : Bool → List NodeRow → List NodeRow → Type 0
-IsRaisedFrom true old new = (0 < length old) × (length new ≡ suc (length old)) × (take (length old) new ≡ old)
+IsRaisedFrom true old new = (0 < length old) × (length new ≡ suc (length old)) × (take (length old) new ≡ old) × (is_noted_at new (length old) least ≡ is_noted_at old (length old - 1) least)
 IsRaisedFrom false old new = new ≡ old
 
 -- nodes were split, and a root was put above them, or not

@@ -9,6 +9,7 @@ ghost use Rattle.tree_nodes.specs.Levels.{row_of};
 ghost use Rattle.tree_nodes.specs.Lows.{lows_of, with_low, with_root};
 ghost use Rattle.db_tree.specs.Images.{Placed};
 ghost use Rattle.db_tree.specs.NodeImages.{number_of};
+ghost use Rattle.db_tree.specs.Notes.{is_noted_at};
 ghost use Rattle.db_tree.specs.Numbers.{AreNumbered, AreNewNumbered};
 ghost use Rattle.db_tree.specs.Splitting.{IsSplitAt, AreSplit, IsRaisedFrom, AreGrown};
 ghost use Rattle.db_tree.specs.Splits.{lows_split, lows_behind, is_raised};
@@ -41,11 +42,12 @@ pub(crate) fn least_name(alloc: Global) -> Result<SortKey, AllocError>
 }
 
 // The root above a root that was split. Until it is logged it is marked.
-fn new_root(number: u64, mark: Lsn) -> Node
+fn new_root(number: u64, mark: Lsn, noted: bool) -> Node
     ensures last { result.last ≡ None }
     ensures from { result.from ≡ Some mark }
     ensures forced { result.forced ≡ false }
     ensures number { result.number ≡ number }
+    ensures noted { result.noted ≡ noted }
 {
     Node {
         number,
@@ -53,7 +55,7 @@ fn new_root(number: u64, mark: Lsn) -> Node
         from: Some(mark),
         slots: 0,
         forced: false,
-        noted: false,
+        noted,
     }
 }
 
@@ -178,7 +180,18 @@ impl DbTree {
         Ok(())
     }
 
-    // Puts a root above the top, which was split.
+    // Whether the node of the level with the low is noted.
+    fn is_noted(&self, level: usize, low: &SortKey) -> bool
+        requires { level < length self.now.levels }
+        ensures { result ≡ is_noted_at self.now.levels level low.now }
+    {
+        match self.levels.at(level, low) {
+            Some(node) => node.noted,
+            None => false,
+        }
+    }
+
+    // Puts a root above the top, which was split. It is noted where the old one is.
     fn raise_root(&mut self, alloc: Global, number: u64, mark: Lsn) -> Result<(), AllocError>
         ensures lows { OnOk result (lows_of self.new.levels ≡ with_root (lows_of self.old.levels)) }
         ensures waits { OnOk result (waiting_of self.new.levels ≡ waiting_raised true (waiting_of self.old.levels)) }
@@ -189,12 +202,14 @@ impl DbTree {
         ensures err { OnErr result (self.new.levels ≡ self.old.levels) }
         ensures tree { OnOk result ((es : Placed) (base : ℕ) (newest : Name → ℕ) → ((x : Name) → (mark ≤ newest x) ⊎ (mark < base)) → IsTree es base newest self.old.levels self.old.cells → IsTree es base newest self.new.levels self.new.cells) }
     {
-        let _height = self.levels.height();
-        self.levels.raise(alloc, new_root(number, mark))
+        let least = least_name(alloc)?;
+        let noted = self.is_noted(self.levels.height() - 1, &least);
+        self.levels.raise(alloc, new_root(number, mark, noted))
     }
 
     /// Splits nodes, one of each level from the BINs on, and puts a root above the root where it is split too. The new
-    /// nodes have the numbers from `first` on, in that order; a new root is marked from `mark` until it is logged. Running out of memory takes back what was split.
+    /// nodes have the numbers from `first` on, in that order; a new root is marked from `mark` until it is logged. A new node is noted where the
+    /// node is that it was part of, and a new root where the old one is. Running out of memory takes back what was split.
     pub fn grow(
         &mut self,
         alloc: Global,

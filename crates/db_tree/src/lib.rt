@@ -18,6 +18,7 @@ pub mod logged_nodes;
 pub mod node_at;
 pub mod node_image;
 pub mod node_split;
+pub mod noting;
 pub mod placing;
 pub mod planning;
 pub mod reading;

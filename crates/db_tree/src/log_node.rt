@@ -6,6 +6,7 @@ ghost use Rattle.record_map.specs.Cells.{value_at, IsRising};
 ghost use Rattle.tree_nodes.specs.Levels.{row_of, AreParts};
 ghost use Rattle.db_tree.specs.Images.{Placed};
 ghost use Rattle.db_tree.specs.NodeSteps.{AreSameNodes, IsNoted};
+ghost use Rattle.db_tree.specs.Notes.{AreNotesKept};
 ghost use Rattle.db_tree.specs.Shapes.{count_in, AreAlike};
 ghost use Rattle.db_tree.specs.Waiting.{waiting_of, still_waiting};
 ghost use Rattle.tree_nodes.specs.Lows.{lows_of};
@@ -55,6 +56,7 @@ fn hand_on(levels: &mut Levels, level: usize, low: &SortKey, node: &Node, at: Ls
     ensures parts { AreParts levels.new }
     ensures alike { AreAlike levels.old levels.new }
     ensures nodes { AreSameNodes levels.old levels.new }
+    ensures notes { AreNotesKept levels.old levels.new }
 {
     let height = levels.height();
     if level + 1 >= height {
@@ -117,12 +119,13 @@ impl DbTree {
         Ok(at)
     }
 
-    /// The last image of the node of a level with the low is at `at`; its mark goes to the node above it.
+    /// The last image of the node of a level with the low is at `at`; its mark goes to the node above it. The same nodes are noted.
     pub fn note_image(&mut self, level: usize, low: &SortKey, at: Lsn)
         ensures cells { self.new.cells ≡ self.old.cells }
         ensures lows { lows_of self.new.levels ≡ lows_of self.old.levels }
         ensures waits { waiting_of self.new.levels ≡ still_waiting (record { level = level; low = low.now } ∷ []) 0 (waiting_of self.old.levels) }
         ensures few { count_in self.new ≤ count_in self.old }
+        ensures notes { AreNotesKept self.old.levels self.new.levels }
         ensures cleared { (n : Kept) → level < length self.old.levels → value_at low.now (row_of self.new.levels level) ≡ Some n → n.from ≡ None }
         ensures noted { IsSome (value_at low.now (row_of self.old.levels level)) → IsNoted self.old.levels self.new.levels level low.now at }
         ensures tree { (es : Placed) (base : ℕ) (newest : Name → ℕ) → ((n : Kept) → value_at low.now (row_of self.old.levels level) ≡ Some n → IsImageOf es self.old.levels (held_by self.old.cells) level (low.now, n) at) → IsTree es base newest self.old.levels self.old.cells → IsTree es base newest self.new.levels self.new.cells }

@@ -11,7 +11,7 @@ ghost use Rattle.db_tree.specs.Images.{Placed};
 ghost use Rattle.db_tree.specs.NodeImages.{number_of};
 ghost use Rattle.db_tree.specs.Content.{child_slot_for, lsn_of, in_image};
 ghost use Rattle.std.specs.List.{slice_get};
-ghost use Rattle.db_tree.specs.Splitting.{children_in, split_off, name_of, cells_within, middle_of, AreSameByName};
+ghost use Rattle.db_tree.specs.Splitting.{children_in, split_off, name_of, cells_within, middle_of, AreSameByName, IsSplitOff};
 ghost use Rattle.db_tree.specs.Trees.{IsTree};
 ghost use Rattle.db_tree.specs.Waiting.{waiting_of};
 
@@ -103,7 +103,7 @@ impl DbTree {
         requires there { level < length self.old.levels }
         requires free { value_at middle (row_of self.old.levels level) ≡ None }
         requires nested { (k : ℕ) → level ≡ suc k → IsSome (value_at middle (row_of self.old.levels k)) }
-        ensures put { OnOk result ((node : Kept) × HasPutAt self.old.levels self.new.levels level middle node) }
+        ensures put { OnOk result (IsSplitOff self.old.levels self.new.levels level middle) }
         ensures lows { OnOk result (lows_of self.new.levels ≡ with_low level middle (lows_of self.old.levels)) }
         ensures waits { OnOk result (waiting_of self.new.levels ≡ waiting_of self.old.levels) }
         ensures number { OnOk result (number_of self.new.levels level middle ≡ number) }

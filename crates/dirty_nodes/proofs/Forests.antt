@@ -10,12 +10,11 @@ use Rattle.std.proofs.lemmas.Cmp.{ranked}
 use Rattle.std.specs.Ordering.{MatchOrdering}
 use Rattle.je_order.proofs.Lists.{all_push, all_weaker}
 use Rattle.record_map.specs.Cells.{IsRising}
-use Rattle.record_tree.specs.declared.node_place.NodePlace.{NodePlace}
 use Rattle.db_tree.specs.declared.tree.DbTree.{DbTree}
 use Rattle.tree_nodes.specs.Levels.{AreParts}
-use Rattle.dirty_nodes.specs.Marks.{AllFrom, AllSince, HaveDirtyPlaces, IsInFront, IsMarkOr}
+use Rattle.dirty_nodes.specs.Marks.{AllFrom, AllSince, IsMarkOr}
 use Rattle.dirty_nodes.specs.Forest.{IsMarkOrIn}
-use Rattle.dirty_nodes.proofs.Marking.{marked_less, marked_more}
+use Rattle.dirty_nodes.proofs.Marking.{marked_less}
 
 abbrev Entries : Type 0
 Entries = List (ℕ × DbTree)
@@ -25,9 +24,6 @@ pub record IsDone (Q : ℕ × DbTree → Type 0) (entries rest : Entries) : Type
   pub done : Entries
   pub is : entries ≡ done ++ rest
   pub all : AllByRecursion Q done
-
-abbrev pub has_dirty_places : List NodePlace → ℕ × DbTree → Type 0
-has_dirty_places places e = HaveDirtyPlaces e.0 e.1.levels places
 
 abbrev pub all_since_in : ℕ → ℕ × DbTree → Type 0
 all_since_in since e = AllSince since e.1.levels
@@ -86,9 +82,6 @@ each_in Q (e ∷ es) d tree all found = by_test (is_eq (nat_cmp d e.0)) refl fou
 
 pub each_get : (Q : ℕ × DbTree → Type 0) (forest : BTreeMap ℕ DbTree) → AllByRecursion Q forest.entries → (d : ℕ) (tree : DbTree) → get nat_cmp forest d ≡ Some tree → Q (d, tree)
 each_get Q forest all d tree found = each_in Q forest.entries d tree all found
-
-pub dirty_more : (front whole : List NodePlace) → IsInFront front whole → (x : ℕ × DbTree) → has_dirty_places front x → has_dirty_places whole x
-dirty_more front whole in_front x have level low n there = marked_more x.0 front whole (record { level = level; low = low; node = n }) in_front (have level low n there)
 
 pub from_less : (a b : ℕ) → b ≤ a → (x : ℕ × DbTree) → all_from_in a x → all_from_in b x
 from_less a b le x all = (λ level low n there. marked_less n.from a b le (all.0 level low n there), all.1, all.2)

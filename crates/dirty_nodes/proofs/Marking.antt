@@ -1,38 +1,15 @@
 -- What is said of each node that was listed.
-use Rattle.std.proofs.Common.{◌≡◌, ◌≤◌, ◌<◌, ◌+◌, ◌||◌, ◌&&◌, ◌++◌, ◌⊎◌, inl, inr, Option, None, Some, not, ℕ, take, drop, get_or, length, append_assoc, arith, Bool, true, false, List, [], ◌∷◌, Result, Ok, Err, OnOk, is_eq, refl, sym, ap, ap₂, subst, ◌∙◌}
-use Rattle.std.specs.List.{AllByRecursion, list_any}
+use Rattle.std.proofs.Common.{◌≡◌, ◌≤◌, ◌<◌, ◌+◌, ◌++◌, ◌⊎◌, inl, inr, Option, None, Some, not, ℕ, take, drop, get_or, length, append_assoc, arith, Bool, true, false, List, [], ◌∷◌, Result, Ok, Err, OnOk, refl, sym, ap, subst, ◌∙◌}
+use Rattle.std.specs.List.{AllByRecursion}
 use Rattle.std.specs.declared.alloc.AllocError.{AllocError}
-use Rattle.std.proofs.lemmas.Bool.{true≢false, eq-eqb, ltb-false, le-ltb}
+use Rattle.std.proofs.lemmas.Bool.{ltb-false, le-ltb}
 use Rattle.std.proofs.lemmas.List.{take_more, take_all, take-append-drop}
 use Rattle.je_order.proofs.Lists.{all_push, all_weaker}
-use Rattle.std.proofs.lemmas.List.Folds.{list_any-append}
-use Rattle.record_map.proofs.NameLaws.{name_same}
-use Rattle.record_tree.specs.Nodes.{is_place}
 use Rattle.record_tree.specs.declared.node_place.NodePlace.{NodePlace}
 use Rattle.tree_nodes.specs.Nodes.{NodeRow}
 use Rattle.dirty_nodes.specs.declared.tree_node.TreeNode.{TreeNode}
-use Rattle.dirty_nodes.specs.Marks.{AllFrom, AllSince, HaveDirtyPlaces, IsInFront, IsMarkOr, IsMarkedIn, is_before, is_dirty, is_marked_before, place_of}
+use Rattle.dirty_nodes.specs.Marks.{AllFrom, AllSince, IsInFront, IsMarkOr, is_before, is_marked_before}
 use Rattle.dirty_nodes.specs.Walks.{AreAllNodes, IsNodeOf, Passes}
-
--- a place is itself
-place_self : (a : NodePlace) → is_place a a ≡ true
-place_self a =
-    ap₂ (λ (x y : Bool). x && y)
-    (ap₂ (λ (x y : Bool). x && y) (ap₂ (λ (x y : Bool). x && y) (eq-eqb a.level a.level refl) (eq-eqb a.db a.db refl)) (eq-eqb a.node a.node refl)) (ap is_eq (name_same a.low))
-
-or_left : (a b : Bool) → a ≡ true → (a || b) ≡ true
-or_left a b is = ap (λ (x : Bool). x || b) is
-
-or_right : (a b : Bool) → b ≡ true → (a || b) ≡ true
-or_right true b is = refl
-or_right false b is = is
-
--- what is among a front is among the whole
-any_more : (p : NodePlace → Bool) (front whole : List NodePlace) → IsInFront front whole → list_any p front ≡ true → list_any p whole ≡ true
-any_more p front whole (more, is) some = ap (list_any p) is ∙ list_any-append p front more ∙ or_left (list_any p front) (list_any p more) some
-
-any_last : (p : NodePlace → Bool) (old : List NodePlace) (x : NodePlace) → p x ≡ true → list_any p (old ++ x ∷ []) ≡ true
-any_last p old x own = list_any-append p old (x ∷ []) ∙ or_right (list_any p old) (p x || false) (or_left (p x) false own)
 
 pub front_then : (a b c : List NodePlace) → IsInFront a b → IsInFront b c → IsInFront a c
 front_then a b c (x, is) (y, then_is) = (x ++ y, then_is ∙ ap (λ (l : List NodePlace). l ++ y) is ∙ append_assoc a x y)
@@ -52,43 +29,6 @@ push_some (y ∷ old) x none = cc
 pub pushed_none : (P : Type 0) (old new : List NodePlace) (x : NodePlace) (result : Result (Unit {0}) AllocError) → OnOk result (new ≡ old ++ x ∷ []) → OnOk result (new ≡ [] → P)
 pushed_none P old new x (Ok _) is = λ none. absurd (push_some old x (sym is ∙ none))
 pushed_none P old new x (Err _) is = tt
-
-pub marked_more : (db : ℕ) (front whole : List NodePlace) (n : TreeNode) → IsInFront front whole → IsMarkedIn db front n → IsMarkedIn db whole n
-marked_more db front whole n in_front marked dirty = any_more (is_place (place_of db n)) front whole in_front (marked dirty)
-
-pub all_more : (db : ℕ) (front whole : List NodePlace) (ns : List TreeNode) → IsInFront front whole → AllByRecursion (IsMarkedIn db front) ns → AllByRecursion (IsMarkedIn db whole) ns
-all_more db front whole [] in_front all = tt
-all_more db front whole (n ∷ ns) in_front all = (marked_more db front whole n in_front all.0, all_more db front whole ns in_front all.1)
-
--- a place that was pushed, and others behind it
-pub marked_then : (db : ℕ) (old mid new : List NodePlace) (n : TreeNode) (result : Result (Unit {0}) AllocError) → mid ≡ old ++ place_of db n ∷ [] → OnOk result (IsInFront mid new) → OnOk result (IsMarkedIn db new n)
-marked_then db old mid new n (Ok _) is in_front =
-    λ dirty. any_more (is_place (place_of db n)) mid new in_front (subst (λ (l : List NodePlace). list_any (is_place (place_of db n)) l ≡ true) (sym is) (any_last (is_place (place_of db n)) old (place_of db n) (place_self (place_of db n))))
-marked_then db old mid new n (Err _) is in_front = tt
-
--- ---- each node
-
-abbrev is_marked : ℕ → List NodePlace → TreeNode → Bool
-is_marked db places n = not (is_dirty n.node) || list_any (is_place (place_of db n)) places
-
-to_test : (db : ℕ) (places : List NodePlace) (n : TreeNode) → IsMarkedIn db places n → is_marked db places n ≡ true
-to_test db places n marked = by_test (is_dirty n.node) refl
-  where
-    by_test : (b : Bool) → is_dirty n.node ≡ b → (not b || list_any (is_place (place_of db n)) places) ≡ true
-    by_test true is = marked is
-    by_test false is = refl
-
-from_test : (a b : Bool) → (not a || b) ≡ true → a ≡ true → b ≡ true
-from_test true b holds is = holds
-from_test false b holds is = absurd (true≢false (sym is))
-
-to_tests : (db : ℕ) (places : List NodePlace) (ns : List TreeNode) → AllByRecursion (IsMarkedIn db places) ns → Passes (is_marked db places) ns
-to_tests db places [] all = tt
-to_tests db places (n ∷ ns) all = (to_test db places n all.0, to_tests db places ns all.1)
-
-pub have_places : (db : ℕ) (rows : List NodeRow) (places : List NodePlace) (ns : List TreeNode) → AreAllNodes rows ns → AllByRecursion (IsMarkedIn db places) ns → HaveDirtyPlaces db rows places
-have_places db rows places ns are all level low n there =
-    from_test (is_dirty n) (list_any (is_place (place_of db (record { level = level; low = low; node = n }))) places) (are (is_marked db places) (to_tests db places ns all) level low n there)
 
 -- ---- one more of some nodes
 

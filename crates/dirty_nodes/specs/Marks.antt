@@ -1,18 +1,13 @@
--- Which nodes are dirty, and from which LSN on their images lack something.
-use Rattle.std.specs.Prelude.{◌≡◌, ◌==◌, ◌||◌, ◌&&◌, ◌⊎◌, ◌++◌, ℕ, nat_lt, Bool, true, false, List, Option, None, Some, is_some, not}
-use Rattle.std.specs.List.{list_any}
+-- Which nodes are dirty and noted, and from which LSN on their images lack something.
+use Rattle.std.specs.Prelude.{◌≡◌, ◌==◌, ◌||◌, ◌&&◌, ◌⊎◌, ◌++◌, ℕ, nat_lt, Bool, false, List, Option, None, Some}
 use Rattle.je_order.specs.declared.name.Name.{Name}
 use Rattle.record_map.specs.Cells.{value_at}
-use Rattle.record_tree.specs.Nodes.{is_place}
 use Rattle.record_tree.specs.declared.node_place.NodePlace.{NodePlace}
 use Rattle.tree_nodes.specs.declared.node.Node.{Node}
-use Rattle.tree_nodes.specs.Nodes.{NodeRow}
+use Rattle.tree_nodes.specs.Nodes.{NodeRow, is_dirty}
 use Rattle.tree_nodes.specs.Levels.{row_of}
+use Rattle.tree_nodes.specs.Noted.{is_to_note}
 use Rattle.dirty_nodes.specs.declared.tree_node.TreeNode.{TreeNode}
-
--- a node is dirty that has no image, whose last image lacks some of what it has, or that waits to be logged
-abbrev pub is_dirty : Node → Bool
-is_dirty n = n.forced || not (is_some n.last) || is_some n.from
 
 -- a mark is before an LSN
 abbrev pub is_marked_before : Option ℕ → ℕ → Bool
@@ -23,13 +18,20 @@ is_marked_before (Some from) since = nat_lt from since
 abbrev pub is_before : ℕ → Node → Bool
 is_before since n = n.forced || is_marked_before n.from since
 
--- whether there is a node of that number at a place, and it is dirty
-abbrev pub is_dirty_with : Option Node → ℕ → Bool
-is_dirty_with None number = false
-is_dirty_with (Some n) number = (n.number == number) && is_dirty n
+-- whether there is a node of that number, and it passes a test
+abbrev pub is_one : (Node → Bool) → Option Node → ℕ → Bool
+is_one test None number = false
+is_one test (Some n) number = (n.number == number) && test n
 
+-- whether the node of a number, of a level with a low, is there and dirty, and noted; and whether it is dirty or above a dirty one
 abbrev pub is_dirty_at : List NodeRow → ℕ → Name → ℕ → Bool
-is_dirty_at rows level low number = is_dirty_with (value_at low (row_of rows level)) number
+is_dirty_at rows level low number = is_one is_dirty (value_at low (row_of rows level)) number
+
+abbrev pub is_noted_at : List NodeRow → ℕ → Name → ℕ → Bool
+is_noted_at rows level low number = is_one (λ n. n.noted) (value_at low (row_of rows level)) number
+
+abbrev pub is_to_note_at : List NodeRow → ℕ → Name → ℕ → Bool
+is_to_note_at rows level low number = is_one (λ n. is_to_note rows level (low, n)) (value_at low (row_of rows level)) number
 
 -- ---- places
 
@@ -39,14 +41,6 @@ place_of db n = record { level = n.level; db = db; node = n.node.number; low = n
 -- a list begins with another one
 abbrev pub IsInFront : List NodePlace → List NodePlace → Type 0
 IsInFront front whole = (more : List NodePlace) × (whole ≡ front ++ more)
-
--- where a node is dirty, its place is among some
-abbrev pub IsMarkedIn : ℕ → List NodePlace → TreeNode → Type 0
-IsMarkedIn db places n = is_dirty n.node ≡ true → list_any (is_place (place_of db n)) places ≡ true
-
--- so it is with each node of a database's tree
-abbrev pub HaveDirtyPlaces : ℕ → List NodeRow → List NodePlace → Type 0
-HaveDirtyPlaces db rows places = (level : ℕ) (low : Name) (n : Node) → value_at low (row_of rows level) ≡ Some n → IsMarkedIn db places (record { level = level; low = low; node = n })
 
 -- ---- all nodes of a tree
 

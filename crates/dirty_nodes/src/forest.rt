@@ -1,40 +1,121 @@
 // The nodes of the trees of all databases.
-ghost use Rattle.std.specs.Prelude.{◌≡◌, ◌≤◌, ◌++◌, ◌∷◌, [], ℕ, Some, IfOk, OnOk};
-ghost use Rattle.std.specs.List.{AllByRecursion};
+ghost use Rattle.std.specs.Prelude.{◌≡◌, ◌≤◌, ◌++◌, ◌∷◌, ◌&&◌, [], IfOk, IfSome, OnOk};
 ghost use Rattle.std.specs.Ordering.{nat_cmp};
 ghost use Rattle.std.specs.BTreeMap.{get};
 ghost use Rattle.db_tree.specs.declared.tree.DbTree.{DbTree as Tree};
 ghost use Rattle.tree_images.specs.Roots.{AreRootsOf, root_image};
-ghost use Rattle.dirty_nodes.specs.Forest.{IsFrom, IsMarkOrIn, IsNotedIn, IsSince, is_dirty_in, root_for};
+ghost use Rattle.record_tree.specs.Nodes.{IsNext, place_cmp};
+ghost use Rattle.dirty_nodes.specs.Forest.{AreNotedTrees, HasAllNumbers, IsFrom, IsMarkOrIn, IsSince, is_dirty_in, is_noted_in, left_in, root_for};
+ghost use Rattle.dirty_nodes.specs.Steps.{AreNotedFor, IsNextAt, is_first};
 
-use crate::{dirty_places, is_dirty_at, least_mark, places_before};
+use crate::{least_mark, places_before};
 use db_tree::DbTree;
 use je_lsn::Lsn;
 use log_entry::Root;
 use record_map::SortKey;
 use record_tree::NodePlace;
 use std::alloc::{AllocError, Global};
+use std::cmp::Ordering;
 use std::collections::BTreeMap;
 
-/// Whether the node at a place is there and dirty.
-pub fn is_dirty_in(forest: &BTreeMap<u32, DbTree>, place: &NodePlace) -> bool
-    ensures { result ≡ is_dirty_in forest.now place.now }
+/// The numbers of all databases.
+pub fn databases_in(forest: &BTreeMap<u32, DbTree>, alloc: Global) -> Result<Vec<u32>, AllocError>
+    ensures { IfOk result (λ dbs. HasAllNumbers forest.now dbs.items) }
 {
-    match forest.get(&place.db) {
-        Some(tree) => is_dirty_at(tree, place.level, &place.low, place.node),
-        None => false,
+    let mut dbs = Vec::new(alloc);
+    for (db, _tree) in forest {
+        dbs.push(*db)?;
+    }
+    Ok(dbs)
+}
+
+// Notes the nodes of a database's tree that are dirty and those above them, if it has one.
+fn note_one(forest: &mut BTreeMap<u32, DbTree>, db: &u32)
+    ensures { AreNotedFor (db.now ∷ []) forest.old forest.new }
+{
+    match forest.get_mut(db) {
+        Some(tree) => tree.note_dirty(),
+        None => {}
     }
 }
 
-/// The places of all dirty nodes, and of those above them. It goes over all nodes.
-pub fn noted_in(forest: &BTreeMap<u32, DbTree>, alloc: Global) -> Result<Vec<NodePlace>, AllocError>
-    ensures { IfOk result (λ places. IsNotedIn forest.now places.items) }
+/// Notes the nodes that are dirty and those above them, and no others, in the trees of all databases. It takes no memory, and goes over all
+/// nodes.
+pub fn note_in(forest: &mut BTreeMap<u32, DbTree>, dbs: &[u32])
+    requires { HasAllNumbers forest.old dbs.now }
+    ensures { AreNotedTrees forest.old forest.new }
 {
-    let mut places = Vec::new(alloc);
-    for (db, tree) in forest {
-        dirty_places(&mut places, tree, alloc, *db)?;
+    for db in dbs {
+        note_one(forest, db);
     }
-    Ok(places)
+}
+
+// The next node of a database's tree that a checkpoint logs, if there is one.
+fn next_at(tree: &DbTree, alloc: Global, db: u32) -> Result<Option<NodePlace>, AllocError>
+    ensures { IfOk result (IsNextAt db tree.now.levels) }
+{
+    match tree.levels.next_due() {
+        Some((level, low, node)) => Ok(Some(NodePlace {
+            level,
+            db,
+            node: node.number,
+            low: low.copy(alloc)?,
+        })),
+        None => Ok(None),
+    }
+}
+
+// Which of two nodes is logged first.
+fn place_cmp(a: &NodePlace, b: &NodePlace) -> Ordering
+    ensures { result ≡ place_cmp a.now b.now }
+{
+    let later = a.db.cmp(&b.db).then(a.node.cmp(&b.node));
+    a.level.cmp(&b.level).then(later)
+}
+
+// Whether a node is logged before another one, if there is one.
+fn is_first(place: &NodePlace, found: &Option<NodePlace>) -> bool
+    ensures { result ≡ is_first place.now found.now }
+{
+    match found {
+        Some(other) => match place_cmp(place, other) {
+            Ordering::Less => true,
+            _ => false,
+        },
+        None => true,
+    }
+}
+
+/// The next node that a checkpoint logs: of those that are noted and dirty the one of the lowest level, then of the lowest database, then
+/// with the lowest number. It goes over the levels up to that one.
+pub fn next_in(
+    forest: &BTreeMap<u32, DbTree>,
+    alloc: Global,
+) -> Result<Option<NodePlace>, AllocError>
+    ensures { IfOk result (IsNext (λ p. is_noted_in forest.now p && is_dirty_in forest.now p)) }
+{
+    let mut found: Option<NodePlace> = None;
+    for (db, tree) in forest {
+        if let Some(place) = next_at(tree, alloc, *db)? {
+            if is_first(&place, &found) {
+                found = Some(place);
+            } else {
+                drop(place);
+            }
+        }
+    }
+    Ok(found)
+}
+
+/// How many nodes are noted and dirty; None where these are 2^64 or more. It goes over all nodes.
+pub fn count_in(forest: &BTreeMap<u32, DbTree>) -> Option<u64>
+    ensures { IfSome result (λ count. count ≡ left_in forest.now) }
+{
+    let mut count = 0u64;
+    for (_db, tree) in forest {
+        count = count.checked_add(tree.levels.count_due()?)?;
+    }
+    Some(count)
 }
 
 /// The places of the nodes that wait to be logged, or whose images lack what was logged before an LSN. It goes over all

@@ -1,16 +1,9 @@
-// Which nodes are dirty.
+// From which LSN on images of nodes lack something.
 ghost use Rattle.std.specs.Prelude.{◌≡◌};
-ghost use Rattle.dirty_nodes.specs.Marks.{is_before, is_dirty, is_marked_before};
+ghost use Rattle.dirty_nodes.specs.Marks.{is_before, is_marked_before};
 
 use je_lsn::Lsn;
 use tree_nodes::Node;
-
-/// Whether a node is dirty: it has no image, its last image lacks some of what it has, or it waits to be logged.
-pub fn is_dirty(node: &Node) -> bool
-    ensures { result ≡ is_dirty node.now }
-{
-    node.forced || node.last.is_none() || node.from.is_some()
-}
 
 // Whether a mark is before an LSN.
 fn is_marked_before(from: &Option<Lsn>, since: Lsn) -> bool

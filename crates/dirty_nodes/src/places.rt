@@ -1,54 +1,14 @@
-// The places of dirty nodes.
+// Nodes whose images lack something, and from which LSN on.
 ghost use Rattle.std.specs.Prelude.{◌≡◌, ◌≤◌, ◌⊎◌, ◌++◌, ◌∷◌, [], Some, false, IfOk, OnOk};
-ghost use Rattle.std.specs.List.{AllByRecursion, list_any};
 ghost use Rattle.record_map.specs.Cells.{IsRising};
-ghost use Rattle.record_tree.specs.Nodes.{is_place};
-ghost use Rattle.tree_nodes.specs.Levels.{AreParts, row_of};
-ghost use Rattle.dirty_nodes.specs.Marks.{AllFrom, AllSince, HaveDirtyPlaces, IsInFront, IsMarkOr, IsMarkedIn, is_before, is_dirty_at, is_marked_before, place_of};
+ghost use Rattle.tree_nodes.specs.Levels.{AreParts};
+ghost use Rattle.dirty_nodes.specs.Marks.{AllFrom, AllSince, IsInFront, IsMarkOr, is_before, is_marked_before, place_of};
 
-use crate::{TreeNode, all_nodes, is_before, is_dirty};
+use crate::{TreeNode, all_nodes, is_before};
 use db_tree::DbTree;
 use je_lsn::Lsn;
-use record_map::SortKey;
 use record_tree::NodePlace;
 use std::alloc::{AllocError, Global};
-
-/// Whether the node of a number, of a level with a low, is there and dirty.
-pub fn is_dirty_at(tree: &DbTree, level: usize, low: &SortKey, number: u64) -> bool
-    ensures { result ≡ is_dirty_at tree.now.levels level low.now number }
-{
-    if level >= tree.levels.height() {
-        return false;
-    }
-    match tree.levels.at(level, low) {
-        Some(node) => node.number == number && is_dirty(node),
-        None => false,
-    }
-}
-
-// Puts the places of the nodes above a node behind the others.
-fn push_above(
-    places: &mut Vec<NodePlace>,
-    tree: &DbTree,
-    alloc: Global,
-    db: u32,
-    node: &TreeNode,
-) -> Result<(), AllocError>
-    ensures { OnOk result (IsInFront places.old.items places.new.items) }
-{
-    for level in 0..tree.levels.height() {
-        if level > node.level {
-            let (low, above) = tree.levels.over(level, &node.low);
-            places.push(NodePlace {
-                level,
-                db,
-                node: above.number,
-                low: low.copy(alloc)?,
-            })?;
-        }
-    }
-    Ok(())
-}
 
 // Puts the place of a node behind the others.
 fn push_place(
@@ -65,42 +25,6 @@ fn push_place(
         node: node.node.number,
         low: node.low.copy(alloc)?,
     })?;
-    Ok(())
-}
-
-// Puts the places of a dirty node, and of those above it, behind the others.
-fn push_dirty(
-    places: &mut Vec<NodePlace>,
-    tree: &DbTree,
-    alloc: Global,
-    db: u32,
-    node: &TreeNode,
-) -> Result<(), AllocError>
-    ensures front { OnOk result (IsInFront places.old.items places.new.items) }
-    ensures marked { OnOk result (IsMarkedIn db places.new.items node.now) }
-{
-    if !is_dirty(&node.node) {
-        return Ok(());
-    }
-    push_place(places, alloc, db, node)?;
-    push_above(places, tree, alloc, db, node)
-}
-
-/// Puts the places of the dirty nodes of a database's tree, and of those above them, behind others. It goes over all
-/// nodes.
-pub fn dirty_places(
-    places: &mut Vec<NodePlace>,
-    tree: &DbTree,
-    alloc: Global,
-    db: u32,
-) -> Result<(), AllocError>
-    ensures front { OnOk result (IsInFront places.old.items places.new.items) }
-    ensures dirty { OnOk result (HaveDirtyPlaces db tree.now.levels places.new.items) }
-{
-    let nodes = all_nodes(tree, alloc)?;
-    for node in nodes.as_slice() {
-        push_dirty(places, tree, alloc, db, node)?;
-    }
     Ok(())
 }
 

@@ -11,17 +11,9 @@ use Rattle.checkpointer.specs.declared.ended.Ended.{Ended}
 use Rattle.checkpointer.specs.declared.ended.Ended.TheVariants.{Done as Logged, Left}
 use Rattle.checkpointer.specs.declared.finish.Finish.{Finish}
 use Rattle.checkpointer.specs.declared.under_way.UnderWay.{UnderWay}
-use Rattle.checkpointer.specs.Noted.{GoesOnAs}
 use Rattle.engine.specs.declared.kept.Kept.{Kept}
 use Rattle.environment.specs.declared.environment.Environment.{Environment}
-use Rattle.environment.specs.Turning.{FinishesBy, FinishesTo, FinishesTrees, FlushesBy, FlushesTo, FlushesTrees, IsAnswerTo, IsFinishOf, IsFirstOf, ended_answer, ended_since, fault_by, flushed_answer}
-
--- the same checkpoint is under way, if any
-pub same_checkpoint : (old new : Option UnderWay) → GoesOnAs old new → is_some new ≡ is_some old
-same_checkpoint None None goes = refl
-same_checkpoint None (Some new) goes = absurd goes
-same_checkpoint (Some old) None goes = absurd goes
-same_checkpoint (Some old) (Some new) goes = refl
+use Rattle.environment.specs.Turning.{FinishesBy, FinishesTo, FinishesTrees, FlushesTo, FlushesTrees, IsAnswerTo, IsFinishOf, IsFirstOf, ended_answer, ended_since, fault_by, flushed_answer}
 
 -- nothing else is that an end was logged
 left_not : (n : ℕ) (redo : ℕ) → ◌≡◌ {A = Result Ended TreeErr} (Ok (Left n)) (Ok (Logged redo)) → ⊥
@@ -44,15 +36,14 @@ module _ {D : Type 0} where
     none_ok P (Ok answer) none each = absurd none
     none_ok P (Err error) none each = each error
 
-    pub not_flushed : (owed : ℕ) (old new : Environment D) (w : UnderWay) (error : TreeErr) (result : Result Answer AllocError) → IsNotLogged old new error result → old.engine.kept.checkpoints.under_way ≡ Some w →
-        FlushesTrees observable history sync_out read_out read_of faults w old.engine.kept.since owed old.engine.trees new.engine.trees (Err error) →
-        FlushesTo observable history sync_out read_out read_of faults owed old new result
-    not_flushed owed old new w Fault result is some flushes =
-        subst (FlushesTo observable history sync_out read_out read_of faults owed old new) (sym is.answer) ((w, some, flushes), record { fault = is.fault; under_way = is.under_way })
-    not_flushed owed old new w Full result is some flushes =
-        subst (FlushesTo observable history sync_out read_out read_of faults owed old new) (sym is.answer) ((w, some, flushes), record { fault = is.fault; since = is.since; under_way = is.under_way })
-    not_flushed owed old new w IdsEnded result is some flushes = absurd flushes
-    not_flushed owed old new w Memory result is some flushes =
+    pub not_flushed : (owed : ℕ) (old new : Environment D) (error : TreeErr) (result : Result Answer AllocError) → IsNotLogged old new error result → is_some old.engine.kept.checkpoints.under_way ≡ true →
+        FlushesTrees observable history sync_out read_out read_of faults owed old.engine.trees new.engine.trees (Err error) → FlushesTo observable history sync_out read_out read_of faults owed old new result
+    not_flushed owed old new Fault result is some flushes =
+        subst (FlushesTo observable history sync_out read_out read_of faults owed old new) (sym is.answer) ((some, flushes), record { fault = is.fault; under_way = is.under_way })
+    not_flushed owed old new Full result is some flushes =
+        subst (FlushesTo observable history sync_out read_out read_of faults owed old new) (sym is.answer) ((some, flushes), record { fault = is.fault; since = is.since; under_way = is.under_way })
+    not_flushed owed old new IdsEnded result is some flushes = absurd flushes
+    not_flushed owed old new Memory result is some flushes =
         none_ok (FlushesTo observable history sync_out read_out read_of faults owed old new) result is.answer (λ error. (flushes, record { fault = is.fault; since = is.since; under_way = is.under_way }))
 
     pub not_finished : (owed : ℕ) (old new : Environment D) (f : Finish) (w : UnderWay) (error : TreeErr) (result : Result Answer AllocError) → IsNotLogged old new error result → IsFinishOf old owed f →
@@ -83,42 +74,32 @@ module _ {D : Type 0} where
 
     -- ---- a flush
 
-    module _ (old : Environment D) (trees : LogTrees D) (checkpoints : Checkpointer) (owed owes : ℕ) (result : Result (Option ℕ) TreeErr) (some : is_some old.engine.kept.checkpoints.under_way ≡ true) (same : owed ≡ owes)
-        (flushes : (w : UnderWay) → old.engine.kept.checkpoints.under_way ≡ Some w →
-        FlushesTrees observable history sync_out read_out read_of faults w old.engine.kept.since owed old.engine.trees trees result)
-        (goes : GoesOnAs old.engine.kept.checkpoints.under_way checkpoints.under_way) where
-      flushes_as : (came : Result (Option ℕ) TreeErr) → result ≡ came → (w : UnderWay) → old.engine.kept.checkpoints.under_way ≡ Some w →
-          FlushesTrees observable history sync_out read_out read_of faults w old.engine.kept.since owes old.engine.trees trees came
-      flushes_as came is w its =
-          subst (λ (r : Result (Option ℕ) TreeErr). FlushesTrees observable history sync_out read_out read_of faults w old.engine.kept.since owes old.engine.trees trees r) is
-          (subst (λ (n : ℕ). FlushesTrees observable history sync_out read_out read_of faults w old.engine.kept.since n old.engine.trees trees result) same (flushes w its))
-
-      flush_by : (came : Result (Option ℕ) TreeErr) → result ≡ came → FlushesBy observable history sync_out read_out read_of faults owes old (with_trees old trees (with_checkpoints old.engine.kept checkpoints)) came
-      flush_by came is =
-          by_checkpoint (FlushesBy observable history sync_out read_out read_of faults owes old (with_trees old trees (with_checkpoints old.engine.kept checkpoints)) came) old.engine.kept.checkpoints.under_way some
-          (λ w its. (w, its, flushes_as came is w its))
+    module _ (old : Environment D) (trees : LogTrees D) (owed owes : ℕ) (result : Result (Option ℕ) TreeErr) (some : is_some old.engine.kept.checkpoints.under_way ≡ true) (same : owed ≡ owes)
+        (flushes : FlushesTrees observable history sync_out read_out read_of faults owed old.engine.trees trees result) where
+      flushes_as : (came : Result (Option ℕ) TreeErr) → result ≡ came → FlushesTrees observable history sync_out read_out read_of faults owes old.engine.trees trees came
+      flushes_as came is =
+          subst (λ (r : Result (Option ℕ) TreeErr). FlushesTrees observable history sync_out read_out read_of faults owes old.engine.trees trees r) is
+          (subst (λ (n : ℕ). FlushesTrees observable history sync_out read_out read_of faults n old.engine.trees trees result) same flushes)
 
       pub flush_ok : (node : Option ℕ) (answer : Answer) → result ≡ Ok node → answer ≡ flushed_answer node →
-          FlushesTo observable history sync_out read_out read_of faults owes old (with_trees old trees (with_checkpoints old.engine.kept checkpoints)) (Ok answer)
+          FlushesTo observable history sync_out read_out read_of faults owes old (with_trees old trees old.engine.kept) (Ok answer)
       flush_ok (Some node) answer is answers =
-          subst (λ (a : Answer). FlushesTo observable history sync_out read_out read_of faults owes old (with_trees old trees (with_checkpoints old.engine.kept checkpoints)) (Ok a)) (sym answers)
-          (flush_by (Ok (Some node)) is, record { fault = refl; since = refl; under_way = same_checkpoint old.engine.kept.checkpoints.under_way checkpoints.under_way goes })
+          subst (λ (a : Answer). FlushesTo observable history sync_out read_out read_of faults owes old (with_trees old trees old.engine.kept) (Ok a)) (sym answers)
+          ((some, flushes_as (Ok (Some node)) is), record { fault = refl; since = refl; under_way = refl })
       flush_ok None answer is answers =
-          subst (λ (a : Answer). FlushesTo observable history sync_out read_out read_of faults owes old (with_trees old trees (with_checkpoints old.engine.kept checkpoints)) (Ok a)) (sym answers)
-          (flush_by (Ok None) is, record { fault = refl; since = refl; under_way = same_checkpoint old.engine.kept.checkpoints.under_way checkpoints.under_way goes })
+          subst (λ (a : Answer). FlushesTo observable history sync_out read_out read_of faults owes old (with_trees old trees old.engine.kept) (Ok a)) (sym answers)
+          ((some, flushes_as (Ok None) is), record { fault = refl; since = refl; under_way = refl })
 
-      pub flush_err : (error : TreeErr) (answer : Result Answer AllocError) (kept : Kept) → result ≡ Err error → IsAnswerTo error answer →
-          kept ≡ record (with_checkpoints old.engine.kept checkpoints) { fault = fault_by error old.engine.kept.fault } →
+      pub flush_err : (error : TreeErr) (answer : Result Answer AllocError) (kept : Kept) → result ≡ Err error → IsAnswerTo error answer → kept ≡ record old.engine.kept { fault = fault_by error old.engine.kept.fault } →
           FlushesTo observable history sync_out read_out read_of faults owes old (with_trees old trees kept) answer
       flush_err error answer kept is answers kept_is =
-          by_checkpoint (FlushesTo observable history sync_out read_out read_of faults owes old (with_trees old trees kept) answer) old.engine.kept.checkpoints.under_way some
-          (λ w its. not_flushed owes old (with_trees old trees kept) w error answer
+          not_flushed owes old (with_trees old trees kept) error answer
           (record {
             answer = answers;
             fault = ap (λ (k : Kept). k.fault) kept_is;
             since = ap (λ (k : Kept). k.since) kept_is;
-            under_way = ap (λ (k : Kept). is_some k.checkpoints.under_way) kept_is ∙ same_checkpoint old.engine.kept.checkpoints.under_way checkpoints.under_way goes;
-          }) its (flushes_as (Err error) is w its))
+            under_way = ap (λ (k : Kept). is_some k.checkpoints.under_way) kept_is;
+          }) some (flushes_as (Err error) is)
 
     -- ---- an end
 

@@ -30,7 +30,7 @@ use Rattle.txn_core.specs.Known.{committed}
 use Rattle.txn_log.specs.Checkpoints.{AreNeutral, EndParts, end_entry}
 use Rattle.checkpointer.specs.declared.finish.Finish.{Finish}
 use Rattle.checkpointer.specs.declared.under_way.UnderWay.{UnderWay}
-use Rattle.checkpointer.specs.Noted.{earlier_of}
+use Rattle.checkpointer.specs.Numbers.{earlier_of}
 use Rattle.checkpointer.specs.Steps.{end_of as end_by}
 use Rattle.sessions.specs.AtStanding.{AreSessionsAt, owing}
 use Rattle.standing_laws.specs.Right.{AreRight}
@@ -177,14 +177,14 @@ module _ {D : Type 0} (observable : Bool) (history : D → History) (sync_out re
     -- ---- a flush
 
     flushed : (answer : Answer) → FlushesTo observable history sync_out read_out read_of faults (owing st) old new (Ok answer) → To Flush (Ok answer)
-    flushed (Flushed node) h = let has = h.0.2 in ok None Flush (Flushed node) st.in_checkpoint refl (inl refl) (by_under_way (λ b. IsStepped Flush b (Flushed node)) true (some_under_way h.0.0 h.0.1) (inl (node, refl))) refl
+    flushed (Flushed node) h = let has = h.0.1 in ok None Flush (Flushed node) st.in_checkpoint refl (inl refl) (by_under_way (λ b. IsStepped Flush b (Flushed node)) true h.0.0 (inl (node, refl))) refl
         (still_appended (has.image ∷ []) (image_neutral has.image has.is_image, tt) (omega arith) has.grew (inr has.room) h.1)
-    flushed Nothing h = ok None Flush Nothing st.in_checkpoint refl (inl refl) (by_under_way (λ b. IsStepped Flush b Nothing) true (some_under_way h.0.0 h.0.1) (inr (inl refl))) refl
-        (none_appended (same_trees h.0.2.0) h.1)
+    flushed Nothing h = ok None Flush Nothing st.in_checkpoint refl (inl refl) (by_under_way (λ b. IsStepped Flush b Nothing) true h.0.0 (inr (inl refl))) refl
+        (none_appended (same_trees h.0.1.0) h.1)
     flushed NoCheckpoint h = ok None Flush NoCheckpoint st.in_checkpoint refl (inl refl) (by_under_way (λ b. IsStepped Flush b NoCheckpoint) false h.0 refl) refl (idle_appended h.1)
-    flushed LogFull h = ok (Some LogFull) Flush LogFull st.in_checkpoint refl (bounded Flush h.0.2.0.0 h.0.2.0.2) refl refl (none_appended h.0.2.1 h.1)
-    flushed DiskFault h = let has = h.0.2 in
-        fault Flush (by_under_way (λ b. IsStepped Flush b DiskFault) true (some_under_way h.0.0 h.0.1) (inr (inr refl))) refl (neutral_failed has.0 has.1 (image_neutral has.0 has.2) has.3 has.4 h.1)
+    flushed LogFull h = ok (Some LogFull) Flush LogFull st.in_checkpoint refl (bounded Flush h.0.1.1.0 h.0.1.1.2) refl refl (none_appended h.0.1.2 h.1)
+    flushed DiskFault h = let has = h.0.1.1 in
+        fault Flush (by_under_way (λ b. IsStepped Flush b DiskFault) true h.0.0 (inr (inr refl))) refl (neutral_failed has.0 has.1 (image_neutral has.0 has.2) has.3 has.4 h.1)
     flushed answer h = absurd h
 
     flushes : (result : Result Answer AllocError) → FlushesTo observable history sync_out read_out read_of faults (owing st) old new result → To Flush result
@@ -254,8 +254,8 @@ module _ {D : Type 0} (observable : Bool) (history : D → History) (sync_out re
         (none_appended (same_trees has.0) h.1)
     finished NoCheckpoint h = ok None FinishStep NoCheckpoint st.in_checkpoint refl (inl refl) (by_under_way (λ b. IsStepped FinishStep b NoCheckpoint) false h.0 refl) refl (idle_appended h.1)
     finished LogFull h = let has = h.0.finishes in
-        ok (Some LogFull) FinishStep LogFull st.in_checkpoint refl (bounded FinishStep has.0.0 (subst (λ (k : ℕ). IsFullFor log_old (has.0.0 ∷ []) k) h.0.is_finish.owed_is has.0.2)) refl refl (none_appended has.1 h.1)
-    finished DiskFault h = let has = h.0.finishes in
+        ok (Some LogFull) FinishStep LogFull st.in_checkpoint refl (bounded FinishStep has.1.0 (subst (λ (k : ℕ). IsFullFor log_old (has.1.0 ∷ []) k) h.0.is_finish.owed_is has.1.2)) refl refl (none_appended has.2 h.1)
+    finished DiskFault h = let has = h.0.finishes.1 in
         fault FinishStep (by_under_way (λ b. IsStepped FinishStep b DiskFault) true (some_under_way h.0.checkpoint h.0.is_under_way) (inr (inr refl))) refl
         (end_failed h.0.finish h.0.checkpoint has.2.0 has.0 has.1 h.0.is_finish has.2.1 has.3 has.4 h.1)
     finished answer h = absurd h

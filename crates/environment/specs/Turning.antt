@@ -1,7 +1,6 @@
 -- What a step of maintenance does to an environment.
 use Rattle.std.specs.Prelude.{ℕ, ◌≡◌, ◌≤◌, ◌++◌, ◌∷◌, [], List, Option, None, Some, is_some, Bool, true, false, Result, Ok, Err, OnOk, IfSome}
 use Rattle.std.specs.declared.alloc.AllocError.{AllocError}
-use Rattle.std.specs.List.{list_any}
 use Rattle.je_disk.specs.States.{State}
 use Rattle.je_disk.specs.Moments.{History}
 use Rattle.je_order.specs.declared.txn_id.TxnId.{TxnId}
@@ -21,9 +20,8 @@ use Rattle.record_tree.specs.declared.node_place.NodePlace.{NodePlace}
 use Rattle.record_tree.specs.declared.tree_err.TreeErr.{TreeErr}
 use Rattle.record_tree.specs.declared.tree_err.TreeErr.TheVariants.{Fault, Full, IdsEnded, Memory}
 use Rattle.record_tree.specs.Logged.{IsFront}
-use Rattle.record_tree.specs.Nodes.{is_place}
 use Rattle.record_tree.specs.Occupied.{AreSame}
-use Rattle.dirty_nodes.specs.Forest.{IsMarkIn, IsSince, is_dirty_in}
+use Rattle.dirty_nodes.specs.Forest.{IsMarkIn, IsSince, is_dirty_in, is_noted_in, is_to_note_in, left_in}
 use Rattle.in_tree.specs.declared.logged_trees.LogTrees.{LogTrees}
 use Rattle.in_tree.specs.Checkpoints.{IsFullFor, MayEndTrees}
 use Rattle.in_tree.specs.Limits.{HasRoomFor, TriedFitting, commit_sizes}
@@ -32,7 +30,7 @@ use Rattle.checkpointer.specs.declared.ended.Ended.{Ended}
 use Rattle.checkpointer.specs.declared.ended.Ended.TheVariants.{Done as Logged, Left}
 use Rattle.checkpointer.specs.declared.finish.Finish.{Finish}
 use Rattle.checkpointer.specs.declared.under_way.UnderWay.{UnderWay}
-use Rattle.checkpointer.specs.Noted.{noted_in, number_after}
+use Rattle.checkpointer.specs.Numbers.{number_after}
 use Rattle.checkpointer.specs.Steps.{Finishes, Flushes}
 use Rattle.environment.specs.declared.environment.Environment.{Environment}
 use Rattle.environment.specs.declared.written.OwnNames.{OwnNames}
@@ -118,21 +116,21 @@ module _ {D : Type 0} where
     Tried old new front = TriedFitting observable history sync_out read_out read_of faults old.log new.log front
 
     -- what the checkpointer says of a flush, and of an end
-    abbrev pub FlushesTrees : UnderWay → ℕ → ℕ → LogTrees D → LogTrees D → Result (Option ℕ) TreeErr → Type 0
-    FlushesTrees = Flushes (λ x p. is_dirty_in x.trees.forest p) (λ x since. IsSince x.trees.forest since) (λ x lsn. IsMarkIn x.trees.forest lsn) (λ x redo roots. MayEndTrees x.log (trees_of x) redo roots) last_node_of Grew Tried
+    abbrev pub FlushesTrees : ℕ → LogTrees D → LogTrees D → Result (Option ℕ) TreeErr → Type 0
+    FlushesTrees = Flushes (λ x p. is_noted_in x.trees.forest p) (λ x p. is_dirty_in x.trees.forest p) (λ x. left_in x.trees.forest) (λ x since. IsSince x.trees.forest since) (λ x lsn. IsMarkIn x.trees.forest lsn) (λ x redo roots. MayEndTrees x.log (trees_of x) redo roots) last_node_of Grew Tried
         (λ x owed. HasRoomFor x.log (commit_sizes owed)) (λ x entries owed. IsFullFor x.log entries owed)
 
     abbrev pub FinishesTrees : Finish → UnderWay → LogTrees D → LogTrees D → Result Ended TreeErr → Type 0
-    FinishesTrees = Finishes (λ x p. is_dirty_in x.trees.forest p) (λ x since. IsSince x.trees.forest since) (λ x lsn. IsMarkIn x.trees.forest lsn) (λ x redo roots. MayEndTrees x.log (trees_of x) redo roots) last_node_of Grew Tried
+    FinishesTrees = Finishes (λ x p. is_noted_in x.trees.forest p) (λ x p. is_dirty_in x.trees.forest p) (λ x. left_in x.trees.forest) (λ x since. IsSince x.trees.forest since) (λ x lsn. IsMarkIn x.trees.forest lsn) (λ x redo roots. MayEndTrees x.log (trees_of x) redo roots) last_node_of Grew Tried
         (λ x owed. HasRoomFor x.log (commit_sizes owed)) (λ x entries owed. IsFullFor x.log entries owed)
 
     -- ---- a beginning
 
-    -- the beginning was logged, and each dirty node is noted
+    -- the beginning was logged, and the nodes are noted that are dirty or above a dirty one, and no others
     pub record HasBegun (owed : ℕ) (old new : Environment D) : Type 0 where
       pub grew : Grew old.engine.trees new.engine.trees (start_entry old ∷ [])
       pub room : HasRoomFor new.engine.trees.log (commit_sizes owed)
-      pub noted : (p : NodePlace) → is_dirty_in old.engine.trees.trees.forest p ≡ true → list_any (is_place p) (noted_in new.engine.kept.checkpoints.under_way) ≡ true
+      pub noted : (p : NodePlace) → is_noted_in new.engine.trees.trees.forest p ≡ is_to_note_in old.engine.trees.trees.forest p
       pub none_before : is_some old.engine.kept.checkpoints.under_way ≡ false
       pub under_way : is_some new.engine.kept.checkpoints.under_way ≡ true
       pub fault : new.engine.kept.fault ≡ old.engine.kept.fault
@@ -151,7 +149,7 @@ module _ {D : Type 0} where
 
     -- of the checkpoint under way
     abbrev pub FlushesBy : ℕ → Environment D → Environment D → Result (Option ℕ) TreeErr → Type 0
-    FlushesBy owed old new result = (w : UnderWay) × (old.engine.kept.checkpoints.under_way ≡ Some w) × FlushesTrees w old.engine.kept.since owed old.engine.trees new.engine.trees result
+    FlushesBy owed old new result = (is_some old.engine.kept.checkpoints.under_way ≡ true) × FlushesTrees owed old.engine.trees new.engine.trees result
 
     abbrev pub FlushesTo : ℕ → Environment D → Environment D → Result Answer AllocError → Type 0
     FlushesTo owed old new (Ok (Flushed node)) = FlushesBy owed old new (Ok (Some node)) × IsStill old new

@@ -130,7 +130,7 @@ impl<D: Disk> Environment<D> {
         }
     }
 
-    // Logs the next node for the checkpoint under way.
+    // Logs the next node of those that the checkpoint under way has noted and that are dirty.
     fn flush_node(&mut self, alloc: Global) -> Result<Answer, AllocError>
         ensures stays { HasStayed self.old self.new }
         ensures flushes { (st : Standing) → AreSessionsAt self.old.sessions st → FlushesTo D.observable D.history D.sync_out D.read_out D.read_of D.faults (owing st) self.old self.new result }
@@ -139,19 +139,18 @@ impl<D: Disk> Environment<D> {
             return Ok(Answer::NoCheckpoint);
         }
         let owed = self.owed()?;
-        let since = self.engine.kept.since;
         let flushed = self
             .engine
             .kept
             .checkpoints
-            .flush(&mut self.engine.trees, alloc, since, owed);
+            .flush(&mut self.engine.trees, alloc, owed);
         match flushed {
             Ok(node) => Ok(flushed_answer(node)),
             Err(error) => answer_to(&mut self.engine.kept, error),
         }
     }
 
-    // Ends the checkpoint under way, if no node is left.
+    // Ends the checkpoint under way, if no node that it has noted is dirty.
     fn finish_checkpoint(&mut self, alloc: Global) -> Result<Answer, AllocError>
         ensures stays { HasStayed self.old self.new }
         ensures finishes { (st : Standing) → AreSessionsAt self.old.sessions st → FinishesTo D.observable D.history D.sync_out D.read_out D.read_of D.faults (owing st) self.old self.new result }
@@ -185,8 +184,8 @@ impl<D: Disk> Environment<D> {
         }
     }
 
-    /// Takes a step of maintenance: begins a checkpoint, logs one node for it, or ends it; a sync is to be made before its step. Each
-    /// logs one entry at most, with room for the Commits that are owed. Where it has no room the answer is LogFull. Running out of memory
+    /// Takes a step of maintenance: begins a checkpoint, which notes the nodes that are dirty and those above them; logs the next node that is
+    /// noted and dirty; or ends it, where none is; a sync is to be made before its step. Each logs one entry at most, with room for the Commits that are owed. Where it has no room the answer is LogFull. Running out of memory
     /// leaves the environment as it was.
     pub fn turn(&mut self, alloc: Global, step: Step) -> Result<Answer, AllocError>
         requires here { (most : ℕ) × (st : Standing) × IsAt most D.observable (now (D.history (disk_of self.old))) self.old st }

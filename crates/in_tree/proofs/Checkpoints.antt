@@ -26,7 +26,7 @@ use Rattle.record_map.proofs.NameLaws.{same_or_other, other_stays}
 use Rattle.record_tree.specs.Logged.{AreImages, IsFront, IsImage}
 use Rattle.record_tree.specs.declared.node_place.NodePlace.{NodePlace}
 use Rattle.record_tree.specs.declared.checkpoint_end.CheckpointEnd.{CheckpointEnd}
-use Rattle.record_tree.specs.Nodes.{is_place, NamesEnd}
+use Rattle.record_tree.specs.Nodes.{NamesEnd}
 use Rattle.tree_nodes.specs.declared.node.Node.{Node}
 use Rattle.tree_nodes.specs.Levels.{row_of, AreParts}
 use Rattle.tree_nodes.specs.Nodes.{NodeRow, least, low_behind}
@@ -41,8 +41,8 @@ use Rattle.tree_images.specs.NodeLaws.{AreChildrenLogged}
 use Rattle.tree_images.specs.Roots.{MayBeRoot}
 use Rattle.tree_images.proofs.ForestSteps.{forest_stays}
 use Rattle.tree_images.proofs.NodeSteps.{more_due}
-use Rattle.dirty_nodes.specs.Marks.{AllFrom, AllSince, is_before, is_dirty, is_dirty_with, is_marked_before}
-use Rattle.dirty_nodes.specs.Forest.{is_dirty_of, is_dirty_in, IsMarkIn, IsMarkOrIn, IsNotedIn, IsSince}
+use Rattle.dirty_nodes.specs.Marks.{AllFrom, AllSince, is_before, is_marked_before}
+use Rattle.dirty_nodes.specs.Forest.{IsMarkIn, IsMarkOrIn, IsSince}
 use Rattle.dirty_nodes.proofs.Forests.{all_since_in, each_get}
 use Rattle.in_tree.specs.declared.logged_trees.LogTrees.{LogTrees}
 use Rattle.in_tree.specs.declared.trees.Trees.{Trees}
@@ -66,25 +66,6 @@ noted_clean old new level low at there noted cleared n is =
     let w = noted.here n is in
     let unmarked : n.from ≡ None = cleared (is_level old level low there) n is in
     ap₂ (λ (a b : Bool). a || b) (ap₂ (λ (f : Bool) (l : Option ℕ). f || not (is_some l)) w.2.forced w.2.last) (ap is_some unmarked)
-
-both_true : (a b : Bool) → (a && b) ≡ true → (a ≡ true) × (b ≡ true)
-both_true true b h = (refl, h)
-both_true false b h = absurd (true≢false (sym h))
-
--- a dirty node at a place is noted
-pub dirty_noted : (forest : Forest) (places : List NodePlace) (p : NodePlace) → IsNotedIn forest places → is_dirty_in forest p ≡ true → list_any (is_place p) places ≡ true
-dirty_noted forest places p noted dirty = by_tree (get nat_cmp forest p.db) refl dirty
-  where
-    by_node : (tree : DbTree) → get nat_cmp forest p.db ≡ Some tree → (o : Option Node) → value_at p.low (row_of tree.levels p.level) ≡ o → is_dirty_with o p.node ≡ true → list_any (is_place p) places ≡ true
-    by_node tree is None there h = absurd (true≢false (sym h))
-    by_node tree is (Some n) there h =
-        let parts = both_true (n.number == p.node) (is_dirty n) h in
-        subst (λ (k : ℕ). list_any (is_place (record { level = p.level; db = p.db; node = k; low = p.low })) places ≡ true) (eqb-true n.number p.node parts.0)
-        (noted p.db tree is p.level p.low n there parts.1)
-
-    by_tree : (o : Option DbTree) → get nat_cmp forest p.db ≡ o → is_dirty_of o p ≡ true → list_any (is_place p) places ≡ true
-    by_tree None is h = absurd (true≢false (sym h))
-    by_tree (Some tree) is h = by_node tree is (value_at p.low (row_of tree.levels p.level)) refl h
 
 -- ---- a node whose children do not wait
 

@@ -30,4 +30,7 @@ pub mod DueReady
 pub mod TreesGrown
 -- Trees that are made of a log: their nodes, and what they fit.
 pub mod LoadedLaws
+-- A checkpoint notes nodes of the trees.
+pub mod NotedTrees
+-- What a checkpoint logs of the trees.
 pub mod Checkpoints

@@ -26,7 +26,7 @@ use Rattle.db_tree.specs.Seen.{occupied}
 use Rattle.db_tree.specs.Stored.{with_logged}
 use Rattle.db_tree.specs.Stored.{stored_by, stored_under, with_name, stored_in, AreQuiet, HasLogged}
 use Rattle.in_tree.specs.Stored.{stored_of, committed_cell, IsQuiet, IsSlotFor}
-use Rattle.db_tree.proofs.Contents.{none_behind}
+use Rattle.tree_nodes.proofs.RisingLists.{none_behind}
 use Rattle.in_tree.specs.Forest.{Replaces}
 use Rattle.in_tree.proofs.Forests.{number_cases, number_same, replaced, others}
 

@@ -23,7 +23,7 @@ use Rattle.db_tree.specs.declared.node_image.NodeImage.{NodeImage}
 use Rattle.db_tree.specs.declared.tree.DbTree.{DbTree}
 use Rattle.db_tree.specs.NodeImages.{AreBelowLogged, IsLoggable, IsNodeImage}
 use Rattle.tree_images.specs.Roots.{AreRootsOf, MayBeRoot}
-use Rattle.dirty_nodes.specs.Marks.{is_dirty}
+use Rattle.tree_nodes.specs.Nodes.{is_dirty}
 use Rattle.dirty_nodes.specs.Forest.{IsFrom, IsMarkOrIn}
 use Rattle.in_tree.specs.declared.trees.Trees.{Trees}
 use Rattle.in_tree.specs.Forest.{Forest}

@@ -6,11 +6,12 @@ ghost use Rattle.log_entry.specs.Items.{AreRising, IsRoot, root_before};
 ghost use Rattle.log_entry.specs.declared.entry.Entry.TheVariants.{CkptEnd};
 ghost use Rattle.record_tree.specs.declared.checkpoint_end.CheckpointEnd.{CheckpointEnd as End};
 ghost use Rattle.record_tree.specs.Nodes.{ends_at};
+ghost use Rattle.dirty_nodes.specs.Forest.{AreNotedTrees, HasAllNumbers};
 ghost use Rattle.in_tree.specs.Checkpoints.{IsEndEntry};
 
 use crate::LogTrees;
 use crate::logging_checkpoints::{image_at, log_alone};
-use dirty_nodes::{early_in, is_dirty_in, least_mark_in, noted_in, roots_in};
+use dirty_nodes::{count_in, databases_in, early_in, least_mark_in, next_in, note_in, roots_in};
 use je_disk::Disk;
 use je_lsn::Lsn;
 use je_order::{List, TxnId};
@@ -100,12 +101,30 @@ impl<D: Disk> LogTrees<D> {
     }
 }
 
+impl<D: Disk> LogTrees<D> {
+    // Notes the nodes that are dirty and those above them, and no others, in the trees of all databases.
+    fn note_all(&mut self, dbs: &[u32])
+        requires { HasAllNumbers self.old.trees.forest dbs.now }
+        ensures noted { AreNotedTrees self.old.trees.forest self.new.trees.forest }
+        ensures last_node { self.new.trees.last_node ≡ self.old.trees.last_node }
+        ensures log { self.new.log ≡ self.old.log }
+    {
+        note_in(&mut self.trees.forest, dbs);
+    }
+}
+
 impl<D: Disk> Nodes for LogTrees<D> {
-    ghost use Rattle.dirty_nodes.specs.Forest.{IsMarkIn, IsSince, is_dirty_in};
+    ghost use Rattle.dirty_nodes.specs.Forest.{IsMarkIn, IsSince, is_dirty_in, is_noted_in, is_to_note_in, left_in};
     ghost use Rattle.in_tree.specs.Checkpoints.{IsFullFor, MayEndTrees};
     ghost use Rattle.in_tree.specs.Growing.{trees_at};
 
     ghost is_dirty = { λ x p. is_dirty_in x.trees.forest p };
+
+    ghost is_noted = { λ x p. is_noted_in x.trees.forest p };
+
+    ghost is_to_note = { λ x p. is_to_note_in x.trees.forest p };
+
+    ghost left = { λ x. left_in x.trees.forest };
 
     ghost is_since = { λ x since. IsSince x.trees.forest since };
 
@@ -117,21 +136,37 @@ impl<D: Disk> Nodes for LogTrees<D> {
 
     ghost is_full = { λ x entries owed. IsFullFor x.log entries owed };
 
-    fn is_dirty(&self, place: &NodePlace) -> bool {
-        is_dirty_in(&self.trees.forest, place)
+    fn next_node(&self, alloc: Global) -> Result<Option<NodePlace>, AllocError> {
+        next_in(&self.trees.forest, alloc)
     }
 
-    fn dirty_nodes(&self, alloc: Global) -> Result<Vec<NodePlace>, AllocError> {
-        noted_in(&self.trees.forest, alloc)
+    fn count_left(&self) -> Option<u64> {
+        count_in(&self.trees.forest)
     }
 
-    fn nodes_before(&self, alloc: Global, since: Lsn) -> Result<Vec<NodePlace>, AllocError> {
-        early_in(&self.trees.forest, alloc, since)
+    fn is_since(&self, alloc: Global, since: Lsn) -> Result<bool, AllocError> {
+        let early = early_in(&self.trees.forest, alloc, since)?;
+        let none = early.is_empty();
+        drop(early);
+        Ok(none)
     }
 
     fn log_start(&mut self, alloc: Global, number: u64, owed: u32) -> Result<Lsn, TreeErr> {
+        let Ok(dbs) = databases_in(&self.trees.forest, alloc) else {
+            return Err(TreeErr::Memory);
+        };
         let entry = Entry::CkptStart { number };
-        self.log_plain(alloc, &entry, owed)
+        match self.log_plain(alloc, &entry, owed) {
+            Ok(at) => {
+                self.note_all(dbs.as_slice());
+                drop(dbs);
+                Ok(at)
+            }
+            Err(error) => {
+                drop(dbs);
+                Err(error)
+            }
+        }
     }
 
     fn log_node(&mut self, alloc: Global, place: &NodePlace, owed: u32) -> Result<(), TreeErr> {

@@ -7,9 +7,10 @@ ghost use Rattle.log_entry.specs.declared.entry.Entry.{Entry as Logged};
 ghost use Rattle.log_buffer.specs.Buffer.{end_of, file_max_of, has_failed, IsUnchanged};
 ghost use Rattle.log_buffer.specs.Flip.{placed_at, pos_lsn};
 ghost use Rattle.record_tree.specs.Logged.{IsEndOf, IsFront, IsImage, IsUndone};
+ghost use Rattle.record_tree.specs.declared.node_place.NodePlace.{NodePlace as Place};
 ghost use Rattle.record_tree.specs.declared.tree_err.TreeErr.{TreeErr as Reason};
 ghost use Rattle.db_tree.specs.NodeImages.{IsLoggable};
-ghost use Rattle.dirty_nodes.specs.Forest.{is_dirty_in};
+ghost use Rattle.dirty_nodes.specs.Forest.{is_dirty_in, is_noted_in};
 ghost use Rattle.in_tree.specs.Forest.{cells_seen, HasSameCells, HasSameTrees};
 ghost use Rattle.in_tree.specs.Checkpoints.{IsAloneIn, IsCheckpointEntry, IsFullFor};
 ghost use Rattle.in_tree.specs.Limits.{GrewFitting, HasRoomFor, TriedFitting, commit_sizes, end_behind};
@@ -100,6 +101,7 @@ pub(crate) fn log_alone<D: Disk>(
     ensures trees { HasSameTrees trees.old trees.new }
     ensures waits { waits_in trees.new ≤ waits_in trees.old }
     ensures clean { OnOk result (is_dirty_in trees.new place.now ≡ false) }
+    ensures noted { (p : Place) → is_noted_in trees.new p ≡ is_noted_in trees.old p }
 {
     match trees.get_mut(&db) {
         Some(tree) => log_image(log, tree, image),

@@ -11,6 +11,7 @@ ghost use Rattle.tree_nodes.specs.Levels.{row_of};
 ghost use Rattle.record_tree.specs.Logged.{entry_for, LogsChanges, IsFront};
 ghost use Rattle.record_tree.specs.Occupied.{AreWritten, HasChangedAll, after_commit, after_abort};
 ghost use Rattle.record_tree.specs.declared.tree_err.TreeErr.{TreeErr as Reason};
+ghost use Rattle.db_tree.specs.Notes.{AreNotesKept};
 ghost use Rattle.db_tree.specs.Seen.{with_change};
 ghost use Rattle.db_tree.specs.Shapes.{shape_in};
 ghost use Rattle.db_tree.specs.NodeImages.{IsLoggable};
@@ -156,6 +157,7 @@ pub(crate) fn log_image<D: Disk>(
     ensures tried { OnErr result (TriesImage D.observable D.history D.sync_out D.read_out D.read_of D.faults log.old log.new) }
     ensures by_fault { IfErr result (λ e. e ≡ Reason.Fault) }
     ensures clean { IsSome (value_at image.low (row_of tree.old.levels image.level)) → OnOk result (IsClean tree.new.levels image.level image.low) }
+    ensures notes { AreNotesKept tree.old.levels tree.new.levels }
     ensures cells { tree.new.cells ≡ tree.old.cells }
     ensures waits { count_waiting (shape_in tree.new) ≤ count_waiting (shape_in tree.old) }
 {

@@ -1,16 +1,21 @@
 -- The nodes of an environment's trees, and what a checkpoint logs of them.
-use Rattle.std.specs.Prelude.{ℕ, ◌≡◌, ◌≤◌, ◌⊎◌, Bool, List, None, ◌==◌, ◌&&◌}
-use Rattle.std.specs.Ordering.{is_eq}
-use Rattle.je_order.specs.Order.{name_cmp}
+use Rattle.std.specs.Prelude.{ℕ, ◌≡◌, ◌≤◌, ◌⊎◌, Bool, true, false, List, Option, None, Some}
+use Rattle.std.specs.Ordering.{is_lt, nat_cmp, ordering_then}
+use Rattle.std.specs.declared.cmp.Ordering.{Ordering}
 use Rattle.log_entry.specs.declared.entry.Entry.{Entry}
 use Rattle.log_entry.specs.declared.entry.Entry.TheVariants.{CkptEnd}
 use Rattle.log_entry.specs.declared.root.Root.{Root}
 use Rattle.record_tree.specs.declared.checkpoint_end.CheckpointEnd.{CheckpointEnd}
 use Rattle.record_tree.specs.declared.node_place.NodePlace.{NodePlace}
 
--- whether two places are one
-abbrev pub is_place : NodePlace → NodePlace → Bool
-is_place a b = (a.level == b.level) && (a.db == b.db) && (a.node == b.node) && is_eq (name_cmp a.low b.low)
+-- the order in which nodes are logged: by level, then by database, then by number
+abbrev pub place_cmp : NodePlace → NodePlace → Ordering
+place_cmp a b = ordering_then (nat_cmp a.level b.level) (ordering_then (nat_cmp a.db b.db) (nat_cmp a.node b.node))
+
+-- the next node to be logged is due, and no other node that is due comes before it; there is none where no node is due
+abbrev pub IsNext : (NodePlace → Bool) → Option NodePlace → Type 0
+IsNext is_due None = (q : NodePlace) → is_due q ≡ false
+IsNext is_due (Some p) = (is_due p ≡ true) × ((q : NodePlace) → is_due q ≡ true → is_lt (place_cmp q p) ≡ false)
 
 -- the entry of a checkpoint's end
 abbrev pub ends_at : CheckpointEnd → ℕ → ℕ → List Root → Entry

@@ -1,13 +1,12 @@
 // The nodes of an environment's trees.
-ghost use Rattle.std.specs.Prelude.{◌≡◌, ◌≤◌, ◌∷◌, [], ℕ, List, Bool, true, false, IfOk, OnOk, IfErr};
-ghost use Rattle.std.specs.List.{list_any};
+ghost use Rattle.std.specs.Prelude.{◌≡◌, ◌≤◌, ◌∷◌, ◌&&◌, [], ℕ, List, Bool, true, false, Ok, IfOk, OnOk, IfErr, IfSome};
 ghost use Rattle.log_entry.specs.declared.entry.Entry.{Entry};
 ghost use Rattle.log_entry.specs.declared.entry.Entry.TheVariants.{CkptStart};
 ghost use Rattle.log_entry.specs.declared.root.Root.{Root};
 ghost use Rattle.record_tree.specs.declared.node_place.NodePlace.{NodePlace as Place};
 ghost use Rattle.record_tree.specs.declared.tree_err.TreeErr.{TreeErr as Reason};
 ghost use Rattle.record_tree.specs.Logged.{IsEndOf, IsFront, IsImage, IsUndone};
-ghost use Rattle.record_tree.specs.Nodes.{NamesEnd, is_place};
+ghost use Rattle.record_tree.specs.Nodes.{IsNext, NamesEnd};
 ghost use Rattle.record_tree.specs.Occupied.{AreSame};
 
 use crate::{CheckpointEnd, NodePlace, Records, TreeErr};
@@ -15,10 +14,19 @@ use je_lsn::Lsn;
 use std::alloc::{AllocError, Global};
 
 /// The nodes of an environment's trees, as checkpoints log them. No call changes a record. An implementation names which
-/// nodes are dirty, and which roots a checkpoint's end may name.
+/// nodes are dirty, which of them a checkpoint has noted, and which roots its end may name.
 pub trait Nodes: Records {
     /// The node at a place is dirty: it has no image, or its last image lacks some of what it has.
     ghost is_dirty: { Self → Place → Bool };
+
+    /// The node at a place is noted: a checkpoint noted it as it began, or it was split off such a node or put above such a root since.
+    ghost is_noted: { Self → Place → Bool };
+
+    /// The node at a place is dirty, or above a dirty one.
+    ghost is_to_note: { Self → Place → Bool };
+
+    /// How many nodes are noted and dirty.
+    ghost left: { Self → ℕ };
 
     /// Each image lacks only what was logged at an LSN or behind it, and no node waits to be logged.
     ghost is_since: { Self → ℕ → Type 0 };
@@ -35,24 +43,26 @@ pub trait Nodes: Records {
     /// Entries, with so many Commits behind them, would pass the last file of the log.
     ghost is_full: { Self → List Entry → ℕ → Type 0 };
 
-    /// Whether the node at a place is dirty.
-    fn is_dirty(&self, place: &NodePlace) -> bool
-        ensures { result ≡ is_dirty self.now place.now };
+    /// The next node to be logged: of those that are noted and dirty the one of the lowest level, then of the lowest database, then with the
+    /// lowest number.
+    fn next_node(&self, alloc: Global) -> Result<Option<NodePlace>, AllocError>
+        ensures { IfOk result (IsNext (λ p. is_noted self.now p && is_dirty self.now p)) };
 
-    /// The places of the nodes that are dirty and of those above them.
-    fn dirty_nodes(&self, alloc: Global) -> Result<Vec<NodePlace>, AllocError>
-        ensures { IfOk result (λ places. (p : Place) → is_dirty self.now p ≡ true → list_any (is_place p) places.items ≡ true) };
+    /// How many nodes are noted and dirty; None where these are 2^64 or more.
+    fn count_left(&self) -> Option<u64>
+        ensures { IfSome result (λ count. count ≡ left self.now) };
 
-    /// The places of the nodes that wait to be logged, or whose image lacks what was logged before an LSN.
-    fn nodes_before(&self, alloc: Global, since: Lsn) -> Result<Vec<NodePlace>, AllocError>
-        ensures { IfOk result (λ places. places.items ≡ [] → is_since self.now since) };
+    /// Whether no node waits to be logged, nor has an image that lacks what was logged before an LSN.
+    fn is_since(&self, alloc: Global, since: Lsn) -> Result<bool, AllocError>
+        ensures { result ≡ Ok true → is_since self.now since };
 
-    /// Logs the beginning of the checkpoint of a number, and leaves room for so many Commits. An error but Fault
-    /// leaves all as it was.
+    /// Logs the beginning of the checkpoint of a number, leaves room for so many Commits, and notes the nodes that are dirty and those above
+    /// them, and no others. An error but Fault leaves all as it was.
     fn log_start(&mut self, alloc: Global, number: u64, owed: u32) -> Result<Lsn, TreeErr>
         ensures cells { AreSame (Self.cells self.old) (Self.cells self.new) }
         ensures trees { (d : ℕ) → Self.has_tree self.new d ≡ Self.has_tree self.old d }
         ensures waits { Self.waits self.new ≤ Self.waits self.old }
+        ensures noted { OnOk result ((p : Place) → is_noted self.new p ≡ is_to_note self.old p) }
         ensures grew { OnOk result (Self.grew self.old self.new (CkptStart number ∷ [])) }
         ensures left { OnOk result (Self.has_room self.new owed) }
         ensures room { OnOk result (is_full self.old (CkptStart number ∷ []) owed → ⊥) }
@@ -69,6 +79,7 @@ pub trait Nodes: Records {
         ensures trees { (d : ℕ) → Self.has_tree self.new d ≡ Self.has_tree self.old d }
         ensures waits { Self.waits self.new ≤ Self.waits self.old }
         ensures clean { OnOk result (is_dirty self.new place.now ≡ false) }
+        ensures noted { OnOk result ((p : Place) → is_noted self.new p ≡ is_noted self.old p) }
         ensures grew { OnOk result ((image : Entry) × IsImage image × Self.grew self.old self.new (image ∷ [])) }
         ensures left { OnOk result (Self.has_room self.new owed) }
         ensures tried { IsEndOf Reason.Fault result ((image : Entry) × (front : List Entry) × IsImage image × IsFront front (image ∷ []) × Self.tried self.old self.new front) }

@@ -4,3 +4,9 @@ pub mod Places
 pub mod LevelLaws
 -- The lows of a level, by the nodes that have them.
 pub mod LowLaws
+-- Lists whose names rise.
+pub mod RisingLists
+-- Nodes that are noted.
+pub mod NoteLaws
+-- Nodes that are noted and dirty.
+pub mod DueLaws

@@ -1,3 +1,4 @@
 pub mod Nodes
 pub mod Levels
 pub mod Lows
+pub mod Noted

@@ -1,5 +1,5 @@
 -- The nodes of one level, by their lows.
-use Rattle.std.specs.Prelude.{◌≡◌, ◌<◌, ℕ, min, List, [], Option, None, Some, IsSome, false, map, length, option_map, slice_index_or, if◌then◌else◌}
+use Rattle.std.specs.Prelude.{◌≡◌, ◌<◌, ◌&&◌, ◌||◌, ℕ, Bool, min, not, List, [], Option, None, Some, IsSome, is_some, false, map, length, option_map, slice_index_or, if◌then◌else◌}
 use Rattle.std.specs.List.{AllByRecursion}
 use Rattle.std.specs.BTreeMap.Range.{IsLeBy}
 use Rattle.std.specs.Ordering.{is_eq}
@@ -22,7 +22,19 @@ marked from node = record node { from = Some (earlier node.from from) }
 
 -- a node whose image was logged at an LSN
 abbrev pub logged : ℕ → Node → Node
-logged at node = record { number = node.number; last = Some at; from = None; slots = node.slots; forced = false; noted = false }
+logged at node = record { number = node.number; last = Some at; from = None; slots = node.slots; forced = false; noted = node.noted }
+
+-- a node is dirty that has no image, whose last image lacks some of what it has, or that waits to be logged
+abbrev pub is_dirty : Node → Bool
+is_dirty n = n.forced || not (is_some n.last) || is_some n.from
+
+-- a checkpoint has to log a node that it noted and that is dirty
+abbrev pub is_due : Node → Bool
+is_due n = n.noted && is_dirty n
+
+-- a node that is noted, or not
+abbrev pub noted_as : Bool → Node → Node
+noted_as noted node = record node { noted = noted }
 
 -- ---- a level: its nodes, each under its low
 

@@ -1,5 +1,5 @@
 // One level of a tree.
-ghost use Rattle.std.specs.Prelude.{◌≡◌, ◌<◌, ◌≤◌, ℕ, ◌++◌, ◌∷◌, [], length, vec_len, vec_capacity, Option, None, Some, IsSome, IfSome, IfOk, OnOk, OnErr, option_copied, option_map, map, if◌then◌else◌};
+ghost use Rattle.std.specs.Prelude.{◌≡◌, ◌<◌, ◌≤◌, ◌||◌, ℕ, ◌++◌, ◌∷◌, [], length, vec_len, vec_capacity, Option, None, Some, IsSome, IfSome, IfOk, OnOk, OnErr, option_copied, option_map, map, if◌then◌else◌};
 ghost use Rattle.std.specs.List.{AllByRecursion, slice_get};
 ghost use Rattle.std.specs.Prelude.{filter};
 ghost use Rattle.std.specs.Map.{keys_of, lookup};
@@ -13,7 +13,8 @@ ghost use Rattle.je_order.specs.declared.name.Name.{Name};
 ghost use Rattle.record_map.specs.Cells.{value_at, IsRising, first_of, last_of, from_edge, below_edge, between_edges, upper_edge};
 ghost use Rattle.je_order.specs.Edges.{is_between};
 ghost use Rattle.tree_nodes.specs.Lows.{low_up_to};
-ghost use Rattle.tree_nodes.specs.Nodes.{least, IsUpTo, IsOver, IsLowOver, HasMarked, low_behind, HasPut, HasTaken, marked, node_at, placed, ArePlaces};
+ghost use Rattle.tree_nodes.specs.Noted.{NextDue, count_due, has_noted_child, is_first_due, is_low_over, noted_row};
+ghost use Rattle.tree_nodes.specs.Nodes.{least, IsUpTo, IsOver, IsLowOver, HasMarked, low_behind, HasPut, HasTaken, is_dirty, marked, node_at, placed, ArePlaces};
 
 use crate::Node;
 use je_lsn::Lsn;
@@ -182,6 +183,68 @@ fn push_node(nodes: &mut Vec<Node>, node: &Node)
     }
 }
 
+// Whether a node is due, and has a lower number than another one that is, if there is one.
+fn is_first_due(node: &Node, found: &Option<(&SortKey, &Node)>) -> bool
+    ensures { result ≡ is_first_due node.now (option_map (λ p. p.1.now) found.now) }
+{
+    if !node.is_due() {
+        return false;
+    }
+    match found {
+        Some((_, other)) => node.number < other.number,
+        None => true,
+    }
+}
+
+// The due node with the least number, of those at the places of some lows.
+fn next_due<'a>(
+    lows: &'a BTreeMap<SortKey, usize>,
+    nodes: &'a [Node],
+) -> Option<(&'a SortKey, &'a Node)>
+    requires places { AllByRecursion (λ e. e.1 < length nodes.now) lows.now.entries }
+    requires rising { IsRising lows.now.entries }
+    ensures { NextDue (placed lows.entry.now.entries nodes.entry.now) (option_map (λ p. (p.0.now, p.1.now)) result) }
+{
+    let mut found: Option<(&SortKey, &Node)> = None;
+    for (low, place) in lows {
+        let node = &nodes[*place];
+        if is_first_due(node, &found) {
+            found = Some((low, node));
+        }
+    }
+    found
+}
+
+// How many of the nodes at the places of some lows are due.
+fn count_due(lows: &BTreeMap<SortKey, usize>, nodes: &[Node]) -> u64
+    requires { AllByRecursion (λ e. e.1 < length nodes.now) lows.now.entries }
+    ensures { result ≡ count_due (placed lows.now.entries nodes.now) }
+{
+    let _len = lows.len();
+    let mut count = 0u64;
+    for (_low, place) in lows {
+        if nodes[*place].is_due() {
+            count += 1;
+        }
+    }
+    count
+}
+
+// Notes the nodes of a level over the lows whose nodes are noted, of those at the places of some lows.
+fn note_parents(row: &mut Level, lows: &BTreeMap<SortKey, usize>, nodes: &[Node])
+    requires least { IsSome (value_at least row.old) }
+    requires places { AllByRecursion (λ e. e.1 < length nodes.now) lows.now.entries }
+    requires rising { IsRising row.old }
+    ensures noted { row.new ≡ noted_row (λ e. e.1.noted || has_noted_child (placed lows.now.entries nodes.now) row.old e.0) row.old }
+    ensures rising { IsRising row.new }
+{
+    for (low, place) in lows {
+        if nodes[*place].is_noted() {
+            row.note_over(low);
+        }
+    }
+}
+
 impl Level {
     /// No nodes. It takes no memory.
     pub fn new(alloc: Global) -> Level
@@ -320,5 +383,55 @@ impl Level {
     {
         let Level { lows, nodes: _ } = self;
         drop(lows.remove(low));
+    }
+
+    /// Notes the nodes that are dirty, and no others. It takes no memory, and goes over all nodes.
+    pub fn note_dirty(&mut self)
+        ensures noted { self.new ≡ noted_row (λ e. is_dirty e.1) self.old }
+        ensures rising { IsRising self.new }
+    {
+        let Level { lows: _, nodes } = self;
+        for place in 0..nodes.len() {
+            let noted = nodes[place].is_dirty();
+            nodes[place] = nodes[place].noted(noted);
+        }
+    }
+
+    // Notes the node over the name.
+    fn note_over(&mut self, name: &SortKey)
+        requires { IsSome (value_at least self.old) }
+        ensures noted { self.new ≡ noted_row (λ e. e.1.noted || is_low_over self.old name.now e.0) self.old }
+        ensures rising { IsRising self.new }
+    {
+        let Level { lows, nodes } = self;
+        let (_low, place) = low_over(lows, name);
+        nodes[place] = nodes[place].noted(true);
+    }
+
+    /// Notes the nodes of which a child is noted, which is a node of the level below. It takes no memory, and goes over that level.
+    pub fn note_above(&mut self, below: &Level)
+        requires least { IsSome (value_at least self.old) }
+        requires rising { IsRising self.old }
+        ensures noted { self.new ≡ noted_row (λ e. e.1.noted || has_noted_child below.now self.old e.0) self.old }
+        ensures rising { IsRising self.new }
+    {
+        let Level { lows, nodes } = below;
+        note_parents(self, lows, nodes.as_slice());
+    }
+
+    /// The node with the least number of those that are noted and dirty, with its low. It goes over the level.
+    pub fn next_due(&self) -> Option<(&SortKey, &Node)>
+        ensures { NextDue self.now (option_map (λ p. (p.0.now, p.1.now)) result) }
+    {
+        let Level { lows, nodes } = self;
+        next_due(lows, nodes.as_slice())
+    }
+
+    /// How many nodes are noted and dirty. It goes over the level.
+    pub fn count_due(&self) -> u64
+        ensures { result ≡ count_due self.now }
+    {
+        let Level { lows, nodes } = self;
+        count_due(lows, nodes.as_slice())
     }
 }

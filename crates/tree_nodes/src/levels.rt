@@ -1,5 +1,5 @@
 // All levels of a tree.
-ghost use Rattle.std.specs.Prelude.{◌≡◌, ◌<◌, ◌+◌, ◌-◌, ℕ, suc, zero, [], ◌∷◌, length, take, Option, None, Some, IsSome, IfSome, IfOk, OnOk, OnErr, option_copied, map};
+ghost use Rattle.std.specs.Prelude.{◌≡◌, ◌<◌, ◌+◌, ◌-◌, ℕ, suc, zero, [], ◌∷◌, length, take, Option, None, Some, IsSome, IfSome, IfOk, OnOk, OnErr, option_copied, option_map, map};
 ghost use Rattle.std.specs.declared.cmp.Ordering.TheVariants.{Less};
 ghost use Rattle.je_order.specs.Order.{name_cmp};
 ghost use Rattle.je_order.specs.Edges.Edge.{At};
@@ -10,6 +10,7 @@ ghost use Rattle.std.specs.List.{slice_get};
 ghost use Rattle.std.specs.Map.{keys_of};
 ghost use Rattle.je_order.specs.Edges.{is_between};
 ghost use Rattle.tree_nodes.specs.Lows.{lows_of, low_up_to, with_low, with_root};
+ghost use Rattle.tree_nodes.specs.Noted.{AreNoted, HasNotedLevel, NextIn, count_all_due};
 ghost use Rattle.tree_nodes.specs.Levels.{row_of, AreParts, HasPutAt, HasTakenAt, HasMarkedAt, HasRaised, slot_of};
 
 use crate::{Level, Node};
@@ -93,6 +94,32 @@ fn remove_in(levels: &mut [Level], level: usize, low: &SortKey)
 {
     let row = &mut levels[level];
     row.remove(low);
+}
+
+// Notes the nodes of a level that are dirty, or of which a child is noted.
+fn note_level(levels: &mut [Level], level: usize)
+    requires parts { AreParts levels.old }
+    requires there { level < length levels.old }
+    ensures noted { HasNotedLevel levels.old levels.new level }
+    ensures parts { AreParts levels.new }
+{
+    let (below, rest) = levels.split_at_mut(level);
+    let row = &mut rest[0];
+    row.note_dirty();
+    if level > 0 {
+        row.note_above(&below[level - 1]);
+    }
+}
+
+// Notes the nodes that are dirty and those above them.
+fn note_all(levels: &mut [Level])
+    requires parts { AreParts levels.old }
+    ensures noted { AreNoted levels.old levels.new }
+    ensures parts { AreParts levels.new }
+{
+    for level in 0..levels.len() {
+        note_level(levels, level);
+    }
 }
 
 impl Levels {
@@ -260,5 +287,39 @@ impl Levels {
         ensures parts { AreParts self.new }
     {
         drop(self.levels.pop());
+    }
+
+    /// Notes the nodes that are dirty and those above them, and no others. It takes no memory, and goes over all nodes.
+    pub fn note_dirty(&mut self)
+        ensures noted { AreNoted self.old self.new }
+        ensures parts { AreParts self.new }
+    {
+        note_all(self.levels.as_mut_slice());
+    }
+
+    /// The next node that a checkpoint logs, with its level and its low: of those that are noted and dirty the one of the lowest level, and of
+    /// these the one with the least number. It goes over the levels up to that one.
+    pub fn next_due(&self) -> Option<(usize, &SortKey, &Node)>
+        ensures { NextIn self.now (option_map (λ p. (p.0, p.1.now, p.2.now)) result) }
+    {
+        let Levels { levels } = self;
+        for level in 0..levels.len() {
+            let row: &Level = &levels[level];
+            if let Some((low, node)) = row.next_due() {
+                return Some((level, low, node));
+            }
+        }
+        None
+    }
+
+    /// How many nodes are noted and dirty; None where these are 2^64 or more. It goes over all nodes.
+    pub fn count_due(&self) -> Option<u64>
+        ensures { IfSome result (λ count. count ≡ count_all_due self.now) }
+    {
+        let mut count = 0u64;
+        for row in self.levels.as_slice() {
+            count = count.checked_add(row.count_due())?;
+        }
+        Some(count)
     }
 }

@@ -1,6 +1,6 @@
 // A node of a tree.
 ghost use Rattle.std.specs.Prelude.{◌≡◌};
-ghost use Rattle.tree_nodes.specs.Nodes.{earlier, marked, logged};
+ghost use Rattle.tree_nodes.specs.Nodes.{earlier, is_dirty, is_due, logged, marked, noted_as};
 
 use je_lsn::Lsn;
 
@@ -20,7 +20,8 @@ pub struct Node {
     pub slots: u32,
     /// Whether it has no image of its own.
     pub forced: bool,
-    /// Whether the checkpoint under way has to wait for an image of it.
+    /// Whether the checkpoint that began last noted it, and so has to wait for an image of it. A node that was split off has this
+    /// of the node that it was split from.
     pub noted: bool,
 }
 
@@ -73,7 +74,42 @@ impl Node {
             from: None,
             slots: self.slots,
             forced: false,
-            noted: false,
+            noted: self.noted,
+        }
+    }
+
+    /// Whether the node is dirty: it has no image, its last image lacks some of what it has, or it waits to be logged.
+    pub fn is_dirty(&self) -> bool
+        ensures { result ≡ is_dirty self.now }
+    {
+        self.forced || self.last.is_none() || self.from.is_some()
+    }
+
+    /// Whether the node is noted.
+    pub fn is_noted(&self) -> bool
+        ensures { result ≡ self.now.noted }
+    {
+        self.noted
+    }
+
+    /// Whether a checkpoint has to log the node: it is noted, and dirty.
+    pub fn is_due(&self) -> bool
+        ensures { result ≡ is_due self.now }
+    {
+        self.noted && self.is_dirty()
+    }
+
+    /// The node, noted or not.
+    pub fn noted(&self, noted: bool) -> Node
+        ensures { result ≡ noted_as noted self.now }
+    {
+        Node {
+            number: self.number,
+            last: self.last,
+            from: self.from,
+            slots: self.slots,
+            forced: self.forced,
+            noted,
         }
     }
 }

@@ -187,3 +187,117 @@ fn aborts_behind_a_checkpoint(rt: HostRuntime) -> Result<(), Fail> {
     assert!(rt; stop_at_each_call(&rt, alloc, &RUN, ABORTS, &mut prefixes)? == Some(1));
     Ok(())
 }
+
+// Where a noted node is split its new half is noted, and so is the root above it. The put splits node 2 into 2 and 3, under the new root 4;
+// these are logged, so they are clean until the put commits in 3, and until 3 is logged below 4.
+const SPLIT: &[u8] = b"s1 create t plain\n\
+s1 put t 61 31\n\
+s1 put t 62 31\n\
+s1 put t 63 31\n\
+s1 put t 64 31\n\
+m begin\n\
+s1 put t 65 31\n\
+m flush\n\
+m flush\n\
+m finish\n\
+m flush\n\
+m flush\n\
+m finish\n";
+
+const SPLIT_TEXT: &str = "1 s1 ok\n\
+2 s1 ok\n\
+3 s1 ok\n\
+4 s1 ok\n\
+5 s1 ok\n\
+6 m ok\n\
+7 s1 ok\n\
+8 m flushed 1\n\
+9 m flushed 3\n\
+10 m nodesleft 1\n\
+11 m flushed 4\n\
+12 m nothing\n\
+13 m ok\n\
+end commits 6 databases 1 records 5\n";
+
+// A noted node that was logged and is dirty again is logged again: the catalog's by a new database, whose root is not noted, and the database's by
+// a record.
+const AGAIN: &[u8] = b"s1 create t plain\n\
+s1 put t 61 31\n\
+m begin\n\
+m flush\n\
+s1 create u plain\n\
+m flush\n\
+m flush\n\
+m flush\n\
+s1 put t 62 31\n\
+m finish\n\
+m flush\n\
+m flush\n\
+m finish\n";
+
+const AGAIN_TEXT: &str = "1 s1 ok\n\
+2 s1 ok\n\
+3 m ok\n\
+4 m flushed 1\n\
+5 s1 ok\n\
+6 m flushed 1\n\
+7 m flushed 2\n\
+8 m nothing\n\
+9 s1 ok\n\
+10 m nodesleft 1\n\
+11 m flushed 2\n\
+12 m nothing\n\
+13 m ok\n\
+end commits 4 databases 2 records 2\n";
+
+// A node that was clean as the checkpoint began is not noted, nor is the root that is put above it: the checkpoint does not wait for them.
+const CLEAN: &[u8] = b"s1 create t plain\n\
+s1 put t 61 31\n\
+s1 put t 62 31\n\
+s1 put t 63 31\n\
+s1 put t 64 31\n\
+m begin\n\
+m flush\n\
+m flush\n\
+m finish\n\
+m begin\n\
+s1 put t 65 31\n\
+m flush\n\
+m finish\n\
+m begin\n\
+m flush\n\
+m flush\n\
+m flush\n\
+m finish\n";
+
+const CLEAN_TEXT: &str = "1 s1 ok\n\
+2 s1 ok\n\
+3 s1 ok\n\
+4 s1 ok\n\
+5 s1 ok\n\
+6 m ok\n\
+7 m flushed 1\n\
+8 m flushed 2\n\
+9 m ok\n\
+10 m ok\n\
+11 s1 ok\n\
+12 m nothing\n\
+13 m ok\n\
+14 m ok\n\
+15 m flushed 3\n\
+16 m flushed 4\n\
+17 m nothing\n\
+18 m ok\n\
+end commits 6 databases 1 records 5\n";
+
+#[test]
+fn noted_nodes_are_logged(rt: HostRuntime) -> Result<(), Fail> {
+    let alloc = rt.alloc();
+    let split = run_args(alloc, &RUN_NARROW, MemDisk::new(alloc), SPLIT)?;
+    assert_ran(&rt, &split, 0, SPLIT_TEXT);
+    let again = run_args(alloc, &RUN_NARROW, MemDisk::new(alloc), AGAIN)?;
+    assert_ran(&rt, &again, 0, AGAIN_TEXT);
+    let clean = run_args(alloc, &RUN_NARROW, MemDisk::new(alloc), CLEAN)?;
+    assert_ran(&rt, &clean, 0, CLEAN_TEXT);
+    Ok(())
+}

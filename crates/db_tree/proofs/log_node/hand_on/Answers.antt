@@ -1,10 +1,14 @@
-use Rattle.std.proofs.Common.{ℕ, Some, ap, sym, subst, refl, add-one, ◌+◌, ◌∙◌}
+use Rattle.std.proofs.Common.{ℕ, Some, ap, sym, subst, add-one, ◌+◌, ◌∙◌}
 use Rattle.tree_nodes.specs.Levels.{HasMarkedAt}
 use Rattle.db_tree.proofs.NodeLogging.{handed_on}
 use Rattle.db_tree.proofs.Records.{marks}
 use Rattle.db_tree.proofs.WaitLaws.{mark_alike}
 use Rattle.db_tree.proofs.NodeSteps.{nodes_marked}
+use Rattle.db_tree.proofs.NotingLaws.{notes_marked}
 use Rattle.db_tree.proofs.log_node.hand_on.Goals as goal
+
+pub returns-clause-notes : goal.returns-clause-notes
+returns-clause-notes c = notes_marked c.args.levels.now c.mark.new.self (c.args.level + 1) c.args.low.now c.mark_above.result c.mark.ensures.marked
 
 pub returns-clause-handed : goal.returns-clause-handed
 returns-clause-handed c = λ p over f is.

@@ -1,11 +1,19 @@
 use Rattle.std.proofs.Common.{Some, ◌≤◌, ◌∙◌, ℕ, ap, subst, sym}
 use Rattle.tree_nodes.specs.declared.node.Node.{Node}
 use Rattle.tree_nodes.specs.Levels.{HasPutAt}
+use Rattle.record_map.specs.Cells.{value_at}
 use Rattle.db_tree.specs.Content.{held_by}
 use Rattle.db_tree.proofs.NodeLogging.{image_noted}
 use Rattle.db_tree.proofs.NoteLaws.{cleared, noted_lows, noted_waits, few_still, past_waits, none_waits}
 use Rattle.db_tree.proofs.NodeSteps.{node_noted}
+use Rattle.db_tree.proofs.NotingLaws.{notes_put, notes_then}
 use Rattle.db_tree.proofs.tree.DbTree.note_image.Goals as goal
+
+pub returns-clause-notes : goal.returns-clause-notes
+returns-clause-notes c =
+    notes_then c.args.self.now.levels c.hand_on.new.levels c.set.new.self c.hand_on.ensures.notes
+    (notes_put c.hand_on.new.levels c.set.new.self c.args.level c.args.low.now c.copy-node.result c.logged.result
+    (ap (value_at c.args.low.now) c.hand_on.ensures.row ∙ sym c.in-Some.ensures ∙ ap Some (sym c.copy-node.ensures)) c.set.ensures.put (ap (λ (n : Node). n.number) c.logged.ensures) (ap (λ (n : Node). n.noted) c.logged.ensures))
 
 pub returns-clause-tree : goal.returns-clause-tree
 returns-clause-tree c = λ es base newest image tree.
