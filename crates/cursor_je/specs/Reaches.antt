@@ -9,8 +9,8 @@ use Rattle.store_model.specs.declared.kind.Kind.{Kind}
 use Rattle.store_model.specs.Store.{Pair}
 use Rattle.store_model.specs.Reads.{Look, Range, look, range, passed_to}
 use Rattle.store_model.specs.Reads.Way.{Lowest, Highest, Each}
-use Rattle.store_model.specs.Records.{look_of}
-use Rattle.store_model.specs.Needs.{Part, ends, part_of, part_needs}
+use Rattle.store_model.specs.Records.{look_of, early_of, conclude}
+use Rattle.store_model.specs.Needs.{Part, ends, part_of, part_needs, needs_unless}
 use Rattle.cursor_je.specs.Looks.{edge_in, seen_by}
 use Rattle.cursor_je.specs.declared.read_part.ReadPart.{ReadPart}
 use Rattle.cursor_je.specs.declared.reach.Reach.{Reach}
@@ -48,3 +48,9 @@ read_needs level db kind call at answered pairs occupied =
     let l = look_of kind call at in
     let taken = seen_by kind l pairs in
     part_needs db (part_of level call) (passed_to kind l.way l.range taken) (ends l.way answered taken) occupied
+
+-- the same of a call that its cursor's place does not answer, and nothing of one that it does
+abbrev pub read_unless : Isolation → ℕ → Kind → Call → Option Name → List Pair → List Name → List Need
+read_unless level db kind call at pairs occupied =
+    let l = look_of kind call at in
+    needs_unless (early_of kind call at pairs) (read_needs level db kind call at (conclude kind call at (seen_by kind l pairs)).answered pairs occupied)

@@ -9,7 +9,7 @@ ghost use Rattle.store_model.specs.Reads.{at_name, range, is_within};
 ghost use Rattle.store_model.specs.Records.{evaluation};
 ghost use Rattle.store_model.specs.Needs.{need, place_of, first_from, needs_behind, part_needs, write_type, changed_name, insert_needs, write_needs, needs_of};
 ghost use Rattle.cursor_je.specs.Looks.{name_in, edge_in, planned_in};
-ghost use Rattle.cursor_je.specs.Reaches.{part_in, range_in, kept_below, read_needs};
+ghost use Rattle.cursor_je.specs.Reaches.{part_in, range_in, kept_below, read_needs as needs_of_read, read_unless};
 
 use crate::name_ref::name_ref;
 use crate::planned::Planned;
@@ -151,7 +151,7 @@ fn push_read<V: View + Names>(
     at: Option<&Name>,
     answered: bool,
 ) -> Result<(), AllocError>
-    ensures { OnOk result (needs.new.items ≡ needs.old.items ++ read_needs level db (V.kind_of view.now) call.now (option_copied at.entry) answered (V.pairs_of view.now) (V.names_of view.now)) }
+    ensures { OnOk result (needs.new.items ≡ needs.old.items ++ needs_of_read level db (V.kind_of view.now) call.now (option_copied at.entry) answered (V.pairs_of view.now) (V.names_of view.now)) }
 {
     let Some(part) = part_of(level, call) else {
         return Ok(());
@@ -202,8 +202,9 @@ fn push_insert<V: View + Names>(
     }
 }
 
-// Puts the needs of a change at the end.
-fn push_write<V: View + Names>(
+/// Puts the needs of a change in the database of that number at the end: its name, and where that has no record the
+/// place behind it. The only error is out of memory.
+pub fn push_write<V: View + Names>(
     alloc: Global,
     view: &V,
     needs: &mut Vec<Need>,
@@ -236,10 +237,10 @@ fn push_writes<V: View + Names>(
     Ok(())
 }
 
-/// The locks that a call needs at a level, in the database of that number, with its cursor at that place, where it comes
-/// to what was planned: what its read passes, and then what it changes, in order. It looks at the occupied names that the
-/// read passes, and at one or two for each change. The only error is out of memory.
-pub fn needs<V: View + Names>(
+/// The locks of what a call reads at a level, in the database of that number, with its cursor at that place, where it
+/// comes to what was planned: none where the cursor's place alone answers it. It looks at the occupied names that the
+/// read passes. The only error is out of memory.
+pub fn read_needs<V: View + Names>(
     alloc: Global,
     view: &V,
     level: Isolation,
@@ -249,7 +250,7 @@ pub fn needs<V: View + Names>(
     planned: &Planned,
 ) -> Result<Vec<Need>, AllocError>
     requires { planned_in planned.now ≡ evaluation (V.kind_of view.now) call.now (option_copied at) (V.pairs_of view.now) }
-    ensures { IfOk result (λ needs. needs.items ≡ needs_of level db (V.kind_of view.now) call.now (option_copied at.entry) (V.pairs_of view.now) (V.names_of view.now)) }
+    ensures { IfOk result (λ needs. needs.items ≡ read_unless level db (V.kind_of view.now) call.now (option_copied at.entry) (V.pairs_of view.now) (V.names_of view.now)) }
 {
     let mut needs = Vec::new(alloc);
     if early_of(alloc, view, call, at)?.is_some() {
@@ -265,6 +266,25 @@ pub fn needs<V: View + Names>(
         at,
         planned.answered,
     )?;
+    Ok(needs)
+}
+
+/// The locks that a call needs at a level, in the database of that number, with its cursor at that place, where it comes
+/// to what was planned: what its read passes, and then what it changes, in order. It looks at the occupied names that the
+/// read passes, and at one or two for each change. The only error is out of memory.
+pub fn needs<V: View + Names>(
+    alloc: Global,
+    view: &V,
+    level: Isolation,
+    db: u32,
+    call: &Call,
+    at: Option<&Name>,
+    planned: &Planned,
+) -> Result<Vec<Need>, AllocError>
+    requires { planned_in planned.now ≡ evaluation (V.kind_of view.now) call.now (option_copied at) (V.pairs_of view.now) }
+    ensures { IfOk result (λ needs. needs.items ≡ needs_of level db (V.kind_of view.now) call.now (option_copied at.entry) (V.pairs_of view.now) (V.names_of view.now)) }
+{
+    let mut needs = read_needs(alloc, view, level, db, call, at, planned)?;
     push_writes(
         alloc,
         view,

@@ -1,18 +1,22 @@
 -- What a call on the catalog comes to, and the catalog's records that a change logs.
 use Rattle.std.specs.Prelude.{ℕ, ◌≡◌, ◌∷◌, [], List, Option, Some, None, Bool, true, false, length}
 use Rattle.std.specs.Option.{is_some}
+use Rattle.std.specs.List.{list_any}
 use Rattle.store_model.specs.declared.store.Store.{Store}
 use Rattle.store_model.specs.declared.store.Database.{Database}
 use Rattle.store_model.specs.declared.kind.Kind.{Kind}
 use Rattle.store_model.specs.declared.kind.Kind.TheVariants.{Plain, Dup}
 use Rattle.store_model.specs.declared.call.Call.{Call}
-use Rattle.store_model.specs.declared.call.Call.TheVariants.{Create, List as Lists, Remove as Removes, Rename as Renames, Truncate}
+use Rattle.store_model.specs.declared.call.Call.TheVariants.{Create, CreateIndex, List as Lists, Remove as Removes, Rename as Renames, Truncate}
 use Rattle.store_model.specs.declared.change.Change.{Change}
-use Rattle.store_model.specs.declared.change.Change.TheVariants.{Set, Unset, Make, Remove, Rename, Empty}
+use Rattle.store_model.specs.declared.change.Change.TheVariants.{Set, Unset, Make, MakeIndex, Remove, Rename, Empty}
+use Rattle.store_model.specs.declared.extract.Extract.{Extract}
+use Rattle.store_model.specs.declared.extract.Extract.TheVariants.{ByteSlice, Field}
 use Rattle.store_model.specs.declared.answer.Answer.{Answer}
 use Rattle.store_model.specs.Store.{database_of}
+use Rattle.store_model.specs.Indexes.{is_index_of}
 use Rattle.store_model.specs.Evaluation.{Outcome, answers, evaluation}
-use Rattle.store_model.specs.Refusals.{or_refusal, creation_refusal, access_refusal, taken_refusal}
+use Rattle.store_model.specs.Refusals.{or_refusal, creation_refusal, access_refusal, taken_refusal, indexed_refusal, is_primary}
 use Rattle.db_catalog.specs.declared.db_record.DbRecord.{DbRecord}
 use Rattle.db_catalog.specs.declared.db_kind.DbKind.{DbKind}
 use Rattle.db_catalog.specs.declared.db_kind.DbKind.TheVariants.{Plain as PlainRecord, Dup as DupRecord, SliceIndex, FieldIndex}
@@ -34,16 +38,20 @@ abbrev pub outcome_unless : Option Answer → Outcome → Outcome
 outcome_unless None outcome = outcome
 outcome_unless (Some refusal) outcome = answers refusal
 
--- the database is not there
+-- the database is not there, or the one that an index is to be of
 abbrev pub there_refusal : Call → Store → Option Answer
+there_refusal (CreateIndex db index) store = access_refusal (is_primary (database_of index.primary store))
 there_refusal (Removes db) store = access_refusal (is_some (database_of db store))
 there_refusal (Renames db to) store = access_refusal (is_some (database_of db store))
 there_refusal (Truncate db) store = access_refusal (is_some (database_of db store))
 there_refusal call store = None
 
--- a name is taken, or there are too many databases
+-- a name is taken, the database has indexes, or there are too many databases
 abbrev pub name_refusal : Call → Store → Option Answer
 name_refusal (Create db kind) store = creation_refusal (is_some (database_of db store)) (length store.databases)
+name_refusal (CreateIndex db index) store = creation_refusal (is_some (database_of db store)) (length store.databases)
+name_refusal (Removes db) store = indexed_refusal (list_any (is_index_of db) store.databases)
+name_refusal (Truncate db) store = indexed_refusal (list_any (is_index_of db) store.databases)
 name_refusal (Renames db to) store = taken_refusal (is_some (database_of to store))
 name_refusal call store = None
 
@@ -100,22 +108,36 @@ abbrev pub renewed : List ℕ → ℕ → Option DbRecord → List CatalogChange
 renewed db number None = []
 renewed db number (Some r) = Put db (renumbered number r) ∷ []
 
+-- an index as the catalog has it, by the number of its primary
+abbrev pub index_in_catalog : ℕ → Extract → DbKind
+index_in_catalog primary (ByteSlice offset len) = SliceIndex primary offset len
+index_in_catalog primary (Field number separator) = FieldIndex primary number separator
+
+-- an index that is made names its primary by the number of that one's record
+abbrev pub indexed : List ℕ → ℕ → Extract → Option DbRecord → List CatalogChange
+indexed db number extract None = []
+indexed db number extract (Some primary) = Put db (record { number = number; kind = index_in_catalog primary.number extract }) ∷ []
+
 -- the changes of the catalog's records that log a change, in order; `record_of` is the record of a name, and a database that
 -- is made or emptied gets the number
 abbrev pub logged_as : (List ℕ → Option DbRecord) → ℕ → Change → List CatalogChange
 logged_as record_of number (Set db at value) = []
 logged_as record_of number (Unset db at) = []
 logged_as record_of number (Make db kind) = Put db (record { number = number; kind = kind_in_catalog kind }) ∷ []
+logged_as record_of number (MakeIndex db index) = indexed db number index.extract (record_of index.primary)
 logged_as record_of number (Remove db) = Delete db ∷ []
 logged_as record_of number (Rename db to) = moved db to (record_of db)
 logged_as record_of number (Empty db) = renewed db number (record_of db)
 
--- the same for a change that a call makes on a store: a renamed database's record goes, and comes under the new name with the
--- number that it had; an emptied one's comes with the number; both have the database's kind
+-- the same for a change that a call makes on a store: an index's record has a number for its primary, which is there; a renamed database's
+-- record goes, and comes under the new name with the number that it had; an emptied one's comes with the number; both have the database's kind
 abbrev pub IsCatalogLog : Store → ℕ → Change → List CatalogChange → Type 0
 IsCatalogLog store number (Set db at value) logged = logged ≡ []
 IsCatalogLog store number (Unset db at) logged = logged ≡ []
 IsCatalogLog store number (Make db kind) logged = logged ≡ Put db (record { number = number; kind = kind_in_catalog kind }) ∷ []
+IsCatalogLog store number (MakeIndex db index) logged =
+    (d : Database) × (primary : ℕ) × (database_of index.primary store ≡ Some d)
+    × (logged ≡ Put db (record { number = number; kind = index_in_catalog primary index.extract }) ∷ [])
 IsCatalogLog store number (Remove db) logged = logged ≡ Delete db ∷ []
 IsCatalogLog store number (Rename db to) logged =
     (d : Database) × (old : ℕ) × (database_of db store ≡ Some d) × (logged ≡ Delete db ∷ Put to (record { number = old; kind = kind_in_catalog d.kind }) ∷ [])

@@ -2,6 +2,7 @@
 ghost use Rattle.std.specs.Prelude.{◌≡◌, ℕ, List as Items, Option, IfOk, is_some, length};
 ghost use Rattle.store_model.specs.declared.store.Store.{Store as Stored};
 ghost use Rattle.store_model.specs.Store.{database_of, names_of};
+ghost use Rattle.store_model.specs.Indexes.{HasNoIndex};
 ghost use Rattle.db_catalog.specs.Planning.{IsCatalogOf};
 ghost use Rattle.db_catalog.specs.declared.db_record.DbRecord.{DbRecord as Row};
 
@@ -20,6 +21,9 @@ pub trait CatalogView {
 
     /// There is a record for each database of the store, of its kind, and no other.
     ghost laws: { (view : Self) → IsCatalogOf (seen view) (record_of view) };
+
+    /// No database is an index.
+    ghost plain: { (view : Self) → HasNoIndex (seen view) };
 
     /// Whether there is a database of that name.
     fn has(&self, alloc: Global, name: &Word) -> Result<bool, AllocError>

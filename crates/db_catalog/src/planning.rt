@@ -1,14 +1,15 @@
 // What a call on the catalog comes to.
-ghost use Rattle.std.specs.Prelude.{◌≡◌, ◌∷◌, [], true, IfOk};
+ghost use Rattle.std.specs.Prelude.{◌≡◌, ◌∷◌, [], List as Items, true, IfOk};
 ghost use Rattle.store_model.specs.Evaluation.{answers, changes_by};
 ghost use Rattle.store_model.specs.declared.call.Call.{Call as Planned};
+ghost use Rattle.store_model.specs.declared.change.Change.{Change as Changes};
 ghost use Rattle.store_model.specs.declared.call.Call.TheVariants.{Create, List as Lists, Remove as Removes, Rename as Renames, Truncate};
-ghost use Rattle.db_catalog.specs.Planning.{is_catalog_call, outcome_of, logged_as, kind_in_catalog, moved, renewed, IsCatalogLog};
+ghost use Rattle.db_catalog.specs.Planning.{is_catalog_call, outcome_of, logged_as, kind_in_catalog, index_in_catalog, indexed, moved, renewed, IsCatalogLog};
 
 use crate::{CatalogChange, CatalogView, DbKind, DbRecord};
 use je_order::{List, Word, copy_of};
 use std::alloc::{AllocError, Global};
-use store_model::{Answer, Call, Change, Kind, MOST_DATABASES};
+use store_model::{Answer, Call, Change, Extract, Kind, MOST_DATABASES};
 
 /// What a call comes to: its answer, and the changes that it makes, in order.
 #[derive(Drop)]
@@ -152,6 +153,42 @@ fn catalog_kind(kind: &Kind) -> DbKind
     }
 }
 
+// An index as the catalog has it, by the number of its primary.
+fn catalog_index(primary: u32, extract: &Extract) -> DbKind
+    ensures { result ≡ index_in_catalog primary extract.now }
+{
+    match extract {
+        Extract::ByteSlice { offset, length } => DbKind::SliceIndex {
+            primary,
+            offset: *offset,
+            len: *length,
+        },
+        Extract::Field { number, separator } => DbKind::FieldIndex {
+            primary,
+            number: *number,
+            separator: *separator,
+        },
+    }
+}
+
+fn log_index(
+    alloc: Global,
+    db: &Word,
+    number: u32,
+    extract: &Extract,
+    primary: Option<DbRecord>,
+) -> Result<List<CatalogChange>, AllocError>
+    ensures { IfOk result (λ logged. logged ≡ indexed db.now number extract.now primary) }
+{
+    let Some(primary) = primary else {
+        return Ok(List::new(alloc));
+    };
+    let kind = catalog_index(primary.number, extract);
+    let row = DbRecord { number, kind };
+    let db = copy_of(db)?;
+    one_record(alloc, CatalogChange::Put { db, row })
+}
+
 fn log_rename(
     alloc: Global,
     db: &Word,
@@ -188,8 +225,9 @@ fn log_truncation(
 
 /// The changes of the catalog's records that log a change, in order; none where it changes records of
 /// another database. A database that is made or emptied gets the number, which is to be the next one;
-/// a renamed one keeps its own. A rename that was planned on what the view sees logs two changes, and
-/// any other planned change of the catalog logs one. The one error is out of memory.
+/// a renamed one keeps its own, by which its indexes' records name it. A rename that was planned on
+/// what the view sees logs two changes, and any other planned change of the catalog logs one. The one
+/// error is out of memory.
 pub fn catalog_changes<V: CatalogView>(
     alloc: Global,
     view: &V,
@@ -197,7 +235,7 @@ pub fn catalog_changes<V: CatalogView>(
     change: &Change,
 ) -> Result<List<CatalogChange>, AllocError>
     ensures exact { IfOk result (λ logged. logged ≡ logged_as (V.record_of view.now) number change.now) }
-    ensures planned { IfOk result (λ logged. (call : Planned) → (outcome_of call (V.seen view.now)).changes ≡ change.now ∷ [] → IsCatalogLog (V.seen view.now) number change.now logged) }
+    ensures planned { IfOk result (λ logged. (call : Planned) (rest : Items Changes) → (outcome_of call (V.seen view.now)).changes ≡ change.now ∷ rest → IsCatalogLog (V.seen view.now) number change.now logged) }
 {
     changes_of(alloc, view, number, change)
 }
@@ -219,6 +257,10 @@ fn changes_of<V: CatalogView>(
             };
             let db = copy_of(db)?;
             one_record(alloc, CatalogChange::Put { db, row })
+        }
+        Change::MakeIndex { db, index } => {
+            let primary = view.row(alloc, &index.primary)?;
+            log_index(alloc, db, number, &index.extract, primary)
         }
         Change::Remove { db } => one_record(alloc, CatalogChange::Delete { db: copy_of(db)? }),
         Change::Rename { db, to } => log_rename(alloc, db, to, view.row(alloc, db)?),

@@ -3,7 +3,7 @@ use Rattle.std.proofs.Common.{◌≡◌, ℕ, List, [], ◌∷◌, Option, None,
 use Rattle.store_model.specs.declared.answer.Answer.{Answer}
 use Rattle.store_model.specs.declared.answer.Fault.{Fault}
 use Rattle.store_model.specs.declared.call.Call.{Call}
-use Rattle.store_model.specs.declared.call.Call.TheVariants.{List as Lists, Create, Remove, Rename, Truncate, Get, GetBoth, Put, Delete}
+use Rattle.store_model.specs.declared.call.Call.TheVariants.{List as Lists, Create, CreateIndex, Remove, Rename, Truncate, Get, GetBoth, Put, Delete}
 use Rattle.store_model.specs.declared.change.Change.{Change}
 use Rattle.store_model.specs.declared.need.Need.{Need}
 use Rattle.store_model.specs.Refusals.{or_refusal}
@@ -23,6 +23,7 @@ use Rattle.txn_core.specs.Planning.{outcome_alone, outcome_on, performed_outcome
 never_inside : (call : Call) → IsAutoCommitted call → txn_refusal call None ≡ None
 never_inside Lists is = refl
 never_inside (Create db kind) is = refl
+never_inside (CreateIndex db index) is = refl
 never_inside (Remove db) is = refl
 never_inside (Rename db to) is = refl
 never_inside (Truncate db) is = refl
@@ -48,6 +49,7 @@ changes_on_records (Some g) p session call =
 changes_are : (call : Call) (p : Alone) (session : ℕ) → IsAutoCommitted call → changes_performed call (alone p) session ≡ (performed_outcome p session call).changes
 changes_are Lists p session is = refl
 changes_are (Create db kind) p session is = refl
+changes_are (CreateIndex db index) p session is = refl
 changes_are (Remove db) p session is = refl
 changes_are (Rename db to) p session is = refl
 changes_are (Truncate db) p session is = refl

@@ -6,7 +6,7 @@ use Rattle.store_model.specs.declared.store.TheConstants.{LAST_DATABASE, LAST_TX
 use Rattle.store_model.specs.declared.store.Database.{Database}
 use Rattle.store_model.specs.declared.store.Store.{Store}
 use Rattle.store_model.specs.declared.call.Call.{Call}
-use Rattle.store_model.specs.declared.call.Call.TheVariants.{List as Lists, Create, Remove, Rename, Truncate, Get, GetBoth, Put, Delete}
+use Rattle.store_model.specs.declared.call.Call.TheVariants.{List as Lists, Create, CreateIndex, Remove, Rename, Truncate, Get, GetBoth, Put, Delete}
 use Rattle.store_model.specs.declared.change.Change.{Change}
 use Rattle.store_model.specs.declared.change.Change.TheVariants.{Make, Remove as Removes, Rename as Renames, Empty}
 use Rattle.store_model.specs.declared.record_change.RecordChange.{RecordChange}
@@ -14,15 +14,17 @@ use Rattle.store_model.specs.declared.record_change.RecordChange.TheVariants.{Se
 use Rattle.store_model.specs.declared.answer.Fault.{Fault}
 use Rattle.store_model.specs.declared.answer.Answer.{Answer}
 use Rattle.store_model.specs.declared.answer.Answer.TheVariants.{NoDatabase, Logged, LogFull, IdsEnded, DiskFault, Invalid}
-use Rattle.store_model.specs.Evaluation.{Outcome, answers, changes_by, evaluation, evaluation_in}
+use Rattle.store_model.specs.declared.index.Index.{Index}
+use Rattle.store_model.specs.Evaluation.{Outcome, answers, changes_by, emptying, evaluation, evaluation_in, indexing}
+use Rattle.store_model.specs.Indexes.{Numbered, all_changes}
 use Rattle.store_model.specs.Store.{database_of, change_in}
-use Rattle.store_model.specs.Refusals.{made_by, or_refusal, access_refusal}
+use Rattle.store_model.specs.Refusals.{made_by, or_refusal, access_refusal, is_primary}
 use Rattle.db_catalog.specs.Planning.{outcome_unless}
-use Rattle.je_answers.specs.Views.{Target, target, target_of}
+use Rattle.je_answers.specs.Views.{Target, target, target_of, with_names}
 use Rattle.je_answers.specs.Refusals.{there_refusal, name_refusal, target_refusal, late_refusal}
 use Rattle.je_answers.specs.After.{fate_of}
-use Rattle.je_answers.specs.Events.{database_limit, catalog_limit, IsDone, IsLogged, auto_active}
-use Rattle.je_answers.specs.Alone.{Alone, alone, evaluated_on, IsDoneOn, IsPerformedAlone, IsEvaluatedAlone, IsAnsweredAlone, drawn_alone, faulted_alone, committed_alone, fate_alone, changes_alone, target_alone, performed_alone, evaluated_alone, after_alone, IsAutoCommitted}
+use Rattle.je_answers.specs.Events.{AreChanged, IsChanged, database_limit, catalog_limit, IsDone, IsLogged, auto_active}
+use Rattle.je_answers.specs.Alone.{Alone, alone, changes_of_call, evaluated_on, records_of, IsDoneOn, IsPerformedAlone, IsEvaluatedAlone, IsAnsweredAlone, drawn_alone, faulted_alone, committed_alone, fate_alone, changes_alone, target_alone, performed_alone, evaluated_alone, after_alone, IsAutoCommitted}
 use Rattle.txn_core.specs.declared.planned.Planned.TheVariants.{Answered}
 use Rattle.txn_core.specs.declared.planned_changes.PlannedChanges.{PlannedChanges}
 use Rattle.txn_core.specs.Known.{Known}
@@ -78,6 +80,11 @@ pub is_there : (number rest : Option Answer) (o : Option Database) → or_refusa
 is_there number rest None h = absurd (none-some NoDatabase (sym (no_refusal (Some NoDatabase) rest (no_refusal number (Some NoDatabase) h).1).0))
 is_there number rest (Some d) h = (d, refl)
 
+-- and so is the primary of an index that is not refused
+is_indexed : (number rest : Option Answer) (o : Option Database) → or_refusal number (or_refusal (access_refusal (is_primary o)) rest) ≡ None → (d : Database) × (o ≡ Some d)
+is_indexed number rest None h = absurd (none-some NoDatabase (sym (no_refusal (Some NoDatabase) rest (no_refusal number (Some NoDatabase) h).1).0))
+is_indexed number rest (Some d) h = (d, refl)
+
 -- ---- an answer without changes
 
 -- what an answer alone says of an outcome
@@ -91,21 +98,25 @@ changes_nothing o answer h = ap (λ (x : Outcome). x.changes) h
 one_changes : (change : Change) (answer : Answer) → changes_by change ≡ answers answer → ⊥
 one_changes change answer h = cons-nil change [] (changes_nothing (changes_by change) answer h)
 
+-- the database of a number as what a call is on
+abbrev target_in : Alone → ℕ → Database → Target
+target_in p number d = target p.numbers p.store number None d
+
 -- a call on records that changes nothing
 done_only : (g : Target) (changes : List RecordChange) (limit : Option Answer) (p : Alone) (session : ℕ) (call : Call) (answer : Answer) →
-    map (λ c. change_in g.database.name c) changes ≡ [] → answer ≡ (evaluated_on call g).answer →
+    changes_of_call g changes ≡ [] → answer ≡ (evaluated_on call g).answer →
     IsDone changes limit (alone p) (auto_active (alone p) session) (evaluated_on call g) answer × (changes_alone changes g p answer ≡ drawn_alone p)
 done_only g [] limit p session call answer none is = (is, refl)
-done_only g (c ∷ cs) limit p session call answer none is = absurd (cons-nil (change_in g.database.name c) (map (λ c. change_in g.database.name c) cs) none)
+done_only g (c ∷ cs) limit p session call answer none is = absurd (cons-nil _ _ none)
 
 -- by the database that is there
 on_answered : (number : ℕ) (o : Option Database) (d : Database) (limit : Option Answer) (p : Alone) (session : ℕ) (call : Call) (answer : Answer) →
-    o ≡ Some d → outcome_on call (option_map (target number None) o) ≡ answers answer →
-    IsDoneOn (option_map (target number None) o) limit p session call answer × (target_alone (option_map (target number None) o) call p answer ≡ drawn_alone p)
+    o ≡ Some d → outcome_on call (option_map (target_in p number) o) ≡ answers answer →
+    IsDoneOn (option_map (target_in p number) o) limit p session call answer × (target_alone (option_map (target_in p number) o) call p answer ≡ drawn_alone p)
 on_answered number None d limit p session call answer there e = absurd (none-some d there)
 on_answered number (Some g) d limit p session call answer there e =
-    done_only (target number None g) (evaluated_on call (target number None g)).changes limit p session call answer
-    (changes_nothing (outcome_on call (Some (target number None g))) answer e) (says (outcome_on call (Some (target number None g))) answer e)
+    done_only (target_in p number g) (evaluated_on call (target_in p number g)).changes limit p session call answer
+    (changes_nothing (outcome_on call (Some (target_in p number g))) answer e) (says (outcome_on call (Some (target_in p number g))) answer e)
 
 -- a call on the catalog's database that is there changes something
 catalog_answered : (call : Call) (change : Change) (o : Option Database) (d : Database) (store : Store) (answer : Answer) →
@@ -113,10 +124,31 @@ catalog_answered : (call : Call) (change : Change) (o : Option Database) (d : Da
 catalog_answered call change o d store answer by there e =
     one_changes change answer (sym (ap (evaluation_in call store) there ∙ by d) ∙ e)
 
+-- an index is made with changes
+index_answered : (db : List ℕ) (index : Index) (o : Option Database) (d : Database) (answer : Answer) → o ≡ Some d → indexing db index o ≡ answers answer → ⊥
+index_answered db index None d answer there e = none-some d there
+index_answered db index (Some x) d answer there e = cons-nil _ _ (changes_nothing (indexing db index (Some x)) answer e)
+
+-- an index is not emptied
+emptied_by : (db : List ℕ) (o : Option Index) (limit : Option Answer) (p : Alone) (answer : Answer) → emptying db o ≡ answers answer →
+    IsChanged (emptying db o) limit (alone p) answer × (fate_alone (fate_of answer) (emptying db o).changes p ≡ drawn_alone p)
+emptied_by db None limit p answer e = absurd (one_changes (Empty db) answer e)
+emptied_by db (Some index) limit p answer e =
+    (says (emptying db (Some index)) answer e, ap (λ (x : Answer). fate_alone (fate_of x) [] p) (says (emptying db (Some index)) answer e))
+
+emptied_answered : (db : List ℕ) (o : Option Database) (d : Database) (limit : Option Answer) (p : Alone) (session : ℕ) (answer : Answer) → o ≡ Some d →
+    evaluation_in (Truncate db) p.store o ≡ answers answer →
+    IsChanged (evaluation_in (Truncate db) p.store o) limit (alone p) answer × (fate_alone (fate_of answer) (evaluation_in (Truncate db) p.store o).changes p ≡ drawn_alone p)
+emptied_answered db None d limit p session answer there e = absurd (none-some d there)
+emptied_answered db (Some x) d limit p session answer there e = emptied_by db x.index limit p answer e
+
 performed_answered : (call : Call) (limit : Option Answer) (p : Alone) (session : ℕ) (answer : Answer) → IsAutoCommitted call → late_refusal (alone p) session call ≡ None →
     performed_outcome p session call ≡ answers answer → IsPerformedAlone call limit p session answer × (performed_alone call p session answer ≡ drawn_alone p)
 performed_answered Lists limit p session answer is late e = (says (evaluation Lists p.store) answer e, refl)
 performed_answered (Create db kind) limit p session answer is late e = absurd (one_changes (Make db kind) answer e)
+performed_answered (CreateIndex db index) limit p session answer is late e =
+    let there = is_indexed _ _ (database_of index.primary p.store) late in
+    absurd (index_answered db index (database_of index.primary p.store) there.0 answer there.1 e)
 performed_answered (Remove db) limit p session answer is late e =
     let there = is_there _ _ (database_of db p.store) late in
     absurd (catalog_answered (Remove db) (Removes db) (database_of db p.store) there.0 p.store answer (λ x. refl) there.1 e)
@@ -125,7 +157,7 @@ performed_answered (Rename db to) limit p session answer is late e =
     absurd (catalog_answered (Rename db to) (Renames db to) (database_of db p.store) there.0 p.store answer (λ x. refl) there.1 e)
 performed_answered (Truncate db) limit p session answer is late e =
     let there = is_there _ _ (database_of db p.store) late in
-    absurd (catalog_answered (Truncate db) (Empty db) (database_of db p.store) there.0 p.store answer (λ x. refl) there.1 e)
+    emptied_answered db (database_of db p.store) there.0 limit p session answer there.1 e
 performed_answered (Get db key rmw) limit p session answer is late e =
     let there = is_there _ _ (database_of db p.store) late in
     on_answered (p.numbers db) (database_of db p.store) there.0 limit p session (Get db key rmw) answer there.1 e
@@ -160,20 +192,34 @@ numbers_ended : (b : Bool) (due : Answer) → IsLogged (or_refusal (cond b (Some
 numbers_ended true due = refl
 numbers_ended false due = refl
 
-catalog_logs : (call : Call) (o : Outcome) (p : Alone) (session : ℕ) (changes : List Change) → o.changes ≡ changes → (answer : Answer) → p.last_db ≤ LAST_DATABASE →
-    IsLogged (database_limit p.last_db changes) (Logged (p.commits + 1)) answer → IsLogged (catalog_limit None (alone p) o.changes) (Logged (p.commits + 1)) answer
-catalog_logs call o p session changes is answer low h =
-    subst (λ (l : Option Answer). IsLogged l (Logged (p.commits + 1)) answer) (sym (ap (catalog_limit None (alone p)) is ∙ refused_first (database_limit p.last_db changes))) h
+changed_as : (o : Outcome) (p : Alone) (limit : Option Answer) (change : Change) (more : List Change) (answer : Answer) → o.changes ≡ change ∷ more →
+    IsLogged (catalog_limit limit (alone p) (change ∷ more)) (Logged (p.commits + 1)) answer → IsChanged o limit (alone p) answer
+changed_as o p limit change more answer is h = subst (λ (l : List Change). AreChanged l o limit (alone p) answer) (sym is) h
+
+changed_logged : (o : Outcome) (p : Alone) (change : Change) (more : List Change) → o.changes ≡ change ∷ more → (answer : Answer) → p.last_db ≤ LAST_DATABASE →
+    IsLogged (database_limit p.last_db (change ∷ more)) (Logged (p.commits + 1)) answer → IsChanged o None (alone p) answer
+changed_logged o p change more is answer low h =
+    changed_as o p None change more answer is (subst (λ (l : Option Answer). IsLogged l (Logged (p.commits + 1)) answer) (sym (refused_first (database_limit p.last_db (change ∷ more)))) h)
+
+changed_full : (o : Outcome) (p : Alone) (change : Change) (more : List Change) → o.changes ≡ change ∷ more → IsChanged o (Some LogFull) (alone p) LogFull
+changed_full o p change more is = changed_as o p (Some LogFull) change more LogFull is refl
+
+changed_ended : (o : Outcome) (p : Alone) (change : Change) (more : List Change) → o.changes ≡ change ∷ more → IsChanged o (Some IdsEnded) (alone p) IdsEnded
+changed_ended o p change more is =
+    changed_as o p (Some IdsEnded) change more IdsEnded is (numbers_ended (nat_lt LAST_DATABASE (p.last_db + made_by (change ∷ more))) (Logged (p.commits + 1)))
 
 -- changes of records allocate no database number
-pub records_make_none : (name : List ℕ) (cs : List RecordChange) → made_by (map (λ c. change_in name c) cs) ≡ 0
-records_make_none name [] = refl
-records_make_none name (Set at value ∷ cs) = records_make_none name cs
-records_make_none name (Unset at ∷ cs) = records_make_none name cs
+first_makes_none : (name : List ℕ) (c : RecordChange) (changes : List Change) → made_by (change_in name c ∷ changes) ≡ made_by changes
+first_makes_none name (Set at value) changes = refl
+first_makes_none name (Unset at) changes = refl
+
+pub records_make_none : (cs : List (Numbered × RecordChange)) → made_by (with_names cs) ≡ 0
+records_make_none [] = refl
+records_make_none (c ∷ cs) = first_makes_none c.0.1.name c.1 (with_names cs) ∙ records_make_none cs
 
 -- the changes of records of a call, where they are some
 record_logs : (g : Target) (cs : List RecordChange) (p : Alone) (session : ℕ) (call : Call) (change : Change) (more : List Change) →
-    map (λ c. change_in g.database.name c) cs ≡ change ∷ more →
+    changes_of_call g cs ≡ change ∷ more →
     ((answer : Answer) → p.last_db ≤ LAST_DATABASE → IsLogged (database_limit p.last_db (change ∷ more)) (Logged (p.commits + 1)) answer →
     IsDone cs None (alone p) (auto_active (alone p) session) (evaluated_on call g) answer)
     × IsDone cs (Some LogFull) (alone p) (auto_active (alone p) session) (evaluated_on call g) LogFull
@@ -182,23 +228,23 @@ record_logs : (g : Target) (cs : List RecordChange) (p : Alone) (session : ℕ) 
 record_logs g [] p session call change more is = absurd (cons-nil change more (sym is))
 record_logs g (c ∷ cs) p session call change more is = (
   λ answer low h. subst (λ (l : Option Answer). IsLogged l (Logged (p.commits + 1)) answer)
-      (ap (database_limit p.last_db) (sym is) ∙ within (p.last_db + made_by (change_in g.database.name c ∷ map (λ c. change_in g.database.name c) cs))
-      (let none = records_make_none g.database.name (c ∷ cs) in omega (arith, low, none))) h,
+      (ap (database_limit p.last_db) (sym is) ∙ within (p.last_db + made_by (changes_of_call g (c ∷ cs)))
+      (let none : made_by (changes_of_call g (c ∷ cs)) ≡ 0 = records_make_none (all_changes g.over (g.db, g.database) g.indexes records_of (c ∷ cs)) in omega (arith, low, none))) h,
   refl,
   refl,
   λ answer. ap (λ (l : List Change). fate_alone (fate_of answer) l p) is,
 )
 
 on_logged : (number : ℕ) (o : Option Database) (d : Database) (p : Alone) (session : ℕ) (call : Call) (change : Change) (more : List Change) →
-    o ≡ Some d → (outcome_on call (option_map (target number None) o)).changes ≡ change ∷ more →
+    o ≡ Some d → (outcome_on call (option_map (target_in p number) o)).changes ≡ change ∷ more →
     ((answer : Answer) → p.last_db ≤ LAST_DATABASE → IsLogged (database_limit p.last_db (change ∷ more)) (Logged (p.commits + 1)) answer →
-    IsDoneOn (option_map (target number None) o) None p session call answer)
-    × IsDoneOn (option_map (target number None) o) (Some LogFull) p session call LogFull
-    × IsDoneOn (option_map (target number None) o) (Some IdsEnded) p session call IdsEnded
-    × ((answer : Answer) → target_alone (option_map (target number None) o) call p answer ≡ fate_alone (fate_of answer) (change ∷ more) p)
+    IsDoneOn (option_map (target_in p number) o) None p session call answer)
+    × IsDoneOn (option_map (target_in p number) o) (Some LogFull) p session call LogFull
+    × IsDoneOn (option_map (target_in p number) o) (Some IdsEnded) p session call IdsEnded
+    × ((answer : Answer) → target_alone (option_map (target_in p number) o) call p answer ≡ fate_alone (fate_of answer) (change ∷ more) p)
 on_logged number None d p session call change more there is = absurd (none-some d there)
 on_logged number (Some x) d p session call change more there is =
-    record_logs (target number None x) (evaluated_on call (target number None x)).changes p session call change more is
+    record_logs (target_in p number x) (evaluated_on call (target_in p number x)).changes p session call change more is
 
 performed_logs : (call : Call) (p : Alone) (session : ℕ) (change : Change) (more : List Change) → IsAutoCommitted call → late_refusal (alone p) session call ≡ None →
     (performed_outcome p session call).changes ≡ change ∷ more → LogsAlone call p session (change ∷ more)
@@ -206,33 +252,41 @@ performed_logs Lists p session change more is late e = absurd (cons-nil change m
 performed_logs (Create db kind) p session change more is late e =
     let o : Outcome = evaluation (Create db kind) p.store in
     record {
-      logged = λ answer low h. catalog_logs (Create db kind) o p session (change ∷ more) e answer low h;
-      full = refl;
-      ended = numbers_ended (nat_lt LAST_DATABASE (p.last_db + made_by o.changes)) (Logged (p.commits + 1));
+      logged = changed_logged o p change more e;
+      full = changed_full o p change more e;
+      ended = changed_ended o p change more e;
+      leaves = λ answer. ap (λ (l : List Change). fate_alone (fate_of answer) l p) e;
+    }
+performed_logs (CreateIndex db index) p session change more is late e =
+    let o : Outcome = evaluation (CreateIndex db index) p.store in
+    record {
+      logged = changed_logged o p change more e;
+      full = changed_full o p change more e;
+      ended = changed_ended o p change more e;
       leaves = λ answer. ap (λ (l : List Change). fate_alone (fate_of answer) l p) e;
     }
 performed_logs (Remove db) p session change more is late e =
     let o : Outcome = evaluation (Remove db) p.store in
     record {
-      logged = λ answer low h. catalog_logs (Remove db) o p session (change ∷ more) e answer low h;
-      full = refl;
-      ended = numbers_ended (nat_lt LAST_DATABASE (p.last_db + made_by o.changes)) (Logged (p.commits + 1));
+      logged = changed_logged o p change more e;
+      full = changed_full o p change more e;
+      ended = changed_ended o p change more e;
       leaves = λ answer. ap (λ (l : List Change). fate_alone (fate_of answer) l p) e;
     }
 performed_logs (Rename db to) p session change more is late e =
     let o : Outcome = evaluation (Rename db to) p.store in
     record {
-      logged = λ answer low h. catalog_logs (Rename db to) o p session (change ∷ more) e answer low h;
-      full = refl;
-      ended = numbers_ended (nat_lt LAST_DATABASE (p.last_db + made_by o.changes)) (Logged (p.commits + 1));
+      logged = changed_logged o p change more e;
+      full = changed_full o p change more e;
+      ended = changed_ended o p change more e;
       leaves = λ answer. ap (λ (l : List Change). fate_alone (fate_of answer) l p) e;
     }
 performed_logs (Truncate db) p session change more is late e =
     let o : Outcome = evaluation (Truncate db) p.store in
     record {
-      logged = λ answer low h. catalog_logs (Truncate db) o p session (change ∷ more) e answer low h;
-      full = refl;
-      ended = numbers_ended (nat_lt LAST_DATABASE (p.last_db + made_by o.changes)) (Logged (p.commits + 1));
+      logged = changed_logged o p change more e;
+      full = changed_full o p change more e;
+      ended = changed_ended o p change more e;
       leaves = λ answer. ap (λ (l : List Change). fate_alone (fate_of answer) l p) e;
     }
 performed_logs (Get db key rmw) p session change more is late e =

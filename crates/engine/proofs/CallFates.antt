@@ -3,15 +3,15 @@ use Rattle.std.proofs.Common.{◌≡◌, ℕ, List, [], ◌∷◌, Option, None,
 use Rattle.store_model.specs.declared.answer.Answer.{Answer}
 use Rattle.store_model.specs.declared.answer.Fault.{Fault}
 use Rattle.store_model.specs.declared.call.Call.{Call}
-use Rattle.store_model.specs.declared.call.Call.TheVariants.{List as Lists, Create, Remove, Rename, Truncate, Get, GetBoth, Put, Delete}
+use Rattle.store_model.specs.declared.call.Call.TheVariants.{List as Lists, Create, CreateIndex, Remove, Rename, Truncate, Get, GetBoth, Put, Delete}
 use Rattle.store_model.specs.declared.change.Change.{Change}
 use Rattle.store_model.specs.declared.record_change.RecordChange.{RecordChange}
 use Rattle.store_model.specs.Evaluation.{Outcome}
 use Rattle.db_catalog.specs.Planning.{outcome_unless}
-use Rattle.je_answers.specs.Views.{Target, changes_on, target_of}
+use Rattle.je_answers.specs.Views.{Target, target_of}
 use Rattle.je_answers.specs.Refusals.{late_refusal}
 use Rattle.je_answers.specs.After.{fate_of}
-use Rattle.je_answers.specs.Alone.{Alone, IsAutoCommitted, after_alone, alone, changes_alone, evaluated_alone, evaluated_on, fate_alone, performed_alone, target_alone}
+use Rattle.je_answers.specs.Alone.{Alone, IsAutoCommitted, after_alone, alone, changes_alone, changes_of_call, evaluated_alone, evaluated_on, fate_alone, performed_alone, target_alone}
 use Rattle.txn_core.specs.Planning.{outcome_alone, outcome_on, performed_outcome}
 
 -- a call that changes something was not refused
@@ -19,7 +19,7 @@ not_refused : (late : Option Answer) (o : Outcome) (change : Change) (more : Lis
 not_refused None o change more is = (refl, is)
 not_refused (Some refusal) o change more is = absurd cc
 
-on_changes : (changes : List RecordChange) (g : Target) (p : Alone) (answer : Answer) (change : Change) (more : List Change) → changes_on g changes ≡ change ∷ more →
+on_changes : (changes : List RecordChange) (g : Target) (p : Alone) (answer : Answer) (change : Change) (more : List Change) → changes_of_call g changes ≡ change ∷ more →
     changes_alone changes g p answer ≡ fate_alone (fate_of answer) (change ∷ more) p
 on_changes [] g p answer change more is = absurd cc
 on_changes (first ∷ changes) g p answer change more is = ap (λ (l : List Change). fate_alone (fate_of answer) l p) is
@@ -33,6 +33,7 @@ performed : (call : Call) (p : Alone) (session : ℕ) (answer : Answer) (change 
     performed_alone call p session answer ≡ fate_alone (fate_of answer) (change ∷ more) p
 performed Lists p session answer change more auto is = absurd cc
 performed (Create db kind) p session answer change more auto is = ap (λ (l : List Change). fate_alone (fate_of answer) l p) is
+performed (CreateIndex db index) p session answer change more auto is = ap (λ (l : List Change). fate_alone (fate_of answer) l p) is
 performed (Remove db) p session answer change more auto is = ap (λ (l : List Change). fate_alone (fate_of answer) l p) is
 performed (Rename db to) p session answer change more auto is = ap (λ (l : List Change). fate_alone (fate_of answer) l p) is
 performed (Truncate db) p session answer change more auto is = ap (λ (l : List Change). fate_alone (fate_of answer) l p) is

@@ -1,10 +1,12 @@
 -- A call that changes nothing is answered with neither a commit nor a disk fault.
 use Rattle.std.proofs.Common.{◌≡◌, true≢false, ℕ, length, cond, nat_lt, nat_le, is_some, IfSome, Bool, true, false, List, [], ◌∷◌, Option, None, Some, option_map, refl}
+use Rattle.std.specs.List.{list_any}
+use Rattle.store_model.specs.declared.index.Index.{Index}
 use Rattle.store_model.specs.declared.store.Database.{Database}
 use Rattle.store_model.specs.declared.answer.Answer.{Answer}
-use Rattle.store_model.specs.declared.answer.Answer.TheVariants.{DiskFault, IdsEnded, Logged, NameTaken, NoDatabase, TooLong, TooMany}
+use Rattle.store_model.specs.declared.answer.Answer.TheVariants.{DiskFault, HasIndex, IdsEnded, Logged, NameTaken, NoDatabase, Rec, TooLong, TooMany}
 use Rattle.store_model.specs.declared.call.Call.{Call}
-use Rattle.store_model.specs.declared.call.Call.TheVariants.{List as Lists, Create, Remove as Removes, Rename as Renames, Truncate, Get, GetBoth, Put, Delete}
+use Rattle.store_model.specs.declared.call.Call.TheVariants.{List as Lists, Create, CreateIndex, Remove as Removes, Rename as Renames, Truncate, Get, GetBoth, Put, Delete}
 use Rattle.store_model.specs.declared.kind.Kind.{Kind}
 use Rattle.store_model.specs.declared.kind.Kind.TheVariants.{Plain, Dup}
 use Rattle.store_model.specs.declared.put_mode.PutMode.{PutMode}
@@ -12,12 +14,13 @@ use Rattle.store_model.specs.declared.put_mode.PutMode.TheVariants.{NoDupData, N
 use Rattle.store_model.specs.declared.store.TheConstants.{LAST_TXN, MOST_DATABASES}
 use Rattle.je_order.specs.declared.limits.TheConstants.{KEY_LIMIT}
 use Rattle.store_model.specs.declared.store.Store.{Store}
-use Rattle.store_model.specs.Refusals.{data_limit, database_refuses, kind_refusal, or_refusal, pair_refusal, too_long}
-use Rattle.store_model.specs.Evaluation.{Outcome, evaluation_in}
-use Rattle.store_model.specs.Records.{deleted, found, put_unless}
+use Rattle.store_model.specs.Refusals.{data_limit, database_refuses, index_refusal, is_primary, kind_refusal, or_refusal, pair_refusal, too_long}
+use Rattle.store_model.specs.Indexes.{Numbered, answer_through, is_index_of}
+use Rattle.store_model.specs.Evaluation.{Outcome, emptying, evaluation_in, indexing}
+use Rattle.store_model.specs.Records.{deleted, evaluation, found, put_unless}
 use Rattle.store_model.specs.Store.{Pair, database_of}
 use Rattle.db_catalog.specs.Planning.{outcome_unless}
-use Rattle.je_answers.specs.Alone.{Alone, IsAutoCommitted, alone}
+use Rattle.je_answers.specs.Alone.{Alone, IsAutoCommitted, alone, records_of}
 use Rattle.je_answers.specs.Journal.{is_disk_fault}
 use Rattle.je_answers.specs.Refusals.{database_refusal, late_refusal, name_refusal, number_refusal, target_refusal, there_refusal}
 use Rattle.je_answers.specs.Views.{Target, target, target_of}
@@ -66,6 +69,7 @@ calm_database p db = calm_unless (is_some (database_of db p.store)) NoDatabase r
 calm_there : (p : Alone) (session : ℕ) (call : Call) → IsAutoCommitted call → IsCalmRefusal (there_refusal (alone p) session call)
 calm_there p session Lists is = tt
 calm_there p session (Create db kind) is = tt
+calm_there p session (CreateIndex db index) is = calm_unless (is_primary (database_of index.primary p.store)) NoDatabase refl
 calm_there p session (Removes db) is = calm_database p db
 calm_there p session (Renames db to) is = calm_database p db
 calm_there p session (Truncate db) is = calm_database p db
@@ -82,9 +86,10 @@ calm_creation false full = calm_if full (TooMany MOST_DATABASES) refl
 calm_name : (p : Alone) (session : ℕ) (call : Call) → IsAutoCommitted call → IsCalmRefusal (name_refusal (alone p) session call)
 calm_name p session Lists is = tt
 calm_name p session (Create db kind) is = calm_creation (is_some (database_of db p.store)) (nat_le MOST_DATABASES (length p.store.databases))
-calm_name p session (Removes db) is = tt
+calm_name p session (CreateIndex db index) is = calm_creation (is_some (database_of db p.store)) (nat_le MOST_DATABASES (length p.store.databases))
+calm_name p session (Removes db) is = calm_if (list_any (is_index_of db) p.store.databases) HasIndex refl
 calm_name p session (Renames db to) is = calm_if (is_some (database_of to p.store)) NameTaken refl
-calm_name p session (Truncate db) is = tt
+calm_name p session (Truncate db) is = calm_if (list_any (is_index_of db) p.store.databases) HasIndex refl
 calm_name p session (Get db key rmw) is = tt
 calm_name p session (GetBoth db key value rmw) is = tt
 calm_name p session (Put db key value mode) is = tt
@@ -108,6 +113,7 @@ calm_mode db key value NoOverwrite Dup = tt
 calm_refuses : (kind : Kind) (call : Call) → IsAutoCommitted call → IsCalmRefusal (database_refuses kind call)
 calm_refuses kind Lists is = tt
 calm_refuses kind (Create db k) is = tt
+calm_refuses kind (CreateIndex db index) is = tt
 calm_refuses kind (Removes db) is = tt
 calm_refuses kind (Renames db to) is = tt
 calm_refuses kind (Truncate db) is = tt
@@ -117,9 +123,24 @@ calm_refuses kind (Put db key value mode) is = calm_or (kind_refusal (Put db key
 calm_refuses kind (Delete db key) is = calm_long KEY_LIMIT key
 calm_refuses kind call is = absurd is
 
+calm_index : (call : Call) (o : Option Index) → IsAutoCommitted call → IsCalmRefusal (index_refusal call o)
+calm_index Lists o is = tt
+calm_index (Create db kind) o is = tt
+calm_index (CreateIndex db index) o is = tt
+calm_index (Removes db) o is = tt
+calm_index (Renames db to) o is = tt
+calm_index (Truncate db) o is = tt
+calm_index (Get db key rmw) o is = tt
+calm_index (GetBoth db key value rmw) o is = tt
+calm_index (Put db key value mode) None is = tt
+calm_index (Put db key value mode) (Some index) is = refl
+calm_index (Delete db key) o is = tt
+calm_index call o is = absurd is
+
 calm_target : (call : Call) (o : Option Target) → IsAutoCommitted call → IsCalmRefusal (target_refusal call o)
 calm_target call None is = tt
-calm_target call (Some g) is = calm_refuses g.database.kind call is
+calm_target call (Some g) is =
+    calm_or (index_refusal call g.database.index) (database_refuses g.database.kind call) (calm_index call g.database.index is) (calm_refuses g.database.kind call is)
 
 calm_late : (p : Alone) (session : ℕ) (call : Call) → IsAutoCommitted call → IsCalmRefusal (late_refusal (alone p) session call)
 calm_late p session call is =
@@ -139,27 +160,51 @@ deleted_calm : (kind : Kind) (taken : List Pair) → IsCalm (deleted kind None t
 deleted_calm kind [] = refl
 deleted_calm kind (q ∷ qs) = refl
 
+emptying_calm : (db : List ℕ) (o : Option Index) → IsCalm (emptying db o).answer
+emptying_calm db None = refl
+emptying_calm db (Some index) = refl
+
+indexing_calm : (db : List ℕ) (index : Index) (o : Option Database) → IsCalm (indexing db index o).answer
+indexing_calm db index None = refl
+indexing_calm db index (Some primary) = refl
+
 catalog_calm : (db to : List ℕ) (store : Store) (o : Option Database) →
     IsCalm (evaluation_in (Removes db) store o).answer × IsCalm (evaluation_in (Renames db to) store o).answer × IsCalm (evaluation_in (Truncate db) store o).answer
 catalog_calm db to store None = (refl, refl, refl)
-catalog_calm db to store (Some d) = (refl, refl, refl)
+catalog_calm db to store (Some d) = (refl, refl, emptying_calm db d.index)
 
-records_calm : (number : ℕ) (o : Option Database) (db key value : List ℕ) (rmw : Bool) (mode : PutMode) →
-    IsCalm (outcome_on (Get db key rmw) (option_map (target number None) o)).answer × IsCalm (outcome_on (GetBoth db key value rmw) (option_map (target number None) o)).answer
-    × IsCalm (outcome_on (Put db key value mode) (option_map (target number None) o)).answer × IsCalm (outcome_on (Delete db key) (option_map (target number None) o)).answer
-records_calm number None db key value rmw mode = (refl, refl, refl, refl)
-records_calm number (Some d) db key value rmw mode = (found_calm _, found_calm _, put_calm d.kind key value _, deleted_calm d.kind _)
+-- what an index answers in its place
+pub calm_through : (over : Option Numbered) (see : Numbered → List Pair) (answer : Answer) → IsCalm answer → IsCalm (answer_through over see answer)
+calm_through None see answer is = is
+calm_through (Some primary) see (Rec key primary_key) is = refl
+calm_through (Some primary) see answer is = is
+
+outcome_on_calm : (g : Target) (call : Call) → IsCalm (evaluation g.database.kind call g.at g.database.pairs).answer → IsCalm (outcome_on call (Some g)).answer
+outcome_on_calm g call is = calm_through g.over records_of (evaluation g.database.kind call g.at g.database.pairs).answer is
+
+records_calm : (numbers : List ℕ → ℕ) (store : Store) (number : ℕ) (o : Option Database) (db key value : List ℕ) (rmw : Bool) (mode : PutMode) →
+    IsCalm (outcome_on (Get db key rmw) (option_map (target numbers store number None) o)).answer × IsCalm (outcome_on (GetBoth db key value rmw) (option_map (target numbers store number None) o)).answer
+    × IsCalm (outcome_on (Put db key value mode) (option_map (target numbers store number None) o)).answer × IsCalm (outcome_on (Delete db key) (option_map (target numbers store number None) o)).answer
+records_calm numbers store number None db key value rmw mode = (refl, refl, refl, refl)
+records_calm numbers store number (Some d) db key value rmw mode =
+    let g : Target = target numbers store number None d in (
+      outcome_on_calm g (Get db key rmw) (found_calm _),
+      outcome_on_calm g (GetBoth db key value rmw) (found_calm _),
+      outcome_on_calm g (Put db key value mode) (put_calm d.kind key value _),
+      outcome_on_calm g (Delete db key) (deleted_calm d.kind _),
+    )
 
 performed_calm : (call : Call) (p : Alone) (session : ℕ) → IsAutoCommitted call → IsCalm (performed_outcome p session call).answer
 performed_calm Lists p session is = refl
 performed_calm (Create db kind) p session is = refl
+performed_calm (CreateIndex db index) p session is = indexing_calm db index (database_of index.primary p.store)
 performed_calm (Removes db) p session is = (catalog_calm db [] p.store (database_of db p.store)).0
 performed_calm (Renames db to) p session is = (catalog_calm db to p.store (database_of db p.store)).1
 performed_calm (Truncate db) p session is = (catalog_calm db [] p.store (database_of db p.store)).2
-performed_calm (Get db key rmw) p session is = (records_calm (p.numbers db) (database_of db p.store) db key [] rmw Overwrite).0
-performed_calm (GetBoth db key value rmw) p session is = (records_calm (p.numbers db) (database_of db p.store) db key value rmw Overwrite).1
-performed_calm (Put db key value mode) p session is = (records_calm (p.numbers db) (database_of db p.store) db key value true mode).2
-performed_calm (Delete db key) p session is = (records_calm (p.numbers db) (database_of db p.store) db key [] true Overwrite).3
+performed_calm (Get db key rmw) p session is = (records_calm p.numbers p.store (p.numbers db) (database_of db p.store) db key [] rmw Overwrite).0
+performed_calm (GetBoth db key value rmw) p session is = (records_calm p.numbers p.store (p.numbers db) (database_of db p.store) db key value rmw Overwrite).1
+performed_calm (Put db key value mode) p session is = (records_calm p.numbers p.store (p.numbers db) (database_of db p.store) db key value true mode).2
+performed_calm (Delete db key) p session is = (records_calm p.numbers p.store (p.numbers db) (database_of db p.store) db key [] true Overwrite).3
 performed_calm call p session is = absurd is
 
 unless_calm : (late : Option Answer) (o : Outcome) → IsCalmRefusal late → IsCalm o.answer → IsCalm (outcome_unless late o).answer

@@ -15,7 +15,7 @@ use Rattle.db_catalog.specs.declared.catalog_change.CatalogChange.{CatalogChange
 use Rattle.db_catalog.specs.declared.catalog_change.CatalogChange.TheVariants.{Put as PutRecord, Delete as DeleteRecord}
 use Rattle.db_catalog.specs.Planning.{logged_as}
 use Rattle.store_model.specs.declared.change.Change.{Change}
-use Rattle.store_model.specs.declared.change.Change.TheVariants.{Set, Unset, Make, Remove, Rename, Empty}
+use Rattle.store_model.specs.declared.change.Change.TheVariants.{Set, Unset, Make, MakeIndex, Remove, Rename, Empty}
 use Rattle.store_model.specs.declared.kind.Kind.{Kind}
 use Rattle.store_model.specs.Needs.{changed_name}
 use Rattle.store_model.specs.Refusals.{made_by}
@@ -52,6 +52,7 @@ same_numbered : (change : Change) (last : ℕ) (numbers : List ℕ → ℕ) (nam
 same_numbered (Set db at value) last numbers name = refl
 same_numbered (Unset db at) last numbers name = refl
 same_numbered (Make db kind) last numbers name = refl
+same_numbered (MakeIndex db index) last numbers name = refl
 same_numbered (Remove db) last numbers name = refl
 same_numbered (Rename db to) last numbers name = refl
 same_numbered (Empty db) last numbers name = refl
@@ -80,6 +81,7 @@ in_catalog : (last_db : ℕ) (change : Change) (rows : Rows) → IsOfCatalog cha
 in_catalog last_db (Set db at value) rows is = absurd is
 in_catalog last_db (Unset db at) rows is = absurd is
 in_catalog last_db (Make db kind) rows is = catalog_only (logged_as (record_named rows) (last_db + 1) (Make db kind))
+in_catalog last_db (MakeIndex db index) rows is = catalog_only (logged_as (record_named rows) (last_db + 1) (MakeIndex db index))
 in_catalog last_db (Remove db) rows is = catalog_only (logged_as (record_named rows) (last_db + 1) (Remove db))
 in_catalog last_db (Rename db to) rows is = catalog_only (logged_as (record_named rows) (last_db + 1) (Rename db to))
 in_catalog last_db (Empty db) rows is = catalog_only (logged_as (record_named rows) (last_db + 1) (Empty db))

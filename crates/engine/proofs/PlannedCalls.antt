@@ -6,18 +6,21 @@ use Rattle.std.proofs.lemmas.Bool.{and_parts, eq-eqb, eqb-true, ltb-true, ne_eqb
 use mathlib.Core.Path.{fun_ext}
 use Rattle.store_model.specs.declared.answer.Answer.{Answer}
 use Rattle.store_model.specs.declared.call.Call.{Call}
-use Rattle.store_model.specs.declared.call.Call.TheVariants.{List as Lists, Create, Remove, Rename, Truncate}
+use Rattle.store_model.specs.declared.call.Call.TheVariants.{List as Lists, Create, CreateIndex, Remove, Rename, Truncate}
 use Rattle.store_model.specs.declared.change.Change.{Change}
+use Rattle.store_model.specs.declared.change.Change.TheVariants.{Set}
 use Rattle.store_model.specs.declared.record_change.RecordChange.{RecordChange}
 use Rattle.store_model.specs.declared.record_change.RecordChange.TheVariants.{Set as SetRecord, Unset as UnsetRecord}
 use Rattle.store_model.specs.declared.store.Store.{Store}
 use Rattle.store_model.specs.declared.store.Database.{Database}
-use Rattle.store_model.specs.Store.{database_of}
-use Rattle.store_model.specs.Evaluation.{Outcome, evaluation_in}
+use Rattle.store_model.specs.declared.index.Index.{Index}
+use Rattle.store_model.specs.Store.{Pair, change_in, database_of, named}
+use Rattle.store_model.specs.Indexes.{Numbered, all_changes, index_pairs}
+use Rattle.store_model.specs.Evaluation.{Outcome, emptying, evaluation_in, indexing}
 use Rattle.db_catalog.specs.Planning.{outcome_unless}
-use Rattle.je_answers.specs.Views.{Target, target_of, changes_on}
+use Rattle.je_answers.specs.Views.{Target, target_of, with_names}
 use Rattle.je_answers.specs.Refusals.{late_refusal}
-use Rattle.je_answers.specs.Alone.{Alone, alone, evaluated_on}
+use Rattle.je_answers.specs.Alone.{Alone, alone, changes_of_call, evaluated_on, records_of}
 use Rattle.log_replay.specs.Rows.{Row, Rows, catalog_number, numbers_of}
 use Rattle.log_replay.specs.Kept.{IsRecordChange}
 use Rattle.log_replay.proofs.StoreLaws.{number_of_row}
@@ -38,10 +41,16 @@ abbrev LaterAreRecords : List Change → Type 0
 LaterAreRecords [] = Unit {0}
 LaterAreRecords (change ∷ more) = AllByRecursion IsRecordChange more
 
-records_in : (g : Target) (changes : List RecordChange) → AllByRecursion IsRecordChange (changes_on g changes)
-records_in g [] = tt
-records_in g (SetRecord at value ∷ changes) = (tt, records_in g changes)
-records_in g (UnsetRecord at ∷ changes) = (tt, records_in g changes)
+is_of_record : (name : List ℕ) (change : RecordChange) → IsRecordChange (change_in name change)
+is_of_record name (SetRecord at value) = tt
+is_of_record name (UnsetRecord at) = tt
+
+records_named : (changes : List (Numbered × RecordChange)) → AllByRecursion IsRecordChange (with_names changes)
+records_named [] = tt
+records_named (c ∷ changes) = (is_of_record c.0.1.name c.1, records_named changes)
+
+records_in : (g : Target) (changes : List RecordChange) → AllByRecursion IsRecordChange (changes_of_call g changes)
+records_in g changes = records_named (all_changes g.over (g.db, g.database) g.indexes records_of changes)
 
 later_in : (changes : List Change) → AllByRecursion IsRecordChange changes → LaterAreRecords changes
 later_in [] all = tt
@@ -49,7 +58,7 @@ later_in (change ∷ changes) all = all.1
 
 on_target : (call : Call) (o : Option Target) → LaterAreRecords (outcome_on call o).changes
 on_target call None = tt
-on_target call (Some g) = later_in (changes_on g (evaluated_on call g).changes) (records_in g (evaluated_on call g).changes)
+on_target call (Some g) = later_in (changes_of_call g (evaluated_on call g).changes) (records_in g (evaluated_on call g).changes)
 
 removed : (db : List ℕ) (store : Store) (o : Option Database) → LaterAreRecords (evaluation_in (Remove db) store o).changes
 removed db store None = tt
@@ -61,11 +70,24 @@ renamed db to store (Some d) = tt
 
 emptied : (db : List ℕ) (store : Store) (o : Option Database) → LaterAreRecords (evaluation_in (Truncate db) store o).changes
 emptied db store None = tt
-emptied db store (Some d) = tt
+emptied db store (Some d) = by_index d.index
+  where
+    by_index : (o : Option Index) → LaterAreRecords (emptying db o).changes
+    by_index None = tt
+    by_index (Some index) = tt
+
+filled : (db : List ℕ) (pairs : List Pair) → AllByRecursion IsRecordChange (map (λ q. Set db (named q.0 q.1) []) pairs)
+filled db [] = tt
+filled db (q ∷ pairs) = (tt, filled db pairs)
+
+indexed : (db : List ℕ) (index : Index) (o : Option Database) → LaterAreRecords (indexing db index o).changes
+indexed db index None = tt
+indexed db index (Some primary) = filled db (index_pairs index.extract primary.pairs)
 
 performed : (p : Alone) (session : ℕ) (call : Call) → LaterAreRecords (performed_outcome p session call).changes
 performed p session Lists = tt
 performed p session (Create db kind) = tt
+performed p session (CreateIndex db index) = indexed db index (database_of index.primary p.store)
 performed p session (Remove db) = removed db p.store (database_of db p.store)
 performed p session (Rename db to) = renamed db to p.store (database_of db p.store)
 performed p session (Truncate db) = emptied db p.store (database_of db p.store)

@@ -8,7 +8,7 @@ use Rattle.je_order.specs.Order.{bytes_cmp, is_same_bytes}
 use Rattle.je_order.proofs.Orderings.{equal_from_test}
 use Rattle.node_core.proofs.NameOrder.{itself}
 use Rattle.store_model.specs.declared.change.Change.{Change}
-use Rattle.store_model.specs.declared.change.Change.TheVariants.{Set, Unset, Make, Remove, Rename, Empty}
+use Rattle.store_model.specs.declared.change.Change.TheVariants.{Set, Unset, Make, MakeIndex, Remove, Rename, Empty}
 use Rattle.store_model.specs.Evaluation.{plain_name}
 use Rattle.store_model.specs.Refusals.{made_by}
 use Rattle.log_replay.specs.Rows.{Row, Rows, catalog_number, numbers_of, IsRising}
@@ -163,6 +163,7 @@ numbers_change : (change : Change) (rows : Rows) (last_db : ℕ) → IsSound row
 numbers_change (Set db at value) rows last_db sound may = numbers_stay last_db (last_db + 0) (number_named rows) (omega arith)
 numbers_change (Unset db at) rows last_db sound may = numbers_stay last_db (last_db + 0) (number_named rows) (omega arith)
 numbers_change (Make db kind) rows last_db sound may = number_made last_db db (number_named rows) may.0
+numbers_change (MakeIndex db index) rows last_db sound may = absurd may
 numbers_change (Remove db) rows last_db sound may = number_replaced rows last_db (last_db + 0) 0 db sound may (inl (refl, omega arith))
 numbers_change (Rename db to) rows last_db sound may = number_moved last_db (last_db + 0) db to (number_named rows) (omega arith) may.1
 numbers_change (Empty db) rows last_db sound may = number_replaced rows last_db (last_db + 1) (last_db + 1) db sound may.0 (inr (refl, refl))
@@ -175,6 +176,7 @@ records_make_none [] are = refl
 records_make_none (Set db at value ∷ changes) are = records_make_none changes are.1
 records_make_none (Unset db at ∷ changes) are = records_make_none changes are.1
 records_make_none (Make db kind ∷ changes) are = absurd are.0
+records_make_none (MakeIndex db index ∷ changes) are = absurd are.0
 records_make_none (Remove db ∷ changes) are = absurd are.0
 records_make_none (Rename db to ∷ changes) are = absurd are.0
 records_make_none (Empty db ∷ changes) are = absurd are.0
@@ -183,6 +185,7 @@ first_makes : (change : Change) (more : List Change) → AllByRecursion IsRecord
 first_makes (Set db at value) more are = records_make_none more are
 first_makes (Unset db at) more are = records_make_none more are
 first_makes (Make db kind) more are = ap (λ (n : ℕ). n + 1) (records_make_none more are)
+first_makes (MakeIndex db index) more are = ap (λ (n : ℕ). n + 1) (records_make_none more are)
 first_makes (Remove db) more are = records_make_none more are
 first_makes (Rename db to) more are = records_make_none more are
 first_makes (Empty db) more are = ap (λ (n : ℕ). n + 1) (records_make_none more are)
@@ -192,6 +195,7 @@ records_number [] last_db numbers are = refl
 records_number (Set db at value ∷ changes) last_db numbers are = records_number changes (last_db + 0) numbers are.1
 records_number (Unset db at ∷ changes) last_db numbers are = records_number changes (last_db + 0) numbers are.1
 records_number (Make db kind ∷ changes) last_db numbers are = absurd are.0
+records_number (MakeIndex db index ∷ changes) last_db numbers are = absurd are.0
 records_number (Remove db ∷ changes) last_db numbers are = absurd are.0
 records_number (Rename db to ∷ changes) last_db numbers are = absurd are.0
 records_number (Empty db ∷ changes) last_db numbers are = absurd are.0

@@ -11,7 +11,7 @@ use Rattle.je_order.specs.declared.name.Name.{Name}
 use Rattle.je_order.proofs.Lists.{all_weaker}
 use Rattle.node_core.proofs.NameOrder.{itself}
 use Rattle.store_model.specs.declared.change.Change.{Change}
-use Rattle.store_model.specs.declared.change.Change.TheVariants.{Set, Unset, Make, Remove, Rename, Empty}
+use Rattle.store_model.specs.declared.change.Change.TheVariants.{Set, Unset, Make, MakeIndex, Remove, Rename, Empty}
 use Rattle.store_model.specs.declared.store.Store.{Store}
 use Rattle.store_model.specs.declared.store.Database.{Database}
 use Rattle.store_model.specs.declared.store.TheConstants.{MOST_DATABASES}
@@ -137,6 +137,7 @@ numbers-step : (Q : ℕ → Type 0) (change : Change) (last_db : ℕ) (numbers :
 numbers-step Q (Set db at value) last_db numbers none later each = each
 numbers-step Q (Unset db at) last_db numbers none later each = each
 numbers-step Q (Make db kind) last_db numbers none later each = numbers-with Q db (last_db + 1) numbers (later (last_db + 1) (omega arith)) each
+numbers-step Q (MakeIndex db index) last_db numbers none later each = numbers-with Q db (last_db + 1) numbers (later (last_db + 1) (omega arith)) each
 numbers-step Q (Remove db) last_db numbers none later each = numbers-with Q db 0 numbers none each
 numbers-step Q (Rename db to) last_db numbers none later each = numbers-with Q to (numbers db) (with_number db 0 numbers) (each db) (numbers-with Q db 0 numbers none each)
 numbers-step Q (Empty db) last_db numbers none later each = numbers-with Q db (last_db + 1) numbers (later (last_db + 1) (omega arith)) each
@@ -153,6 +154,7 @@ gone-first : (change : Change) (rows : Rows) (last_db : ℕ) → IsSound rows la
 gone-first (Set db at value) rows last_db sound may = tt
 gone-first (Unset db at) rows last_db sound may = tt
 gone-first (Make db kind) rows last_db sound may = tt
+gone-first (MakeIndex db index) rows last_db sound may = tt
 gone-first (Remove db) rows last_db sound may = record {
   above = may;
   within = number-within rows last_db db sound may;

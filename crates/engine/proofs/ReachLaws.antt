@@ -6,11 +6,11 @@ use Rattle.std.proofs.lemmas.List.{length-append, length-map}
 use Rattle.store_model.specs.declared.answer.Answer.{Answer}
 use Rattle.store_model.specs.declared.answer.Answer.TheVariants.{IdsEnded}
 use Rattle.store_model.specs.declared.change.Change.{Change}
-use Rattle.store_model.specs.declared.change.Change.TheVariants.{Set, Unset, Make, Remove, Rename, Empty}
+use Rattle.store_model.specs.declared.change.Change.TheVariants.{Set, Unset, Make, MakeIndex, Remove, Rename, Empty}
 use Rattle.db_catalog.specs.declared.db_record.DbRecord.{DbRecord}
 use Rattle.db_catalog.specs.declared.catalog_change.CatalogChange.{CatalogChange}
 use Rattle.db_catalog.specs.declared.catalog_change.CatalogChange.TheVariants.{Put, Delete}
-use Rattle.db_catalog.specs.Planning.{logged_as, moved, renewed}
+use Rattle.db_catalog.specs.Planning.{indexed, logged_as, moved, renewed}
 use Rattle.log_buffer.specs.Buffer.{end_of}
 use Rattle.log_replay.specs.Rows.{Rows, RowChange, rows_changed}
 use Rattle.log_replay.specs.Logging.{all_row_changes, catalog_row_change, last_db_after, record_named, row_changes}
@@ -42,6 +42,11 @@ row_few : (change : Change) (last_db : ℕ) (rows : Rows) → length (row_change
 row_few (Set db at value) last_db rows = omega arith
 row_few (Unset db at) last_db rows = omega arith
 row_few (Make db kind) last_db rows = omega arith
+row_few (MakeIndex db index) last_db rows = by_record (record_named rows index.primary)
+  where
+    by_record : (o : Option DbRecord) → length (map (catalog_row_change 0) (indexed db (last_db + 1) index.extract o)) ≤ 2
+    by_record None = omega arith
+    by_record (Some r) = omega arith
 row_few (Remove db) last_db rows = omega arith
 row_few (Rename db to) last_db rows = by_record (record_named rows db)
   where
@@ -85,6 +90,7 @@ row_txns : (change : Change) (last_db : ℕ) (rows : Rows) → AllByRecursion (�
 row_txns (Set db at value) last_db rows = (refl, tt)
 row_txns (Unset db at) last_db rows = (refl, tt)
 row_txns (Make db kind) last_db rows = catalog_txns (logged_as (record_named rows) (last_db + 1) (Make db kind))
+row_txns (MakeIndex db index) last_db rows = catalog_txns (logged_as (record_named rows) (last_db + 1) (MakeIndex db index))
 row_txns (Remove db) last_db rows = catalog_txns (logged_as (record_named rows) (last_db + 1) (Remove db))
 row_txns (Rename db to) last_db rows = catalog_txns (logged_as (record_named rows) (last_db + 1) (Rename db to))
 row_txns (Empty db) last_db rows = catalog_txns (logged_as (record_named rows) (last_db + 1) (Empty db))

@@ -5,7 +5,7 @@ use Rattle.je_disk.specs.States.{State}
 use Rattle.je_disk.specs.Moments.{History, now}
 use Rattle.store_model.specs.declared.call.Call.{Call}
 use Rattle.store_model.specs.declared.change.Change.{Change}
-use Rattle.store_model.specs.declared.change.Change.TheVariants.{Set, Unset, Make, Remove, Rename, Empty}
+use Rattle.store_model.specs.declared.change.Change.TheVariants.{Set, Unset, Make, MakeIndex, Remove, Rename, Empty}
 use Rattle.store_model.specs.declared.store.TheConstants.{LAST_DATABASE, LAST_TXN}
 use Rattle.store_model.specs.Refusals.{made_by, next_txn}
 use Rattle.je_answers.specs.Standing.{numbered, all_numbered}
@@ -29,6 +29,7 @@ one_numbered : (change : Change) (last : ℕ) (numbers : List ℕ → ℕ) → n
 one_numbered (Set db at value) last numbers = refl
 one_numbered (Unset db at) last numbers = refl
 one_numbered (Make db kind) last numbers = refl
+one_numbered (MakeIndex db index) last numbers = refl
 one_numbered (Remove db) last numbers = refl
 one_numbered (Rename db to) last numbers = refl
 one_numbered (Empty db) last numbers = refl

@@ -4,7 +4,7 @@ use Rattle.std.specs.declared.alloc.AllocError.{AllocError}
 use Rattle.je_disk.specs.Moments.{History, now}
 use Rattle.store_model.specs.declared.answer.Answer.{Answer}
 use Rattle.store_model.specs.declared.call.Call.{Call}
-use Rattle.store_model.specs.declared.call.Call.TheVariants.{List as Lists, Create, Remove, Rename, Truncate, Get, GetBoth, Put, Delete}
+use Rattle.store_model.specs.declared.call.Call.TheVariants.{List as Lists, Create, CreateIndex, Remove, Rename, Truncate, Get, GetBoth, Put, Delete}
 use Rattle.store_model.specs.declared.change.Change.{Change}
 use Rattle.store_model.specs.declared.event.Event.{Event}
 use Rattle.store_model.specs.declared.event.Event.TheVariants.{Call as Called}
@@ -53,6 +53,7 @@ written_target (Some g) p session call =
 written_alike : (call : Call) (p : Alone) (session : ℕ) → IsAutoCommitted call → written_performed call (alone p) session ≡ changes_performed call (alone p) session
 written_alike Lists p session is = refl
 written_alike (Create db kind) p session is = refl
+written_alike (CreateIndex db index) p session is = refl
 written_alike (Remove db) p session is = refl
 written_alike (Rename db to) p session is = refl
 written_alike (Truncate db) p session is = refl

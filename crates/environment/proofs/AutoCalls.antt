@@ -120,7 +120,7 @@ module _ {D : Type 0} (most : ℕ) (observable : Bool) (history : D → History)
 
     -- its needs
     pub needs_auto : (needs : List Need) (db : List ℕ) (kind : Kind) → g.database.name ≡ db → g.database.kind ≡ kind → needs ≡ needs_in (begun st session) a call g → AreNeedsOf (begun st session) session call db kind needs a g
-    needs_auto needs db kind name its_kind is = record { its = its_active; name = name; its_kind = its_kind; each = is }
+    needs_auto needs db kind name its_kind is = record { its = its_active; alone = may.on.alone; name = name; its_kind = its_kind; each = is }
 
     -- it has them all
     pub taken_auto : (s : Sessions) (needs : List Need) → needs ≡ needs_in (begun st session) a call g → HasTaken s true a needs (begun st session) → HasTaken s true a (needs_in (begun st session) a call g) (begun st session)

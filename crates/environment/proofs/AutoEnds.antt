@@ -11,15 +11,16 @@ use Rattle.store_model.specs.declared.need.Need.{Need}
 use Rattle.store_model.specs.declared.record_change.RecordChange.{RecordChange}
 use Rattle.store_model.specs.declared.victim.Victim.{Victim}
 use Rattle.store_model.specs.Evaluation.{Outcome, answers}
+use Rattle.store_model.specs.Indexes.{answer_through}
 use Rattle.store_model.specs.Records.{Evaluated, evaluation}
 use Rattle.store_model.specs.Refusals.{next_txn, or_refusal}
 use Rattle.store_model.specs.Store.{all_pairs_changed}
 use Rattle.db_catalog.specs.Planning.{outcome_unless}
 use Rattle.je_answers.specs.declared.active.Active.{Active}
 use Rattle.je_answers.specs.Standing.{Standing, active_of}
-use Rattle.je_answers.specs.Views.{Target, changes_on, needs_in, of_db, outcome_of, target_of}
+use Rattle.je_answers.specs.Views.{Target, answered_with, needs_in, of_db, outcome_of, target_of}
 use Rattle.je_answers.specs.Refusals.{late_refusal, name_refusal, number_refusal, target_refusal, there_refusal}
-use Rattle.je_answers.specs.Alone.{alone, evaluated_on}
+use Rattle.je_answers.specs.Alone.{alone, changes_of_call, evaluated_on}
 use Rattle.je_answers.specs.Locking.{all_got}
 use Rattle.je_answers.specs.Events.{IsStopped, auto_active, begun, waiting_answer}
 use Rattle.je_answers.specs.After.{after_stop, answered, ended, moved, with_locks, with_outcome}
@@ -51,10 +52,15 @@ use Rattle.environment.proofs.EarlyLaws.{same_buffer}
 
 -- ---- what it comes to
 
+-- what it comes to with these own changes
+abbrev seen_with : Call → Target → List (ℕ × RecordChange) → Evaluated
+seen_with call g own =
+    let evaluated = evaluation g.database.kind call g.at (all_pairs_changed g.database.kind (of_db g.db own) g.database.pairs) in
+    answered_with (answer_through g.over (λ d. all_pairs_changed d.1.kind (of_db d.0 own) d.1.pairs) evaluated.answer) evaluated
+
 -- a transaction that has changed nothing sees what is committed
 pub outcome_is : (st : Standing) (session : ℕ) (call : Call) (g : Target) → st.own (auto_active st session).txn.0 ≡ [] → outcome_of (begun st session) (auto_active st session) call g ≡ evaluated_on call g
-outcome_is st session call g none =
-    ap (λ (own : List (ℕ × RecordChange)). evaluation g.database.kind call g.at (all_pairs_changed g.database.kind (of_db g.db own) g.database.pairs)) none
+outcome_is st session call g none = ap (seen_with call g) none
 
 late_outside : (st : Standing) (session : ℕ) (call : Call) (db : List ℕ) → IsOnRecords db call → active_of session st.actives ≡ None → late_refusal st session call ≡ late_refusal (alone (alone_in st)) session call
 late_outside st session (Get name key rmw) db is none = ap (λ (o : Option Active). or_refusal (number_refusal st.last_txn o)
@@ -76,7 +82,7 @@ plan_by st session (Delete name key) db late t is unrefused target = ap₂ (λ (
 plan_by st session call db late t is unrefused target = absurd is
 
 -- no change of the store is no change of records
-none_on : (g : Target) (cs : List RecordChange) → changes_on g cs ≡ [] → cs ≡ []
+none_on : (g : Target) (cs : List RecordChange) → changes_of_call g cs ≡ [] → cs ≡ []
 none_on g [] none = refl
 none_on g (c ∷ cs) none = absurd cc
 
@@ -181,8 +187,8 @@ module _ {D : Type 0} (observable : Bool) (history : D → History) (sync_out re
       come_ready observable history sync_out read_out read_of most e (with_begun e last s) st session line call g answer may.db ev may.records may.on.late may.outside may.on.target free evaluates
       (by_changes ev ev.changes refl none answer_is)
     where
-      back_own : (cs : List RecordChange) → Rattle.je_answers.specs.Standing.with_at a.txn.0 [] (Rattle.je_answers.specs.Standing.with_at a.txn.0 (st.own a.txn.0 ++ Rattle.je_answers.specs.Views.changes_at g.db cs) st.own) ≡ st.own
-      back_own cs = own_back a.txn.0 (st.own a.txn.0 ++ Rattle.je_answers.specs.Views.changes_at g.db cs) st.own none_yet
+      back_own : (more : List (ℕ × RecordChange)) → Rattle.je_answers.specs.Standing.with_at a.txn.0 [] (Rattle.je_answers.specs.Standing.with_at a.txn.0 (st.own a.txn.0 ++ more) st.own) ≡ st.own
+      back_own more = own_back a.txn.0 (st.own a.txn.0 ++ more) st.own none_yet
 
       back_actives : (ended a there).actives ≡ st.actives
       back_actives = back session st.actives a refl may.outside

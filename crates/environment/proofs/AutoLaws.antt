@@ -17,7 +17,7 @@ use Rattle.store_model.specs.Records.{Evaluated}
 use Rattle.je_answers.specs.declared.active.Active.{Active}
 use Rattle.je_answers.specs.declared.wait.Wait.{Wait}
 use Rattle.je_answers.specs.Standing.{Standing, active_of, with_at}
-use Rattle.je_answers.specs.Views.{Target, changes_on, needs_in, outcome_of, target_of}
+use Rattle.je_answers.specs.Views.{Target, changes_with, needs_in, outcome_of, target_of, with_names}
 use Rattle.je_answers.specs.Refusals.{late_refusal}
 use Rattle.je_answers.specs.Locking.{first_blocked}
 use Rattle.je_answers.specs.Events.{IsDone, IsEvaluated, IsOn, IsRun, IsTaken, auto_active, begun}
@@ -228,7 +228,8 @@ module _ {D : Type 0} where
     -- once it has its locks, by what it evaluates to
     abbrev pub Evaluates : ℕ → Environment D → Environment D → Standing → ℕ → Call → Target → Answer → Evaluated → Type 0
     Evaluates most old new st session call g answer ev =
-        HasStepped observable history sync_out read_out read_of most old new (owing st + 1) (changes_on g ev.changes) (changes_on g ev.changes)
+        HasStepped observable history sync_out read_out read_of most old new (owing st + 1) (with_names (changes_with (begun st session) (auto_active st session) g ev.changes))
+        (with_names (changes_with (begun st session) (auto_active st session) g ev.changes))
         (λ limit. IsDone ev.changes limit (begun st session) (auto_active st session) ev answer × (◌≡◌ {A = List Victim} [] [])) (after_changes ev.changes st (begun st session) (auto_active st session) call g ev answer) answer
 
     pub come_ready : (most : ℕ) (old new : Environment D) (st : Standing) (session line : ℕ) (call : Call) (g : Target) (answer : Answer) (db : List ℕ) (ev : Evaluated) → IsOnRecords db call →

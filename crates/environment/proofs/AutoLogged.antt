@@ -28,7 +28,7 @@ use Rattle.je_answers.specs.Events.{IsLogged, auto_active, begun, due, log_limit
 use Rattle.je_answers.specs.Journal.{is_disk_fault, tried}
 use Rattle.je_answers.specs.Locking.{all_got, first_blocked}
 use Rattle.je_answers.specs.Standing.{Standing, all_numbered}
-use Rattle.je_answers.specs.Views.{Target, changes_at, changes_on, needs_in}
+use Rattle.je_answers.specs.Views.{Target, changes_at, changes_on, needs_in, outcome_of}
 use Rattle.log_buffer.specs.Buffer.{disk_of as disk_below, end_of, has_failed}
 use Rattle.log_replay.specs.Logging.{all_row_changes, number_named}
 use Rattle.log_replay.specs.Rows.{Rows}
@@ -46,7 +46,8 @@ use Rattle.standing_laws.proofs.Moves.{sound_begun}
 use Rattle.standing_laws.proofs.Stopped.{LeavesSame}
 use Rattle.standing_laws.proofs.Writers.{writers-are_free}
 use Rattle.standing_laws.proofs.NamedDatabases.{IsOfRecord}
-use Rattle.standing_laws.proofs.CursorDatabases.{all_on}
+use Rattle.standing_laws.proofs.CursorDatabases.{all_with}
+use Rattle.je_answers.proofs.PlainTargets.{names_there}
 use Rattle.sessions.proofs.CursorStores.{sessions_changed, under_changed}
 use Rattle.txn_core.specs.declared.planned_changes.PlannedChanges.{PlannedChanges}
 use Rattle.txn_core.specs.Known.{committed}
@@ -74,7 +75,9 @@ use Rattle.environment.specs.Valid.{IsValidWith, owed_by, fitting}
 use Rattle.environment.specs.Whole.{HasLimit, reach_of}
 use Rattle.environment.proofs.Answering.{owed_is}
 use Rattle.environment.proofs.AutoEnds.{evaluates, next, none_yet, plan_is, sessions_closed}
-use Rattle.environment.proofs.AutoLaws.{Evaluates, back, come_ready, near_fewer, own_back, own_gone, same_leaves, valid_leaves}
+use Rattle.environment.proofs.PlainCalls.{EvaluatesAlone, all_there, as_model_alone, own_changes, own_fate, plain_call}
+use Rattle.environment.specs.OwnEnds.{own_outcome}
+use Rattle.environment.proofs.AutoLaws.{back, come_ready, near_fewer, own_back, own_gone, same_leaves, valid_leaves}
 use Rattle.environment.proofs.AutoRows.{AreOnly, all_free, lone_valid, planned_all, rows_on}
 use Rattle.environment.proofs.CatalogEnds.{alone_at}
 use Rattle.environment.proofs.CatalogLogged.{are_of, drawn_same, has_limit, logged_step, stands_on, tried_step, undrawn_same, with_engine, within_below}
@@ -104,6 +107,9 @@ none_made : (g : Target) (cs : List RecordChange) → made_by (changes_on g cs) 
 none_made g [] = refl
 none_made g (Set at value ∷ cs) = let rest = none_made g cs in omega (arith, rest)
 none_made g (Unset at ∷ cs) = let rest = none_made g cs in omega (arith, rest)
+
+all_on : (g : Target) (cs : List RecordChange) → AllByRecursion IsOfRecord (changes_on g cs)
+all_on g cs = subst (AllByRecursion IsOfRecord) (names_there g cs) (all_with (map (λ c. ((g.db, g.database), c)) cs))
 
 each_above : (P : Type 0) (cs : List RecordChange) → P → AllByRecursion (λ (c : RecordChange). P) cs
 each_above P [] p = tt
@@ -159,7 +165,7 @@ module _ {D : Type 0} (observable : Bool) (history : D → History) (sync_out re
     plan_at = plan_is observable history sync_out read_out read_of most e st session call g may
 
     changes_eq : changes_on g ev_.changes ≡ all_
-    changes_eq = sym (ap (λ (o : Outcome). o.changes) plan_at) ∙ log.changes
+    changes_eq = sym (plain_call g ev_.changes may.on.alone) ∙ sym (ap (λ (o : Outcome). o.changes) plan_at) ∙ log.changes
 
     none_own_yet : st.own a_.txn.0 ≡ []
     none_own_yet = none_yet observable history sync_out read_out read_of most e st session call g may
@@ -182,7 +188,7 @@ module _ {D : Type 0} (observable : Bool) (history : D → History) (sync_out re
     only : AreOnly a_.txn.0 st.own planned.changes.items
     only = planned_all (λ d x. IsOnlyOf d x a_.txn.0 st.own) g.db planned.changes.items ev_.changes rows_are
         (subst (λ (v : Evaluated). AllByRecursion (λ (c : RecordChange). IsOnlyOf g.db (changed_name c) a_.txn.0 st.own) v.changes) (evaluates observable history sync_out read_out read_of most e st session call g may)
-        (writers-are_free there_ a_ call g sound_there free))
+        (all_there (λ d c. IsOnlyOf d (changed_name c) a_.txn.0 st.own) there_ a_ g (outcome_of there_ a_ call g).changes may.on.alone (writers-are_free there_ a_ call g sound_there free)))
 
     above_all : AllByRecursion (λ (c : TreeChange). c.db ≢ 0) planned.changes.items
     above_all = planned_all (λ d x. d ≢ 0) g.db planned.changes.items ev_.changes rows_are (each_above (g.db ≢ 0) ev_.changes may.on.above)
@@ -197,13 +203,14 @@ module _ {D : Type 0} (observable : Bool) (history : D → History) (sync_out re
     -- ---- how it comes out
 
     by_shape : (answer : Answer) (new : Environment D) →
-        ((c : RecordChange) (cs : List RecordChange) → changes_on g (c ∷ cs) ≡ all_ → Evaluates observable history sync_out read_out read_of most e new st session call g answer (with_changes (c ∷ cs))) →
+        ((c : RecordChange) (cs : List RecordChange) → changes_on g (c ∷ cs) ≡ all_ → EvaluatesAlone observable history sync_out read_out read_of most e new st session call g answer (with_changes (c ∷ cs))) →
         HasCome observable history sync_out read_out read_of most e new st session line call answer []
     by_shape answer new each =
         come_ready observable history sync_out read_out read_of most e new st session line call g answer may.db ev_ may.records may.on.late may.outside may.on.target free
-        (evaluates observable history sync_out read_out read_of most e st session call g may) (by_list ev_.changes changes_eq)
+        (evaluates observable history sync_out read_out read_of most e st session call g may)
+        (as_model_alone observable history sync_out read_out read_of most e new st session call g answer ev_ may.on.alone (by_list ev_.changes changes_eq))
       where
-        by_list : (l : List RecordChange) → changes_on g l ≡ all_ → Evaluates observable history sync_out read_out read_of most e new st session call g answer (with_changes l)
+        by_list : (l : List RecordChange) → changes_on g l ≡ all_ → EvaluatesAlone observable history sync_out read_out read_of most e new st session call g answer (with_changes l)
         by_list [] is = absurd cc
         by_list (c ∷ cs) is = each c cs is
 
@@ -229,15 +236,15 @@ module _ {D : Type 0} (observable : Bool) (history : D → History) (sync_out re
 
     -- an answer, behind which it stands as it does
     comes_by : (n : Engine D) (s : Sessions) (answer : Answer) (old : Standing) (c : RecordChange) (cs : List RecordChange) → changes_on g (c ∷ cs) ≡ all_ → Logs_ n (Ok answer) → Near_ n (Ok answer) →
-        StandsAt most observable history (with_engine e n) old → LeavesSame old (after_changes (c ∷ cs) st there_ a_ call g (with_changes (c ∷ cs)) answer) →
-        AreSessionsAt s (after_changes (c ∷ cs) st there_ a_ call g (with_changes (c ∷ cs)) answer) → HaveOwnWaits (after_changes (c ∷ cs) st there_ a_ call g (with_changes (c ∷ cs)) answer).waiting →
-        owing (after_changes (c ∷ cs) st there_ a_ call g (with_changes (c ∷ cs)) answer) ≤ owing st →
-        IsLogged (log_limit Found) (due there_ a_ (with_changes (c ∷ cs))) answer → Rattle.engine.specs.Steps.IsNumbered answer (after_changes (c ∷ cs) st there_ a_ call g (with_changes (c ∷ cs)) answer).commits →
-        (after_changes (c ∷ cs) st there_ a_ call g (with_changes (c ∷ cs)) answer).fault ≡ cond (is_disk_fault answer) (Some Disk) None →
+        StandsAt most observable history (with_engine e n) old → LeavesSame old (own_changes (c ∷ cs) st there_ a_ call g (with_changes (c ∷ cs)) answer) →
+        AreSessionsAt s (own_changes (c ∷ cs) st there_ a_ call g (with_changes (c ∷ cs)) answer) → HaveOwnWaits (own_changes (c ∷ cs) st there_ a_ call g (with_changes (c ∷ cs)) answer).waiting →
+        owing (own_changes (c ∷ cs) st there_ a_ call g (with_changes (c ∷ cs)) answer) ≤ owing st →
+        IsLogged (log_limit Found) (due there_ a_ (with_changes (c ∷ cs))) answer → Rattle.engine.specs.Steps.IsNumbered answer (own_changes (c ∷ cs) st there_ a_ call g (with_changes (c ∷ cs)) answer).commits →
+        (own_changes (c ∷ cs) st there_ a_ call g (with_changes (c ∷ cs)) answer).fault ≡ cond (is_disk_fault answer) (Some Disk) None →
         IsLogStep observable history sync_out read_out read_of (is_disk_fault answer) e.engine.trees.log n.trees.log (tried all_ (fate_of answer)) →
-        Evaluates observable history sync_out read_out read_of most e (with_both e n s) st session call g answer (with_changes (c ∷ cs))
+        EvaluatesAlone observable history sync_out read_out read_of most e (with_both e n s) st session call g answer (with_changes (c ∷ cs))
     comes_by n s answer old c cs is logs near stands leaves sessions apart less answers numbered fault step =
-        let after : Standing = after_changes (c ∷ cs) st there_ a_ call g (with_changes (c ∷ cs)) answer in
+        let after : Standing = own_changes (c ∷ cs) st there_ a_ call g (with_changes (c ∷ cs)) answer in
         record {
           limit = Found;
           has_limit = subst (λ (l : List Change). HasLimit e (owing st + 1) l Found) (sym is) (has_limit e (owing st + 1) (alone_in st) session call planned log);
@@ -261,12 +268,12 @@ module _ {D : Type 0} (observable : Bool) (history : D → History) (sync_out re
         StandsAt most observable history (with_engine e n) (record st { last_txn = next_txn st.last_txn }) → Closed s → fate_of answer ≡ Rattle.je_answers.specs.After.IsRefused → is_disk_fault answer ≡ false →
         ((k : ℕ) → Rattle.engine.specs.Steps.IsNumbered answer k) → IsLogged (log_limit Found) (due there_ a_ (with_changes (c ∷ cs))) answer →
         IsLogStep observable history sync_out read_out read_of false e.engine.trees.log n.trees.log [] →
-        Evaluates observable history sync_out read_out read_of most e (with_both e n s) st session call g answer (with_changes (c ∷ cs))
+        EvaluatesAlone observable history sync_out read_out read_of most e (with_both e n s) st session call g answer (with_changes (c ∷ cs))
     refused n s answer c cs is logs near stands closed fate calm numbered answers step =
         let after : Standing = ended a_ (answered a_ call g there_) in
         let drawn : Standing = record st { last_txn = next_txn st.last_txn } in
-        let same : after_changes (c ∷ cs) st there_ a_ call g (with_changes (c ∷ cs)) answer ≡ after =
-        ap (λ (f : Rattle.je_answers.specs.After.Fate). Rattle.je_answers.specs.After.after_fate f st there_ a_ call g (with_changes (c ∷ cs))) fate in
+        let same : own_changes (c ∷ cs) st there_ a_ call g (with_changes (c ∷ cs)) answer ≡ after =
+        ap (λ (f : Rattle.je_answers.specs.After.Fate). own_fate f st there_ a_ call g (with_changes (c ∷ cs))) fate in
         let own_is : after.own ≡ st.own = own_gone a_.txn.0 st.own none_own_yet in
         let leaves : LeavesSame drawn after = same_leaves drawn after refl refl refl refl refl refl refl own_is back_actives in
         let less : owing after ≤ owing drawn = leaves.owing in
@@ -315,9 +322,9 @@ module _ {D : Type 0} (observable : Bool) (history : D → History) (sync_out re
         number : commit ≡ st.commits + 1
         number = logs.0 ∙ ap (λ (x : ℕ). x + 1) may.at.commits
 
-        by_changes : (c : RecordChange) (cs : List RecordChange) → changes_on g (c ∷ cs) ≡ all_ → Evaluates observable history sync_out read_out read_of most e (with_both e n s) st session call g (Logged commit) (with_changes (c ∷ cs))
+        by_changes : (c : RecordChange) (cs : List RecordChange) → changes_on g (c ∷ cs) ≡ all_ → EvaluatesAlone observable history sync_out read_out read_of most e (with_both e n s) st session call g (Logged commit) (with_changes (c ∷ cs))
         by_changes c cs is =
-            let after : Standing = ended a_ (commits (changes_on g (c ∷ cs)) (with_outcome a_ call g (with_changes (c ∷ cs)) (answered a_ call g there_))) in
+            let after : Standing = ended a_ (commits (changes_on g (c ∷ cs)) (own_outcome a_ call g (with_changes (c ∷ cs)) (answered a_ call g there_))) in
             let own_is : after.own ≡ st.own = own_back a_.txn.0 (st.own a_.txn.0 ++ changes_at g.db (c ∷ cs)) st.own none_own_yet in
             let same : LeavesSame Done_ after =
             same_leaves Done_ after (ap (λ (l : List Change). all_changed l st.store) is) (ap (λ (l : List Change). all_numbered l st.last_db st.numbers) is) refl (ap (λ (l : List Change). st.last_db + made_by l) is) refl refl refl own_is

@@ -48,6 +48,7 @@ module _ {D : Type 0} (most : ℕ) (observable : Bool) (history : D → History)
 
   on_there : IsOnDb there may.db found g
   on_there = record {
+    alone = may.on.alone;
     number = number;
     kind = kind;
     name = may.on.name;

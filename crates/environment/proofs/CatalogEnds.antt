@@ -18,7 +18,10 @@ use Rattle.store_model.specs.declared.call.Call.{Call}
 use Rattle.store_model.specs.declared.call.Call.TheVariants.{Create, Remove, Rename, Truncate}
 use Rattle.store_model.specs.declared.change.Change.{Change}
 use Rattle.store_model.specs.declared.change.Change.TheVariants.{Make, Remove as Removes, Rename as Renames, Empty}
-use Rattle.store_model.specs.Evaluation.{Outcome, answers, evaluation, evaluation_in}
+use Rattle.store_model.specs.declared.index.Index.{Index}
+use Rattle.store_model.specs.Evaluation.{emptying, Outcome, answers, evaluation, evaluation_in}
+use Rattle.store_model.specs.Indexes.{HasNoIndex}
+use Rattle.store_model.proofs.NoIndex.{found_no_index}
 use Rattle.store_model.specs.Refusals.{next_txn, or_refusal}
 use Rattle.store_model.specs.Store.{database_of}
 use Rattle.db_catalog.specs.Planning.{outcome_unless}
@@ -64,6 +67,7 @@ use Rattle.environment.proofs.Answering.{within_more}
 use Rattle.environment.proofs.BeginLaws.{next_is, none_left, with_begun}
 use Rattle.environment.proofs.CatalogStanding.{alone_of, answers_alike, late_alike, leaves_alike, outside, with_alone}
 use Rattle.environment.proofs.EarlyLaws.{same_buffer, same_reach}
+use Rattle.environment.proofs.LateLaws.{none_is_index}
 use Rattle.environment.proofs.ListLaws.{drawn_at}
 use Rattle.environment.proofs.Bases.{lives_at}
 
@@ -112,22 +116,23 @@ renames_one : (db to : List ℕ) (p : Alone) (o : Option Database) (d : Database
 renames_one db to p None d answer there is = absurd cc
 renames_one db to p (Some e) d answer there is = by_one (evaluation_in (Rename db to) p.store (Some e)) answer (Renames db to) refl is
 
-empties_one : (db : List ℕ) (p : Alone) (o : Option Database) (d : Database) (answer : Answer) → o ≡ Some d → evaluation_in (Truncate db) p.store o ≡ answers answer → ⊥
-empties_one db p None d answer there is = absurd cc
-empties_one db p (Some e) d answer there is = by_one (evaluation_in (Truncate db) p.store (Some e)) answer (Empty db) refl is
+empties_one : (db : List ℕ) (p : Alone) (d : Database) (answer : Answer) → HasNoIndex p.store → database_of db p.store ≡ Some d → evaluation_in (Truncate db) p.store (database_of db p.store) ≡ answers answer → ⊥
+empties_one db p d answer none there is =
+    by_one (evaluation_in (Truncate db) p.store (Some d)) answer (Empty db) (ap (λ (o : Option Index). (emptying db o).changes) (found_no_index db p.store d none there))
+    (ap (evaluation_in (Truncate db) p.store) (sym there) ∙ is)
 
-unrefused : (p : Alone) (session : ℕ) (call : Call) (answer : Answer) → ChangesCatalog call → late_refusal (alone p) session call ≡ None → performed_outcome p session call ≡ answers answer → ⊥
-unrefused p session (Create db kind) answer is none e = by_one (evaluation (Create db kind) p.store) answer (Make db kind) refl e
-unrefused p session (Remove db) answer is none e =
+unrefused : (p : Alone) (session : ℕ) (call : Call) (answer : Answer) → HasNoIndex p.store → ChangesCatalog call → late_refusal (alone p) session call ≡ None → performed_outcome p session call ≡ answers answer → ⊥
+unrefused p session (Create db kind) answer plain is none e = by_one (evaluation (Create db kind) p.store) answer (Make db kind) refl e
+unrefused p session (Remove db) answer plain is none e =
     let there = is_there (number_refusal p.last_txn None) _ (database_of db p.store) none in
     removes_one db p (database_of db p.store) there.0 answer there.1 e
-unrefused p session (Rename db to) answer is none e =
+unrefused p session (Rename db to) answer plain is none e =
     let there = is_there (number_refusal p.last_txn None) _ (database_of db p.store) none in
     renames_one db to p (database_of db p.store) there.0 answer there.1 e
-unrefused p session (Truncate db) answer is none e =
+unrefused p session (Truncate db) answer plain is none e =
     let there = is_there (number_refusal p.last_txn None) _ (database_of db p.store) none in
-    empties_one db p (database_of db p.store) there.0 answer there.1 e
-unrefused p session call answer is none e = absurd is
+    empties_one db p there.0 answer plain there.1 e
+unrefused p session call answer plain is none e = absurd is
 
 -- ---- who uses its database
 
@@ -324,7 +329,7 @@ module _ {D : Type 0} where
             let planned = plan p session (has most st at) in
             let calm : IsCalm answer = calm_is most st at in
             come_alone most e (with_begun e (e.engine.kept.last_txn + 1) e.sessions) st session line call answer [] None (drawn_alone p) is early none (ap (λ (o : Outcome). o.changes) planned)
-            (λ late. absurd (unrefused p session call answer is late (sym (ap (λ (l : Option Answer). outcome_unless l (performed_outcome p session call)) late) ∙ planned))) refl
+            (λ late. absurd (unrefused p session call answer (none_is_index (committed (cells_of e.engine.trees)) st (at.valid none).makes) is late (sym (ap (λ (l : Option Answer). outcome_unless l (performed_outcome p session call)) late) ∙ planned))) refl
             (answered_ends None (known (contents_of e.engine)) p session call answer none (auto_is call is) planned)
             (drawn_here most e st below at) (unnumbered answer st.commits calm) (none ∙ ap (λ (b : Bool). cond b (Some Disk) None) (sym (faultless answer calm)))
             (subst (λ (b : Bool). IsLogStep observable history sync_out read_out read_of b e.engine.trees.log e.engine.trees.log []) (sym (faultless answer calm)) (inl (same_buffer e.engine.trees.log, refl)))

@@ -23,8 +23,9 @@ use Rattle.store_model.specs.declared.answer.Fault.TheVariants.{Disk}
 use Rattle.store_model.specs.declared.call.Call.{Call}
 use Rattle.store_model.specs.declared.call.Call.TheVariants.{Create, Remove, Rename, Truncate}
 use Rattle.store_model.specs.declared.change.Change.{Change}
-use Rattle.store_model.specs.declared.change.Change.TheVariants.{Set, Unset, Make, Remove as Removes, Rename as Renames, Empty}
-use Rattle.store_model.specs.Evaluation.{evaluation_in}
+use Rattle.store_model.specs.declared.change.Change.TheVariants.{Set, Unset, Make, MakeIndex, Remove as Removes, Rename as Renames, Empty}
+use Rattle.store_model.specs.declared.index.Index.{Index}
+use Rattle.store_model.specs.Evaluation.{emptying, evaluation_in}
 use Rattle.store_model.specs.Refusals.{made_by, next_txn}
 use Rattle.store_model.specs.Store.{database_of}
 use Rattle.db_catalog.specs.declared.catalog_change.CatalogChange.{CatalogChange}
@@ -121,7 +122,11 @@ rename_one db to store (Some d) = (refl, refl)
 
 empty_one : (db : List ℕ) (store : Store) (o : Option Database) → AreOne (Truncate db) (evaluation_in (Truncate db) store o).changes
 empty_one db store None = tt
-empty_one db store (Some d) = (refl, refl)
+empty_one db store (Some d) = by_index d.index
+  where
+    by_index : (o : Option Index) → AreOne (Truncate db) (emptying db o).changes
+    by_index None = (refl, refl)
+    by_index (Some index) = tt
 
 ones : (late : Option Answer) (p : Alone) (session : ℕ) (call : Call) → ChangesCatalog call → AreOne call (outcome_unless late (performed_outcome p session call)).changes
 ones (Some refusal) p session call is = tt
@@ -168,6 +173,7 @@ in_catalog : (last_db : ℕ) (change : Change) (rows : Rows) → IsOfCatalog cha
 in_catalog last_db (Set db at value) rows is = absurd is
 in_catalog last_db (Unset db at) rows is = absurd is
 in_catalog last_db (Make db kind) rows is = catalog_only (logged_as (record_named rows) (last_db + 1) (Make db kind))
+in_catalog last_db (MakeIndex db index) rows is = catalog_only (logged_as (record_named rows) (last_db + 1) (MakeIndex db index))
 in_catalog last_db (Removes db) rows is = catalog_only (logged_as (record_named rows) (last_db + 1) (Removes db))
 in_catalog last_db (Renames db to) rows is = catalog_only (logged_as (record_named rows) (last_db + 1) (Renames db to))
 in_catalog last_db (Empty db) rows is = catalog_only (logged_as (record_named rows) (last_db + 1) (Empty db))

@@ -7,13 +7,13 @@ use Rattle.store_model.specs.declared.answer.Answer.TheVariants.{DatabaseInUse}
 use Rattle.store_model.specs.declared.call.Call.{Call}
 use Rattle.store_model.specs.declared.call.Call.TheVariants.{Create, Remove, Rename, Truncate}
 use Rattle.store_model.specs.declared.change.Change.{Change}
-use Rattle.store_model.specs.Evaluation.{evaluation}
+use Rattle.store_model.specs.Evaluation.{Outcome, evaluation}
 use Rattle.store_model.specs.Refusals.{or_refusal}
 use Rattle.je_answers.specs.declared.active.Active.{Active}
 use Rattle.je_answers.specs.After.{Fate, after_catalog, after_evaluated, drawn_by, fate_of}
 use Rattle.je_answers.specs.After.Fate.{Succeeds, IsRefused, Faults}
 use Rattle.je_answers.specs.Alone.{Alone, IsEvaluatedAlone, alone, drawn_alone, evaluated_alone, fate_alone}
-use Rattle.je_answers.specs.Events.{IsEvaluated}
+use Rattle.je_answers.specs.Events.{AreChanged, IsEvaluated}
 use Rattle.je_answers.specs.Locking.{IsAwaited, IsLeastUser}
 use Rattle.je_answers.specs.Refusals.{early_refusal, late_refusal, name_refusal, number_refusal, target_refusal, there_refusal, txn_refusal}
 use Rattle.je_answers.specs.Standing.{Standing, active_of}
@@ -75,13 +75,20 @@ late_alike st session call is none = absurd is
 
 -- ---- its answer
 
+changed_alike : (changes : List Change) (o : Outcome) (limit : Option Answer) (st : Standing) (answer : Answer) → AreChanged changes o limit (alone (alone_of st)) answer → AreChanged changes o limit st answer
+changed_alike [] o limit st answer may = may
+changed_alike (change ∷ changes) o limit st answer may = may
+
 pub answers_alike : (late limit : Option Answer) (st : Standing) (session line : ℕ) (call : Call) (answer : Answer) → ChangesCatalog call → (late ≡ None → IsFreeToChange st call) →
     IsEvaluatedAlone late limit (alone_of st) session call answer → IsEvaluated late limit st session line call answer []
 answers_alike (Some refusal) limit st session line call answer is free may = (may, refl)
 answers_alike None limit st session line (Create db kind) answer is free may = (may, refl)
-answers_alike None limit st session line (Remove db) answer is free may = (inl (free refl, may), refl)
-answers_alike None limit st session line (Rename db to) answer is free may = (inl (free refl, may), refl)
-answers_alike None limit st session line (Truncate db) answer is free may = (inl (free refl, may), refl)
+answers_alike None limit st session line (Remove db) answer is free may =
+    (inl (free refl, changed_alike (evaluation (Remove db) st.store).changes (evaluation (Remove db) st.store) limit st answer may), refl)
+answers_alike None limit st session line (Rename db to) answer is free may =
+    (inl (free refl, changed_alike (evaluation (Rename db to) st.store).changes (evaluation (Rename db to) st.store) limit st answer may), refl)
+answers_alike None limit st session line (Truncate db) answer is free may =
+    (inl (free refl, changed_alike (evaluation (Truncate db) st.store).changes (evaluation (Truncate db) st.store) limit st answer may), refl)
 answers_alike None limit st session line call answer is free may = absurd is
 
 used_by : (st : Standing) (db : ℕ) (t : TxnId) → IsLeastUser st db t ⊎ IsAwaited st db t →

@@ -25,7 +25,7 @@ use Rattle.record_tree.specs.Logged.{LogsTransaction, is_change_of, last_change,
 use Rattle.record_tree.specs.Occupied.{AllCells, write_in}
 use Rattle.record_tree.specs.declared.tree_change.TreeChange.{TreeChange}
 use Rattle.store_model.specs.declared.change.Change.{Change}
-use Rattle.store_model.specs.declared.change.Change.TheVariants.{Set, Unset, Make, Remove, Rename, Empty}
+use Rattle.store_model.specs.declared.change.Change.TheVariants.{Set, Unset, Make, MakeIndex, Remove, Rename, Empty}
 use Rattle.je_answers.specs.declared.active.Active.{Active}
 use Rattle.je_answers.specs.Alone.{committed_alone, drawn_alone}
 use Rattle.je_answers.specs.Standing.{Standing, with_at}
@@ -76,6 +76,7 @@ stays_there rows (Remove db) d other = ne_eqb d _ (λ e. other (sym e))
 stays_there rows (Empty db) d other = ne_eqb d _ (λ e. other (sym e))
 stays_there rows (Rename db to) d other = refl
 stays_there rows (Make db kind) d other = refl
+stays_there rows (MakeIndex db index) d other = refl
 stays_there rows (Set db at value) d other = refl
 stays_there rows (Unset db at) d other = refl
 

@@ -41,12 +41,13 @@ use Rattle.environment.specs.declared.wrote.Wrote.TheVariants.{Done, Full, NoNum
 use Rattle.environment.specs.Committing.{HasNotSettled, HasSettled, is_set}
 use Rattle.environment.specs.Ending.{HasAbandoned}
 use Rattle.environment.specs.Limits.{owing_with}
-use Rattle.environment.specs.OwnEnds.{AreEndedBy, HasPushedAndLogged, WritesAs}
+use Rattle.environment.specs.OwnEnds.{AreEndedBy, HasPushedAndLogged, WritesAs, own_outcome}
 use Rattle.environment.specs.Steps.{HasFailedWith, HasGrown, HasStepped, IsLogStep, RecoversWith, StandsAt}
 use Rattle.environment.specs.Whole.{HasLimit, reach_of}
 use Rattle.environment.specs.Written.{had_at}
 use Rattle.environment.proofs.CommitLaws.{failed_then, grown_then, had_within, is_under_way, owing_one, settled, settled_near}
-use Rattle.environment.proofs.FinishLaws.{Evaluates, Takes, in_sessions}
+use Rattle.environment.proofs.FinishLaws.{Takes, in_sessions}
+use Rattle.environment.proofs.PlainCalls.{EvaluatesOwn, as_model}
 use Rattle.environment.proofs.RecordAnswers.{calm_outcome, well_outcome}
 use Rattle.environment.specs.Valid.{owed_by}
 use Rattle.environment.specs.Writing.{WritesOwn}
@@ -166,7 +167,7 @@ module _ {D : Type 0} (observable : Bool) (history : D → History) (sync_out re
     all_ = changes_on g (change ∷ more)
 
     abbrev then_ : Standing
-    then_ = with_outcome a call g ev_ (answered a call g st)
+    then_ = own_outcome a call g ev_ (answered a call g st)
 
     abbrev Autos : (Bool → Standing) → Answer → Bool → Type 0
     Autos after answer is =
@@ -361,13 +362,14 @@ module _ {D : Type 0} (observable : Bool) (history : D → History) (sync_out re
 
     -- what is told of it
     wraps : (new : Environment D) (told : Answer) (o : Outcome) → o.answer ≡ told → o.victims ≡ [] →
-        ((c : RecordChange) (cs : List RecordChange) → changes ≡ c ∷ cs → Evaluates observable history sync_out read_out read_of most before new st a call g told a.is_auto (as_ (c ∷ cs))) →
+        ((c : RecordChange) (cs : List RecordChange) → changes ≡ c ∷ cs → EvaluatesOwn observable history sync_out read_out read_of most before new st a call g told a.is_auto (as_ (c ∷ cs))) →
         AccessesTo observable history sync_out read_out read_of most before new st a line call g (Ok o)
     wraps new told o is alone each =
         told_so (HasAccessed observable history sync_out read_out read_of most before new st a line call g) o told is alone
         (subst (Takes observable history sync_out read_out read_of most before new st a line call g told) (sym up.taken.free)
-        (subst (λ (l : List RecordChange). Evaluates observable history sync_out read_out read_of most before new st a call g told a.is_auto (as_ l)) up.changes_are
-        (by_first (λ l. Evaluates observable history sync_out read_out read_of most before new st a call g told a.is_auto (as_ l)) each)))
+        (as_model observable history sync_out read_out read_of most before new st a call g told a.is_auto outcome_ up.on.alone
+        (subst (λ (l : List RecordChange). EvaluatesOwn observable history sync_out read_out read_of most before new st a call g told a.is_auto (as_ l)) up.changes_are
+        (by_first (λ l. EvaluatesOwn observable history sync_out read_out read_of most before new st a call g told a.is_auto (as_ l)) each))))
 
     abbrev Came : Environment D → Wrote → Type 0
     Came mid wrote = HasPushedAndLogged observable history sync_out read_out read_of e mid a (needs_in st a call g) st g changes (Ok wrote)

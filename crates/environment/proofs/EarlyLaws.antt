@@ -11,7 +11,7 @@ use Rattle.store_model.specs.declared.answer.Answer.{Answer}
 use Rattle.store_model.specs.declared.answer.Fault.{Fault}
 use Rattle.store_model.specs.declared.answer.Fault.TheVariants.{Disk}
 use Rattle.store_model.specs.declared.call.Call.{Call}
-use Rattle.store_model.specs.declared.call.Call.TheVariants.{Begin, Commit, Abort, Create, Remove, Rename, Truncate, Open}
+use Rattle.store_model.specs.declared.call.Call.TheVariants.{Begin, Commit, Abort, Create, CreateIndex, Remove, Rename, Truncate, Open}
 use Rattle.store_model.specs.declared.victim.Victim.{Victim}
 use Rattle.store_model.specs.Refusals.{or_refusal}
 use Rattle.je_answers.specs.declared.active.Active.{Active}
@@ -71,6 +71,7 @@ calm_abort call (Some a) = calm_victim call a.deadlock
 calm_txn : (call : Call) (a : Option Active) → IsCalmRefusal (txn_refusal call a)
 calm_txn (Begin level durability wait) (Some a) = refl
 calm_txn (Create db kind) (Some a) = refl
+calm_txn (CreateIndex db index) (Some a) = refl
 calm_txn (Remove db) (Some a) = refl
 calm_txn (Rename db to) (Some a) = refl
 calm_txn (Truncate db) (Some a) = refl

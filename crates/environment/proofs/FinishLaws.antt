@@ -16,7 +16,7 @@ use Rattle.store_model.specs.declared.victim.Victim.{Victim}
 use Rattle.store_model.specs.Records.{Evaluated}
 use Rattle.je_answers.specs.declared.active.Active.{Active}
 use Rattle.je_answers.specs.Standing.{LockState, Standing, with_at}
-use Rattle.je_answers.specs.Views.{Target, changes_on, needs_in, outcome_of}
+use Rattle.je_answers.specs.Views.{Target, changes_with, needs_in, outcome_of, with_names}
 use Rattle.je_answers.specs.Locking.{all_got}
 use Rattle.je_answers.specs.Events.{IsDone, IsTaken}
 use Rattle.je_answers.specs.After.{after_changes, after_taking, answered, closed, with_locks, with_outcome}
@@ -118,7 +118,7 @@ module _ {D : Type 0} where
     -- and where it got all, by what it evaluates to, and whether its transaction is its own
     abbrev pub Evaluates : ℕ → Environment D → Environment D → Standing → Active → Call → Target → Answer → Bool → Evaluated → Type 0
     Evaluates most old new st a call g answer auto ev =
-        HasStepped observable history sync_out read_out read_of most old new (owing_with (Some a) st) (changes_on g ev.changes) (changes_closed auto (changes_on g ev.changes))
+        HasStepped observable history sync_out read_out read_of most old new (owing_with (Some a) st) (with_names (changes_with st a g ev.changes)) (changes_closed auto (with_names (changes_with st a g ev.changes)))
         (λ limit. IsDone ev.changes limit st a ev answer × (◌≡◌ {A = List Victim} [] [])) (after_changes ev.changes st st a call g ev answer) answer
 
     -- without changes, in a transaction of more calls

@@ -24,11 +24,13 @@ use Rattle.store_model.specs.declared.put_mode.PutMode.TheVariants.{Overwrite, N
 use Rattle.je_order.specs.declared.limits.TheConstants.{KEY_LIMIT}
 use Rattle.store_model.specs.Refusals.{access_refusal, data_limit, database_refuses, kind_refusal, motion_refusal, or_refusal, pair_refusal, too_long}
 use Rattle.environment.proofs.EarlyLaws.{IsCalmRefusal, calm_or}
+use Rattle.store_model.specs.Indexes.{HasNoIndex}
 use Rattle.store_model.specs.Store.{database_of}
 use Rattle.je_answers.specs.declared.active.Active.{Active}
 use Rattle.je_answers.specs.Standing.{Standing, active_of, database_at}
-use Rattle.je_answers.specs.Views.{Target, named_target, target, target_of}
+use Rattle.je_answers.specs.Views.{IsPlain as IsAlone, Target, named_target, target, target_of}
 use Rattle.je_answers.specs.Refusals.{database_refusal, late_refusal, number_refusal, target_refusal}
+use Rattle.je_answers.proofs.PlainTargets.{plain_refusal, target_is_plain}
 use Rattle.db_catalog.specs.declared.db_kind.DbKind.{DbKind}
 use Rattle.db_catalog.specs.declared.db_kind.DbKind.TheVariants.{Plain, Dup, SliceIndex, FieldIndex}
 use Rattle.db_catalog.specs.declared.db_record.DbRecord.{DbRecord}
@@ -37,6 +39,7 @@ use Rattle.db_catalog.specs.Planning.{IsFoundAs, found_in}
 use Rattle.log_replay.specs.Logging.{record_named}
 use Rattle.log_replay.specs.Rows.{Rows, number_or_0, store_of}
 use Rattle.log_replay.proofs.RowLaws.{name_cmp-plain}
+use Rattle.log_replay.proofs.LoggedLaws.{store_has_no_index}
 use Rattle.log_replay.proofs.StoreLaws.{database_of-absent}
 use Rattle.txn_log.specs.Committing.{MakesStore}
 use Rattle.txn_log.proofs.CommittingLaws.{database_numbered}
@@ -125,6 +128,10 @@ found_number (Some r) f is = by_kind r.kind is
     by_kind (SliceIndex primary offset len) e = absurd cc
     by_kind (FieldIndex primary number separator) e = absurd cc
 
+-- no database that a catalog has is an index
+pub none_is_index : (rows : Rows) (st : Standing) → MakesStore rows st.last_db st → HasNoIndex st.store
+none_is_index rows st makes = subst HasNoIndex makes.store (store_has_no_index rows)
+
 -- the database of a name is that of the name's number
 pub record IsKnownAs (st : Standing) (db : List ℕ) (d : Database) : Type 0 where
   pub name : d.name ≡ db
@@ -178,9 +185,16 @@ module _ (rows : Rows) (st : Standing) (makes : MakesStore rows st.last_db st) (
   abbrev pub number : Option Answer
   number = number_refusal st.last_txn (active_of session st.actives)
 
-  late_on : (o : Option Database) → database_of db st.store ≡ o → late_refusal st session call ≡ or_refusal number (or_refusal (access_refusal (is_some o)) (or_refusal None (target_refusal call (option_map (target (st.numbers db) None) o))))
+  late_on : (o : Option Database) → database_of db st.store ≡ o → late_refusal st session call ≡ or_refusal number (or_refusal (access_refusal (is_some o)) (or_refusal None (target_refusal call (option_map (target st.numbers st.store (st.numbers db) None) o))))
   late_on o is = late_is st session call db on
-      ∙ ap (λ (x : Option Database). or_refusal number (or_refusal (access_refusal (is_some x)) (or_refusal None (target_refusal call (option_map (target (st.numbers db) None) x))))) is
+      ∙ ap (λ (x : Option Database). or_refusal number (or_refusal (access_refusal (is_some x)) (or_refusal None (target_refusal call (option_map (target st.numbers st.store (st.numbers db) None) x))))) is
+
+  -- its database is no index and has none
+  target_there : (d : Database) → database_of db st.store ≡ Some d → target_of st session call ≡ Some (target st.numbers st.store (st.numbers db) None d)
+  target_there d is = target_is st session call db on ∙ ap (option_map (target st.numbers st.store (st.numbers db) None)) is
+
+  is_plain_there : (d : Database) → database_of db st.store ≡ Some d → IsAlone (target st.numbers st.store (st.numbers db) None d)
+  is_plain_there d is = target_is_plain st session call (target st.numbers st.store (st.numbers db) None d) (none_is_index rows st makes) (target_there d is)
 
   pub late_number : is_some number ≡ true → IsLate st session call db (Refused IdsEnded)
   late_number is = (
@@ -199,7 +213,8 @@ module _ (rows : Rows) (st : Standing) (makes : MakesStore rows st.last_db st) (
       IsLate st session call db (Refused answer)
   late_refuses none found f as_ there answer refuses calm =
       let d = there_by rows st makes db found f as_ there in (
-        late_on (Some d.database) d.is ∙ ap (λ (n : Option Answer). or_refusal n (database_refuses d.database.kind call)) (number_is_none number none) ∙ ap (λ (k : Kind). database_refuses k call) d.kind ∙ refuses,
+        late_on (Some d.database) d.is ∙ ap (λ (n : Option Answer). or_refusal n (target_refusal call (Some (target st.numbers st.store (st.numbers db) None d.database)))) (number_is_none number none)
+            ∙ plain_refusal call (target st.numbers st.store (st.numbers db) None d.database) (is_plain_there d.database d.is) ∙ ap (λ (k : Kind). database_refuses k call) d.kind ∙ refuses,
         calm,
       )
 
@@ -208,8 +223,10 @@ module _ (rows : Rows) (st : Standing) (makes : MakesStore rows st.last_db st) (
   late_found none found f exact as_ there refuses = (
     g,
     record {
-      late = late_on (Some d.database) d.is ∙ ap (λ (n : Option Answer). or_refusal n (database_refuses d.database.kind call)) (number_is_none number none) ∙ ap (λ (k : Kind). database_refuses k call) d.kind ∙ refuses;
-      target = target_is st session call db on ∙ ap (option_map (target (st.numbers db) None)) d.is;
+      late = late_on (Some d.database) d.is ∙ ap (λ (n : Option Answer). or_refusal n (target_refusal call (Some g))) (number_is_none number none)
+          ∙ plain_refusal call g (is_plain_there d.database d.is) ∙ ap (λ (k : Kind). database_refuses k call) d.kind ∙ refuses;
+      target = target_there d.database d.is;
+      alone = is_plain_there d.database d.is;
       number = named_number;
       kind = d.kind;
       name = known.name;
@@ -224,7 +241,7 @@ module _ (rows : Rows) (st : Standing) (makes : MakesStore rows st.last_db st) (
     d = there_by rows st makes db found f as_ there
 
     g : Target
-    g = target (st.numbers db) None d.database
+    g = target st.numbers st.store (st.numbers db) None d.database
 
     known : IsKnownAs st db d.database
     known = known_as rows st makes db d.database d.is

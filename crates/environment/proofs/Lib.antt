@@ -36,6 +36,8 @@ pub mod AccessLaws
 pub mod RefusedLaws
 -- What transactions wrote, after a change of the map.
 pub mod NameMaps
+-- A call on a database that is no index and has none.
+pub mod PlainCalls
 -- The beginning of a transaction.
 pub mod BeginLaws
 -- The names of databases.

@@ -65,7 +65,8 @@ use Rattle.environment.specs.declared.wrote.Wrote.TheVariants.{Done, Full, NoNum
 use Rattle.environment.specs.Access.{AccessesTo, HasAccessed, IsTakenUp}
 use Rattle.environment.specs.Calls.{HasCause}
 use Rattle.environment.specs.Limits.{owing_with, written_taken}
-use Rattle.environment.specs.OwnEnds.{AreEndedBy, HasPushed, HasPushedAndLogged, WritesAs, WritesUp, answer_for}
+use Rattle.environment.specs.OwnEnds.{AreEndedBy, HasPushed, HasPushedAndLogged, WritesAs, WritesUp, answer_for, own_outcome}
+use Rattle.environment.proofs.PlainCalls.{EvaluatesOwn, all_there, as_model, own_fate}
 use Rattle.environment.specs.Steps.{HasNotCome, HasStepped, IsLogStep, StandsAt}
 use Rattle.environment.specs.Valid.{active_number, owed_by, fitting}
 use Rattle.environment.specs.Whole.{CanGoOn, HasLimit, reach_of}
@@ -280,7 +281,7 @@ module _ {D : Type 0} (observable : Bool) (history : D → History) (sync_out re
 
     -- its changes are logged
     abbrev OwnDone : Standing
-    OwnDone = with_outcome a call g ev_ (answered a call g st)
+    OwnDone = own_outcome a call g ev_ (answered a call g st)
 
     done_here : Writes before mid st a.txn.0 g changes_ (owing own_) (Ok Done) → AreEndedBy Done s a call ev.place needs_ (changes_at g.db changes_) st → StandsAt most observable history new_ OwnDone
     done_here w stands = record {
@@ -413,9 +414,7 @@ module _ {D : Type 0} (observable : Bool) (history : D → History) (sync_out re
       (λ limit. IsTaken need limit st a line call g answer []) (after_taking need st st a line call g answer []) answer
 
   abbrev Evaluates : ℕ → Environment D → Environment D → Standing → Active → Call → Target → Answer → Evaluated → Type 0
-  Evaluates most old new st a call g answer ev =
-      HasStepped observable history sync_out read_out read_of most old new (owing_with (Some a) st) (changes_on g ev.changes) (changes_closed a.is_auto (changes_on g ev.changes))
-      (λ limit. IsDone ev.changes limit st a ev answer × (◌≡◌ {A = List Victim} [] [])) (after_changes ev.changes st st a call g ev answer) answer
+  Evaluates most old new st a call g answer ev = EvaluatesOwn observable history sync_out read_out read_of most old new st a call g answer a.is_auto ev
 
   module _ (most : ℕ) (before new : Environment D) (st : Standing) (a : Active) (call : Call) (g : Target) (ev : Evaluated) (change : RecordChange) (more : List RecordChange) where
     abbrev evaluated_ : Evaluated
@@ -424,7 +423,7 @@ module _ {D : Type 0} (observable : Bool) (history : D → History) (sync_out re
     abbrev Fated : Fate → Answer → Type 0
     Fated fate answer =
         HasStepped observable history sync_out read_out read_of most before new (owing_with (Some a) st) (changes_on g (change ∷ more)) (changes_closed a.is_auto (changes_on g (change ∷ more)))
-        (λ limit. IsLogged (log_limit limit) (cond a.is_auto (Logged (st.commits + 1)) ev.answer) answer × (◌≡◌ {A = List Victim} [] [])) (after_fate fate st st a call g evaluated_) answer
+        (λ limit. IsLogged (log_limit limit) (cond a.is_auto (Logged (st.commits + 1)) ev.answer) answer × (◌≡◌ {A = List Victim} [] [])) (own_fate fate st st a call g evaluated_) answer
 
     -- by whether it is one call's
     abbrev Autos : (Bool → Standing) → Answer → Bool → Type 0
@@ -448,7 +447,7 @@ module _ {D : Type 0} (observable : Bool) (history : D → History) (sync_out re
     fated : (wrote : Wrote) → WritesAs observable history sync_out read_out read_of evaluated_ most before new st a call g wrote → fate_of ev.answer ≡ Succeeds → a.is_auto ≡ false →
         Fated (fate_of (answer_for wrote ev.answer)) (answer_for wrote ev.answer)
     fated Done h well auto =
-        let after : Bool → Standing = λ b. closed b a (changes_on g (change ∷ more)) (with_outcome a call g evaluated_ (answered a call g st)) in
+        let after : Bool → Standing = λ b. closed b a (changes_on g (change ∷ more)) (own_outcome a call g evaluated_ (answered a call g st)) in
         subst (λ (f : Fate). Fated f ev.answer) (sym well) (subst (Autos after ev.answer) (sym auto) (not_auto after ev.answer h))
     fated Full h well auto = let after : Bool → Standing = λ b. closed b a [] (answered a call g st) in subst (Autos after LogFull) (sym auto) (not_auto after LogFull h)
     fated NoNumbers h well auto = let after : Bool → Standing = λ b. closed b a [] (answered a call g st) in subst (Autos after IdsEnded) (sym auto) (not_auto after IdsEnded h)
@@ -504,7 +503,8 @@ module _ {D : Type 0} (observable : Bool) (history : D → History) (sync_out re
           right = subst (AllByRecursion (λ c. is_right_change g.database.kind c ≡ true)) (sym up.changes_are)
               (subst (λ (p : List Pair). AllByRecursion (λ c. is_right_change g.database.kind c ≡ true) (evaluation g.database.kind call g.at p).changes) its.pairs
               (changes-are_right g.database.kind call g.at (seen_rows a.level a.txn (cells_of e.engine.trees g.db)) up.plain its.right));
-          free = subst (AllByRecursion (λ c. Rattle.standing_laws.specs.Laws.IsOnlyOf g.db (Rattle.store_model.specs.Needs.changed_name c) a.txn.0 st.own)) (sym up.changes_are) (writers-are_free st a call g up.sound up.taken.free);
+          free = subst (AllByRecursion (λ c. Rattle.standing_laws.specs.Laws.IsOnlyOf g.db (Rattle.store_model.specs.Needs.changed_name c) a.txn.0 st.own)) (sym up.changes_are)
+              (all_there (λ d c. Rattle.standing_laws.specs.Laws.IsOnlyOf d (Rattle.store_model.specs.Needs.changed_name c) a.txn.0 st.own) st a g (outcome_of st a call g).changes up.on.alone (writers-are_free st a call g up.sound up.taken.free));
           apart = (loggable rising).apart;
         }
 
@@ -530,7 +530,8 @@ module _ {D : Type 0} (observable : Bool) (history : D → History) (sync_out re
         let ev : Evaluated = outcome_of st a call g in
         told_so (HasAccessed observable history sync_out read_out read_of most before new st a line call g) o (answer_for wrote ev.answer) (told ∙ ap (answer_for wrote) up.answer_is) alone
         (subst (Takes most before new st a line call g (answer_for wrote ev.answer)) (sym up.taken.free)
-        (evaluates most before new st a call g ev changes wrote (sym up.changes_are) some h (well_outcome st a call g up.records) auto))
+        (as_model observable history sync_out read_out read_of most before new st a call g (answer_for wrote ev.answer) a.is_auto ev up.on.alone
+        (evaluates most before new st a call g ev changes wrote (sym up.changes_are) some h (well_outcome st a call g up.records) auto)))
 
     pub not_ends : (mid : Environment D) (s : Sessions) (error : AllocError) → HasPushedAndLogged observable history sync_out read_out read_of e mid a (needs_in st a call g) st g changes (Err error) → AreSessionsAt s st →
         HasNotCome observable history sync_out read_out read_of most before (in_sessions s mid) st

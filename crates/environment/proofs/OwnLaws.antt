@@ -43,6 +43,7 @@ use Rattle.sessions.specs.declared.taken.Taken.{Taken}
 use Rattle.sessions.specs.declared.taken.Taken.TheVariants.{Ready, Stopped}
 use Rattle.store_model.specs.Refusals.{database_refuses, or_refusal}
 use Rattle.je_answers.specs.Refusals.{name_refusal, number_refusal, target_refusal, there_refusal}
+use Rattle.je_answers.proofs.PlainTargets.{plain_refusal}
 use Rattle.sessions.specs.Taking.{HasStopped, HasTaken, IfReady, IfStopped}
 use Rattle.standing_laws.specs.Right.{HaveOwnWaits}
 use Rattle.standing_laws.proofs.Stopped.{LeavesSame, victims_apart, victims_leave}
@@ -227,7 +228,7 @@ not_refused_there st session call db f at g found =
     let first = or_none (number_refusal st.last_txn (active_of session st.actives)) _ found.late in
     let second = or_none (there_refusal st session call) _ first.1 in
     let third = or_none (name_refusal st session call) _ second.1 in
-    ap (target_refusal call) (sym found.target) ∙ third.1
+    sym (plain_refusal call g found.alone) ∙ ap (target_refusal call) (sym found.target) ∙ third.1
 
 -- ---- what was taken
 

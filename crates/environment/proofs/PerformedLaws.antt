@@ -1,5 +1,5 @@
 -- A call by its kind.
-use Rattle.std.proofs.Common.{◌∙◌, ℕ, Bool, Option, Result, Ok, Err, sym}
+use Rattle.std.proofs.Common.{◌∙◌, ℕ, Bool, Option, Result, Ok, Err, arith, sym}
 use Rattle.std.specs.declared.alloc.AllocError.{AllocError}
 use Rattle.je_disk.specs.Moments.{History}
 use Rattle.store_model.specs.declared.answer.Answer.{Answer}
@@ -7,7 +7,8 @@ use Rattle.store_model.specs.declared.call.Call.{Call}
 use Rattle.environment.specs.declared.environment.Environment.{Environment}
 use Rattle.environment.specs.declared.outcome.Outcome.{Outcome}
 use Rattle.environment.specs.Steps.{HasCome, IsOnly, Performs, PerformsAnswer}
-use Rattle.environment.proofs.EarlyLaws.{told_so}
+use Rattle.environment.specs.Whole.{CanGoOn}
+use Rattle.environment.proofs.EarlyLaws.{same_buffer, same_reach, told_so}
 
 module _ {D : Type 0} (observable : Bool) (history : D → History) (sync_out read_out : D → Option ℕ) (read_of faults : D → ℕ) where
   -- a call that has no victims
@@ -28,3 +29,12 @@ module _ {D : Type 0} (observable : Bool) (history : D → History) (sync_out re
   }
   performs_only old new session line call resumed (Ok answer) (Err other) only p = absurd only
   performs_only old new session line call resumed (Err error) (Ok o) only p = absurd only
+
+  -- there is no memory for it
+  pub none_made : (e : Environment D) (session line : ℕ) (call : Call) (resumed : Bool) (error : AllocError) → CanGoOn e → Performs observable history sync_out read_out read_of faults e e session line call resumed (Err error)
+  none_made e session line call resumed error bounds = record {
+    comes = λ most st here sound early may. record { here = here; log = same_buffer e.engine.trees.log; near = same_reach e };
+    near = same_reach e;
+    bounds = bounds;
+    cause = record { never_falls = omega arith; fault = tt };
+  }

@@ -1,5 +1,5 @@
 -- What a transaction sees of the database that a call is on.
-use Rattle.std.proofs.Common.{◌≡◌, ◌≢◌, ◌≤◌, ◌∙◌, ℕ, Bool, true, List, Option, Some, map, is_eq, ap, sym, subst, rules}
+use Rattle.std.proofs.Common.{◌≡◌, ◌≢◌, ◌≤◌, ◌∙◌, ℕ, Bool, true, List, Option, None, Some, map, is_eq, ap, sym, subst, rules}
 use Rattle.std.specs.List.{AllByRecursion}
 use Rattle.std.specs.Map.{keys_of}
 use Rattle.je_order.specs.Order.{name_cmp}
@@ -20,7 +20,8 @@ use Rattle.je_order.specs.declared.name.Name.{Name}
 use Rattle.store_model.specs.Store.{Pair, database_of}
 use Rattle.je_answers.specs.declared.active.Active.{Active}
 use Rattle.je_answers.specs.Standing.{Standing}
-use Rattle.je_answers.specs.Views.{Target, occupied, outcome_of, view_of}
+use Rattle.je_answers.specs.Views.{IsPlain, Target, occupied, outcome_of, view_of}
+use Rattle.je_answers.proofs.PlainTargets.{plain_needs, plain_outcome}
 use Rattle.db_catalog.specs.declared.found_db.FoundDb.{FoundDb}
 use Rattle.log_replay.specs.Logging.{kind_named, number_named}
 use Rattle.log_replay.specs.Rows.{Row, Rows, are_right, catalog_kind, catalog_number, pair_of}
@@ -64,6 +65,7 @@ are_occupied trees d = filter_all_pass (λ (e : Name × Occupied). is_occupied e
 -- the database that a call is on
 pub on_db : (st : Standing) (session : ℕ) (call : Call) (db : List ℕ) (f : FoundDb) (at : Option Name) (g : Target) → IsFoundFor st session call db f at g → IsOnDb st db f g
 on_db st session call db f at g found = record {
+  alone = found.alone;
   number = found.number;
   kind = found.kind;
   name = found.name;
@@ -89,7 +91,7 @@ module _ (rows : Rows) (st : Standing) (makes : MakesStore rows st.last_db st) (
 
   -- so it is the database that the catalog's records make
   abbrev made : Kind → ℕ → Database
-  made kind number = record { name = db; kind = kind; pairs = map (pair_of kind) (rows number) }
+  made kind number = record { name = db; kind = kind; index = None; pairs = map (pair_of kind) (rows number) }
 
   database_is : g.database ≡ made (kind_named rows db) (number_named rows db)
   database_is = some_is g.database _ (sym on.is ∙ ap (database_of db) (sym makes.store) ∙ database_of-numbered rows db makes.environment has)
@@ -122,18 +124,19 @@ module _ (rows : Rows) (st : Standing) (makes : MakesStore rows st.last_db st) (
 
 -- what a call of a transaction is planned as, from what its transaction sees
 pub planned_for : (st : Standing) (a : Active) (call : Call) (g : Target) (f : FoundDb) (at : Option Name) (cells : AllCells) (answer : Answer) (changes : List RecordChange) (needs : List Need) (place : Option Name) →
-    AreSeenBy st a g cells → g.db ≡ f.number → g.database.kind ≡ f.kind → g.at ≡ at →
+    IsPlain g → AreSeenBy st a g cells → g.db ≡ f.number → g.database.kind ≡ f.kind → g.at ≡ at →
     answer ≡ (evaluation f.kind call at (map (pair_of f.kind) (seen_rows a.level a.txn (cells f.number)))).answer →
     changes ≡ (evaluation f.kind call at (map (pair_of f.kind) (seen_rows a.level a.txn (cells f.number)))).changes →
     needs ≡ needs_of a.level f.number f.kind call at (map (pair_of f.kind) (seen_rows a.level a.txn (cells f.number))) (keys_of (cells f.number)) →
     place ≡ (evaluation f.kind call at (map (pair_of f.kind) (seen_rows a.level a.txn (cells f.number)))).place →
     IsPlannedFor st a call g answer changes needs place
-planned_for st a call g f at cells answer changes needs place seen number kind stands answer_is changes_are needs_are place_is =
+planned_for st a call g f at cells answer changes needs place plain seen number kind stands answer_is changes_are needs_are place_is =
     let pairs : map (pair_of f.kind) (seen_rows a.level a.txn (cells f.number)) ≡ view_of st a g =
     ap (λ (k : Kind). map (pair_of k) (seen_rows a.level a.txn (cells f.number))) (sym kind) ∙ ap (λ (n : ℕ). map (pair_of g.database.kind) (seen_rows a.level a.txn (cells n))) (sym number) ∙ seen.pairs in
     let names : keys_of (cells f.number) ≡ occupied st g = ap (λ (n : ℕ). keys_of (cells n)) (sym number) ∙ seen.names in
     let ev : evaluation f.kind call at (map (pair_of f.kind) (seen_rows a.level a.txn (cells f.number))) ≡ outcome_of st a call g =
-    ap (λ (p : List Pair). evaluation f.kind call at p) pairs ∙ ap (λ (k : Kind). evaluation k call at (view_of st a g)) (sym kind) ∙ ap (λ (o : Option Name). evaluation g.database.kind call o (view_of st a g)) (sym stands) in
+    ap (λ (p : List Pair). evaluation f.kind call at p) pairs ∙ ap (λ (k : Kind). evaluation k call at (view_of st a g)) (sym kind) ∙ ap (λ (o : Option Name). evaluation g.database.kind call o (view_of st a g)) (sym stands)
+    ∙ sym (plain_outcome st a call g plain) in
     record {
       answer_is = answer_is ∙ ap (λ (e : Evaluated). e.answer) ev;
       changes_are = changes_are ∙ ap (λ (e : Evaluated). e.changes) ev;
@@ -141,7 +144,8 @@ planned_for st a call g f at cells answer changes needs place seen number kind s
           ∙ ap (λ (n : List Name). needs_of a.level f.number f.kind call at (view_of st a g) n) names
           ∙ ap (λ (k : Kind). needs_of a.level f.number k call at (view_of st a g) (occupied st g)) (sym kind)
           ∙ ap (λ (n : ℕ). needs_of a.level n g.database.kind call at (view_of st a g) (occupied st g)) (sym number)
-          ∙ ap (λ (o : Option Name). needs_of a.level g.db g.database.kind call o (view_of st a g) (occupied st g)) (sym stands);
+          ∙ ap (λ (o : Option Name). needs_of a.level g.db g.database.kind call o (view_of st a g) (occupied st g)) (sym stands)
+          ∙ sym (plain_needs st a call g plain);
       place_is = place_is ∙ ap (λ (e : Evaluated). e.place) ev;
     }
 
@@ -182,7 +186,7 @@ module _ {D : Type 0} (trees : LogTrees D) (txn : TxnId) (level : Isolation) (db
       let seen = seen_at trees st a db f g sound on makes writes may rising in
       let ev : TxnId → Isolation → Evaluated = λ t l. evaluation f.kind call at (map (pair_of f.kind) (seen_rows l t (cells_of trees f.number))) in
       let needed : TxnId → Isolation → List Need = λ t l. needs_of l f.number f.kind call at (map (pair_of f.kind) (seen_rows l t (cells_of trees f.number))) (keys_of (cells_of trees f.number)) in
-      planned_for st a call g f at (cells_of trees) p.plan.answer p.plan.changes p.plan.needs.items p.place seen on.number on.kind stands
+      planned_for st a call g f at (cells_of trees) p.plan.answer p.plan.changes p.plan.needs.items p.place on.alone seen on.number on.kind stands
       (answer ∙ sym (ap (λ (t : TxnId). (ev t level).answer) is_txn) ∙ sym (ap (λ (l : Isolation). (ev a.txn l).answer) is_level))
       (changes ∙ sym (ap (λ (t : TxnId). (ev t level).changes) is_txn) ∙ sym (ap (λ (l : Isolation). (ev a.txn l).changes) is_level))
       (needs ∙ sym (ap (λ (t : TxnId). needed t level) is_txn) ∙ sym (ap (λ (l : Isolation). needed a.txn l) is_level))

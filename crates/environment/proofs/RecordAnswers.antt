@@ -11,10 +11,11 @@ use Rattle.store_model.specs.Records.{Evaluated, conclude, deleted, empty_if, ev
 use Rattle.store_model.specs.Store.{Pair, name_of}
 use Rattle.je_answers.specs.declared.active.Active.{Active}
 use Rattle.je_answers.specs.Standing.{Standing}
-use Rattle.je_answers.specs.Views.{Target, outcome_of, view_of}
+use Rattle.je_answers.specs.Views.{Target, outcome_of, view_in, view_of}
+use Rattle.store_model.specs.Indexes.{Numbered, answer_through}
 use Rattle.je_answers.specs.After.{fate_of}
 use Rattle.je_answers.specs.After.Fate.{Succeeds}
-use Rattle.engine.proofs.CalmAnswers.{IsCalm}
+use Rattle.engine.proofs.CalmAnswers.{IsCalm, calm_through}
 use Rattle.standing_laws.specs.Right.{MayWait}
 
 -- what holds of each of these answers
@@ -83,9 +84,17 @@ module _ (P : Answer → Type 0) (h : HoldsOf P) where
 -- it is calm
 pub calm_outcome : (st : Standing) (a : Active) (call : Call) (g : Target) → MayWait call → IsCalm (outcome_of st a call g).answer
 calm_outcome st a call g may =
-    of_evaluated IsCalm (record { done = refl; rec_ = λ key value. refl; count = λ n. refl; absent = refl; exists_ = refl; empty = refl; nowhere = refl }) g.database.kind call g.at (view_of st a g) may
+    calm_through g.over (view_in st a) (evaluation g.database.kind call g.at (view_of st a g)).answer
+    (of_evaluated IsCalm (record { done = refl; rec_ = λ key value. refl; count = λ n. refl; absent = refl; exists_ = refl; empty = refl; nowhere = refl }) g.database.kind call g.at (view_of st a g) may)
+
+-- what an index answers in its place succeeds as that does
+well_through : (over : Option Numbered) (see : Numbered → List Pair) (answer : Answer) → fate_of answer ≡ Succeeds → fate_of (answer_through over see answer) ≡ Succeeds
+well_through None see answer is = is
+well_through (Some primary) see (Rec key primary_key) is = refl
+well_through (Some primary) see answer is = is
 
 -- and it succeeds, unless the log refuses its changes
 pub well_outcome : (st : Standing) (a : Active) (call : Call) (g : Target) → MayWait call → fate_of (outcome_of st a call g).answer ≡ Succeeds
 well_outcome st a call g may =
-    of_evaluated (λ (x : Answer). fate_of x ≡ Succeeds) (record { done = refl; rec_ = λ key value. refl; count = λ n. refl; absent = refl; exists_ = refl; empty = refl; nowhere = refl }) g.database.kind call g.at (view_of st a g) may
+    well_through g.over (view_in st a) (evaluation g.database.kind call g.at (view_of st a g)).answer
+    (of_evaluated (λ (x : Answer). fate_of x ≡ Succeeds) (record { done = refl; rec_ = λ key value. refl; count = λ n. refl; absent = refl; exists_ = refl; empty = refl; nowhere = refl }) g.database.kind call g.at (view_of st a g) may)

@@ -12,7 +12,8 @@ use Rattle.store_model.specs.declared.store.Database.{Database}
 use Rattle.store_model.specs.Refusals.{database_refuses, or_refusal}
 use Rattle.je_answers.specs.declared.active.Active.{Active}
 use Rattle.je_answers.specs.Standing.{Standing, active_of, database_at, place_at}
-use Rattle.je_answers.specs.Views.{cursor_target, target, target_at, target_of}
+use Rattle.je_answers.specs.Views.{IsPlain, Target, cursor_target, target, target_at, target_of}
+use Rattle.je_answers.proofs.PlainTargets.{plain_refusal, target_is_plain}
 use Rattle.je_answers.specs.Refusals.{cursor_refusal, late_refusal, number_refusal, target_refusal}
 use Rattle.log_replay.specs.Rows.{Rows}
 use Rattle.open_cursors.specs.declared.open_cursor.OpenCursor.{OpenCursor}
@@ -24,7 +25,7 @@ use Rattle.environment.specs.Access.{IsLateAt}
 use Rattle.environment.specs.Calls.{IsAtCursor}
 use Rattle.environment.specs.declared.late_at.LateAt.TheVariants.{Refused, Stands}
 use Rattle.environment.specs.declared.spot.Spot.{Spot}
-use Rattle.environment.proofs.LateLaws.{IsKnownAs, known_as, number_ended, number_is_none}
+use Rattle.environment.proofs.LateLaws.{IsKnownAs, known_as, none_is_index, number_ended, number_is_none}
 
 -- ---- by the number of its cursor
 
@@ -72,11 +73,22 @@ module _ (rows : Rows) (st : Standing) (makes : MakesStore rows st.last_db st) (
     there : database_at opened.place.db st ≡ Some under.database
     there = ap (λ (n : ℕ). database_at n st) (sym under.number_is) ∙ known.there
 
+    abbrev on : Target
+    on = target st.numbers st.store opened.place.db opened.place.at under.database
+
+    target_there : target_of st session call ≡ Some on
+    target_there = target_is st session call cursor at ∙ ap (target_at st) (sym open_) ∙ ap (option_map (target st.numbers st.store opened.place.db opened.place.at)) there
+
+    -- its database is no index and has none
+    plain_there : IsPlain on
+    plain_there = target_is_plain st session call on (none_is_index rows st makes) target_there
+
     late_there : is_some (number_of st session) ≡ false → late_refusal st session call ≡ database_refuses opened.kind call
     late_there none =
         late_by (Some opened.place) (sym open_)
         ∙ ap (λ (n : Option Answer). or_refusal n (target_refusal call (target_at st (Some opened.place)))) (number_is_none (number_of st session) none)
-        ∙ ap (λ (d : Option Database). target_refusal call (option_map (target opened.place.db opened.place.at) d)) there
+        ∙ ap (λ (d : Option Database). target_refusal call (option_map (target st.numbers st.store opened.place.db opened.place.at) d)) there
+        ∙ plain_refusal call on plain_there
         ∙ ap (λ (k : Kind). database_refuses k call) under.kind_is
 
     pub spot_refused : is_some (number_of st session) ≡ false → (answer : Answer) → database_refuses opened.kind call ≡ Some answer → IsCalm answer → IsLateAt st session call (Refused answer)
@@ -93,10 +105,11 @@ module _ (rows : Rows) (st : Standing) (makes : MakesStore rows st.last_db st) (
     pub spot_stands : is_some (number_of st session) ≡ false → AreSound st → database_refuses opened.kind call ≡ None → (spot : Spot) →
         spot ≡ record { name = opened.name; found = record { number = opened.place.db; kind = opened.kind }; at = opened.place.at } → IsLateAt st session call (Stands spot)
     spot_stands none sound refuses spot is = subst (λ (s : Spot). IsLateAt st session call (Stands s)) (sym is) (
-      target opened.place.db opened.place.at under.database,
+      on,
       record {
         late = late_there none ∙ refuses;
-        target = target_is st session call cursor at ∙ ap (target_at st) (sym open_) ∙ ap (option_map (target opened.place.db opened.place.at)) there;
+        target = target_there;
+        alone = plain_there;
         number = refl;
         kind = under.kind_is;
         name = known.name;

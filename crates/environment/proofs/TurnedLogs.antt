@@ -40,7 +40,7 @@ use Rattle.txn_log.proofs.RedoLsns.{ends_from_end}
 use Rattle.ending_laws.specs.Ends.{HasRedo, MayGetEnd}
 use Rattle.ending_laws.proofs.EndStands.{ends_may_stand}
 use Rattle.ending_laws.proofs.Records.{cells_are_records}
-use Rattle.checkpointer.specs.Noted.{earlier_of}
+use Rattle.checkpointer.specs.Numbers.{earlier_of}
 use Rattle.sessions.specs.AtStanding.{owing}
 use Rattle.standing_laws.specs.Right.{txn_id}
 use Rattle.engine.proofs.GuardLaws.{one_log}

@@ -6,7 +6,7 @@ use Rattle.store_model.specs.declared.record_change.RecordChange.{RecordChange}
 use Rattle.store_model.specs.Store.{database_of}
 use Rattle.je_answers.specs.declared.active.Active.{Active}
 use Rattle.je_answers.specs.Standing.{Standing, active_of, database_at}
-use Rattle.je_answers.specs.Views.{Target, needs_in, outcome_of, target_of}
+use Rattle.je_answers.specs.Views.{IsPlain, Target, needs_in, outcome_of, target_of}
 use Rattle.je_answers.specs.Refusals.{late_refusal}
 use Rattle.je_order.specs.declared.name.Name.{Name}
 use Rattle.store_model.specs.declared.need.Need.{Need}
@@ -38,6 +38,7 @@ use Rattle.environment.specs.declared.moving.Move.{Move}
 pub record IsFoundFor (st : Standing) (session : ℕ) (call : Call) (db : List ℕ) (found : FoundDb) (at : Option Name) (g : Target) : Type 0 where
   pub late : late_refusal st session call ≡ None
   pub target : target_of st session call ≡ Some g
+  pub alone : IsPlain g
   pub number : g.db ≡ found.number
   pub kind : g.database.kind ≡ found.kind
   pub name : g.database.name ≡ db
@@ -49,6 +50,7 @@ pub record IsFoundFor (st : Standing) (session : ℕ) (call : Call) (db : List �
 
 -- the database of a name, which the catalog has under this number
 pub record IsOnDb (st : Standing) (db : List ℕ) (found : FoundDb) (g : Target) : Type 0 where
+  pub alone : IsPlain g
   pub number : g.db ≡ found.number
   pub kind : g.database.kind ≡ found.kind
   pub name : g.database.name ≡ db

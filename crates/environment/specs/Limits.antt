@@ -2,7 +2,7 @@
 use Rattle.std.specs.Prelude.{ℕ, ◌+◌, [], ◌∷◌, List, Option, None, Some, if◌then◌else◌}
 use Rattle.store_model.specs.declared.answer.Answer.{Answer}
 use Rattle.store_model.specs.declared.call.Call.{Call}
-use Rattle.store_model.specs.declared.call.Call.TheVariants.{Create, Remove, Rename, Truncate, Get, GetBoth, Put, Delete, Count, Cur, CPutCur, CDel, CPut}
+use Rattle.store_model.specs.declared.call.Call.TheVariants.{Create, CreateIndex, Remove, Rename, Truncate, Get, GetBoth, Put, Delete, Count, Cur, CPutCur, CDel, CPut}
 use Rattle.store_model.specs.declared.change.Change.{Change}
 use Rattle.store_model.specs.declared.event.Event.{Event}
 use Rattle.store_model.specs.declared.event.Event.TheVariants.{Call as Called, Resume, Turn}
@@ -11,7 +11,7 @@ use Rattle.store_model.specs.Evaluation.{evaluation}
 use Rattle.je_answers.specs.declared.active.Active.{Active}
 use Rattle.je_answers.specs.declared.wait.Wait.{Wait}
 use Rattle.je_answers.specs.Standing.{Standing, active_of, wait_of}
-use Rattle.je_answers.specs.Views.{Target, target_of, changes_on, outcome_of, needs_in}
+use Rattle.je_answers.specs.Views.{Target, target_of, changes_with, with_names, outcome_of, needs_in}
 use Rattle.je_answers.specs.Refusals.{early_refusal, late_refusal}
 use Rattle.je_answers.specs.Locking.{first_blocked}
 use Rattle.je_answers.specs.Events.{auto_active, begun, resumed}
@@ -24,7 +24,7 @@ use Rattle.engine.specs.Limits.{IsBoundedBy, Reach, reach_after}
 
 -- a call on records writes its changes once it has its locks, whether it commits them or not
 abbrev pub written_taken : Option Need → Standing → Active → Call → Target → List Change
-written_taken None st a call g = changes_on g (outcome_of st a call g).changes
+written_taken None st a call g = with_names (changes_with st a g (outcome_of st a call g).changes)
 written_taken (Some n) st a call g = []
 
 abbrev pub written_on : Option Target → Standing → Active → Call → List Change
@@ -38,6 +38,7 @@ written_run None st session call = written_on (target_of st session call) (begun
 -- a commit writes no change: its changes were written as its calls made them
 abbrev pub written_performed : Call → Standing → ℕ → List Change
 written_performed (Create db kind) st session = (evaluation (Create db kind) st.store).changes
+written_performed (CreateIndex db index) st session = (evaluation (CreateIndex db index) st.store).changes
 written_performed (Remove db) st session = (evaluation (Remove db) st.store).changes
 written_performed (Rename db to) st session = (evaluation (Rename db to) st.store).changes
 written_performed (Truncate db) st session = (evaluation (Truncate db) st.store).changes

@@ -1,5 +1,5 @@
 -- How a call of a transaction ends that got its locks and changes something.
-use Rattle.std.specs.Prelude.{ℕ, ◌≡◌, [], Bool, true, List, Option, Some, Result, Ok, Err, IfOk, length}
+use Rattle.std.specs.Prelude.{ℕ, ◌≡◌, ◌++◌, [], Bool, true, List, Option, Some, Result, Ok, Err, IfOk, length}
 use Rattle.std.specs.declared.alloc.AllocError.{AllocError}
 use Rattle.je_disk.specs.Moments.{History}
 use Rattle.store_model.specs.declared.answer.Answer.{Answer}
@@ -8,13 +8,13 @@ use Rattle.je_order.specs.declared.name.Name.{Name}
 use Rattle.store_model.specs.declared.need.Need.{Need}
 use Rattle.store_model.specs.declared.record_change.RecordChange.{RecordChange}
 use Rattle.je_answers.specs.declared.active.Active.{Active}
-use Rattle.je_answers.specs.Standing.{Standing}
+use Rattle.je_answers.specs.Standing.{Standing, with_at}
 use Rattle.store_model.specs.declared.call.Call.{Call}
 use Rattle.store_model.specs.Records.{Evaluated}
 use Rattle.je_answers.specs.Views.{Target, changes_at, changes_on, outcome_of}
 use Rattle.je_answers.specs.Locking.{all_got}
 use Rattle.je_answers.specs.Events.{IsLogged, log_limit}
-use Rattle.je_answers.specs.After.{answered, faulted, with_locks, with_outcome}
+use Rattle.je_answers.specs.After.{answered, faulted, moved, with_locks}
 use Rattle.sessions.specs.declared.all_sessions.Sessions.{Sessions}
 use Rattle.sessions.specs.AtStanding.{AreSessionsAt, owing, with_own}
 use Rattle.sessions.specs.Taking.{HasTaken}
@@ -33,9 +33,16 @@ answer_for Full answer = LogFull
 answer_for NoNumbers answer = IdsEnded
 answer_for Failed answer = DiskFault
 
+-- a call on a database that is no index and has none: its cursor moved, and its changes are the transaction's own
+abbrev pub own_outcome : Active → Call → Target → Evaluated → Standing → Standing
+own_outcome a call g evaluated st = record st {
+  own = with_at a.txn.0 (st.own a.txn.0 ++ changes_at g.db evaluated.changes) st.own;
+  places = with_at a.session (moved call evaluated.place (st.places a.session)) st.places;
+}
+
 -- where it then stands, unless it ends its transaction
 abbrev pub after_wrote : Wrote → Standing → Active → Call → Target → Evaluated → Standing
-after_wrote Done st a call g ev = with_outcome a call g ev (answered a call g st)
+after_wrote Done st a call g ev = own_outcome a call g ev (answered a call g st)
 after_wrote Full st a call g ev = answered a call g st
 after_wrote NoNumbers st a call g ev = answered a call g st
 after_wrote Failed st a call g ev = faulted st

@@ -8,7 +8,7 @@ use Rattle.lock_table.specs.declared.record_id.RecordId.{RecordId}
 use Rattle.lock_table.specs.Locks.{after_release}
 use Rattle.je_order.specs.Transactions.{is_same_txn}
 use Rattle.store_model.specs.declared.call.Call.{Call}
-use Rattle.store_model.specs.declared.call.Call.TheVariants.{List as Lists, Create, Remove, Rename, Truncate, Get, GetBoth, Put, Delete}
+use Rattle.store_model.specs.declared.call.Call.TheVariants.{List as Lists, Create, CreateIndex, Remove, Rename, Truncate, Get, GetBoth, Put, Delete}
 use Rattle.store_model.specs.declared.change.Change.{Change}
 use Rattle.store_model.specs.declared.record_change.RecordChange.{RecordChange}
 use Rattle.store_model.specs.declared.need.Need.{Need}
@@ -20,13 +20,13 @@ use Rattle.store_model.specs.Records.{Evaluated}
 use Rattle.store_model.specs.Evaluation.{evaluation as catalog_evaluation}
 use Rattle.je_answers.specs.declared.active.Active.{Active}
 use Rattle.je_answers.specs.Standing.{LockState, Standing, with_at}
-use Rattle.je_answers.specs.Views.{Target, target_of, changes_on, needs_in}
+use Rattle.je_answers.specs.Views.{Target, target_of, needs_in}
 use Rattle.je_answers.specs.Refusals.{fault_refusal, early_refusal, late_refusal}
 use Rattle.je_answers.specs.Locking.{Queues, all_got, first_blocked, released, IsUnused}
 use Rattle.je_answers.specs.Events.{IsDone, IsTaken, IsOn, IsPerformed, IsEvaluated, IsCallAnswered, auto_active, begun}
 use Rattle.je_answers.specs.After.{Fate, fate_of, without_session, closed, with_outcome, answered, after_fate, after_changes, after_taking, after_on, after_catalog, after_performed, after_evaluated, after_call}
 use Rattle.je_answers.specs.After.Fate.{Succeeds, IsRefused, Faults}
-use Rattle.je_answers.specs.Alone.{Alone, no_locks, alone, evaluated_on, IsDoneOn, IsPerformedAlone, IsEvaluatedAlone, IsAnsweredAlone, drawn_alone, committed_alone, fate_alone, changes_alone, target_alone, performed_alone, evaluated_alone, after_alone, IsAutoCommitted, CallsStayAlone}
+use Rattle.je_answers.specs.Alone.{Alone, no_locks, alone, evaluated_on, changes_of_call, IsDoneOn, IsPerformedAlone, IsEvaluatedAlone, IsAnsweredAlone, drawn_alone, committed_alone, fate_alone, changes_alone, target_alone, performed_alone, evaluated_alone, after_alone, IsAutoCommitted, CallsStayAlone}
 use Rattle.je_answers.proofs.Unlocked.{same_number, none_own, none_stopped, all_gone}
 
 -- the transaction of a call, and the environment in which it is under way
@@ -66,6 +66,7 @@ performed : (call : Call) (limit : Option Answer) (p : Alone) (session line : �
     IsPerformedAlone call limit p session answer → IsPerformed call limit (alone p) session line answer []
 performed Lists limit p session line answer h = (h, refl)
 performed (Create db kind) limit p session line answer h = (h, refl)
+performed (CreateIndex db index) limit p session line answer h = (inl (unused p (p.numbers index.primary), h), refl)
 performed (Remove db) limit p session line answer h = (inl (unused p (p.numbers db), h), refl)
 performed (Rename db to) limit p session line answer h = (inl (unused p (p.numbers db), h), refl)
 performed (Truncate db) limit p session line answer h = (inl (unused p (p.numbers db), h), refl)
@@ -95,6 +96,7 @@ behind_fault (Some first) = refl
 early_is : (p : Alone) (session : ℕ) (call : Call) → IsAutoCommitted call → early_refusal (alone p) session call ≡ fault_refusal p.fault
 early_is p session Lists is = behind_fault p.fault
 early_is p session (Create db kind) is = behind_fault p.fault
+early_is p session (CreateIndex db index) is = behind_fault p.fault
 early_is p session (Remove db) is = behind_fault p.fault
 early_is p session (Rename db to) is = behind_fault p.fault
 early_is p session (Truncate db) is = behind_fault p.fault
@@ -187,17 +189,17 @@ refusing p session call g =
     (unlocked (its p session).txn (needs_in (under_way p session) (its p session) call g))
 
 fate_leaves : (fate : Fate) (p : Alone) (session : ℕ) (call : Call) (g : Target) (e : Evaluated) →
-    after_fate fate (alone p) (under_way p session) (its p session) call g e ≡ alone (fate_alone fate (changes_on g e.changes) p)
-fate_leaves Succeeds p session call g e = closing p session call g e (changes_on g e.changes)
+    after_fate fate (alone p) (under_way p session) (its p session) call g e ≡ alone (fate_alone fate (changes_of_call g e.changes) p)
+fate_leaves Succeeds p session call g e = closing p session call g e (changes_of_call g e.changes)
 fate_leaves IsRefused p session call g e = refusing p session call g
 fate_leaves Faults p session call g e = refl
 
 changes_leave : (changes : List RecordChange) (p : Alone) (session : ℕ) (call : Call) (g : Target) (e : Evaluated) (answer : Answer) → e.changes ≡ changes →
     after_changes changes (alone p) (under_way p session) (its p session) call g e answer ≡ alone (changes_alone changes g p answer)
 changes_leave [] p session call g e answer is =
-    fate_leaves Succeeds p session call g e ∙ ap (λ (cs : List RecordChange). alone (fate_alone Succeeds (changes_on g cs) p)) is
+    fate_leaves Succeeds p session call g e ∙ ap (λ (cs : List RecordChange). alone (fate_alone Succeeds (changes_of_call g cs) p)) is
 changes_leave (change ∷ changes) p session call g e answer is =
-    fate_leaves (fate_of answer) p session call g e ∙ ap (λ (cs : List RecordChange). alone (fate_alone (fate_of answer) (changes_on g cs) p)) is
+    fate_leaves (fate_of answer) p session call g e ∙ ap (λ (cs : List RecordChange). alone (fate_alone (fate_of answer) (changes_of_call g cs) p)) is
 
 target_leaves : (o : Option Target) (p : Alone) (session line : ℕ) (call : Call) (answer : Answer) →
     after_on o (alone p) (under_way p session) (its p session) line call answer [] ≡ alone (target_alone o call p answer)
@@ -216,6 +218,7 @@ performed_leaves : (call : Call) (p : Alone) (session line : ℕ) (answer : Answ
     after_performed call (alone p) session line answer [] ≡ alone (performed_alone call p session answer)
 performed_leaves Lists p session line answer is = refl
 performed_leaves (Create db kind) p session line answer is = catalog_leaves (fate_of answer) (catalog_evaluation (Create db kind) p.store).changes p
+performed_leaves (CreateIndex db index) p session line answer is = catalog_leaves (fate_of answer) (catalog_evaluation (CreateIndex db index) p.store).changes p
 performed_leaves (Remove db) p session line answer is = catalog_leaves (fate_of answer) (catalog_evaluation (Remove db) p.store).changes p
 performed_leaves (Rename db to) p session line answer is = catalog_leaves (fate_of answer) (catalog_evaluation (Rename db to) p.store).changes p
 performed_leaves (Truncate db) p session line answer is = catalog_leaves (fate_of answer) (catalog_evaluation (Truncate db) p.store).changes p

@@ -7,7 +7,7 @@ use Rattle.store_model.specs.declared.store.Store.{Store}
 use Rattle.store_model.specs.declared.step.Step.{Step}
 use Rattle.store_model.specs.declared.step.Step.TheVariants.{Begin as BeginStep, Flush, Finish, Sync as SyncStep}
 use Rattle.store_model.specs.declared.call.Call.{Call}
-use Rattle.store_model.specs.declared.call.Call.TheVariants.{Begin, Commit, Abort, List as Lists, Create, Remove, Rename, Truncate, Get, GetBoth, Put, Delete, Open, Close, Dup, Count, Cur, CPutCur, CDel, CPut}
+use Rattle.store_model.specs.declared.call.Call.TheVariants.{Begin, Commit, Abort, List as Lists, Create, CreateIndex, Remove, Rename, Truncate, Get, GetBoth, Put, Delete, Open, Close, Dup, Count, Cur, CPutCur, CDel, CPut}
 use Rattle.store_model.specs.declared.change.Change.{Change}
 use Rattle.store_model.specs.declared.record_change.RecordChange.{RecordChange}
 use Rattle.store_model.specs.declared.need.Need.{Need}
@@ -27,7 +27,7 @@ use Rattle.store_model.proofs.StoreLaws.{store_after-append}
 use Rattle.je_answers.specs.declared.active.Active.{Active}
 use Rattle.je_answers.specs.declared.wait.Wait.{Wait}
 use Rattle.je_answers.specs.Standing.{Standing, active_of, wait_of, without_wait, place_at}
-use Rattle.je_answers.specs.Views.{Target, target_of, changes_on, changes_named, outcome_of, needs_in}
+use Rattle.je_answers.specs.Views.{Target, target_of, changes_with, with_names, changes_named, outcome_of, needs_in}
 use Rattle.je_answers.specs.Refusals.{fault_refusal, waits_refusal, abort_refusal, txn_refusal, early_refusal, late_refusal}
 use Rattle.je_answers.specs.Locking.{first_blocked}
 use Rattle.je_answers.specs.Events.{auto_active, begun, resumed}
@@ -76,24 +76,24 @@ closing_none true a old st store commits = unmade old (closed true a [] st) stor
 closing_none false a old st store commits = unmade old st store commits
 
 by_fate : (fate : Fate) (old st : Standing) (a : Active) (call : Call) (g : Target) (e : Evaluated) → st.store ≡ old.store → st.commits ≡ old.commits →
-    IsMadeBy old (after_fate fate old st a call g e) (logged (changes_closed a.is_auto (changes_on g e.changes)) fate)
+    IsMadeBy old (after_fate fate old st a call g e) (logged (changes_closed a.is_auto (with_names (changes_with st a g e.changes))) fate)
 by_fate Succeeds old st a call g e store commits =
-    let made = by_closing a.is_auto a (changes_on g e.changes) (with_outcome a call g e (answered a call g st)) in
-    let new = logged (changes_closed a.is_auto (changes_on g e.changes)) Succeeds in
+    let made = by_closing a.is_auto a (with_names (changes_with st a g e.changes)) (with_outcome a call g e (answered a call g st)) in
+    let new = logged (changes_closed a.is_auto (with_names (changes_with st a g e.changes))) Succeeds in
     record {
       store = made.store ∙ ap (λ (s : Store). store_after s new) store;
       count = made.count ∙ ap (λ (n : ℕ). n + length new) commits;
     }
 by_fate IsRefused old st a call g e store commits =
-    subst (IsMadeBy old (after_fate IsRefused old st a call g e)) (sym (refused_none (changes_closed a.is_auto (changes_on g e.changes))))
+    subst (IsMadeBy old (after_fate IsRefused old st a call g e)) (sym (refused_none (changes_closed a.is_auto (with_names (changes_with st a g e.changes)))))
     (closing_none a.is_auto a old (answered a call g st) store commits)
 by_fate Faults old st a call g e store commits =
-    subst (IsMadeBy old (after_fate Faults old st a call g e)) (sym (fault_none (changes_closed a.is_auto (changes_on g e.changes)))) (unmade old (after_fate Faults old st a call g e) refl refl)
+    subst (IsMadeBy old (after_fate Faults old st a call g e)) (sym (fault_none (changes_closed a.is_auto (with_names (changes_with st a g e.changes))))) (unmade old (after_fate Faults old st a call g e) refl refl)
 
 by_changes : (changes : List RecordChange) (old st : Standing) (a : Active) (call : Call) (g : Target) (e : Evaluated) (answer : Answer) → e.changes ≡ changes → st.store ≡ old.store → st.commits ≡ old.commits →
-    IsMadeBy old (after_changes changes old st a call g e answer) (logged (changes_closed a.is_auto (changes_on g e.changes)) (fate_of answer))
+    IsMadeBy old (after_changes changes old st a call g e answer) (logged (changes_closed a.is_auto (with_names (changes_with st a g e.changes))) (fate_of answer))
 by_changes [] old st a call g e answer is store commits =
-    let none : changes_closed a.is_auto (changes_on g e.changes) ≡ [] = ap (λ (cs : List RecordChange). changes_closed a.is_auto (changes_on g cs)) is ∙ closed_none a.is_auto in
+    let none : changes_closed a.is_auto (with_names (changes_with st a g e.changes)) ≡ [] = ap (λ (cs : List RecordChange). changes_closed a.is_auto (with_names (changes_with st a g cs))) is ∙ closed_none a.is_auto in
     subst (λ (cs : List Change). IsMadeBy old (after_changes [] old st a call g e answer) (logged cs (fate_of answer))) (sym none)
     (subst (λ (cs : List Change). IsMadeBy old (after_changes [] old st a call g e answer) (logged cs Succeeds)) none (by_fate Succeeds old st a call g e store commits))
 by_changes (change ∷ changes) old st a call g e answer is store commits = by_fate (fate_of answer) old st a call g e store commits
@@ -168,6 +168,7 @@ by_performing Commit st session line answer victims = by_ending (active_of sessi
 by_performing Abort st session line answer victims = by_abort (active_of session st.actives) st st refl refl
 by_performing Lists st session line answer victims = by_drawing (active_of session st.actives) st
 by_performing (Create db kind) st session line answer victims = by_catalog (fate_of answer) (evaluation (Create db kind) st.store).changes (active_of session st.actives) st
+by_performing (CreateIndex db index) st session line answer victims = by_catalog (fate_of answer) (evaluation (CreateIndex db index) st.store).changes (active_of session st.actives) st
 by_performing (Remove db) st session line answer victims = by_catalog (fate_of answer) (evaluation (Remove db) st.store).changes (active_of session st.actives) st
 by_performing (Rename db to) st session line answer victims = by_catalog (fate_of answer) (evaluation (Rename db to) st.store).changes (active_of session st.actives) st
 by_performing (Truncate db) st session line answer victims = by_catalog (fate_of answer) (evaluation (Truncate db) st.store).changes (active_of session st.actives) st
@@ -354,9 +355,9 @@ fate_faults IsRefused old st a call g e is = cc
 fate_faults Faults old st a call g e is = refl
 
 changes_fault : (changes : List RecordChange) (old st : Standing) (a : Active) (call : Call) (g : Target) (e : Evaluated) (answer : Answer) (change : Change) (rest : List Change) →
-    e.changes ≡ changes → changes_closed a.is_auto (changes_on g e.changes) ≡ change ∷ rest → fate_of answer ≡ Faults → (after_changes changes old st a call g e answer).fault ≡ Some Disk
+    e.changes ≡ changes → changes_closed a.is_auto (with_names (changes_with st a g e.changes)) ≡ change ∷ rest → fate_of answer ≡ Faults → (after_changes changes old st a call g e answer).fault ≡ Some Disk
 changes_fault [] old st a call g e answer change rest same is faults =
-    absurd (closing_nothing a.is_auto change rest (sym (ap (λ (cs : List RecordChange). changes_closed a.is_auto (changes_on g cs)) same) ∙ is))
+    absurd (closing_nothing a.is_auto change rest (sym (ap (λ (cs : List RecordChange). changes_closed a.is_auto (with_names (changes_with st a g cs))) same) ∙ is))
 changes_fault (first ∷ others) old st a call g e answer change rest same is faults = fate_faults (fate_of answer) old st a call g e faults
 
 taking_faults : (o : Option Need) (old st : Standing) (a : Active) (line : ℕ) (call : Call) (g : Target) (answer : Answer) (victims : List Victim) (change : Change) (rest : List Change) →
@@ -402,6 +403,7 @@ performing_faults (Close cursor) st session line answer victims change rest is f
 performing_faults (Dup cursor to) st session line answer victims change rest is faults = absurd (nothing change rest is)
 performing_faults Commit st session line answer victims change rest is faults = ending_faults (active_of session st.actives) st answer change rest is faults
 performing_faults (Create db kind) st session line answer victims change rest is faults = catalog_faults (fate_of answer) (evaluation (Create db kind) st.store).changes (active_of session st.actives) st faults
+performing_faults (CreateIndex db index) st session line answer victims change rest is faults = catalog_faults (fate_of answer) (evaluation (CreateIndex db index) st.store).changes (active_of session st.actives) st faults
 performing_faults (Remove db) st session line answer victims change rest is faults = catalog_faults (fate_of answer) (evaluation (Remove db) st.store).changes (active_of session st.actives) st faults
 performing_faults (Rename db to) st session line answer victims change rest is faults = catalog_faults (fate_of answer) (evaluation (Rename db to) st.store).changes (active_of session st.actives) st faults
 performing_faults (Truncate db) st session line answer victims change rest is faults = catalog_faults (fate_of answer) (evaluation (Truncate db) st.store).changes (active_of session st.actives) st faults

@@ -6,3 +6,9 @@ pub mod Commits
 pub mod Unlocked
 -- Where no transaction is under way, a call of its own meets no lock and leaves none.
 pub mod AloneLaws
+-- What a call is on where the store has no index.
+pub mod PlainTargets
+-- Events that make no index leave a store without one.
+pub mod WithoutIndexes
+-- Where the own changes of all are the same, each transaction sees the same.
+pub mod SameViews

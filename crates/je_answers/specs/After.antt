@@ -6,7 +6,7 @@ use Rattle.je_order.specs.declared.name.Name.{Name}
 use Rattle.store_model.specs.declared.durability.Durability.{Durability}
 use Rattle.store_model.specs.declared.isolation.Isolation.{Isolation}
 use Rattle.store_model.specs.declared.call.Call.{Call}
-use Rattle.store_model.specs.declared.call.Call.TheVariants.{Begin, Commit, Abort, List as Lists, Create, Remove, Rename, Truncate, Open, Close, Dup, Count, Cur, CPutCur, CDel, CPut}
+use Rattle.store_model.specs.declared.call.Call.TheVariants.{Begin, Commit, Abort, List as Lists, Create, CreateIndex, Remove, Rename, Truncate, Open, Close, Dup, Count, Cur, CPutCur, CDel, CPut}
 use Rattle.store_model.specs.declared.change.Change.{Change}
 use Rattle.store_model.specs.declared.record_change.RecordChange.{RecordChange}
 use Rattle.store_model.specs.declared.place.Place.{Place}
@@ -26,7 +26,7 @@ use Rattle.store_model.specs.Refusals.{made_by, next_txn}
 use Rattle.je_answers.specs.declared.active.Active.{Active}
 use Rattle.je_answers.specs.declared.wait.Wait.{Wait}
 use Rattle.je_answers.specs.Standing.{Standing, active_of, wait_of, without_wait, place_at, with_at, all_numbered}
-use Rattle.je_answers.specs.Views.{Target, target_of, changes_on, changes_at, changes_named, outcome_of, needs_in}
+use Rattle.je_answers.specs.Views.{Target, target_of, changes_with, with_numbers, with_names, changes_named, outcome_of, needs_in}
 use Rattle.je_answers.specs.Refusals.{early_refusal, late_refusal}
 use Rattle.je_answers.specs.Locking.{Queues, all_got, first_blocked, given_back, released, with_wait}
 use Rattle.je_answers.specs.Events.{auto_active, begun, asking, queues_before, locks_before, resumed, IsAnswered}
@@ -111,7 +111,7 @@ answered a call g st = with_locks a (all_got a.txn (needs_in st a call g) st.loc
 -- its cursor moved, and its changes are the transaction's own
 abbrev pub with_outcome : Active → Call → Target → Evaluated → Standing → Standing
 with_outcome a call g evaluated st = record st {
-  own = with_at a.txn.0 (st.own a.txn.0 ++ changes_at g.db evaluated.changes) st.own;
+  own = with_at a.txn.0 (st.own a.txn.0 ++ with_numbers (changes_with st a g evaluated.changes)) st.own;
   places = with_at a.session (moved call evaluated.place (st.places a.session)) st.places;
 }
 
@@ -122,7 +122,7 @@ closed false a changes st = st
 
 -- a call that got its locks: what it was to change was logged or not; a fault leaves the standing as it was before
 abbrev pub after_fate : Fate → Standing → Standing → Active → Call → Target → Evaluated → Standing
-after_fate Succeeds old st a call g evaluated = closed a.is_auto a (changes_on g evaluated.changes) (with_outcome a call g evaluated (answered a call g st))
+after_fate Succeeds old st a call g evaluated = closed a.is_auto a (with_names (changes_with st a g evaluated.changes)) (with_outcome a call g evaluated (answered a call g st))
 after_fate IsRefused old st a call g evaluated = closed a.is_auto a [] (answered a call g st)
 after_fate Faults old st a call g evaluated = faulted old
 
@@ -228,6 +228,8 @@ after_performed Commit st session line answer victims = after_ending (active_of 
 after_performed Abort st session line answer victims = ended_if_any (active_of session st.actives) st
 after_performed Lists st session line answer victims = drawn_by (active_of session st.actives) st
 after_performed (Create db kind) st session line answer victims = after_catalog (fate_of answer) (evaluation (Create db kind) st.store).changes (active_of session st.actives) st
+after_performed (CreateIndex db index) st session line answer victims =
+    after_catalog (fate_of answer) (evaluation (CreateIndex db index) st.store).changes (active_of session st.actives) st
 after_performed (Remove db) st session line answer victims = after_catalog (fate_of answer) (evaluation (Remove db) st.store).changes (active_of session st.actives) st
 after_performed (Rename db to) st session line answer victims = after_catalog (fate_of answer) (evaluation (Rename db to) st.store).changes (active_of session st.actives) st
 after_performed (Truncate db) st session line answer victims = after_catalog (fate_of answer) (evaluation (Truncate db) st.store).changes (active_of session st.actives) st

@@ -3,7 +3,7 @@
 use Rattle.std.specs.Prelude.{ℕ, ◌≡◌, ◌+◌, ◌∷◌, [], List, Option, None, Some, Bool}
 use Rattle.store_model.specs.declared.store.Store.{Store}
 use Rattle.store_model.specs.declared.call.Call.{Call}
-use Rattle.store_model.specs.declared.call.Call.TheVariants.{List as Lists, Create, Remove, Rename, Truncate, Get, GetBoth, Put, Delete}
+use Rattle.store_model.specs.declared.call.Call.TheVariants.{List as Lists, Create, CreateIndex, Remove, Rename, Truncate, Get, GetBoth, Put, Delete}
 use Rattle.store_model.specs.declared.change.Change.{Change}
 use Rattle.store_model.specs.declared.record_change.RecordChange.{RecordChange}
 use Rattle.store_model.specs.declared.answer.Answer.{Answer}
@@ -11,12 +11,13 @@ use Rattle.store_model.specs.declared.answer.Answer.TheVariants.{Invalid}
 use Rattle.store_model.specs.declared.answer.Fault.{Fault}
 use Rattle.store_model.specs.declared.answer.Fault.TheVariants.{Disk}
 use Rattle.store_model.specs.declared.event.Event.TheVariants.{Call as Called}
-use Rattle.store_model.specs.Store.{all_changed}
+use Rattle.store_model.specs.Store.{Pair, all_changed}
+use Rattle.store_model.specs.Indexes.{Numbered, answer_through, all_changes}
 use Rattle.store_model.specs.Records.{Evaluated, evaluation}
 use Rattle.store_model.specs.Evaluation.{evaluation as catalog_evaluation}
 use Rattle.store_model.specs.Refusals.{made_by, next_txn}
 use Rattle.je_answers.specs.Standing.{LockState, Standing, all_numbered}
-use Rattle.je_answers.specs.Views.{Target, target_of, changes_on}
+use Rattle.je_answers.specs.Views.{Target, target_of, with_names, answered_with}
 use Rattle.je_answers.specs.Refusals.{late_refusal}
 use Rattle.je_answers.specs.Events.{IsDone, IsChanged, IsAnswered, auto_active}
 use Rattle.je_answers.specs.After.{Fate, fate_of, after_event}
@@ -56,8 +57,16 @@ alone p = record {
 -- ---- what a call may answer
 
 -- the records of a database are those that are committed
+abbrev pub records_of : Numbered → List Pair
+records_of d = d.1.pairs
+
 abbrev pub evaluated_on : Call → Target → Evaluated
-evaluated_on call g = evaluation g.database.kind call g.at g.database.pairs
+evaluated_on call g =
+    let evaluated = evaluation g.database.kind call g.at g.database.pairs in
+    answered_with (answer_through g.over records_of evaluated.answer) evaluated
+
+abbrev pub changes_of_call : Target → List RecordChange → List Change
+changes_of_call g changes = with_names (all_changes g.over (g.db, g.database) g.indexes records_of changes)
 
 abbrev pub IsDoneOn : Option Target → Option Answer → Alone → ℕ → Call → Answer → Type 0
 IsDoneOn None limit p session call answer = ⊥
@@ -67,6 +76,7 @@ IsDoneOn (Some g) limit p session call answer =
 abbrev pub IsPerformedAlone : Call → Option Answer → Alone → ℕ → Answer → Type 0
 IsPerformedAlone Lists limit p session answer = answer ≡ (catalog_evaluation Lists p.store).answer
 IsPerformedAlone (Create db kind) limit p session answer = IsChanged (catalog_evaluation (Create db kind) p.store) limit (alone p) answer
+IsPerformedAlone (CreateIndex db index) limit p session answer = IsChanged (catalog_evaluation (CreateIndex db index) p.store) limit (alone p) answer
 IsPerformedAlone (Remove db) limit p session answer = IsChanged (catalog_evaluation (Remove db) p.store) limit (alone p) answer
 IsPerformedAlone (Rename db to) limit p session answer = IsChanged (catalog_evaluation (Rename db to) p.store) limit (alone p) answer
 IsPerformedAlone (Truncate db) limit p session answer = IsChanged (catalog_evaluation (Truncate db) p.store) limit (alone p) answer
@@ -111,7 +121,7 @@ fate_alone Faults changes p = faulted_alone p
 
 abbrev pub changes_alone : List RecordChange → Target → Alone → Answer → Alone
 changes_alone [] g p answer = drawn_alone p
-changes_alone (change ∷ changes) g p answer = fate_alone (fate_of answer) (changes_on g (change ∷ changes)) p
+changes_alone (change ∷ changes) g p answer = fate_alone (fate_of answer) (changes_of_call g (change ∷ changes)) p
 
 abbrev pub target_alone : Option Target → Call → Alone → Answer → Alone
 target_alone None call p answer = p
@@ -120,6 +130,7 @@ target_alone (Some g) call p answer = changes_alone (evaluated_on call g).change
 abbrev pub performed_alone : Call → Alone → ℕ → Answer → Alone
 performed_alone Lists p session answer = drawn_alone p
 performed_alone (Create db kind) p session answer = fate_alone (fate_of answer) (catalog_evaluation (Create db kind) p.store).changes p
+performed_alone (CreateIndex db index) p session answer = fate_alone (fate_of answer) (catalog_evaluation (CreateIndex db index) p.store).changes p
 performed_alone (Remove db) p session answer = fate_alone (fate_of answer) (catalog_evaluation (Remove db) p.store).changes p
 performed_alone (Rename db to) p session answer = fate_alone (fate_of answer) (catalog_evaluation (Rename db to) p.store).changes p
 performed_alone (Truncate db) p session answer = fate_alone (fate_of answer) (catalog_evaluation (Truncate db) p.store).changes p
@@ -144,6 +155,7 @@ after_alone (Some first) call p session answer = p
 abbrev pub IsAutoCommitted : Call → Type 0
 IsAutoCommitted Lists = Unit {0}
 IsAutoCommitted (Create db kind) = Unit {0}
+IsAutoCommitted (CreateIndex db index) = Unit {0}
 IsAutoCommitted (Remove db) = Unit {0}
 IsAutoCommitted (Rename db to) = Unit {0}
 IsAutoCommitted (Truncate db) = Unit {0}

@@ -11,7 +11,7 @@ use Rattle.store_model.specs.declared.durability.Durability.{Durability}
 use Rattle.store_model.specs.declared.durability.Durability.TheVariants.{Sync, WriteNoSync, NoSync}
 use Rattle.store_model.specs.declared.isolation.Isolation.TheVariants.{RepeatableRead}
 use Rattle.store_model.specs.declared.call.Call.{Call}
-use Rattle.store_model.specs.declared.call.Call.TheVariants.{Begin, Commit, Abort, List as Lists, Create, Remove, Rename, Truncate, Open, Close, Dup}
+use Rattle.store_model.specs.declared.call.Call.TheVariants.{Begin, Commit, Abort, List as Lists, Create, CreateIndex, Remove, Rename, Truncate, Open, Close, Dup}
 use Rattle.store_model.specs.declared.change.Change.{Change}
 use Rattle.store_model.specs.declared.record_change.RecordChange.{RecordChange}
 use Rattle.store_model.specs.declared.need.Need.{Need}
@@ -30,7 +30,7 @@ use Rattle.store_model.specs.Refusals.{or_refusal, made_by, next_txn}
 use Rattle.je_answers.specs.declared.active.Active.{Active}
 use Rattle.je_answers.specs.declared.wait.Wait.{Wait}
 use Rattle.je_answers.specs.Standing.{LockState, Standing, active_of, wait_of, without_wait}
-use Rattle.je_answers.specs.Views.{Target, target_of, changes_named, outcome_of, needs_in}
+use Rattle.je_answers.specs.Views.{Target, target_of, changes_named, outcome_of, needs_in, database_among}
 use Rattle.je_answers.specs.Refusals.{early_refusal, late_refusal}
 use Rattle.je_answers.specs.Locking.{Queues, record_of, granted_part, all_got, first_blocked, owner_before, forgotten, waits_in, was_granted_in, IsLeastUser, IsUnused, IsAwaited}
 
@@ -106,7 +106,7 @@ cycle_of t victims = option_map (λ v. v.1) (find (λ v. is_same_txn t v.0) vict
 
 -- what is waited for
 abbrev pub lock_target : Target → Need → LockTarget
-lock_target g n = record { db = g.database.name; kind = g.database.kind; at = n.at }
+lock_target g n = let d = database_among g n.db in record { db = d.name; kind = d.kind; at = n.at }
 
 -- a call that waits, or was a victim
 abbrev pub waiting_answer : Option (List TxnId) → LockTarget → TxnId → Answer
@@ -165,10 +165,14 @@ IsEnded None st answer = ⊥
 IsEnded (Some a) st answer = IsCommitted (changes_named st (st.own a.txn.0)) st a answer
 
 -- a change of the catalog, which is a transaction of its own
-abbrev pub IsChanged : Outcome → Option Answer → Standing → Answer → Type 0
-IsChanged outcome limit st answer = IsLogged (catalog_limit limit st outcome.changes) (Logged (st.commits + 1)) answer
+abbrev pub AreChanged : List Change → Outcome → Option Answer → Standing → Answer → Type 0
+AreChanged [] outcome limit st answer = answer ≡ outcome.answer
+AreChanged (change ∷ changes) outcome limit st answer = IsLogged (catalog_limit limit st (change ∷ changes)) (Logged (st.commits + 1)) answer
 
--- one of a database that is there: it may be in use
+abbrev pub IsChanged : Outcome → Option Answer → Standing → Answer → Type 0
+IsChanged outcome limit st answer = AreChanged outcome.changes outcome limit st answer
+
+-- one of a database that is there, or of an index of it: it may be in use
 abbrev pub IsExclusive : ℕ → Outcome → Option Answer → Standing → Answer → Type 0
 IsExclusive db outcome limit st answer =
     (IsUnused st db × IsChanged outcome limit st answer)
@@ -181,6 +185,8 @@ abbrev pub IsPerformed : Call → Option Answer → Standing → ℕ → ℕ →
 IsPerformed (Begin level durability wait) limit st session line answer victims = (answer ≡ Txn (record { 0 = next_txn st.last_txn })) × (victims ≡ [])
 IsPerformed Commit limit st session line answer victims = IsEnded (active_of session st.actives) st answer × (victims ≡ [])
 IsPerformed Abort limit st session line answer victims = (answer ≡ Done) × (victims ≡ [])
+IsPerformed (CreateIndex db index) limit st session line answer victims =
+    IsExclusive (st.numbers index.primary) (evaluation (CreateIndex db index) st.store) limit st answer × (victims ≡ [])
 IsPerformed Lists limit st session line answer victims = (answer ≡ (evaluation Lists st.store).answer) × (victims ≡ [])
 IsPerformed (Create db kind) limit st session line answer victims = IsChanged (evaluation (Create db kind) st.store) limit st answer × (victims ≡ [])
 IsPerformed (Remove db) limit st session line answer victims = IsExclusive (st.numbers db) (evaluation (Remove db) st.store) limit st answer × (victims ≡ [])

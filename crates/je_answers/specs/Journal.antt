@@ -5,7 +5,7 @@ use Rattle.std.specs.List.{list_any, flat_map}
 use Rattle.store_model.specs.declared.durability.Durability.{Durability}
 use Rattle.store_model.specs.declared.durability.Durability.TheVariants.{Sync, WriteNoSync}
 use Rattle.store_model.specs.declared.call.Call.{Call}
-use Rattle.store_model.specs.declared.call.Call.TheVariants.{Commit, Create, Remove, Rename, Truncate, Get, GetBoth, Put, Delete, Count, Cur, CPutCur, CDel, CPut}
+use Rattle.store_model.specs.declared.call.Call.TheVariants.{Commit, Create, CreateIndex, Remove, Rename, Truncate, Get, GetBoth, Put, Delete, Count, Cur, CPutCur, CDel, CPut}
 use Rattle.store_model.specs.declared.change.Change.{Change}
 use Rattle.store_model.specs.declared.need.Need.{Need}
 use Rattle.store_model.specs.declared.answer.Answer.{Answer}
@@ -19,7 +19,7 @@ pub use Rattle.store_model.specs.Journal.{answer_of, answers_some, is_logged, is
 use Rattle.je_answers.specs.declared.active.Active.{Active}
 use Rattle.je_answers.specs.declared.wait.Wait.{Wait}
 use Rattle.je_answers.specs.Standing.{Standing, active_of, wait_of}
-use Rattle.je_answers.specs.Views.{Target, target_of, changes_on, changes_named, outcome_of, needs_in}
+use Rattle.je_answers.specs.Views.{Target, target_of, changes_with, with_names, changes_named, outcome_of, needs_in}
 use Rattle.je_answers.specs.Refusals.{early_refusal, late_refusal}
 use Rattle.je_answers.specs.Locking.{first_blocked, was_granted_in}
 use Rattle.je_answers.specs.Events.{auto_active, begun, resumed}
@@ -56,7 +56,7 @@ changes_closed true changes = changes
 changes_closed false changes = []
 
 abbrev pub changes_taken : Option Need → Standing → Active → Call → Target → List Change
-changes_taken None st a call g = changes_closed a.is_auto (changes_on g (outcome_of st a call g).changes)
+changes_taken None st a call g = changes_closed a.is_auto (with_names (changes_with st a g (outcome_of st a call g).changes))
 changes_taken (Some n) st a call g = []
 
 abbrev pub changes_in : Option Target → Standing → Active → Call → List Change
@@ -75,6 +75,7 @@ changes_ended (Some a) st = changes_named st (st.own a.txn.0)
 abbrev pub changes_performed : Call → Standing → ℕ → List Change
 changes_performed Commit st session = changes_ended (active_of session st.actives) st
 changes_performed (Create db kind) st session = (evaluation (Create db kind) st.store).changes
+changes_performed (CreateIndex db index) st session = (evaluation (CreateIndex db index) st.store).changes
 changes_performed (Remove db) st session = (evaluation (Remove db) st.store).changes
 changes_performed (Rename db to) st session = (evaluation (Rename db to) st.store).changes
 changes_performed (Truncate db) st session = (evaluation (Truncate db) st.store).changes

@@ -1,16 +1,18 @@
 -- The order in which a call is refused before it is evaluated (this project's own).
 use Rattle.std.specs.Prelude.{ℕ, List, Option, None, Some, nat_lt, length, if◌then◌else◌}
 use Rattle.std.specs.Option.{is_some}
+use Rattle.std.specs.List.{list_any}
 use Rattle.je_order.specs.declared.txn_id.TxnId.{TxnId}
 use Rattle.store_model.specs.declared.store.TheConstants.{LAST_TXN}
 use Rattle.store_model.specs.declared.call.Call.{Call}
-use Rattle.store_model.specs.declared.call.Call.TheVariants.{Begin, Commit, Abort, Create, Remove, Rename, Truncate, Get, GetBoth, Put, Delete, Open, Close, Dup as Duplicate, Count, Cur, CPutCur, CDel, CPut}
+use Rattle.store_model.specs.declared.call.Call.TheVariants.{Begin, Commit, Abort, Create, CreateIndex, Remove, Rename, Truncate, Get, GetBoth, Put, Delete, Open, Close, Dup as Duplicate, Count, Cur, CPutCur, CDel, CPut}
 use Rattle.store_model.specs.declared.place.Place.{Place}
 use Rattle.store_model.specs.declared.answer.Answer.{Answer}
 use Rattle.store_model.specs.declared.answer.Answer.TheVariants.{MustAbort, SessionWaits, NoTxn, InTxn, NoCursor, IdsEnded, Invalid}
 use Rattle.store_model.specs.declared.answer.Fault.{Fault}
 use Rattle.store_model.specs.Store.{database_of}
-use Rattle.store_model.specs.Refusals.{or_refusal, creation_refusal, access_refusal, taken_refusal, database_refuses}
+use Rattle.store_model.specs.Refusals.{or_refusal, creation_refusal, access_refusal, taken_refusal, indexed_refusal, is_primary, index_refusal, database_refuses}
+use Rattle.store_model.specs.Indexes.{is_index_of}
 use Rattle.je_answers.specs.declared.active.Active.{Active}
 use Rattle.je_answers.specs.Standing.{Standing, active_of, place_at}
 use Rattle.je_answers.specs.Views.{Target, target_of}
@@ -41,6 +43,7 @@ abort_refusal call (Some a) = victim_refusal call a.deadlock
 abbrev pub txn_refusal : Call → Option Active → Option Answer
 txn_refusal (Begin level durability wait) (Some a) = Some (InTxn a.txn)
 txn_refusal (Create db kind) (Some a) = Some (InTxn a.txn)
+txn_refusal (CreateIndex db index) (Some a) = Some (InTxn a.txn)
 txn_refusal (Remove db) (Some a) = Some (InTxn a.txn)
 txn_refusal (Rename db to) (Some a) = Some (InTxn a.txn)
 txn_refusal (Truncate db) (Some a) = Some (InTxn a.txn)
@@ -69,6 +72,7 @@ abbrev pub cursor_refusal : ℕ → List Place → Option Answer
 cursor_refusal cursor places = if is_some (place_at cursor places) then None else Some NoCursor
 
 abbrev pub there_refusal : Standing → ℕ → Call → Option Answer
+there_refusal st session (CreateIndex db index) = access_refusal (is_primary (database_of index.primary st.store))
 there_refusal st session (Remove db) = database_refusal st db
 there_refusal st session (Rename db to) = database_refusal st db
 there_refusal st session (Truncate db) = database_refusal st db
@@ -86,9 +90,12 @@ there_refusal st session (CDel cursor) = cursor_refusal cursor (st.places sessio
 there_refusal st session (CPut cursor key value mode) = cursor_refusal cursor (st.places session)
 there_refusal st session call = None
 
--- a name or a cursor's number is taken, or there are too many databases
+-- a name or a cursor's number is taken, the database has indexes, or there are too many databases
 abbrev pub name_refusal : Standing → ℕ → Call → Option Answer
 name_refusal st session (Create db kind) = creation_refusal (is_some (database_of db st.store)) (length st.store.databases)
+name_refusal st session (CreateIndex db index) = creation_refusal (is_some (database_of db st.store)) (length st.store.databases)
+name_refusal st session (Remove db) = indexed_refusal (list_any (is_index_of db) st.store.databases)
+name_refusal st session (Truncate db) = indexed_refusal (list_any (is_index_of db) st.store.databases)
 name_refusal st session (Rename db to) = taken_refusal (is_some (database_of to st.store))
 name_refusal st session (Open cursor db) = taken_refusal (is_some (place_at cursor (st.places session)))
 name_refusal st session (Duplicate cursor to) = taken_refusal (is_some (place_at to (st.places session)))
@@ -97,7 +104,7 @@ name_refusal st session call = None
 -- what its database refuses
 abbrev pub target_refusal : Call → Option Target → Option Answer
 target_refusal call None = None
-target_refusal call (Some g) = database_refuses g.database.kind call
+target_refusal call (Some g) = or_refusal (index_refusal call g.database.index) (database_refuses g.database.kind call)
 
 -- no number is left; then the database or the cursor is not there; then its name is taken; then what its database refuses
 abbrev pub late_refusal : Standing → ℕ → Call → Option Answer

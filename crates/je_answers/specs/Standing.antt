@@ -4,7 +4,7 @@ use Rattle.je_order.specs.declared.txn_id.TxnId.{TxnId}
 use Rattle.store_model.specs.declared.store.Store.{Store}
 use Rattle.store_model.specs.declared.store.Database.{Database}
 use Rattle.store_model.specs.declared.change.Change.{Change}
-use Rattle.store_model.specs.declared.change.Change.TheVariants.{Set, Unset, Make, Remove, Rename, Empty}
+use Rattle.store_model.specs.declared.change.Change.TheVariants.{Set, Unset, Make, MakeIndex, Remove, Rename, Empty}
 use Rattle.store_model.specs.declared.record_change.RecordChange.{RecordChange}
 use Rattle.store_model.specs.declared.place.Place.{Place}
 use Rattle.store_model.specs.declared.answer.Fault.{Fault}
@@ -70,6 +70,7 @@ abbrev pub numbered : Change → ℕ → (List ℕ → ℕ) → List ℕ → ℕ
 numbered (Set db at value) last numbers = numbers
 numbered (Unset db at) last numbers = numbers
 numbered (Make db kind) last numbers = with_number db (last + 1) numbers
+numbered (MakeIndex db index) last numbers = with_number db (last + 1) numbers
 numbered (Remove db) last numbers = with_number db 0 numbers
 numbered (Rename db to) last numbers = with_number to (numbers db) (with_number db 0 numbers)
 numbered (Empty db) last numbers = with_number db (last + 1) numbers

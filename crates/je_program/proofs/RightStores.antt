@@ -7,6 +7,7 @@ use Rattle.std.proofs.lemmas.Bool.{and_parts, eqb-true}
 use Rattle.je_order.specs.Order.{bytes_cmp, name_cmp}
 use Rattle.je_order.specs.Words.{is_word}
 use Rattle.store_model.specs.declared.store.Database.{Database}
+use Rattle.store_model.specs.Indexes.{HasNoIndex}
 use Rattle.store_model.specs.Store.{HasRisingNames, IsStore}
 use Rattle.store_model.specs.Evaluation.{plain_name}
 use Rattle.log_file.specs.Log.{log_in}
@@ -14,6 +15,7 @@ use Rattle.log_replay.specs.declared.corruption.Corruption.{Corruption}
 use Rattle.log_replay.specs.Reading.{corruption_in}
 use Rattle.log_replay.specs.Rows.{Row, Rows, IsRising, catalog_number, catalog_kind, is_catalog_row, is_environment, rows_of_row, database_in, store_of}
 use Rattle.log_replay.specs.Wrong.{wrong_record}
+use Rattle.log_replay.proofs.LoggedLaws.{store_has_no_index}
 use Rattle.log_replay.proofs.PlanViews.{rising_pairs}
 use Rattle.log_replay.proofs.RowLaws.{name_cmp-plain, plain_name-key}
 use Rattle.log_replay.proofs.StoreLaws.{environment_parts, is_right_under}
@@ -65,8 +67,14 @@ judged : (es : List Placed) (c : Checkpoint) (walk : Walk) (o : Option ℕ) (mea
 judged es c walk None meaning h = (refl, cc (h))
 judged es c walk (Some lsn) meaning h = absurd (cc (h))
 
-pub meaning_right : (held : List (ℕ × List ℕ)) (meaning : Meaning) → reading_of held ≡ Ok meaning → IsStore meaning.store
-meaning_right held meaning h =
+-- the records that they mean
+record ReadsRows (meaning : Meaning) : Type 0 where
+  redo : Redo
+  store : store_of (rows_of redo) ≡ meaning.store
+  right : is_environment (rows_of redo) ≡ true
+
+reads_rows : (held : List (ℕ × List ℕ)) (meaning : Meaning) → reading_of held ≡ Ok meaning → ReadsRows meaning
+reads_rows held meaning h =
     let files : List ℕ = map (λ file. file.0) held in
     let es : List Placed = placed (log_in held) in
     let c : Checkpoint = last_checkpoint es in
@@ -76,5 +84,15 @@ meaning_right held meaning h =
     let redo : Redo = behind walk.rows (redone c.redo es) in
     let end = unless_parts (redo_corruption files (last_end es)) (validated es c walk) meaning read.2 in
     let judgement = judged es c walk (wrong_lsn (behind walk.rows (redone c.redo es))) meaning end.1 in
-    subst (λ (m : Meaning). IsStore m.store) judgement.1
-    (store_right (rows_of redo) (none_is_environment (rows_of redo) (mapped_none (λ place. lsn_there (record_at redo place.db place.name)) (wrong_record (rows_of redo)) judgement.0)) (λ d. listed_in_order redo.done d))
+    record {
+      redo = redo;
+      store = ap (λ (m : Meaning). m.store) judgement.1;
+      right = none_is_environment (rows_of redo) (mapped_none (λ place. lsn_there (record_at redo place.db place.name)) (wrong_record (rows_of redo)) judgement.0);
+    }
+
+pub meaning_right : (held : List (ℕ × List ℕ)) (meaning : Meaning) → reading_of held ≡ Ok meaning → IsStore meaning.store
+meaning_right held meaning h = let read = reads_rows held meaning h in subst IsStore read.store (store_right (rows_of read.redo) read.right (λ d. listed_in_order read.redo.done d))
+
+-- and has no index
+pub meaning_has_no_index : (held : List (ℕ × List ℕ)) (meaning : Meaning) → reading_of held ≡ Ok meaning → HasNoIndex meaning.store
+meaning_has_no_index held meaning h = let read = reads_rows held meaning h in subst HasNoIndex read.store (store_has_no_index (rows_of read.redo))

@@ -48,7 +48,7 @@ worked_log second =
 
 -- a, c and e are left
 abbrev pub worked_store : Store
-worked_store = record { databases = record { name = 116 ∷ []; kind = Plain; pairs = (97 ∷ [], 1 ∷ []) ∷ (99 ∷ [], 3 ∷ []) ∷ (101 ∷ [], 5 ∷ []) ∷ [] } ∷ [] }
+worked_store = record { databases = record { name = 116 ∷ []; kind = Plain; index = None; pairs = (97 ∷ [], 1 ∷ []) ∷ (99 ∷ [], 3 ∷ []) ∷ (101 ∷ [], 5 ∷ []) ∷ [] } ∷ [] }
 
 abbrev pub worked_meaning : Meaning
 worked_meaning = record { store = worked_store; last_txn = 5; last_node = 4; last_db = 1; checkpoint = 1 }

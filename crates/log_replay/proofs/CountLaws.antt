@@ -6,7 +6,7 @@ use Rattle.je_order.specs.declared.name.Name.{Name}
 use Rattle.db_catalog.specs.Catalog.{record_bytes}
 use Rattle.store_model.specs.declared.kind.Kind.{Kind}
 use Rattle.store_model.specs.declared.change.Change.{Change}
-use Rattle.store_model.specs.declared.change.Change.TheVariants.{Set, Unset, Make, Remove, Rename, Empty}
+use Rattle.store_model.specs.declared.change.Change.TheVariants.{Set, Unset, Make, MakeIndex, Remove, Rename, Empty}
 use Rattle.store_model.specs.Store.{record_count, changed}
 use Rattle.store_model.specs.Evaluation.{plain_name}
 use Rattle.log_replay.specs.Rows.{Row, Rows, RowChange, row_changed, rows_changed, row_at, data_at, catalog_number, IsRising, store_of}
@@ -118,6 +118,7 @@ counts : (last_db : ℕ) (change : Change) (rows : Rows) → IsSound rows last_d
 counts last_db (Set db at value) rows sound may = set-counts last_db db at value rows sound may.0
 counts last_db (Unset db at) rows sound may = unset-counts last_db db at rows sound may.0
 counts last_db (Make db kind) rows sound may = make-counts last_db db kind rows sound may
+counts last_db (MakeIndex db index) rows sound may = absurd may
 counts last_db (Remove db) rows sound may = less-counts last_db db rows sound may
 counts last_db (Rename db to) rows sound may =
     subst (λ (l : List RowChange). HasCounts rows (Rename db to) (store_of rows) (store_of (rows_changed l rows))) (sym (rename-is 0 last_db db to rows may.0)) (rename-counts last_db db to rows sound may)

@@ -18,10 +18,12 @@ use Rattle.store_model.specs.declared.store.TheConstants.{MOST_DATABASES}
 use Rattle.store_model.specs.declared.kind.Kind.{Kind}
 use Rattle.store_model.specs.declared.kind.Kind.TheVariants.{Plain, Dup}
 use Rattle.store_model.specs.declared.change.Change.{Change}
-use Rattle.store_model.specs.declared.change.Change.TheVariants.{Set, Unset, Make, Remove, Rename, Empty}
-use Rattle.store_model.specs.Store.{database_of, Pair, proper, changed, pairs_with, pairs_without, databases_with, databases_renamed}
+use Rattle.store_model.specs.declared.change.Change.TheVariants.{Set, Unset, Make, MakeIndex, Remove, Rename, Empty}
+use Rattle.store_model.specs.declared.index.Index.{Index}
+use Rattle.store_model.specs.Indexes.{HasNoIndex}
+use Rattle.store_model.specs.Store.{database_of, Pair, proper, changed, pairs_with, pairs_without, databases_with, databases_without, databases_renamed, with_primary, index_renamed}
 use Rattle.store_model.specs.Evaluation.{plain_name}
-use Rattle.log_replay.specs.Rows.{Row, Rows, RowChange, row_changed, rows_changed, rows_with, row_at, number_or_0, kind_or_plain, catalog_number, catalog_kind, is_catalog_row, is_right_row, are_right, IsRising, pair_of, store_of}
+use Rattle.log_replay.specs.Rows.{Row, Rows, RowChange, row_changed, rows_changed, rows_with, row_at, number_or_0, kind_or_plain, catalog_number, catalog_kind, is_catalog_row, is_right_row, are_right, IsRising, pair_of, database_in, store_of}
 use Rattle.log_replay.specs.Logging.{record_in, record_named, number_named, kind_named, catalog_row_change, row_changes}
 use Rattle.log_replay.specs.Laws.{FoundByNumber, CatalogsAreOfStores}
 use Rattle.log_replay.specs.Kept.{MayBeLogged, with_number, numbered}
@@ -188,12 +190,12 @@ put-database : (rows : Rows) (txn : ℕ) (name : List ℕ) (number : ℕ) (kind 
     are_right kind (rows number) ≡ true →
     IsEnvironment (row_changed (put_ txn name number kind) rows)
     × (store_of (row_changed (put_ txn name number kind) rows)
-    ≡ record { databases = databases_with (record { name = name; kind = kind; pairs = map (pair_of kind) (rows number) }) (store_of rows).databases })
+    ≡ record { databases = databases_with (record { name = name; kind = kind; index = None; pairs = map (pair_of kind) (rows number) }) (store_of rows).databases })
 put-database rows txn name number kind fits env up word absent room above differ right =
     let bytes : List ℕ = record_bytes (record_for number kind) in
     let n_is : catalog_number bytes ≡ number = catalog_number-record number kind fits in
     let k_is : catalog_kind bytes ≡ kind = catalog_kind-record number kind fits in
-    let make : Kind → ℕ → Store = λ k n. record { databases = databases_with (record { name = name; kind = k; pairs = map (pair_of k) (rows n) }) (store_of rows).databases } in
+    let make : Kind → ℕ → Store = λ k n. record { databases = databases_with (record { name = name; kind = k; index = None; pairs = map (pair_of k) (rows n) }) (store_of rows).databases } in
     let both = row_put rows txn name bytes env up word absent room (λ e. above (sym n_is ∙ e))
     (all_weaker (λ (r : Row). catalog_number r.1 ≢ number) (λ r. catalog_number r.1 ≢ catalog_number bytes) (λ r h e. h (e ∙ n_is)) (rows 0) differ)
     (ap₂ (λ (k : Kind) (n : ℕ). are_right k (rows n)) k_is n_is ∙ right) in
@@ -208,7 +210,7 @@ make-step txn last_db db kind rows sound may =
     let none : rows number ≡ [] = sound.unused number later in
     let both = put-database rows txn db number kind may.3 sound.environment (sound.rising 0) may.1 (no_row_named rows db sound.environment may.0) may.2
     (λ e. absurd (omega arith)) (others-below rows last_db number later sound) (ap (are_right kind) none) in
-    let make : List Row → Store = λ l. record { databases = databases_with (record { name = db; kind = kind; pairs = map (pair_of kind) l }) (store_of rows).databases } in
+    let make : List Row → Store = λ l. record { databases = databases_with (record { name = db; kind = kind; index = None; pairs = map (pair_of kind) l }) (store_of rows).databases } in
     record {
       environment = both.0;
       store = both.1 ∙ ap make none;
@@ -250,6 +252,23 @@ left-absent name to catalog none =
     (all_kept (λ (r : Row). is_eq (name_cmp r.0 (plain_name to)) ≡ false) (λ r. not (is_eq (name_cmp r.0 (plain_name name)))) catalog
     (none_found (λ (r : Row). is_eq (name_cmp r.0 (plain_name to))) catalog none))
 
+-- ---- no database is an index
+
+pub store_has_no_index : (rows : Rows) → HasNoIndex (store_of rows)
+store_has_no_index rows = along (rows 0)
+  where
+    along : (catalog : List Row) → AllByRecursion (λ (d : Database). d.index ≡ None) (map (database_in rows) catalog)
+    along [] = tt
+    along (row ∷ catalog) = (refl, along catalog)
+
+-- another name of a database is none of an index's primary
+no_primary_named : (db to : List ℕ) (databases : List Database) → AllByRecursion (λ (d : Database). d.index ≡ None) databases → map (with_primary db to) databases ≡ databases
+no_primary_named db to [] none = refl
+no_primary_named db to (d ∷ databases) none =
+    let make : Option Index → Database = λ i. record { name = d.name; kind = d.kind; index = i; pairs = d.pairs } in
+    let first : with_primary db to d ≡ d = ap (λ (i : Option Index). make (option_map (index_renamed db to) i)) none.0 ∙ sym (ap make none.0) in
+    ap₂ (λ (e : Database) (es : List Database). e ∷ es) first (no_primary_named db to databases none.1)
+
 -- a database is renamed
 rename-step : (txn last_db : ℕ) (db to : List ℕ) (rows : Rows) → IsSound rows last_db → MayBeLogged rows last_db (Rename db to) →
     IsStep (Rename db to) last_db rows (rows_changed (deleted txn db ∷ put_ txn to (number_named rows db) (kind_named rows db) ∷ []) rows)
@@ -270,13 +289,18 @@ rename-step txn last_db db to rows sound may =
     let few = env.few in
     let more = put-database gone txn to number kind may.3 less.0 (rising-changed (rows 0) (plain_name db) None (sound.rising 0)) may.2
     (left-absent db to (rows 0) (no_row_named rows to env may.1)) (omega (arith, shorter, few)) may.0 differ right in
-    let d : Database = record { name = db; kind = kind; pairs = map (pair_of kind) (rows number) } in
-    let new : List Row → Database = λ l. record { name = to; kind = kind; pairs = map (pair_of kind) l } in
+    let d : Database = record { name = db; kind = kind; index = None; pairs = map (pair_of kind) (rows number) } in
+    let new : List Row → Database = λ l. record { name = to; kind = kind; index = None; pairs = map (pair_of kind) l } in
     let make : List Row → Store → Store = λ l s. record { databases = databases_with (new l) s.databases } in
+    let stored_in : List Database → Store = λ ds. record { databases = ds } in
+    let moved : Store = make (rows number) (stored_in (databases_without db (store_of rows).databases)) in
+    let stored : store_of (row_changed (put_ txn to number kind) gone) ≡ moved = more.1 ∙ ap₂ make same less.1 in
     let renamed : Option Database → Store = λ o. record { databases = databases_renamed o to (store_of rows).databases } in
     record {
       environment = more.0;
-      store = more.1 ∙ ap₂ make same less.1 ∙ sym (ap renamed (database_of-numbered rows db (environment_from rows env) may.0));
+      store = stored
+          ∙ ap (λ (ds : List Database). stored_in ds) (sym (no_primary_named db to moved.databases (subst HasNoIndex stored (store_has_no_index (row_changed (put_ txn to number kind) gone)))))
+          ∙ sym (ap renamed (database_of-numbered rows db (environment_from rows env) may.0));
       numbers = λ name.
           put-number txn to number kind gone name may.3
           ∙ ap (λ (f : List ℕ → ℕ). with_number to number f name) (fun_ext (λ (other : List ℕ). number-changed txn db None rows other));
@@ -342,6 +366,7 @@ pub step : (txn last_db : ℕ) (change : Change) (rows : Rows) → IsSound rows 
 step txn last_db (Set db at value) rows sound may = set-step txn last_db db at value rows sound may
 step txn last_db (Unset db at) rows sound may = unset-step txn last_db db at rows sound may
 step txn last_db (Make db kind) rows sound may = make-step txn last_db db kind rows sound may
+step txn last_db (MakeIndex db index) rows sound may = absurd may
 step txn last_db (Remove db) rows sound may = remove-step txn last_db db rows sound
 step txn last_db (Rename db to) rows sound may =
     subst (λ (l : List RowChange). IsStep (Rename db to) last_db rows (rows_changed l rows)) (sym (rename-is txn last_db db to rows may.0)) (rename-step txn last_db db to rows sound may)

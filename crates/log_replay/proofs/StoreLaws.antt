@@ -103,7 +103,7 @@ is_environment-same a b h = ap is_environment (fun_ext h)
 -- a catalog record names the same database where the records under its number are the same
 pub same_database : (a b : Rows) (r : Row) → a (catalog_number r.1) ≡ b (catalog_number r.1) → database_in a r ≡ database_in b r
 same_database a b r h =
-    let with_records : List Row → Database = λ l. record { name = r.0.key; kind = catalog_kind r.1; pairs = map (pair_of (catalog_kind r.1)) l } in ap with_records h
+    let with_records : List Row → Database = λ l. record { name = r.0.key; kind = catalog_kind r.1; index = None; pairs = map (pair_of (catalog_kind r.1)) l } in ap with_records h
 
 -- ---- databases by their names
 
@@ -149,11 +149,11 @@ key_of_row rows name row catalog there =
 
 -- a name that has a number is that of a database
 pub database_of-numbered : (rows : Rows) (name : List ℕ) → is_environment rows ≡ true → number_named rows name ≢ 0 →
-    database_of name (store_of rows) ≡ Some (record { name = name; kind = kind_named rows name; pairs = map (pair_of (kind_named rows name)) (rows (number_named rows name)) })
+    database_of name (store_of rows) ≡ Some (record { name = name; kind = kind_named rows name; index = None; pairs = map (pair_of (kind_named rows name)) (rows (number_named rows name)) })
 database_of-numbered rows name h has =
     let row = row_named rows name has in
     let key : row.0.0.key ≡ name = key_of_row (rows 0) name row.0 (environment_parts rows h).catalog row.1 in
-    let make : List ℕ → Kind → ℕ → Option Database = λ n k d. Some (record { name = n; kind = k; pairs = map (pair_of k) (rows d) }) in
+    let make : List ℕ → Kind → ℕ → Option Database = λ n k d. Some (record { name = n; kind = k; index = None; pairs = map (pair_of k) (rows d) }) in
     database_of-store_of rows name h ∙ ap (option_map (database_in rows)) row.1
     ∙ ap (λ (n : List ℕ). make n (catalog_kind row.0.1) (catalog_number row.0.1)) key
     ∙ ap₂ (λ (k : Kind) (d : ℕ). make name k d) row.3 row.2
@@ -283,7 +283,7 @@ record_changed rows name row c f env up there at right pairs =
     let elsewhere : (r : Row) → catalog_number r.1 ≢ catalog_number row.1 → after (catalog_number r.1) ≡ rows (catalog_number r.1) =
     λ r h. row_changed-there c rows (catalog_number r.1) (λ e. h (e ∙ sym at)) in
     let right_row : is_right_under after row ≡ true = ap (are_right kind) at_row ∙ right in
-    let with_records : List Pair → Database = λ l. record { name = row.0.key; kind = kind; pairs = l } in
+    let with_records : List Pair → Database = λ l. record { name = row.0.key; kind = kind; index = None; pairs = l } in
     let make : List Database → Store = λ l. record { databases = l } in (
       record {
         catalog = subst (λ l. AllByRecursion (λ (r : Row). is_catalog_row r ≡ true) l) same env.catalog;
@@ -355,7 +355,7 @@ pub row_put : (rows : Rows) (txn : ℕ) (name bytes : List ℕ) → IsEnvironmen
     are_right (catalog_kind bytes) (rows (catalog_number bytes)) ≡ true →
     IsEnvironment (row_changed (catalog_change txn name (Some bytes)) rows)
     × (store_of (row_changed (catalog_change txn name (Some bytes)) rows)
-    ≡ record { databases = databases_with (record { name = name; kind = catalog_kind bytes; pairs = map (pair_of (catalog_kind bytes)) (rows (catalog_number bytes)) }) (store_of rows).databases })
+    ≡ record { databases = databases_with (record { name = name; kind = catalog_kind bytes; index = None; pairs = map (pair_of (catalog_kind bytes)) (rows (catalog_number bytes)) }) (store_of rows).databases })
 row_put rows txn name bytes env up word absent room above differ right_new =
     let at : Name = plain_name name in
     let c : RowChange = catalog_change txn name (Some bytes) in
@@ -463,7 +463,7 @@ row_emptied rows txn name bytes row env up there kind above none =
     let cases = catalog_cases rows name row env up there in
     let key : row.0.key ≡ name = key_of_row (rows 0) name row env.catalog there in
     let empty : after (catalog_number bytes) ≡ [] = row_changed-there c rows (catalog_number bytes) above ∙ none in
-    let with_kind : List ℕ → Kind → List Row → Database = λ n k l. record { name = n; kind = k; pairs = map (pair_of k) l } in
+    let with_kind : List ℕ → Kind → List Row → Database = λ n k l. record { name = n; kind = k; index = None; pairs = map (pair_of k) l } in
     let new_database : database_in after (plain_name name, bytes) ≡ with_pairs (database_in rows row) [] =
     ap (with_kind name (catalog_kind bytes)) empty ∙ ap₂ (λ (n : List ℕ) (k : Kind). with_kind n k []) (sym key) kind in
     let make : List Database → Store = λ l. record { databases = l } in

@@ -12,7 +12,7 @@ use Rattle.db_catalog.specs.declared.catalog_change.CatalogChange.{CatalogChange
 use Rattle.db_catalog.specs.declared.catalog_change.CatalogChange.TheVariants.{Put as PutRecord, Delete as DeleteRecord}
 use Rattle.db_catalog.specs.Planning.{logged_as}
 use Rattle.store_model.specs.declared.change.Change.{Change}
-use Rattle.store_model.specs.declared.change.Change.TheVariants.{Set, Unset, Make, Remove, Rename, Empty}
+use Rattle.store_model.specs.declared.change.Change.TheVariants.{Set, Unset, Make, MakeIndex, Remove, Rename, Empty}
 use Rattle.store_model.specs.declared.kind.Kind.{Kind}
 use Rattle.store_model.specs.Evaluation.{plain_name}
 use Rattle.store_model.specs.Store.{proper, all_changed}
@@ -48,6 +48,7 @@ pub any_txn : (txn last_db : ℕ) (change : Change) (rows : Rows) → rows_chang
 any_txn txn last_db (Set db at value) rows = refl
 any_txn txn last_db (Unset db at) rows = refl
 any_txn txn last_db (Make db kind) rows = catalog-any txn (logged_as (record_named rows) (last_db + 1) (Make db kind)) rows
+any_txn txn last_db (MakeIndex db index) rows = catalog-any txn (logged_as (record_named rows) (last_db + 1) (MakeIndex db index)) rows
 any_txn txn last_db (Remove db) rows = catalog-any txn (logged_as (record_named rows) (last_db + 1) (Remove db)) rows
 any_txn txn last_db (Rename db to) rows = catalog-any txn (logged_as (record_named rows) (last_db + 1) (Rename db to)) rows
 any_txn txn last_db (Empty db) rows = catalog-any txn (logged_as (record_named rows) (last_db + 1) (Empty db)) rows
@@ -83,6 +84,7 @@ pub logged_as_entries : LoggedAsEntries
 logged_as_entries txn last_db (Set db at value) rows = refl
 logged_as_entries txn last_db (Unset db at) rows = refl
 logged_as_entries txn last_db (Make db kind) rows = catalog-entries txn (logged_as (record_named rows) (last_db + 1) (Make db kind))
+logged_as_entries txn last_db (MakeIndex db index) rows = catalog-entries txn (logged_as (record_named rows) (last_db + 1) (MakeIndex db index))
 logged_as_entries txn last_db (Remove db) rows = catalog-entries txn (logged_as (record_named rows) (last_db + 1) (Remove db))
 logged_as_entries txn last_db (Rename db to) rows = catalog-entries txn (logged_as (record_named rows) (last_db + 1) (Rename db to))
 logged_as_entries txn last_db (Empty db) rows = catalog-entries txn (logged_as (record_named rows) (last_db + 1) (Empty db))
@@ -143,6 +145,7 @@ own-changes txn last_db (Make db kind) rows sound may = (
   },
   tt,
 )
+own-changes txn last_db (MakeIndex db index) rows sound may = absurd may
 own-changes txn last_db (Remove db) rows sound may = (record { by = refl; within = record { txn = omega arith; db = omega arith; number = λ e. tt } }, tt)
 own-changes txn last_db (Rename db to) rows sound may =
     subst (λ (l : List RowChange). AllByRecursion (IsOwn txn (last_db + 0)) l) (sym (rename-is txn last_db db to rows may.0)) (
@@ -197,6 +200,7 @@ made-more : (change : Change) (changes : List Change) → made_by (change ∷ ch
 made-more (Set db at value) changes = omega arith
 made-more (Unset db at) changes = omega arith
 made-more (Make db kind) changes = omega arith
+made-more (MakeIndex db index) changes = omega arith
 made-more (Remove db) changes = omega arith
 made-more (Rename db to) changes = omega arith
 made-more (Empty db) changes = omega arith
@@ -244,6 +248,7 @@ may-same old new last_db now (Set db at value) same is may =
     (λ e. may.0 (sym (same_number old new db same) ∙ e), ap (λ (k : Kind). is_right_row k (at, value)) (same_kind old new db same) ∙ may.1)
 may-same old new last_db now (Unset db at) same is may = (λ e. may.0 (sym (same_number old new db same) ∙ e), ap (λ (k : Kind). proper k at) (same_kind old new db same) ∙ may.1)
 may-same old new last_db now (Make db kind) same is may = absurd is
+may-same old new last_db now (MakeIndex db index) same is may = absurd is
 may-same old new last_db now (Remove db) same is may = absurd is
 may-same old new last_db now (Rename db to) same is may = absurd is
 may-same old new last_db now (Empty db) same is may = absurd is
@@ -254,6 +259,7 @@ changes-same txn last_db now old new (Set db at value) same is =
 changes-same txn last_db now old new (Unset db at) same is =
     let make : ℕ → List RowChange = λ n. record { txn = txn; db = n; name = at; value = None } ∷ [] in ap make (same_number old new db same)
 changes-same txn last_db now old new (Make db kind) same is = absurd is
+changes-same txn last_db now old new (MakeIndex db index) same is = absurd is
 changes-same txn last_db now old new (Remove db) same is = absurd is
 changes-same txn last_db now old new (Rename db to) same is = absurd is
 changes-same txn last_db now old new (Empty db) same is = absurd is
@@ -265,6 +271,7 @@ catalog-same txn last_db (Set db at value) rows is may =
 catalog-same txn last_db (Unset db at) rows is may =
     row_changed-there (record { txn = txn; db = number_named rows db; name = at; value = None }) rows 0 (λ e. may.0 (sym e))
 catalog-same txn last_db (Make db kind) rows is may = absurd is
+catalog-same txn last_db (MakeIndex db index) rows is may = absurd is
 catalog-same txn last_db (Remove db) rows is may = absurd is
 catalog-same txn last_db (Rename db to) rows is may = absurd is
 catalog-same txn last_db (Empty db) rows is may = absurd is

@@ -5,7 +5,7 @@ use Rattle.log_entry.specs.declared.entry.Entry.{Entry}
 use Rattle.je_order.specs.Order.{is_same_bytes}
 use Rattle.je_order.specs.Words.{is_word}
 use Rattle.store_model.specs.declared.change.Change.{Change}
-use Rattle.store_model.specs.declared.change.Change.TheVariants.{Set, Unset, Make, Remove, Rename, Empty}
+use Rattle.store_model.specs.declared.change.Change.TheVariants.{Set, Unset, Make, MakeIndex, Remove, Rename, Empty}
 use Rattle.store_model.specs.declared.store.TheConstants.{MOST_DATABASES}
 use Rattle.store_model.specs.Store.{proper}
 use Rattle.store_model.specs.Refusals.{made_by}
@@ -29,11 +29,13 @@ pub record IsKept (entries : List Entry) (rows : Rows) (last_txn last_db : ℕ) 
   pub numbers : AllByRecursion (λ n. n ≤ last_db) (numbers_of rows)
 
 -- a change may be logged where these are the records: the database that it names is there, and what is set or taken out is a record of its
--- kind; a database that is made has a new name, and so does one that is renamed; a database more may be there; numbers have their width
+-- kind; a database that is made has a new name, and so does one that is renamed; a database more may be there; no index is made; numbers have
+-- their width
 abbrev pub MayBeLogged : Rows → ℕ → Change → Type 0
 MayBeLogged rows last_db (Set db at value) = (number_named rows db ≢ 0) × IsTrue (is_right_row (kind_named rows db) (at, value))
 MayBeLogged rows last_db (Unset db at) = (number_named rows db ≢ 0) × (proper (kind_named rows db) at ≡ at)
 MayBeLogged rows last_db (Make db kind) = (number_named rows db ≡ 0) × IsTrue (is_word db) × (length (rows 0) < MOST_DATABASES) × (last_db + 1 < 2 ^ 32)
+MayBeLogged rows last_db (MakeIndex db index) = ⊥
 MayBeLogged rows last_db (Remove db) = number_named rows db ≢ 0
 MayBeLogged rows last_db (Rename db to) = (number_named rows db ≢ 0) × (number_named rows to ≡ 0) × IsTrue (is_word to) × (number_named rows db < 2 ^ 32)
 MayBeLogged rows last_db (Empty db) = (number_named rows db ≢ 0) × (last_db + 1 < 2 ^ 32)
@@ -61,6 +63,7 @@ abbrev pub numbered : Change → ℕ → (List ℕ → ℕ) → List ℕ → ℕ
 numbered (Set db at value) last numbers = numbers
 numbered (Unset db at) last numbers = numbers
 numbered (Make db kind) last numbers = with_number db (last + 1) numbers
+numbered (MakeIndex db index) last numbers = with_number db (last + 1) numbers
 numbered (Remove db) last numbers = with_number db 0 numbers
 numbered (Rename db to) last numbers = with_number to (numbers db) (with_number db 0 numbers)
 numbered (Empty db) last numbers = with_number db (last + 1) numbers

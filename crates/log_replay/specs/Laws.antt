@@ -9,7 +9,7 @@ use Rattle.log_entry.specs.Encoding.{size_of}
 use Rattle.log_file.specs.Scan.{may_follow}
 use Rattle.db_catalog.specs.Planning.{IsCatalogOf, found_in}
 use Rattle.store_model.specs.declared.change.Change.{Change}
-use Rattle.store_model.specs.declared.change.Change.TheVariants.{Set, Unset, Make, Remove, Rename, Empty}
+use Rattle.store_model.specs.declared.change.Change.TheVariants.{Set, Unset, Make, MakeIndex, Remove, Rename, Empty}
 use Rattle.store_model.specs.declared.store.Store.{Store}
 use Rattle.store_model.specs.Store.{database_of, record_count, changed, all_changed}
 use Rattle.store_model.specs.Refusals.{made_by}
@@ -60,6 +60,7 @@ HasCounts rows (Set db at value) old new =
 HasCounts rows (Unset db at) old new =
     (record_count new + one_if (data_at at (rows (number_named rows db))) ≡ record_count old) × (length new.databases ≡ length old.databases)
 HasCounts rows (Make db kind) old new = (record_count new ≡ record_count old) × (length new.databases ≡ length old.databases + 1)
+HasCounts rows (MakeIndex db index) old new = (record_count new ≡ record_count old) × (length new.databases ≡ length old.databases + 1)
 HasCounts rows (Remove db) old new =
     (record_count new + length (rows (number_named rows db)) ≡ record_count old) × (length new.databases + 1 ≡ length old.databases)
 HasCounts rows (Rename db to) old new = (record_count new ≡ record_count old) × (length new.databases ≡ length old.databases)
@@ -85,7 +86,7 @@ abbrev pub DatabasesByNumber : Type 0
 DatabasesByNumber = (rows : Rows) (name : List ℕ) → is_environment rows ≡ true
     → (number_named rows name ≡ 0 → database_of name (store_of rows) ≡ None)
     × (number_named rows name ≢ 0
-    → database_of name (store_of rows) ≡ Some (record { name = name; kind = kind_named rows name; pairs = map (pair_of (kind_named rows name)) (rows (number_named rows name)) }))
+    → database_of name (store_of rows) ≡ Some (record { name = name; kind = kind_named rows name; index = None; pairs = map (pair_of (kind_named rows name)) (rows (number_named rows name)) }))
 
 -- the catalog has a record for each of the store's databases, of its kind, and no other; what it tells of one is its number and kind
 abbrev pub CatalogsAreOfStores : Type 0

@@ -9,7 +9,7 @@ use Rattle.db_catalog.specs.declared.catalog_change.CatalogChange.TheVariants.{P
 use Rattle.db_catalog.specs.Catalog.{record_bytes, db_record_in}
 use Rattle.db_catalog.specs.Planning.{logged_as}
 use Rattle.store_model.specs.declared.change.Change.{Change}
-use Rattle.store_model.specs.declared.change.Change.TheVariants.{Set, Unset, Make, Remove, Rename, Empty}
+use Rattle.store_model.specs.declared.change.Change.TheVariants.{Set, Unset, Make, MakeIndex, Remove, Rename, Empty}
 use Rattle.store_model.specs.declared.kind.Kind.{Kind}
 use Rattle.store_model.specs.Evaluation.{plain_name}
 use Rattle.store_model.specs.Refusals.{made_by}
@@ -47,6 +47,7 @@ abbrev pub row_changes : ℕ → ℕ → Change → Rows → List RowChange
 row_changes txn last_db (Set db at value) rows = record { txn = txn; db = number_named rows db; name = at; value = Some value } ∷ []
 row_changes txn last_db (Unset db at) rows = record { txn = txn; db = number_named rows db; name = at; value = None } ∷ []
 row_changes txn last_db (Make db kind) rows = map (catalog_row_change txn) (logged_as (record_named rows) (last_db + 1) (Make db kind))
+row_changes txn last_db (MakeIndex db index) rows = map (catalog_row_change txn) (logged_as (record_named rows) (last_db + 1) (MakeIndex db index))
 row_changes txn last_db (Remove db) rows = map (catalog_row_change txn) (logged_as (record_named rows) (last_db + 1) (Remove db))
 row_changes txn last_db (Rename db to) rows = map (catalog_row_change txn) (logged_as (record_named rows) (last_db + 1) (Rename db to))
 row_changes txn last_db (Empty db) rows = map (catalog_row_change txn) (logged_as (record_named rows) (last_db + 1) (Empty db))
@@ -93,6 +94,7 @@ abbrev pub entries_of : (List ℕ → Option DbRecord) → ℕ → ℕ → Chang
 entries_of record_of txn number (Set db at value) = Put (record { 0 = txn }) number at value ∷ []
 entries_of record_of txn number (Unset db at) = Delete (record { 0 = txn }) number at ∷ []
 entries_of record_of txn number (Make db kind) = map (catalog_entry txn) (logged_as record_of number (Make db kind))
+entries_of record_of txn number (MakeIndex db index) = map (catalog_entry txn) (logged_as record_of number (MakeIndex db index))
 entries_of record_of txn number (Remove db) = map (catalog_entry txn) (logged_as record_of number (Remove db))
 entries_of record_of txn number (Rename db to) = map (catalog_entry txn) (logged_as record_of number (Rename db to))
 entries_of record_of txn number (Empty db) = map (catalog_entry txn) (logged_as record_of number (Empty db))

@@ -139,9 +139,9 @@ abbrev pub pair_of : Kind → Row → List ℕ × List ℕ
 pair_of Plain row = (row.0.key, row.1)
 pair_of Dup row = (row.0.key, row.0.dup)
 
--- the database that a catalog record names, with the records under its number
+-- the database that a catalog record names, with the records under its number; it is no index
 abbrev pub database_in : Rows → Row → Database
-database_in rows row = record { name = row.0.key; kind = catalog_kind row.1; pairs = map (pair_of (catalog_kind row.1)) (rows_of_row rows row) }
+database_in rows row = record { name = row.0.key; kind = catalog_kind row.1; index = None; pairs = map (pair_of (catalog_kind row.1)) (rows_of_row rows row) }
 
 -- the store that records make
 abbrev pub store_of : Rows → Store

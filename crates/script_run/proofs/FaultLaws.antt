@@ -3,7 +3,7 @@ use Rattle.std.proofs.Common.{◌≡◌, ℕ, ◌||◌, List, [], ◌∷◌, Opt
 use Rattle.store_model.specs.declared.step.Step.{Step}
 use Rattle.store_model.specs.declared.step.Step.TheVariants.{Begin as BeginStep, Flush, Finish, Sync as SyncStep}
 use Rattle.store_model.specs.declared.call.Call.{Call}
-use Rattle.store_model.specs.declared.call.Call.TheVariants.{Begin, Commit, Abort, List as Lists, Create, Remove, Rename, Truncate, Open, Close, Dup}
+use Rattle.store_model.specs.declared.call.Call.TheVariants.{Begin, Commit, Abort, List as Lists, Create, CreateIndex, Remove, Rename, Truncate, Open, Close, Dup}
 use Rattle.store_model.specs.declared.change.Change.{Change}
 use Rattle.store_model.specs.declared.record_change.RecordChange.{RecordChange}
 use Rattle.store_model.specs.declared.need.Need.{Need}
@@ -19,7 +19,7 @@ use Rattle.store_model.specs.Evaluation.{evaluation}
 use Rattle.je_answers.specs.declared.active.Active.{Active}
 use Rattle.je_answers.specs.declared.wait.Wait.{Wait}
 use Rattle.je_answers.specs.Standing.{Standing, active_of, wait_of, without_wait, place_at}
-use Rattle.je_answers.specs.Views.{Target, target_of, changes_on, changes_named, outcome_of, needs_in}
+use Rattle.je_answers.specs.Views.{Target, target_of, changes_with, changes_named, outcome_of, needs_in, with_names}
 use Rattle.je_answers.specs.Refusals.{early_refusal, late_refusal}
 use Rattle.je_answers.specs.Locking.{first_blocked}
 use Rattle.je_answers.specs.Events.{auto_active, begun, resumed}
@@ -46,7 +46,7 @@ closed_fault true a (change ∷ changes) st = refl
 closed_fault false a changes st = refl
 
 fate_fault : (fate : Fate) (old st : Standing) (a : Active) (call : Call) (g : Target) (e : Evaluated) → IsNoFault fate → (after_fate fate old st a call g e).fault ≡ st.fault
-fate_fault Succeeds old st a call g e ok = closed_fault a.is_auto a (changes_on g e.changes) (with_outcome a call g e (answered a call g st))
+fate_fault Succeeds old st a call g e ok = closed_fault a.is_auto a (with_names (changes_with st a g e.changes)) (with_outcome a call g e (answered a call g st))
 fate_fault IsRefused old st a call g e ok = closed_fault a.is_auto a [] (answered a call g st)
 fate_fault Faults old st a call g e ok = absurd ok
 
@@ -116,6 +116,8 @@ performed_fault Abort st session line answer victims h = abort_fault (active_of 
 performed_fault Lists st session line answer victims h = drawn_fault (active_of session st.actives) st
 performed_fault (Create db kind) st session line answer victims h =
     catalog_fault (fate_of answer) (evaluation (Create db kind) st.store).changes (active_of session st.actives) st (no_fault answer h)
+performed_fault (CreateIndex db index) st session line answer victims h =
+    catalog_fault (fate_of answer) (evaluation (CreateIndex db index) st.store).changes (active_of session st.actives) st (no_fault answer h)
 performed_fault (Remove db) st session line answer victims h = catalog_fault (fate_of answer) (evaluation (Remove db) st.store).changes (active_of session st.actives) st (no_fault answer h)
 performed_fault (Rename db to) st session line answer victims h = catalog_fault (fate_of answer) (evaluation (Rename db to) st.store).changes (active_of session st.actives) st (no_fault answer h)
 performed_fault (Truncate db) st session line answer victims h = catalog_fault (fate_of answer) (evaluation (Truncate db) st.store).changes (active_of session st.actives) st (no_fault answer h)

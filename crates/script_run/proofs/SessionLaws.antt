@@ -7,7 +7,7 @@ use Rattle.je_order.proofs.Lists.{all_kept, all_push}
 use Rattle.store_model.specs.declared.step.Step.{Step}
 use Rattle.store_model.specs.declared.step.Step.TheVariants.{Begin as BeginStep, Flush, Finish, Sync as SyncStep}
 use Rattle.store_model.specs.declared.call.Call.{Call}
-use Rattle.store_model.specs.declared.call.Call.TheVariants.{Begin, Commit, Abort, List as Lists, Create, Remove, Rename, Truncate, Open, Close, Dup}
+use Rattle.store_model.specs.declared.call.Call.TheVariants.{Begin, Commit, Abort, List as Lists, Create, CreateIndex, Remove, Rename, Truncate, Open, Close, Dup}
 use Rattle.store_model.specs.declared.change.Change.{Change}
 use Rattle.store_model.specs.declared.record_change.RecordChange.{RecordChange}
 use Rattle.store_model.specs.declared.need.Need.{Need}
@@ -23,7 +23,7 @@ use Rattle.store_model.specs.Evaluation.{evaluation}
 use Rattle.je_answers.specs.declared.active.Active.{Active}
 use Rattle.je_answers.specs.declared.wait.Wait.{Wait}
 use Rattle.je_answers.specs.Standing.{Standing, active_of, wait_of, without_wait, place_at}
-use Rattle.je_answers.specs.Views.{Target, target_of, changes_on, changes_named, outcome_of, needs_in}
+use Rattle.je_answers.specs.Views.{Target, target_of, changes_with, changes_named, outcome_of, needs_in, with_names}
 use Rattle.je_answers.specs.Refusals.{early_refusal, late_refusal}
 use Rattle.je_answers.specs.Locking.{first_blocked}
 use Rattle.je_answers.specs.Events.{auto_active, begun, resumed}
@@ -49,7 +49,7 @@ closed_of P false a changes st h = h
 
 fate_keeps : (P : ℕ → Type 0) (fate : Fate) (old st : Standing) (a : Active) (call : Call) (g : Target) (e : Evaluated) → AreOf P old.actives → AreOf P st.actives →
     AreOf P (after_fate fate old st a call g e).actives
-fate_keeps P Succeeds old st a call g e was h = closed_of P a.is_auto a (changes_on g e.changes) (with_outcome a call g e (answered a call g st)) h
+fate_keeps P Succeeds old st a call g e was h = closed_of P a.is_auto a (with_names (changes_with st a g e.changes)) (with_outcome a call g e (answered a call g st)) h
 fate_keeps P IsRefused old st a call g e was h = closed_of P a.is_auto a [] (answered a call g st) h
 fate_keeps P Faults old st a call g e was h = was
 
@@ -124,6 +124,7 @@ performed_keeps P Commit st session line answer victims its h = ending_keeps P (
 performed_keeps P Abort st session line answer victims its h = abort_keeps P (active_of session st.actives) st h
 performed_keeps P Lists st session line answer victims its h = drawn_keeps P (active_of session st.actives) st h
 performed_keeps P (Create db kind) st session line answer victims its h = catalog_keeps P (fate_of answer) (evaluation (Create db kind) st.store).changes (active_of session st.actives) st h
+performed_keeps P (CreateIndex db index) st session line answer victims its h = catalog_keeps P (fate_of answer) (evaluation (CreateIndex db index) st.store).changes (active_of session st.actives) st h
 performed_keeps P (Remove db) st session line answer victims its h = catalog_keeps P (fate_of answer) (evaluation (Remove db) st.store).changes (active_of session st.actives) st h
 performed_keeps P (Rename db to) st session line answer victims its h = catalog_keeps P (fate_of answer) (evaluation (Rename db to) st.store).changes (active_of session st.actives) st h
 performed_keeps P (Truncate db) st session line answer victims its h = catalog_keeps P (fate_of answer) (evaluation (Truncate db) st.store).changes (active_of session st.actives) st h

@@ -10,7 +10,7 @@ use Rattle.je_io.proofs.SourceSinkSteps.{gains_then, gains_further, gains_none}
 use Rattle.je_order.specs.declared.txn_id.TxnId.{TxnId}
 use Rattle.store_model.specs.declared.lock_target.LockTarget.{LockTarget}
 use Rattle.store_model.specs.declared.answer.Answer.{Answer}
-use Rattle.store_model.specs.declared.answer.Answer.TheVariants.{Rec, Names, Waiting, Deadlock, MustAbort}
+use Rattle.store_model.specs.declared.answer.Answer.TheVariants.{Rec, IndexRec, Names, Waiting, Deadlock, MustAbort}
 use Rattle.script_text.specs.Report.{answer_text, line_if_any, short_text, step_line}
 use Rattle.script_text.specs.OutBuffer.{Held, Point, point, held_of, Sends, Adds}
 
@@ -138,15 +138,16 @@ adds_step line (Some text) there front middle last = adds_then (adds_then front 
 adds_step line None there front middle last = cc
 
 -- the text of an answer that is words and at most a number, or has none
-pub short_is : (a : Answer) → ((key value : List ℕ) → a ≡ Rec key value → ⊥) → ((names : List (List ℕ)) → a ≡ Names names → ⊥) →
+pub short_is : (a : Answer) → ((key value : List ℕ) → a ≡ Rec key value → ⊥) → ((key primary_key value : List ℕ) → a ≡ IndexRec key primary_key value → ⊥) → ((names : List (List ℕ)) → a ≡ Names names → ⊥) →
     ((at : LockTarget) (owner : TxnId) → a ≡ Waiting at owner → ⊥) → ((cycle : List TxnId) → a ≡ Deadlock cycle → ⊥) →
     ((cycle : List TxnId) → a ≡ MustAbort cycle → ⊥) → short_text a ≡ unwrap_or (answer_text a) []
-short_is (Rec key value) rec names waiting deadlock abort = absurd (rec key value refl)
-short_is (Names ns) rec names waiting deadlock abort = absurd (names ns refl)
-short_is (Waiting at owner) rec names waiting deadlock abort = absurd (waiting at owner refl)
-short_is (Deadlock cycle) rec names waiting deadlock abort = absurd (deadlock cycle refl)
-short_is (MustAbort cycle) rec names waiting deadlock abort = absurd (abort cycle refl)
-short_is a rec names waiting deadlock abort = refl
+short_is (Rec key value) rec index_rec names waiting deadlock abort = absurd (rec key value refl)
+short_is (IndexRec key primary_key value) rec index_rec names waiting deadlock abort = absurd (index_rec key primary_key value refl)
+short_is (Names ns) rec index_rec names waiting deadlock abort = absurd (names ns refl)
+short_is (Waiting at owner) rec index_rec names waiting deadlock abort = absurd (waiting at owner refl)
+short_is (Deadlock cycle) rec index_rec names waiting deadlock abort = absurd (deadlock cycle refl)
+short_is (MustAbort cycle) rec index_rec names waiting deadlock abort = absurd (abort cycle refl)
+short_is a rec index_rec names waiting deadlock abort = refl
 
 -- the text of one item more
 pub next_text_or : {X : Type 0} (f : X → List ℕ) (xs : List X) (k : ℕ) (d : X) → k < length xs →

@@ -6,7 +6,6 @@ use Rattle.std.specs.List.{list_all}
 use Rattle.std.proofs.lemmas.Bool.{and_parts, and_from}
 use Rattle.std.proofs.lemmas.Bool.Decides.{nat_tests}
 use Rattle.store_model.specs.declared.call.Call.{Call}
-use Rattle.store_model.specs.declared.call.Call.TheVariants.{Begin, Commit, Abort, List as Lists, Create, Remove, Rename, Truncate, Put, Get, GetBoth, Delete, Open, Close, Dup, Count, Cur, CPutCur, CDel, CPut}
 use Rattle.store_model.specs.declared.plan.ScriptLine.{ScriptLine}
 use Rattle.store_model.specs.declared.plan.ScriptLine.TheVariants.{Session, Maintenance}
 use Rattle.store_model.specs.declared.step.Step.{Step}
@@ -15,34 +14,12 @@ use Rattle.script_text.specs.declared.parsing.TheConstants.{MOST_LINES}
 use Rattle.script_text.specs.declared.parsing.ParseErr.{ParseErr}
 use Rattle.script_text.specs.Words.{words_of}
 use Rattle.script_text.specs.Grammar.{text_lines, session_of, call_of, step_of, maintained_by, maintenance_of, given_by, session_line, given_of, is_skipped, good_or_bad, line_gives, and_then, lines_give, as_plan, plan_of, Gives, has_line, is_line}
+use Rattle.script_text.proofs.CallLines.{each_line}
 
 -- ---- calls
 
 some_is : {A : Type 0} (x y : A) → (let o : Option A = Some x in o) ≡ Some y → x ≡ y
 some_is x y e = cc
-
--- each call has a line
-each_line : (call : Call) → has_line call ≡ true
-each_line (Begin level durability wait) = refl
-each_line Commit = refl
-each_line Abort = refl
-each_line Lists = refl
-each_line (Create db kind) = refl
-each_line (Remove db) = refl
-each_line (Rename db to) = refl
-each_line (Truncate db) = refl
-each_line (Put db key value mode) = refl
-each_line (Get db key rmw) = refl
-each_line (GetBoth db key value rmw) = refl
-each_line (Delete db key) = refl
-each_line (Open cursor db) = refl
-each_line (Close cursor) = refl
-each_line (Dup cursor to) = refl
-each_line (Count cursor) = refl
-each_line (Cur cursor motion rmw) = refl
-each_line (CPutCur cursor value) = refl
-each_line (CDel cursor) = refl
-each_line (CPut cursor key value mode) = refl
 
 -- ---- lines
 
@@ -58,7 +35,7 @@ given_by_scripted line None call given h e = cc
 
 session_scripted : (line : ℕ) (session : List ℕ) (words : List (List ℕ)) (given : ScriptLine) → session_line line session words ≡ Some given → AreLines (given ∷ [])
 session_scripted line session [] given e = cc
-session_scripted line session (verb ∷ words) given e = given_by_scripted line (session_of session) (call_of verb words) given (λ c s. each_line c) e
+session_scripted line session (verb ∷ words) given e = given_by_scripted line (session_of session) (call_of verb words) given (λ c s. each_line verb words c s) e
 
 -- a line's number is not 0
 abbrev IsNumber : ℕ → Type 0

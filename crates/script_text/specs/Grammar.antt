@@ -12,7 +12,7 @@ use Rattle.store_model.specs.declared.kind.Kind.TheVariants.{Plain, Dup}
 use Rattle.store_model.specs.declared.put_mode.PutMode.{PutMode}
 use Rattle.store_model.specs.declared.put_mode.PutMode.TheVariants.{Overwrite, NoOverwrite, NoDupData}
 use Rattle.store_model.specs.declared.call.Call.{Call}
-use Rattle.store_model.specs.declared.call.Call.TheVariants.{Begin, Commit, Abort, List as Lists, Create, Remove, Rename, Truncate, Put, Get, GetBoth, Delete, Open, Close, Dup as Duplicate, Count, Cur, CPutCur, CDel, CPut}
+use Rattle.store_model.specs.declared.call.Call.TheVariants.{Begin, Commit, Abort, List as Lists, Create, CreateIndex, Remove, Rename, Truncate, Put, Get, GetBoth, Delete, Open, Close, Dup as Duplicate, Count, Cur, CPutCur, CDel, CPut}
 use Rattle.store_model.specs.declared.plan.ScriptLine.{ScriptLine}
 use Rattle.store_model.specs.declared.plan.ScriptLine.TheVariants.{Session, Maintenance}
 use Rattle.store_model.specs.declared.step.Step.{Step}
@@ -225,13 +225,14 @@ line_gives line text =
     else if is_skipped text then Ok None
     else good_or_bad line (given_of line (words_of text))
 
--- whether the grammar has a line for a call
+-- whether the grammar has a line for a call: it has none that makes an index
 abbrev pub has_line : Call → Bool
 has_line (Begin level durability wait) = true
 has_line Commit = true
 has_line Abort = true
 has_line Lists = true
 has_line (Create db kind) = true
+has_line (CreateIndex db index) = false
 has_line (Remove db) = true
 has_line (Rename db to) = true
 has_line (Truncate db) = true

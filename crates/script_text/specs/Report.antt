@@ -15,7 +15,7 @@ use Rattle.store_model.specs.declared.call.Call.TheVariants.{Begin, Commit, Put,
 use Rattle.store_model.specs.declared.lock_target.LockTarget.{LockTarget}
 use Rattle.store_model.specs.declared.victim.Victim.{Victim}
 use Rattle.store_model.specs.declared.answer.Answer.{Answer}
-use Rattle.store_model.specs.declared.answer.Answer.TheVariants.{Done, Txn, Logged, Durable, Rec, Count, Names, NotFound, KeyExist, KeyEmpty, NoPosition, Waiting, NotAvailable, Deadlock, MustAbort, SessionWaits, NoTxn, InTxn, NoDatabase, NoCursor, NameTaken, TooMany, DatabaseInUse, NotOnDuplicates, OnlyOnDuplicates, TooLong, Flushed, Nothing, InCheckpoint, NoCheckpoint, NodesLeft, LogFull, IdsEnded, DiskFault, Invalid}
+use Rattle.store_model.specs.declared.answer.Answer.TheVariants.{Done, Txn, Logged, Durable, Rec, IndexRec, Count, Names, NotFound, KeyExist, KeyEmpty, NoPosition, Waiting, NotAvailable, Deadlock, MustAbort, SessionWaits, NoTxn, InTxn, NoDatabase, NoCursor, NameTaken, HasIndex, TooMany, DatabaseInUse, ReadOnlyIndex, NotOnDuplicates, OnlyOnDuplicates, TooLong, Flushed, Nothing, InCheckpoint, NoCheckpoint, NodesLeft, LogFull, IdsEnded, DiskFault, Invalid}
 use Rattle.store_model.specs.declared.event.Event.{Event}
 use Rattle.store_model.specs.declared.event.Event.TheVariants.{Call as Called, Resume, End, WriteOut, SyncBegin, SyncEnd, Turn}
 use Rattle.store_model.specs.declared.totals.Totals.{Totals}
@@ -71,6 +71,7 @@ answer_text (Txn txn) = Some (codes "ok txn " ++ decimal txn.0)
 answer_text (Logged commit) = None
 answer_text (Durable commit) = None
 answer_text (Rec key value) = Some (codes "ok " ++ bytes_text key ++ codes " " ++ bytes_text value)
+answer_text (IndexRec key primary_key value) = Some (codes "ok " ++ bytes_text key ++ codes " " ++ bytes_text primary_key ++ codes " " ++ bytes_text value)
 answer_text (Count count) = Some (codes "ok " ++ decimal count)
 answer_text (Names names) = Some (codes "ok" ++ flat_map name_text names)
 answer_text NotFound = Some (codes "notfound")
@@ -87,8 +88,10 @@ answer_text (InTxn txn) = Some (codes "intxn " ++ decimal txn.0)
 answer_text NoDatabase = Some (codes "nodatabase")
 answer_text NoCursor = Some (codes "nocursor")
 answer_text NameTaken = Some (codes "nametaken")
+answer_text HasIndex = Some (codes "hasindex")
 answer_text (TooMany count) = Some (codes "toomany " ++ decimal count)
 answer_text (DatabaseInUse txn) = Some (codes "inuse " ++ decimal txn.0)
+answer_text ReadOnlyIndex = Some (codes "readonlyindex")
 answer_text NotOnDuplicates = Some (codes "notonduplicates")
 answer_text OnlyOnDuplicates = Some (codes "onlyonduplicates")
 answer_text (TooLong bytes) = Some (codes "toolong " ++ decimal bytes)
@@ -118,8 +121,10 @@ word_text (InTxn txn) = codes "intxn"
 word_text NoDatabase = codes "nodatabase"
 word_text NoCursor = codes "nocursor"
 word_text NameTaken = codes "nametaken"
+word_text HasIndex = codes "hasindex"
 word_text (TooMany count) = codes "toomany"
 word_text (DatabaseInUse txn) = codes "inuse"
+word_text ReadOnlyIndex = codes "readonlyindex"
 word_text NotOnDuplicates = codes "notonduplicates"
 word_text OnlyOnDuplicates = codes "onlyonduplicates"
 word_text (TooLong bytes) = codes "toolong"

@@ -21,6 +21,26 @@ fn put_record<K: Sink>(buffer: &mut OutBuffer, out: &mut K, key: &[u8], value: &
     put_bytes(buffer, out, value);
 }
 
+// Sends a record that an index found: the index's key, the record's own key and its data.
+fn put_index_record<K: Sink>(
+    buffer: &mut OutBuffer,
+    out: &mut K,
+    key: &[u8],
+    primary_key: &[u8],
+    value: &[u8],
+)
+    ensures { Adds (point (K.written out.old) (K.faults out.old) buffer.old)
+        (point (K.written out.new) (K.faults out.new) buffer.new)
+        (codes "ok " ++ bytes_text key.now ++ codes " " ++ bytes_text primary_key.now ++ codes " " ++ bytes_text value.now) }
+{
+    buffer.put(out, b"ok ");
+    put_bytes(buffer, out, key);
+    buffer.put(out, b" ");
+    put_bytes(buffer, out, primary_key);
+    buffer.put(out, b" ");
+    put_bytes(buffer, out, value);
+}
+
 // Sends a name of a list, behind a blank.
 fn put_name<K: Sink>(buffer: &mut OutBuffer, out: &mut K, name: &Word)
     ensures { Adds (point (K.written out.old) (K.faults out.old) buffer.old)
@@ -169,8 +189,10 @@ fn word_of(answer: &Answer) -> &[u8]
         Answer::NoDatabase => b"nodatabase",
         Answer::NoCursor => b"nocursor",
         Answer::NameTaken => b"nametaken",
+        Answer::HasIndex => b"hasindex",
         Answer::TooMany { count: _ } => b"toomany",
         Answer::DatabaseInUse { txn: _ } => b"inuse",
+        Answer::ReadOnlyIndex => b"readonlyindex",
         Answer::NotOnDuplicates => b"notonduplicates",
         Answer::OnlyOnDuplicates => b"onlyonduplicates",
         Answer::TooLong { length: _ } => b"toolong",
@@ -240,6 +262,17 @@ pub fn put_answer<K: Sink>(buffer: &mut OutBuffer, out: &mut K, answer: &Answer)
 {
     match answer {
         Answer::Rec { key, value } => put_record(buffer, out, key.as_slice(), value.as_slice()),
+        Answer::IndexRec {
+            key,
+            primary_key,
+            value,
+        } => put_index_record(
+            buffer,
+            out,
+            key.as_slice(),
+            primary_key.as_slice(),
+            value.as_slice(),
+        ),
         Answer::Names { names } => put_list(buffer, out, names.as_slice()),
         Answer::Waiting { at, owner } => put_waiting(buffer, out, at, *owner),
         Answer::Deadlock { cycle } => put_cycle(buffer, out, b"deadlock", cycle.as_slice()),

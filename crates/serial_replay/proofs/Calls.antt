@@ -1,7 +1,7 @@
 -- The calls on records, one by one: what each answers early, needs, changes and answers, and where it leaves its cursor.
-use Rattle.std.proofs.Common.{◌≡◌, ◌⊎◌, inl, inr, ℕ, Bool, true, false, cond, List, [], ◌∷◌, ◌++◌, map, Option, None, Some, refl, ap, ap₂, sym, ◌∙◌, subst, ⊎_elim, is_eq}
-use Rattle.std.specs.List.{flat_map, AllByRecursion}
-use Rattle.std.proofs.lemmas.Bool.{cases_Bool, cond-true, cond-false}
+use Rattle.std.proofs.Common.{◌≡◌, ◌⊎◌, inl, inr, ℕ, Bool, true, false, cond, List, [], ◌∷◌, map, Option, None, Some, refl, ap, ap₂, sym, ◌∙◌, subst, ⊎_elim, is_eq}
+use Rattle.std.specs.List.{AllByRecursion}
+use Rattle.std.proofs.lemmas.Bool.{cases_Bool, cond-true, cond-false, both_ways}
 use Rattle.je_order.specs.Order.{name_cmp, is_same_bytes}
 use Rattle.je_order.specs.declared.name.Name.{Name}
 use Rattle.je_order.proofs.Orderings.{name_exact, equal_from_test}
@@ -11,23 +11,23 @@ use Rattle.lock_mode.specs.Modes.{can_be_held}
 use Rattle.lock_table.specs.Locks.{is_range}
 use Rattle.store_model.specs.declared.kind.Kind.{Kind}
 use Rattle.store_model.specs.declared.kind.Kind.TheVariants.{Plain, Dup}
-use Rattle.store_model.specs.declared.isolation.Isolation.{Isolation}
 use Rattle.store_model.specs.declared.isolation.Isolation.TheVariants.{RepeatableRead, Serializable}
 use Rattle.store_model.specs.declared.put_mode.PutMode.TheVariants.{Overwrite, NoOverwrite, NoDupData}
 use Rattle.store_model.specs.declared.motion.Motion.{Motion}
 use Rattle.store_model.specs.declared.motion.Motion.TheVariants.{Both, BothRange}
 use Rattle.store_model.specs.declared.call.Call.{Call}
 use Rattle.store_model.specs.declared.call.Call.TheVariants.{Get, GetBoth, Put, Delete, Count, Cur, CPutCur, CDel, CPut}
-use Rattle.store_model.specs.declared.need.Need.{Need}
+use Rattle.store_model.specs.declared.index.Index.{Index}
+use Rattle.store_model.specs.Refusals.{index_refusal}
 use Rattle.store_model.specs.declared.record_change.RecordChange.{RecordChange}
 use Rattle.store_model.specs.declared.record_change.RecordChange.TheVariants.{Unset}
 use Rattle.store_model.specs.declared.answer.Answer.{Answer}
-use Rattle.store_model.specs.declared.answer.Answer.TheVariants.{Rec, KeyEmpty, NoPosition}
+use Rattle.store_model.specs.declared.answer.Answer.TheVariants.{Done, Rec, IndexRec, Count as Counted, NotFound, KeyExist, KeyEmpty, NoPosition, ReadOnlyIndex}
 use Rattle.store_model.specs.Store.{Pair, name_of, proper}
-use Rattle.store_model.specs.Reads.{empty_range, seen, passed_to, at_name}
+use Rattle.store_model.specs.Reads.{empty_range, seen, at_name}
 use Rattle.store_model.specs.Reads.Way.{Each}
 use Rattle.store_model.specs.Records.{Evaluated, look_of, place_needs, empty_if, early_of, conclude, evaluation, says, found, went, deleted, put_unless, put_at_place, with_data, tested, tested_for, unless_early, set}
-use Rattle.store_model.specs.Needs.{Part, part_of, part_needs, ends, write_needs, needs_unless, needs_of, changed_name}
+use Rattle.store_model.specs.Needs.{Part, part_of, changed_name}
 use Rattle.standing_laws.specs.Right.{MayWait}
 use Rattle.standing_laws.proofs.Among.{IsAmong, filter_among}
 use Rattle.serial_replay.specs.Replay.{is_evaluated}
@@ -56,26 +56,18 @@ pub evaluation_early : (kind : Kind) (call : Call) (at : Option Name) (pairs : L
     → evaluation kind call at pairs ≡ unless_early o at (conclude kind call at (seen kind (look_of kind call at).way (look_of kind call at).range pairs))
 evaluation_early kind call at pairs o e = ap (λ (x : Option Answer). unless_early x at (conclude kind call at (seen kind (look_of kind call at).way (look_of kind call at).range pairs))) e
 
-pub needs_early : (level : Isolation) (db : ℕ) (kind : Kind) (call : Call) (at : Option Name) (pairs : List Pair) (names : List Name) (o : Option Answer) → early_of kind call at pairs ≡ o →
-    let taken = seen kind (look_of kind call at).way (look_of kind call at).range pairs in
-    let ev = conclude kind call at taken in
-    needs_of level db kind call at pairs names
-    ≡ needs_unless o (part_needs db (part_of level call) (passed_to kind (look_of kind call at).way (look_of kind call at).range taken) (ends (look_of kind call at).way ev.answered taken) names
-    ++ flat_map (write_needs level db kind pairs names) ev.changes)
-needs_early level db kind call at pairs names o e =
-    let taken = seen kind (look_of kind call at).way (look_of kind call at).range pairs in
-    let ev = conclude kind call at taken in
-    let all : List Need = part_needs db (part_of level call) (passed_to kind (look_of kind call at).way (look_of kind call at).range taken) (ends (look_of kind call at).way ev.answered taken) names
-    ++ flat_map (write_needs level db kind pairs names) ev.changes in
-    ap (λ (x : Option Answer). needs_unless x all) e
-
 -- ---- what a serializable call locks of what it reads
+
+-- a call that an index refuses
+abbrev pub IsPut : Call → Type 0
+IsPut call = (index : Index) → index_refusal call (Some index) ≡ Some ReadOnlyIndex
 
 -- range locks, on what it passes and behind it; or it reads nothing, and writes where it is at no place
 abbrev pub IsSerPart : Kind → Call → Option Name → Option Part → Type 0
 IsSerPart kind call at o = ((inside behind : LockType) × (o ≡ Some (record { inside = inside; behind = Some behind })) × (is_range inside ≡ true) × (is_range behind ≡ true))
     ⊎ ((o ≡ None) × (look_of kind call at ≡ record { way = Each; range = empty_range })
-    × ((taken pairs : List Pair) → taken ≡ [] → at ≡ None → early_of kind call at pairs ≡ None → (c : RecordChange) × ((conclude kind call at taken).changes ≡ c ∷ [])))
+    × ((taken pairs : List Pair) → taken ≡ [] → at ≡ None → early_of kind call at pairs ≡ None → (c : RecordChange) × ((conclude kind call at taken).changes ≡ c ∷ []))
+    × IsPut call)
 
 put_part : (kind : Kind) (at then_at : Option Name) (key value : List ℕ) (taken : List Pair) → taken ≡ [] → (c : RecordChange) × ((put_unless kind at then_at key value taken).changes ≡ c ∷ [])
 put_part kind at then_at key value taken e = (set kind key value, ap (λ (l : List Pair). (put_unless kind at then_at key value l).changes) e)
@@ -88,16 +80,16 @@ ser_part kind (Get db key true) at may = inl (RangeWrite, RangeWrite, refl, refl
 ser_part kind (Get db key false) at may = inl (RangeRead, RangeRead, refl, refl, refl)
 ser_part kind (GetBoth db key value true) at may = inl (RangeWrite, RangeWrite, refl, refl, refl)
 ser_part kind (GetBoth db key value false) at may = inl (RangeRead, RangeRead, refl, refl, refl)
-ser_part kind (Put db key value Overwrite) at may = inr (refl, refl, λ taken pairs e none h. put_part kind at at key value taken e)
+ser_part kind (Put db key value Overwrite) at may = inr (refl, refl, λ taken pairs e none h. put_part kind at at key value taken e, λ index. refl)
 ser_part kind (Put db key value NoOverwrite) at may = inl (RangeWrite, RangeRead, refl, refl, refl)
 ser_part kind (Put db key value NoDupData) at may = inl (RangeWrite, RangeRead, refl, refl, refl)
 ser_part kind (Delete db key) at may = inl (RangeWrite, RangeRead, refl, refl, refl)
 ser_part kind (Count cursor) at may = inl (RangeRead, RangeRead, refl, refl, refl)
 ser_part kind (Cur cursor motion true) at may = inl (RangeWrite, RangeWrite, refl, refl, refl)
 ser_part kind (Cur cursor motion false) at may = inl (RangeRead, RangeRead, refl, refl, refl)
-ser_part kind (CPutCur cursor value) at may = inr (refl, refl, λ taken pairs e none h. absurd (no_place kind cursor value at pairs none h))
+ser_part kind (CPutCur cursor value) at may = inr (refl, refl, λ taken pairs e none h. absurd (no_place kind cursor value at pairs none h), λ index. refl)
 ser_part kind (CDel cursor) at may = inl (RangeWrite, RangeRead, refl, refl, refl)
-ser_part kind (CPut cursor key value Overwrite) at may = inr (refl, refl, λ taken pairs e none h. put_part kind at (Some (name_of kind (key, value))) key value taken e)
+ser_part kind (CPut cursor key value Overwrite) at may = inr (refl, refl, λ taken pairs e none h. put_part kind at (Some (name_of kind (key, value))) key value taken e, λ index. refl)
 ser_part kind (CPut cursor key value NoOverwrite) at may = inl (RangeWrite, RangeRead, refl, refl, refl)
 ser_part kind (CPut cursor key value NoDupData) at may = inl (RangeWrite, RangeRead, refl, refl, refl)
 ser_part kind call at may = absurd may
@@ -230,18 +222,19 @@ pub record AnswersRecord (call : Call) (taken : List Pair) (p : Pair) : Type 0 w
   pub inside : LockType
   pub part : part_of RepeatableRead call ≡ Some (record { inside = inside; behind = None })
   pub can : can_be_held inside ≡ true
+  pub ser : (locked : LockType) × (behind : Option LockType) × (part_of Serializable call ≡ Some (record { inside = locked; behind = behind })) × (can_be_held locked ≡ true)
 
 get_record : (db key : List ℕ) (rmw : Bool) (taken : List Pair) (p : Pair) → IsFirst p taken → AnswersRecord (Get db key rmw) taken p
-get_record db key true taken p f = record { first = f; inside = Write; part = refl; can = refl }
-get_record db key false taken p f = record { first = f; inside = Read; part = refl; can = refl }
+get_record db key true taken p f = record { first = f; inside = Write; part = refl; can = refl; ser = (RangeWrite, Some RangeWrite, refl, refl) }
+get_record db key false taken p f = record { first = f; inside = Read; part = refl; can = refl; ser = (RangeRead, Some RangeRead, refl, refl) }
 
 both_record : (db key value : List ℕ) (rmw : Bool) (taken : List Pair) (p : Pair) → IsFirst p taken → AnswersRecord (GetBoth db key value rmw) taken p
-both_record db key value true taken p f = record { first = f; inside = Write; part = refl; can = refl }
-both_record db key value false taken p f = record { first = f; inside = Read; part = refl; can = refl }
+both_record db key value true taken p f = record { first = f; inside = Write; part = refl; can = refl; ser = (RangeWrite, Some RangeWrite, refl, refl) }
+both_record db key value false taken p f = record { first = f; inside = Read; part = refl; can = refl; ser = (RangeRead, Some RangeRead, refl, refl) }
 
 cur_record : (cursor : ℕ) (motion : Motion) (rmw : Bool) (taken : List Pair) (p : Pair) → IsFirst p taken → AnswersRecord (Cur cursor motion rmw) taken p
-cur_record cursor motion true taken p f = record { first = f; inside = Write; part = refl; can = refl }
-cur_record cursor motion false taken p f = record { first = f; inside = Read; part = refl; can = refl }
+cur_record cursor motion true taken p f = record { first = f; inside = Write; part = refl; can = refl; ser = (RangeWrite, Some RangeWrite, refl, refl) }
+cur_record cursor motion false taken p f = record { first = f; inside = Read; part = refl; can = refl; ser = (RangeRead, Some RangeRead, refl, refl) }
 
 pub answers_record : (kind : Kind) (call : Call) (at : Option Name) (taken : List Pair) (key value : List ℕ) → MayWait call → (conclude kind call at taken).answer ≡ Rec key value → AnswersRecord call taken (key, value)
 answers_record kind (Get db k rmw) at taken key value may e = get_record db k rmw taken (key, value) (found_first at taken key value e)
@@ -271,27 +264,46 @@ answers_late kind call at pairs key value h = by (early_is kind call at pairs)
 
 -- ---- which answers are evaluation's
 
-found_evaluated : (at : Option Name) (l : List Pair) → is_evaluated (found at l).answer ≡ true
+-- those of a call in its own database, where its cursor stands at a record
+abbrev pub is_own : Answer → Bool
+is_own Done = true
+is_own (Rec key value) = true
+is_own (Counted count) = true
+is_own NotFound = true
+is_own KeyExist = true
+is_own KeyEmpty = true
+is_own answer = false
+
+pub own_evaluated : (answer : Answer) → is_own answer ≡ true → is_evaluated answer ≡ true
+own_evaluated Done h = refl
+own_evaluated (Rec key value) h = refl
+own_evaluated (Counted count) h = refl
+own_evaluated NotFound h = refl
+own_evaluated KeyExist h = refl
+own_evaluated KeyEmpty h = refl
+own_evaluated answer h = absurd (both_ways false refl h)
+
+found_evaluated : (at : Option Name) (l : List Pair) → is_own (found at l).answer ≡ true
 found_evaluated at [] = refl
 found_evaluated at (p ∷ l) = refl
 
-went_evaluated : (kind : Kind) (at : Option Name) (l : List Pair) → is_evaluated (went kind at l).answer ≡ true
+went_evaluated : (kind : Kind) (at : Option Name) (l : List Pair) → is_own (went kind at l).answer ≡ true
 went_evaluated kind at [] = refl
 went_evaluated kind at (p ∷ l) = refl
 
-put_evaluated : (kind : Kind) (at then_at : Option Name) (key value : List ℕ) (l : List Pair) → is_evaluated (put_unless kind at then_at key value l).answer ≡ true
+put_evaluated : (kind : Kind) (at then_at : Option Name) (key value : List ℕ) (l : List Pair) → is_own (put_unless kind at then_at key value l).answer ≡ true
 put_evaluated kind at then_at key value [] = refl
 put_evaluated kind at then_at key value (p ∷ l) = refl
 
-deleted_evaluated : (kind : Kind) (at : Option Name) (l : List Pair) → is_evaluated (deleted kind at l).answer ≡ true
+deleted_evaluated : (kind : Kind) (at : Option Name) (l : List Pair) → is_own (deleted kind at l).answer ≡ true
 deleted_evaluated kind at [] = refl
 deleted_evaluated kind at (p ∷ l) = refl
 
-place_evaluated : (kind : Kind) (cursor : ℕ) (value : List ℕ) (at : Option Name) (pairs : List Pair) → early_of kind (CPutCur cursor value) at pairs ≡ None → is_evaluated (put_at_place at value).answer ≡ true
+place_evaluated : (kind : Kind) (cursor : ℕ) (value : List ℕ) (at : Option Name) (pairs : List Pair) → early_of kind (CPutCur cursor value) at pairs ≡ None → is_own (put_at_place at value).answer ≡ true
 place_evaluated kind cursor value None pairs h = absurd (cc (h))
 place_evaluated kind cursor value (Some n) pairs h = refl
 
-concluded_evaluated : (kind : Kind) (call : Call) (at : Option Name) (pairs taken : List Pair) → MayWait call → early_of kind call at pairs ≡ None → is_evaluated (conclude kind call at taken).answer ≡ true
+concluded_evaluated : (kind : Kind) (call : Call) (at : Option Name) (pairs taken : List Pair) → MayWait call → early_of kind call at pairs ≡ None → is_own (conclude kind call at taken).answer ≡ true
 concluded_evaluated kind (Get db key rmw) at pairs taken may h = found_evaluated at taken
 concluded_evaluated kind (GetBoth db key value rmw) at pairs taken may h = found_evaluated at (tested_for kind value taken)
 concluded_evaluated kind (Put db key value mode) at pairs taken may h = put_evaluated kind at at key value taken
@@ -309,59 +321,67 @@ pub record IsLost (kind : Kind) (call : Call) (at : Option Name) (pairs : List P
   pub early : early_of kind call at pairs ≡ Some NoPosition
   pub is : evaluation kind call at pairs ≡ says NoPosition at
 
-pub comes_evaluated : (kind : Kind) (call : Call) (at : Option Name) (pairs : List Pair) → MayWait call → (is_evaluated (evaluation kind call at pairs).answer ≡ true) ⊎ IsLost kind call at pairs
+pub comes_evaluated : (kind : Kind) (call : Call) (at : Option Name) (pairs : List Pair) → MayWait call → (is_own (evaluation kind call at pairs).answer ≡ true) ⊎ IsLost kind call at pairs
 comes_evaluated kind call at pairs may = by (early_is kind call at pairs)
   where
     taken : List Pair
     taken = seen kind (look_of kind call at).way (look_of kind call at).range pairs
 
-    by : IsEarly (early_of kind call at pairs) at → (is_evaluated (evaluation kind call at pairs).answer ≡ true) ⊎ IsLost kind call at pairs
-    by (inl e) = inl (ap (λ (v : Evaluated). is_evaluated v.answer) (evaluation_early kind call at pairs None e) ∙ concluded_evaluated kind call at pairs taken may e)
-    by (inr (inl p)) = inl (ap (λ (v : Evaluated). is_evaluated v.answer) (evaluation_early kind call at pairs (Some KeyEmpty) p.2))
+    by : IsEarly (early_of kind call at pairs) at → (is_own (evaluation kind call at pairs).answer ≡ true) ⊎ IsLost kind call at pairs
+    by (inl e) = inl (ap (λ (v : Evaluated). is_own v.answer) (evaluation_early kind call at pairs None e) ∙ concluded_evaluated kind call at pairs taken may e)
+    by (inr (inl p)) = inl (ap (λ (v : Evaluated). is_own v.answer) (evaluation_early kind call at pairs (Some KeyEmpty) p.2))
     by (inr (inr p)) = inr (record { none = p.1; early = p.0; is = evaluation_early kind call at pairs (Some NoPosition) p.0 })
+
+-- in its own database no call answers with another one's record
+pub own_is_none : (kind : Kind) (call : Call) (at : Option Name) (pairs : List Pair) (key primary_key value : List ℕ) → MayWait call → (evaluation kind call at pairs).answer ≡ IndexRec key primary_key value → ⊥
+own_is_none kind call at pairs key primary_key value may e = by (comes_evaluated kind call at pairs may)
+  where
+    by : (is_own (evaluation kind call at pairs).answer ≡ true) ⊎ IsLost kind call at pairs → ⊥
+    by (inl own) = both_ways (is_own (evaluation kind call at pairs).answer) (ap is_own e) own
+    by (inr lost) = let k = sym (ap (λ (v : Evaluated). v.answer) lost.is) ∙ e in absurd (cc (k))
 
 -- ---- where a call leaves its cursor
 
 -- where it stood; or at the first record that was taken; or at the name of a change
-abbrev pub IsPlaceOf : Kind → Option Name → List Pair → List RecordChange → Name → Type 0
-IsPlaceOf kind at taken changes n = (at ≡ Some n) ⊎ (((p : Pair) × IsFirst p taken × (name_of kind p ≡ n)) ⊎ ((c : RecordChange) × IsAmong c changes × (changed_name c ≡ n)))
+abbrev pub IsPlaceOf : Type 0 → Kind → Option Name → List Pair → List RecordChange → Name → Type 0
+IsPlaceOf P kind at taken changes n = (at ≡ Some n) ⊎ (((p : Pair) × IsFirst p taken × (name_of kind p ≡ n)) ⊎ ((c : RecordChange) × IsAmong c changes × (changed_name c ≡ n) × P))
 
-found_place : (kind : Kind) (at : Option Name) (l taken : List Pair) (n : Name) → (found at l).place ≡ Some n → IsPlaceOf kind at taken (found at l).changes n
-found_place kind at [] taken n e = inl e
-found_place kind at (p ∷ l) taken n e = inl e
+found_place : (P : Type 0) (kind : Kind) (at : Option Name) (l taken : List Pair) (n : Name) → (found at l).place ≡ Some n → IsPlaceOf P kind at taken (found at l).changes n
+found_place P kind at [] taken n e = inl e
+found_place P kind at (p ∷ l) taken n e = inl e
 
-deleted_place : (kind : Kind) (at : Option Name) (l : List Pair) (n : Name) → (deleted kind at l).place ≡ Some n → IsPlaceOf kind at l (deleted kind at l).changes n
-deleted_place kind at [] n e = inl e
-deleted_place kind at (p ∷ l) n e = inl e
+deleted_place : (P : Type 0) (kind : Kind) (at : Option Name) (l : List Pair) (n : Name) → (deleted kind at l).place ≡ Some n → IsPlaceOf P kind at l (deleted kind at l).changes n
+deleted_place P kind at [] n e = inl e
+deleted_place P kind at (p ∷ l) n e = inl e
 
 some_name : (m n : Name) → Some m ≡ Some n → m ≡ n
 some_name m n e = cc (e)
 
-put_place : (kind : Kind) (at : Option Name) (key value : List ℕ) (l : List Pair) (n : Name) → (put_unless kind at at key value l).place ≡ Some n → IsPlaceOf kind at l (put_unless kind at at key value l).changes n
-put_place kind at key value [] n e = inl e
-put_place kind at key value (p ∷ l) n e = inl e
+put_place : (P : Type 0) (kind : Kind) (at : Option Name) (key value : List ℕ) (l : List Pair) (n : Name) → (put_unless kind at at key value l).place ≡ Some n → IsPlaceOf P kind at l (put_unless kind at at key value l).changes n
+put_place P kind at key value [] n e = inl e
+put_place P kind at key value (p ∷ l) n e = inl e
 
-cput_place : (kind : Kind) (at : Option Name) (key value : List ℕ) (l : List Pair) (n : Name) → (put_unless kind at (Some (name_of kind (key, value))) key value l).place ≡ Some n
-    → IsPlaceOf kind at l (put_unless kind at (Some (name_of kind (key, value))) key value l).changes n
-cput_place kind at key value [] n e = inr (inr (set kind key value, inl refl, some_name (name_of kind (key, value)) n e))
-cput_place kind at key value (p ∷ l) n e = inl e
+cput_place : (P : Type 0) → P → (kind : Kind) (at : Option Name) (key value : List ℕ) (l : List Pair) (n : Name) → (put_unless kind at (Some (name_of kind (key, value))) key value l).place ≡ Some n
+    → IsPlaceOf P kind at l (put_unless kind at (Some (name_of kind (key, value))) key value l).changes n
+cput_place P its kind at key value [] n e = inr (inr (set kind key value, inl refl, some_name (name_of kind (key, value)) n e, its))
+cput_place P its kind at key value (p ∷ l) n e = inl e
 
-went_place : (kind : Kind) (motion : Motion) (at : Option Name) (l taken : List Pair) (n : Name) → tested kind motion taken ≡ l → (went kind at l).place ≡ Some n → IsPlaceOf kind at taken (went kind at l).changes n
-went_place kind motion at [] taken n e h = inl h
-went_place kind motion at (p ∷ l) taken n e h = inr (inl (p, tested_first kind motion taken p (l, e), some_name (name_of kind p) n h))
+went_place : (P : Type 0) (kind : Kind) (motion : Motion) (at : Option Name) (l taken : List Pair) (n : Name) → tested kind motion taken ≡ l → (went kind at l).place ≡ Some n → IsPlaceOf P kind at taken (went kind at l).changes n
+went_place P kind motion at [] taken n e h = inl h
+went_place P kind motion at (p ∷ l) taken n e h = inr (inl (p, tested_first kind motion taken p (l, e), some_name (name_of kind p) n h))
 
-stays_place : (kind : Kind) (at : Option Name) (value : List ℕ) (taken : List Pair) (n : Name) → (put_at_place at value).place ≡ Some n → IsPlaceOf kind at taken (put_at_place at value).changes n
-stays_place kind None value taken n e = inl e
-stays_place kind (Some m) value taken n e = inl e
+stays_place : (P : Type 0) (kind : Kind) (at : Option Name) (value : List ℕ) (taken : List Pair) (n : Name) → (put_at_place at value).place ≡ Some n → IsPlaceOf P kind at taken (put_at_place at value).changes n
+stays_place P kind None value taken n e = inl e
+stays_place P kind (Some m) value taken n e = inl e
 
-pub place_is : (kind : Kind) (call : Call) (at : Option Name) (taken : List Pair) (n : Name) → MayWait call → (conclude kind call at taken).place ≡ Some n → IsPlaceOf kind at taken (conclude kind call at taken).changes n
-place_is kind (Get db key rmw) at taken n may e = found_place kind at taken taken n e
-place_is kind (GetBoth db key value rmw) at taken n may e = found_place kind at (tested_for kind value taken) taken n e
-place_is kind (Put db key value mode) at taken n may e = put_place kind at key value taken n e
-place_is kind (Delete db key) at taken n may e = deleted_place kind at taken n e
+pub place_is : (kind : Kind) (call : Call) (at : Option Name) (taken : List Pair) (n : Name) → MayWait call → (conclude kind call at taken).place ≡ Some n → IsPlaceOf (IsPut call) kind at taken (conclude kind call at taken).changes n
+place_is kind (Get db key rmw) at taken n may e = found_place (IsPut (Get db key rmw)) kind at taken taken n e
+place_is kind (GetBoth db key value rmw) at taken n may e = found_place (IsPut (GetBoth db key value rmw)) kind at (tested_for kind value taken) taken n e
+place_is kind (Put db key value mode) at taken n may e = put_place (IsPut (Put db key value mode)) kind at key value taken n e
+place_is kind (Delete db key) at taken n may e = deleted_place (IsPut (Delete db key)) kind at taken n e
 place_is kind (Count cursor) at taken n may e = inl e
-place_is kind (Cur cursor motion rmw) at taken n may e = went_place kind motion at (tested kind motion taken) taken n refl e
-place_is kind (CPutCur cursor value) at taken n may e = stays_place kind at value taken n e
-place_is kind (CDel cursor) at taken n may e = deleted_place kind at taken n e
-place_is kind (CPut cursor key value mode) at taken n may e = cput_place kind at key value taken n e
+place_is kind (Cur cursor motion rmw) at taken n may e = went_place (IsPut (Cur cursor motion rmw)) kind motion at (tested kind motion taken) taken n refl e
+place_is kind (CPutCur cursor value) at taken n may e = stays_place (IsPut (CPutCur cursor value)) kind at value taken n e
+place_is kind (CDel cursor) at taken n may e = deleted_place (IsPut (CDel cursor)) kind at taken n e
+place_is kind (CPut cursor key value mode) at taken n may e = cput_place (IsPut (CPut cursor key value mode)) (λ index. refl) kind at key value taken n e
 place_is kind call at taken n may e = absurd may

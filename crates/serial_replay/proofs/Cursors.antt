@@ -22,7 +22,7 @@ use Rattle.standing_laws.proofs.Among.{IsAmong, its_session, own_found}
 use Rattle.serial_replay.specs.Replay.{AnsweredCall, Positions, name_on, is_evaluated, told_of, with_told, is_of_cursors, is_on_records, cursor_of, nowhere, position_of, positions_after}
 use Rattle.serial_replay.proofs.Stores.{same_number}
 use Rattle.serial_replay.proofs.Places.{found_with, found_without, other_session}
-use Rattle.serial_replay.proofs.Keeping.{Said, IsSerAs, IsSerial, IsRepeatable, IsShutPlace, place_kept, serial_kept, repeatable_kept, Follows, positions_by, call_by, AreWhere, AreShutPlaces, KeepsOf, KeepsPlaces, EachBut, IsKnown}
+use Rattle.serial_replay.proofs.Keeping.{Said, IsSerAs, IsSerial, IsRepeatable, IsShutPlace, well_same, place_kept, serial_kept, repeatable_kept, Follows, positions_by, call_by, AreWhere, AreShutPlaces, KeepsOf, KeepsPlaces, EachBut, IsKnown}
 use Rattle.serial_replay.proofs.Quiet.{IsQuiet, as_before, stable, kept, ground_quiet, keeps_quiet, known_quiet, same_locks}
 use Rattle.serial_replay.proofs.Told.{all_push, all_each, map_push, calls_push_its, follows_push, positions_push, numbered_le, ground_told, each_told}
 use Rattle.serial_replay.proofs.Replies.{auto_untold, is_told}
@@ -73,7 +73,7 @@ module _ (call : Call) (st : Standing) (session : ℕ) (ps : List Place) (told :
     told_now = record { txn = a.txn; call = call; db = name_on (target_of st a.session call); answer = answer; own = changes_named st (st.own a.txn.0) }
 
     abbrev s : Said
-    s = record { db = 0; base = ([], Plain); call = call; at = None; came = says Done None; before = st.own a.txn.0; closed = [] }
+    s = record { db = 0; base = ([], Plain, None); call = call; at = None; came = says Done None; answer = Done; changes = []; before = st.own a.txn.0; closed = [] }
 
     is_its : told_now ≡ call_by new a.txn s
     is_its = ap₂ (λ (db : List ℕ) (x : Answer). record { txn = a.txn; call = call; db = db; answer = x; own = changes_named st (st.own a.txn.0) })
@@ -94,12 +94,12 @@ module _ (call : Call) (st : Standing) (session : ℕ) (ps : List Place) (told :
           ∙ sym (ap (λ (f : Positions). f cursor) (positions_push k.said nowhere s));
       ser = λ e. all_push (IsSerial new a.txn) k.said s
           (all_each (IsSerial st a.txn) (IsSerial new a.txn)
-          (λ r h. serial_kept a.txn a.level st new (stable st new told sound quiet) (kept st new told sound quiet a.txn a.level (same_locks a.txn st new (λ x. refl))) known.ground.store known.ground.store e r h) k.said (k.ser e))
-          (subst (λ (b : Bool). IsSerAs b new a.txn s) (sym of_cursors) refl);
+          (λ r h. serial_kept a.txn a.level st new (stable st new told sound quiet) (kept st new told sound quiet a.txn a.level (same_locks a.txn st new (λ x. refl))) known.ground.well (well_same st new refl refl refl known.ground.well) e r h) k.said (k.ser e))
+          (subst (λ (b : Bool). IsSerAs b new a.txn s) (sym of_cursors) (refl, refl, refl));
       places = λ own e cursor q f n h. by own e q n h (old cursor q (found_here cursor q f));
       repeatable = λ e. all_push (IsRepeatable new a.txn) k.said s
           (all_each (IsRepeatable st a.txn) (IsRepeatable new a.txn)
-          (λ r h. repeatable_kept a.txn a.level st new (stable st new told sound quiet) (kept st new told sound quiet a.txn a.level (same_locks a.txn st new (λ x. refl))) known.ground.store known.ground.store r r.came.answer h) k.said
+          (λ r h. repeatable_kept a.txn a.level st new (stable st new told sound quiet) (kept st new told sound quiet a.txn a.level (same_locks a.txn st new (λ x. refl))) known.ground.well (well_same st new refl refl refl known.ground.well) r r.answer h) k.said
           (k.repeatable e))
           tt;
     }
@@ -109,7 +109,7 @@ module _ (call : Call) (st : Standing) (session : ℕ) (ps : List Place) (told :
         by own e q n h (inl p) =
             let shut = subst (AreShutPlaces st a.txn) its_own (k.places own e) in
             subst (λ (d : ℕ). IsShutPlace new a.txn d n) (sym p.3)
-            (place_kept a.txn a.level st new (stable st new told sound quiet) (kept st new told sound quiet a.txn a.level (same_locks a.txn st new (λ x. refl))) known.ground.store known.ground.store e p.1.db n (shut p.0 p.1 p.2 n (sym p.4 ∙ h)))
+            (place_kept a.txn a.level st new (stable st new told sound quiet) (kept st new told sound quiet a.txn a.level (same_locks a.txn st new (λ x. refl))) known.ground.well (well_same st new refl refl refl known.ground.well) e p.1.db n (shut p.0 p.1 p.2 n (sym p.4 ∙ h)))
 
     others : EachBut a.txn new told st.actives
     others b k apart keep =

@@ -10,7 +10,7 @@ use Rattle.waits_for.specs.Cycles.{is_in}
 use Rattle.lock_table.specs.Locks.{lock_of}
 use Rattle.lock_mgr.specs.Deadlock.{HasNoCycle, AreVictims}
 use Rattle.store_model.specs.declared.call.Call.{Call}
-use Rattle.store_model.specs.declared.call.Call.TheVariants.{Begin, Commit, Abort, List as Lists, Create, Remove, Rename, Truncate, Get, GetBoth, Put, Delete, Open, Close, Dup, Count, Cur, CPutCur, CDel, CPut}
+use Rattle.store_model.specs.declared.call.Call.TheVariants.{Begin, Commit, Abort, List as Lists, Create, CreateIndex, Remove, Rename, Truncate, Get, GetBoth, Put, Delete, Open, Close, Dup, Count, Cur, CPutCur, CDel, CPut}
 use Rattle.store_model.specs.declared.change.Change.{Change}
 use Rattle.store_model.specs.declared.record_change.RecordChange.{RecordChange}
 use Rattle.store_model.specs.declared.need.Need.{Need}
@@ -27,7 +27,7 @@ use Rattle.je_answers.specs.declared.active.Active.{Active}
 use Rattle.je_answers.specs.declared.wait.Wait.{Wait}
 use Rattle.store_model.specs.declared.place.Place.{Place}
 use Rattle.je_answers.specs.Standing.{LockState, Standing, place_at, active_of, wait_of, without_wait}
-use Rattle.je_answers.specs.Views.{Target, target_of, changes_on, changes_named, needs_in, outcome_of}
+use Rattle.je_answers.specs.Views.{Target, target_of, changes_with, with_names, changes_named, needs_in, outcome_of}
 use Rattle.je_answers.specs.Refusals.{waits_refusal, early_refusal, late_refusal, number_refusal}
 use Rattle.je_answers.specs.Locking.{record_of, all_got, granted_part, first_blocked, owner_before, released, waits_in}
 use Rattle.je_answers.specs.Events.{auto_active, begun, asking, told_in, queues_before, locks_before, resumed, IsWaiting, IsStopped, IsTaken, IsOn, IsRun, IsPerformed, IsEvaluated, IsCallAnswered, IsReady, IsResumed, IsAnswered}
@@ -92,7 +92,7 @@ module _ (st : Standing) (a : Active) (line : ℕ) (call : Call) (g : Target) (a
       (sound_back st.last_txn st.actives st.own st.places st.waiting (state (all_got a.txn ns st.locks.at) st.locks.pending) a.level a.txn (got_sound ns got)).tables
 
   fate_free : (fate : Fate) (old : Standing) → IsFree old → first_blocked a.txn (needs_in st a call g) st.locks.at ≡ None → IsFree (after_fate fate old st a call g (outcome_of st a call g))
-  fate_free Succeeds old before got = closed_free a.is_auto a (changes_on g (outcome_of st a call g).changes) (with_outcome a call g (outcome_of st a call g) (answered a call g st)) (locks_queues (needs_in st a call g) got) (locks_free (needs_in st a call g) got)
+  fate_free Succeeds old before got = closed_free a.is_auto a (with_names (changes_with st a g (outcome_of st a call g).changes)) (with_outcome a call g (outcome_of st a call g) (answered a call g st)) (locks_queues (needs_in st a call g) got) (locks_free (needs_in st a call g) got)
   fate_free IsRefused old before got = closed_free a.is_auto a [] (answered a call g st) (locks_queues (needs_in st a call g) got) (locks_free (needs_in st a call g) got)
   fate_free Faults old before got = before
 
@@ -179,6 +179,7 @@ performed_free Commit limit st session line answer vs r free untold number is = 
 performed_free Abort limit st session line answer vs r free untold number is = if_any_free (active_of session st.actives) st (queues_of st.locks r.sound.tables) free
 performed_free Lists limit st session line answer vs r free untold number is = same_free st (drawn_by (active_of session st.actives) st) (drawn_locks (active_of session st.actives) st) free
 performed_free (Create db kind) limit st session line answer vs r free untold number is = catalog_free (fate_of answer) (evaluation (Create db kind) st.store).changes (active_of session st.actives) st free
+performed_free (CreateIndex db index) limit st session line answer vs r free untold number is = catalog_free (fate_of answer) (evaluation (CreateIndex db index) st.store).changes (active_of session st.actives) st free
 performed_free (Remove db) limit st session line answer vs r free untold number is = catalog_free (fate_of answer) (evaluation (Remove db) st.store).changes (active_of session st.actives) st free
 performed_free (Rename db to) limit st session line answer vs r free untold number is = catalog_free (fate_of answer) (evaluation (Rename db to) st.store).changes (active_of session st.actives) st free
 performed_free (Truncate db) limit st session line answer vs r free untold number is = catalog_free (fate_of answer) (evaluation (Truncate db) st.store).changes (active_of session st.actives) st free

@@ -15,7 +15,7 @@ use Rattle.store_model.specs.declared.isolation.Isolation.{Isolation}
 use Rattle.store_model.specs.declared.store.Database.{Database}
 use Rattle.store_model.specs.declared.store.Store.{Store}
 use Rattle.store_model.specs.declared.change.Change.{Change}
-use Rattle.store_model.specs.declared.change.Change.TheVariants.{Set, Unset, Make, Remove, Rename, Empty}
+use Rattle.store_model.specs.declared.change.Change.TheVariants.{Set, Unset, Make, MakeIndex, Remove, Rename, Empty}
 use Rattle.store_model.specs.declared.record_change.RecordChange.{RecordChange}
 use Rattle.store_model.specs.declared.record_change.RecordChange.TheVariants.{Set as SetRecord, Unset as UnsetRecord}
 use Rattle.store_model.specs.Store.{all_pairs_changed, all_changed, change_in, IsStore}
@@ -35,15 +35,16 @@ use Rattle.serial_replay.proofs.Changing.{name_in, IsNoneOf, unchanged, one_or_n
 use Rattle.serial_replay.proofs.Holding.{Holds, release_keeps, clash}
 use Rattle.serial_replay.proofs.Occupied.{IsWritten, of_db_is}
 use Rattle.serial_replay.proofs.Shut.{place}
-use Rattle.serial_replay.proofs.Stores.{Base, Numbers, base_in, pairs_in, base_at, pairs_at, IsFit, AreNumbered, all_base, all_pairs, all_right, numbered_all}
-use Rattle.serial_replay.proofs.Keeping.{occupied_at, IsStable, IsKept, own_same, fits_kept, keeps_kept, IsGround, EachBut, IsKnown}
+use Rattle.serial_replay.proofs.Stores.{Base, Numbers, base_in, pairs_in, base_at, pairs_at, IsFit, AreNumbered, all_base, all_pairs, AreOver, all_right, over_all, numbered_all}
+use Rattle.serial_replay.proofs.Keeping.{occupied_at, IsStable, stable_same, IsWell, IsKept, own_same, fits_kept, keeps_kept, IsGround, EachBut, IsKnown}
 
 -- ---- a commit changes records alone
 
-abbrev IsOfRecords : Change → Type 0
+abbrev pub IsOfRecords : Change → Type 0
 IsOfRecords (Set db at value) = Unit {0}
 IsOfRecords (Unset db at) = Unit {0}
 IsOfRecords (Make db kind) = ⊥
+IsOfRecords (MakeIndex db index) = ⊥
 IsOfRecords (Remove db) = ⊥
 IsOfRecords (Rename db to) = ⊥
 IsOfRecords (Empty db) = ⊥
@@ -64,20 +65,22 @@ named_of_records : (st : Standing) (cs : List (ℕ × RecordChange)) → AllByRe
 named_of_records st [] = tt
 named_of_records st (c ∷ cs) = append_records (changes_in _ c.1) (changes_named st cs) (in_of_records _ c.1) (named_of_records st cs)
 
-same_numbers : (changes : List Change) (last : ℕ) (numbers : Numbers) → AllByRecursion IsOfRecords changes → all_numbered changes last numbers ≡ numbers
+pub same_numbers : (changes : List Change) (last : ℕ) (numbers : Numbers) → AllByRecursion IsOfRecords changes → all_numbered changes last numbers ≡ numbers
 same_numbers [] last numbers h = refl
 same_numbers (Set db at value ∷ changes) last numbers h = same_numbers changes (last + made_by (Set db at value ∷ [])) numbers h.1
 same_numbers (Unset db at ∷ changes) last numbers h = same_numbers changes (last + made_by (Unset db at ∷ [])) numbers h.1
 same_numbers (Make db kind ∷ changes) last numbers h = absurd h.0
+same_numbers (MakeIndex db index ∷ changes) last numbers h = absurd h.0
 same_numbers (Remove db ∷ changes) last numbers h = absurd h.0
 same_numbers (Rename db to ∷ changes) last numbers h = absurd h.0
 same_numbers (Empty db ∷ changes) last numbers h = absurd h.0
 
-none_made : (changes : List Change) → AllByRecursion IsOfRecords changes → made_by changes ≡ 0
+pub none_made : (changes : List Change) → AllByRecursion IsOfRecords changes → made_by changes ≡ 0
 none_made [] h = refl
 none_made (Set db at value ∷ changes) h = none_made changes h.1
 none_made (Unset db at ∷ changes) h = none_made changes h.1
 none_made (Make db kind ∷ changes) h = absurd h.0
+none_made (MakeIndex db index ∷ changes) h = absurd h.0
 none_made (Remove db ∷ changes) h = absurd h.0
 none_made (Rename db to ∷ changes) h = absurd h.0
 none_made (Empty db ∷ changes) h = absurd h.0
@@ -138,7 +141,7 @@ module _ (st : Standing) (a : Active) (cs : List (ℕ × RecordChange)) (new : S
   pairs_are n b e = ap₂ (λ (m : Numbers) (s : Store). pairs_in m n s) end.numbers end.store ∙ all_pairs st.numbers st.store cs st.store fit (λ m. refl) n b e
 
   pub stable_end : IsStable st new
-  stable_end t n b used e = same_base n ∙ e
+  stable_end = stable_same st new same_base
 
   -- a name that a change is of is written
   written : (n : ℕ) (b : Base) (x : Name) (c : RecordChange) → base_at n st ≡ Some b → IsAmong c (of_db n cs) → name_in b.1 c ≡ x → IsAmong (n, c) (st.own a.txn.0) × (changed_name c ≡ x)
@@ -214,15 +217,21 @@ module _ (st : Standing) (a : Active) (cs : List (ℕ × RecordChange)) (new : S
       (cases_Bool (t == a.txn.0))
 
   right_end : IsStore new.store
-  right_end = subst IsStore (sym end.store) (all_right (changes_named st cs) st.store ground.store)
+  right_end = subst IsStore (sym end.store) (all_right (changes_named st cs) st.store ground.well.store)
 
-  pub ground_end : IsGround new told
-  ground_end = record {
+  well_end : IsWell new
+  well_end = record {
     store = right_end;
     numbers = subst (λ (ds : List Database). AreNumbered new.numbers new.last_db ds) (sym (ap (λ (s : Store). s.databases) end.store))
         (subst (λ (m : Numbers). AreNumbered m new.last_db (all_changed (changes_named st cs) st.store).databases) (sym end.numbers)
         (subst (λ (l : ℕ). AreNumbered st.numbers l (all_changed (changes_named st cs) st.store).databases) (sym end.last_db)
-        (numbered_all st.numbers st.last_db st.store cs st.store ground.numbers)));
+        (numbered_all st.numbers st.last_db st.store cs st.store ground.well.numbers)));
+    over = subst AreOver (sym end.store) (over_all st.numbers st.store cs st.store ground.well.over);
+  }
+
+  pub ground_end : IsGround new told
+  ground_end = record {
+    well = well_end;
     fits = fits_end;
     last = subst (λ (l : ℕ). AllByRecursion (λ (c : AnsweredCall). c.txn.0 ≤ l) told) (sym end.last_txn) ground.last;
   }
@@ -231,7 +240,7 @@ module _ (st : Standing) (a : Active) (cs : List (ℕ × RecordChange)) (new : S
   known_end each = record {
     ground = ground_end;
     each = λ b k keep. let f = filter_among (λ (c : Active). not (c.session == a.session)) st.actives b (subst (IsAmong b) end.actives k) in
-        keeps_kept b.txn b.level b.session b.is_auto st new told told stable_end ground.store right_end (kept_end b.txn b.level (apart b f.0 f.1))
+        keeps_kept b.txn b.level b.session b.is_auto st new told told stable_end ground.well well_end (kept_end b.txn b.level (apart b f.0 f.1))
         (λ own_call cursor. ap (place_at cursor) (end.places b.session ∙ cond-false (b.session == a.session) [] (st.places b.session) (not_true (b.session == a.session) f.1))) (λ c i. own_same st new b.txn sound (ground.fits b.txn.0) stable_end c i)
         (own_others b.txn.0 (λ e. apart b f.0 f.1 (ap (λ (m : ℕ). txn_id m) e))) refl (each b f.0 (apart b f.0 f.1) keep);
   }

@@ -18,13 +18,16 @@ use Rattle.je_order.specs.declared.name.Name.{Name}
 use Rattle.store_model.specs.declared.place.Place.{Place}
 use Rattle.store_model.specs.Store.{database_of, change_in}
 use Rattle.store_model.specs.Records.{Evaluated}
+use Rattle.store_model.specs.Indexes.{Numbered, all_changes}
+use Rattle.store_model.specs.declared.isolation.Isolation.{Isolation}
+use Rattle.store_model.specs.declared.isolation.Isolation.TheVariants.{ReadUncommitted, ReadCommitted, RepeatableRead, Serializable}
 use Rattle.je_answers.specs.declared.active.Active.{Active}
-use Rattle.je_answers.specs.Standing.{active_of, Standing, place_at, database_at}
-use Rattle.je_answers.specs.Views.{Target, target, named_target, target_at, cursor_target, target_of, view_of, changes_at, changes_on, changes_in, changes_named, needs_in, outcome_of}
+use Rattle.je_answers.specs.Standing.{active_of, Standing, place_at, database_at, with_at}
+use Rattle.je_answers.specs.Views.{Target, seen_changes, with_numbers, target, named_target, target_at, cursor_target, target_of, view_of, changes_with, with_names, changes_in, changes_named, needs_in, outcome_of}
 use Rattle.je_answers.specs.Locking.{Queues, all_got, granted_part, first_blocked, given_back}
 use Rattle.je_answers.specs.Events.{locks_before}
 use Rattle.je_answers.specs.After.{faulted, ended, committed_if_any, moved, with_locks, answered, with_outcome, closed, marked_by, without_waits_of, with_waiting, txns_of, after_stop}
-use Rattle.standing_laws.specs.Right.{AreSound, MayWait, HoldsWrite, is_active}
+use Rattle.standing_laws.specs.Right.{AreSound, MayWait, HoldsWrite, is_active, txn_id}
 use Rattle.standing_laws.proofs.Among.{IsAmong, any_from, mapped_among}
 use Rattle.standing_laws.proofs.Steps.{state, sound_all_got, sound_back}
 use Rattle.standing_laws.proofs.Moves.{sound_own}
@@ -34,10 +37,11 @@ use Rattle.serial_replay.specs.Replay.{AnsweredCall, is_evaluated, name_on, with
 use Rattle.serial_replay.proofs.Holding.{all_got_keeps, wait_keeps}
 use Rattle.serial_replay.proofs.Stores.{by_number}
 use Rattle.serial_replay.proofs.Places.{moved_at, moved_is, IsAtCursor, IsTargetOf, stays_lost}
-use Rattle.serial_replay.proofs.Keeping.{KeepsPlaces, keeps, IsGround, IsKnown}
+use Rattle.serial_replay.proofs.Keeping.{see_with, KeepsPlaces, keeps, IsGround, IsKnown}
 use Rattle.serial_replay.proofs.Calls.{IsLost}
+use Rattle.serial_replay.proofs.Here.{HasRecords}
 use Rattle.serial_replay.proofs.Ending.{end_is, end_named, known_end}
-use Rattle.serial_replay.proofs.Calling.{IsCallOf, own_its, writes_held}
+use Rattle.serial_replay.proofs.Calling.{made, made_there, IsCallOf, own_its, writes_held}
 use Rattle.serial_replay.proofs.Told.{ground_call, others_call, known_call}
 use Rattle.serial_replay.proofs.Quiet.{IsQuiet, KeepsLocks, IsSameOne, as_before, known_quiet, same_locks, same_places, locks_with}
 use Rattle.serial_replay.proofs.Victims.{victims_keep}
@@ -61,38 +65,40 @@ faulted_known st told sound known = same_known st (faulted st) told sound (recor
 some_target : (x y : Target) → Some x ≡ Some y → x ≡ y
 some_target x y h = cc (h)
 
-named_facts : (st : Standing) (told : List AnsweredCall) (db : List ℕ) (g : Target) → IsGround st told → named_target st db ≡ Some g → (database_at g.db st ≡ Some g.database) × (g.at ≡ None)
-named_facts st told db g ground e = by (database_of db st.store) refl e
+-- its database, where its cursor stands in it, and that it is found there
+abbrev pub IsFactOf : Standing → ℕ → Option ℕ → Target → Type 0
+IsFactOf st session cursor g = (database_at g.db st ≡ Some g.database) × IsAtCursor (st.places session) cursor g × (target st.numbers st.store g.db g.at g.database ≡ g)
+
+named_facts : (st : Standing) (told : List AnsweredCall) (session : ℕ) (db : List ℕ) (g : Target) → IsGround st told → named_target st db ≡ Some g → IsFactOf st session None g
+named_facts st told session db g ground e = by (database_of db st.store) refl e
   where
-    by : (o : Option Database) → database_of db st.store ≡ o → option_map (target (st.numbers db) None) o ≡ Some g → (database_at g.db st ≡ Some g.database) × (g.at ≡ None)
+    by : (o : Option Database) → database_of db st.store ≡ o → option_map (target st.numbers st.store (st.numbers db) None) o ≡ Some g → IsFactOf st session None g
     by None f h = absurd (cc (h))
-    by (Some d) f h = subst (λ (x : Target). (database_at x.db st ≡ Some x.database) × (x.at ≡ None)) (some_target (target (st.numbers db) None d) g h) (by_number st.numbers st.last_db st.store db d ground.numbers f, refl)
+    by (Some d) f h = subst (IsFactOf st session None) (some_target (target st.numbers st.store (st.numbers db) None d) g h)
+        (by_number st.numbers st.last_db st.store db d ground.well.numbers f, refl, refl)
 
-cursor_facts : (st : Standing) (session cursor : ℕ) (g : Target) → cursor_target st session cursor ≡ Some g → (database_at g.db st ≡ Some g.database) × IsAtCursor (st.places session) (Some cursor) g
-cursor_facts st session cursor g e = by (place_at cursor (st.places session)) refl e
+cursor_facts : (st : Standing) (told : List AnsweredCall) (session cursor : ℕ) (g : Target) → IsGround st told → cursor_target st session cursor ≡ Some g → IsFactOf st session (Some cursor) g
+cursor_facts st told session cursor g ground e = by (place_at cursor (st.places session)) refl e
   where
-    Facts : Target → Type 0
-    Facts x = (database_at x.db st ≡ Some x.database) × IsAtCursor (st.places session) (Some cursor) x
-
-    found : (p : Place) → place_at cursor (st.places session) ≡ Some p → (o : Option Database) → database_at p.db st ≡ o → option_map (target p.db p.at) o ≡ Some g → Facts g
+    found : (p : Place) → place_at cursor (st.places session) ≡ Some p → (o : Option Database) → database_at p.db st ≡ o → option_map (target st.numbers st.store p.db p.at) o ≡ Some g → IsFactOf st session (Some cursor) g
     found p f None i h = absurd (cc (h))
-    found p f (Some d) i h = subst (λ (x : Target). (database_at x.db st ≡ Some x.database) × IsAtCursor (st.places session) (Some cursor) x) (some_target (target p.db p.at d) g h) (i, (p, f, refl, refl))
+    found p f (Some d) i h = subst (IsFactOf st session (Some cursor)) (some_target (target st.numbers st.store p.db p.at d) g h) (i, (p, f, refl, refl), refl)
 
-    by : (o : Option Place) → place_at cursor (st.places session) ≡ o → target_at st o ≡ Some g → Facts g
+    by : (o : Option Place) → place_at cursor (st.places session) ≡ o → target_at st o ≡ Some g → IsFactOf st session (Some cursor) g
     by None f h = absurd (cc (h))
     by (Some p) f h = found p f (database_at p.db st) refl h
 
 pub target_facts : (st : Standing) (told : List AnsweredCall) (session : ℕ) (call : Call) (g : Target) → MayWait call → IsGround st told → target_of st session call ≡ Some g
-    → (database_at g.db st ≡ Some g.database) × IsAtCursor (st.places session) (cursor_of call) g
-target_facts st told session (Get db key rmw) g may ground e = named_facts st told db g ground e
-target_facts st told session (GetBoth db key value rmw) g may ground e = named_facts st told db g ground e
-target_facts st told session (Put db key value mode) g may ground e = named_facts st told db g ground e
-target_facts st told session (Delete db key) g may ground e = named_facts st told db g ground e
-target_facts st told session (Count cursor) g may ground e = cursor_facts st session cursor g e
-target_facts st told session (Cur cursor motion rmw) g may ground e = cursor_facts st session cursor g e
-target_facts st told session (CPutCur cursor value) g may ground e = cursor_facts st session cursor g e
-target_facts st told session (CDel cursor) g may ground e = cursor_facts st session cursor g e
-target_facts st told session (CPut cursor key value mode) g may ground e = cursor_facts st session cursor g e
+    → IsFactOf st session (cursor_of call) g
+target_facts st told session (Get db key rmw) g may ground e = named_facts st told session db g ground e
+target_facts st told session (GetBoth db key value rmw) g may ground e = named_facts st told session db g ground e
+target_facts st told session (Put db key value mode) g may ground e = named_facts st told session db g ground e
+target_facts st told session (Delete db key) g may ground e = named_facts st told session db g ground e
+target_facts st told session (Count cursor) g may ground e = cursor_facts st told session cursor g ground e
+target_facts st told session (Cur cursor motion rmw) g may ground e = cursor_facts st told session cursor g ground e
+target_facts st told session (CPutCur cursor value) g may ground e = cursor_facts st told session cursor g ground e
+target_facts st told session (CDel cursor) g may ground e = cursor_facts st told session cursor g ground e
+target_facts st told session (CPut cursor key value mode) g may ground e = cursor_facts st told session cursor g ground e
 target_facts st told session call g may ground e = absurd may
 
 -- ---- a transaction ends without a commit
@@ -104,6 +110,13 @@ pub known_ended : (st : Standing) (a : Active) (told : List AnsweredCall) → Ar
 known_ended st a told sound there known = known_end st a [] (ended a st) told sound there known.ground (λ c k. no_own c (st.own a.txn.0) k) (end_is st a []) (λ b k apart. known.each b k)
 
 -- ---- a call on records, of a transaction that may run it
+
+-- locks change nothing that is seen
+seen_same : (level : Isolation) (a : Active) (at : Queues) (st : Standing) → seen_changes level (with_locks a at st) a.txn.0 ≡ seen_changes level st a.txn.0
+seen_same ReadUncommitted a at st = refl
+seen_same ReadCommitted a at st = refl
+seen_same RepeatableRead a at st = refl
+seen_same Serializable a at st = refl
 
 module _ (st : Standing) (a : Active) (call : Call) (g : Target) (told : List AnsweredCall) (may : MayWait call) (m : MayRun st a) (known : IsKnown st told) (on : IsTargetOf st a call g) where
   active : is_active a.txn st.actives ≡ true
@@ -155,15 +168,24 @@ module _ (st : Standing) (a : Active) (call : Call) (g : Target) (told : List An
     abbrev done : Standing
     done = with_outcome a call g (outcome_of st a call g) (answered a call g st)
 
-    step : IsCallOf st a call g told may m.right.sound known.ground on.here free done
-    step = record { store = refl; numbers = refl; last_db = refl; last_txn = refl; own = λ t. refl; places = λ session. refl; locks = λ r. refl }
+    step : IsCallOf st a call g told may m.right.sound known.ground on free done
+    step = record {
+      store = refl;
+      numbers = refl;
+      last_db = refl;
+      last_txn = refl;
+      own = λ t. ap (λ (l : List (ℕ × RecordChange)). with_at a.txn.0 (st.own a.txn.0 ++ with_numbers (all_changes g.over (g.db, g.database) g.indexes (see_with l) (outcome_of st a call g).changes)) st.own t)
+          (seen_same a.level a (all_got a.txn (needs_in st a call g) st.locks.at) st);
+      places = λ session. refl;
+      locks = λ r. refl;
+    }
 
     -- a transaction that goes on, and is told an answer of evaluation
-    pub known_done : a.is_auto ≡ false → name_on (target_of st a.session call) ≡ g.database.name → is_evaluated (outcome_of st a call g).answer ≡ true → (answer : Answer) → answer ≡ (outcome_of st a call g).answer
+    pub known_done : a.is_auto ≡ false → name_on (target_of st a.session call) ≡ g.database.name → is_evaluated (outcome_of st a call g).answer ≡ true → (answer : Answer) → answer ≡ (outcome_of st a call g).answer → (a.level ≡ RepeatableRead → HasRecords st a)
         → IsKnown done (told ++ record { txn = a.txn; call = call; db = name_on (target_of st a.session call); answer = answer; own = changes_named st (st.own a.txn.0) } ∷ [])
-    known_done auto named evaluated answer e =
+    known_done auto named evaluated answer e complete =
         subst (λ (x : Answer). IsKnown done (told ++ record { txn = a.txn; call = call; db = name_on (target_of st a.session call); answer = x; own = changes_named st (st.own a.txn.0) } ∷ [])) (sym e)
-        (known_call st a call g told may m.right.sound known.ground on free done step (there_is st a m) refl auto named evaluated known)
+        (known_call st a call g told may m.right.sound known.ground on free done step (there_is st a m) refl auto named evaluated complete known)
 
     -- where the cursor stands at no record nothing is as it was not
     pub known_lost : IsLost g.database.kind call g.at (view_of st a g) → IsKnown done told
@@ -174,10 +196,10 @@ module _ (st : Standing) (a : Active) (call : Call) (g : Target) (told : List An
         (λ own cursor. same_place b cursor (cases_Bool (b.session == a.session)))))
       where
         same_own : (t : ℕ) → done.own t ≡ st.own t
-        same_own t = ⊎_elim
-            (λ e. cond-true (t == a.txn.0) (st.own a.txn.0 ++ changes_at g.db (outcome_of st a call g).changes) (st.own t) e
-            ∙ (ap (λ (v : Evaluated). st.own a.txn.0 ++ changes_at g.db v.changes) lost.is ∙ (append-nil (st.own a.txn.0) ∙ ap st.own (sym (eqb-true t a.txn.0 e)))))
-            (λ e. cond-false (t == a.txn.0) (st.own a.txn.0 ++ changes_at g.db (outcome_of st a call g).changes) (st.own t) e)
+        same_own t = step.own t ∙ ⊎_elim
+            (λ e. cond-true (t == a.txn.0) (st.own a.txn.0 ++ with_numbers (made st a call g)) (st.own t) e
+            ∙ (ap (λ (v : Evaluated). st.own a.txn.0 ++ with_numbers (changes_with st a g v.changes)) lost.is ∙ (append-nil (st.own a.txn.0) ∙ ap st.own (sym (eqb-true t a.txn.0 e)))))
+            (λ e. cond-false (t == a.txn.0) (st.own a.txn.0 ++ with_numbers (made st a call g)) (st.own t) e)
             (cases_Bool (t == a.txn.0))
 
         moved_none : (cursor : ℕ) → place_at cursor (moved call (outcome_of st a call g).place (st.places a.session)) ≡ place_at cursor (st.places a.session)
@@ -204,42 +226,43 @@ module _ (st : Standing) (a : Active) (call : Call) (g : Target) (told : List An
         by false = known_locks (needs_in st a call g)
 
     -- a transaction of one call, which is committed and ends
-    held : AllByRecursion (λ c. HoldsWrite (given_back a.level a.txn (all_got a.txn (needs_in st a call g) st.locks.at)) a.txn (g.db, c)) (outcome_of st a call g).changes
-    held = writes_held st a call g told may m.right.sound known.ground on.here free done step
+    held : AllByRecursion (HoldsWrite (given_back a.level a.txn (all_got a.txn (needs_in st a call g) st.locks.at)) a.txn) (with_numbers (made st a call g))
+    held = writes_held st a call g told may m.right.sound known.ground on free done step
 
     sound_done : AreSound done
     sound_done =
-        let s = sound_own st.last_txn st.actives st.own st.places st.waiting (answered a call g st).locks a.txn g.db (outcome_of st a call g).changes sound_answered active held in
+        let s = sound_own st.last_txn st.actives st.own st.places st.waiting (answered a call g st).locks a.txn (with_numbers (made st a call g)) sound_answered active held in
         record {
           numbers = s.numbers;
           waits = s.waits;
           tables = s.tables;
           owners = s.owners;
-          own_active = s.own_active;
-          own_locked = s.own_locked;
+          own_active = λ n h. step.own n ∙ s.own_active n h;
+          own_locked = λ n. subst (AllByRecursion (HoldsWrite done.locks.at (txn_id n))) (sym (step.own n)) (s.own_locked n);
           places = λ session none. ⊎_elim
               (λ e. let its = sym none ∙ (ap (λ (n : ℕ). active_of n st.actives) (eqb-true session a.session e) ∙ m.its) in absurd (cc (its)))
               (λ e. cond-false (session == a.session) (moved call (outcome_of st a call g).place (st.places a.session)) (st.places session) e ∙ sound.places session none)
               (cases_Bool (session == a.session));
         }
 
-    -- its changes are named by the database that it is on
-    on_named : (cs : List RecordChange) → changes_on g cs ≡ changes_named done (changes_at g.db cs)
-    on_named [] = refl
-    on_named (c ∷ cs) =
-        ap (λ (l : List Change). change_in g.database.name c ∷ l) (on_named cs)
-        ∙ ap (λ (o : Option Database). changes_in o c ++ changes_named done (changes_at g.db cs)) (sym on.here)
+    -- its changes are named by the databases that they are in
+    all_named : (ms : List (Numbered × RecordChange)) → ((m : Numbered × RecordChange) → IsAmong m ms → database_at m.0.0 st ≡ Some m.0.1) → with_names ms ≡ changes_named done (with_numbers ms)
+    all_named [] there = refl
+    all_named (m ∷ ms) there =
+        ap (λ (l : List Change). change_in m.0.1.name m.1 ∷ l) (all_named ms (λ x i. there x (inr i)))
+        ∙ ap (λ (o : Option Database). changes_in o m.1 ++ changes_named done (with_numbers ms)) (sym (there m (inl refl)))
 
     among_behind : (xs ys : List (ℕ × RecordChange)) (c : ℕ × RecordChange) → IsAmong c ys → IsAmong c (xs ++ ys)
     among_behind [] ys c k = k
     among_behind (x ∷ xs) ys c k = inr (among_behind xs ys c k)
 
-    its : (c : ℕ × RecordChange) → IsAmong c (changes_at g.db (outcome_of st a call g).changes) → IsAmong c (done.own a.txn.0)
-    its c k = subst (IsAmong c) (sym (own_its st a call g told may m.right.sound known.ground on.here free done step)) (among_behind (st.own a.txn.0) (changes_at g.db (outcome_of st a call g).changes) c k)
+    its : (c : ℕ × RecordChange) → IsAmong c (with_numbers (made st a call g)) → IsAmong c (done.own a.txn.0)
+    its c k = subst (IsAmong c) (sym (own_its st a call g told may m.right.sound known.ground on free done step)) (among_behind (st.own a.txn.0) (with_numbers (made st a call g)) c k)
 
-    pub known_committed : IsKnown (ended a (committed_if_any (changes_on g (outcome_of st a call g).changes) done)) told
+    pub known_committed : IsKnown (ended a (committed_if_any (with_names (changes_with st a g (outcome_of st a call g).changes)) done)) told
     known_committed =
-        known_end done a (changes_at g.db (outcome_of st a call g).changes) (ended a (committed_if_any (changes_on g (outcome_of st a call g).changes) done)) told sound_done (there_is st a m)
+        known_end done a (with_numbers (made st a call g)) (ended a (committed_if_any (with_names (changes_with st a g (outcome_of st a call g).changes)) done)) told sound_done (there_is st a m)
         (ground_call st a call g told may m.right.sound known.ground on free done step) its
-        (end_named done a (changes_at g.db (outcome_of st a call g).changes) (changes_on g (outcome_of st a call g).changes) (on_named (outcome_of st a call g).changes))
+        (end_named done a (with_numbers (made st a call g)) (with_names (changes_with st a g (outcome_of st a call g).changes))
+        (all_named (made st a call g) (made_there st a call g told may m.right.sound known.ground on free)))
         (others_call st a call g told may m.right.sound known.ground on free done step (there_is st a m) (λ b k apart. known.each b k))

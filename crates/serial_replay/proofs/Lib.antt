@@ -16,12 +16,18 @@ pub mod EdgeOrder
 pub mod Shut
 -- Databases by name and by number, and how changes of records change a store.
 pub mod Stores
+-- Databases with their numbers, in rising order.
+pub mod NumberedLists
+-- What a call comes to through indexes.
+pub mod Through
 -- Where cursors stand, and where calls leave them.
 pub mod Places
 -- What holds of each transaction's calls, and of the environment that they were answered in.
 pub mod Keeping
 -- The calls on records, one by one.
 pub mod Calls
+-- A database as a transaction sees it.
+pub mod Here
 -- A transaction ends.
 pub mod Ending
 -- A call gets its locks and is evaluated.
@@ -34,6 +40,8 @@ pub mod Quiet
 pub mod Cursors
 -- Changes of the catalog.
 pub mod CatalogSteps
+-- An index is made and filled.
+pub mod Filling
 -- Which answers evaluation gives, and which it never gives.
 pub mod Replies
 -- A call that waits, and its victims that end.
@@ -42,6 +50,8 @@ pub mod Victims
 pub mod EventSteps
 -- Each event keeps what holds of the calls.
 pub mod EventsKeep
+-- Pairs of indexes, as transactions see them.
+pub mod SeenIndexes
 -- What is owed at a commit, and journals.
 pub mod Replaying
 -- Who waits for whom after each step of the locks.

@@ -11,10 +11,11 @@ use Rattle.je_order.specs.Transactions.{is_same_txn}
 use Rattle.store_model.specs.declared.kind.Kind.{Kind}
 use Rattle.store_model.specs.declared.record_change.RecordChange.{RecordChange}
 use Rattle.store_model.specs.Store.{Pair, name_of}
+use Rattle.store_model.specs.Indexes.{Numbered}
 use Rattle.store_model.specs.Needs.{changed_name}
 use Rattle.je_answers.specs.declared.active.Active.{Active}
 use Rattle.je_answers.specs.Standing.{Standing}
-use Rattle.je_answers.specs.Views.{Target, of_db, all_own, names_with, names_with_all, occupied}
+use Rattle.je_answers.specs.Views.{of_db, all_own, names_with, names_with_all, occupied_in}
 use Rattle.standing_laws.specs.Right.{AreSound, is_active, txn_id}
 use Rattle.standing_laws.proofs.Among.{IsAmong, among_append, among_first, among_second, among_filter, filter_among, among_map, mapped_among, any_some}
 use Rattle.serial_replay.proofs.Rising.{RisesBy, rises_put}
@@ -137,7 +138,7 @@ of_db_append n (d ∷ own) more = ⊎_elim
 
 -- ---- lists made of lists
 
-flat_is : {X Y : Type 0} (f : X → List Y) (xs : List X) (y : Y) → IsAmong y (flat_map f xs) → (x : X) × IsAmong x xs × IsAmong y (f x)
+pub flat_is : {X Y : Type 0} (f : X → List Y) (xs : List X) (y : Y) → IsAmong y (flat_map f xs) → (x : X) × IsAmong x xs × IsAmong y (f x)
 flat_is f [] y a = absurd a
 flat_is {X} {Y} f (x ∷ xs) y a = by (among_append (f x) (flat_map f xs) y a) (λ k. flat_is f xs y k)
   where
@@ -145,7 +146,7 @@ flat_is {X} {Y} f (x ∷ xs) y a = by (among_append (f x) (flat_map f xs) y a) (
     by (inl k) more = (x, inl refl, k)
     by (inr k) more = let r = more k in (r.0, inr r.1, r.2)
 
-flat_has : {X Y : Type 0} (f : X → List Y) (xs : List X) (x : X) (y : Y) → IsAmong x xs → IsAmong y (f x) → IsAmong y (flat_map f xs)
+pub flat_has : {X Y : Type 0} (f : X → List Y) (xs : List X) (x : X) (y : Y) → IsAmong x xs → IsAmong y (f x) → IsAmong y (flat_map f xs)
 flat_has f [] x y a b = absurd a
 flat_has f (z ∷ zs) x y (inl e) b = among_first (f z) (flat_map f zs) y (subst (λ w. IsAmong y (f w)) (sym e) b)
 flat_has f (z ∷ zs) x y (inr a) b = among_second (f z) (flat_map f zs) y (flat_has f zs x y a b)
@@ -160,22 +161,22 @@ owner_is_active st t c sound there = by (is_active (txn_id t) st.actives) refl
     by true e = let r = any_some (λ (a : Active). is_same_txn (txn_id t) a.txn) st.actives e in (r.0, r.1, sym (same_is (txn_id t) r.0.txn r.2))
     by false e = absurd (subst (IsAmong c) (sound.own_active t e) there)
 
-pub occupied_is : (st : Standing) (g : Target) (x : Name) → IsAmong x (occupied st g) → IsOccupied g.database.kind g.database.pairs st.own g.db x
-occupied_is st g x a = by (all_is (of_db g.db (all_own st)) x (map (name_of g.database.kind) g.database.pairs) a)
+pub occupied_is : (st : Standing) (d : Numbered) (x : Name) → IsAmong x (occupied_in st d) → IsOccupied d.1.kind d.1.pairs st.own d.0 x
+occupied_is st d x a = by (all_is (of_db d.0 (all_own st)) x (map (name_of d.1.kind) d.1.pairs) a)
   where
-    by : IsAmong x (map (name_of g.database.kind) g.database.pairs) ⊎ IsOneOf x (of_db g.db (all_own st)) → IsOccupied g.database.kind g.database.pairs st.own g.db x
-    by (inl k) = let r = mapped_among (name_of g.database.kind) g.database.pairs x k in inl (record { pair = r.0; there = r.1; named = r.2 })
-    by (inr k) = let f = flat_is (λ (b : Active). st.own b.txn.0) st.actives (g.db, k.0) (of_db_is g.db (all_own st) k.0 k.1) in inr (record { txn = f.0.txn.0; change = k.0; there = f.2; named = k.2 })
+    by : IsAmong x (map (name_of d.1.kind) d.1.pairs) ⊎ IsOneOf x (of_db d.0 (all_own st)) → IsOccupied d.1.kind d.1.pairs st.own d.0 x
+    by (inl k) = let r = mapped_among (name_of d.1.kind) d.1.pairs x k in inl (record { pair = r.0; there = r.1; named = r.2 })
+    by (inr k) = let f = flat_is (λ (b : Active). st.own b.txn.0) st.actives (d.0, k.0) (of_db_is d.0 (all_own st) k.0 k.1) in inr (record { txn = f.0.txn.0; change = k.0; there = f.2; named = k.2 })
 
-pub occupied_has : (st : Standing) (g : Target) (x : Name) → AreSound st → IsOccupied g.database.kind g.database.pairs st.own g.db x → IsAmong x (occupied st g)
-occupied_has st g x sound (inl r) = all_has (of_db g.db (all_own st)) x (map (name_of g.database.kind) g.database.pairs)
-    (subst (λ (n : Name). IsAmong n (map (name_of g.database.kind) g.database.pairs)) r.named (among_map (name_of g.database.kind) g.database.pairs r.pair r.there))
-occupied_has st g x sound (inr w) =
-    let a = owner_is_active st w.txn (g.db, w.change) sound w.there in
-    subst (λ (n : Name). IsAmong n (occupied st g)) w.named
-    (all_them (of_db g.db (all_own st)) w.change (map (name_of g.database.kind) g.database.pairs)
-    (of_db_has g.db (all_own st) w.change (flat_has (λ (b : Active). st.own b.txn.0) st.actives a.0 (g.db, w.change) a.1
-    (subst (λ (m : ℕ). IsAmong (g.db, w.change) (st.own m)) (sym (ap (λ (t : _). t.0) a.2)) w.there))))
+pub occupied_has : (st : Standing) (d : Numbered) (x : Name) → AreSound st → IsOccupied d.1.kind d.1.pairs st.own d.0 x → IsAmong x (occupied_in st d)
+occupied_has st d x sound (inl r) = all_has (of_db d.0 (all_own st)) x (map (name_of d.1.kind) d.1.pairs)
+    (subst (λ (n : Name). IsAmong n (map (name_of d.1.kind) d.1.pairs)) r.named (among_map (name_of d.1.kind) d.1.pairs r.pair r.there))
+occupied_has st d x sound (inr w) =
+    let a = owner_is_active st w.txn (d.0, w.change) sound w.there in
+    subst (λ (n : Name). IsAmong n (occupied_in st d)) w.named
+    (all_them (of_db d.0 (all_own st)) w.change (map (name_of d.1.kind) d.1.pairs)
+    (of_db_has d.0 (all_own st) w.change (flat_has (λ (b : Active). st.own b.txn.0) st.actives a.0 (d.0, w.change) a.1
+    (subst (λ (m : ℕ). IsAmong (d.0, w.change) (st.own m)) (sym (ap (λ (t : _). t.0) a.2)) w.there))))
 
 names_rise : (kind : Kind) (pairs : List Pair) → RisesBy (name_of kind) pairs → RisesBy (λ m. m) (map (name_of kind) pairs)
 names_rise kind [] up = tt
@@ -185,5 +186,5 @@ names_rise kind (p ∷ pairs) up = (all_names pairs up.0, names_rise kind pairs 
     all_names [] h = tt
     all_names (q ∷ ps) h = (h.0, all_names ps h.1)
 
-pub occupied_rises : (st : Standing) (g : Target) → RisesBy (name_of g.database.kind) g.database.pairs → RisesBy (λ m. m) (occupied st g)
-occupied_rises st g up = all_rises (of_db g.db (all_own st)) (map (name_of g.database.kind) g.database.pairs) (names_rise g.database.kind g.database.pairs up)
+pub occupied_rises : (st : Standing) (d : Numbered) → RisesBy (name_of d.1.kind) d.1.pairs → RisesBy (λ m. m) (occupied_in st d)
+occupied_rises st d up = all_rises (of_db d.0 (all_own st)) (map (name_of d.1.kind) d.1.pairs) (names_rise d.1.kind d.1.pairs up)

@@ -6,9 +6,10 @@ use Rattle.je_order.specs.declared.name.Name.{Name}
 use Rattle.store_model.specs.declared.call.Call.{Call}
 use Rattle.store_model.specs.declared.call.Call.TheVariants.{Get, GetBoth, Put, Delete, Open, Dup, Count, Cur, CPutCur, CDel, CPut}
 use Rattle.store_model.specs.declared.place.Place.{Place}
+use Rattle.store_model.specs.Refusals.{index_refusal}
 use Rattle.je_answers.specs.declared.active.Active.{Active}
 use Rattle.je_answers.specs.Standing.{Standing, active_of, place_at, database_at}
-use Rattle.je_answers.specs.Views.{Target}
+use Rattle.je_answers.specs.Views.{Target, target}
 use Rattle.je_answers.specs.After.{moved_to, moved}
 use Rattle.active_txns.specs.Marks.{HaveOwnSessions}
 use Rattle.standing_laws.specs.Right.{MayWait}
@@ -122,6 +123,8 @@ IsAtCursor ps (Some cursor) g = (p : Place) × (place_at cursor ps ≡ Some p) �
 pub record IsTargetOf (st : Standing) (a : Active) (call : Call) (g : Target) : Type 0 where
   pub here : database_at g.db st ≡ Some g.database
   pub its : IsAtCursor (st.places a.session) (cursor_of call) g
+  pub is : target st.numbers st.store g.db g.at g.database ≡ g
+  pub allowed : index_refusal call g.database.index ≡ None
 
 -- a cursor that stands at no record, and goes to none, stands where it stood
 pub stays_lost : (cursor : Option ℕ) (g : Target) (ps : List Place) (c : ℕ) → IsAtCursor ps cursor g → g.at ≡ None → place_at c (moved_at cursor None ps) ≡ place_at c ps

@@ -11,7 +11,6 @@ use Rattle.store_model.specs.declared.kind.Kind.{Kind}
 use Rattle.store_model.specs.declared.isolation.Isolation.{Isolation}
 use Rattle.store_model.specs.declared.need.Need.{Need}
 use Rattle.store_model.specs.declared.store.Store.{Store}
-use Rattle.store_model.specs.Store.{IsStore}
 use Rattle.store_model.specs.Reads.{at_name}
 use Rattle.je_answers.specs.declared.active.Active.{Active}
 use Rattle.je_answers.specs.Standing.{Standing, place_at}
@@ -20,8 +19,8 @@ use Rattle.standing_laws.specs.Right.{AreSound}
 use Rattle.standing_laws.proofs.Among.{IsAmong}
 use Rattle.serial_replay.specs.Replay.{AnsweredCall}
 use Rattle.serial_replay.proofs.Holding.{Sort, IsSort, Holds, all_got_keeps}
-use Rattle.serial_replay.proofs.Stores.{Numbers, base_in, pairs_in, base_at, pairs_at, IsFit, AreNumbered}
-use Rattle.serial_replay.proofs.Keeping.{occupied_at, IsStable, IsKept, own_same, fits_kept, KeepsOf, KeepsPlaces, keeps, keeps_kept, IsGround, IsKnown}
+use Rattle.serial_replay.proofs.Stores.{Numbers, base_in, pairs_in, base_at, pairs_at, IsFit}
+use Rattle.serial_replay.proofs.Keeping.{occupied_at, IsStable, stable_same, well_same, IsKept, own_same, fits_kept, KeepsOf, KeepsPlaces, keeps, keeps_kept, IsGround, IsKnown}
 use Rattle.serial_replay.proofs.Calling.{back_keeps, back_none}
 
 -- ---- what stays
@@ -68,7 +67,7 @@ module _ (st new : Standing) (told : List AnsweredCall) (sound : AreSound st) (q
   same_pairs n = ap₂ (λ (m : Numbers) (s : Store). pairs_in m n s) quiet.numbers quiet.store
 
   pub stable : IsStable st new
-  stable t n b used e = same_base n ∙ e
+  stable = stable_same st new same_base
 
   occupied_now : (n : ℕ) (k : Kind) (x : Name) → occupied_at new n k x → occupied_at st n k x
   occupied_now n k x (inl r) = inl (record { pair = r.pair; there = subst (IsAmong r.pair) (same_pairs n) r.there; named = r.named })
@@ -88,9 +87,7 @@ module _ (st new : Standing) (told : List AnsweredCall) (sound : AreSound st) (q
 
   pub ground_quiet : IsGround st told → IsGround new told
   ground_quiet ground = record {
-    store = subst IsStore (sym quiet.store) ground.store;
-    numbers = subst (λ (s : Store). AreNumbered new.numbers new.last_db s.databases) (sym quiet.store)
-        (subst (λ (m : Numbers). AreNumbered m new.last_db st.store.databases) (sym quiet.numbers) (subst (λ (l : ℕ). AreNumbered st.numbers l st.store.databases) (sym quiet.last_db) ground.numbers));
+    well = well_same st new quiet.store quiet.numbers quiet.last_db ground.well;
     fits = λ t. subst (AllByRecursion (IsFit new)) (sym (quiet.own t)) (fits_kept st new t sound (ground.fits t) stable);
     last = all_each (λ (c : AnsweredCall). c.txn.0 ≤ st.last_txn) (λ c. c.txn.0 ≤ new.last_txn) (λ c h. let k = quiet.last_txn in omega (arith, h, k)) told ground.last;
   }
@@ -98,7 +95,7 @@ module _ (st new : Standing) (told : List AnsweredCall) (sound : AreSound st) (q
   pub keeps_quiet : IsGround st told → (t : TxnId) (level : Isolation) (session : ℕ) (auto : Bool) → KeepsLocks t st new → (auto ≡ false → KeepsPlaces session st new) → KeepsOf st told t level session auto
       → KeepsOf new told t level session auto
   keeps_quiet ground t level session auto locks places k =
-      keeps_kept t level session auto st new told told stable ground.store (subst IsStore (sym quiet.store) ground.store) (kept t level locks) places (λ c i. own_same st new t sound (ground.fits t.0) stable c i) (quiet.own t.0) refl k
+      keeps_kept t level session auto st new told told stable ground.well (well_same st new quiet.store quiet.numbers quiet.last_db ground.well) (kept t level locks) places (λ c i. own_same st new t sound (ground.fits t.0) stable c i) (quiet.own t.0) refl k
 
   pub known_quiet : IsKnown st told → ((b : Active) → IsAmong b new.actives → keeps b.level ≡ true → GoesOn st new told b) → IsKnown new told
   known_quiet known on = record { ground = ground_quiet known.ground; each = λ b k keep. by b keep (on b k keep) }

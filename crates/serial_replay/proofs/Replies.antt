@@ -1,5 +1,6 @@
 -- Which answers evaluation gives, and which it never gives: refusals, waits and limits of the log.
 use Rattle.std.proofs.Common.{◌≡◌, ℕ, Bool, true, false, cond, ◌&&◌, ◌||◌, List, Option, None, Some, refl, ap, ◌∙◌, subst, is_some, nat_lt, nat_le, length}
+use Rattle.std.specs.List.{list_any}
 use Rattle.std.proofs.lemmas.Bool.{both_ways, and_right}
 use Rattle.je_order.specs.declared.txn_id.TxnId.{TxnId}
 use Rattle.je_order.specs.declared.limits.TheConstants.{KEY_LIMIT}
@@ -11,12 +12,14 @@ use Rattle.store_model.specs.declared.motion.Motion.{Motion}
 use Rattle.store_model.specs.declared.motion.Motion.TheVariants.{Key, Range as InRange, Both, BothRange}
 use Rattle.store_model.specs.declared.place.Place.{Place}
 use Rattle.store_model.specs.declared.call.Call.{Call}
-use Rattle.store_model.specs.declared.call.Call.TheVariants.{Begin, Commit, Abort, Create, Remove, Rename, Truncate, Get, GetBoth, Put, Delete, Open, Close, Dup as Duplicate, Count as Counts, Cur, CPutCur, CDel, CPut}
+use Rattle.store_model.specs.declared.call.Call.TheVariants.{Begin, Commit, Abort, Create, CreateIndex, Remove, Rename, Truncate, Get, GetBoth, Put, Delete, Open, Close, Dup as Duplicate, Count as Counts, Cur, CPutCur, CDel, CPut}
 use Rattle.store_model.specs.declared.answer.Answer.{Answer}
-use Rattle.store_model.specs.declared.answer.Answer.TheVariants.{Done, Rec, Count, NotFound, KeyExist, KeyEmpty, MustAbort, SessionWaits, NoTxn, InTxn, NoDatabase, NoCursor, NameTaken, TooMany, NotOnDuplicates, OnlyOnDuplicates, TooLong, LogFull, IdsEnded, Invalid}
+use Rattle.store_model.specs.declared.answer.Answer.TheVariants.{Done, Rec, IndexRec, Count, NotFound, KeyExist, KeyEmpty, MustAbort, SessionWaits, NoTxn, InTxn, NoDatabase, NoCursor, NameTaken, HasIndex, TooMany, ReadOnlyIndex, NotOnDuplicates, OnlyOnDuplicates, TooLong, LogFull, IdsEnded, Invalid}
 use Rattle.store_model.specs.declared.answer.Fault.{Fault}
+use Rattle.store_model.specs.declared.index.Index.{Index}
 use Rattle.store_model.specs.Store.{database_of}
-use Rattle.store_model.specs.Refusals.{or_refusal, kind_refusal, size_refusal, motion_refusal, pair_refusal, too_long, data_limit}
+use Rattle.store_model.specs.Indexes.{is_index_of}
+use Rattle.store_model.specs.Refusals.{or_refusal, is_primary, index_refusal, kind_refusal, size_refusal, motion_refusal, pair_refusal, too_long, data_limit}
 use Rattle.je_answers.specs.declared.active.Active.{Active}
 use Rattle.je_answers.specs.Standing.{Standing, active_of, place_at}
 use Rattle.je_answers.specs.Views.{Target, target_of}
@@ -71,6 +74,7 @@ of_abort call (Some a) r h = of_victim call a.deadlock r h
 of_txn : (call : Call) (o : Option Active) (r : Answer) → txn_refusal call o ≡ Some r → IsOther r
 of_txn (Begin level durability wait) (Some a) r h = plainly (InTxn a.txn) r refl refl h
 of_txn (Create db kind) (Some a) r h = plainly (InTxn a.txn) r refl refl h
+of_txn (CreateIndex db index) (Some a) r h = plainly (InTxn a.txn) r refl refl h
 of_txn (Remove db) (Some a) r h = plainly (InTxn a.txn) r refl refl h
 of_txn (Rename db to) (Some a) r h = plainly (InTxn a.txn) r refl refl h
 of_txn (Truncate db) (Some a) r h = plainly (InTxn a.txn) r refl refl h
@@ -115,9 +119,17 @@ of_size (CPutCur cursor value) kind r h = of_long (data_limit kind) value r h
 of_size (CPut cursor key value mode) kind r h = of_pair kind key value r h
 of_size call kind r h = none_is r h
 
+of_index : (call : Call) (o : Option Index) (r : Answer) → index_refusal call o ≡ Some r → IsOther r
+of_index (Put db key value mode) (Some index) r h = plainly ReadOnlyIndex r refl refl h
+of_index (CPutCur cursor value) (Some index) r h = plainly ReadOnlyIndex r refl refl h
+of_index (CPut cursor key value mode) (Some index) r h = plainly ReadOnlyIndex r refl refl h
+of_index call o r h = none_is r h
+
 of_target : (call : Call) (o : Option Target) (r : Answer) → target_refusal call o ≡ Some r → IsOther r
 of_target call None r h = none_is r h
-of_target call (Some g) r h = either (kind_refusal call g.database.kind) (size_refusal call g.database.kind) r h (of_kind call g.database.kind r) (of_size call g.database.kind r)
+of_target call (Some g) r h =
+    either (index_refusal call g.database.index) (or_refusal (kind_refusal call g.database.kind) (size_refusal call g.database.kind)) r h (of_index call g.database.index r)
+    (λ k. either (kind_refusal call g.database.kind) (size_refusal call g.database.kind) r k (of_kind call g.database.kind r) (of_size call g.database.kind r))
 
 of_no_database : (st : Standing) (db : List ℕ) (r : Answer) → database_refusal st db ≡ Some r → IsOther r
 of_no_database st db r h = unless (is_some (database_of db st.store)) NoDatabase r refl refl h
@@ -126,6 +138,7 @@ of_no_cursor : (cursor : ℕ) (places : List Place) (r : Answer) → cursor_refu
 of_no_cursor cursor places r h = unless (is_some (place_at cursor places)) NoCursor r refl refl h
 
 of_there : (st : Standing) (session : ℕ) (call : Call) (r : Answer) → there_refusal st session call ≡ Some r → IsOther r
+of_there st session (CreateIndex db index) r h = unless (is_primary (database_of index.primary st.store)) NoDatabase r refl refl h
 of_there st session (Remove db) r h = of_no_database st db r h
 of_there st session (Rename db to) r h = of_no_database st db r h
 of_there st session (Truncate db) r h = of_no_database st db r h
@@ -149,6 +162,9 @@ of_creation false full r h = when full (TooMany MOST_DATABASES) r refl refl h
 
 of_name : (st : Standing) (session : ℕ) (call : Call) (r : Answer) → name_refusal st session call ≡ Some r → IsOther r
 of_name st session (Create db kind) r h = of_creation (is_some (database_of db st.store)) (nat_le MOST_DATABASES (length st.store.databases)) r h
+of_name st session (CreateIndex db index) r h = of_creation (is_some (database_of db st.store)) (nat_le MOST_DATABASES (length st.store.databases)) r h
+of_name st session (Remove db) r h = when (list_any (is_index_of db) st.store.databases) HasIndex r refl refl h
+of_name st session (Truncate db) r h = when (list_any (is_index_of db) st.store.databases) HasIndex r refl refl h
 of_name st session (Rename db to) r h = when (is_some (database_of to st.store)) NameTaken r refl refl h
 of_name st session (Open cursor db) r h = when (is_some (place_at cursor (st.places session))) NameTaken r refl refl h
 of_name st session (Duplicate cursor to) r h = when (is_some (place_at to (st.places session))) NameTaken r refl refl h
@@ -190,6 +206,7 @@ limit_is (Some answer) r h = absurd (cc (h))
 pub evaluated_succeeds : (answer : Answer) → is_evaluated answer ≡ true → fate_of answer ≡ Succeeds
 evaluated_succeeds Done h = refl
 evaluated_succeeds (Rec key value) h = refl
+evaluated_succeeds (IndexRec key primary_key value) h = refl
 evaluated_succeeds (Count count) h = refl
 evaluated_succeeds NotFound h = refl
 evaluated_succeeds KeyExist h = refl

@@ -11,16 +11,20 @@ use Rattle.je_order.specs.declared.name.Name.{Name}
 use Rattle.je_order.proofs.Orderings.{name_exact, equal_from_test}
 use Rattle.store_model.specs.declared.store.Store.{Store}
 use Rattle.store_model.specs.declared.store.Database.{Database}
+use Rattle.store_model.specs.declared.index.Index.{Index}
+use Rattle.store_model.specs.declared.extract.Extract.{Extract}
 use Rattle.store_model.specs.declared.kind.Kind.{Kind}
+use Rattle.store_model.specs.declared.kind.Kind.TheVariants.{Plain, Dup}
 use Rattle.store_model.specs.declared.change.Change.{Change}
 use Rattle.store_model.specs.declared.record_change.RecordChange.{RecordChange}
 use Rattle.store_model.specs.declared.record_change.RecordChange.TheVariants.{Set, Unset}
 use Rattle.store_model.specs.Store.{Pair, named, name_of, proper, HasRisingNames, IsStore, database_of, pairs_changed, all_pairs_changed, with_pairs, changed, change_in, all_changed}
 use Rattle.store_model.specs.Needs.{changed_name}
+use Rattle.store_model.specs.Indexes.{IsMadeFrom, IsIndex, AreIndexed}
 use Rattle.store_model.proofs.StoreLaws.{changed_is_right}
 use Rattle.je_answers.specs.Standing.{Standing}
 use Rattle.je_answers.specs.Views.{of_db, changes_in}
-use Rattle.standing_laws.proofs.Among.{IsAmong, all_at, mapped_among, found_is}
+use Rattle.standing_laws.proofs.Among.{IsAmong, all_at, mapped_among, found_is, find_some, any_from}
 use Rattle.serial_replay.proofs.Rising.{RisesBy, rises, one_of_name, same_names}
 
 -- ---- finding
@@ -32,20 +36,28 @@ Numbers = List ℕ → ℕ
 abbrev pub numbered_in : Numbers → ℕ → Store → Option Database
 numbered_in numbers n store = find (λ d. numbers d.name == n) store.databases
 
-abbrev pub Base : Type 0
-Base = List ℕ × Kind
+-- what a database is an index of: the number of its primary, and which part of the data is the key
+abbrev pub Over : Type 0
+Over = Option (ℕ × Extract)
 
-abbrev pub base_of : Option Database → Option Base
-base_of None = None
-base_of (Some d) = Some (d.name, d.kind)
+abbrev pub over_by : Numbers → Option Index → Over
+over_by numbers None = None
+over_by numbers (Some index) = Some (numbers index.primary, index.extract)
+
+abbrev pub Base : Type 0
+Base = List ℕ × Kind × Over
+
+abbrev pub base_of : Numbers → Option Database → Option Base
+base_of numbers None = None
+base_of numbers (Some d) = Some (d.name, d.kind, over_by numbers d.index)
 
 abbrev pub pairs_of : Option Database → List Pair
 pairs_of None = []
 pairs_of (Some d) = d.pairs
 
--- its name and kind, and its records
+-- its name and kind and what it is an index of, and its records
 abbrev pub base_in : Numbers → ℕ → Store → Option Base
-base_in numbers n store = base_of (numbered_in numbers n store)
+base_in numbers n store = base_of numbers (numbered_in numbers n store)
 
 abbrev pub pairs_in : Numbers → ℕ → Store → List Pair
 pairs_in numbers n store = pairs_of (numbered_in numbers n store)
@@ -56,25 +68,23 @@ base_at n st = base_in st.numbers n st.store
 abbrev pub pairs_at : ℕ → Standing → List Pair
 pairs_at n st = pairs_in st.numbers n st.store
 
--- a database that has this name and kind
-pub record IsBased (o : Option Database) (b : Base) : Type 0 where
+-- a database that has these
+pub record IsBased (numbers : Numbers) (o : Option Database) (b : Base) : Type 0 where
   pub database : Database
   pub is : o ≡ Some database
   pub name : database.name ≡ b.0
   pub kind : database.kind ≡ b.1
+  pub over : over_by numbers database.index ≡ b.2
 
-pub based : (o : Option Database) (b : Base) → base_of o ≡ Some b → IsBased o b
-based None b e = absurd (cc (e))
-based (Some d) b e = record { database = d; is = refl; name = name e; kind = kind e }
+pub based : (numbers : Numbers) (o : Option Database) (b : Base) → base_of numbers o ≡ Some b → IsBased numbers o b
+based numbers None b e = absurd (cc (e))
+based numbers (Some d) b e = record { database = d; is = refl; name = ap (λ (x : Base). x.0) same; kind = ap (λ (x : Base). x.1) same; over = ap (λ (x : Base). x.2) same }
   where
     some_is : (x y : Base) → Some x ≡ Some y → x ≡ y
     some_is x y k = cc (k)
 
-    name : Some (d.name, d.kind) ≡ Some b → d.name ≡ b.0
-    name k = ap (λ (x : Base). x.0) (some_is (d.name, d.kind) b k)
-
-    kind : Some (d.name, d.kind) ≡ Some b → d.kind ≡ b.1
-    kind k = ap (λ (x : Base). x.1) (some_is (d.name, d.kind) b k)
+    same : (d.name, d.kind, over_by numbers d.index) ≡ b
+    same = some_is (d.name, d.kind, over_by numbers d.index) b e
 
 find_mapped : (p : Database → Bool) (f : Database → Database) → ((d : Database) → p (f d) ≡ p d) → (ds : List Database) → find p (map f ds) ≡ option_map f (find p ds)
 find_mapped p f same [] = refl
@@ -127,23 +137,32 @@ cond_kind : (b : Bool) (d : Database) (pairs : List Pair) → (cond b (with_pair
 cond_kind true d pairs = refl
 cond_kind false d pairs = refl
 
+cond_index : (b : Bool) (d : Database) (pairs : List Pair) → (cond b (with_pairs d pairs) d).index ≡ d.index
+cond_index true d pairs = refl
+cond_index false d pairs = refl
+
 one_name : (db : List ℕ) (c : RecordChange) (d : Database) → (in_one db c d).name ≡ d.name
 one_name db c d = cond_name (is_same_bytes d.name db) d (pairs_changed d.kind c d.pairs)
 
 one_kind : (db : List ℕ) (c : RecordChange) (d : Database) → (in_one db c d).kind ≡ d.kind
 one_kind db c d = cond_kind (is_same_bytes d.name db) d (pairs_changed d.kind c d.pairs)
 
+one_index : (db : List ℕ) (c : RecordChange) (d : Database) → (in_one db c d).index ≡ d.index
+one_index db c d = cond_index (is_same_bytes d.name db) d (pairs_changed d.kind c d.pairs)
+
 one_numbered : (numbers : Numbers) (n : ℕ) (db : List ℕ) (c : RecordChange) (store : Store) → numbered_in numbers n (changed (change_in db c) store) ≡ option_map (in_one db c) (numbered_in numbers n store)
 one_numbered numbers n db c store =
     ap (numbered_in numbers n) (changed_is db c store)
     ∙ find_mapped (λ d. numbers d.name == n) (in_one db c) (λ d. ap (λ (b : List ℕ). numbers b == n) (one_name db c d)) store.databases
 
-one_base_of : (db : List ℕ) (c : RecordChange) (o : Option Database) → base_of (option_map (in_one db c) o) ≡ base_of o
-one_base_of db c None = refl
-one_base_of db c (Some d) = ap₂ (λ (a : List ℕ) (k : Kind). Some (a, k)) (one_name db c d) (one_kind db c d)
+one_base_of : (numbers : Numbers) (db : List ℕ) (c : RecordChange) (o : Option Database) → base_of numbers (option_map (in_one db c) o) ≡ base_of numbers o
+one_base_of numbers db c None = refl
+one_base_of numbers db c (Some d) =
+    ap₂ (λ (a : List ℕ) (k : Kind). Some (a, k, over_by numbers (in_one db c d).index)) (one_name db c d) (one_kind db c d)
+    ∙ ap (λ (i : Option Index). Some (d.name, d.kind, over_by numbers i)) (one_index db c d)
 
 pub one_base : (numbers : Numbers) (n : ℕ) (db : List ℕ) (c : RecordChange) (store : Store) → base_in numbers n (changed (change_in db c) store) ≡ base_in numbers n store
-one_base numbers n db c store = ap base_of (one_numbered numbers n db c store) ∙ one_base_of db c (numbered_in numbers n store)
+one_base numbers n db c store = ap (base_of numbers) (one_numbered numbers n db c store) ∙ one_base_of numbers db c (numbered_in numbers n store)
 
 -- the number of what was found
 pub number_of_found : (numbers : Numbers) (n : ℕ) (store : Store) (d : Database) → numbered_in numbers n store ≡ Some d → numbers d.name ≡ n
@@ -152,7 +171,7 @@ number_of_found numbers n store d e = eqb-true (numbers d.name) n (found_is (λ 
 one_pairs : (numbers : Numbers) (n : ℕ) (b : Base) (db : List ℕ) (c : RecordChange) (store : Store) → base_in numbers n store ≡ Some b
     → pairs_in numbers n (changed (change_in db c) store) ≡ cond (is_same_bytes b.0 db) (pairs_changed b.1 c (pairs_in numbers n store)) (pairs_in numbers n store)
 one_pairs numbers n b db c store e =
-    let i = based (numbered_in numbers n store) b e in
+    let i = based numbers (numbered_in numbers n store) b e in
     ap pairs_of (one_numbered numbers n db c store)
     ∙ (ap (λ (o : Option Database). pairs_of (option_map (in_one db c) o)) i.is
     ∙ (by (is_same_bytes i.database.name db) i.database
@@ -182,9 +201,9 @@ abbrev changes_based : Option Base → RecordChange → List Change
 changes_based None c = []
 changes_based (Some b) c = change_in b.0 c ∷ []
 
-in_based : (o : Option Database) (c : RecordChange) → changes_in o c ≡ changes_based (base_of o) c
-in_based None c = refl
-in_based (Some d) c = refl
+in_based : (numbers : Numbers) (o : Option Database) (c : RecordChange) → changes_in o c ≡ changes_based (base_of numbers o) c
+in_based numbers None c = refl
+in_based numbers (Some d) c = refl
 
 -- where the same databases have the same numbers the changes have the same names
 pub named_same : (numbers more : Numbers) (store other : Store) (cs : List (ℕ × RecordChange)) → ((c : ℕ × RecordChange) → IsAmong c cs → base_in numbers c.0 store ≡ base_in more c.0 other)
@@ -192,11 +211,11 @@ pub named_same : (numbers more : Numbers) (store other : Store) (cs : List (ℕ 
 named_same numbers more store other [] same = refl
 named_same numbers more store other (c ∷ cs) same =
     ap₂ (λ (a b : List Change). a ++ b)
-    (in_based (numbered_in numbers c.0 store) c.1 ∙ (ap (λ (o : Option Base). changes_based o c.1) (same c (inl refl)) ∙ sym (in_based (numbered_in more c.0 other) c.1)))
+    (in_based numbers (numbered_in numbers c.0 store) c.1 ∙ (ap (λ (o : Option Base). changes_based o c.1) (same c (inl refl)) ∙ sym (in_based more (numbered_in more c.0 other) c.1)))
     (named_same numbers more store other cs (λ d a. same d (inr a)))
 
 pub named_one : (numbers : Numbers) (store : Store) (c : ℕ × RecordChange) (b : Base) → base_in numbers c.0 store ≡ Some b → changes_in (numbered_in numbers c.0 store) c.1 ≡ change_in b.0 c.1 ∷ []
-named_one numbers store c b e = in_based (numbered_in numbers c.0 store) c.1 ∙ ap (λ (o : Option Base). changes_based o c.1) e
+named_one numbers store c b e = in_based numbers (numbered_in numbers c.0 store) c.1 ∙ ap (λ (o : Option Base). changes_based o c.1) e
 
 pub named_append : (numbers : Numbers) (store : Store) (cs ds : List (ℕ × RecordChange)) → named_in numbers store (cs ++ ds) ≡ named_in numbers store cs ++ named_in numbers store ds
 named_append numbers store [] ds = refl
@@ -243,11 +262,11 @@ module _ (numbers : Numbers) (first : Store) where
       pairs : List Pair
       pairs = pairs_in numbers n store
 
-      here : IsBased (numbered_in numbers n first) b
-      here = based (numbered_in numbers n first) b e
+      here : IsBased numbers (numbered_in numbers n first) b
+      here = based numbers (numbered_in numbers n first) b e
 
-      there : IsBased (numbered_in numbers c.0 first) db.base
-      there = based (numbered_in numbers c.0 first) db.base db.there
+      there : IsBased numbers (numbered_in numbers c.0 first) db.base
+      there = based numbers (numbered_in numbers c.0 first) db.base db.there
 
       number_here : numbers b.0 ≡ n
       number_here = ap numbers (sym here.name) ∙ number_of_found numbers n first here.database here.is
@@ -282,16 +301,16 @@ all_right (c ∷ cs) store right = all_right cs (changed c store) (changed_is_ri
 
 pub pairs_rise : (numbers : Numbers) (n : ℕ) (store : Store) (b : Base) → IsStore store → base_in numbers n store ≡ Some b → RisesBy (name_of b.1) (pairs_in numbers n store)
 pairs_rise numbers n store b right e =
-    let i = based (numbered_in numbers n store) b e in
+    let i = based numbers (numbered_in numbers n store) b e in
     let up = all_at (λ (d : Database). HasRisingNames d.kind d.pairs) store.databases i.database right.records (found_is (λ (d : Database). numbers d.name == n) store.databases i.database i.is).0 in
     subst (λ (o : Option Database). RisesBy (name_of b.1) (pairs_of o)) (sym i.is)
     (subst (λ (k : Kind). RisesBy (name_of k) i.database.pairs) i.kind (rises (name_of i.database.kind) i.database.pairs up))
 
 -- databases of one name are one
-abbrev name_key : Database → Name
+abbrev pub name_key : Database → Name
 name_key d = named d.name []
 
-databases_rise : (ds : List Database) → IsStrictlySortedBy (on (λ (d : Database). d.name) bytes_cmp) ds → RisesBy name_key ds
+pub databases_rise : (ds : List Database) → IsStrictlySortedBy (on (λ (d : Database). d.name) bytes_cmp) ds → RisesBy name_key ds
 unfolding IsStrictlySortedBy
 databases_rise [] h = tt
 databases_rise (d ∷ ds) h = (below ds h.0, databases_rise ds h.1)
@@ -334,7 +353,7 @@ by_found numbers last store n d k e =
     let f = found_is (λ (x : Database). numbers x.name == n) store.databases d e in
     by_name numbers last store d.name d k f.0 refl ∙ (ap (λ (m : ℕ). numbered_in numbers m store) (eqb-true (numbers d.name) n f.1) ∙ e)
 
-numbered_mapped : (numbers : Numbers) (last : ℕ) (f : Database → Database) (ds : List Database) → ((d : Database) → (f d).name ≡ d.name) → AreNumbered numbers last ds → AreNumbered numbers last (map f ds)
+pub numbered_mapped : (numbers : Numbers) (last : ℕ) (f : Database → Database) (ds : List Database) → ((d : Database) → (f d).name ≡ d.name) → AreNumbered numbers last ds → AreNumbered numbers last (map f ds)
 numbered_mapped numbers last f ds same k = record {
   allocated = λ d a. let m = mapped_among f ds d a in subst (λ (n : List ℕ). numbers n ≤ last) (sym (same m.0) ∙ ap (λ (x : Database). x.name) m.2) (k.allocated m.0 m.1);
   apart = λ d e a b h.
@@ -357,3 +376,56 @@ numbered_all numbers last first (c ∷ cs) store k = by (numbered_in numbers c.0
         → AreNumbered numbers last (all_changed (changes_in o c.1 ++ named_in numbers first cs) store).databases
     by None more = more store k
     by (Some d) more = more (changed (change_in d.name c.1) store) (numbered_one numbers last d.name c.1 store k)
+
+-- a database that is there under its number is found
+pub found_there : (numbers : Numbers) (last n : ℕ) (store : Store) (d : Database) → IsStore store → AreNumbered numbers last store.databases → IsAmong d store.databases → numbers d.name ≡ n → numbered_in numbers n store ≡ Some d
+found_there numbers last n store d right k there is =
+    let test : Database → Bool = λ e. numbers e.name == n in
+    let f = find_some test store.databases (any_from test store.databases d there (ap (λ (m : ℕ). m == n) is ∙ same_number n)) in
+    let i = found_is test store.databases f.0 f.1 in
+    f.1 ∙ ap (λ (e : Database). Some e) (one_database store f.0 d right i.0 there (k.apart f.0 d i.0 there (eqb-true (numbers f.0.name) n i.1 ∙ sym is)))
+
+-- and under its name
+pub named_there : (store : Store) (d : Database) → IsStore store → IsAmong d store.databases → database_of d.name store ≡ Some d
+named_there store d right there =
+    let test : Database → Bool = λ e. is_same_bytes e.name d.name in
+    let f = find_some test store.databases (any_from test store.databases d there (same_bytes d.name)) in
+    let i = found_is test store.databases f.0 f.1 in
+    f.1 ∙ ap (λ (e : Database). Some e) (one_database store f.0 d right i.0 there (bytes_exact f.0.name d.name i.1))
+
+-- ---- indexes of a store
+
+-- an index has sorted duplicates, and is of a plain database that is there and no index
+abbrev pub IsOver : Store → Database → Index → Type 0
+IsOver store d index = (d.kind ≡ Dup) × ((p : Database) × (database_of index.primary store ≡ Some p) × (p.kind ≡ Plain) × (p.index ≡ None))
+
+abbrev pub AreOver : Store → Type 0
+AreOver store = (d : Database) (index : Index) → IsAmong d store.databases → d.index ≡ Some index → IsOver store d index
+
+pub indexed_over : (store : Store) → AreIndexed store → AreOver store
+indexed_over store h d index there is = by (database_of index.primary store) refl (subst (IsIndex store d) is (all_at (λ (e : Database). IsIndex store e e.index) store.databases d h there))
+  where
+    by : (o : Option Database) → database_of index.primary store ≡ o → (d.kind ≡ Dup) × IsMadeFrom (database_of index.primary store) index.extract d.pairs → IsOver store d index
+    by None e k = absurd (subst (λ (o : Option Database). IsMadeFrom o index.extract d.pairs) e k.1)
+    by (Some p) e k = let m = subst (λ (o : Option Database). IsMadeFrom o index.extract d.pairs) e k.1 in (k.0, (p, e, m.0, m.1))
+
+over_one : (db : List ℕ) (c : RecordChange) (store : Store) → AreOver store → AreOver (changed (change_in db c) store)
+over_one db c store over = subst AreOver (sym (changed_is db c store)) (λ d index a is.
+    let m = mapped_among (in_one db c) store.databases d a in
+    let o = over m.0 index m.1 (sym (one_index db c m.0) ∙ (ap (λ (x : Database). x.index) m.2 ∙ is)) in (
+      ap (λ (x : Database). x.kind) (sym m.2) ∙ (one_kind db c m.0 ∙ o.0),
+      (
+        in_one db c o.1.0,
+        find_mapped (λ x. is_same_bytes x.name index.primary) (in_one db c) (λ x. ap (λ (b : List ℕ). is_same_bytes b index.primary) (one_name db c x)) store.databases ∙ ap (option_map (in_one db c)) o.1.1,
+        one_kind db c o.1.0 ∙ o.1.2,
+        one_index db c o.1.0 ∙ o.1.3,
+      ),
+    ))
+
+pub over_all : (numbers : Numbers) (first : Store) (cs : List (ℕ × RecordChange)) (store : Store) → AreOver store → AreOver (all_changed (named_in numbers first cs) store)
+over_all numbers first [] store over = over
+over_all numbers first (c ∷ cs) store over = by (numbered_in numbers c.0 first) (λ s h. over_all numbers first cs s h)
+  where
+    by : (o : Option Database) → ((s : Store) → AreOver s → AreOver (all_changed (named_in numbers first cs) s)) → AreOver (all_changed (changes_in o c.1 ++ named_in numbers first cs) store)
+    by None more = more store over
+    by (Some d) more = more (changed (change_in d.name c.1) store) (over_one d.name c.1 store over)

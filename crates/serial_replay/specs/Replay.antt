@@ -8,22 +8,23 @@ use Rattle.je_order.specs.declared.name.Name.{Name}
 use Rattle.je_order.specs.Transactions.{is_same_txn}
 use Rattle.store_model.specs.declared.store.Store.{Store}
 use Rattle.store_model.specs.declared.store.Database.{Database}
+use Rattle.store_model.specs.declared.index.Index.{Index}
 use Rattle.store_model.specs.declared.isolation.Isolation.{Isolation}
 use Rattle.store_model.specs.declared.isolation.Isolation.TheVariants.{RepeatableRead, Serializable}
 use Rattle.store_model.specs.declared.call.Call.{Call}
 use Rattle.store_model.specs.declared.call.Call.TheVariants.{Commit, Get, GetBoth, Put, Delete, Open, Close, Dup, Count as Counts, Cur, CPutCur, CDel, CPut}
 use Rattle.store_model.specs.declared.change.Change.{Change}
 use Rattle.store_model.specs.declared.answer.Answer.{Answer}
-use Rattle.store_model.specs.declared.answer.Answer.TheVariants.{Done, Logged, Rec, Count, NotFound, KeyExist, KeyEmpty, NoDatabase}
+use Rattle.store_model.specs.declared.answer.Answer.TheVariants.{Done, Logged, Rec, IndexRec, Count, NotFound, KeyExist, KeyEmpty, NoDatabase}
 use Rattle.store_model.specs.declared.event.Event.{Event}
 use Rattle.store_model.specs.declared.event.Event.TheVariants.{Call as Called, Resume}
-use Rattle.store_model.specs.Store.{name_of, database_of, change_in, all_changed}
+use Rattle.store_model.specs.Store.{name_of, database_of, all_changed}
 use Rattle.store_model.specs.Reads.{at_name}
-use Rattle.store_model.specs.Records.{evaluation}
 use Rattle.je_answers.specs.declared.active.Active.{Active}
 use Rattle.je_answers.specs.declared.wait.Wait.{Wait}
 use Rattle.je_answers.specs.Standing.{Standing, active_of, wait_of, with_at}
-use Rattle.je_answers.specs.Views.{Target, target_of, changes_named}
+use Rattle.je_answers.specs.Views.{Target, target, target_of, changes_named}
+use Rattle.je_answers.specs.Alone.{evaluated_on, changes_of_call}
 use Rattle.je_answers.specs.Journal.{changes_by}
 use Rattle.je_answers.specs.After.{after_event}
 
@@ -62,6 +63,7 @@ is_on_records call = false
 abbrev pub is_evaluated : Answer → Bool
 is_evaluated Done = true
 is_evaluated (Rec key value) = true
+is_evaluated (IndexRec key primary_key value) = true
 is_evaluated (Count count) = true
 is_evaluated NotFound = true
 is_evaluated KeyExist = true
@@ -143,47 +145,63 @@ pub record Reply : Type 0 where
   pub changes : List Change
   pub place : Option Name
 
--- what a call comes to on a store, from where its cursor stands: evaluation in the database that it was on
-abbrev pub comes_to : Option Database → Call → Option Name → Reply
-comes_to None call at = record { answer = NoDatabase; changes = []; place = at }
-comes_to (Some d) call at =
-    let evaluated = evaluation d.kind call at d.pairs in
-    record { answer = evaluated.answer; changes = map (change_in d.name) evaluated.changes; place = evaluated.place }
+-- What a call comes to on a store, from where its cursor stands: evaluation in the database that it was on. An index answers with its primary's record,
+-- and a change comes with those in the indexes, in the order of the numbers of databases.
+abbrev pub comes_to : (List ℕ → ℕ) → Store → Option Database → Call → Option Name → Reply
+comes_to numbers store None call at = record { answer = NoDatabase; changes = []; place = at }
+comes_to numbers store (Some d) call at =
+    let g = target numbers store (numbers d.name) at d in
+    let evaluated = evaluated_on call g in
+    record { answer = evaluated.answer; changes = changes_of_call g evaluated.changes; place = evaluated.place }
 
 -- a call that only opens a cursor or closes it is done, whatever the store holds
-abbrev pub on_store : Bool → AnsweredCall → Option Name → Store → Reply
-on_store true c at store = record { answer = Done; changes = []; place = None }
-on_store false c at store = comes_to (database_of c.db store) c.call at
+abbrev pub on_store : Bool → (List ℕ → ℕ) → AnsweredCall → Option Name → Store → Reply
+on_store true numbers c at store = record { answer = Done; changes = []; place = None }
+on_store false numbers c at store = comes_to numbers store (database_of c.db store) c.call at
 
 -- calls one after another, each on the store and from the places that those before it leave
-abbrev pub replayed : List AnsweredCall → Positions → Store → List Reply
-replayed [] at store = []
-replayed (c ∷ calls) at store =
-    let reply = on_store (is_of_cursors c.call) c (position_of (cursor_of c.call) at) store in
-    reply ∷ replayed calls (positions_after c.call reply.place at) (all_changed reply.changes store)
+abbrev pub replayed : (List ℕ → ℕ) → List AnsweredCall → Positions → Store → List Reply
+replayed numbers [] at store = []
+replayed numbers (c ∷ calls) at store =
+    let reply = on_store (is_of_cursors c.call) numbers c (position_of (cursor_of c.call) at) store in
+    reply ∷ replayed numbers calls (positions_after c.call reply.place at) (all_changed reply.changes store)
 
 -- ---- what is owed at a commit
 
 -- made again on this store, with no cursor open, the calls give their answers, and their changes in order are those that are committed
-pub record GivesAgain (calls : List AnsweredCall) (store : Store) (committed : List Change) : Type 0 where
-  pub answers : map (λ r. r.answer) (replayed calls nowhere store) ≡ map (λ c. c.answer) calls
-  pub changes : flat_map (λ r. r.changes) (replayed calls nowhere store) ≡ committed
+pub record GivesAgain (calls : List AnsweredCall) (numbers : List ℕ → ℕ) (store : Store) (committed : List Change) : Type 0 where
+  pub answers : map (λ r. r.answer) (replayed numbers calls nowhere store) ≡ map (λ c. c.answer) calls
+  pub changes : flat_map (λ r. r.changes) (replayed numbers calls nowhere store) ≡ committed
 
--- a record that was answered is a record of its database
-abbrev pub IsRecordOf : Option Database → Answer → Type 0
-IsRecordOf None (Rec key value) = ⊥
-IsRecordOf (Some d) (Rec key value) = at_name d.kind (name_of d.kind (key, value)) d.pairs ≡ (key, value) ∷ []
-IsRecordOf d answer = Unit {0}
+-- the database that a database is an index of
+abbrev pub primary_in : Store → Option Index → Option Database
+primary_in store None = None
+primary_in store (Some index) = database_of index.primary store
+
+abbrev pub over_in : Store → Option Database → Option Database
+over_in store None = None
+over_in store (Some d) = primary_in store d.index
+
+-- a database has this record
+abbrev pub HasPair : Option Database → List ℕ → List ℕ → Type 0
+HasPair None key value = ⊥
+HasPair (Some d) key value = at_name d.kind (name_of d.kind (key, value)) d.pairs ≡ (key, value) ∷ []
+
+-- a record that was answered is a record of its database; of one that was answered by an index, the index has its pair, and the primary the record
+abbrev pub IsRecordOf : Store → Option Database → Answer → Type 0
+IsRecordOf store d (Rec key value) = HasPair d key value
+IsRecordOf store d (IndexRec key primary_key value) = HasPair d key primary_key × HasPair (over_in store d) primary_key value
+IsRecordOf store d answer = Unit {0}
 
 -- on this store, with the changes that the transaction had made before the call
 abbrev pub StandsAgain : Store → AnsweredCall → Type 0
-StandsAgain store c = IsRecordOf (database_of c.db (all_changed c.own store)) c.answer
+StandsAgain store c = let then_ = all_changed c.own store in IsRecordOf then_ (database_of c.db then_) c.answer
 
 -- what a level owes at the commit of its transaction, which had these calls, on the store just before
-abbrev pub IsOwedTo : Isolation → List AnsweredCall → Store → List Change → Type 0
-IsOwedTo Serializable calls store committed = GivesAgain calls store committed
-IsOwedTo RepeatableRead calls store committed = AllByRecursion (StandsAgain store) calls
-IsOwedTo level calls store committed = Unit {0}
+abbrev pub IsOwedTo : Isolation → List AnsweredCall → (List ℕ → ℕ) → Store → List Change → Type 0
+IsOwedTo Serializable calls numbers store committed = GivesAgain calls numbers store committed
+IsOwedTo RepeatableRead calls numbers store committed = AllByRecursion (StandsAgain store) calls
+IsOwedTo level calls numbers store committed = Unit {0}
 
 -- the answers of a commit that came to pass
 abbrev pub is_committed : Answer → Bool
@@ -192,7 +210,7 @@ is_committed (Logged commit) = true
 is_committed answer = false
 
 abbrev pub IsOwedBy : Bool → Option Active → Standing → List AnsweredCall → List Change → Type 0
-IsOwedBy true (Some a) st told committed = IsOwedTo a.level (calls_of a.txn told) st.store committed
+IsOwedBy true (Some a) st told committed = IsOwedTo a.level (calls_of a.txn told) st.numbers st.store committed
 IsOwedBy is_done active st told committed = Unit {0}
 
 -- where an event is a commit, its transaction's level is kept; the changes are those that the journal says are committed by it

@@ -8,4 +8,4 @@
 
 pub mod laws;
 
-pub use laws::{a_replay_is_worked, cycles_never_stand, journals_replay};
+pub use laws::{a_replay_is_worked, cycles_never_stand, indexed_journals_replay, journals_replay};

@@ -1,11 +1,10 @@
 -- The databases of open cursors go by their names in a store that changed.
-use Rattle.std.proofs.Common.{◌≡◌, ℕ, ◌+◌, ◌==◌, ◌&&◌, ◌||◌, Bool, true, false, List, [], ◌∷◌, refl, ap, ap₂, sym, ◌∙◌, subst, arith}
+use Rattle.std.proofs.Common.{◌≡◌, ℕ, ◌==◌, ◌&&◌, ◌||◌, Bool, true, false, List, [], ◌∷◌, refl, ap, ap₂, sym, ◌∙◌, subst, arith}
 use Rattle.std.specs.List.{AllByRecursion, list_any}
 use Rattle.std.proofs.lemmas.Bool.{cond-true}
 use Rattle.std.proofs.lemmas.Bool.Decides.{nat_tests}
 use Rattle.store_model.specs.declared.store.Store.{Store}
 use Rattle.store_model.specs.declared.kind.Kind.{Kind}
-use Rattle.store_model.specs.declared.place.Place.{Place}
 use Rattle.store_model.specs.declared.change.Change.{Change}
 use Rattle.store_model.specs.Store.{all_changed}
 use Rattle.je_answers.specs.Standing.{Standing, all_numbered}

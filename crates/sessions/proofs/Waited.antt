@@ -10,6 +10,7 @@ use Rattle.store_model.specs.declared.call.Call.{Call}
 use Rattle.store_model.specs.declared.kind.Kind.{Kind}
 use Rattle.store_model.specs.declared.need.Need.{Need}
 use Rattle.store_model.specs.declared.victim.Victim.{Victim}
+use Rattle.store_model.specs.declared.lock_target.LockTarget.{LockTarget}
 use Rattle.store_model.specs.declared.answer.Answer.{Answer}
 use Rattle.store_model.specs.declared.answer.Fault.{Fault}
 use Rattle.je_answers.specs.declared.active.Active.{Active}
@@ -19,6 +20,7 @@ use Rattle.je_answers.specs.Views.{Target, needs_in}
 use Rattle.je_answers.specs.Locking.{record_of, first_blocked, owner_before, with_wait, waits_in}
 use Rattle.je_answers.specs.Events.{told_in, cycle_of, waiting_answer, lock_target, asking, queues_before, locks_before, IsWaiting, IsStopped}
 use Rattle.je_answers.specs.After.{txns_of, with_victims, after_stop}
+use Rattle.je_answers.proofs.PlainTargets.{plain_lock_target}
 use Rattle.txn_locks.specs.Taking.{state_of, with_granted, IsMadeToWait}
 use Rattle.standing_laws.specs.Right.{HaveWaits, IsWaitIn, has_wait}
 use Rattle.standing_laws.proofs.Among.{its_session}
@@ -135,7 +137,8 @@ waited (Stopped answer victims) k session line call db kind needs ns room b old 
     let there : slice_get needs b.at ≡ Some m.need = ap (λ (l : List Need). slice_get l b.at) are.each ∙ m.there in
     let answers : answer ≡ waiting_answer (cycle_of a.txn b.victims.items) (lock_target g m.need) b.owner = h.answers m.need there
     ∙ (ap (λ (x : Wait). waiting_answer (cycle_of x.txn b.victims.items) (record { db = room.db; kind = kind; at = m.need.at }) b.owner) w
-    ∙ ap₂ (λ (d : List ℕ) (q : Kind). waiting_answer (cycle_of a.txn b.victims.items) (record { db = d; kind = q; at = m.need.at }) b.owner) (db_is ∙ sym are.name) (sym are.its_kind)) in
+    ∙ ap₂ (λ (d : List ℕ) (q : Kind). waiting_answer (cycle_of a.txn b.victims.items) (record { db = d; kind = q; at = m.need.at }) b.owner) (db_is ∙ sym are.name) (sym are.its_kind)
+    ∙ ap (λ (x : LockTarget). waiting_answer (cycle_of a.txn b.victims.items) x b.owner) (sym (plain_lock_target g m.need are.alone))) in
     let there_at : AreSessionsAt mid (record st { locks = state_of mid.locks.locks }) = record {
       actives = ap (λ (t : ActiveTxns). t.actives.items) txns_is ∙ at.actives;
       own = ap (λ (t : ActiveTxns). own_of t.own.entries) txns_is ∙ at.own;

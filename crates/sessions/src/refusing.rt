@@ -39,6 +39,7 @@ fn inside_refusal(call: &Call, active: &Active) -> Option<Answer>
     match call {
         Call::Begin { .. }
         | Call::Create { .. }
+        | Call::CreateIndex { .. }
         | Call::Remove { .. }
         | Call::Rename { .. }
         | Call::Truncate { .. } => Some(Answer::InTxn { txn: active.txn }),

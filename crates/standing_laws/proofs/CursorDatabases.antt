@@ -8,8 +8,9 @@ use Rattle.std.proofs.lemmas.Option.{none-some}
 use Rattle.je_order.specs.declared.txn_id.TxnId.{TxnId}
 use Rattle.store_model.specs.declared.store.Database.{Database}
 use Rattle.store_model.specs.declared.kind.Kind.{Kind}
+use Rattle.store_model.specs.declared.index.Index.{Index}
 use Rattle.store_model.specs.declared.call.Call.{Call}
-use Rattle.store_model.specs.declared.call.Call.TheVariants.{Begin, Commit, Abort, List as Lists, Create, Remove, Rename, Truncate, Get, GetBoth, Put, Delete, Open, Close, Dup, Count, Cur, CPutCur, CDel, CPut}
+use Rattle.store_model.specs.declared.call.Call.TheVariants.{Begin, Commit, Abort, List as Lists, Create, CreateIndex, Remove, Rename, Truncate, Get, GetBoth, Put, Delete, Open, Close, Dup, Count, Cur, CPutCur, CDel, CPut}
 use Rattle.store_model.specs.declared.change.Change.{Change}
 use Rattle.store_model.specs.declared.record_change.RecordChange.{RecordChange}
 use Rattle.store_model.specs.declared.record_change.RecordChange.TheVariants.{Set as SetRecord, Unset as UnsetRecord}
@@ -23,12 +24,13 @@ use Rattle.store_model.specs.declared.answer.Answer.TheVariants.{Done, DatabaseI
 use Rattle.store_model.specs.declared.event.Event.TheVariants.{Call as Called, Resume, End, WriteOut, SyncBegin, SyncEnd, Turn}
 use Rattle.store_model.specs.Store.{database_of, change_in}
 use Rattle.store_model.specs.Records.{Evaluated}
-use Rattle.store_model.specs.Evaluation.{Outcome, evaluation, evaluation_in}
+use Rattle.store_model.specs.Indexes.{Numbered, index_pairs}
+use Rattle.store_model.specs.Evaluation.{Outcome, evaluation, evaluation_in, indexing, emptying}
 use Rattle.store_model.specs.Refusals.{or_refusal, creation_refusal, taken_refusal}
 use Rattle.je_answers.specs.declared.active.Active.{Active}
 use Rattle.je_answers.specs.declared.wait.Wait.{Wait}
 use Rattle.je_answers.specs.Standing.{Standing, active_of, wait_of, without_wait, place_at, database_at}
-use Rattle.je_answers.specs.Views.{Target, target_of, changes_in, changes_on, changes_named, outcome_of, needs_in}
+use Rattle.je_answers.specs.Views.{Target, target_of, changes_in, changes_with, with_names, changes_named, outcome_of, needs_in}
 use Rattle.je_answers.specs.Refusals.{early_refusal, late_refusal, number_refusal, there_refusal, name_refusal, target_refusal}
 use Rattle.je_answers.specs.Locking.{first_blocked, has_cursor_on, IsUnused}
 use Rattle.je_answers.specs.Events.{auto_active, begun, resumed, IsExclusive, IsPerformed, IsEvaluated, IsCallAnswered, IsResumed}
@@ -36,7 +38,7 @@ use Rattle.je_answers.specs.After.{Fate, fate_of, drawn_by, ended, ended_if_any,
 use Rattle.je_answers.specs.After.Fate.{Succeeds, IsRefused, Faults}
 use Rattle.standing_laws.specs.Right.{IsUnder, HasCursorOn}
 use Rattle.standing_laws.specs.Laws.{CursorsKeepDatabases}
-use Rattle.standing_laws.proofs.NamedDatabases.{IsOther, IsOfRecord, under_all, under_made, under_removed, under_renamed, under_emptied}
+use Rattle.standing_laws.proofs.NamedDatabases.{IsOther, IsOfRecord, under_all, under_indexed, under_made, under_removed, under_renamed, under_emptied}
 
 -- ---- changes of records
 
@@ -44,9 +46,9 @@ of_record : (db : List ℕ) (change : RecordChange) → IsOfRecord (change_in db
 of_record db (SetRecord at value) = tt
 of_record db (UnsetRecord at) = tt
 
-pub all_on : (g : Target) (changes : List RecordChange) → AllByRecursion IsOfRecord (changes_on g changes)
-all_on g [] = tt
-all_on g (change ∷ changes) = (of_record g.database.name change, all_on g changes)
+pub all_with : (changes : List (Numbered × RecordChange)) → AllByRecursion IsOfRecord (with_names changes)
+all_with [] = tt
+all_with (c ∷ changes) = (of_record c.0.1.name c.1, all_with changes)
 
 all_in : (o : Option Database) (change : RecordChange) (more : List Change) → AllByRecursion IsOfRecord more → AllByRecursion IsOfRecord (changes_in o change ++ more)
 all_in None change more all = all
@@ -85,7 +87,7 @@ module _ (number : ℕ) (name : List ℕ) (kind : Kind) where
   under_closed false a changes st all u = u
 
   under_fate : (fate : Fate) (old st : Standing) (a : Active) (call : Call) (g : Target) (evaluated : Evaluated) → Keeps old → Keeps st → Keeps (after_fate fate old st a call g evaluated)
-  under_fate Succeeds old st a call g evaluated before u = under_closed a.is_auto a (changes_on g evaluated.changes) (with_outcome a call g evaluated (answered a call g st)) (all_on g evaluated.changes) u
+  under_fate Succeeds old st a call g evaluated before u = under_closed a.is_auto a (with_names (changes_with st a g evaluated.changes)) (with_outcome a call g evaluated (answered a call g st)) (all_with (changes_with st a g evaluated.changes)) u
   under_fate IsRefused old st a call g evaluated before u = under_closed a.is_auto a [] (answered a call g st) tt u
   under_fate Faults old st a call g evaluated before u = before
 
@@ -184,8 +186,17 @@ module _ (number : ℕ) (name : List ℕ) (kind : Kind) where
 
   emptied : (d : Option Database) (o : Option Active) (st : Standing) (db : List ℕ) → IsOther name db → Keeps st → Keeps (committed_if_any (evaluation_in (Truncate db) st.store d).changes (drawn_by o st))
   emptied None o st db other u = under_drawn o st u
-  emptied (Some d) None st db other u = under_emptied st.store st.numbers number (st.last_db + 1) name kind db other u
-  emptied (Some d) (Some a) st db other u = under_emptied st.store st.numbers number (st.last_db + 1) name kind db other u
+  emptied (Some d) o st db other u = by_index d.index o
+    where
+      by_index : (index : Option Index) (active : Option Active) → Keeps (committed_if_any (emptying db index).changes (drawn_by active st))
+      by_index None None = under_emptied st.store st.numbers number (st.last_db + 1) name kind db other u
+      by_index None (Some a) = under_emptied st.store st.numbers number (st.last_db + 1) name kind db other u
+      by_index (Some index) active = under_drawn active st u
+
+  indexed : (d : Option Database) (o : Option Active) (st : Standing) (db : List ℕ) (index : Index) → IsOther name db → Keeps st → Keeps (committed_if_any (indexing db index d).changes (drawn_by o st))
+  indexed None o st db index other u = under_drawn o st u
+  indexed (Some d) None st db index other u = under_indexed st.store st.last_db st.numbers number name kind db index (index_pairs index.extract d.pairs) other u
+  indexed (Some d) (Some a) st db index other u = under_indexed st.store st.last_db st.numbers number name kind db index (index_pairs index.extract d.pairs) other u
 
   -- ---- a call
 
@@ -198,6 +209,10 @@ module _ (number : ℕ) (name : List ℕ) (kind : Kind) where
   under_performed (Create db its) limit st session line answer vs has late is u =
       under_catalog (fate_of answer) (evaluation (Create db its) st.store).changes (active_of session st.actives) st
       (λ e. made (active_of session st.actives) st db its (other_name st db u (free_name (is_some (database_of db st.store)) (length st.store.databases) (late_name st session (Create db its) late))) u) u
+  under_performed (CreateIndex db index) limit st session line answer vs has late is u =
+      under_catalog (fate_of answer) (evaluation (CreateIndex db index) st.store).changes (active_of session st.actives) st
+      (λ e. indexed (database_of index.primary st.store) (active_of session st.actives) st db index
+      (other_name st db u (free_name (is_some (database_of db st.store)) (length st.store.databases) (late_name st session (CreateIndex db index) late))) u) u
   under_performed (Remove db) limit st session line answer vs has late is u =
       under_catalog (fate_of answer) (evaluation (Remove db) st.store).changes (active_of session st.actives) st
       (λ e. removed (database_of db st.store) (active_of session st.actives) st db (other_unused st db u has (exclusive st db (evaluation (Remove db) st.store) limit answer is.0 e)) u) u

@@ -14,7 +14,6 @@ use Rattle.store_model.specs.declared.record_change.RecordChange.{RecordChange}
 use Rattle.je_answers.specs.declared.active.Active.{Active}
 use Rattle.je_answers.specs.declared.wait.Wait.{Wait}
 use Rattle.je_answers.specs.Standing.{LockState, active_of, wait_of, without_wait, with_at}
-use Rattle.je_answers.specs.Views.{changes_at}
 use Rattle.je_answers.specs.Locking.{released, forgotten, was_granted_in}
 use Rattle.je_answers.specs.After.{without_session}
 use Rattle.active_txns.specs.Marks.{HaveOwnSessions}
@@ -246,26 +245,22 @@ all_both : {X : Type 0} (P : X → Type 0) (xs ys : List X) → AllByRecursion P
 all_both P [] ys h k = k
 all_both P (x ∷ xs) ys h k = (h.0, all_both P xs ys h.1 k)
 
-in_db : (P : ℕ × RecordChange → Type 0) (db : ℕ) (cs : List RecordChange) → AllByRecursion (λ c. P (db, c)) cs → AllByRecursion P (changes_at db cs)
-in_db P db [] h = tt
-in_db P db (c ∷ cs) h = (h.0, in_db P db cs h.1)
-
-pub sound_own : (last : ℕ) (as_ : List Active) (ch : Changes) (cu : Cursors) (ws : List Wait) (locks : LockState) (t : TxnId) (db : ℕ) (cs : List RecordChange) → IsSoundAt last as_ ch cu ws locks → is_active t as_ ≡ true
-    → AllByRecursion (λ c. HoldsWrite locks.at t (db, c)) cs → IsSoundAt last as_ (with_at t.0 (ch t.0 ++ changes_at db cs) ch) cu ws locks
-sound_own last as_ ch cu ws locks t db cs s active held = record {
+pub sound_own : (last : ℕ) (as_ : List Active) (ch : Changes) (cu : Cursors) (ws : List Wait) (locks : LockState) (t : TxnId) (cs : List (ℕ × RecordChange)) → IsSoundAt last as_ ch cu ws locks → is_active t as_ ≡ true
+    → AllByRecursion (HoldsWrite locks.at t) cs → IsSoundAt last as_ (with_at t.0 (ch t.0 ++ cs) ch) cu ws locks
+sound_own last as_ ch cu ws locks t cs s active held = record {
   numbers = s.numbers;
   waits = s.waits;
   tables = s.tables;
   owners = s.owners;
   own_active = λ n h. ⊎_elim
       (λ e. absurd (both_ways (is_active (txn_id n) as_) h (subst (λ (i : ℕ). is_active (txn_id i) as_ ≡ true) (sym (eqb-true n t.0 e)) active)))
-      (λ e. cond-false (n == t.0) (ch t.0 ++ changes_at db cs) (ch n) e ∙ s.own_active n h)
+      (λ e. cond-false (n == t.0) (ch t.0 ++ cs) (ch n) e ∙ s.own_active n h)
       (cases_Bool (n == t.0));
   own_locked = λ n. ⊎_elim
-      (λ e. subst (AllByRecursion (HoldsWrite locks.at (txn_id n))) (sym (cond-true (n == t.0) (ch t.0 ++ changes_at db cs) (ch n) e))
-      (subst (λ (i : ℕ). AllByRecursion (HoldsWrite locks.at (txn_id i)) (ch t.0 ++ changes_at db cs)) (sym (eqb-true n t.0 e))
-      (all_both (HoldsWrite locks.at t) (ch t.0) (changes_at db cs) (s.own_locked t.0) (in_db (HoldsWrite locks.at t) db cs held))))
-      (λ e. subst (AllByRecursion (HoldsWrite locks.at (txn_id n))) (sym (cond-false (n == t.0) (ch t.0 ++ changes_at db cs) (ch n) e)) (s.own_locked n))
+      (λ e. subst (AllByRecursion (HoldsWrite locks.at (txn_id n))) (sym (cond-true (n == t.0) (ch t.0 ++ cs) (ch n) e))
+      (subst (λ (i : ℕ). AllByRecursion (HoldsWrite locks.at (txn_id i)) (ch t.0 ++ cs)) (sym (eqb-true n t.0 e))
+      (all_both (HoldsWrite locks.at t) (ch t.0) (cs) (s.own_locked t.0) held)))
+      (λ e. subst (AllByRecursion (HoldsWrite locks.at (txn_id n))) (sym (cond-false (n == t.0) (ch t.0 ++ cs) (ch n) e)) (s.own_locked n))
       (cases_Bool (n == t.0));
   places = s.places;
 }

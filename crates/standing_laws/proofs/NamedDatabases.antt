@@ -10,9 +10,11 @@ use Rattle.je_order.proofs.Orderings.{equal_from_test}
 use Rattle.store_model.specs.declared.store.Store.{Store}
 use Rattle.store_model.specs.declared.store.Database.{Database}
 use Rattle.store_model.specs.declared.kind.Kind.{Kind}
+use Rattle.store_model.specs.declared.kind.Kind.TheVariants.{Dup}
+use Rattle.store_model.specs.declared.index.Index.{Index}
 use Rattle.store_model.specs.declared.change.Change.{Change}
-use Rattle.store_model.specs.declared.change.Change.TheVariants.{Set, Unset, Make, Remove, Rename, Empty}
-use Rattle.store_model.specs.Store.{Pair, pairs_with, pairs_without, with_pairs, with_name, in_database, databases_with, databases_without, databases_renamed, database_of, changed, all_changed}
+use Rattle.store_model.specs.declared.change.Change.TheVariants.{Set, Unset, Make, MakeIndex, Remove, Rename, Empty}
+use Rattle.store_model.specs.Store.{Pair, named, new_database, with_primary, pairs_with, pairs_without, with_pairs, with_name, in_database, databases_with, databases_without, databases_renamed, database_of, changed, all_changed}
 use Rattle.store_model.specs.Refusals.{made_by}
 use Rattle.je_answers.specs.Standing.{with_number, all_numbered}
 use Rattle.open_cursors.specs.Under.{IsUnderIn}
@@ -130,7 +132,7 @@ pub under_made : (store : Store) (numbers : List ℕ → ℕ) (number n : ℕ) (
     → IsUnderIn (changed (Make db its) store) (with_number db n numbers) number name kind
 under_made store numbers number n name kind its db other u = record {
   database = u.database;
-  its = inserted name (record { name = db; kind = its; pairs = [] }) store.databases u.database (turned name db other) u.its;
+  its = inserted name (new_database db its None) store.databases u.database (turned name db other) u.its;
   kind_is = u.kind_is;
   number_is = numbers_there db n numbers name other ∙ u.number_is;
 }
@@ -144,21 +146,27 @@ under_removed store numbers number name kind db other u = record {
   number_is = numbers_there db 0 numbers name other ∙ u.number_is;
 }
 
+-- its index, if it is one, may know its primary by another name
 pub under_renamed : (store : Store) (numbers : List ℕ → ℕ) (number : ℕ) (name : List ℕ) (kind : Kind) (db to : List ℕ) → IsOther name db → IsOther name to → IsUnderIn store numbers number name kind
     → IsUnderIn (changed (Rename db to) store) (with_number to (numbers db) (with_number db 0 numbers)) number name kind
-under_renamed store numbers number name kind db to other moved u = record {
-  database = u.database;
-  its = by (database_of db store) refl;
-  kind_is = u.kind_is;
-  number_is = numbers_there to (numbers db) (with_number db 0 numbers) name moved ∙ (numbers_there db 0 numbers name other ∙ u.number_is);
-}
+under_renamed store numbers number name kind db to other moved u = by (database_of db store) refl
   where
-    by : (o : Option Database) → database_of db store ≡ o → named_in name (databases_renamed o to store.databases) ≡ Some u.database
-    by None e = u.its
+    numbered : with_number to (numbers db) (with_number db 0 numbers) name ≡ number
+    numbered = numbers_there to (numbers db) (with_number db 0 numbers) name moved ∙ (numbers_there db 0 numbers name other ∙ u.number_is)
+
+    by : (o : Option Database) → database_of db store ≡ o → IsUnderIn (record { databases = databases_renamed o to store.databases }) (with_number to (numbers db) (with_number db 0 numbers)) number name kind
+    by None e = record { database = u.database; its = u.its; kind_is = u.kind_is; number_is = numbered }
     by (Some d) e =
         let its : d.name ≡ db = same_is d.name db (found_is (λ (x : Database). is_same_bytes x.name db) store.databases d e).1 in
+        let there : named_in name (databases_with (with_name d to) (databases_without d.name store.databases)) ≡ Some u.database =
         inserted name (with_name d to) (databases_without d.name store.databases) u.database (turned name to moved)
-        (left_out name d.name store.databases (λ k. other (k ∙ its)) ∙ u.its)
+        (left_out name d.name store.databases (λ k. other (k ∙ its)) ∙ u.its) in
+        record {
+          database = with_primary d.name to u.database;
+          its = along name (with_primary d.name to) (λ x. refl) (databases_with (with_name d to) (databases_without d.name store.databases)) ∙ ap (option_map (with_primary d.name to)) there;
+          kind_is = u.kind_is;
+          number_is = numbered;
+        }
 
 pub under_emptied : (store : Store) (numbers : List ℕ → ℕ) (number n : ℕ) (name : List ℕ) (kind : Kind) (db : List ℕ) → IsOther name db → IsUnderIn store numbers number name kind
     → IsUnderIn (changed (Empty db) store) (with_number db n numbers) number name kind
@@ -181,3 +189,20 @@ under_all (Set db at value ∷ changes) store last numbers number name kind all 
 under_all (Unset db at ∷ changes) store last numbers number name kind all u =
     under_all changes (changed (Unset db at) store) (last + made_by (Unset db at ∷ [])) numbers number name kind all.1 (under_records store numbers number name kind db (λ d. pairs_without d.kind at d.pairs) u)
 under_all (change ∷ changes) store last numbers number name kind all u = absurd all.0
+
+-- an index is made and filled
+sets_only : (db : List ℕ) (pairs : List Pair) → AllByRecursion IsOfRecord (map (λ p. Set db (named p.0 p.1) []) pairs)
+sets_only db [] = tt
+sets_only db (p ∷ pairs) = (tt, sets_only db pairs)
+
+pub under_indexed : (store : Store) (last : ℕ) (numbers : List ℕ → ℕ) (number : ℕ) (name : List ℕ) (kind : Kind) (db : List ℕ) (index : Index) (pairs : List Pair) → IsOther name db
+    → IsUnderIn store numbers number name kind
+    → IsUnderIn (all_changed (MakeIndex db index ∷ map (λ p. Set db (named p.0 p.1) []) pairs) store)
+    (all_numbered (MakeIndex db index ∷ map (λ p. Set db (named p.0 p.1) []) pairs) last numbers) number name kind
+under_indexed store last numbers number name kind db index pairs other u =
+    under_all (map (λ p. Set db (named p.0 p.1) []) pairs) (changed (MakeIndex db index) store) (last + made_by (MakeIndex db index ∷ [])) (with_number db (last + 1) numbers) number name kind (sets_only db pairs) (record {
+      database = u.database;
+      its = inserted name (new_database db Dup (Some index)) store.databases u.database (turned name db other) u.its;
+      kind_is = u.kind_is;
+      number_is = numbers_there db (last + 1) numbers name other ∙ u.number_is;
+    })

@@ -31,7 +31,7 @@ use Rattle.store_model.specs.Records.{Evaluated}
 use Rattle.je_answers.specs.declared.active.Active.{Active}
 use Rattle.je_answers.specs.declared.wait.Wait.{Wait}
 use Rattle.je_answers.specs.Standing.{Standing, active_of, wait_of, without_wait}
-use Rattle.je_answers.specs.Views.{Target, target_of, needs_in, outcome_of, changes_on}
+use Rattle.je_answers.specs.Views.{Target, target_of, needs_in, outcome_of, changes_with, with_names}
 use Rattle.store_model.specs.Refusals.{or_refusal}
 use Rattle.je_answers.specs.Refusals.{early_refusal, late_refusal, fault_refusal, waits_refusal, abort_refusal, txn_refusal}
 use Rattle.je_answers.specs.Locking.{Queues, record_of, got, all_got, is_stopped, granted_part, first_blocked, owner_before, with_wait, was_granted_in}
@@ -302,7 +302,7 @@ closed_waits true a (c ∷ changes) st = refl
 closed_waits false a changes st = refl
 
 fate_waits : (fate : Fate) (st : Standing) (a : Active) (call : Call) (g : Target) (evaluated : Evaluated) → (after_fate fate st st a call g evaluated).waiting ≡ st.waiting
-fate_waits Succeeds st a call g evaluated = closed_waits a.is_auto a (changes_on g evaluated.changes) (with_outcome a call g evaluated (answered a call g st))
+fate_waits Succeeds st a call g evaluated = closed_waits a.is_auto a (with_names (changes_with st a g evaluated.changes)) (with_outcome a call g evaluated (answered a call g st))
 fate_waits IsRefused st a call g evaluated = closed_waits a.is_auto a [] (answered a call g st)
 fate_waits Faults st a call g evaluated = refl
 

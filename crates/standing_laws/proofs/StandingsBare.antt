@@ -7,7 +7,7 @@ use Rattle.je_order.specs.declared.txn_id.TxnId.{TxnId}
 use Rattle.je_order.specs.Transactions.{is_same_txn}
 use Rattle.je_order.proofs.TxnIds.{same_is}
 use Rattle.store_model.specs.declared.call.Call.{Call}
-use Rattle.store_model.specs.declared.call.Call.TheVariants.{Begin, Commit, Abort, List as Lists, Create, Remove, Rename, Truncate, Get, GetBoth, Put, Delete, Open, Close, Dup, Count, Cur, CPutCur, CDel, CPut}
+use Rattle.store_model.specs.declared.call.Call.TheVariants.{Begin, Commit, Abort, List as Lists, Create, CreateIndex, Remove, Rename, Truncate, Get, GetBoth, Put, Delete, Open, Close, Dup, Count, Cur, CPutCur, CDel, CPut}
 use Rattle.store_model.specs.declared.change.Change.{Change}
 use Rattle.store_model.specs.declared.record_change.RecordChange.{RecordChange}
 use Rattle.store_model.specs.declared.place.Place.{Place}
@@ -24,7 +24,7 @@ use Rattle.store_model.specs.Refusals.{next_txn}
 use Rattle.je_answers.specs.declared.active.Active.{Active}
 use Rattle.je_answers.specs.declared.wait.Wait.{Wait}
 use Rattle.je_answers.specs.Standing.{Standing, active_of, wait_of, without_wait, place_at, with_at}
-use Rattle.je_answers.specs.Views.{Target, target_of, changes_on, changes_at, changes_named, outcome_of, needs_in}
+use Rattle.je_answers.specs.Views.{Target, target_of, changes_with, with_numbers, with_names, changes_named, outcome_of, needs_in}
 use Rattle.je_answers.specs.Refusals.{waits_refusal, early_refusal, late_refusal, number_refusal}
 use Rattle.je_answers.specs.Locking.{first_blocked}
 use Rattle.je_answers.specs.Events.{auto_active, begun, resumed, IsReady, IsResumed}
@@ -137,7 +137,7 @@ bare_same b st mid a changes h as_is own_is = by b changes
 
 bare_fate : (fate : Fate) (old st : Standing) (a : Active) (call : Call) (g : Target) (evaluated : Evaluated) → AreBare old → AreBare st → MayRun st a → AreBare (after_fate fate old st a call g evaluated)
 bare_fate Succeeds old st a call g evaluated before h m =
-    bare_closing a.is_auto st (with_outcome a call g evaluated (answered a call g st)) a (changes_on g evaluated.changes) (st.own a.txn.0 ++ changes_at g.db evaluated.changes) refl m.right.sound.numbers (there_is st a m) h refl refl
+    bare_closing a.is_auto st (with_outcome a call g evaluated (answered a call g st)) a (with_names (changes_with st a g evaluated.changes)) (st.own a.txn.0 ++ with_numbers (changes_with (answered a call g st) a g evaluated.changes)) refl m.right.sound.numbers (there_is st a m) h refl refl
 bare_fate IsRefused old st a call g evaluated before h m = bare_same a.is_auto st (answered a call g st) a [] h refl refl
 bare_fate Faults old st a call g evaluated before h m = before
 
@@ -203,6 +203,7 @@ bare_performed Commit st session line answer vs r h free number = bare_ending (a
 bare_performed Abort st session line answer vs r h free number = bare_any_ended (active_of session st.actives) st h
 bare_performed Lists st session line answer vs r h free number = bare_drawn (active_of session st.actives) st h
 bare_performed (Create db kind) st session line answer vs r h free number = bare_catalog (fate_of answer) _ (active_of session st.actives) st h
+bare_performed (CreateIndex db index) st session line answer vs r h free number = bare_catalog (fate_of answer) _ (active_of session st.actives) st h
 bare_performed (Remove db) st session line answer vs r h free number = bare_catalog (fate_of answer) _ (active_of session st.actives) st h
 bare_performed (Rename db to) st session line answer vs r h free number = bare_catalog (fate_of answer) _ (active_of session st.actives) st h
 bare_performed (Truncate db) st session line answer vs r h free number = bare_catalog (fate_of answer) _ (active_of session st.actives) st h

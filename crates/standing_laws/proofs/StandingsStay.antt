@@ -1,6 +1,6 @@
 -- Each event keeps what holds: by cases of the event, cut as after_event is.
 use Rattle.std.proofs.Common.{◌≡◌, ℕ, ◌<◌, ◌≤◌, ◌+◌, ◌==◌, nat_lt, Bool, true, false, cond, not, List, [], ◌∷◌, ◌++◌, Some, None, Option, refl, ap, sym, ◌∙◌, subst, ⊎_elim, arith}
-use Rattle.std.specs.List.{filter, flat_map, AllByRecursion}
+use Rattle.std.specs.List.{filter, AllByRecursion}
 use Rattle.std.specs.Option.{is_some}
 use Rattle.std.proofs.lemmas.Bool.{cases_Bool, cond-true, cond-false, both_ways, eqb-true, and_parts}
 use Rattle.std.proofs.lemmas.Bool.Decides.{nat_tests}
@@ -15,9 +15,8 @@ use Rattle.store_model.specs.declared.store.TheConstants.{LAST_TXN}
 use Rattle.store_model.specs.declared.isolation.Isolation.{Isolation}
 use Rattle.store_model.specs.declared.isolation.Isolation.TheVariants.{ReadUncommitted, ReadCommitted, RepeatableRead, Serializable}
 use Rattle.store_model.specs.declared.durability.Durability.{Durability}
-use Rattle.store_model.specs.declared.kind.Kind.{Kind}
 use Rattle.store_model.specs.declared.call.Call.{Call}
-use Rattle.store_model.specs.declared.call.Call.TheVariants.{Begin, Commit, Abort, List as Lists, Create, Remove, Rename, Truncate, Get, GetBoth, Put, Delete, Open, Close, Dup, Count, Cur, CPutCur, CDel, CPut}
+use Rattle.store_model.specs.declared.call.Call.TheVariants.{Begin, Commit, Abort, List as Lists, Create, CreateIndex, Remove, Rename, Truncate, Get, GetBoth, Put, Delete, Open, Close, Dup, Count, Cur, CPutCur, CDel, CPut}
 use Rattle.store_model.specs.declared.change.Change.{Change}
 use Rattle.store_model.specs.declared.record_change.RecordChange.{RecordChange}
 use Rattle.store_model.specs.declared.place.Place.{Place}
@@ -29,26 +28,26 @@ use Rattle.store_model.specs.declared.answer.Answer.{Answer}
 use Rattle.store_model.specs.declared.answer.Answer.TheVariants.{Done, DiskFault, SessionWaits, IdsEnded}
 use Rattle.store_model.specs.declared.answer.Fault.{Fault}
 use Rattle.store_model.specs.declared.event.Event.TheVariants.{Call as Called, Resume, End, WriteOut, SyncBegin, SyncEnd, Turn}
-use Rattle.store_model.specs.Store.{Pair}
-use Rattle.store_model.specs.Reads.{seen, passed_to}
-use Rattle.store_model.specs.Records.{Evaluated, conclude, early_of, look_of}
-use Rattle.store_model.specs.Needs.{need, write_type, changed_name, write_needs, part_needs, part_of, ends}
+use Rattle.store_model.specs.Indexes.{Numbered}
+use Rattle.store_model.specs.Records.{Evaluated}
+use Rattle.store_model.specs.Needs.{need, write_type, changed_name}
 use Rattle.store_model.specs.Refusals.{or_refusal, next_txn}
 use Rattle.je_answers.specs.declared.active.Active.{Active}
 use Rattle.je_answers.specs.declared.wait.Wait.{Wait}
 use Rattle.je_answers.specs.Standing.{Standing, active_of, wait_of, without_wait, place_at, with_at}
-use Rattle.je_answers.specs.Views.{Target, target_of, changes_on, changes_named, view_of, occupied, outcome_of, needs_in}
+use Rattle.je_answers.specs.Views.{Target, target_of, changes_with, with_numbers, with_names, changes_named, outcome_of, needs_in}
 use Rattle.je_answers.specs.Refusals.{fault_refusal, waits_refusal, abort_refusal, txn_refusal, early_refusal, late_refusal, number_refusal}
 use Rattle.je_answers.specs.Locking.{Queues, record_of, all_got, granted_part, first_blocked, given_back, released, forgotten}
 use Rattle.je_answers.specs.Events.{auto_active, begun, asking, locks_before, resumed, IsReady, IsResumed}
 use Rattle.je_answers.specs.After.{Fate, fate_of, drawn_by, ended, ended_if_any, committed_if_any, moved, with_locks, answered, with_outcome, opened, opened_at, closed_cursor, closed, after_fate, after_changes, marked, is_victim, autos_in, without_waits_of, with_victims, with_waiting, after_stop, after_taking, after_on, after_run, begun_by, after_commit, after_ending, after_catalog, after_performed, after_evaluated, after_call, after_resumed, faulted_if, after_begin, after_turn}
 use Rattle.je_answers.specs.After.Fate.{Succeeds, IsRefused, Faults}
+use Rattle.je_answers.proofs.SameViews.{answered_changes}
 use Rattle.standing_laws.specs.Right.{HasWrite, HoldsWrite, IsWaitIn, MayWait, is_active, AreRight, IsSoundAt, IsRightAt}
 use Rattle.standing_laws.specs.Laws.{StandingsStayRight, BegunIsRight, ResumedIsRight, UntoldHasNoWait}
 use Rattle.standing_laws.proofs.Among.{IsAmong, any_from, all_at, all_of, filter_among, among_filter, found_is, its_session}
 use Rattle.standing_laws.proofs.Owners.{read_keeps}
 use Rattle.standing_laws.proofs.Waiters.{wait_of_told}
-use Rattle.standing_laws.proofs.Writers.{by_early, writes_of, write_is}
+use Rattle.standing_laws.proofs.Writers.{of_changes, write_is}
 use Rattle.standing_laws.proofs.Steps.{state, sound_all_got, granted_free, stopped_behind, IsWritten, all_written, sound_back}
 use Rattle.standing_laws.proofs.Moves.{numbered_more, own_filter, all_filter, waits_filter, some_active, AreLeft, sound_left, sound_begun, begun_found, drawn_untold, sound_own, sound_resumed}
 use Rattle.standing_laws.proofs.Marks.{is_auto_victim, marked_own, ends_marked}
@@ -164,21 +163,13 @@ back_keeps Serializable t u at r h = h
 
 -- what it changes it then holds for writing
 changes_held : (st : Standing) (a : Active) (call : Call) (g : Target) → first_blocked a.txn (needs_in st a call g) st.locks.at ≡ None
-    → AllByRecursion (λ c. HoldsWrite (given_back a.level a.txn (all_got a.txn (needs_in st a call g) st.locks.at)) a.txn (g.db, c)) (outcome_of st a call g).changes
+    → AllByRecursion (HoldsWrite (given_back a.level a.txn (all_got a.txn (needs_in st a call g) st.locks.at)) a.txn) (with_numbers (changes_with st a g (outcome_of st a call g).changes))
 changes_held st a call g free =
-    let kind : Kind = g.database.kind in
-    let view : List Pair = view_of st a g in
-    let l = look_of kind call g.at in
-    let taken : List Pair = seen kind l.way l.range view in
-    let evaluated : Evaluated = conclude kind call g.at taken in
     let got : Queues = all_got a.txn (needs_in st a call g) st.locks.at in
-    by_early (IsWritten got a.txn) (λ c. HoldsWrite (given_back a.level a.txn got) a.txn (g.db, c)) (early_of kind call g.at view) g.at
-    (part_needs g.db (part_of a.level call) (passed_to kind l.way l.range taken) (ends l.way evaluated.answered taken) (occupied st g))
-    (flat_map (write_needs a.level g.db kind view (occupied st g)) evaluated.changes) evaluated
-    (all_written a.txn (needs_in st a call g) st.locks.at free)
-    (λ all. all_weaker (λ (c : RecordChange). IsWritten got a.txn (need g.db (On (changed_name c)) (write_type a.level))) (λ c. HoldsWrite (given_back a.level a.txn got) a.txn (g.db, c))
-    (λ c written. back_keeps a.level a.txn a.txn got (record_of (need g.db (On (changed_name c)) (write_type a.level))) (written (write_is a.level))) evaluated.changes
-    (writes_of (IsWritten got a.txn) a.level g.db kind view (occupied st g) evaluated.changes all))
+    all_weaker (λ (c : ℕ × RecordChange). IsWritten got a.txn (need c.0 (On (changed_name c.1)) (write_type a.level))) (HoldsWrite (given_back a.level a.txn got) a.txn)
+    (λ c written. back_keeps a.level a.txn a.txn got (record_of (need c.0 (On (changed_name c.1)) (write_type a.level))) (written (write_is a.level)))
+    (with_numbers (changes_with st a g (outcome_of st a call g).changes))
+    (of_changes (IsWritten got a.txn) st a call g (all_written a.txn (needs_in st a call g) st.locks.at free))
 
 -- ---- cursors
 
@@ -233,9 +224,9 @@ opens_in (Some a) cursor db h = refl
 -- ---- what a call comes to
 
 right_outcome : (st : Standing) (a : Active) (call : Call) (g : Target) (evaluated : Evaluated) → AreRight st → active_of a.session st.actives ≡ Some a → is_active a.txn st.actives ≡ true
-    → AllByRecursion (λ c. HoldsWrite st.locks.at a.txn (g.db, c)) evaluated.changes → AreRight (with_outcome a call g evaluated st)
+    → AllByRecursion (HoldsWrite st.locks.at a.txn) (with_numbers (changes_with st a g evaluated.changes)) → AreRight (with_outcome a call g evaluated st)
 right_outcome st a call g evaluated r its active held =
-    let s = sound_own st.last_txn st.actives st.own st.places st.waiting st.locks a.txn g.db evaluated.changes r.sound active held in
+    let s = sound_own st.last_txn st.actives st.own st.places st.waiting st.locks a.txn (with_numbers (changes_with st a g evaluated.changes)) r.sound active held in
     record {
       sound = record {
         numbers = s.numbers;
@@ -270,8 +261,8 @@ right_closed false st a changes r there others = r
 right_fate : (fate : Fate) (old st : Standing) (a : Active) (call : Call) (g : Target) → MayWait call → AreRight old → MayRun st a → first_blocked a.txn (needs_in st a call g) st.locks.at ≡ None
     → AreRight (after_fate fate old st a call g (outcome_of st a call g))
 right_fate Succeeds old st a call g may before m free =
-    right_closed a.is_auto (with_outcome a call g (outcome_of st a call g) (answered a call g st)) a (changes_on g (outcome_of st a call g).changes)
-    (right_outcome (answered a call g st) a call g (outcome_of st a call g) (right_locked st a (needs_in st a call g) m free) m.its (active_is st a m) (changes_held st a call g free))
+    right_closed a.is_auto (with_outcome a call g (outcome_of st a call g) (answered a call g st)) a (with_names (changes_with st a g (outcome_of st a call g).changes))
+    (right_outcome (answered a call g st) a call g (outcome_of st a call g) (right_locked st a (needs_in st a call g) m free) m.its (active_is st a m) (subst (λ (cs : List (Numbered × RecordChange)). AllByRecursion (HoldsWrite (answered a call g st).locks.at a.txn) (with_numbers cs)) (sym (answered_changes st a call g (outcome_of st a call g).changes)) (changes_held st a call g free)))
     (there_is st a m) (untold_has-no_wait st a m.right m.its m.told)
 right_fate IsRefused old st a call g may before m free = right_closed a.is_auto (answered a call g st) a [] (right_locked st a (needs_in st a call g) m free) (there_is st a m) (untold_has-no_wait st a m.right m.its m.told)
 right_fate Faults old st a call g may before m free = before
@@ -409,6 +400,7 @@ right_performed Commit st session line answer vs r free txn number = right_endin
 right_performed Abort st session line answer vs r free txn number = right_abort (active_of session st.actives) st session r refl free
 right_performed Lists st session line answer vs r free txn number = right_drawn (active_of session st.actives) st r
 right_performed (Create db kind) st session line answer vs r free txn number = right_catalog (fate_of answer) _ (active_of session st.actives) st r
+right_performed (CreateIndex db index) st session line answer vs r free txn number = right_catalog (fate_of answer) _ (active_of session st.actives) st r
 right_performed (Remove db) st session line answer vs r free txn number = right_catalog (fate_of answer) _ (active_of session st.actives) st r
 right_performed (Rename db to) st session line answer vs r free txn number = right_catalog (fate_of answer) _ (active_of session st.actives) st r
 right_performed (Truncate db) st session line answer vs r free txn number = right_catalog (fate_of answer) _ (active_of session st.actives) st r

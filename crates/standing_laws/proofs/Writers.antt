@@ -25,13 +25,16 @@ use Rattle.store_model.specs.declared.isolation.Isolation.TheVariants.{ReadUncom
 use Rattle.store_model.specs.declared.kind.Kind.{Kind}
 use Rattle.store_model.specs.declared.need.Need.{Need}
 use Rattle.store_model.specs.declared.answer.Answer.{Answer}
+use Rattle.store_model.specs.declared.call.Call.{Call}
 use Rattle.store_model.specs.declared.record_change.RecordChange.{RecordChange}
 use Rattle.store_model.specs.Store.{Pair}
+use Rattle.store_model.specs.Indexes.{Numbered}
 use Rattle.store_model.specs.Reads.{seen, passed_to}
 use Rattle.store_model.specs.Records.{Evaluated, unless_early, conclude, early_of, look_of}
-use Rattle.store_model.specs.Needs.{need, write_type, changed_name, write_needs, needs_unless, part_needs, part_of, ends}
+use Rattle.store_model.specs.Needs.{need, write_type, changed_name, change_needs, record_needs, needs_unless, part_needs, part_of, ends}
+use Rattle.je_answers.specs.declared.active.Active.{Active}
 use Rattle.je_answers.specs.Standing.{Standing}
-use Rattle.je_answers.specs.Views.{view_of, occupied, of_db, needs_in}
+use Rattle.je_answers.specs.Views.{Target, view_in, view_of, occupied_in, occupied, of_db, changes_with, with_numbers, outcome_of, needs_in}
 use Rattle.je_answers.specs.Locking.{Queues, record_of, got, is_stopped, first_blocked}
 use Rattle.standing_laws.specs.Right.{AreSound, HoldsWrite, place_of, txn_id}
 use Rattle.standing_laws.specs.Laws.{IsOnlyOf, WritersAreFree, UnusedHasNoChanges}
@@ -109,7 +112,7 @@ conflict Write RangeWrite h k = refl
 conflict Write RangeInsert h k = absurd cc
 conflict RangeWrite asked h k = refl
 
-stops : (t u : TxnId) (asked m : LockType) (os : List Lock) → is_same_txn u t ≡ false → held_by u os ≡ Some m → is_write m ≡ true → is_write asked ≡ true → is_blocked os (lock_of t asked) ≡ true
+pub stops : (t u : TxnId) (asked m : LockType) (os : List Lock) → is_same_txn u t ≡ false → held_by u os ≡ Some m → is_write m ≡ true → is_write asked ≡ true → is_blocked os (lock_of t asked) ≡ true
 stops t u asked m [] apart held h k = absurd (none-some m held)
 stops t u asked m (o ∷ os) apart held h k = by (is_of u o) refl (λ more. stops t u asked m os apart more h k)
   where
@@ -143,11 +146,11 @@ all_behind : {X : Type 0} (P : X → Type 0) (xs ys : List X) → AllByRecursion
 all_behind P [] ys all = all
 all_behind P (x ∷ xs) ys all = all_behind P xs ys all.1
 
-pub writes_of : (P : Need → Type 0) (level : Isolation) (db : ℕ) (kind : Kind) (pairs : List Pair) (names : List Name) (cs : List RecordChange) →
-    AllByRecursion P (flat_map (write_needs level db kind pairs names) cs) → AllByRecursion (λ c. P (need db (On (changed_name c)) (write_type level))) cs
-writes_of P level db kind pairs names [] all = tt
-writes_of P level db kind pairs names (c ∷ cs) all =
-    (all.0, writes_of P level db kind pairs names cs (all_behind P (write_needs level db kind pairs names c) (flat_map (write_needs level db kind pairs names) cs) all))
+pub writes_of : (P : Need → Type 0) (level : Isolation) (see : Numbered → List Pair) (names : Numbered → List Name) (cs : List (Numbered × RecordChange)) →
+    AllByRecursion P (flat_map (change_needs level see names) cs) → AllByRecursion (λ c. P (need c.0 (On (changed_name c.1)) (write_type level))) (with_numbers cs)
+writes_of P level see names [] all = tt
+writes_of P level see names (c ∷ cs) all =
+    (all.0, writes_of P level see names cs (all_behind P (change_needs level see names c) (flat_map (change_needs level see names) cs) all))
 
 pub write_is : (level : Isolation) → is_write (write_type level) ≡ true
 write_is ReadUncommitted = refl
@@ -155,10 +158,25 @@ write_is ReadCommitted = refl
 write_is RepeatableRead = refl
 write_is Serializable = refl
 
-pub by_early : (P : Need → Type 0) (Q : RecordChange → Type 0) (early : Option Answer) (at : Option Name) (front back : List Need) (evaluated : Evaluated) → AllByRecursion P (needs_unless early (front ++ back)) →
-    (AllByRecursion P back → AllByRecursion Q evaluated.changes) → AllByRecursion Q (unless_early early at evaluated).changes
-by_early P Q None at front back evaluated all then_all = then_all (all_behind P front back all)
-by_early P Q (Some answer) at front back evaluated all then_all = tt
+-- a call that is answered before it looks changes nothing
+pub by_early : (P : Need → Type 0) (Q : List RecordChange → Type 0) (early : Option Answer) (at : Option Name) (front back : List Need) (evaluated : Evaluated) →
+    AllByRecursion P (needs_unless early (front ++ back)) → Q [] → (AllByRecursion P back → Q evaluated.changes) → Q (unless_early early at evaluated).changes
+by_early P Q None at front back evaluated all nothing then_all = then_all (all_behind P front back all)
+by_early P Q (Some answer) at front back evaluated all nothing then_all = nothing
+
+-- what holds of the needs of a call holds of those of what it changes
+pub of_changes : (P : Need → Type 0) (st : Standing) (a : Active) (call : Call) (g : Target) → AllByRecursion P (needs_in st a call g) →
+    AllByRecursion (λ c. P (need c.0 (On (changed_name c.1)) (write_type a.level))) (with_numbers (changes_with st a g (outcome_of st a call g).changes))
+of_changes P st a call g all =
+    let kind : Kind = g.database.kind in
+    let view : List Pair = view_of st a g in
+    let l = look_of kind call g.at in
+    let taken : List Pair = seen kind l.way l.range view in
+    let evaluated : Evaluated = conclude kind call g.at taken in
+    by_early P (λ cs. AllByRecursion (λ c. P (need c.0 (On (changed_name c.1)) (write_type a.level))) (with_numbers (changes_with st a g cs))) (early_of kind call g.at view) g.at
+    (part_needs g.db (part_of a.level call) (passed_to kind l.way l.range taken) (ends l.way evaluated.answered taken) (occupied st g) ++ record_needs (part_of a.level call) g.over evaluated.answer)
+    (flat_map (change_needs a.level (view_in st a) (occupied_in st)) (changes_with st a g evaluated.changes)) evaluated all tt
+    (writes_of P a.level (view_in st a) (occupied_in st) (changes_with st a g evaluated.changes))
 
 -- ---- own changes
 
@@ -191,18 +209,9 @@ only_of st t d level c sound free u apart = all_weaker (HoldsWrite st.locks.at (
 
 pub writers-are_free : WritersAreFree
 writers-are_free st a call g sound none =
-    let kind : Kind = g.database.kind in
-    let view : List Pair = view_of st a g in
-    let l = look_of kind call g.at in
-    let taken : List Pair = seen kind l.way l.range view in
-    let evaluated : Evaluated = conclude kind call g.at taken in
-    by_early (IsFreeNeed a.txn st.locks.at) (λ c. IsOnlyOf g.db (changed_name c) a.txn.0 st.own) (early_of kind call g.at view) g.at
-    (part_needs g.db (part_of a.level call) (passed_to kind l.way l.range taken) (ends l.way evaluated.answered taken) (occupied st g))
-    (flat_map (write_needs a.level g.db kind view (occupied st g)) evaluated.changes) evaluated
-    (free_needs a.txn (needs_in st a call g) st.locks.at none)
-    (λ all. all_weaker (λ (c : RecordChange). IsFreeNeed a.txn st.locks.at (need g.db (On (changed_name c)) (write_type a.level))) (λ c. IsOnlyOf g.db (changed_name c) a.txn.0 st.own)
-    (λ c free. only_of st a.txn g.db a.level c sound free) evaluated.changes
-    (writes_of (IsFreeNeed a.txn st.locks.at) a.level g.db kind view (occupied st g) evaluated.changes all))
+    all_weaker (λ (c : ℕ × RecordChange). IsFreeNeed a.txn st.locks.at (need c.0 (On (changed_name c.1)) (write_type a.level))) (λ c. IsOnlyOf c.0 (changed_name c.1) a.txn.0 st.own)
+    (λ c free. only_of st a.txn c.0 a.level c.1 sound free) (with_numbers (changes_with st a g (outcome_of st a call g).changes))
+    (of_changes (IsFreeNeed a.txn st.locks.at) st a call g (free_needs a.txn (needs_in st a call g) st.locks.at none))
 
 -- ---- a database that nobody uses
 

@@ -17,7 +17,7 @@ use Rattle.je_answers.specs.declared.wait.Wait.{Wait}
 use Rattle.store_model.specs.Needs.{changed_name}
 use Rattle.je_answers.specs.declared.active.Active.{Active}
 use Rattle.je_answers.specs.Standing.{Standing, active_of, wait_of}
-use Rattle.je_answers.specs.Views.{Target, needs_in, outcome_of, of_db}
+use Rattle.je_answers.specs.Views.{Target, needs_in, outcome_of, changes_with, with_numbers, of_db}
 use Rattle.je_answers.specs.Locking.{IsUnused, first_blocked, was_granted_in}
 use Rattle.je_answers.specs.Events.{IsAnswered, begun, resumed}
 use Rattle.je_answers.specs.After.{after_event}
@@ -35,10 +35,10 @@ HasNoneOf d x own = AllByRecursion (λ c. ((c.0 == d) && is_eq (name_cmp x (chan
 abbrev pub IsOnlyOf : ℕ → Name → ℕ → (ℕ → List (ℕ × RecordChange)) → Type 0
 IsOnlyOf d x txn own = (t : ℕ) → (t ≡ txn → ⊥) → HasNoneOf d x (own t)
 
--- what a call that got its locks changes, no other transaction has changed
+-- what a call that got its locks changes, in its database and in the indexes, no other transaction has changed
 abbrev pub WritersAreFree : Type 0
 WritersAreFree = (st : Standing) (a : Active) (call : Call) (g : Target) → AreSound st → first_blocked a.txn (needs_in st a call g) st.locks.at ≡ None →
-    AllByRecursion (λ c. IsOnlyOf g.db (changed_name c) a.txn.0 st.own) (outcome_of st a call g).changes
+    AllByRecursion (λ c. IsOnlyOf c.0 (changed_name c.1) a.txn.0 st.own) (with_numbers (changes_with st a g (outcome_of st a call g).changes))
 
 -- in a database that nobody uses nobody has changes
 abbrev pub UnusedHasNoChanges : Type 0

@@ -1,5 +1,5 @@
 -- What a call outside a transaction comes to on a store of both kinds of databases, refusals but NoDatabase aside.
-use Rattle.std.specs.Prelude.{ℕ, [], List, Option, None, Some, map}
+use Rattle.std.specs.Prelude.{ℕ, List, Option, None, Some, map}
 use Rattle.store_model.specs.declared.store.Store.{Store}
 use Rattle.store_model.specs.declared.store.Database.{Database}
 use Rattle.store_model.specs.declared.call.Call.{Call}

@@ -1,16 +1,17 @@
 // Evaluation of the calls on the catalog.
 ghost use Rattle.std.specs.Prelude.{◌≡◌, [], None, IfOk};
 ghost use Rattle.store_model.specs.Store.{names_of};
-ghost use Rattle.store_model.specs.Evaluation.{evaluation, changes_by};
+ghost use Rattle.store_model.specs.Evaluation.{evaluation, emptying, changes_by};
 ghost use Rattle.store_model.specs.declared.answer.Answer.TheVariants.{Names, NoDatabase};
-ghost use Rattle.store_model.specs.declared.call.Call.TheVariants.{Remove as Removes, Rename as Renames, Truncate};
+ghost use Rattle.store_model.specs.declared.call.Call.TheVariants.{CreateIndex as CreatesIndex, Remove as Removes, Rename as Renames, Truncate};
 ghost use Rattle.store_model.specs.declared.change.Change.TheVariants.{Make};
 ghost use Rattle.store_eval.specs.Outcomes.{database_of_records};
 
 use crate::changing::find_database;
+use crate::indexing::index_of;
 use je_order::{List, Word, copy_of};
 use std::alloc::{AllocError, Global};
-use store_model::{Answer, Call, Change, Kind, Store};
+use store_model::{Answer, Call, Change, Database, Index, Kind, Store};
 
 /// The answer and the changes of a call that is not on records.
 pub fn eval_catalog(
@@ -23,6 +24,7 @@ pub fn eval_catalog(
 {
     match call {
         Call::Create { db, kind } => create(alloc, db, kind),
+        Call::CreateIndex { db, index } => create_index(alloc, store, db, index),
         Call::List => list(alloc, store),
         Call::Remove { db } => remove(alloc, store, db),
         Call::Rename { db, to } => rename(alloc, store, db, to),
@@ -79,10 +81,33 @@ fn rename(
 fn truncate(alloc: Global, store: &Store, db: &Word) -> Result<(Answer, List<Change>), AllocError>
     ensures { IfOk result (λ r. record { answer = r.0; changes = r.1 } ≡ evaluation (Truncate db.now) store.now) }
 {
-    let Some(_) = find_database(store, db) else {
-        return Ok(no_database(alloc));
-    };
-    done_by(alloc, Change::Empty { db: copy_of(db)? })
+    match find_database(store, db) {
+        None => Ok(no_database(alloc)),
+        Some(d) => empty(alloc, db, d),
+    }
+}
+
+fn empty(alloc: Global, db: &Word, d: &Database) -> Result<(Answer, List<Change>), AllocError>
+    ensures { IfOk result (λ r. record { answer = r.0; changes = r.1 } ≡ emptying db.now d.now.index) }
+{
+    match &d.index {
+        None => done_by(alloc, Change::Empty { db: copy_of(db)? }),
+        Some(_) => Ok((Answer::ReadOnlyIndex, List::new(alloc))),
+    }
+}
+
+fn create_index(
+    alloc: Global,
+    store: &Store,
+    db: &Word,
+    index: &Index,
+) -> Result<(Answer, List<Change>), AllocError>
+    ensures { IfOk result (λ r. record { answer = r.0; changes = r.1 } ≡ evaluation (CreatesIndex db.now index.now) store.now) }
+{
+    match find_database(store, &index.primary) {
+        None => Ok(no_database(alloc)),
+        Some(primary) => index_of(alloc, db, index, primary),
+    }
 }
 
 /// There is no such database, and nothing changes.

@@ -1,13 +1,13 @@
 // A store after changes, as a copy.
-ghost use Rattle.std.specs.Prelude.{◌≡◌, [], IfOk, map, if◌then◌else◌};
+ghost use Rattle.std.specs.Prelude.{◌≡◌, [], IfOk, map, option_map, if◌then◌else◌};
 ghost use Rattle.std.specs.Option.{option_copied};
-ghost use Rattle.store_model.specs.Store.{pair_for, pairs_changed, all_pairs_changed, database_of, pairs_with, pairs_without, with_pairs, with_name, in_database, databases_with, databases_without, databases_renamed, changed, all_changed};
+ghost use Rattle.store_model.specs.Store.{pair_for, pairs_changed, all_pairs_changed, database_of, pairs_with, pairs_without, with_pairs, with_name, with_primary, index_renamed, new_database, in_database, databases_with, databases_without, databases_renamed, changed, all_changed};
 ghost use Rattle.je_order.specs.Order.{is_same_bytes as is_same_text};
 
 use je_order::{List, Name, Octets, Word, cmp_bytes, copy_of};
 use record_eval::{cmp_pair, copies_where, proper_name, with_item};
 use std::alloc::{AllocError, Global};
-use store_model::{Change, Database, Kind, RecordChange, Store};
+use store_model::{Change, Database, Index, Kind, RecordChange, Store};
 
 // Whether two byte strings are the same.
 fn same_bytes(a: &[u8], b: &[u8]) -> bool
@@ -103,13 +103,29 @@ fn after_one(
     }
 }
 
+/// A copy of what a database is an index of, if it is one.
+fn copy_index(index: Option<&Index>) -> Result<Option<Index>, AllocError>
+    ensures { IfOk result (λ copy. copy ≡ option_copied index.entry) }
+{
+    match index {
+        Some(index) => Ok(Some(copy_of(index)?)),
+        None => Ok(None),
+    }
+}
+
 /// A copy of the database with other pairs.
 fn copy_with(d: &Database, pairs: List<(Octets, Octets)>) -> Result<Database, AllocError>
     ensures { IfOk result (λ copy. copy ≡ with_pairs d.now pairs) }
 {
     let name = copy_of(&d.name)?;
     let kind = d.kind;
-    Ok(Database { name, kind, pairs })
+    let index = copy_index(d.index.as_ref())?;
+    Ok(Database {
+        name,
+        kind,
+        index,
+        pairs,
+    })
 }
 
 /// A copy of the database, with the name set to the data if it is the database of that name.
@@ -221,8 +237,67 @@ fn copy_named(d: &Database, to: &Word) -> Result<Database, AllocError>
 {
     let name = copy_of(to)?;
     let kind = d.kind;
+    let index = copy_index(d.index.as_ref())?;
     let pairs = copy_of(&d.pairs)?;
-    Ok(Database { name, kind, pairs })
+    Ok(Database {
+        name,
+        kind,
+        index,
+        pairs,
+    })
+}
+
+/// A copy of what an index is made of, where its primary has another name if it is the one of that name.
+fn index_named(index: &Index, db: &Word, to: &Word) -> Result<Index, AllocError>
+    ensures { IfOk result (λ copy. copy ≡ index_renamed db.now to.now index.now) }
+{
+    let primary = if same_bytes(index.primary.as_slice(), db.as_slice()) {
+        copy_of(to)?
+    } else {
+        copy_of(&index.primary)?
+    };
+    let extract = index.extract;
+    Ok(Index { primary, extract })
+}
+
+fn any_index_named(index: Option<&Index>, db: &Word, to: &Word) -> Result<Option<Index>, AllocError>
+    ensures { IfOk result (λ copy. copy ≡ option_map (index_renamed db.now to.now) (option_copied index.entry)) }
+{
+    match index {
+        Some(index) => Ok(Some(index_named(index, db, to)?)),
+        None => Ok(None),
+    }
+}
+
+/// A copy of the database, by another name of its primary if that is the one of that name.
+fn copy_with_primary(d: &Database, db: &Word, to: &Word) -> Result<Database, AllocError>
+    ensures { IfOk result (λ copy. copy ≡ with_primary db.now to.now d.now) }
+{
+    let name = copy_of(&d.name)?;
+    let kind = d.kind;
+    let index = any_index_named(d.index.as_ref(), db, to)?;
+    let pairs = copy_of(&d.pairs)?;
+    Ok(Database {
+        name,
+        kind,
+        index,
+        pairs,
+    })
+}
+
+fn rename_primaries(
+    alloc: Global,
+    databases: &[Database],
+    db: &Word,
+    to: &Word,
+) -> Result<List<Database>, AllocError>
+    ensures { IfOk result (λ list. list ≡ map (with_primary db.now to.now) databases.now) }
+{
+    let mut copies = Vec::new(alloc);
+    for d in databases {
+        copies.push(copy_with_primary(d, db, to)?)?;
+    }
+    Ok(List::from_vec(copies))
 }
 
 /// The databases with one of them, if it is there, under another name.
@@ -239,7 +314,8 @@ fn rename_database(
     };
     let new = copy_named(d, to)?;
     let others = remove_database(alloc, databases.as_slice(), &d.name)?;
-    add_database(alloc, new, others.as_slice())
+    let all = add_database(alloc, new, others.as_slice())?;
+    rename_primaries(alloc, all.as_slice(), &d.name, to)
 }
 
 /// The databases and one more, in order of the names.
@@ -261,14 +337,20 @@ fn add_database(
 }
 
 /// A database without records.
-fn empty_database(alloc: Global, db: &Word, kind: &Kind) -> Result<Database, AllocError>
-    ensures { IfOk result (λ d. d ≡ record { name = db.now; kind = kind.now; pairs = [] }) }
+fn empty_database(
+    alloc: Global,
+    db: &Word,
+    kind: Kind,
+    index: Option<&Index>,
+) -> Result<Database, AllocError>
+    ensures { IfOk result (λ d. d ≡ new_database db.now kind (option_copied index.entry)) }
 {
     let name = copy_of(db)?;
-    let kind = *kind;
+    let index = copy_index(index)?;
     Ok(Database {
         name,
         kind,
+        index,
         pairs: List::new(alloc),
     })
 }
@@ -278,11 +360,12 @@ fn make_database(
     alloc: Global,
     databases: &[Database],
     db: &Word,
-    kind: &Kind,
+    kind: Kind,
+    index: Option<&Index>,
 ) -> Result<List<Database>, AllocError>
-    ensures { IfOk result (λ list. list ≡ databases_with (record { name = db.now; kind = kind.now; pairs = [] }) databases.now) }
+    ensures { IfOk result (λ list. list ≡ databases_with (new_database db.now kind (option_copied index.entry)) databases.now) }
 {
-    let new = empty_database(alloc, db, kind)?;
+    let new = empty_database(alloc, db, kind, index)?;
     add_database(alloc, new, databases)
 }
 
@@ -298,7 +381,10 @@ fn databases_after(
     match change {
         Change::Set { db, at, value } => set_in_each(alloc, databases, db, at, value),
         Change::Unset { db, at } => unset_in_each(alloc, databases, db, at),
-        Change::Make { db, kind } => make_database(alloc, databases, db, kind),
+        Change::Make { db, kind } => make_database(alloc, databases, db, *kind, None),
+        Change::MakeIndex { db, index } => {
+            make_database(alloc, databases, db, Kind::Dup, Some(index))
+        }
         Change::Remove { db } => remove_database(alloc, databases, db),
         Change::Rename { db, to } => {
             rename_database(alloc, find_database(store, db), to, &store.databases)

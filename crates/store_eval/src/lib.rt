@@ -8,6 +8,7 @@
 pub mod calls;
 mod catalog;
 mod changing;
+mod indexing;
 
 pub use calls::eval;
 pub use changing::{after_changes, pairs_after};

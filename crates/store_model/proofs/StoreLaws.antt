@@ -1,10 +1,9 @@
 -- Every change leaves a right store right.
-use Rattle.std.proofs.Common.{◌≡◌, ℕ, List, [], ◌∷◌, ◌++◌, Bool, true, false, cond, not, Option, None, Some, map, filter, find, refl, ap, ap₂, ◌∙◌, subst, Ordering, Less, Equal, Greater, is_lt, is_gt, is_eq}
+use Rattle.std.proofs.Common.{◌≡◌, ℕ, List, [], ◌∷◌, ◌++◌, Bool, true, false, cond, not, Option, None, Some, map, filter, find, refl, ap, ap₂, ◌∙◌, subst, Ordering, Less, Greater, is_lt, is_gt, is_eq}
 use Rattle.std.specs.List.{AllByRecursion}
 use Rattle.std.specs.List.Sorted.{IsStrictlySortedBy}
 use Rattle.std.specs.Ordering.{ordering_reverse, on}
 use Rattle.std.specs.Cmp.{IsTotalOrder}
-use Rattle.std.proofs.lemmas.Bool.{cond_both}
 use Rattle.std.proofs.lemmas.Cmp.{nat_list_cmp_total, on_total, then_total}
 use Rattle.std.proofs.lemmas.Option.{none-some, same_Some}
 use Rattle.std.proofs.lemmas.List.Kept.{IsStrictlySortedBy-filter}
@@ -15,8 +14,8 @@ use Rattle.store_model.specs.declared.store.Database.{Database}
 use Rattle.store_model.specs.declared.kind.Kind.{Kind}
 use Rattle.store_model.specs.declared.kind.Kind.TheVariants.{Plain, Dup}
 use Rattle.store_model.specs.declared.change.Change.{Change}
-use Rattle.store_model.specs.declared.change.Change.TheVariants.{Set, Unset, Make, Remove, Rename, Empty}
-use Rattle.store_model.specs.Store.{all_changed, store_after, no_databases, Pair, name_of, proper, pair_for, HasRisingNames, IsStore, database_of, pairs_with, pairs_without, with_pairs, with_name, in_database, databases_with, databases_without, databases_renamed, changed}
+use Rattle.store_model.specs.declared.change.Change.TheVariants.{Set, Unset, Make, MakeIndex, Remove, Rename, Empty}
+use Rattle.store_model.specs.Store.{all_changed, store_after, no_databases, Pair, name_of, proper, pair_for, HasRisingNames, IsStore, database_of, pairs_with, pairs_without, with_pairs, with_name, with_primary, new_database, in_database, databases_with, databases_without, databases_renamed, changed}
 use Rattle.je_order.proofs.Lists.{all_weaker, all_append, all_kept, filter_all_pass}
 use Rattle.je_order.proofs.Orderings.{less_from_test, greater_from_test}
 
@@ -27,7 +26,7 @@ found_if P true y x rest h here more = subst P (same_Some y x h) here
 found_if P false y x rest h here more = more h
 
 -- what holds of each element holds of the one that is found
-found : {X : Type 0} (P : X → Type 0) (p : X → Bool) (xs : List X) (x : X) → find p xs ≡ Some x → AllByRecursion P xs → P x
+pub found : {X : Type 0} (P : X → Type 0) (p : X → Bool) (xs : List X) (x : X) → find p xs ≡ Some x → AllByRecursion P xs → P x
 found P p [] x h all = absurd (none-some x h)
 found P p (y ∷ ys) x h all = found_if P (p y) y x (find p ys) h all.0 (λ e. found P p ys x e all.1)
 
@@ -74,7 +73,7 @@ put_between {X} {K} cmp total key k x is xs up =
 pub names_total : IsTotalOrder name_cmp
 names_total = then_total (on_total (λ (n : Name). n.key) nat_list_cmp_total) (on_total (λ (n : Name). n.dup) nat_list_cmp_total)
 
-names_nil : (kind : Kind) → HasRisingNames kind []
+pub names_nil : (kind : Kind) → HasRisingNames kind []
 unfolding IsStrictlySortedBy
 names_nil kind = tt
 
@@ -83,11 +82,11 @@ pub name_of-pair_for : (kind : Kind) (at : Name) (value : List ℕ) → name_of 
 name_of-pair_for Plain at value = refl
 name_of-pair_for Dup at value = refl
 
-names_set : (kind : Kind) (at : Name) (value : List ℕ) (pairs : List Pair) → HasRisingNames kind pairs → HasRisingNames kind (pairs_with kind at value pairs)
+pub names_set : (kind : Kind) (at : Name) (value : List ℕ) (pairs : List Pair) → HasRisingNames kind pairs → HasRisingNames kind (pairs_with kind at value pairs)
 names_set kind at value pairs up =
     put_between name_cmp names_total (name_of kind) (proper kind at) (pair_for kind at value) (name_of-pair_for kind at value) pairs up
 
-names_unset : (kind : Kind) (at : Name) (pairs : List Pair) → HasRisingNames kind pairs → HasRisingNames kind (pairs_without kind at pairs)
+pub names_unset : (kind : Kind) (at : Name) (pairs : List Pair) → HasRisingNames kind pairs → HasRisingNames kind (pairs_without kind at pairs)
 names_unset kind at pairs up = IsStrictlySortedBy-filter (on (name_of kind) name_cmp) (λ p. not (is_eq (name_cmp (name_of kind p) (proper kind at)))) pairs up
 
 -- ---- databases
@@ -154,7 +153,14 @@ renamed_right : (o : Option Database) (to : List ℕ) (databases : List Database
     IsStore (record { databases = databases }) → IsStore (record { databases = databases_renamed o to databases })
 renamed_right None to databases rising right = right
 renamed_right (Some d) to databases rising right =
-    with_database_right (with_name d to) (databases_without d.name databases) (rising d refl) (without_database_right d.name databases right)
+    let c : Database → Database = with_primary d.name to in
+    let rest : List Database = databases_with (with_name d to) (databases_without d.name databases) in
+    let known : IsStore (record { databases = rest }) =
+    with_database_right (with_name d to) (databases_without d.name databases) (rising d refl) (without_database_right d.name databases right) in
+    record {
+      names = names_along c (λ e. refl) rest known.names;
+      records = records_along c (λ e up. up) rest known.records;
+    }
 
 -- ---- stores
 
@@ -167,8 +173,9 @@ changed_is_right (Set db at value) store right =
     in_database_right db (λ d. pairs_with d.kind at value d.pairs) (λ d up. names_set d.kind at value d.pairs up) store right
 changed_is_right (Unset db at) store right = in_database_right db (λ d. pairs_without d.kind at d.pairs) (λ d up. names_unset d.kind at d.pairs up) store right
 changed_is_right (Make db kind) store right =
-    let new : Database = record { name = db; kind = kind; pairs = [] } in
-    with_database_right new store.databases (names_nil kind) (record { names = right.names; records = right.records })
+    with_database_right (new_database db kind None) store.databases (names_nil kind) (record { names = right.names; records = right.records })
+changed_is_right (MakeIndex db index) store right =
+    with_database_right (new_database db Dup (Some index)) store.databases (names_nil Dup) (record { names = right.names; records = right.records })
 changed_is_right (Remove db) store right = without_database_right db store.databases (record { names = right.names; records = right.records })
 changed_is_right (Rename db to) store right =
     renamed_right (database_of db store) to store.databases (λ d e. found AreRising (λ x. is_same_bytes x.name db) store.databases d e right.records)

@@ -1,18 +1,20 @@
--- What the calls that scripts have lines for so far answer and change, on a store of plain databases (Getting Started Guide, "Database Records").
--- Records has all calls on records, in databases of both kinds.
-use Rattle.std.specs.Prelude.{ℕ, ◌∷◌, [], List, Option, None, Some}
+-- What calls on the catalog answer and change on a store, and calls on records in one of plain databases (Getting Started Guide, "Databases" and
+-- "Database Records"). Records has all calls on records, in databases of both kinds.
+use Rattle.std.specs.Prelude.{ℕ, ◌∷◌, [], List, Option, None, Some, map}
 use Rattle.je_order.specs.declared.name.Name.{Name}
 use Rattle.store_model.specs.declared.store.Store.{Store}
 use Rattle.store_model.specs.declared.store.Database.{Database}
 use Rattle.store_model.specs.declared.call.Call.{Call}
-use Rattle.store_model.specs.declared.call.Call.TheVariants.{Create, List as Lists, Remove as Removes, Rename as Renames, Truncate, Put, Get, Delete}
+use Rattle.store_model.specs.declared.call.Call.TheVariants.{Create, CreateIndex, List as Lists, Remove as Removes, Rename as Renames, Truncate, Put, Get, Delete}
 use Rattle.store_model.specs.declared.put_mode.PutMode.{PutMode}
 use Rattle.store_model.specs.declared.put_mode.PutMode.TheVariants.{Overwrite, NoOverwrite, NoDupData}
 use Rattle.store_model.specs.declared.change.Change.{Change}
-use Rattle.store_model.specs.declared.change.Change.TheVariants.{Set, Unset, Make, Remove, Rename, Empty}
+use Rattle.store_model.specs.declared.change.Change.TheVariants.{Set, Unset, Make, MakeIndex, Remove, Rename, Empty}
 use Rattle.store_model.specs.declared.answer.Answer.{Answer}
-use Rattle.store_model.specs.declared.answer.Answer.TheVariants.{Done, Rec, Names, NotFound, KeyExist, NoDatabase, OnlyOnDuplicates}
-use Rattle.store_model.specs.Store.{database_of, pair_at, names_of}
+use Rattle.store_model.specs.declared.answer.Answer.TheVariants.{Done, Rec, Names, NotFound, KeyExist, NoDatabase, ReadOnlyIndex, OnlyOnDuplicates}
+use Rattle.store_model.specs.declared.index.Index.{Index}
+use Rattle.store_model.specs.Store.{database_of, pair_at, names_of, named}
+use Rattle.store_model.specs.Indexes.{index_pairs}
 
 -- an answer, and the changes in order
 pub record Outcome : Type 0 where
@@ -52,16 +54,28 @@ abbrev pub deleting : List ℕ → List ℕ → Option (List ℕ × List ℕ) �
 deleting db key None = answers NotFound
 deleting db key (Some pair) = changes_by (Unset db (plain_name key))
 
--- a call on a store and its database there; only Create and List are evaluated where there is no such database
+-- an index is made, and filled with the pairs of its primary's records, in order
+abbrev pub indexing : List ℕ → Index → Option Database → Outcome
+indexing db index None = answers NoDatabase
+indexing db index (Some primary) =
+    record { answer = Done; changes = MakeIndex db index ∷ map (λ p. Set db (named p.0 p.1) []) (index_pairs index.extract primary.pairs) }
+
+-- an index is emptied with its primary alone
+abbrev pub emptying : List ℕ → Option Index → Outcome
+emptying db None = changes_by (Empty db)
+emptying db (Some index) = answers ReadOnlyIndex
+
+-- a call on a store and its database there; only those that make one and List are evaluated where there is no such database
 abbrev pub evaluation_in : Call → Store → Option Database → Outcome
 evaluation_in (Create db kind) store d = changes_by (Make db kind)
+evaluation_in (CreateIndex db index) store d = indexing db index (database_of index.primary store)
 evaluation_in Lists store d = answers (Names (names_of store))
 evaluation_in (Removes db) store None = answers NoDatabase
 evaluation_in (Removes db) store (Some d) = changes_by (Remove db)
 evaluation_in (Renames db to) store None = answers NoDatabase
 evaluation_in (Renames db to) store (Some d) = changes_by (Rename db to)
 evaluation_in (Truncate db) store None = answers NoDatabase
-evaluation_in (Truncate db) store (Some d) = changes_by (Empty db)
+evaluation_in (Truncate db) store (Some d) = emptying db d.index
 evaluation_in (Put db key value mode) store None = answers NoDatabase
 evaluation_in (Put db key value mode) store (Some d) = putting mode db key value (pair_at key d.pairs)
 evaluation_in (Get db key rmw) store None = answers NoDatabase
@@ -73,6 +87,7 @@ evaluation_in call store d = answers Done
 -- the database that a call names; others name none, and no database has the empty name
 abbrev pub database_named : Call → List ℕ
 database_named (Create db kind) = db
+database_named (CreateIndex db index) = db
 database_named (Removes db) = db
 database_named (Renames db to) = db
 database_named (Truncate db) = db

@@ -16,10 +16,12 @@ use Rattle.store_model.specs.declared.put_mode.PutMode.TheVariants.{Overwrite, N
 use Rattle.store_model.specs.declared.call.Call.{Call}
 use Rattle.store_model.specs.declared.call.Call.TheVariants.{Get, GetBoth, Put, Delete, Count, Cur, CDel, CPut}
 use Rattle.store_model.specs.declared.record_change.RecordChange.{RecordChange}
-use Rattle.store_model.specs.declared.record_change.RecordChange.TheVariants.{Set, Unset}
 use Rattle.store_model.specs.declared.answer.Answer.{Answer}
+use Rattle.store_model.specs.declared.answer.Answer.TheVariants.{Rec}
 use Rattle.store_model.specs.declared.need.Need.{Need}
-use Rattle.store_model.specs.Store.{Pair}
+use Rattle.store_model.specs.Store.{Pair, named}
+pub use Rattle.store_model.specs.Store.{changed_name}
+use Rattle.store_model.specs.Indexes.{Numbered, all_changes}
 use Rattle.store_model.specs.Reads.{Way, Range, is_within, just, seen, passed, passed_to, at_name}
 use Rattle.store_model.specs.Reads.Way.{Lowest}
 use Rattle.store_model.specs.Records.{look_of, early_of, conclude}
@@ -102,11 +104,6 @@ abbrev pub write_type : Isolation → LockType
 write_type Serializable = RangeWrite
 write_type level = Write
 
--- the name that a change is of
-abbrev pub changed_name : RecordChange → Name
-changed_name (Set at value) = at
-changed_name (Unset at) = at
-
 -- a name without a record comes in front of the next occupied one
 abbrev pub insert_needs : ℕ → List Pair → Bound → List Need
 insert_needs db [] next = need db next RangeInsert ∷ []
@@ -133,6 +130,32 @@ needs_of level db kind call at pairs occupied =
     needs_unless (early_of kind call at pairs) (
     part_needs db (part_of level call) (passed_to kind l.way l.range taken) (ends l.way evaluated.answered taken) occupied
     ++ flat_map (write_needs level db kind pairs occupied) evaluated.changes
+    )
+
+-- ---- the needs of a call where there are indexes
+
+-- a record that is read by an index is locked as its pair
+abbrev pub record_needs : Option Part → Option Numbered → Answer → List Need
+record_needs (Some p) (Some primary) (Rec key primary_key) = need primary.0 (On (named primary_key [])) p.inside ∷ []
+record_needs p over answer = []
+
+-- a change locks in the database that it is in
+abbrev pub change_needs : Isolation → (Numbered → List Pair) → (Numbered → List Name) → Numbered × RecordChange → List Need
+change_needs level see occupied c = write_needs level c.0.0 c.0.1.kind (see c.0) (occupied c.0) c.1
+
+-- what a call needs that is on a database with indexes, or on an index: what its read passes; the record that it reads by an index; and what it changes, with
+-- what comes with that in the indexes, in order. `see` and `occupied` give the records of a database and its occupied names
+abbrev pub needs_through : Isolation → Option Numbered → Numbered → List Numbered → (Numbered → List Pair) → (Numbered → List Name) → Call → Option Name → List Need
+needs_through level over d indexes see occupied call at =
+    let kind = d.1.kind in
+    let pairs = see d in
+    let l = look_of kind call at in
+    let taken = seen kind l.way l.range pairs in
+    let evaluated = conclude kind call at taken in
+    needs_unless (early_of kind call at pairs) (
+    part_needs d.0 (part_of level call) (passed_to kind l.way l.range taken) (ends l.way evaluated.answered taken) (occupied d)
+    ++ record_needs (part_of level call) over evaluated.answer
+    ++ flat_map (change_needs level see occupied) (all_changes over d indexes see evaluated.changes)
     )
 
 -- all names on which a call depends: where its cursor stands, and what it passed

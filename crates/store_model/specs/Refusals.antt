@@ -1,7 +1,10 @@
 -- Refusals of a call, and the numbers that changes allocate (Getting Started with Transaction Processing; the order of refusals is this project's own).
-use Rattle.std.specs.Prelude.{ℕ, ◌+◌, ◌∷◌, [], List, Option, None, Some, Bool, nat_lt, nat_le, length, if◌then◌else◌}
+use Rattle.std.specs.Prelude.{ℕ, ◌+◌, ◌∷◌, [], List, Option, None, Some, Bool, true, false, ◌&&◌, nat_lt, nat_le, length, if◌then◌else◌}
+use Rattle.std.specs.Option.{is_none}
 use Rattle.je_order.specs.declared.limits.TheConstants.{KEY_LIMIT, VALUE_LIMIT}
 use Rattle.store_model.specs.declared.store.TheConstants.{MOST_DATABASES, LAST_TXN, DUP_LIMIT}
+use Rattle.store_model.specs.declared.store.Database.{Database}
+use Rattle.store_model.specs.declared.index.Index.{Index}
 use Rattle.store_model.specs.declared.kind.Kind.{Kind}
 use Rattle.store_model.specs.declared.kind.Kind.TheVariants.{Plain, Dup}
 use Rattle.store_model.specs.declared.put_mode.PutMode.TheVariants.{NoDupData}
@@ -10,9 +13,9 @@ use Rattle.store_model.specs.declared.motion.Motion.TheVariants.{Key, Range, Bot
 use Rattle.store_model.specs.declared.call.Call.{Call}
 use Rattle.store_model.specs.declared.call.Call.TheVariants.{Get, GetBoth, Put, Delete, Cur, CPutCur, CPut}
 use Rattle.store_model.specs.declared.change.Change.{Change}
-use Rattle.store_model.specs.declared.change.Change.TheVariants.{Set, Unset, Make, Remove, Rename, Empty}
+use Rattle.store_model.specs.declared.change.Change.TheVariants.{Set, Unset, Make, MakeIndex, Remove, Rename, Empty}
 use Rattle.store_model.specs.declared.answer.Answer.{Answer}
-use Rattle.store_model.specs.declared.answer.Answer.TheVariants.{NoDatabase, NameTaken, TooMany, NotOnDuplicates, OnlyOnDuplicates, TooLong}
+use Rattle.store_model.specs.declared.answer.Answer.TheVariants.{NoDatabase, NameTaken, HasIndex, TooMany, ReadOnlyIndex, NotOnDuplicates, OnlyOnDuplicates, TooLong}
 
 -- the number allocated next stays at the last one
 abbrev pub next_txn : ℕ → ℕ
@@ -25,6 +28,7 @@ made_by [] = 0
 made_by (Set db at value ∷ changes) = made_by changes
 made_by (Unset db at ∷ changes) = made_by changes
 made_by (Make db kind ∷ changes) = made_by changes + 1
+made_by (MakeIndex db index ∷ changes) = made_by changes + 1
 made_by (Remove db ∷ changes) = made_by changes
 made_by (Rename db to ∷ changes) = made_by changes
 made_by (Empty db ∷ changes) = made_by changes + 1
@@ -45,9 +49,29 @@ access_refusal there = if there then None else Some NoDatabase
 abbrev pub taken_refusal : Bool → Option Answer
 taken_refusal taken = if taken then Some NameTaken else None
 
+-- a database that has indexes stays
+abbrev pub indexed_refusal : Bool → Option Answer
+indexed_refusal indexed = if indexed then Some HasIndex else None
+
+-- an index is of a plain database that is no index
+abbrev pub is_plain : Kind → Bool
+is_plain Plain = true
+is_plain Dup = false
+
+abbrev pub is_primary : Option Database → Bool
+is_primary None = false
+is_primary (Some d) = is_plain d.kind && is_none d.index
+
 -- the refusal of a key past its limit, else of data past its limit
 abbrev pub too_long : ℕ → List ℕ → Option Answer
 too_long limit bytes = if nat_lt limit (length bytes) then Some (TooLong (length bytes)) else None
+
+-- the call is none for an index
+abbrev pub index_refusal : Call → Option Index → Option Answer
+index_refusal (Put db key value mode) (Some index) = Some ReadOnlyIndex
+index_refusal (CPutCur cursor value) (Some index) = Some ReadOnlyIndex
+index_refusal (CPut cursor key value mode) (Some index) = Some ReadOnlyIndex
+index_refusal call index = None
 
 -- the call is none for a database of its kind
 abbrev pub kind_refusal : Call → Kind → Option Answer

@@ -1,5 +1,5 @@
 -- A store (Getting Started Guide, "Databases" and "Database Records"), and how it changes.
-use Rattle.std.specs.Prelude.{ℕ, ◌++◌, ◌∷◌, [], List, Option, None, Some, Bool, not, filter, map, find, sum_by, length, if◌then◌else◌}
+use Rattle.std.specs.Prelude.{ℕ, ◌++◌, ◌∷◌, [], List, Option, None, Some, not, filter, map, find, option_map, sum_by, length, if◌then◌else◌}
 use Rattle.std.specs.List.{AllByRecursion}
 use Rattle.std.specs.List.Sorted.{IsStrictlySortedBy}
 use Rattle.std.specs.Ordering.{is_eq, is_lt, is_gt, on}
@@ -7,12 +7,13 @@ use Rattle.je_order.specs.Order.{bytes_cmp, name_cmp, is_same_bytes}
 use Rattle.je_order.specs.declared.name.Name.{Name}
 use Rattle.store_model.specs.declared.store.Store.{Store}
 use Rattle.store_model.specs.declared.store.Database.{Database}
+use Rattle.store_model.specs.declared.index.Index.{Index}
 use Rattle.store_model.specs.declared.kind.Kind.{Kind}
 use Rattle.store_model.specs.declared.kind.Kind.TheVariants.{Plain, Dup}
 use Rattle.store_model.specs.declared.record_change.RecordChange.{RecordChange}
 use Rattle.store_model.specs.declared.record_change.RecordChange.TheVariants.{Set as SetRecord, Unset as UnsetRecord}
 use Rattle.store_model.specs.declared.change.Change.{Change}
-use Rattle.store_model.specs.declared.change.Change.TheVariants.{Set, Unset, Make, Remove, Rename, Empty}
+use Rattle.store_model.specs.declared.change.Change.TheVariants.{Set, Unset, Make, MakeIndex, Remove, Rename, Empty}
 
 -- the store of a new environment
 abbrev pub no_databases : Store
@@ -79,11 +80,22 @@ all_pairs_changed kind (change ∷ changes) pairs = all_pairs_changed kind chang
 
 -- a database with other records
 abbrev pub with_pairs : Database → List Pair → Database
-with_pairs d pairs = record { name = d.name; kind = d.kind; pairs = pairs }
+with_pairs d pairs = record { name = d.name; kind = d.kind; index = d.index; pairs = pairs }
 
 -- a database under another name
 abbrev pub with_name : Database → List ℕ → Database
-with_name d name = record { name = name; kind = d.kind; pairs = d.pairs }
+with_name d name = record { name = name; kind = d.kind; index = d.index; pairs = d.pairs }
+
+-- an index whose primary, if it is the one of that name, has another name
+abbrev pub index_renamed : List ℕ → List ℕ → Index → Index
+index_renamed db to index = record { primary = if is_same_bytes index.primary db then to else index.primary; extract = index.extract }
+
+abbrev pub with_primary : List ℕ → List ℕ → Database → Database
+with_primary db to d = record { name = d.name; kind = d.kind; index = option_map (index_renamed db to) d.index; pairs = d.pairs }
+
+-- an empty database
+abbrev pub new_database : List ℕ → Kind → Option Index → Database
+new_database name kind index = record { name = name; kind = kind; index = index; pairs = [] }
 
 -- the databases, with the one of that name changed
 abbrev pub in_database : List ℕ → (Database → Database) → List Database → List Database
@@ -98,10 +110,10 @@ databases_with new databases =
 abbrev pub databases_without : List ℕ → List Database → List Database
 databases_without name databases = filter (λ d. not (is_same_bytes d.name name)) databases
 
--- the databases with one of them, if it is there, under another name
+-- the databases with one of them, if it is there, under another name, by which its indexes know it then
 abbrev pub databases_renamed : Option Database → List ℕ → List Database → List Database
 databases_renamed None to databases = databases
-databases_renamed (Some d) to databases = databases_with (with_name d to) (databases_without d.name databases)
+databases_renamed (Some d) to databases = map (with_primary d.name to) (databases_with (with_name d to) (databases_without d.name databases))
 
 -- the names of a store's databases, in order
 abbrev pub names_of : Store → List (List ℕ)
@@ -111,10 +123,20 @@ names_of store = map (λ d. d.name) store.databases
 abbrev pub changed : Change → Store → Store
 changed (Set db at value) store = record { databases = in_database db (λ d. with_pairs d (pairs_with d.kind at value d.pairs)) store.databases }
 changed (Unset db at) store = record { databases = in_database db (λ d. with_pairs d (pairs_without d.kind at d.pairs)) store.databases }
-changed (Make db kind) store = record { databases = databases_with (record { name = db; kind = kind; pairs = [] }) store.databases }
+changed (Make db kind) store = record { databases = databases_with (new_database db kind None) store.databases }
+changed (MakeIndex db index) store = record { databases = databases_with (new_database db Dup (Some index)) store.databases }
 changed (Remove db) store = record { databases = databases_without db store.databases }
 changed (Rename db to) store = record { databases = databases_renamed (database_of db store) to store.databases }
 changed (Empty db) store = record { databases = in_database db (λ d. with_pairs d []) store.databases }
+
+-- the name that a change of records is of, and the data that it leaves there, if any
+abbrev pub changed_name : RecordChange → Name
+changed_name (SetRecord at value) = at
+changed_name (UnsetRecord at) = at
+
+abbrev pub data_after : RecordChange → Option (List ℕ)
+data_after (SetRecord at value) = Some value
+data_after (UnsetRecord at) = None
 
 -- a change of records as one of a database
 abbrev pub change_in : List ℕ → RecordChange → Change

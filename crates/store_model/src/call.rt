@@ -1,5 +1,5 @@
 // A call of a session.
-use crate::{Durability, Isolation, Kind, Motion, PutMode};
+use crate::{Durability, Index, Isolation, Kind, Motion, PutMode};
 use je_order::{Octets, Word};
 
 /// A call, as a line of a script gives it. Outside a transaction each is a transaction of its own, which
@@ -22,6 +22,11 @@ pub enum Call {
     Create {
         db: Word,
         kind: Kind,
+    },
+    /// Makes an index of a plain database, and fills it.
+    CreateIndex {
+        db: Word,
+        index: Index,
     },
     /// Takes a database out, with its records.
     Remove {

@@ -1,5 +1,5 @@
 // What a call changes.
-use crate::Kind;
+use crate::{Index, Kind};
 use je_order::{Name, Octets, Word};
 
 /// One change of a store.
@@ -11,6 +11,8 @@ pub enum Change {
     Unset { db: Word, at: Name },
     /// Makes an empty database.
     Make { db: Word, kind: Kind },
+    /// Makes an index without pairs.
+    MakeIndex { db: Word, index: Index },
     /// Takes a database out.
     Remove { db: Word },
     /// Gives a database another name.

@@ -1,9 +1,9 @@
 //! The store as a plain model of lists, and the types that calls, answers and the journal are made
 //! of: databases of both kinds, transactions, cursors and checkpoints. Its definitions say what a store
 //! is, what a call reads, answers and changes (`evaluation`), and which locks it needs. It has no code
-//! but the types and the law that stores stay right. Nothing here knows of files, trees or the lock
-//! table. Calls, answers and events of transactions, cursors and checkpoints are here before the environment
-//! does them.
+//! but the types and the laws that stores stay right and that indexes keep up with their primaries.
+//! Nothing here knows of files, trees or the lock table. Calls, answers and events of transactions,
+//! cursors and checkpoints are here before the environment does them.
 #![tactic(auto)]
 
 pub mod act;
@@ -12,6 +12,8 @@ pub mod call;
 pub mod change;
 pub mod durability;
 pub mod event;
+pub mod extract;
+pub mod index;
 pub mod isolation;
 pub mod kind;
 pub mod laws;
@@ -33,9 +35,11 @@ pub use call::Call;
 pub use change::Change;
 pub use durability::Durability;
 pub use event::Event;
+pub use extract::Extract;
+pub use index::Index;
 pub use isolation::Isolation;
 pub use kind::Kind;
-pub use laws::stores_stay_right;
+pub use laws::{indexes_keep_up, stores_stay_right};
 pub use lock_target::LockTarget;
 pub use motion::Motion;
 pub use need::Need;

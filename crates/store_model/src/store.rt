@@ -1,14 +1,16 @@
 // A store.
-use crate::Kind;
+use crate::{Index, Kind};
 use je_order::{Exact, List, Octets, Word};
 use std::alloc::Global;
 
-/// A database: its name, its kind, and its records as pairs of key and data, in byte order of the keys,
-/// and of the data where keys are equal.
+/// A database: its name, its kind, what it is an index of, if it is one, and its records as pairs of
+/// key and data, in byte order of the keys, and of the data where keys are equal. An index is kept as
+/// sorted duplicates: its pairs are of the key that it has for a record and of the key of the record.
 #[derive(Clone, Debug, Drop, PartialEq, Eq)]
 pub struct Database {
     pub name: Word,
     pub kind: Kind,
+    pub index: Option<Index>,
     pub pairs: List<(Octets, Octets)>,
 }
 

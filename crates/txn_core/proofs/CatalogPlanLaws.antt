@@ -1,6 +1,6 @@
 -- What a call on the catalog comes to is what the model says of it.
 use Rattle.std.proofs.Common.{◌≡◌, ◌≢◌, ℕ, ◌+◌, ◌-◌, ◌<◌, ◌≤◌, ◌^◌, List, [], ◌∷◌, ◌++◌, Bool, true, false, cond, not, ◌&&◌, ◌==◌, nat_le, nat_lt, ◌||◌, Option, None, Some, map, filter, length, sum_by, option_map, is_some, refl, ap, ap₂, sym, ◌∙◌, subst, ⊎_elim, ◌⊎◌, inl, arith, length-append, Ordering, Less, Equal, Greater, is_eq, is_lt, is_gt, Result, IfOk}
-use Rattle.std.specs.List.{AllByRecursion, list_all}
+use Rattle.std.specs.List.{AllByRecursion, list_all, list_any}
 use Rattle.std.specs.Int.{w32, to_be_bytes}
 use Rattle.std.proofs.lemmas.Bool.{cases_Bool, and_parts, true≢false, false≢true, eqb-true, eqb-false, leb-true, leb-false, lt-ltb}
 use Rattle.std.proofs.lemmas.Option.{none-some, same_Some}
@@ -18,7 +18,7 @@ use Rattle.db_catalog.specs.declared.db_record.DbRecord.{DbRecord}
 use Rattle.db_catalog.specs.declared.catalog_change.CatalogChange.{CatalogChange}
 use Rattle.db_catalog.specs.declared.catalog_change.CatalogChange.TheVariants.{Put as PutRecord, Delete as DeleteRecord}
 use Rattle.db_catalog.specs.Catalog.{record_bytes}
-use Rattle.db_catalog.specs.Planning.{is_catalog_call, outcome_unless, outcome_of, logged_as, moved, renewed}
+use Rattle.db_catalog.specs.Planning.{is_catalog_call, outcome_unless, outcome_of, logged_as, indexed, moved, renewed}
 use Rattle.store_model.specs.declared.store.TheConstants.{LAST_TXN, MOST_DATABASES}
 use Rattle.store_model.specs.declared.store.Store.{Store}
 use Rattle.store_model.specs.declared.store.Database.{Database}
@@ -28,18 +28,21 @@ use Rattle.store_model.specs.declared.totals.Totals.{Totals}
 use Rattle.store_model.specs.declared.call.Call.{Call}
 use Rattle.store_model.specs.declared.call.Call.TheVariants.{List as Lists, Create, Remove as Removes, Rename as Renames, Truncate}
 use Rattle.store_model.specs.declared.change.Change.{Change}
-use Rattle.store_model.specs.declared.change.Change.TheVariants.{Set, Unset, Make, Remove, Rename, Empty}
+use Rattle.store_model.specs.declared.change.Change.TheVariants.{Set, Unset, Make, MakeIndex, Remove, Rename, Empty}
 use Rattle.store_model.specs.declared.answer.Answer.{Answer}
 use Rattle.store_model.specs.declared.answer.Answer.TheVariants.{IdsEnded, NameTaken, TooMany}
-use Rattle.store_model.specs.Store.{database_of, changed, with_pairs, with_name, in_database, databases_with, databases_without, databases_renamed}
-use Rattle.store_model.specs.Evaluation.{Outcome, answers, changes_by, evaluation, evaluation_in, plain_name}
-use Rattle.store_model.specs.Refusals.{made_by, or_refusal, creation_refusal, access_refusal, taken_refusal}
+use Rattle.store_model.specs.Store.{database_of, changed, with_pairs, with_name, with_primary, in_database, databases_with, databases_without, databases_renamed}
+use Rattle.store_model.specs.Evaluation.{Outcome, answers, changes_by, emptying, evaluation, evaluation_in, plain_name}
+use Rattle.store_model.specs.Refusals.{made_by, or_refusal, creation_refusal, access_refusal, taken_refusal, indexed_refusal}
+use Rattle.store_model.specs.Indexes.{is_index_of}
+use Rattle.store_model.proofs.NoIndex.{found_no_index}
 use Rattle.je_answers.specs.Alone.{Alone}
 use Rattle.log_replay.specs.Rows.{Row, Rows, RowChange, data_at, catalog_number, is_catalog_row, is_environment, IsRising, pair_of, database_in, store_of, numbers_of}
 use Rattle.log_replay.specs.Logging.{record_in, record_named, number_named, kind_named, catalog_row_change, all_row_changes}
 use Rattle.log_replay.specs.Kept.{MayBeLogged}
 use Rattle.log_replay.proofs.ListLaws.{filter-map, found, none_found}
 use Rattle.log_replay.proofs.RowLaws.{name_cmp-plain}
+use Rattle.log_replay.proofs.LoggedLaws.{store_has_no_index}
 use Rattle.log_replay.proofs.StoreLaws.{environment_parts, catalog_plain, row_named, key_of_row, database_of-store_of, database_of-numbered, database_of-absent, length-databases}
 use Rattle.log_replay.proofs.LoggedLaws.{record_for, record-again, IsSound, number-within}
 use Rattle.txn_core.specs.Known.{Known, has_number}
@@ -72,14 +75,20 @@ outcome_catalog p session (Create db kind) is h =
     ap (counted (or_refusal refusal None) (evaluation (Create db kind) p.store)) (lt-ltb p.last_txn LAST_TXN h)
     ∙ ap (λ (r : Option Answer). outcome_unless r (evaluation (Create db kind) p.store)) (refused_first refusal)
 outcome_catalog p session (Removes db) is h =
-    ap (counted (or_refusal (access_refusal (is_some (database_of db p.store))) None) (evaluation (Removes db) p.store)) (lt-ltb p.last_txn LAST_TXN h)
+    let refusal : Option Answer = indexed_refusal (list_any (is_index_of db) p.store.databases) in
+    let there : Option Answer = access_refusal (is_some (database_of db p.store)) in
+    ap (counted (or_refusal there (or_refusal refusal None)) (evaluation (Removes db) p.store)) (lt-ltb p.last_txn LAST_TXN h)
+    ∙ ap (λ (r : Option Answer). outcome_unless (or_refusal there r) (evaluation (Removes db) p.store)) (refused_first refusal)
 outcome_catalog p session (Renames db to) is h =
     let refusal : Option Answer = taken_refusal (is_some (database_of to p.store)) in
     let there : Option Answer = access_refusal (is_some (database_of db p.store)) in
     ap (counted (or_refusal there (or_refusal refusal None)) (evaluation (Renames db to) p.store)) (lt-ltb p.last_txn LAST_TXN h)
     ∙ ap (λ (r : Option Answer). outcome_unless (or_refusal there r) (evaluation (Renames db to) p.store)) (refused_first refusal)
 outcome_catalog p session (Truncate db) is h =
-    ap (counted (or_refusal (access_refusal (is_some (database_of db p.store))) None) (evaluation (Truncate db) p.store)) (lt-ltb p.last_txn LAST_TXN h)
+    let refusal : Option Answer = indexed_refusal (list_any (is_index_of db) p.store.databases) in
+    let there : Option Answer = access_refusal (is_some (database_of db p.store)) in
+    ap (counted (or_refusal there (or_refusal refusal None)) (evaluation (Truncate db) p.store)) (lt-ltb p.last_txn LAST_TXN h)
+    ∙ ap (λ (r : Option Answer). outcome_unless (or_refusal there r) (evaluation (Truncate db) p.store)) (refused_first refusal)
 outcome_catalog p session call is h = absurd (false≢true is)
 
 -- an outcome that changes nothing
@@ -110,13 +119,13 @@ unrefused (Some refusal) o change more h = absurd (no_change change more h)
 
 -- a call on a database changes something where it is there
 on_there : (call : Call) (one : Change) (taken : Option Answer) (store : Store) (o : Option Database) (change : Change) (more : List Change) →
-    ((d : Database) → evaluation_in call store (Some d) ≡ changes_by one) →
+    ((d : Database) → o ≡ Some d → evaluation_in call store (Some d) ≡ changes_by one) →
     (outcome_unless (or_refusal (access_refusal (is_some o)) taken) (evaluation_in call store o)).changes ≡ change ∷ more →
     (is_some o ≡ true) × (taken ≡ None) × (one ∷ [] ≡ change ∷ more)
 on_there call one taken store None change more by h = absurd (no_change change more h)
 on_there call one taken store (Some d) change more by h =
     let some = unrefused taken (evaluation_in call store (Some d)) change more h in
-    (refl, some.0, sym (ap (λ (x : Outcome). x.changes) (by d)) ∙ some.1)
+    (refl, some.0, sym (ap (λ (x : Outcome). x.changes) (by d refl)) ∙ some.1)
 
 creation_free : (taken : Bool) (count : ℕ) → creation_refusal taken count ≡ None → (taken ≡ false) × (count < MOST_DATABASES)
 creation_free true count h = absurd (none-some NameTaken (sym h))
@@ -163,14 +172,15 @@ catalog_changes rows (Create db kind) change more env is h =
     one_change rows (Make db kind) change more some.1
     (number_free rows db env free.0, subst (λ n. n < MOST_DATABASES) (length-databases rows) free.1)
 catalog_changes rows (Removes db) change more env is h =
-    let there = on_there (Removes db) (Remove db) None (store_of rows) (database_of db (store_of rows)) change more (λ d. refl) h in
+    let there = on_there (Removes db) (Remove db) (indexed_refusal (list_any (is_index_of db) (store_of rows).databases)) (store_of rows) (database_of db (store_of rows)) change more (λ d is. refl) h in
     one_change rows (Remove db) change more there.2 (number_there rows db env there.0)
 catalog_changes rows (Renames db to) change more env is h =
-    let there = on_there (Renames db to) (Rename db to) (taken_refusal (is_some (database_of to (store_of rows)))) (store_of rows) (database_of db (store_of rows)) change more (λ d. refl) h in
+    let there = on_there (Renames db to) (Rename db to) (taken_refusal (is_some (database_of to (store_of rows)))) (store_of rows) (database_of db (store_of rows)) change more (λ d is. refl) h in
     one_change rows (Rename db to) change more there.2
     (number_there rows db env there.0, number_free rows to env (name_free (is_some (database_of to (store_of rows))) there.1))
 catalog_changes rows (Truncate db) change more env is h =
-    let there = on_there (Truncate db) (Empty db) None (store_of rows) (database_of db (store_of rows)) change more (λ d. refl) h in
+    let there = on_there (Truncate db) (Empty db) (indexed_refusal (list_any (is_index_of db) (store_of rows).databases)) (store_of rows) (database_of db (store_of rows)) change more
+    (λ d found. ap (emptying db) (found_no_index db (store_of rows) d (store_has_no_index rows) found)) h in
     one_change rows (Empty db) change more there.2 (number_there rows db env there.0)
 catalog_changes rows call change more env is h = absurd (false≢true is)
 
@@ -187,6 +197,7 @@ catalog_rows : (makes : Option ℕ) (txn last_db : ℕ) (rows : Rows) (change : 
 catalog_rows makes txn last_db rows (Set db at value) can = absurd can
 catalog_rows makes txn last_db rows (Unset db at) can = absurd can
 catalog_rows makes txn last_db rows (Make db kind) can = planned_changes makes txn (logged_as (record_named rows) (last_db + 1) (Make db kind))
+catalog_rows makes txn last_db rows (MakeIndex db index) can = absurd can
 catalog_rows makes txn last_db rows (Remove db) can = planned_changes makes txn (logged_as (record_named rows) (last_db + 1) (Remove db))
 catalog_rows makes txn last_db rows (Rename db to) can = planned_changes makes txn (logged_as (record_named rows) (last_db + 1) (Rename db to))
 catalog_rows makes txn last_db rows (Empty db) can = planned_changes makes txn (logged_as (record_named rows) (last_db + 1) (Empty db))
@@ -197,6 +208,7 @@ catalog_may : (rows : Rows) (last_db : ℕ) (change : Change) → IsSound rows l
 catalog_may rows last_db (Set db at value) sound can named low = absurd can
 catalog_may rows last_db (Unset db at) sound can named low = absurd can
 catalog_may rows last_db (Make db kind) sound can named low = (can.0, named, can.1, omega (arith, low))
+catalog_may rows last_db (MakeIndex db index) sound can named low = absurd can
 catalog_may rows last_db (Remove db) sound can named low = can
 catalog_may rows last_db (Rename db to) sound can named low = let within = number-within rows last_db db sound can.0 in (can.0, can.1, named, omega (arith, low, within))
 catalog_may rows last_db (Empty db) sound can named low = (can, omega (arith, low))
@@ -242,6 +254,7 @@ catalog_entries : (makes : Option ℕ) (txn : TxnId) (last_db : ℕ) (rows : Row
 catalog_entries makes txn last_db rows (Set db at value) env can named low = absurd can
 catalog_entries makes txn last_db rows (Unset db at) env can named low = absurd can
 catalog_entries makes txn last_db rows (Make db kind) env can named low = (put_encoded makes txn db (last_db + 1) kind low named, tt)
+catalog_entries makes txn last_db rows (MakeIndex db index) env can named low = absurd can
 catalog_entries makes txn last_db rows (Remove db) env can named low = (delete_encoded makes txn db low (word_there rows db env can), tt)
 catalog_entries makes txn last_db rows (Rename db to) env can named low =
     subst (λ (o : Option DbRecord). AllByRecursion (CanBeEncoded txn) (map (catalog_planned makes) (moved db to o))) (sym (record-again (record_named rows db) can.0))
@@ -274,6 +287,7 @@ catalog_made : (makes : Option ℕ) (last_db : ℕ) (rows : Rows) (change : Chan
 catalog_made makes last_db rows (Set db at value) can is d = absurd can
 catalog_made makes last_db rows (Unset db at) can is d = absurd can
 catalog_made makes last_db rows (Make db kind) can is d = next_made makes last_db d is
+catalog_made makes last_db rows (MakeIndex db index) can is d = absurd can
 catalog_made makes last_db rows (Remove db) can is d = none_made last_db d
 catalog_made makes last_db rows (Rename db to) can is d =
     ap (λ (o : Option DbRecord). is_made d (map (catalog_planned makes) (moved db to o))) (record-again (record_named rows db) can.0)
@@ -322,7 +336,7 @@ sum_with f new ds h =
 
 -- the database of a name that has a number
 abbrev database_numbered : Rows → List ℕ → Database
-database_numbered rows db = record { name = db; kind = kind_named rows db; pairs = map (pair_of (kind_named rows db)) (rows (number_named rows db)) }
+database_numbered rows db = record { name = db; kind = kind_named rows db; index = None; pairs = map (pair_of (kind_named rows db)) (rows (number_named rows db)) }
 
 -- is the only one that has the name
 only_named : (rows : Rows) (db : List ℕ) → is_environment rows ≡ true → IsRising (rows 0) → number_named rows db ≢ 0 →
@@ -348,11 +362,21 @@ sum_without f rows db env up has =
     let none : sum_by f [] ≡ 0 = refl in
     omega (arith, parts, only, one, none)
 
+-- the sum over others that each count as much
+sum_mapped : (f : Database → ℕ) (g : Database → Database) (ds : List Database) → ((d : Database) → f (g d) ≡ f d) → sum_by f (map g ds) ≡ sum_by f ds
+sum_mapped f g [] each = refl
+sum_mapped f g (d ∷ ds) each =
+    let one = each d in
+    let rest = sum_mapped f g ds each in
+    let first = sum_by-cons f (g d) (map g ds) in
+    let second = sum_by-cons f d ds in
+    omega (arith, one, rest, first, second)
+
 -- one under another name
 sum_renamed : (f : Database → ℕ) (rows : Rows) (db to : List ℕ) → is_environment rows ≡ true → IsRising (rows 0) → number_named rows db ≢ 0 → number_named rows to ≡ 0 →
-    f (with_name (database_numbered rows db) to) ≡ f (database_numbered rows db) →
+    f (with_name (database_numbered rows db) to) ≡ f (database_numbered rows db) → ((d : Database) → f (with_primary db to d) ≡ f d) →
     sum_by f (databases_renamed (database_of db (store_of rows)) to (store_of rows).databases) ≡ sum_by f (store_of rows).databases
-sum_renamed f rows db to env up has free same =
+sum_renamed f rows db to env up has free same each =
     let ds : List Database = (store_of rows).databases in
     let renamed = ap (λ (o : Option Database). sum_by f (databases_renamed o to ds)) (database_of-numbered rows db env has) in
     let differ : AllByRecursion (λ (d : Database). is_same_bytes d.name to ≡ false) (databases_without db ds) =
@@ -360,7 +384,7 @@ sum_renamed f rows db to env up has free same =
     (none_found (λ (d : Database). is_same_bytes d.name to) ds (database_of-absent rows to env free)) in
     let more = sum_with f (with_name (database_numbered rows db) to) (databases_without db ds) differ in
     let less = sum_without f rows db env up has in
-    renamed ∙ omega (arith, more, less, same)
+    renamed ∙ sum_mapped f (with_primary db to) (databases_with (with_name (database_numbered rows db) to) (databases_without db ds)) each ∙ omega (arith, more, less, same)
 
 -- ---- totals
 
@@ -403,7 +427,7 @@ pub catalog_totals : (rows : Rows) (change : Change) → is_environment rows ≡
 catalog_totals rows (Set db at value) env up can = absurd can
 catalog_totals rows (Unset db at) env up can = absurd can
 catalog_totals rows (Make db kind) env up can =
-    let new : Database = record { name = db; kind = kind; pairs = [] } in
+    let new : Database = record { name = db; kind = kind; index = None; pairs = [] } in
     let ds : List Database = (store_of rows).databases in
     let differ = none_found (λ (d : Database). is_same_bytes d.name db) ds (database_of-absent rows db env can.0) in
     let more = sum_with one_each new ds differ in
@@ -411,6 +435,7 @@ catalog_totals rows (Make db kind) env up can =
     let after = ones (databases_with new ds) in
     let records = sum_with records_of new ds differ in
     ap₂ make_totals (omega (arith, more, before, after)) (omega (arith, records))
+catalog_totals rows (MakeIndex db index) env up can = absurd can
 catalog_totals rows (Remove db) env up can =
     let ds : List Database = (store_of rows).databases in
     let less = sum_without one_each rows db env up can in
@@ -423,10 +448,10 @@ catalog_totals rows (Remove db) env up can =
     (less_is (sum_by records_of (databases_without db ds)) (length (rows (number_named rows db))) (sum_by records_of ds) (omega (arith, records, count)))
 catalog_totals rows (Rename db to) env up can =
     let ds : List Database = (store_of rows).databases in
-    let same = sum_renamed one_each rows db to env up can.0 can.1 refl in
+    let same = sum_renamed one_each rows db to env up can.0 can.1 refl (λ d. refl) in
     let before = ones ds in
     let after = ones (databases_renamed (database_of db (store_of rows)) to ds) in
-    let records = sum_renamed records_of rows db to env up can.0 can.1 refl in
+    let records = sum_renamed records_of rows db to env up can.0 can.1 refl (λ d. refl) in
     ap₂ make_totals (omega (arith, same, before, after)) (sym records)
 catalog_totals rows (Empty db) env up can =
     let ds : List Database = (store_of rows).databases in
@@ -450,6 +475,11 @@ catalog_few : (makes : Option ℕ) (number : ℕ) (rows : Rows) (change : Change
 catalog_few makes number rows (Set db at value) = tt
 catalog_few makes number rows (Unset db at) = tt
 catalog_few makes number rows (Make db kind) = (tt, tt)
+catalog_few makes number rows (MakeIndex db index) = by_record (record_named rows index.primary)
+  where
+    by_record : (o : Option DbRecord) → HaveFewNew rows (map (catalog_planned makes) (indexed db number index.extract o))
+    by_record None = tt
+    by_record (Some r) = (tt, tt)
 catalog_few makes number rows (Remove db) = (tt, tt)
 catalog_few makes number rows (Rename db to) = by_record (data_at (plain_name db) (rows 0)) refl (record_named rows db) refl
   where

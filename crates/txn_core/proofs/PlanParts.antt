@@ -8,11 +8,11 @@ use Rattle.db_catalog.specs.declared.db_record.DbRecord.{DbRecord}
 use Rattle.db_catalog.specs.declared.found_db.FoundDb.{FoundDb}
 use Rattle.db_catalog.specs.declared.catalog_change.CatalogChange.{CatalogChange}
 use Rattle.db_catalog.specs.Catalog.{db_record_in, kind_bytes}
-use Rattle.db_catalog.specs.Planning.{found_in, found_db, kind_of_catalog, kind_in_catalog, logged_as, renewed}
+use Rattle.db_catalog.specs.Planning.{found_in, found_db, kind_of_catalog, kind_in_catalog, index_in_catalog, logged_as, indexed, renewed}
 use Rattle.store_model.specs.declared.kind.Kind.{Kind}
 use Rattle.store_model.specs.declared.totals.Totals.{Totals}
 use Rattle.store_model.specs.declared.change.Change.{Change}
-use Rattle.store_model.specs.declared.change.Change.TheVariants.{Set, Unset, Make, Remove, Rename, Empty}
+use Rattle.store_model.specs.declared.change.Change.TheVariants.{Set, Unset, Make, MakeIndex, Remove, Rename, Empty}
 use Rattle.store_model.specs.Evaluation.{plain_name}
 use Rattle.log_replay.specs.Rows.{Row, Rows, row_at, is_environment, are_right, number_or_0, kind_or_plain, database_number, database_kind}
 use Rattle.log_replay.specs.Logging.{record_in, record_named, number_named, kind_named}
@@ -75,6 +75,13 @@ same_logged makes record_of a b (Set db at value) h = refl
 same_logged makes record_of a b (Unset db at) h = refl
 same_logged makes record_of a b (Make db kind) h =
     let make : List ℕ → List TreeChange = λ bytes. record { db = 0; name = plain_name db; value = Some (bytes ++ kind_bytes (kind_in_catalog kind)); makes = makes } ∷ [] in ap make h
+same_logged makes record_of a b (MakeIndex db index) h = by_record (record_of index.primary)
+  where
+    by_record : (o : Option DbRecord) → map (catalog_planned makes) (indexed db a index.extract o) ≡ map (catalog_planned makes) (indexed db b index.extract o)
+    by_record None = refl
+    by_record (Some r) =
+        let make : List ℕ → List TreeChange = λ bytes. record { db = 0; name = plain_name db; value = Some (bytes ++ kind_bytes (index_in_catalog r.number index.extract)); makes = makes } ∷ [] in
+        ap make h
 same_logged makes record_of a b (Remove db) h = refl
 same_logged makes record_of a b (Rename db to) h = refl
 same_logged makes record_of a b (Empty db) h = by_record (record_of db)

@@ -27,6 +27,7 @@ use Rattle.db_catalog.specs.declared.found_db.FoundDb.{FoundDb}
 use Rattle.db_catalog.specs.Planning.{found_in, found_db, kind_of_catalog, outcome_unless}
 use Rattle.store_model.specs.declared.store.TheConstants.{DUP_LIMIT}
 use Rattle.store_model.specs.declared.store.Store.{Store}
+use Rattle.store_model.specs.declared.store.Database.{Database}
 use Rattle.store_model.specs.declared.totals.Totals.{Totals}
 use Rattle.store_model.specs.declared.kind.Kind.{Kind}
 use Rattle.store_model.specs.declared.kind.Kind.TheVariants.{Plain, Dup}
@@ -44,12 +45,14 @@ use Rattle.store_model.specs.Reads.{Range, is_within, just, of_key, behind_key, 
 use Rattle.store_model.specs.Reads.Way.{Lowest, Each}
 use Rattle.store_model.specs.Records.{Evaluated, evaluation, deleted, put_unless, found as found_at, set, data_of, tested_for, look_of_put, first_of_key}
 use Rattle.store_model.specs.Evaluation.{Outcome}
+use Rattle.store_model.specs.Indexes.{HasNoIndex}
 use Rattle.store_model.specs.Refusals.{made_by, or_refusal, too_long, data_limit, pair_refusal, kind_refusal, database_refuses}
 use Rattle.je_answers.specs.Alone.{Alone}
 use Rattle.log_replay.specs.Rows.{Row, Rows, RowChange, row_changed, data_at, row_at, is_right_row, are_right, IsRising, pair_of, store_of, numbers_of, number_or_0}
 use Rattle.log_replay.specs.Logging.{record_named, number_named, kind_named, last_db_after}
 use Rattle.log_replay.proofs.ListLaws.{all_true, all_both, all_to_map, map-map, map_same}
 use Rattle.log_replay.proofs.RowLaws.{name_of-right, proper-right, rising_head, rising_tail, name_flipped}
+use Rattle.log_replay.proofs.LoggedLaws.{store_has_no_index}
 use Rattle.log_replay.proofs.StoreLaws.{environment_from, row_changed-here, database_of-numbered, database_of-absent}
 use Rattle.log_replay.proofs.NameLaws.{data-with, number-same}
 use Rattle.log_replay.proofs.LoggedLaws.{IsSound, step}
@@ -63,7 +66,7 @@ use Rattle.record_tree.specs.declared.tree_change.TreeChange.{TreeChange}
 use Rattle.txn_core.specs.Totals.{totals_of}
 use Rattle.txn_core.specs.Planning.{row_by, gone_by, CanPlan, HasModel, HaveFewNew, IsPlannedLog, IsPlanned, outcome_alone}
 use Rattle.txn_core.specs.Plans.{record_planned, records_with, records_by, LogsRecords, IsRecordPlan, IsFoundPlan}
-use Rattle.txn_core.proofs.OutcomeLaws.{outcome_by, outcome_get, outcome_get_both, outcome_put, outcome_delete, answered_is}
+use Rattle.txn_core.proofs.OutcomeLaws.{outcome_by, there_is, outcome_get, outcome_get_both, outcome_put, outcome_delete, answered_is}
 use Rattle.txn_core.proofs.NumberLaws.{number_there, not_under}
 use Rattle.txn_core.proofs.ViewLaws.{searched}
 use Rattle.txn_core.proofs.PlanParts.{IsFound, found_right, sound_plan}
@@ -423,9 +426,14 @@ none_numbered (Some r) h = by_kind r.kind h
     by_kind (SliceIndex primary offset len) h = refl
     by_kind (FieldIndex primary field separator) h = refl
 
+-- the database of a name that has a number
+abbrev database_numbered : Rows → List ℕ → Database
+database_numbered rows db =
+    record { name = db; kind = kind_named rows db; index = None; pairs = map (pair_of (kind_named rows db)) (rows (number_named rows db)) }
+
 -- a call on records
 planned_records : (known : Known) (p : Alone) (session : ℕ) (call : Call) (db : List ℕ) (planned : Planned) → CanPlan known → HasModel known p →
-    outcome_alone p session call ≡ outcome_by call (p.numbers db) (database_of db p.store) →
+    outcome_alone p session call ≡ outcome_by call p db (database_of db p.store) →
     ((found : FoundDb) → IsFound known.rows db found → database_refuses found.kind call ≡ None →
     AreGood known.rows db found.kind found.number (evaluated_in known found call).changes) →
     IsFoundPlan (found_in (record_named known.rows db)) known call planned → IsPlanned known p session call planned
@@ -434,14 +442,15 @@ planned_records known p session call db planned can has outcome good plan = by_f
     by_found : (o : Option FoundDb) → found_in (record_named known.rows db) ≡ o → IsFoundPlan o known call planned → IsPlanned known p session call planned
     by_found None e h =
         subst (λ (x : Planned). IsPlanned known p session call x) (sym h)
-        (outcome ∙ ap (outcome_by call (p.numbers db))
+        (outcome ∙ ap (outcome_by call p db)
         (ap (database_of db) (sym has.store) ∙ database_of-absent known.rows db can.environment (none_numbered (record_named known.rows db) e)))
     by_found (Some found) e h =
         let rows : Rows = known.rows in
         let is = found_right rows db found can.environment e in
         let make : Kind → ℕ → Outcome = λ k n. outcome_unless (database_refuses k call) (outcome_in db (evaluation k call None (map (pair_of k) (rows n)))) in
         found_plan known p session call db found (database_refuses found.kind call) planned can has is
-        (outcome ∙ ap (outcome_by call (p.numbers db)) (ap (database_of db) (sym has.store) ∙ database_of-numbered rows db can.environment is.some)
+        (outcome ∙ ap (outcome_by call p db) (ap (database_of db) (sym has.store) ∙ database_of-numbered rows db can.environment is.some)
+        ∙ there_is call p db (database_numbered rows db) (subst HasNoIndex has.store (store_has_no_index rows)) refl
         ∙ ap₂ make (sym is.kind) (sym is.number))
         (good found is) h
 

@@ -4,7 +4,7 @@ use Rattle.std.specs.List.{AllByRecursion}
 use Rattle.je_order.specs.declared.txn_id.TxnId.{TxnId}
 use Rattle.store_model.specs.declared.store.TheConstants.{LAST_TXN}
 use Rattle.store_model.specs.declared.call.Call.{Call}
-use Rattle.store_model.specs.declared.call.Call.TheVariants.{List as Lists, Create, Remove, Rename, Truncate}
+use Rattle.store_model.specs.declared.call.Call.TheVariants.{List as Lists, Create, CreateIndex, Remove, Rename, Truncate}
 use Rattle.store_model.specs.declared.change.Change.{Change}
 use Rattle.store_model.specs.declared.change.Change.TheVariants.{Remove as Removes, Empty}
 use Rattle.store_model.specs.declared.answer.Answer.TheVariants.{NoDatabase}
@@ -12,9 +12,9 @@ use Rattle.store_model.specs.Store.{all_changed}
 use Rattle.store_model.specs.Evaluation.{Outcome, answers, evaluation}
 use Rattle.store_model.specs.Refusals.{made_by}
 use Rattle.db_catalog.specs.Planning.{outcome_unless}
-use Rattle.je_answers.specs.Views.{Target, target_of, changes_on}
+use Rattle.je_answers.specs.Views.{Target, target_of}
 use Rattle.je_answers.specs.Refusals.{late_refusal}
-use Rattle.je_answers.specs.Alone.{Alone, alone, evaluated_on}
+use Rattle.je_answers.specs.Alone.{Alone, alone, evaluated_on, changes_of_call}
 use Rattle.log_entry.specs.Body.{IsEntry}
 use Rattle.log_replay.specs.Rows.{Rows, data_at, RowChange, store_of, numbers_of, is_environment, IsRising}
 use Rattle.log_replay.specs.Kept.{AllMayBeLogged}
@@ -32,12 +32,13 @@ use Rattle.txn_core.specs.Known.{Known, has_number}
 -- a call on the records of a database, by evaluation on what is committed
 abbrev pub outcome_on : Call → Option Target → Outcome
 outcome_on call None = answers NoDatabase
-outcome_on call (Some g) = record { answer = (evaluated_on call g).answer; changes = changes_on g (evaluated_on call g).changes }
+outcome_on call (Some g) = record { answer = (evaluated_on call g).answer; changes = changes_of_call g (evaluated_on call g).changes }
 
 -- a call that is not refused: on the catalog, or on records
 abbrev pub performed_outcome : Alone → ℕ → Call → Outcome
 performed_outcome p session Lists = evaluation Lists p.store
 performed_outcome p session (Create db kind) = evaluation (Create db kind) p.store
+performed_outcome p session (CreateIndex db index) = evaluation (CreateIndex db index) p.store
 performed_outcome p session (Remove db) = evaluation (Remove db) p.store
 performed_outcome p session (Rename db to) = evaluation (Rename db to) p.store
 performed_outcome p session (Truncate db) = evaluation (Truncate db) p.store

@@ -3,7 +3,7 @@ use Rattle.std.specs.Prelude.{ℕ, ◌≡◌, ◌≢◌, ◌+◌, ◌-◌, ◌<�
 use Rattle.je_order.specs.Words.{is_word}
 use Rattle.store_model.specs.declared.call.Call.{Call}
 use Rattle.store_model.specs.declared.change.Change.{Change}
-use Rattle.store_model.specs.declared.change.Change.TheVariants.{Make, Remove, Rename, Empty}
+use Rattle.store_model.specs.declared.change.Change.TheVariants.{Make, MakeIndex, Remove, Rename, Empty}
 use Rattle.store_model.specs.declared.record_change.RecordChange.{RecordChange}
 use Rattle.store_model.specs.declared.record_change.RecordChange.TheVariants.{Set, Unset}
 use Rattle.store_model.specs.declared.answer.Answer.{Answer}
@@ -73,6 +73,7 @@ catalog_planned makes (DeleteRecord db) = record { db = 0; name = plain_name db;
 -- the number that a change gives a database that it makes or empties, where this is the next one
 abbrev pub number_made : ℕ → Change → Option ℕ
 number_made number (Make db kind) = Some number
+number_made number (MakeIndex db index) = Some number
 number_made number (Empty db) = Some number
 number_made number change = None
 
@@ -80,6 +81,7 @@ number_made number change = None
 -- then holds
 abbrev pub databases_by : ℕ → Change → ℕ
 databases_by databases (Make db kind) = databases + 1
+databases_by databases (MakeIndex db index) = databases + 1
 databases_by databases (Remove db) = databases - 1
 databases_by databases change = databases
 
@@ -93,6 +95,7 @@ totals_by totals rows change = record { databases = databases_by totals.database
 -- the name that a change gives a database is one
 abbrev pub IsNamed : Change → Type 0
 IsNamed (Make db kind) = IsTrue (is_word db)
+IsNamed (MakeIndex db index) = IsTrue (is_word db)
 IsNamed (Rename db to) = IsTrue (is_word to)
 IsNamed change = Unit {0}
 

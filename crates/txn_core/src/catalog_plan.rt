@@ -91,7 +91,9 @@ fn databases_after(databases: u64, change: &Change) -> Result<u64, AllocError>
     ensures { IfOk result (λ after. after ≡ databases_by databases change.now) }
 {
     match change {
-        Change::Make { .. } => databases.checked_add(1).ok_or(AllocError),
+        Change::Make { .. } | Change::MakeIndex { .. } => {
+            databases.checked_add(1).ok_or(AllocError)
+        }
         Change::Remove { .. } => Ok(databases.saturating_sub(1)),
         _ => Ok(databases),
     }
@@ -128,7 +130,7 @@ fn last_db_after(last_db: u32, change: &Change) -> u64
     ensures { result ≡ last_db + made_by (change.now ∷ []) }
 {
     match change {
-        Change::Make { .. } | Change::Empty { .. } => last_db as u64 + 1,
+        Change::Make { .. } | Change::MakeIndex { .. } | Change::Empty { .. } => last_db as u64 + 1,
         _ => last_db as u64,
     }
 }
@@ -149,7 +151,8 @@ fn number_made_by(last_db: u32, change: &Change) -> Option<u32>
     ensures { last_db + made_by (change.now ∷ []) < 2 ^ 32 → result ≡ number_made (last_db + 1) change.now }
 {
     match change {
-        Change::Make { .. } | Change::Empty { .. } => last_db.checked_add(1),
+        Change::Make { .. } | Change::MakeIndex { .. } | Change::Empty { .. } =>
+            last_db.checked_add(1),
         _ => None,
     }
 }
@@ -160,6 +163,9 @@ fn see_name(change: &Change)
 {
     match change {
         Change::Make { db, .. } => {
+            let _ = db.as_slice();
+        }
+        Change::MakeIndex { db, .. } => {
             let _ = db.as_slice();
         }
         Change::Rename { to, .. } => {

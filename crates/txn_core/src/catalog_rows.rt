@@ -24,6 +24,7 @@ impl<T: Records> CatalogView for CatalogRows<'_, T> {
     ghost use Rattle.log_replay.specs.Rows.{store_of};
     ghost use Rattle.log_replay.specs.Logging.{record_named};
     ghost use Rattle.log_replay.proofs.PlanViews.{catalog_of};
+    ghost use Rattle.log_replay.proofs.LoggedLaws.{store_has_no_index};
     ghost use Rattle.txn_core.specs.Known.{committed};
 
     ghost seen = { λ v. store_of (committed (T.cells v.trees.now)) };
@@ -31,6 +32,8 @@ impl<T: Records> CatalogView for CatalogRows<'_, T> {
     ghost record_of = { λ v. record_named (committed (T.cells v.trees.now)) };
 
     ghost laws = { λ v. catalog_of (committed (T.cells v.trees.now)) v.environment };
+
+    ghost plain = { λ v. store_has_no_index (committed (T.cells v.trees.now)) };
 
     fn has(&self, alloc: Global, name: &Word) -> Result<bool, AllocError> {
         let name = SortKey::plain(alloc, name.as_slice())?;

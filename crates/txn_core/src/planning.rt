@@ -13,7 +13,7 @@ use store_model::{Call, Totals};
 
 /// What a call of a valid environment comes to that is a transaction of its own, from the committed records of its trees,
 /// how much they hold, and the database number allocated last. Room in the log and the last database number are not
-/// asked. The only error is out of memory.
+/// asked. An index is not made yet: that call ends as where memory is out, which is the only error.
 pub fn plan<T: Records>(
     trees: &T,
     alloc: Global,
@@ -36,6 +36,7 @@ pub fn plan<T: Records>(
         Call::GetBoth { db, .. } => plan_records(trees, alloc, totals, last_db, db, call),
         Call::Put { db, .. } => plan_records(trees, alloc, totals, last_db, db, call),
         Call::Delete { db, .. } => plan_records(trees, alloc, totals, last_db, db, call),
+        Call::CreateIndex { .. } => Err(AllocError),
         _ => unreachable!(),
     }
 }

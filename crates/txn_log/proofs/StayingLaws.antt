@@ -11,7 +11,7 @@ use Rattle.db_catalog.specs.declared.catalog_change.CatalogChange.TheVariants.{P
 use Rattle.db_catalog.specs.declared.db_record.DbRecord.{DbRecord}
 use Rattle.db_catalog.specs.Planning.{logged_as, moved, renewed}
 use Rattle.store_model.specs.declared.change.Change.{Change}
-use Rattle.store_model.specs.declared.change.Change.TheVariants.{Set as SetIn, Unset as UnsetIn, Make, Remove, Rename, Empty}
+use Rattle.store_model.specs.declared.change.Change.TheVariants.{Set as SetIn, Unset as UnsetIn, Make, MakeIndex, Remove, Rename, Empty}
 use Rattle.store_model.specs.declared.kind.Kind.{Kind}
 use Rattle.store_model.specs.declared.record_change.RecordChange.{RecordChange}
 use Rattle.store_model.specs.declared.record_change.RecordChange.TheVariants.{Set, Unset}
@@ -97,6 +97,7 @@ record_stays rows last_db (UnsetIn db at) name has may other =
     ap (data_at (plain_name name)) (row_changed-there (record { txn = 0; db = number_named rows db; name = at; value = None }) rows 0 (λ e. may.0 (sym e)))
 record_stays rows last_db (Make db kind) name has may other =
     changed_elsewhere name (logged_as (record_named rows) (last_db + 1) (Make db kind)) rows (apart_of rows name db (λ e. has (sym e ∙ may.0)), tt)
+record_stays rows last_db (MakeIndex db index) name has may other = absurd may
 record_stays rows last_db (Remove db) name has may other =
     changed_elsewhere name (logged_as (record_named rows) (last_db + 1) (Remove db)) rows (apart_of rows name db other, tt)
 record_stays rows last_db (Rename db to) name has may other =

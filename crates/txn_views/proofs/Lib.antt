@@ -10,3 +10,7 @@ pub mod WriteLaws
 pub mod ViewLaws
 -- The changes of a call are right where the records that it sees are.
 pub mod RightLaws
+-- What plans through indexes come to.
+pub mod TargetLaws
+-- A plan is what its call comes to in a standing.
+pub mod PlanLaws

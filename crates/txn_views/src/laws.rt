@@ -2,6 +2,7 @@
 ghost use Rattle.std.specs.Prelude.{◌≡◌, ℕ, List, []};
 ghost use Rattle.record_tree.specs.Occupied.{AllCells};
 ghost use Rattle.store_model.specs.declared.record_change.RecordChange.{RecordChange};
+ghost use Rattle.txn_views.specs.Targets.{PlansAreModels};
 ghost use Rattle.txn_views.specs.Laws.{ViewsAreSeen, ChangesAreRight, WritesAreOwn, EndsLeaveWrites, DropsLeaveWrites, NobodyWrites, FreeNamesMayBeWritten, NoneIsLast};
 
 /// The records that a transaction sees in the cells of a database are those of the model's view, and are right; the
@@ -43,4 +44,10 @@ pub fn free_names_may_be_written()
 /// Own changes of which none is of a name have no last one of it.
 pub fn none_is_last()
     ensures { NoneIsLast }
+{}
+
+/// A plan of a call where there are indexes, on the databases of its target as its transaction sees them, is what the
+/// model says of the call: its answer, its changes with their databases' numbers, its locks and its cursor's place.
+pub fn plans_are_models()
+    ensures { PlansAreModels }
 {}

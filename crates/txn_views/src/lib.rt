@@ -8,16 +8,27 @@
 
 mod access_plan;
 mod cursor_plan;
+mod db_change;
+mod found_index;
+mod found_target;
+mod indexing;
 mod laws;
 mod planning;
 mod reading;
+mod target_plan;
+mod through;
 mod txn_rows;
 mod viewer;
 
 pub use access_plan::AccessPlan;
 pub use cursor_plan::CursorPlan;
+pub use db_change::DbChange;
+pub use found_index::FoundIndex;
+pub use found_target::FoundTarget;
 pub use laws::{
     changes_are_right, drops_leave_writes, ends_leave_writes, free_names_may_be_written,
-    nobody_writes, none_is_last, views_are_seen, writes_are_own,
+    nobody_writes, none_is_last, plans_are_models, views_are_seen, writes_are_own,
 };
 pub use planning::{plan_access, plan_cursor};
+pub use target_plan::TargetPlan;
+pub use through::plan_target;

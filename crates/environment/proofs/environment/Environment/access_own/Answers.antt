@@ -66,7 +66,7 @@ returns-in-Ok-Stopped-clause-comes g c = λ most st on here sound early may foun
     (stopped_accesses g.D.Disk.observable g.D.Disk.history g.D.Disk.sync_out g.D.Disk.read_out g.D.Disk.read_of most e c.take-taken.new.self st a c.args.line c.args.call.now on c.in-Ok-Stopped.stop c.in-Ok-Stopped.victims none may.bare
     (may.alone a its) here
     (stopped_so c.in-Ok-Stopped.field-0 _ c.in-Ok-Stopped.stop c.in-Ok-Stopped.victims c.in-Ok-Stopped.field-0-is c.in-Ok-Stopped.ensures.stopped st a on none
-    (record { its = its; name = db.name; its_kind = db.kind; each = planned.needs_are }) here.sessions_at))
+    (record { its = its; alone = db.alone; name = db.name; its_kind = db.kind; each = planned.needs_are }) here.sessions_at))
 
 pub returns-in-Err-clause-comes : goal.returns-in-Err-clause-comes
 returns-in-Err-clause-comes g c = λ most st on here sound early may found a its is_txn is_level is_auto.
@@ -121,4 +121,4 @@ returns-in-Ok-Stopped-clause-cause g c =
     let planned = c.in_ok-plan.ensures st a on (here.valid none) sound db found.stands is_txn is_level in
     stopped_cause g.D.Disk.observable g.D.Disk.history g.D.Disk.sync_out g.D.Disk.read_out g.D.Disk.read_of _ _ (record { answer = c.in-Ok-Stopped.stop; victims = c.in-Ok-Stopped.victims }) st a c.args.line c.args.call.now on refl c.take-taken.new.self
     (stopped_so c.in-Ok-Stopped.field-0 _ c.in-Ok-Stopped.stop c.in-Ok-Stopped.victims c.in-Ok-Stopped.field-0-is c.in-Ok-Stopped.ensures.stopped st a on none
-    (record { its = its; name = db.name; its_kind = db.kind; each = planned.needs_are }) here.sessions_at)
+    (record { its = its; alone = db.alone; name = db.name; its_kind = db.kind; each = planned.needs_are }) here.sessions_at)

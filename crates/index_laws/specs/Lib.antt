@@ -1,0 +1,2 @@
+-- Own changes in a primary and in its index.
+pub mod Keeping

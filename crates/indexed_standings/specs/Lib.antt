@@ -1,0 +1,2 @@
+-- Indexes where transactions are under way.
+pub mod Indexed

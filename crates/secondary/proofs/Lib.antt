@@ -1,0 +1,2 @@
+-- Where data is cut into fields.
+pub mod FieldLaws

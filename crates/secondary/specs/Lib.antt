@@ -1,0 +1,2 @@
+-- The fields behind the first one.
+pub mod Fields

@@ -1,0 +1,12 @@
+//! What an index has of a database's records, and what changes in it with a record. It stands on the model's definitions
+//! alone, and reads no tree: callers hand in the data of a record before and after its change. Upward it promises that keys
+//! and changes are the model's.
+#![tactic(auto)]
+
+mod changing;
+#[cfg(test)]
+mod examples;
+mod extracting;
+
+pub use changing::index_changes;
+pub use extracting::{extract, key_in};
